@@ -1,0 +1,9 @@
+pub mod Name
+pub mod NameLaws
+pub mod Tree
+pub mod Grammar
+pub mod Reader
+pub mod Seen
+pub mod Tokens
+pub mod Forms
+pub mod SeenForms

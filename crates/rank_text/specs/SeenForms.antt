@@ -1,0 +1,47 @@
+-- Forms of the code, without where they lie in memory.
+use Rattle.std.specs.Prelude.{ℕ, List, Option, Some, None}
+use Rattle.std.specs.Borrow.{Bor}
+use Rattle.rank_text.specs.declared.name.Name.{Name}
+use Rattle.rank_text.specs.declared.token.Token.{Token}
+use Rattle.rank_text.specs.declared.form.Choice as source_choice
+use Rattle.rank_text.specs.declared.form.Payload as source_payload
+use Rattle.rank_text.specs.declared.form.Form as source_form
+use Rattle.rank_text.specs.Tree.{tree_of}
+use Rattle.rank_text.specs.Forms.{Choice, any, value, Payload, lone, one, Form, var_form, if_form, else_form, end_form, send_form, recv_form, print_form}
+
+abbrev pub choice_of : source_choice.Choice → Choice
+choice_of source_choice.TheVariants.Any = any
+choice_of (source_choice.TheVariants.Value e) = value (tree_of e)
+
+abbrev pub payload_seen : source_payload.Payload → Payload
+payload_seen (source_payload.TheVariants.Lone x) = lone x
+payload_seen (source_payload.TheVariants.One e) = one (tree_of e)
+
+abbrev pub form_seen : source_form.Form → Form
+form_seen (source_form.TheVariants.Var x) = var_form x
+form_seen (source_form.TheVariants.If e) = if_form (tree_of e)
+form_seen source_form.TheVariants.Else = else_form
+form_seen source_form.TheVariants.End = end_form
+form_seen (source_form.TheVariants.Send d g p) = send_form (tree_of d) (tree_of g) (payload_seen p)
+form_seen (source_form.TheVariants.Recv s g x) = recv_form (choice_of s) (choice_of g) x
+form_seen (source_form.TheVariants.Print e) = print_form (tree_of e)
+
+abbrev pub form_in : Option source_form.Form → Option Form
+form_in None = None
+form_in (Some f) = Some (form_seen f)
+
+abbrev pub payload_in : Option source_payload.Payload → Option Payload
+payload_in None = None
+payload_in (Some p) = Some (payload_seen p)
+
+abbrev pub choice_in : Option (source_choice.Choice × Bor (List Token)) → Option (Choice × List Token)
+choice_in None = None
+choice_in (Some c) = Some (choice_of c.0, c.1.now)
+
+abbrev pub rest_in : Option (Bor (List Token)) → Option (List Token)
+rest_in None = None
+rest_in (Some r) = Some r.now
+
+abbrev pub name_in : Option (Name × Bor (List Token)) → Option (List ℕ × List Token)
+name_in None = None
+name_in (Some n) = Some (n.0, n.1.now)

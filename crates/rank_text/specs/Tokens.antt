@@ -1,0 +1,103 @@
+-- A line's tokens.
+use Rattle.std.specs.Prelude.{◌≡◌, ℕ, zero, suc, ◌+◌, ◌-◌, ◌*◌, ◌^◌, min, List, [], ◌∷◌, ◌++◌, Bool, true, false, cond, ◌&&◌, ◌||◌, nat_eq, nat_le, nat_lt, length, take, codes, Option, Some, None, if◌then◌else◌}
+use Rattle.std.specs.Str.{bytes_eq}
+use Rattle.rank_text.specs.declared.token.Operator.TheVariants.{Add, Subtract, Multiply, Divide, Remainder, Equal, NotEqual, Less, LessEqual, Greater, GreaterEqual}
+use Rattle.rank_text.specs.declared.token.Reading.TheVariants as reads
+use Rattle.rank_text.specs.declared.token.Reduction.TheVariants as reduces
+use Rattle.rank_text.specs.declared.token.Keyword.TheVariants as k
+use Rattle.rank_text.specs.declared.token.Token.{Token}
+use Rattle.rank_text.specs.declared.token.Token.TheVariants as t
+
+abbrev pub is_between : ℕ → ℕ → ℕ → Bool
+is_between low high b = nat_le low b && nat_le b high
+
+abbrev pub is_digit : ℕ → Bool
+is_digit b = is_between 48 57 b
+
+-- a letter or `_`
+abbrev pub is_letter : ℕ → Bool
+is_letter b = is_between 65 90 b || is_between 97 122 b || nat_eq b 95
+
+abbrev pub is_word_byte : ℕ → Bool
+is_word_byte b = is_letter b || is_digit b
+
+abbrev pub found_in : List (List ℕ × Token) → List ℕ → Option Token
+found_in [] w = None
+found_in (r ∷ rs) w = if bytes_eq w r.0 then Some r.1 else found_in rs w
+
+-- the reserved words
+abbrev pub reserved : List (List ℕ × Token)
+reserved =
+    (codes "var", t.Keyword k.Var) ∷ (codes "if", t.Keyword k.If) ∷ (codes "else", t.Keyword k.Else) ∷ (codes "end", t.Keyword k.End) ∷ (codes "send", t.Keyword k.Send) ∷ (codes "recv", t.Keyword k.Recv) ∷ (codes "print", t.Keyword k.Print)
+    ∷ (codes "array", t.Keyword k.Array) ∷ (codes "let", t.Keyword k.Let) ∷ (codes "while", t.Keyword k.While) ∷ (codes "probe", t.Keyword k.Probe) ∷ (codes "iprobe", t.Keyword k.Iprobe) ∷ (codes "barrier", t.Keyword k.Barrier) ∷ (codes "bcast", t.Keyword k.Bcast) ∷ (codes "reduce", t.Keyword k.Reduce)
+    ∷ (codes "rank", t.Reading reads.Rank) ∷ (codes "size", t.Reading reads.Size) ∷ (codes "source", t.Reading reads.Source) ∷ (codes "gottag", t.Reading reads.Tag) ∷ (codes "count", t.Reading reads.Count)
+    ∷ (codes "any", t.Any) ∷ (codes "sum", t.Reduction reduces.Sum) ∷ (codes "max", t.Reduction reduces.Max) ∷ (codes "min", t.Reduction reduces.Min) ∷ []
+
+-- A name is kept up to 17 bytes, one above the limit.
+abbrev pub word_token : List ℕ → Token
+word_token w = elim (found_in reserved w) [ None ↦ t.Name (take 17 w) | Some token ↦ token ]
+
+-- A number is kept up to 2 ^ 63, one above the greatest.
+abbrev pub number_token : ℕ → Token
+number_token n = t.Number (min n (2 ^ 63))
+
+-- what may still grow before the next byte
+pub data Pending : Type 0 where
+  nothing : Pending
+  word : (bytes : List ℕ) → Pending
+  digits : (value : ℕ) → Pending
+  sign : (byte : ℕ) → Pending
+  whole : (token : Token) → Pending
+
+-- the token of a sign that `=` doesn't follow
+abbrev pub lone_sign : ℕ → Option (List Token)
+lone_sign b =
+    if nat_eq b 61 then Some (t.Assign ∷ []) else (if nat_eq b 60 then Some (t.Operator Less ∷ []) else (if nat_eq b 62 then Some (t.Operator Greater ∷ []) else None))
+
+-- the token of a sign and `=`
+abbrev pub with_equal : ℕ → Token
+with_equal b =
+    if nat_eq b 61 then t.Operator Equal else (if nat_eq b 60 then t.Operator LessEqual else (if nat_eq b 62 then t.Operator GreaterEqual else t.Operator NotEqual))
+
+abbrev pub flushed : Pending → Option (List Token)
+flushed nothing = Some []
+flushed (word w) = Some (word_token w ∷ [])
+flushed (digits n) = Some (number_token n ∷ [])
+flushed (sign b) = lone_sign b
+flushed (whole token) = Some (token ∷ [])
+
+-- the token of a byte that stands for itself
+abbrev pub single : ℕ → Option Token
+single b =
+    if nat_eq b 43 then Some (t.Operator Add) else (if nat_eq b 45 then Some (t.Operator Subtract) else (if nat_eq b 42 then Some (t.Operator Multiply) else (if nat_eq b 47 then Some (t.Operator Divide) else (if nat_eq b 37 then Some (t.Operator Remainder) else (if nat_eq b 40 then Some t.OpenParenthesis else (if nat_eq b 41 then Some t.CloseParenthesis else (if nat_eq b 91 then Some t.OpenBracket else (if nat_eq b 93 then Some t.CloseBracket else (if nat_eq b 44 then Some t.Comma else None)))))))))
+
+abbrev pub is_sign : ℕ → Bool
+is_sign b = nat_eq b 61 || nat_eq b 60 || nat_eq b 62 || nat_eq b 33
+
+-- what begins with a byte, where it doesn't go on with what came before it
+abbrev pub begun : ℕ → Option Pending
+begun b =
+    if nat_eq b 32 then Some nothing else (if is_letter b then Some (word (b ∷ [])) else (if is_digit b then Some (digits (b - 48)) else (if is_sign b then Some (sign b) else elim (single b) [ None ↦ None | Some token ↦ Some (whole token) ])))
+
+-- whether a byte goes on with what came before it, and as what
+abbrev pub grown : Pending → ℕ → Option Pending
+grown (word w) b = if is_word_byte b then Some (word (w ++ b ∷ [])) else None
+grown (digits n) b = if is_digit b then Some (digits (10 * n + (b - 48))) else None
+grown (sign c) b = if nat_eq b 61 then Some (whole (with_equal c)) else None
+grown _ b = None
+
+abbrev pub and_after : Option (List Token) → Option (List Token) → Option (List Token)
+and_after (Some ts) (Some us) = Some (ts ++ us)
+and_after _ _ = None
+
+abbrev pub tokens_from : Pending → List ℕ → Option (List Token)
+tokens_from p [] = flushed p
+tokens_from p (b ∷ bs) =
+    elim (grown p b) [
+      | Some q ↦ tokens_from q bs
+      | None ↦ elim (begun b) [ None ↦ None | Some q ↦ and_after (flushed p) (tokens_from q bs) ]
+    ]
+
+-- the tokens of a line, or none where it has a character that stands in no token
+abbrev pub tokens_of : List ℕ → Option (List Token)
+tokens_of line = tokens_from nothing line

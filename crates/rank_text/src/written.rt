@@ -1,0 +1,17 @@
+//! Expressions as a text writes them, with names.
+use crate::name::Name;
+use crate::token::{Operator, Reading};
+use metered::Heap;
+
+/// An expression as it is written: what it reads is named.
+#[derive(Debug, Drop)]
+pub enum Written {
+    /// A number, one above 9223372036854775807 kept as 9223372036854775808.
+    Number(u64),
+    Variable(Name),
+    /// An item of an array, by its index.
+    Item(Name, Box<Written, Heap>),
+    Reading(Reading),
+    Negation(Box<Written, Heap>),
+    Operation(Operator, Box<Written, Heap>, Box<Written, Heap>),
+}
