@@ -1,0 +1,4 @@
+pub mod Lines
+pub mod Scope
+pub mod Verdict
+pub mod Faults

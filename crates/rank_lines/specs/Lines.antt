@@ -1,0 +1,43 @@
+-- The lines of a text, before their tokens are looked at.
+use Rattle.std.specs.Prelude.{ℕ, List, [], ◌∷◌, Bool, true, false, ◌&&◌, nat_eq, Option, Some, None, if◌then◌else◌}
+use Rattle.rank_text.specs.declared.token.Token.{Token}
+use Rattle.rank_text.specs.declared.token.Token.TheVariants as t
+use Rattle.rank_text.specs.Tokens.{is_word_byte, is_between, found_in, reserved}
+
+abbrev pub onto_first : ℕ → List (List ℕ) → List (List ℕ)
+onto_first b [] = (b ∷ []) ∷ []
+onto_first b (l ∷ ls) = (b ∷ l) ∷ ls
+
+-- the lines of a text: cut at each LF; what follows the last LF is a line where it isn't empty
+abbrev pub lines_of : List ℕ → List (List ℕ)
+lines_of [] = []
+lines_of (b ∷ bs) = if nat_eq b 10 then [] ∷ lines_of bs else onto_first b (lines_of bs)
+
+abbrev pub without_spaces : List ℕ → List ℕ
+without_spaces [] = []
+without_spaces (b ∷ bs) = if nat_eq b 32 then without_spaces bs else b ∷ bs
+
+abbrev pub begins_comment : List ℕ → Bool
+begins_comment [] = true
+begins_comment (b ∷ bs) = nat_eq b 35
+
+-- the line has only spaces, or a `#` is its first character after spaces
+abbrev pub is_skipped : List ℕ → Bool
+is_skipped line = begins_comment (without_spaces line)
+
+-- each byte is 0x20 to 0x7E
+abbrev pub is_text : List ℕ → Bool
+is_text [] = true
+is_text (b ∷ bs) = is_between 32 126 b && is_text bs
+
+abbrev pub front_word : List ℕ → List ℕ
+front_word [] = []
+front_word (b ∷ bs) = if is_word_byte b then b ∷ front_word bs else []
+
+abbrev pub is_keyword : Option Token → Bool
+is_keyword (Some (t.Keyword k)) = true
+is_keyword _ = false
+
+-- the first token is a statement word
+abbrev pub is_statement : List ℕ → Bool
+is_statement line = is_keyword (found_in reserved (front_word (without_spaces line)))

@@ -1,0 +1,185 @@
+-- What the lines so far have declared and opened, and which statements may follow them.
+use Rattle.std.specs.Prelude.{◌≡◌, ℕ, ◌+◌, ◌-◌, ◌^◌, ◌≤◌, max, List, [], ◌∷◌, ◌++◌, Bool, true, false, ◌&&◌, ◌||◌, not, nat_le, nat_lt, length, map}
+use Rattle.std.specs.Str.{bytes_eq}
+use Rattle.rank_text.specs.declared.token.Token.{Token}
+use Rattle.rank_text.specs.declared.token.Token.TheVariants as t
+use Rattle.rank_text.specs.Tree.{Tree, number, variable, item, reading, negation, operation}
+use Rattle.rank_text.specs.Forms.{Choice, any, value, Payload, lone, one, Form, var_form, if_form, else_form, end_form, send_form, recv_form, print_form}
+
+-- a block that is open: the first part of an `if`, or the part after its `else`
+pub data Opened : Type 0 where
+  in_if : Opened
+  in_else : Opened
+
+-- names in order of declaration, arrays with their lengths, and the open blocks, the innermost first
+pub record Scope : Type 0 where
+  pub variables : List (List ℕ)
+  pub arrays : List (List ℕ × ℕ)
+  pub blocks : List Opened
+
+abbrev pub nothing_yet : Scope
+nothing_yet = record { variables = []; arrays = []; blocks = [] }
+
+abbrev pub is_name_in : List (List ℕ) → List ℕ → Bool
+is_name_in [] x = false
+is_name_in (y ∷ ys) x = bytes_eq y x || is_name_in ys x
+
+abbrev pub is_variable : Scope → List ℕ → Bool
+is_variable s x = is_name_in s.variables x
+
+abbrev pub is_array : Scope → List ℕ → Bool
+is_array s x = is_name_in (map (λ a. a.0) s.arrays) x
+
+abbrev pub is_declared : Scope → List ℕ → Bool
+is_declared s x = is_variable s x || is_array s x
+
+-- each name in an expression is declared in the sort that is used there
+abbrev pub all_declared : Scope → Tree → Bool
+all_declared s (number n) = true
+all_declared s (variable x) = is_variable s x
+all_declared s (item x e) = is_array s x && all_declared s e
+all_declared s (reading r) = true
+all_declared s (negation e) = all_declared s e
+all_declared s (operation o a b) = all_declared s a && all_declared s b
+
+abbrev pub choice_declared : Scope → Choice → Bool
+choice_declared s any = true
+choice_declared s (value e) = all_declared s e
+
+abbrev pub payload_declared : Scope → Payload → Bool
+payload_declared s (lone x) = is_declared s x
+payload_declared s (one e) = all_declared s e
+
+-- each name in a statement is declared in the sort that is used there
+abbrev pub declared_in : Scope → Form → Bool
+declared_in s (if_form e) = all_declared s e
+declared_in s (send_form d g p) = all_declared s d && all_declared s g && payload_declared s p
+declared_in s (recv_form c g x) = choice_declared s c && choice_declared s g && is_declared s x
+declared_in s (print_form e) = all_declared s e
+declared_in s _ = true
+
+-- the name that the statement declares is already declared
+abbrev pub is_twice : Scope → Form → Bool
+is_twice s (var_form x) = is_declared s x
+is_twice s _ = false
+
+abbrev pub is_empty : List Opened → Bool
+is_empty [] = true
+is_empty (_ ∷ _) = false
+
+abbrev pub is_open_if : List Opened → Bool
+is_open_if (in_if ∷ _) = true
+is_open_if _ = false
+
+-- an `end` with no block open, an `else` whose innermost block isn't an `if` or has an `else`, a declaration in a block
+abbrev pub is_stray : Scope → Form → Bool
+is_stray s (var_form x) = not (is_empty s.blocks)
+is_stray s else_form = not (is_open_if s.blocks)
+is_stray s end_form = is_empty s.blocks
+is_stray s _ = false
+
+-- each number, name, read-only word, indexing and operation is one node
+abbrev pub nodes : Tree → ℕ
+nodes (item x e) = 1 + nodes e
+nodes (negation e) = 1 + nodes e
+nodes (operation o a b) = 1 + nodes a + nodes b
+nodes _ = 1
+
+abbrev pub is_large : Tree → Bool
+is_large e = nat_lt 64 (nodes e)
+
+abbrev pub choice_is_large : Choice → Bool
+choice_is_large any = false
+choice_is_large (value e) = is_large e
+
+abbrev pub payload_is_large : Payload → Bool
+payload_is_large (lone x) = false
+payload_is_large (one e) = is_large e
+
+-- an expression of the statement has over 64 nodes
+abbrev pub has_large : Form → Bool
+has_large (if_form e) = is_large e
+has_large (send_form d g p) = is_large d || is_large g || payload_is_large p
+has_large (recv_form c g x) = choice_is_large c || choice_is_large g
+has_large (print_form e) = is_large e
+has_large _ = false
+
+-- the most parentheses open at once, where n are open already
+abbrev pub deepest : ℕ → List Token → ℕ
+deepest n [] = n
+deepest n (t.OpenParenthesis ∷ ts) = deepest (n + 1) ts
+deepest n (t.CloseParenthesis ∷ ts) = max n (deepest (n - 1) ts)
+deepest n (_ ∷ ts) = deepest n ts
+
+-- the name is over 16 bytes, or it is the 65th variable, or the block is the 33rd that is open
+abbrev pub is_past_table : Scope → Form → Bool
+is_past_table s (var_form x) = nat_le 64 (length s.variables) || nat_lt 16 (length x)
+is_past_table s (if_form e) = nat_le 32 (length s.blocks)
+is_past_table s _ = false
+
+-- a limit is passed
+abbrev pub is_over : Scope → List Token → Form → Bool
+is_over s ts f = is_past_table s f || has_large f || nat_lt 64 (deepest 0 ts)
+
+abbrev pub is_great : Tree → Bool
+is_great (number n) = nat_le (2 ^ 63) n
+is_great (item x e) = is_great e
+is_great (negation e) = is_great e
+is_great (operation o a b) = is_great a || is_great b
+is_great _ = false
+
+abbrev pub choice_is_great : Choice → Bool
+choice_is_great any = false
+choice_is_great (value e) = is_great e
+
+abbrev pub payload_is_great : Payload → Bool
+payload_is_great (lone x) = false
+payload_is_great (one e) = is_great e
+
+-- a number of the statement is above 9223372036854775807
+abbrev pub has_great_number : Form → Bool
+has_great_number (if_form e) = is_great e
+has_great_number (send_form d g p) = is_great d || is_great g || payload_is_great p
+has_great_number (recv_form c g x) = choice_is_great c || choice_is_great g
+has_great_number (print_form e) = is_great e
+has_great_number _ = false
+
+abbrev pub other_branch : List Opened → List Opened
+other_branch [] = []
+other_branch (b ∷ bs) = in_else ∷ bs
+
+abbrev pub outer : List Opened → List Opened
+outer [] = []
+outer (b ∷ bs) = bs
+
+-- what a statement leaves
+abbrev pub after : Scope → Form → Scope
+after s (var_form x) = record s { variables = s.variables ++ x ∷ [] }
+after s (if_form e) = record s { blocks = in_if ∷ s.blocks }
+after s else_form = record s { blocks = other_branch s.blocks }
+after s end_form = record s { blocks = outer s.blocks }
+after s _ = s
+
+-- what statements leave, one after another
+abbrev pub after_all : Scope → List Form → Scope
+after_all s [] = s
+after_all s (f ∷ fs) = after_all (after s f) fs
+
+-- A statement that may stand after lines that leave the scope s.
+pub record MayStand (s : Scope) (f : Form) : Type 0 where
+  pub declared : declared_in s f ≡ true
+  pub once : is_twice s f ≡ false
+  pub placed : is_stray s f ≡ false
+  pub sized : has_large f ≡ false
+  pub fitting : has_great_number f ≡ false
+
+-- statements that may stand one after another, after lines that leave the scope s
+abbrev pub AllMayStand : Scope → List Form → Type 0
+AllMayStand s [] = Unit {0}
+AllMayStand s (f ∷ fs) = MayStand s f × AllMayStand (after s f) fs
+
+-- Statements that are a whole program's: each may stand where it does, and each block is closed.
+pub record IsWhole (fs : List Form) : Type 0 where
+  pub standing : AllMayStand nothing_yet fs
+  pub closed : (after_all nothing_yet fs).blocks ≡ []
+  pub few : length fs ≤ 1000

@@ -1,0 +1,49 @@
+-- A text read line by line, as a function.
+use Rattle.std.specs.Prelude.{ℕ, ◌+◌, List, [], ◌∷◌, Bool, ◌||◌, not, nat_lt, length, Option, Some, None, Result, Ok, Err, if◌then◌else◌}
+use Rattle.rank_lines.specs.declared.fault.FaultKind.{FaultKind}
+use Rattle.rank_lines.specs.declared.fault.FaultKind.TheVariants.{NotText, NotAStatement, BadForm, Undeclared, DeclaredTwice, BlockOpen, BlockStray, Limit, NumberRange}
+use Rattle.rank_text.specs.declared.token.Token.{Token}
+use Rattle.rank_text.specs.Tokens.{tokens_of}
+use Rattle.rank_text.specs.Forms.{Form, form_of}
+use Rattle.rank_lines.specs.Lines.{lines_of, is_text, is_skipped, is_statement}
+use Rattle.rank_lines.specs.Scope.{Scope, nothing_yet, declared_in, is_twice, is_stray, is_over, has_great_number, is_empty, after}
+
+-- the first fault that holds, in the order of their numbers
+abbrev pub first_of : List (Bool × FaultKind) → Option FaultKind
+first_of [] = None
+first_of (f ∷ fs) = if f.0 then Some f.1 else first_of fs
+
+abbrev pub unless_fault : {A : Type 0} → Option FaultKind → A → Result A FaultKind
+unless_fault None a = Ok a
+unless_fault (Some k) a = Err k
+
+-- the lowest fault of a line that has its form
+abbrev pub form_fault : Scope → ℕ → List Token → Form → Option FaultKind
+form_fault s n ts f =
+    first_of ((not (declared_in s f), Undeclared) ∷ (is_twice s f, DeclaredTwice) ∷ (is_stray s f, BlockStray) ∷ (nat_lt 1000 n || is_over s ts f, Limit) ∷ (has_great_number f, NumberRange) ∷ [])
+
+abbrev pub formed : Scope → ℕ → Option (List Token) → Result (Option Form) FaultKind
+formed s n None = Err BadForm
+formed s n (Some ts) = elim (form_of ts) [ None ↦ Err BadForm | Some f ↦ unless_fault (form_fault s n ts f) (Some f) ]
+
+-- a line's statement, or none where the line is skipped, or its lowest fault
+abbrev pub line_of : Scope → ℕ → List ℕ → Result (Option Form) FaultKind
+line_of s n line =
+    if not (is_text line) then Err NotText else (if nat_lt 8192 (length line) then Err Limit else (if is_skipped line then unless_fault (first_of ((nat_lt 1000 n, Limit) ∷ [])) None else (if is_statement line then formed s n (tokens_of line) else Err NotAStatement)))
+
+abbrev pub onto_forms : Option Form → Result (List Form) (ℕ × FaultKind) → Result (List Form) (ℕ × FaultKind)
+onto_forms (Some f) (Ok fs) = Ok (f ∷ fs)
+onto_forms _ r = r
+
+abbrev pub after_line : Scope → Option Form → Scope
+after_line s None = s
+after_line s (Some f) = after s f
+
+-- the statements of lines from number n on, or the first fault
+abbrev pub statements_of : Scope → ℕ → List (List ℕ) → Result (List Form) (ℕ × FaultKind)
+statements_of s n [] = if is_empty s.blocks then Ok [] else Err (n, BlockOpen)
+statements_of s n (l ∷ ls) =
+    elim (line_of s n l) [ Err k ↦ Err (n, k) | Ok f ↦ onto_forms f (statements_of (after_line s f) (n + 1) ls) ]
+
+abbrev pub reading_of : List ℕ → Result (List Form) (ℕ × FaultKind)
+reading_of text = statements_of nothing_yet 1 (lines_of text)
