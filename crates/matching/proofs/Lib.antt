@@ -1,0 +1,2 @@
+pub mod InboxLemmas
+pub mod Probe
