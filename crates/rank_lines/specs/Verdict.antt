@@ -26,10 +26,14 @@ abbrev pub formed : Scope → ℕ → Option (List Token) → Result (Option For
 formed s n None = Err BadForm
 formed s n (Some ts) = elim (form_of ts) [ None ↦ Err BadForm | Some f ↦ unless_fault (form_fault s n ts f) (Some f) ]
 
+-- a skipped line, which counts as a line
+abbrev pub skipped_of : ℕ → Result (Option Form) FaultKind
+skipped_of n = if nat_lt 1000 n then Err Limit else Ok None
+
 -- a line's statement, or none where the line is skipped, or its lowest fault
 abbrev pub line_of : Scope → ℕ → List ℕ → Result (Option Form) FaultKind
 line_of s n line =
-    if not (is_text line) then Err NotText else (if nat_lt 8192 (length line) then Err Limit else (if is_skipped line then unless_fault (first_of ((nat_lt 1000 n, Limit) ∷ [])) None else (if is_statement line then formed s n (tokens_of line) else Err NotAStatement)))
+    if not (is_text line) then Err NotText else (if nat_lt 8192 (length line) then Err Limit else (if is_skipped line then skipped_of n else (if is_statement line then formed s n (tokens_of line) else Err NotAStatement)))
 
 abbrev pub onto_forms : Option Form → Result (List Form) (ℕ × FaultKind) → Result (List Form) (ℕ × FaultKind)
 onto_forms (Some f) (Ok fs) = Ok (f ∷ fs)

@@ -1,5 +1,5 @@
 -- Whole tokens, read and spelled.
-use Rattle.std.proofs.Common.{◌≡◌, List, [], ◌∷◌, ◌++◌, length, Option, Some, None, Result, Ok, Err, IfOk, IfSome, sym, ap, ◌∙◌, subst, append-nil}
+use Rattle.std.proofs.Common.{◌≡◌, List, [], ◌∷◌, Option, Some, None, Result, Ok, Err, IfOk, IfSome, sym, ap, ◌∙◌, subst, append-nil}
 use Rattle.std.specs.declared.alloc.AllocError.{AllocError}
 use Rattle.rank_text.specs.declared.token.Token.{Token}
 use Rattle.rank_text.specs.Tree.{Tree, tree_of}
@@ -10,15 +10,22 @@ use Rattle.rank_text.specs.Reader.{expression_at, alone, whole_expression}
 use Rattle.rank_text.proofs.Complete.{complete}
 use Rattle.rank_text.proofs.Sound.{sound, ReadIs}
 
-abbrev AloneIs : Option Tree → List Token → Type 0
+-- the tokens spell the expression, where there is one
+abbrev pub AloneIs : Option Tree → List Token → Type 0
 AloneIs None ts = Unit {0}
 AloneIs (Some e) ts = Spells whole ts e
 
+-- what was read from the front, with nothing after it, is spelled by all
 alone_is : (o : Option (Tree × List Token)) (ts : List Token) → ReadIs o [] ts → AloneIs (alone o) ts
 alone_is None ts h = tt
 alone_is (Some (e, [])) ts h = subst (λ z. Spells whole z e) (sym (h.2 ∙ append-nil h.0)) h.1
 alone_is (Some (e, (x ∷ xs))) ts h = tt
 
+-- the expression of all of the tokens is spelled by them
+pub whole_spelled : (ts : List Token) → AloneIs (whole_expression ts) ts
+whole_spelled ts = alone_is (expression_at ts) ts (sound ts)
+
+-- what all of the tokens spell is the expression of all of the tokens
 pub read_whole : (ts : List Token) (e : Tree) → Spells whole ts e → whole_expression ts ≡ Some e
 read_whole ts e d = ap (λ z. alone (expression_at z)) (sym (append-nil ts)) ∙ ap alone (complete d [] tt)
 
@@ -27,7 +34,7 @@ one_tree ts a b d e = let q : Some a ≡ Some b = sym (read_whole ts a d) ∙ re
 
 found_of : (o : Option Written) (ts : List Token) → tree_in o ≡ whole_expression ts → IfSome o (λ e. Spells whole ts (tree_of e))
 found_of None ts q = tt
-found_of (Some e) ts q = subst (λ o. AloneIs o ts) (sym q) (alone_is (expression_at ts) ts (sound ts))
+found_of (Some e) ts q = subst (λ o. AloneIs o ts) (sym q) (whole_spelled ts)
 
 pub found : (r : Result (Option Written) AllocError) (ts : List Token) → IfOk r (λ o. tree_in o ≡ whole_expression ts) → IfOk r (λ o. IfSome o (λ e. Spells whole ts (tree_of e)))
 found (Ok o) ts h = found_of o ts h

@@ -1,42 +1,54 @@
 -- A line's tokens have the form that is read from them, and no other.
-use Rattle.std.proofs.Common.{◌≡◌, ℕ, List, [], ◌∷◌, ◌++◌, Option, Some, None, refl, ap, ◌∙◌, sym, subst, append-nil}
+--
+-- What has a form is read as that form (`form_read`), because what spells an
+-- expression is read up to the comma or the end behind it. What is read as a form
+-- has it (`form_spelled`), because what is read spells its expression. So no
+-- tokens have two forms (`one_form`).
+use Rattle.std.proofs.Common.{◌≡◌, ℕ, List, [], ◌∷◌, ◌++◌, Option, Some, None, Result, Ok, Err, IfOk, IfSome, refl, ap, ◌∙◌, sym, subst}
+use Rattle.std.specs.declared.alloc.AllocError.{AllocError}
 use Rattle.rank_text.specs.declared.token.Keyword.TheVariants as k
 use Rattle.rank_text.specs.declared.token.Token.{Token}
 use Rattle.rank_text.specs.declared.token.Token.TheVariants as t
+use Rattle.rank_text.specs.declared.form.Form as source_form
 use Rattle.rank_text.specs.Tree.{Tree}
 use Rattle.rank_text.specs.Grammar.{Spells, whole}
-use Rattle.rank_text.specs.Reader.{expression_at}
-use Rattle.rank_text.specs.Forms.{Choice, any, value, Payload, lone, one, Form, var_form, if_form, else_form, end_form, send_form, recv_form, print_form, IsChoice, is_any, is_value, IsNoName, IsPayload, is_lone, is_one, IsForm, is_var, is_if, is_else, is_end, is_send, is_recv, is_print, ◌>>=◌, comma, end_with, choice_at, name_at, payload_of, send_of, form_of}
+use Rattle.rank_text.specs.Reader.{expression_at, whole_expression}
+use Rattle.rank_text.specs.Forms.{Choice, value, Payload, one, Form, if_form, send_form, recv_form, print_form}
+use Rattle.rank_text.specs.Forms.{IsChoice, is_any, is_value, IsNoName, IsPayload, is_lone, is_one, IsForm, is_var, is_if, is_else, is_end, is_send, is_recv, is_print}
+use Rattle.rank_text.specs.Forms.{◌>>=◌, comma, lone_name, choice_at, payload_of, var_of, if_of, send_of, recv_of, print_of, form_of}
+use Rattle.rank_text.specs.SeenForms.{form_in, form_seen}
 use Rattle.rank_text.proofs.Complete.{complete}
 use Rattle.rank_text.proofs.Sound.{sound, ReadIs}
+use Rattle.rank_text.proofs.Exact.{AloneIs, whole_spelled, read_whole}
 
-whole_read : {ts : List Token} {e : Tree} → Spells whole ts e → expression_at ts ≡ Some (e, [])
-whole_read {ts} d = ap expression_at (sym (append-nil ts)) ∙ complete d [] tt
-
-of_one : (ts : List Token) {e : Tree} → IsNoName ts → expression_at ts ≡ Some (e, []) → payload_of ts ≡ Some (one e)
-of_one [] h q = ap (λ o. o >>= (λ e. end_with (one e.0) e.1)) q
+-- an expression that is more than a name is the payload of its tokens
+of_one : (ts : List Token) {e : Tree} → IsNoName ts → whole_expression ts ≡ Some e → payload_of ts ≡ Some (one e)
+of_one [] h q = ap (λ o. o >>= (λ e. Some (one e))) q
 of_one (t.Name x ∷ []) h q = absurd h
-of_one (t.Name x ∷ (y ∷ ts)) h q = ap (λ o. o >>= (λ e. end_with (one e.0) e.1)) q
-of_one (_ ∷ ts) h q = ap (λ o. o >>= (λ e. end_with (one e.0) e.1)) q
+of_one (t.Name x ∷ (y ∷ ts)) h q = ap (λ o. o >>= (λ e. Some (one e))) q
+of_one (_ ∷ ts) h q = ap (λ o. o >>= (λ e. Some (one e))) q
 
+-- an expression before a comma is the choice in front
 of_value : (ts rest : List Token) {e : Tree} → expression_at (ts ++ t.Comma ∷ rest) ≡ Some (e, t.Comma ∷ rest) → choice_at (ts ++ t.Comma ∷ rest) ≡ Some (value e, t.Comma ∷ rest)
 of_value [] rest q = ap (λ o. o >>= (λ e. Some (value e.0, e.1))) q
 of_value (t.Any ∷ ts) rest q = cc
 of_value (_ ∷ ts) rest q = ap (λ o. o >>= (λ e. Some (value e.0, e.1))) q
 
+-- what is a payload is read as that payload
 payload_read : {ts : List Token} {p : Payload} → IsPayload ts p → payload_of ts ≡ Some p
 payload_read is_lone = refl
-payload_read (is_one {ts} h d) = of_one ts h (whole_read d)
+payload_read (is_one {ts} {e} h d) = of_one ts h (read_whole ts e d)
 
+-- what is a choice is read as that choice, up to the comma
 choice_read : {ts : List Token} {c : Choice} → IsChoice ts c → (rest : List Token) → choice_at (ts ++ t.Comma ∷ rest) ≡ Some (c, t.Comma ∷ rest)
 choice_read is_any rest = refl
 choice_read (is_value {ts} d) rest = of_value ts rest (complete d (t.Comma ∷ rest) tt)
 
 -- what has a form is read as that form
 pub form_read : {ts : List Token} {f : Form} → IsForm ts f → form_of ts ≡ Some f
-unfolding send_of
+unfolding var_of if_of send_of recv_of print_of
 form_read is_var = refl
-form_read (is_if d) = ap (λ o. o >>= (λ e. end_with (if_form e.0) e.1)) (whole_read d)
+form_read (is_if {ts} {e} d) = ap (λ o. o >>= (λ e. Some (if_form e))) (read_whole ts e d)
 form_read is_else = refl
 form_read is_end = refl
 form_read (is_send {ds} {gs} {ps} {d} {g} {p} dd dg dp) =
@@ -44,19 +56,19 @@ form_read (is_send {ds} {gs} {ps} {d} {g} {p} dd dg dp) =
     ∙ ap (λ o. o >>= (λ g. comma g.1 >>= (λ vs. payload_of vs >>= (λ p. Some (send_form d g.0 p))))) (complete dg (t.Comma ∷ ps) tt)
     ∙ ap (λ o. o >>= (λ p. Some (send_form d g p))) (payload_read dp)
 form_read (is_recv {ss} {gs} {s} {g} {x} ds dg) =
-    ap (λ o. o >>= (λ s. comma s.1 >>= (λ us. choice_at us >>= (λ g. comma g.1 >>= (λ vs. name_at vs >>= (λ x. end_with (recv_form s.0 g.0 x.0) x.1)))))) (choice_read ds (gs ++ t.Comma ∷ (t.Name x ∷ [])))
-    ∙ ap (λ o. o >>= (λ g. comma g.1 >>= (λ vs. name_at vs >>= (λ x. end_with (recv_form s g.0 x.0) x.1)))) (choice_read dg (t.Name x ∷ []))
-form_read (is_print d) = ap (λ o. o >>= (λ e. end_with (print_form e.0) e.1)) (whole_read d)
+    ap (λ o. o >>= (λ s. comma s.1 >>= (λ us. choice_at us >>= (λ g. comma g.1 >>= (λ vs. lone_name vs >>= (λ x. Some (recv_form s.0 g.0 x))))))) (choice_read ds (gs ++ t.Comma ∷ (t.Name x ∷ [])))
+    ∙ ap (λ o. o >>= (λ g. comma g.1 >>= (λ vs. lone_name vs >>= (λ x. Some (recv_form s g.0 x))))) (choice_read dg (t.Name x ∷ []))
+form_read (is_print {ts} {e} d) = ap (λ o. o >>= (λ e. Some (print_form e))) (read_whole ts e d)
 
-abbrev FormIs : Option Form → List Token → Type 0
+-- the tokens have the form, where there is one
+abbrev pub FormIs : Option Form → List Token → Type 0
 FormIs None ts = Unit {0}
 FormIs (Some f) ts = IsForm ts f
 
--- an expression and nothing more
-ended : (o : Option (Tree × List Token)) (ts : List Token) (make : Tree → Form) (all : List Token) → ReadIs o [] ts → ((e : Tree) → Spells whole ts e → IsForm all (make e)) → FormIs (o >>= (λ e. end_with (make e.0) e.1)) all
+-- a statement word, an expression and nothing more
+ended : (o : Option Tree) (ts : List Token) (make : Tree → Form) (all : List Token) → AloneIs o ts → ((e : Tree) → Spells whole ts e → IsForm all (make e)) → FormIs (o >>= (λ e. Some (make e))) all
 ended None ts make all h build = tt
-ended (Some (e, [])) ts make all h build = build e (subst (λ z. Spells whole z e) (sym (h.2 ∙ append-nil h.0)) h.1)
-ended (Some (e, (x ∷ xs))) ts make all h build = tt
+ended (Some e) ts make all h build = build e h
 
 -- an expression, a comma and more
 then_comma : (o : Option (Tree × List Token)) (ts : List Token) (next : Tree → List Token → Option Form) (all : List Token) → ReadIs o [] ts → ((e : Tree) (ds us : List Token) → Spells whole ds e → ts ≡ ds ++ t.Comma ∷ us → FormIs (next e us) all) → FormIs (o >>= (λ d. comma d.1 >>= (λ us. next d.0 us))) all
@@ -68,16 +80,17 @@ abbrev PayloadIs : Option Payload → List Token → Type 0
 PayloadIs None ts = Unit {0}
 PayloadIs (Some p) ts = IsPayload ts p
 
-one_ended : (o : Option (Tree × List Token)) (ts : List Token) → IsNoName ts → ReadIs o [] ts → PayloadIs (o >>= (λ e. end_with (one e.0) e.1)) ts
+-- an expression that is no name by itself
+one_ended : (o : Option Tree) (ts : List Token) → IsNoName ts → AloneIs o ts → PayloadIs (o >>= (λ e. Some (one e))) ts
 one_ended None ts h r = tt
-one_ended (Some (e, [])) ts h r = is_one h (subst (λ z. Spells whole z e) (sym (r.2 ∙ append-nil r.0)) r.1)
-one_ended (Some (e, (x ∷ xs))) ts h r = tt
+one_ended (Some e) ts h r = is_one h r
 
+-- what is read as a payload is one
 payload_spelled : (ts : List Token) → PayloadIs (payload_of ts) ts
 payload_spelled [] = tt
 payload_spelled (t.Name x ∷ []) = is_lone
-payload_spelled (t.Name x ∷ (y ∷ ts)) = one_ended (expression_at (t.Name x ∷ (y ∷ ts))) (t.Name x ∷ (y ∷ ts)) tt (sound (t.Name x ∷ (y ∷ ts)))
-payload_spelled (token ∷ ts) = one_ended (expression_at (token ∷ ts)) (token ∷ ts) tt (sound (token ∷ ts))
+payload_spelled (t.Name x ∷ (y ∷ ts)) = one_ended (whole_expression (t.Name x ∷ (y ∷ ts))) (t.Name x ∷ (y ∷ ts)) tt (whole_spelled (t.Name x ∷ (y ∷ ts)))
+payload_spelled (token ∷ ts) = one_ended (whole_expression (token ∷ ts)) (token ∷ ts) tt (whole_spelled (token ∷ ts))
 
 given : (o : Option Payload) (vs : List Token) (d g : Tree) (all : List Token) → PayloadIs o vs → ((p : Payload) → IsPayload vs p → IsForm all (send_form d g p)) → FormIs (o >>= (λ p. Some (send_form d g p))) all
 given None vs d g all h build = tt
@@ -109,25 +122,46 @@ choice_comma None ts next all h build = tt
 choice_comma (Some (c, (t.Comma ∷ us))) ts next all h build = build c h.0 us h.1 h.2
 choice_comma (Some (c, _)) ts next all h build = tt
 
-last_name : (vs : List Token) (s g : Choice) (all : List Token) → ((x : List ℕ) → vs ≡ t.Name x ∷ [] → IsForm all (recv_form s g x)) → FormIs (name_at vs >>= (λ x. end_with (recv_form s g x.0) x.1)) all
+-- a name and nothing more
+last_name : (vs : List Token) (s g : Choice) (all : List Token) → ((x : List ℕ) → vs ≡ t.Name x ∷ [] → IsForm all (recv_form s g x)) → FormIs (lone_name vs >>= (λ x. Some (recv_form s g x))) all
 last_name (t.Name x ∷ []) s g all build = build x refl
 last_name (t.Name x ∷ (y ∷ vs)) s g all build = tt
 last_name _ s g all build = tt
 
 recv_spelled : (ts : List Token) → FormIs (form_of (t.Keyword k.Recv ∷ ts)) (t.Keyword k.Recv ∷ ts)
+unfolding recv_of
 recv_spelled ts =
-    choice_comma (choice_at ts) ts (λ s us. choice_at us >>= (λ g. comma g.1 >>= (λ vs. name_at vs >>= (λ x. end_with (recv_form s g.0 x.0) x.1)))) (t.Keyword k.Recv ∷ ts) (choice_spelled ts) (λ s ds us dd q.
-    choice_comma (choice_at us) us (λ g vs. name_at vs >>= (λ x. end_with (recv_form s g x.0) x.1)) (t.Keyword k.Recv ∷ ts) (choice_spelled us) (λ g gs vs dg r.
+    choice_comma (choice_at ts) ts (λ s us. choice_at us >>= (λ g. comma g.1 >>= (λ vs. lone_name vs >>= (λ x. Some (recv_form s g.0 x))))) (t.Keyword k.Recv ∷ ts) (choice_spelled ts) (λ s ds us dd q.
+    choice_comma (choice_at us) us (λ g vs. lone_name vs >>= (λ x. Some (recv_form s g x))) (t.Keyword k.Recv ∷ ts) (choice_spelled us) (λ g gs vs dg r.
     last_name vs s g (t.Keyword k.Recv ∷ ts) (λ x l.
     subst (λ z. IsForm (t.Keyword k.Recv ∷ z) (recv_form s g x)) (sym (q ∙ ap (λ z. ds ++ t.Comma ∷ z) (r ∙ ap (λ z. gs ++ t.Comma ∷ z) l))) (is_recv dd dg))))
 
 -- what is read as a form has it
 pub form_spelled : (ts : List Token) → FormIs (form_of ts) ts
-form_spelled (t.Keyword k.If ∷ ts) = ended (expression_at ts) ts if_form (t.Keyword k.If ∷ ts) (sound ts) (λ e d. is_if d)
-form_spelled (t.Keyword k.Print ∷ ts) = ended (expression_at ts) ts print_form (t.Keyword k.Print ∷ ts) (sound ts) (λ e d. is_print d)
+unfolding var_of if_of print_of
+form_spelled (t.Keyword k.If ∷ ts) = ended (whole_expression ts) ts if_form (t.Keyword k.If ∷ ts) (whole_spelled ts) (λ e d. is_if d)
+form_spelled (t.Keyword k.Print ∷ ts) = ended (whole_expression ts) ts print_form (t.Keyword k.Print ∷ ts) (whole_spelled ts) (λ e d. is_print d)
 form_spelled (t.Keyword k.Else ∷ []) = is_else
 form_spelled (t.Keyword k.End ∷ []) = is_end
 form_spelled (t.Keyword k.Var ∷ (t.Name x ∷ [])) = is_var
 form_spelled (t.Keyword k.Send ∷ ts) = send_spelled ts
 form_spelled (t.Keyword k.Recv ∷ ts) = recv_spelled ts
 form_spelled _ = tt
+
+-- no tokens have two forms
+pub one_form : (ts : List Token) (f g : Form) → IsForm ts f → IsForm ts g → f ≡ g
+one_form ts f g d e = let q : Some f ≡ Some g = sym (form_read d) ∙ form_read e in cc
+
+-- what the code has read is a form of the tokens
+found_of : (o : Option source_form.Form) (ts : List Token) → form_in o ≡ form_of ts → IfSome o (λ f. IsForm ts (form_seen f))
+found_of None ts q = tt
+found_of (Some f) ts q = subst (λ o. FormIs o ts) (sym q) (form_spelled ts)
+
+pub found : (r : Result (Option source_form.Form) AllocError) (ts : List Token) → IfOk r (λ o. form_in o ≡ form_of ts) → IfOk r (λ o. IfSome o (λ f. IsForm ts (form_seen f)))
+found (Ok o) ts h = found_of o ts h
+found (Err e) ts h = tt
+
+-- what has a form is what the code has read
+pub only : (r : Result (Option source_form.Form) AllocError) (ts : List Token) → IfOk r (λ o. form_in o ≡ form_of ts) → IfOk r (λ o. (f : Form) → IsForm ts f → form_in o ≡ Some f)
+only (Ok o) ts h = λ f d. h ∙ form_read d
+only (Err e) ts h = tt

@@ -4,3 +4,7 @@ pub mod Stacks
 pub mod Loop
 pub mod FormLaws
 pub mod Exact
+pub mod Lexing
+pub mod Tables
+pub mod ReservedWords
+pub mod LexLaws

@@ -1,5 +1,5 @@
 -- A turn of the reader's loop.
-use Rattle.std.proofs.Common.{◌≡◌, ℕ, ◌+◌, ◌≤◌, suc, List, [], ◌∷◌, Option, Some, None, refl, ap, subst, arith}
+use Rattle.std.proofs.Common.{◌≡◌, ℕ, ◌+◌, ◌≤◌, suc, List, ◌∷◌, Option, Some, None, refl, ap, subst, arith}
 use Rattle.rank_text.specs.declared.token.Operator.{Operator}
 use Rattle.rank_text.specs.declared.token.Operator.TheVariants.{Subtract}
 use Rattle.rank_text.specs.declared.token.Strength.{Strength}
@@ -9,7 +9,7 @@ use Rattle.rank_text.specs.declared.token.Token.TheVariants as t
 use Rattle.rank_text.specs.declared.reader.State as source_state
 use Rattle.rank_text.specs.Tree.{Tree, variable}
 use Rattle.rank_text.specs.Grammar.{strength}
-use Rattle.rank_text.specs.Reader.{Left, Level, Bracket, parenthesis, index_of, Stack, State, wants, named, has, operate, close, have_next, all_of, join, negate, sign, next, end_tree, with_rest, go_on, read}
+use Rattle.rank_text.specs.Reader.{Left, Level, parenthesis, index_of, Stack, State, wants, named, has, operate, close, have_next, all_of, join, negate, sign, next, end_tree, with_rest, go_on, read}
 use Rattle.rank_text.specs.Seen.{minuses_of, state_of}
 
 pub goes_on : (st st' : State) (token : Token) (ts : List Token) → next st token ≡ Some st' → read st (token ∷ ts) ≡ read st' ts

@@ -6,7 +6,7 @@ use Rattle.rank_text.specs.declared.token.Strength.{Strength}
 use Rattle.rank_text.specs.declared.token.Strength.TheVariants.{Compares, Adds, Multiplies}
 use Rattle.rank_text.specs.declared.token.Token.{Token}
 use Rattle.rank_text.specs.declared.token.Token.TheVariants as t
-use Rattle.rank_text.specs.Tree.{Tree, number, variable, item, reading, negation, operation}
+use Rattle.rank_text.specs.Tree.{Tree, number, variable, item, reading, negation}
 use Rattle.rank_text.specs.Grammar.{strength, minus, Rule, whole, sum, product, unary, atom, Spells, is_number, is_variable, is_reading, is_item, in_parentheses, is_atom, negated, is_unary, multiplied, is_product, added, is_sum, compared}
 use Rattle.rank_text.specs.Reader.{Left, Level, Bracket, parenthesis, index_of, Stack, State, wants, named, has, join, negate, fresh, arrive, all_of, operate, close, have_next, sign, next, end_of, go_on, read, expression_at}
 

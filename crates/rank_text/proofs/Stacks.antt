@@ -1,5 +1,5 @@
 -- The reader's stack in the code and in the model.
-use Rattle.std.proofs.Common.{◌≡◌, ◌≢◌, ℕ, ◌<◌, List, [], ◌∷◌, ◌++◌, length, Option, None, refl, ap, arith}
+use Rattle.std.proofs.Common.{◌≡◌, ◌≢◌, ℕ, ◌<◌, List, [], ◌∷◌, ◌++◌, length, None, refl, ap, arith}
 use Rattle.rank_text.specs.Tree.{Tree, variable}
 use Rattle.rank_text.specs.Reader.{has, named, arrive, next, end_tree}
 use Rattle.rank_text.specs.declared.token.Token.{Token}

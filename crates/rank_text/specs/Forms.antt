@@ -1,13 +1,14 @@
--- The forms of a line's tokens.
-use Rattle.std.specs.Prelude.{◌≡◌, ℕ, List, [], ◌∷◌, ◌++◌, Option, Some, None, option_and_then}
+-- The forms of a line: which tokens make which statement (the language's own manual, docs/LANGUAGE.md).
+use Rattle.std.specs.Prelude.{ℕ, List, [], ◌∷◌, ◌++◌, Option, Some, None, option_and_then}
+use Rattle.rank_text.specs.declared.token.Keyword.{Keyword}
 use Rattle.rank_text.specs.declared.token.Keyword.TheVariants as k
 use Rattle.rank_text.specs.declared.token.Token.{Token}
 use Rattle.rank_text.specs.declared.token.Token.TheVariants as t
 use Rattle.rank_text.specs.Tree.{Tree}
 use Rattle.rank_text.specs.Grammar.{Spells, whole}
-use Rattle.rank_text.specs.Reader.{expression_at}
+use Rattle.rank_text.specs.Reader.{expression_at, whole_expression}
 
--- a source or a tag of a receive
+-- the source or the tag of a receive: any, or the value of an expression
 pub data Choice : Type 0 where
   any : Choice
   value : (e : Tree) → Choice
@@ -17,7 +18,7 @@ pub data Payload : Type 0 where
   lone : (name : List ℕ) → Payload
   one : (e : Tree) → Payload
 
--- a line's statement
+-- the statement of a line, whatever stands on the lines round it
 pub data Form : Type 0 where
   var_form : (name : List ℕ) → Form
   if_form : (e : Tree) → Form
@@ -27,57 +28,84 @@ pub data Form : Type 0 where
   recv_form : (source tag : Choice) (buffer : List ℕ) → Form
   print_form : (e : Tree) → Form
 
+-- a choice is written `any`, or as an expression
 pub data IsChoice : List Token → Choice → Type 0 where
   is_any : IsChoice (t.Any ∷ []) any
   is_value : {ts : List Token} {e : Tree} → Spells whole ts e → IsChoice ts (value e)
 
+-- the tokens are not one name by itself
 abbrev pub IsNoName : List Token → Type 0
 IsNoName (t.Name x ∷ []) = ⊥
 IsNoName _ = Unit {0}
 
+-- a payload is written as a name by itself, or as an expression that is more than a name
 pub data IsPayload : List Token → Payload → Type 0 where
   is_lone : {x : List ℕ} → IsPayload (t.Name x ∷ []) (lone x)
   is_one : {ts : List Token} {e : Tree} → IsNoName ts → Spells whole ts e → IsPayload ts (one e)
 
--- Which tokens have which form.
+-- the tokens of a line have the form: a statement word and its arguments, with a comma between two arguments, and nothing more
 pub data IsForm : List Token → Form → Type 0 where
   is_var : {x : List ℕ} → IsForm (t.Keyword k.Var ∷ t.Name x ∷ []) (var_form x)
   is_if : {ts : List Token} {e : Tree} → Spells whole ts e → IsForm (t.Keyword k.If ∷ ts) (if_form e)
   is_else : IsForm (t.Keyword k.Else ∷ []) else_form
   is_end : IsForm (t.Keyword k.End ∷ []) end_form
-  is_send : {ds gs ps : List Token} {d g : Tree} {p : Payload} → Spells whole ds d → Spells whole gs g → IsPayload ps p → IsForm (t.Keyword k.Send ∷ (ds ++ t.Comma ∷ (gs ++ t.Comma ∷ ps))) (send_form d g p)
-  is_recv : {ss gs : List Token} {s g : Choice} {x : List ℕ} → IsChoice ss s → IsChoice gs g → IsForm (t.Keyword k.Recv ∷ (ss ++ t.Comma ∷ (gs ++ t.Comma ∷ (t.Name x ∷ [])))) (recv_form s g x)
+  is_send : {ds gs ps : List Token} {d g : Tree} {p : Payload}
+      → Spells whole ds d → Spells whole gs g → IsPayload ps p
+      → IsForm (t.Keyword k.Send ∷ (ds ++ t.Comma ∷ (gs ++ t.Comma ∷ ps))) (send_form d g p)
+  is_recv : {ss gs : List Token} {s g : Choice} {x : List ℕ}
+      → IsChoice ss s → IsChoice gs g
+      → IsForm (t.Keyword k.Recv ∷ (ss ++ t.Comma ∷ (gs ++ t.Comma ∷ (t.Name x ∷ [])))) (recv_form s g x)
   is_print : {ts : List Token} {e : Tree} → Spells whole ts e → IsForm (t.Keyword k.Print ∷ ts) (print_form e)
 
--- The same read from the left.
+-- The same, read from the left.
+
 infixl 10 ◌>>=◌
+-- the next step, where this one has a result
 abbrev pub ◌>>=◌ : {A B : Type 0} → Option A → (A → Option B) → Option B
 o >>= f = option_and_then f o
 
+-- the tokens after the comma in front
 abbrev pub comma : List Token → Option (List Token)
 comma (t.Comma ∷ ts) = Some ts
 comma _ = None
 
-abbrev pub end_with : {A : Type 0} → A → List Token → Option A
-end_with a [] = Some a
-end_with a (_ ∷ ts) = None
+-- the form of a statement word with no argument, where nothing follows
+abbrev pub bare : Form → List Token → Option Form
+bare f [] = Some f
+bare f (_ ∷ ts) = None
 
+-- the name that all of the tokens are
+abbrev pub lone_name : List Token → Option (List ℕ)
+lone_name (t.Name x ∷ []) = Some x
+lone_name _ = None
+
+-- the choice in front, and the tokens after it
 abbrev pub choice_at : List Token → Option (Choice × List Token)
 choice_at (t.Any ∷ ts) = Some (any, ts)
 choice_at ts = do
   e ← expression_at ts
   Some (value e.0, e.1)
 
-abbrev pub name_at : List Token → Option (List ℕ × List Token)
-name_at (t.Name x ∷ ts) = Some (x, ts)
-name_at _ = None
-
+-- the payload that all of the tokens are
 abbrev pub payload_of : List Token → Option Payload
 payload_of (t.Name x ∷ []) = Some (lone x)
 payload_of ts = do
-  e ← expression_at ts
-  end_with (one e.0) e.1
+  e ← whole_expression ts
+  Some (one e)
 
+-- the form of `var` with these arguments
+unfoldable pub var_of : List Token → Option Form
+var_of ts = do
+  x ← lone_name ts
+  Some (var_form x)
+
+-- the form of `if` with these arguments
+unfoldable pub if_of : List Token → Option Form
+if_of ts = do
+  e ← whole_expression ts
+  Some (if_form e)
+
+-- the form of `send` with these arguments
 unfoldable pub send_of : List Token → Option Form
 send_of ts = do
   d ← expression_at ts
@@ -87,24 +115,34 @@ send_of ts = do
   p ← payload_of vs
   Some (send_form d.0 g.0 p)
 
-abbrev pub form_of : List Token → Option Form
-form_of (t.Keyword k.Var ∷ ts) = do
-  x ← name_at ts
-  end_with (var_form x.0) x.1
-form_of (t.Keyword k.If ∷ ts) = do
-  e ← expression_at ts
-  end_with (if_form e.0) e.1
-form_of (t.Keyword k.Else ∷ ts) = end_with else_form ts
-form_of (t.Keyword k.End ∷ ts) = end_with end_form ts
-form_of (t.Keyword k.Send ∷ ts) = send_of ts
-form_of (t.Keyword k.Recv ∷ ts) = do
+-- the form of `recv` with these arguments
+unfoldable pub recv_of : List Token → Option Form
+recv_of ts = do
   s ← choice_at ts
   us ← comma s.1
   g ← choice_at us
   vs ← comma g.1
-  x ← name_at vs
-  end_with (recv_form s.0 g.0 x.0) x.1
-form_of (t.Keyword k.Print ∷ ts) = do
-  e ← expression_at ts
-  end_with (print_form e.0) e.1
+  x ← lone_name vs
+  Some (recv_form s.0 g.0 x)
+
+-- the form of `print` with these arguments
+unfoldable pub print_of : List Token → Option Form
+print_of ts = do
+  e ← whole_expression ts
+  Some (print_form e)
+
+-- the form of a statement word with these arguments; a word that isn't named here has no form
+abbrev pub form_with : Keyword → List Token → Option Form
+form_with k.Var ts = var_of ts
+form_with k.If ts = if_of ts
+form_with k.Else ts = bare else_form ts
+form_with k.End ts = bare end_form ts
+form_with k.Send ts = send_of ts
+form_with k.Recv ts = recv_of ts
+form_with k.Print ts = print_of ts
+form_with _ ts = None
+
+-- the form of a line's tokens
+abbrev pub form_of : List Token → Option Form
+form_of (t.Keyword w ∷ ts) = form_with w ts
 form_of _ = None

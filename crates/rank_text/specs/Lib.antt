@@ -5,5 +5,7 @@ pub mod Grammar
 pub mod Reader
 pub mod Seen
 pub mod Tokens
+pub mod Lexes
+pub mod SeenTokens
 pub mod Forms
 pub mod SeenForms

@@ -1,5 +1,5 @@
 -- A name's fields are those that its bytes give.
-use Rattle.std.specs.Prelude.{ℕ, List, length, ◌≡◌, ◌≤◌, take, refl}
+use Rattle.std.specs.Prelude.{ℕ, List, length, ◌≡◌, ◌≤◌, take}
 use Rattle.std.proofs.Common.{sym, arith, length-take, ap, ◌∙◌}
 use Rattle.rank_text.specs.Name.{padded}
 use Rattle.rank_text.specs.declared.name.Name.TheInside.{Inside}

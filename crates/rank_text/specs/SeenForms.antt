@@ -42,6 +42,6 @@ abbrev pub rest_in : Option (Bor (List Token)) → Option (List Token)
 rest_in None = None
 rest_in (Some r) = Some r.now
 
-abbrev pub name_in : Option (Name × Bor (List Token)) → Option (List ℕ × List Token)
-name_in None = None
-name_in (Some n) = Some (n.0, n.1.now)
+abbrev pub lone_in : Option Name → Option (List ℕ)
+lone_in None = None
+lone_in (Some x) = Some x

@@ -2,6 +2,8 @@
 #![tactic(auto)]
 
 pub mod form;
+pub mod forms;
+mod lexer;
 pub mod name;
 mod reader;
 pub mod token;
@@ -9,7 +11,9 @@ pub mod words;
 pub mod written;
 
 pub use form::{Choice, Form, Payload};
+pub use forms::one_form;
+pub use lexer::{one_lexing, tokens};
 pub use name::Name;
-pub use reader::{expression, expression_at};
+pub use reader::{expression, expression_at, one_expression};
 pub use token::{Keyword, Operator, Reading, Reduction, Token};
 pub use written::Written;

@@ -1,12 +1,23 @@
-// Names of variables and arrays.
-ghost use Rattle.std.specs.Prelude.{◌≡◌, take};
+//! Names of variables and arrays.
+
+ghost use Rattle.std.specs.Prelude.{◌≡◌, ◌<◌, ◌↔◌, IsTrue, List, [], ◌∷◌, ◌++◌, length, take};
 
 use std::marker::Model;
 
-/// A name as a text has it, up to its first 17 bytes: one that is longer than the limit of 16 is still told apart from each that isn't.
+/// How many bytes a name may have.
+pub const LONGEST_NAME: usize = 16;
+
+/// How many bytes of a name are kept: one above the longest, so that a name
+/// which is too long is still told apart from each that isn't.
+const KEPT: usize = 17;
+
+/// A name as a text has it, up to its first 17 bytes.
+///
+/// Two names that are both too long are equal where their first 17 bytes are;
+/// neither can be declared, so nothing is lost by that.
 #[derive(Clone, Copy, Debug, PartialEq, Eq)]
 pub struct Name {
-    bytes: [u8; 17],
+    bytes: [u8; KEPT],
     len: u8,
 }
 
@@ -31,8 +42,8 @@ impl Name {
     pub fn new(bytes: &[u8]) -> Name
         ensures { result ≡ take 17 bytes.now }
     {
-        let len = bytes.len().min(17);
-        let mut kept = [0; 17];
+        let len = bytes.len().min(KEPT);
+        let mut kept = [0; KEPT];
         for i in 0..len {
             kept[i] = bytes[i];
         }
@@ -40,5 +51,31 @@ impl Name {
             bytes: kept,
             len: len as u8,
         }
+    }
+
+    /// The name with one byte more, if it isn't too long already.
+    pub fn with(self, byte: u8) -> Name
+        ensures { result ≡ take 17 (self ++ byte ∷ []) }
+    {
+        let mut longer = self;
+        if (longer.len as usize) < KEPT {
+            longer.bytes[longer.len as usize] = byte;
+            longer.len += 1;
+        }
+        longer
+    }
+
+    /// The bytes of the name, the first 17 where it is too long.
+    pub fn as_bytes(&self) -> &[u8]
+        ensures { result.now ≡ self.now }
+    {
+        &self.bytes[..self.len as usize]
+    }
+
+    /// Whether the name has more bytes than a name may have.
+    pub fn is_too_long(&self) -> bool
+        ensures { IsTrue result ↔ (16 < length self.now) }
+    {
+        self.len as usize > LONGEST_NAME
     }
 }

@@ -8,9 +8,9 @@ ghost use Rattle.rank_text.specs.declared.token.Token.{Token};
 ghost use Rattle.rank_text.specs.declared.reader.Level.{Level};
 ghost use Rattle.rank_text.specs.Seen.{left_of, level_of, state_of, stack_of, bracket_of, tree_in, minuses_of, found_of, Goes};
 
-use crate::written::Written;
 use crate::name::Name;
 use crate::token::{Operator, Strength, Token};
+use crate::written::Written;
 use metered::Heap;
 use std::alloc::AllocError;
 
@@ -360,8 +360,8 @@ pub fn expression_at(
     Ok(found(read, rest))
 }
 
-/// The same, where nothing follows.
-fn all_of_tokens(alloc: Heap, tokens: &[Token]) -> Result<Option<Written>, AllocError>
+/// The expression of all of the tokens.
+pub(crate) fn whole_expression(alloc: Heap, tokens: &[Token]) -> Result<Option<Written>, AllocError>
     ensures { IfOk result (λ o. tree_in o ≡ whole_expression tokens.now) }
 {
     let Some((operand, rest)) = expression_at(alloc, tokens)? else {
@@ -380,7 +380,7 @@ pub fn expression(alloc: Heap, tokens: &[Token]) -> Result<Option<Written>, Allo
     // What is spelled so is read, and nothing else.
     ensures only { IfOk result (λ o. (e : Tree) → Spells whole tokens.now e → tree_in o ≡ Some e) }
 {
-    all_of_tokens(alloc, tokens)
+    whole_expression(alloc, tokens)
 }
 
 /// No tokens spell two expressions.

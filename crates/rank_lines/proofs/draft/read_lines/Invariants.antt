@@ -1,0 +1,16 @@
+use Rattle.std.proofs.Common.{◌≡◌, ◌≤◌, length}
+use Rattle.rank_lines.specs.Lines.{lines_of}
+use Rattle.rank_lines.specs.Verdict.{reading_of}
+use Rattle.rank_lines.specs.Progress.{IsLed, going, reader_seen}
+use Rattle.rank_lines.proofs.draft.read_lines.Given as goal
+
+-- the rest gives what the whole text does
+abbrev pub invariant-loop-line : goal.invariant-loop-line
+invariant-loop-line l = record {
+  going : going (reader_seen l.reader) l.number (lines_of l.rest) ≡ reading_of l.text;
+  led : IsLed (reader_seen l.reader);
+  early : l.number ≤ 1001;
+}
+
+abbrev pub decreases-loop-line : goal.decreases-loop-line
+decreases-loop-line l = length l.rest

@@ -1,0 +1,143 @@
+//! A line is judged: its statement, or its lowest fault.
+ghost use Rattle.std.specs.Prelude.{◌≡◌, IfOk, Some};
+ghost use Rattle.rank_text.specs.Forms.{form_of};
+ghost use Rattle.rank_text.specs.SeenForms.{form_seen};
+ghost use Rattle.rank_text.specs.Tokens.{tokens_of};
+ghost use Rattle.rank_lines.specs.Scope.{is_over};
+ghost use Rattle.rank_lines.specs.SeenLines.{judged_seen, scope_seen};
+ghost use Rattle.rank_lines.specs.Verdict.{form_fault, formed, line_of, skipped_of, unless_fault};
+
+use crate::bytes::{is_skipped, is_statement, is_text};
+use crate::declared::declared_in;
+use crate::depth::deepest;
+use crate::fault::FaultKind;
+use crate::number::has_great_number;
+use crate::place::{is_past_table, is_stray, is_twice};
+use crate::scope::Scope;
+use crate::size::has_large;
+use metered::Heap;
+use rank_text::forms::form;
+use rank_text::{Form, Token, tokens};
+use std::alloc::AllocError;
+
+/// The lines that a text may have.
+const LINES: usize = 1000;
+
+/// The bytes that a line may have.
+const LINE_BYTES: usize = 8192;
+
+/// The parentheses that may be open at once.
+const PARENTHESES: usize = 64;
+
+/// What a line is.
+#[derive(Drop)]
+pub(crate) enum Judged {
+    Skipped,
+    Statement(Form),
+    Faulty(FaultKind),
+}
+
+/// Whether a limit is passed.
+fn is_over(scope: &Scope, tokens: &[Token], form: &Form) -> bool
+    ensures { result ≡ is_over (scope_seen scope.now) tokens.now (form_seen form.now) }
+{
+    is_past_table(scope, form) || has_large(form) || deepest(tokens) > PARENTHESES
+}
+
+/// The lowest fault of a line that has its form.
+fn form_fault(scope: &Scope, number: usize, tokens: &[Token], form: &Form) -> Option<FaultKind>
+    ensures { result ≡ form_fault (scope_seen scope.now) number tokens.now (form_seen form.now) }
+{
+    if !declared_in(scope, form) {
+        return Some(FaultKind::Undeclared);
+    }
+    if is_twice(scope, form) {
+        return Some(FaultKind::DeclaredTwice);
+    }
+    if is_stray(scope, form) {
+        return Some(FaultKind::BlockStray);
+    }
+    if number > LINES || is_over(scope, tokens, form) {
+        return Some(FaultKind::Limit);
+    }
+    if has_great_number(form) {
+        return Some(FaultKind::NumberRange);
+    }
+    None
+}
+
+/// A line that has its form.
+fn stated(scope: &Scope, number: usize, tokens: &[Token], form: Form) -> Judged
+    ensures { judged_seen result ≡ unless_fault
+        (form_fault (scope_seen scope.now) number tokens.now (form_seen form)) (Some (form_seen form)) }
+{
+    match form_fault(scope, number, tokens, &form) {
+        None => Judged::Statement(form),
+        Some(kind) => Judged::Faulty(kind),
+    }
+}
+
+/// A line with these tokens.
+fn with_tokens(
+    alloc: Heap,
+    scope: &Scope,
+    number: usize,
+    tokens: &[Token],
+) -> Result<Judged, AllocError>
+    ensures { IfOk result (λ j. judged_seen j ≡ formed (scope_seen scope.now) number (Some tokens.now)) }
+{
+    match form(alloc, tokens)? {
+        None => Ok(Judged::Faulty(FaultKind::BadForm)),
+        Some(form) => Ok(stated(scope, number, tokens, form)),
+    }
+}
+
+/// A line that begins with a statement word.
+fn formed(
+    alloc: Heap,
+    scope: &Scope,
+    number: usize,
+    line: &[u8],
+) -> Result<Judged, AllocError>
+    ensures { IfOk result (λ j. judged_seen j ≡ formed (scope_seen scope.now) number (tokens_of line.now)) }
+{
+    match tokens(alloc, line)? {
+        None => Ok(Judged::Faulty(FaultKind::BadForm)),
+        Some(tokens) => with_tokens(alloc, scope, number, tokens.as_slice()),
+    }
+}
+
+/// A line that has nothing to read.
+fn skipped(number: usize) -> Judged
+    ensures { judged_seen result ≡ skipped_of number }
+{
+    if number > LINES {
+        Judged::Faulty(FaultKind::Limit)
+    } else {
+        Judged::Skipped
+    }
+}
+
+/// The line of this number from 1, after lines that leave the scope.
+pub(crate) fn judge(
+    alloc: Heap,
+    scope: &Scope,
+    number: usize,
+    line: &[u8],
+) -> Result<Judged, AllocError>
+    ensures { IfOk result (λ j. judged_seen j ≡ line_of (scope_seen scope.now) number line.now) }
+{
+    if !is_text(line) {
+        return Ok(Judged::Faulty(FaultKind::NotText));
+    }
+    if line.len() > LINE_BYTES {
+        return Ok(Judged::Faulty(FaultKind::Limit));
+    }
+    if is_skipped(line) {
+        return Ok(skipped(number));
+    }
+    if !is_statement(line) {
+        return Ok(Judged::Faulty(FaultKind::NotAStatement));
+    }
+    formed(alloc, scope, number, line)
+}

@@ -1,0 +1,72 @@
+//! Whether a statement may stand where it does.
+ghost use Rattle.std.specs.Prelude.{◌≡◌, length, nat_le};
+ghost use Rattle.rank_text.specs.SeenForms.{form_seen};
+ghost use Rattle.rank_lines.specs.Scope.{is_empty, is_open_if, is_past_table, is_stray, is_twice};
+ghost use Rattle.rank_lines.specs.SeenLines.{scope_seen};
+
+use crate::scope::{Opened, Scope};
+use rank_text::Form;
+
+/// The variables that a program may have.
+const VARIABLES: usize = 64;
+
+/// The blocks that may be open at once.
+const BLOCKS: usize = 32;
+
+/// Whether the name that the statement declares is already declared.
+pub(crate) fn is_twice(scope: &Scope, form: &Form) -> bool
+    ensures { result ≡ is_twice (scope_seen scope.now) (form_seen form.now) }
+{
+    match form {
+        Form::Var(name) => scope.is_declared(name),
+        _ => false,
+    }
+}
+
+/// Whether the innermost block is an `if` without its `else`.
+#[tactic(auto, using(crate::proofs::ScopeLaws::innermost))]
+fn is_open_if(scope: &Scope) -> bool
+    ensures { result ≡ is_open_if (scope_seen scope.now).blocks }
+{
+    match scope.blocks.last().copied() {
+        Some(block) => block == Opened::If,
+        None => false,
+    }
+}
+
+#[tactic(auto, using(crate::proofs::ScopeLaws::blocks_empty))]
+fn has_no_block(scope: &Scope) -> bool
+    ensures { result ≡ is_empty (scope_seen scope.now).blocks }
+{
+    scope.blocks.is_empty()
+}
+
+#[tactic(auto, using(crate::proofs::ScopeLaws::blocks_length))]
+fn has_all_blocks(scope: &Scope) -> bool
+    ensures { result ≡ nat_le 32 (length (scope_seen scope.now).blocks) }
+{
+    scope.blocks.len() >= BLOCKS
+}
+
+/// Whether an `end` or `else` has no block of its own, or a declaration stands in one.
+pub(crate) fn is_stray(scope: &Scope, form: &Form) -> bool
+    ensures { result ≡ is_stray (scope_seen scope.now) (form_seen form.now) }
+{
+    match form {
+        Form::Var(_) => !has_no_block(scope),
+        Form::Else => !is_open_if(scope),
+        Form::End => has_no_block(scope),
+        _ => false,
+    }
+}
+
+/// Whether a table has no room for what the statement declares or opens, or its name is too long.
+pub(crate) fn is_past_table(scope: &Scope, form: &Form) -> bool
+    ensures { result ≡ is_past_table (scope_seen scope.now) (form_seen form.now) }
+{
+    match form {
+        Form::Var(name) => scope.variables.len() >= VARIABLES || name.is_too_long(),
+        Form::If(_) => has_all_blocks(scope),
+        _ => false,
+    }
+}
