@@ -1,0 +1,62 @@
+-- What a sender keeps for one destination (sender-based message logging: Alvisi and Marzullo 1998; payloads kept in
+-- the sender's memory, and dropped once a receiver's checkpoint no longer needs them: MPICH-V2).
+use Rattle.std.specs.Prelude.{◌≡◌, ℕ, ◌+◌, ◌-◌, ◌<◌, ◌≤◌, List, [], ◌∷◌, ◌++◌, length, nat_lt, if◌then◌else◌, drop, min, max, slice_index_or, slice_get, Option}
+use Rattle.matching.specs.Message.{Message, greatest}
+
+-- how many packets were let go, how many were saved in all, the number of the next to transmit, and the packets kept
+pub record Backlog : Type 0 where
+  pub base : ℕ
+  pub sent : ℕ
+  pub cursor : ℕ
+  pub kept : List Message
+
+-- the message at each place has the next number
+abbrev pub AreNumbered : ℕ → List Message → Type 0
+AreNumbered base ms = (k : ℕ) (d : Message) → k < length ms → (slice_index_or ms k d).number ≡ base + k + 1
+
+-- kept are the packets from the base to the last one sent, and the cursor is above the base and at most one past what there is
+pub record IsBacklog (b : Backlog) : Type 0 where
+  pub kept : length b.kept ≡ b.sent - b.base
+  pub numbered : AreNumbered b.base b.kept
+  pub above : b.base < b.cursor
+  pub below : b.cursor ≤ max b.base b.sent + 1
+  pub base : b.base ≤ greatest
+  pub sent : b.sent ≤ greatest
+
+-- nothing was saved
+abbrev pub new_backlog : Backlog
+new_backlog = record { base = 0; sent = 0; cursor = 1; kept = [] }
+
+-- a packet is counted, and kept where its number is above the base
+abbrev pub saved : Backlog → Message → Backlog
+saved b m = record { base = b.base; sent = b.sent + 1; cursor = b.cursor; kept = if nat_lt b.base m.number then b.kept ++ m ∷ [] else b.kept }
+
+-- the packet at the cursor, if it was sent already
+abbrev pub next_of : Backlog → Option Message
+next_of b = slice_get b.kept (b.cursor - (b.base + 1))
+
+-- the packet at the cursor was transmitted
+abbrev pub passed : Backlog → Backlog
+passed b = record { base = b.base; sent = b.sent; cursor = b.cursor + 1; kept = b.kept }
+
+-- a receiver asks for packets again: the cursor goes back to that number, but never to one that isn't kept
+abbrev pub asked : Backlog → ℕ → Backlog
+asked b from = record { base = b.base; sent = b.sent; cursor = max (b.base + 1) (min b.cursor from); kept = b.kept }
+
+-- a receiver no longer needs the packets up to a number: they go, unless they went before
+abbrev pub pruned : Backlog → ℕ → Backlog
+pruned b upto =
+    if nat_lt b.base upto
+    then record { base = upto; sent = b.sent; cursor = max b.cursor (upto + 1); kept = drop (upto - b.base) b.kept }
+    else b
+
+-- of all packets ever saved, as one list by number, the log holds those above the base, and no others; the cursor is above the base
+pub record Keeps (b : Backlog) (all : List Message) : Type 0 where
+  pub numbered : AreNumbered 0 all
+  pub sent : length all ≡ b.sent
+  pub kept : b.kept ≡ drop b.base all
+  pub above : b.base < b.cursor
+
+-- what is kept for a destination
+abbrev pub backlog : List Backlog → ℕ → Backlog
+backlog bs dest = slice_index_or bs dest new_backlog

@@ -1,0 +1,11 @@
+//! The payloads that a sender keeps for receivers which may ask for them again.
+#![tactic(auto)]
+
+mod backlog;
+mod laws;
+mod payload_log;
+#[cfg(test)]
+mod tests;
+
+pub use laws::keeps;
+pub use payload_log::PayloadLog;

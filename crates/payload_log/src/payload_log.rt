@@ -1,0 +1,126 @@
+//! The payloads that a sender keeps, for each destination.
+ghost use Rattle.std.specs.Prelude.{◌≡◌, ◌+◌, ◌<◌, ◌≤◌, ◌↔◌, IfSome, IsSome, IfErr, IfOk, OnOk, OnErr, length, replicate, slice_set, option_copied};
+ghost use Rattle.matching.specs.Message.{greatest};
+
+use crate::backlog::Kept;
+use matching::Packet;
+use metered::Heap;
+use std::alloc::AllocError;
+use std::marker::Model;
+
+/// The packets that a sender keeps for each destination, with the number of
+/// the next one to transmit.
+#[derive(Debug, Drop)]
+pub struct PayloadLog {
+    kept: Vec<Kept, Heap>,
+}
+
+impl Model for PayloadLog {
+    ghost use Rattle.std.specs.Prelude.{List};
+    ghost use Rattle.payload_log.specs.Backlog.{Backlog};
+
+    ghost Value = { List Backlog };
+
+    ghost view = { λ l. l.kept.items };
+}
+
+impl PayloadLog {
+    ghost use Rattle.payload_log.specs.Backlog.{new_backlog, saved, next_of, passed, asked, pruned, backlog, IsBacklog};
+
+    /// The log of a sender among `size` ranks that sent nothing.
+    pub fn new(alloc: Heap, size: usize) -> Result<PayloadLog, AllocError>
+        ensures { IfOk result (λ l. l ≡ replicate size new_backlog) }
+    {
+        let mut kept = Vec::with_capacity(alloc, size)?;
+        for _ in 0..size {
+            kept.push(Kept::new(alloc))?;
+        }
+        Ok(PayloadLog { kept })
+    }
+
+    /// Counts the packet, and keeps it where its number is above the base. An
+    /// `Err` is want of memory.
+    pub fn save(&mut self, dest: usize, packet: Packet) -> Result<(), Packet>
+        requires there { dest < length self.old }
+        requires next { packet.number ≡ (backlog self.old dest).sent + 1 }
+        ensures ok { OnOk result (self.new ≡ slice_set self.old dest (saved (backlog self.old dest) packet)) }
+
+        ensures kept_only { OnErr result ((backlog self.old dest).base < packet.number) }
+        ensures back { IfErr result (λ back. back ≡ packet) }
+        ensures err { OnErr result (self.new ≡ self.old) }
+    {
+        let kept = &mut self.kept[dest];
+        kept.save(packet)
+    }
+
+    /// The packet at the cursor, which is the next to transmit.
+    pub fn next(&self, dest: usize) -> Option<&Packet>
+        requires { dest < length self.now }
+        ensures value { option_copied result ≡ next_of (backlog self.now dest) }
+        ensures some { IsSome result ↔ ((backlog self.now dest).cursor ≤ (backlog self.now dest).sent) }
+        ensures number { IfSome result (λ p. p.now.number ≡ (backlog self.now dest).cursor) }
+    {
+        let kept = &self.kept[dest];
+        kept.next()
+    }
+
+    /// The packet at the cursor was transmitted.
+    pub fn passed(&mut self, dest: usize)
+        requires there { dest < length self.old }
+        requires next { IsSome (next_of (backlog self.old dest)) }
+        ensures { self.new ≡ slice_set self.old dest (passed (backlog self.old dest)) }
+    {
+        let kept = &mut self.kept[dest];
+        kept.pass();
+    }
+
+    /// A receiver asks for the packets from this number on: the cursor goes
+    /// back to it, or as far as packets are kept.
+    pub fn ask(&mut self, dest: usize, from: u32)
+        requires there { dest < length self.old }
+        requires known { (1 ≤ from) × (from ≤ greatest + 1) }
+        ensures { self.new ≡ slice_set self.old dest (asked (backlog self.old dest) from) }
+    {
+        let kept = &mut self.kept[dest];
+        kept.ask(from);
+    }
+
+    /// A receiver no longer needs the packets up to this number, which are
+    /// dropped.
+    pub fn prune(&mut self, dest: usize, upto: u32)
+        requires there { dest < length self.old }
+        requires known { upto ≤ greatest }
+        ensures { self.new ≡ slice_set self.old dest (pruned (backlog self.old dest) upto) }
+    {
+        let kept = &mut self.kept[dest];
+        kept.prune(upto);
+    }
+
+    /// How many packets were ever saved for this destination.
+    pub fn sent(&self, dest: usize) -> u32
+        requires { dest < length self.now }
+        ensures { result ≡ (backlog self.now dest).sent }
+    {
+        let kept = &self.kept[dest];
+        kept.sent()
+    }
+
+    /// The number up to which packets for this destination were let go.
+    pub fn base(&self, dest: usize) -> u32
+        requires { dest < length self.now }
+        ensures { result ≡ (backlog self.now dest).base }
+    {
+        let kept = &self.kept[dest];
+        kept.base()
+    }
+
+    /// What is kept for a destination is by number, from the one after the base
+    /// to the last one sent, and the cursor stands among them or just behind.
+    pub fn in_order(&self, dest: usize)
+        requires { dest < length self.now }
+        ensures { IsBacklog (backlog self.now dest) }
+    {
+        let kept = &self.kept[dest];
+        kept.in_order();
+    }
+}
