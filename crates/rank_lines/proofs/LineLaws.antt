@@ -9,12 +9,13 @@ use Rattle.rank_lines.specs.declared.fault.FaultKind.{FaultKind}
 use Rattle.rank_lines.specs.declared.fault.FaultKind.TheVariants.{NotText, NotAStatement, BadForm, Undeclared, DeclaredTwice, BlockOpen, BlockStray, Limit, NumberRange}
 use Rattle.rank_text.specs.declared.token.Token.{Token}
 use Rattle.rank_text.specs.Tokens.{tokens_of}
-use Rattle.rank_text.specs.Forms.{Form, IsForm, form_of}
+use Rattle.rank_text.specs.Forms.{Form, form_of}
+use Rattle.rank_text.proofs.LexLaws.{lexed, one_lexing, read_is}
 use Rattle.rank_text.proofs.FormLaws.{form_read, form_spelled}
 use Rattle.rank_lines.specs.Lines.{is_text, is_skipped, is_statement}
 use Rattle.rank_lines.specs.Scope.{Scope, declared_in, is_twice, is_stray, is_over, has_great_number}
-use Rattle.rank_lines.specs.Faults.{number_of, IsLooked, IsFormed, Holds, other_byte, no_word, no_form, unknown_name, known_name, no_block, long_line, late_line, over, great_number, IsClean, IsLowest, IsLine, skipped, stated}
-use Rattle.rank_lines.specs.Verdict.{first_of, unless_fault, form_fault, formed, skipped_of, line_of}
+use Rattle.rank_lines.specs.Faults.{number_of, IsLooked, IsFormed, Holds, other_byte, no_word, no_form, unknown_name, known_name, no_block, long_line, late_line, over, great_number, IsLowest, IsLine, skipped, stated}
+use Rattle.rank_lines.specs.Verdict.{first_of, unless_fault, form_fault, formed, looked, skipped_of, measured, line_of}
 
 -- a test that gives false shows that the number isn't below
 ltb-false : (a b : ℕ) → nat_lt a b ≡ false → b ≤ a
@@ -22,10 +23,8 @@ ltb-false a b q = grind (arith, nat_tests)
 
 -- a line has one form
 pub form_one : {line : List ℕ} {ts us : List Token} {f g : Form} → IsFormed line ts f → IsFormed line us g → (ts ≡ us) × (f ≡ g)
-form_one {ts = ts} {us = us} {f = f} {g = g} a b =
-    let p = a.tokens in
-    let q = b.tokens in
-    let e : ts ≡ us = cc in
+form_one {line = line} {ts = ts} {us = us} {f = f} {g = g} a b =
+    let e = one_lexing line ts us a.tokens b.tokens in
     let r : Some f ≡ Some g = sym (form_read a.form) ∙ ap form_of e ∙ form_read b.form in
     (e, cc)
 
@@ -38,16 +37,18 @@ pick a b c d e Limit = d
 pick a b c d e NumberRange = e
 pick a b c d e _ = false
 
-
+-- the fault's test gives true, and that of no lower one does
 abbrev IsLeast : (a b c d e : Bool) → FaultKind → Type 0
 IsLeast a b c d e k = (pick a b c d e k ≡ true) × ((j : FaultKind) → pick a b c d e j ≡ true → number_of k ≤ number_of j)
 
+-- where the tests before it give false, a fault whose test gives true is 4 or more
 at_least_4 : (a b c d e : Bool) (j : FaultKind) → pick a b c d e j ≡ true → 4 ≤ number_of j
 at_least_4 a b c d e NotText q = absurd cc
 at_least_4 a b c d e NotAStatement q = absurd cc
 at_least_4 a b c d e BadForm q = absurd cc
 at_least_4 a b c d e _ q = omega arith
 
+-- where the tests before it give false, a fault whose test gives true is 5 or more
 at_least_5 : (b c d e : Bool) (j : FaultKind) → pick false b c d e j ≡ true → 5 ≤ number_of j
 at_least_5 b c d e NotText q = absurd cc
 at_least_5 b c d e NotAStatement q = absurd cc
@@ -55,23 +56,30 @@ at_least_5 b c d e BadForm q = absurd cc
 at_least_5 b c d e Undeclared q = absurd cc
 at_least_5 b c d e _ q = omega arith
 
+-- where the tests before it give false, a fault whose test gives true is 7 or more
 at_least_7 : (c d e : Bool) (j : FaultKind) → pick false false c d e j ≡ true → 7 ≤ number_of j
 at_least_7 c d e BlockStray q = omega arith
 at_least_7 c d e Limit q = omega arith
 at_least_7 c d e NumberRange q = omega arith
 at_least_7 c d e _ q = absurd cc
 
+-- where the tests before it give false, a fault whose test gives true is 8 or more
 at_least_8 : (d e : Bool) (j : FaultKind) → pick false false false d e j ≡ true → 8 ≤ number_of j
 at_least_8 d e Limit q = omega arith
 at_least_8 d e NumberRange q = omega arith
 at_least_8 d e _ q = absurd cc
 
+-- where the tests before it give false, a fault whose test gives true is 9 or more
 at_least_9 : (e : Bool) (j : FaultKind) → pick false false false false e j ≡ true → 9 ≤ number_of j
 at_least_9 e NumberRange q = omega arith
 at_least_9 e _ q = absurd cc
 
+-- the same in the order of the faults
+abbrev tests : (a b c d e : Bool) → List (Bool × FaultKind)
+tests a b c d e = (a, Undeclared) ∷ (b, DeclaredTwice) ∷ (c, BlockStray) ∷ (d, Limit) ∷ (e, NumberRange) ∷ []
+
 -- the first test that gives true is that of the lowest fault
-first_is_least : (a b c d e : Bool) (k : FaultKind) → first_of ((a, Undeclared) ∷ (b, DeclaredTwice) ∷ (c, BlockStray) ∷ (d, Limit) ∷ (e, NumberRange) ∷ []) ≡ Some k → IsLeast a b c d e k
+first_is_least : (a b c d e : Bool) (k : FaultKind) → first_of (tests a b c d e) ≡ Some k → IsLeast a b c d e k
 first_is_least true b c d e k q = let r : Undeclared ≡ k = cc in subst (IsLeast true b c d e) r (refl, at_least_4 true b c d e)
 first_is_least false true c d e k q = let r : DeclaredTwice ≡ k = cc in subst (IsLeast false true c d e) r (refl, at_least_5 true c d e)
 first_is_least false false true d e k q = let r : BlockStray ≡ k = cc in subst (IsLeast false false true d e) r (refl, at_least_7 true d e)
@@ -80,7 +88,7 @@ first_is_least false false false false true k q = let r : NumberRange ≡ k = cc
 first_is_least false false false false false k q = absurd cc
 
 -- where no test gives true there is no fault
-none_is_picked : (a b c d e : Bool) → first_of ((a, Undeclared) ∷ (b, DeclaredTwice) ∷ (c, BlockStray) ∷ (d, Limit) ∷ (e, NumberRange) ∷ []) ≡ None → (j : FaultKind) → pick a b c d e j ≡ true → ⊥
+none_is_picked : (a b c d e : Bool) → first_of (tests a b c d e) ≡ None → (j : FaultKind) → pick a b c d e j ≡ true → ⊥
 none_is_picked false false false false false q Undeclared r = cc
 none_is_picked false false false false false q DeclaredTwice r = cc
 none_is_picked false false false false false q BlockStray r = cc
@@ -97,16 +105,19 @@ none_is_picked false false false false true q j r = cc
 abbrev picked : Scope → ℕ → List Token → Form → FaultKind → Bool
 picked s n ts f j = pick (not (declared_in s f)) (is_twice s f) (is_stray s f) (nat_lt 1000 n || is_over s ts f) (has_great_number f) j
 
+-- a test that gives true decides an `or`
 or_left : (a b : Bool) → a ≡ true → (a || b) ≡ true
 or_left true b q = refl
 or_left false b q = absurd cc
 
+-- so does the other
 or_right : (a b : Bool) → b ≡ true → (a || b) ≡ true
 or_right true b q = refl
 or_right false b q = q
 
 -- a fault of a line that has its form is one of the five, and its test gives true
-holds_picked : {s : Scope} {n : ℕ} {line : List ℕ} {ts : List Token} {f : Form} → IsFormed line ts f → is_statement line ≡ true → (j : FaultKind) → Holds s n line j → picked s n ts f j ≡ true
+holds_picked : {s : Scope} {n : ℕ} {line : List ℕ} {ts : List Token} {f : Form}
+    → IsFormed line ts f → is_statement line ≡ true → (j : FaultKind) → Holds s n line j → picked s n ts f j ≡ true
 holds_picked d w _ (other_byte q) = let r = d.looked.text in absurd cc
 holds_picked d w _ (no_word l q) = absurd cc
 holds_picked {ts = ts} {f = f} d w _ (no_form l q h) = absurd (h ts f d)
@@ -120,16 +131,20 @@ holds_picked {s = s} {n = n} {ts = ts} {f = f} d w _ (over {ts = us} b q) =
     or_right (nat_lt 1000 n) (is_over s ts f) (ap (λ z. is_over s z f) e.0 ∙ ap (λ z. is_over s us z) e.1 ∙ q)
 holds_picked d w _ (great_number b q) = ap has_great_number (form_one d b).1 ∙ q
 
+-- an `or` is true by one of its tests
 or_cases : (a b : Bool) → (a || b) ≡ true → (a ≡ true) ⊎ (b ≡ true)
 or_cases true b q = inl refl
 or_cases false b q = inr q
 
-limit_holds : {s : Scope} {n : ℕ} {line : List ℕ} {ts : List Token} {f : Form} → IsFormed line ts f → (nat_lt 1000 n ≡ true) ⊎ (is_over s ts f ≡ true) → Holds s n line Limit
+-- a late line and one over a limit both have fault 8
+limit_holds : {s : Scope} {n : ℕ} {line : List ℕ} {ts : List Token} {f : Form}
+    → IsFormed line ts f → (nat_lt 1000 n ≡ true) ⊎ (is_over s ts f ≡ true) → Holds s n line Limit
 limit_holds {n = n} d (inl q) = late_line (ltb-true 1000 n q)
 limit_holds d (inr q) = over d q
 
 -- and where its test gives true the fault holds
-picked_holds : {s : Scope} {n : ℕ} {line : List ℕ} {ts : List Token} {f : Form} → IsFormed line ts f → (j : FaultKind) → picked s n ts f j ≡ true → Holds s n line j
+picked_holds : {s : Scope} {n : ℕ} {line : List ℕ} {ts : List Token} {f : Form}
+    → IsFormed line ts f → (j : FaultKind) → picked s n ts f j ≡ true → Holds s n line j
 picked_holds d Undeclared q = unknown_name d (grind arith)
 picked_holds d DeclaredTwice q = known_name d q
 picked_holds d BlockStray q = no_block d q
@@ -137,6 +152,7 @@ picked_holds {s = s} {n = n} {ts = ts} {f = f} d Limit q = limit_holds d (or_cas
 picked_holds d NumberRange q = great_number d q
 picked_holds d _ q = absurd cc
 
+-- faults are numbered from 1
 at_least_1 : (j : FaultKind) → 1 ≤ number_of j
 at_least_1 NotText = omega arith
 at_least_1 NotAStatement = omega arith
@@ -162,7 +178,8 @@ not_1 p _ (over b q) = omega arith
 not_1 p _ (great_number b q) = omega arith
 
 -- one that begins with a statement word has no fault 2 either
-not_2 : {s : Scope} {n : ℕ} {line : List ℕ} → is_text line ≡ true → is_statement line ≡ true → (j : FaultKind) → Holds s n line j → 3 ≤ number_of j
+not_2 : {s : Scope} {n : ℕ} {line : List ℕ} → is_text line ≡ true → is_statement line ≡ true → (j : FaultKind) → Holds s n line j
+    → 3 ≤ number_of j
 not_2 p w _ (other_byte q) = absurd cc
 not_2 p w _ (no_word l q) = absurd cc
 not_2 p w _ (no_form l q h) = omega arith
@@ -187,6 +204,7 @@ only_8 p h _ (late_line k) = refl
 only_8 p h _ (over b q) = absurd (h b.looked)
 only_8 p h _ (great_number b q) = absurd (h b.looked)
 
+-- and fault 8 of a line that is skipped and short is that it is late
 only_late : {s : Scope} {n : ℕ} {line : List ℕ} → length line ≤ 8192 → (IsLooked line → ⊥) → Holds s n line Limit → 1000 < n
 only_late p h (long_line k) = absurd (omega arith)
 only_late p h (late_line k) = k
@@ -197,44 +215,81 @@ abbrev pub Answers : Scope → ℕ → List ℕ → Result (Option Form) FaultKi
 Answers s n line (Ok o) = IsLine s n line o
 Answers s n line (Err k) = IsLowest s n line k
 
-at_fault : (s : Scope) (n : ℕ) (line : List ℕ) (ts : List Token) (f : Form) → IsFormed line ts f → is_statement line ≡ true → (o : Option FaultKind) → form_fault s n ts f ≡ o → Answers s n line (unless_fault o (Some f))
+-- a line that has its form is answered by its five tests
+at_fault : (s : Scope) (n : ℕ) (line : List ℕ) (ts : List Token) (f : Form) → IsFormed line ts f → is_statement line ≡ true
+    → (o : Option FaultKind) → form_fault s n ts f ≡ o → Answers s n line (unless_fault o (Some f))
 at_fault s n line ts f d w None q = stated d (λ j h. none_is_picked _ _ _ _ _ q j (holds_picked d w j h))
 at_fault s n line ts f d w (Some k) q =
-    let l = first_is_least (not (declared_in s f)) (is_twice s f) (is_stray s f) (nat_lt 1000 n || is_over s ts f) (has_great_number f) k q in
+    let limit = nat_lt 1000 n || is_over s ts f in
+    let l = first_is_least (not (declared_in s f)) (is_twice s f) (is_stray s f) limit (has_great_number f) k q in
     record { holds = picked_holds d k l.0; lowest = λ j h. l.1 j (holds_picked d w j h) }
 
-at_form : (s : Scope) (n : ℕ) (line : List ℕ) (ts : List Token) → IsLooked line → is_statement line ≡ true → tokens_of line ≡ Some ts → (o : Option Form) → form_of ts ≡ o → Answers s n line (elim o [ None ↦ Err BadForm | Some f ↦ unless_fault (form_fault s n ts f) (Some f) ])
+-- a line whose tokens have no form has fault 3
+at_form : (s : Scope) (n : ℕ) (line : List ℕ) (ts : List Token) → IsLooked line → is_statement line ≡ true → tokens_of line ≡ Some ts
+    → (o : Option Form) → form_of ts ≡ o
+    → Answers s n line (elim o [ None ↦ Err BadForm | Some f ↦ unless_fault (form_fault s n ts f) (Some f) ])
 at_form s n line ts l w p None q =
-    let none : (us : List Token) (f : Form) → IsFormed line us f → ⊥ = λ us f d. (let r = d.tokens in let e : us ≡ ts = cc in let g = form_read d.form in let m : form_of us ≡ None = ap form_of e ∙ q in cc) in
+    let none : (us : List Token) (f : Form) → IsFormed line us f → ⊥ = λ us f d. (
+    let r = lexed d.tokens in
+    let e : us ≡ ts = cc in
+    let g = form_read d.form in
+    let m : form_of us ≡ None = ap form_of e ∙ q in
+    cc) in
     record { holds = no_form l w none; lowest = not_2 l.text w }
-at_form s n line ts l w p (Some f) q = at_fault s n line ts f (record { looked = l; tokens = p; form = rw q at (form_spelled ts) }) w (form_fault s n ts f) refl
+at_form s n line ts l w p (Some f) q =
+    let d : IsFormed line ts f = record { looked = l; tokens = rw p at (read_is line); form = rw q at (form_spelled ts) } in
+    at_fault s n line ts f d w (form_fault s n ts f) refl
 
-at_tokens : (s : Scope) (n : ℕ) (line : List ℕ) → IsLooked line → is_statement line ≡ true → (o : Option (List Token)) → tokens_of line ≡ o → Answers s n line (formed s n o)
-at_tokens s n line l w None q = record { holds = no_form l w (λ us f d. (let r = d.tokens in cc)); lowest = not_2 l.text w }
+-- a line with a character that stands in no token has fault 3
+at_tokens : (s : Scope) (n : ℕ) (line : List ℕ) → IsLooked line → is_statement line ≡ true
+    → (o : Option (List Token)) → tokens_of line ≡ o → Answers s n line (formed s n o)
+at_tokens s n line l w None q = record { holds = no_form l w (λ us f d. (let r = lexed d.tokens in cc)); lowest = not_2 l.text w }
 at_tokens s n line l w (Some ts) q = at_form s n line ts l w q (form_of ts) refl
 
-at_word : (s : Scope) (n : ℕ) (line : List ℕ) → IsLooked line → (b : Bool) → is_statement line ≡ b → Answers s n line (if b then formed s n (tokens_of line) else Err NotAStatement)
+-- a line that doesn't begin with a statement word has fault 2
+at_word : (s : Scope) (n : ℕ) (line : List ℕ) → IsLooked line → (b : Bool) → is_statement line ≡ b
+    → Answers s n line (if b then formed s n (tokens_of line) else Err NotAStatement)
 at_word s n line l false q = record { holds = no_word l q; lowest = not_1 l.text }
 at_word s n line l true q = at_tokens s n line l q (tokens_of line) refl
 
-skipped_late : (s : Scope) (n : ℕ) (line : List ℕ) → is_text line ≡ true → length line ≤ 8192 → is_skipped line ≡ true → (b : Bool) → nat_lt 1000 n ≡ b → Answers s n line (if b then Err Limit else Ok None)
-skipped_late s n line p h r true q =
-    record { holds = late_line (ltb-true 1000 n q); lowest = λ j k. (let e = only_8 p (λ l. let u = l.not_skipped in cc) j k in subst (λ z. 8 ≤ number_of z) (sym e) (omega arith)) }
-skipped_late s n line p h r false q =
+-- a skipped line has fault 8 where it is late, and else none
+at_number : (s : Scope) (n : ℕ) (line : List ℕ) → is_text line ≡ true → length line ≤ 8192 → is_skipped line ≡ true
+    → (b : Bool) → nat_lt 1000 n ≡ b → Answers s n line (if b then Err Limit else Ok None)
+at_number s n line p h r true q = record {
+  holds = late_line (ltb-true 1000 n q);
+  lowest = λ j k. (
+      let e = only_8 p (λ l. let u = l.not_skipped in cc) j k in
+      subst (λ z. 8 ≤ number_of z) (sym e) (omega arith));
+}
+at_number s n line p h r false q =
     let unlooked : IsLooked line → ⊥ = λ l. (let u = l.not_skipped in cc) in
-    skipped r (λ j k. (let e = only_8 p unlooked j k in let m = only_late {s = s} h unlooked (subst (λ z. Holds s n line z) e k) in let c = ltb-false 1000 n q in omega arith))
+    skipped r (λ j k. (
+    let e = only_8 p unlooked j k in
+    let m = only_late {s = s} h unlooked (subst (λ z. Holds s n line z) e k) in
+    let c = ltb-false 1000 n q in
+    omega arith))
 
-at_skipped : (s : Scope) (n : ℕ) (line : List ℕ) → is_text line ≡ true → length line ≤ 8192 → (b : Bool) → is_skipped line ≡ b → Answers s n line (if b then skipped_of n else (if is_statement line then formed s n (tokens_of line) else Err NotAStatement))
-at_skipped s n line p h true q = skipped_late s n line p h q (nat_lt 1000 n) refl
+-- a line is skipped, or looked at
+at_skipped : (s : Scope) (n : ℕ) (line : List ℕ) → is_text line ≡ true → length line ≤ 8192
+    → (b : Bool) → is_skipped line ≡ b → Answers s n line (if b then skipped_of n else looked s n line)
+at_skipped s n line p h true q = at_number s n line p h q (nat_lt 1000 n) refl
 at_skipped s n line p h false q = at_word s n line (record { text = p; short = h; not_skipped = q }) (is_statement line) refl
 
-at_length : (s : Scope) (n : ℕ) (line : List ℕ) → is_text line ≡ true → (b : Bool) → nat_lt 8192 (length line) ≡ b → Answers s n line (if b then Err Limit else (if is_skipped line then skipped_of n else (if is_statement line then formed s n (tokens_of line) else Err NotAStatement)))
+-- a line that is too long has fault 8
+at_length : (s : Scope) (n : ℕ) (line : List ℕ) → is_text line ≡ true → (b : Bool) → nat_lt 8192 (length line) ≡ b
+    → Answers s n line (if b then Err Limit else (if is_skipped line then skipped_of n else looked s n line))
 at_length s n line p true q =
-    let long = ltb-true 8192 (length line) q in
-    record { holds = long_line long; lowest = λ j k. (let e = only_8 p (λ l. let u = l.short in omega arith) j k in subst (λ z. 8 ≤ number_of z) (sym e) (omega arith)) }
+    let long = ltb-true 8192 (length line) q in record {
+      holds = long_line long;
+      lowest = λ j k. (
+          let e = only_8 p (λ l. let u = l.short in omega arith) j k in
+          subst (λ z. 8 ≤ number_of z) (sym e) (omega arith));
+    }
 at_length s n line p false q = at_skipped s n line p (ltb-false 8192 (length line) q) (is_skipped line) refl
 
-at_text : (s : Scope) (n : ℕ) (line : List ℕ) (b : Bool) → is_text line ≡ b → Answers s n line (if not b then Err NotText else (if nat_lt 8192 (length line) then Err Limit else (if is_skipped line then skipped_of n else (if is_statement line then formed s n (tokens_of line) else Err NotAStatement))))
+-- a line with a byte outside has fault 1
+at_text : (s : Scope) (n : ℕ) (line : List ℕ) → (b : Bool) → is_text line ≡ b
+    → Answers s n line (if not b then Err NotText else measured s n line)
 at_text s n line false q = record { holds = other_byte q; lowest = λ j k. at_least_1 j }
 at_text s n line true q = at_length s n line q (nat_lt 8192 (length line)) refl
 

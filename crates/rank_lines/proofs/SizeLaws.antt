@@ -1,4 +1,4 @@
--- Sizes of expressions.
+-- Sizes of expressions: what is counted node by node never counts nothing.
 use Rattle.std.proofs.Common.{◌<◌, arith}
 use Rattle.rank_text.specs.Tree.{Tree, number, variable, item, reading, negation, operation}
 use Rattle.rank_lines.specs.Scope.{nodes}

@@ -1,16 +1,18 @@
 -- The statements of a text are whole: each may stand where it does, and their blocks are closed.
 -- A line without fault shows each fact that its statement needs, since the fault of the opposite would hold.
-use Rattle.std.specs.Prelude.{◌≡◌, ℕ, ◌+◌, ◌<◌, ◌≤◌, List, [], ◌∷◌, Bool, true, false, ◌||◌, nat_lt, length, Option, Some, None}
-use Rattle.std.proofs.Common.{refl, sym, ap, subst, ◌∙◌, arith}
+use Rattle.std.specs.Prelude.{◌≡◌, ℕ, ◌+◌, ◌<◌, ◌≤◌, List, Bool, true, false, length, Option, Some}
+use Rattle.std.proofs.Common.{refl, sym, ap, ◌∙◌, arith}
 use Rattle.rank_text.specs.declared.token.Token.{Token}
 use Rattle.rank_text.specs.Forms.{Form}
-use Rattle.rank_lines.specs.Scope.{Scope, nothing_yet, declared_in, is_twice, is_stray, is_past_table, has_large, is_over, deepest, has_great_number, after, after_all, MayStand, AllMayStand, IsWhole}
+use Rattle.rank_lines.specs.Scope.{Scope, declared_in, is_twice, is_stray, has_large, is_over, has_great_number, after_all, MayStand, AllMayStand, IsWhole}
 use Rattle.rank_lines.specs.Faults.{IsFormed, unknown_name, known_name, no_block, late_line, over, great_number, IsClean, IsLine, skipped, stated, AreLines, none, passed, taken, IsText}
 
+-- what can't be true is false
 not_true : (b : Bool) → (b ≡ true → ⊥) → b ≡ false
 not_true true h = absurd (h refl)
 not_true false h = refl
 
+-- what can't be false is true
 not_false : (b : Bool) → (b ≡ false → ⊥) → b ≡ true
 not_false true h = refl
 not_false false h = absurd (h refl)
@@ -19,6 +21,7 @@ not_false false h = absurd (h refl)
 large_is_over : (s : Scope) (ts : List Token) (f : Form) → has_large f ≡ true → is_over s ts f ≡ true
 large_is_over s ts f q = grind arith
 
+-- a statement without fault may stand where it does
 stands : {s : Scope} {n : ℕ} {l : List ℕ} {ts : List Token} {f : Form} → IsFormed l ts f → IsClean s n l → MayStand s f
 stands {s = s} {ts = ts} {f = f} d c = record {
   declared = not_false (declared_in s f) (λ q. c _ (unknown_name d q));
@@ -37,6 +40,7 @@ pub in_time : {s : Scope} {n : ℕ} {l : List ℕ} {o : Option Form} → IsLine 
 in_time (skipped q c) = let h : 1000 < _ → ⊥ = λ k. c _ (late_line k) in omega arith
 in_time (stated d c) = let h : 1000 < _ → ⊥ = λ k. c _ (late_line k) in omega arith
 
+-- the statements of lines may stand where they do
 lines_stand : {s s' : Scope} {n m : ℕ} {ls : List (List ℕ)} {fs : List Form} → AreLines s n ls fs s' m → AllMayStand s fs
 lines_stand none = tt
 lines_stand (passed a r) = lines_stand r
@@ -48,6 +52,7 @@ lines_leave none = refl
 lines_leave (passed a r) = lines_leave r
 lines_leave (taken a r) = lines_leave r
 
+-- lines have at most as many statements as there are lines up to the thousandth
 lines_few : {s s' : Scope} {n m : ℕ} {ls : List (List ℕ)} {fs : List Form} → AreLines s n ls fs s' m → n ≤ 1001 → n + length fs ≤ 1001
 lines_few none h = omega arith
 lines_few (passed a r) h = let k = in_time a in let l = lines_few r (omega arith) in omega arith

@@ -1,5 +1,5 @@
 -- A text read line by line, with what has been read so far.
-use Rattle.std.specs.Prelude.{◌≡◌, ℕ, ◌+◌, List, [], ◌∷◌, ◌++◌, Option, Some, None, Result, Ok, Err, option_to_list}
+use Rattle.std.specs.Prelude.{◌≡◌, ℕ, List, [], ◌∷◌, ◌++◌, Option, Some, None, Result, Ok, Err}
 use Rattle.rank_lines.specs.declared.fault.FaultKind.{FaultKind}
 use Rattle.rank_lines.specs.declared.fault.ProgramFault.{ProgramFault}
 use Rattle.rank_lines.specs.declared.fault.ParseFault as source_fault
@@ -9,7 +9,7 @@ use Rattle.rank_lines.specs.declared.draft.Reader as source_reader
 use Rattle.rank_text.specs.Forms.{Form}
 use Rattle.rank_lines.specs.Scope.{Scope, nothing_yet, after, after_all}
 use Rattle.rank_lines.specs.SeenLines.{scope_seen, forms_seen, arrays_seen}
-use Rattle.rank_lines.specs.Verdict.{line_of, after_line, statements_of}
+use Rattle.rank_lines.specs.Verdict.{line_of, statements_of}
 
 -- what the statements so far leave, and these statements
 pub record Reading : Type 0 where
@@ -28,6 +28,7 @@ reader_seen r = record { scope = scope_seen r.scope; forms = forms_seen r.forms.
 abbrev pub taken : Reading → Form → Reading
 taken r f = record { scope = after r.scope f; forms = r.forms ++ f ∷ [] }
 
+-- a line more, with its statement if it has one
 abbrev pub with_line : Reading → Option Form → Reading
 with_line r None = r
 with_line r (Some f) = taken r f
@@ -41,6 +42,7 @@ abbrev pub stepped : Option FaultKind → Reading → Result Reading FaultKind
 stepped None r = Ok r
 stepped (Some k) r = Err k
 
+-- statements in front of those of the lines behind them
 abbrev pub with_front : List Form → Result (List Form) (ℕ × FaultKind) → Result (List Form) (ℕ × FaultKind)
 with_front fs (Ok gs) = Ok (fs ++ gs)
 with_front fs (Err e) = Err e

@@ -1,4 +1,5 @@
--- What the lines so far have declared and opened, and which statements may follow them.
+-- What the lines so far have declared and opened, and which statements may follow them (the language's own
+-- manual, docs/LANGUAGE.md, "Names", "Blocks" and "Limits").
 use Rattle.std.specs.Prelude.{◌≡◌, ℕ, ◌+◌, ◌-◌, ◌^◌, ◌≤◌, max, List, [], ◌∷◌, ◌++◌, Bool, true, false, ◌&&◌, ◌||◌, not, nat_le, nat_lt, length, map}
 use Rattle.std.specs.Str.{bytes_eq}
 use Rattle.rank_text.specs.declared.token.Token.{Token}
@@ -17,19 +18,24 @@ pub record Scope : Type 0 where
   pub arrays : List (List ℕ × ℕ)
   pub blocks : List Opened
 
+-- nothing is declared, and no block is open
 abbrev pub nothing_yet : Scope
 nothing_yet = record { variables = []; arrays = []; blocks = [] }
 
+-- the name is one of these
 abbrev pub is_name_in : List (List ℕ) → List ℕ → Bool
 is_name_in [] x = false
 is_name_in (y ∷ ys) x = bytes_eq y x || is_name_in ys x
 
+-- the name is a variable
 abbrev pub is_variable : Scope → List ℕ → Bool
 is_variable s x = is_name_in s.variables x
 
+-- the name is an array
 abbrev pub is_array : Scope → List ℕ → Bool
 is_array s x = is_name_in (map (λ a. a.0) s.arrays) x
 
+-- the name is a variable or an array
 abbrev pub is_declared : Scope → List ℕ → Bool
 is_declared s x = is_variable s x || is_array s x
 
@@ -42,10 +48,12 @@ all_declared s (reading r) = true
 all_declared s (negation e) = all_declared s e
 all_declared s (operation o a b) = all_declared s a && all_declared s b
 
+-- each name in a source or tag is declared
 abbrev pub choice_declared : Scope → Choice → Bool
 choice_declared s any = true
 choice_declared s (value e) = all_declared s e
 
+-- a lone name is a variable or an array, and each name in another payload is declared in its sort
 abbrev pub payload_declared : Scope → Payload → Bool
 payload_declared s (lone x) = is_declared s x
 payload_declared s (one e) = all_declared s e
@@ -63,15 +71,17 @@ abbrev pub is_twice : Scope → Form → Bool
 is_twice s (var_form x) = is_declared s x
 is_twice s _ = false
 
+-- no block is open
 abbrev pub is_empty : List Opened → Bool
 is_empty [] = true
 is_empty (_ ∷ _) = false
 
+-- the innermost block is an `if` without its `else`
 abbrev pub is_open_if : List Opened → Bool
 is_open_if (in_if ∷ _) = true
 is_open_if _ = false
 
--- an `end` with no block open, an `else` whose innermost block isn't an `if` or has an `else`, a declaration in a block
+-- a declaration stands in a block, an `else` has no `if` or a second one, or an `end` has no block
 abbrev pub is_stray : Scope → Form → Bool
 is_stray s (var_form x) = not (is_empty s.blocks)
 is_stray s else_form = not (is_open_if s.blocks)
@@ -85,13 +95,16 @@ nodes (negation e) = 1 + nodes e
 nodes (operation o a b) = 1 + nodes a + nodes b
 nodes _ = 1
 
+-- the expression has over 64 nodes
 abbrev pub is_large : Tree → Bool
 is_large e = nat_lt 64 (nodes e)
 
+-- the source or tag has over 64 nodes
 abbrev pub choice_is_large : Choice → Bool
 choice_is_large any = false
 choice_is_large (value e) = is_large e
 
+-- the payload is an expression of over 64 nodes
 abbrev pub payload_is_large : Payload → Bool
 payload_is_large (lone x) = false
 payload_is_large (one e) = is_large e
@@ -121,6 +134,7 @@ is_past_table s _ = false
 abbrev pub is_over : Scope → List Token → Form → Bool
 is_over s ts f = is_past_table s f || has_large f || nat_lt 64 (deepest 0 ts)
 
+-- a number of the expression is above 9223372036854775807
 abbrev pub is_great : Tree → Bool
 is_great (number n) = nat_le (2 ^ 63) n
 is_great (item x e) = is_great e
@@ -128,10 +142,12 @@ is_great (negation e) = is_great e
 is_great (operation o a b) = is_great a || is_great b
 is_great _ = false
 
+-- a number of the source or tag is above it
 abbrev pub choice_is_great : Choice → Bool
 choice_is_great any = false
 choice_is_great (value e) = is_great e
 
+-- a number of the payload is above it
 abbrev pub payload_is_great : Payload → Bool
 payload_is_great (lone x) = false
 payload_is_great (one e) = is_great e
@@ -144,10 +160,12 @@ has_great_number (recv_form c g x) = choice_is_great c || choice_is_great g
 has_great_number (print_form e) = is_great e
 has_great_number _ = false
 
+-- the innermost block goes on after its `else`
 abbrev pub other_branch : List Opened → List Opened
 other_branch [] = []
 other_branch (b ∷ bs) = in_else ∷ bs
 
+-- the innermost block is closed
 abbrev pub outer : List Opened → List Opened
 outer [] = []
 outer (b ∷ bs) = bs
@@ -165,7 +183,7 @@ abbrev pub after_all : Scope → List Form → Scope
 after_all s [] = s
 after_all s (f ∷ fs) = after_all (after s f) fs
 
--- A statement that may stand after lines that leave the scope s.
+-- A statement may stand after lines that leave the scope s.
 pub record MayStand (s : Scope) (f : Form) : Type 0 where
   pub declared : declared_in s f ≡ true
   pub once : is_twice s f ≡ false
@@ -178,7 +196,7 @@ abbrev pub AllMayStand : Scope → List Form → Type 0
 AllMayStand s [] = Unit {0}
 AllMayStand s (f ∷ fs) = MayStand s f × AllMayStand (after s f) fs
 
--- Statements that are a whole program's: each may stand where it does, and each block is closed.
+-- Statements are a whole program's: each may stand where it does, each block is closed, and there are at most 1000.
 pub record IsWhole (fs : List Form) : Type 0 where
   pub standing : AllMayStand nothing_yet fs
   pub closed : (after_all nothing_yet fs).blocks ≡ []

@@ -1,5 +1,5 @@
--- The values of the code, without where they lie in memory.
-use Rattle.std.specs.Prelude.{ℕ, List, [], ◌∷◌, ◌++◌, Option, Some, None, Result, Ok, Err, map}
+-- The values of the code, without where they lie in memory (the types of this crate's src/).
+use Rattle.std.specs.Prelude.{ℕ, List, [], ◌∷◌, ◌++◌, Option, Some, None, Result, Ok, Err}
 use Rattle.std.specs.Borrow.{Bor}
 use Rattle.rank_lines.specs.declared.scope.Opened as source_opened
 use Rattle.rank_lines.specs.declared.scope.Scope as source_scope
@@ -22,6 +22,7 @@ abbrev pub cut_of : Option (Bor (List ℕ) × Bor (List ℕ)) → List (List ℕ
 cut_of None = []
 cut_of (Some c) = c.0.now ∷ lines_of c.1.now
 
+-- an open block
 abbrev pub opened_seen : source_opened.Opened → Opened
 opened_seen source_opened.TheVariants.If = in_if
 opened_seen source_opened.TheVariants.Else = in_else

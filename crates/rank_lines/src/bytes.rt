@@ -3,8 +3,8 @@ ghost use Rattle.std.specs.Prelude.{◌≡◌};
 ghost use Rattle.rank_text.specs.Tokens.{is_word_byte};
 ghost use Rattle.rank_lines.specs.Lines.{begins_comment, front_word, is_keyword, is_skipped, is_statement, is_text, without_spaces};
 
-use rank_text::words::reserved_token;
 use rank_text::Token;
+use rank_text::words::reserved_token;
 
 /// Whether each byte is a space or a printable character of ASCII.
 pub(crate) fn is_text(line: &[u8]) -> bool

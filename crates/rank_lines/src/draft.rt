@@ -97,7 +97,9 @@ impl Reader {
     {
         let Reader { scope, forms } = self;
         let Scope {
-            variables, arrays, ..
+            variables,
+            arrays,
+            ..
         } = scope;
         Draft {
             forms,

@@ -93,12 +93,7 @@ fn with_tokens(
 }
 
 /// A line that begins with a statement word.
-fn formed(
-    alloc: Heap,
-    scope: &Scope,
-    number: usize,
-    line: &[u8],
-) -> Result<Judged, AllocError>
+fn formed(alloc: Heap, scope: &Scope, number: usize, line: &[u8]) -> Result<Judged, AllocError>
     ensures { IfOk result (λ j. judged_seen j ≡ formed (scope_seen scope.now) number (tokens_of line.now)) }
 {
     match tokens(alloc, line)? {

@@ -11,13 +11,11 @@ pub fn program_or_fault()
         → IsText text fs → IsFaultOf text line kind → ⊥ }
     ensures always_one { (text : List ℕ) → ((fs : List Form) × IsText text fs)
         ⊎ ((line : ℕ) × (kind : FaultKind) × IsFaultOf text line kind) }
-{
-}
+{}
 
 /// A text has one list of statements, or one first fault.
 pub fn one_reading()
     ensures program { (text : List ℕ) (fs gs : List Form) → IsText text fs → IsText text gs → fs ≡ gs }
     ensures fault { (text : List ℕ) (m n : ℕ) (kind other : FaultKind)
         → IsFaultOf text m kind → IsFaultOf text n other → (m ≡ n) × (kind ≡ other) }
-{
-}
+{}

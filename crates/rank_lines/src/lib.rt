@@ -18,3 +18,6 @@ pub use draft::{Draft, read};
 pub use fault::{FaultKind, ParseFault, ProgramFault};
 pub use laws::{one_reading, program_or_fault};
 pub use scope::Array;
+
+#[cfg(test)]
+mod tests;

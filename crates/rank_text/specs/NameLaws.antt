@@ -4,9 +4,11 @@ use Rattle.std.proofs.Common.{sym, arith, length-take, ap, ◌∙◌}
 use Rattle.rank_text.specs.Name.{padded}
 use Rattle.rank_text.specs.declared.name.Name.TheInside.{Inside}
 
+-- a name with these bytes and this length
 abbrev fields : List ℕ → ℕ → Inside
 fields b l = record { bytes = b; len = l }
 
+-- the fields are those that the bytes give
 pub unpadded : (n : Inside) → n.len ≤ 17 → length n.bytes ≡ 17 → n.bytes ≡ padded (take n.len n.bytes) → fields (padded (take n.len n.bytes)) (length (take n.len n.bytes)) ≡ n
 unpadded n h k e =
     let f : length (take n.len n.bytes) ≡ n.len = omega (arith, length-take n.len n.bytes) in

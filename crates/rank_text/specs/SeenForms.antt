@@ -1,4 +1,4 @@
--- Forms of the code, without where they lie in memory.
+-- What forms in the code stand for.
 use Rattle.std.specs.Prelude.{ℕ, List, Option, Some, None}
 use Rattle.std.specs.Borrow.{Bor}
 use Rattle.rank_text.specs.declared.name.Name.{Name}
@@ -9,14 +9,17 @@ use Rattle.rank_text.specs.declared.form.Form as source_form
 use Rattle.rank_text.specs.Tree.{tree_of}
 use Rattle.rank_text.specs.Forms.{Choice, any, value, Payload, lone, one, Form, var_form, if_form, else_form, end_form, send_form, recv_form, print_form}
 
+-- a source or a tag
 abbrev pub choice_of : source_choice.Choice → Choice
 choice_of source_choice.TheVariants.Any = any
 choice_of (source_choice.TheVariants.Value e) = value (tree_of e)
 
+-- what a send gives
 abbrev pub payload_seen : source_payload.Payload → Payload
 payload_seen (source_payload.TheVariants.Lone x) = lone x
 payload_seen (source_payload.TheVariants.One e) = one (tree_of e)
 
+-- the statement of a line
 abbrev pub form_seen : source_form.Form → Form
 form_seen (source_form.TheVariants.Var x) = var_form x
 form_seen (source_form.TheVariants.If e) = if_form (tree_of e)
@@ -26,22 +29,27 @@ form_seen (source_form.TheVariants.Send d g p) = send_form (tree_of d) (tree_of 
 form_seen (source_form.TheVariants.Recv s g x) = recv_form (choice_of s) (choice_of g) x
 form_seen (source_form.TheVariants.Print e) = print_form (tree_of e)
 
+-- the statement of a line, if it has one
 abbrev pub form_in : Option source_form.Form → Option Form
 form_in None = None
 form_in (Some f) = Some (form_seen f)
 
+-- what a send gives, if it is one
 abbrev pub payload_in : Option source_payload.Payload → Option Payload
 payload_in None = None
 payload_in (Some p) = Some (payload_seen p)
 
+-- the choice in front, and the tokens after it
 abbrev pub choice_in : Option (source_choice.Choice × Bor (List Token)) → Option (Choice × List Token)
 choice_in None = None
 choice_in (Some c) = Some (choice_of c.0, c.1.now)
 
+-- the tokens that are left
 abbrev pub rest_in : Option (Bor (List Token)) → Option (List Token)
 rest_in None = None
 rest_in (Some r) = Some r.now
 
+-- the bytes of a name, if there is one
 abbrev pub lone_in : Option Name → Option (List ℕ)
 lone_in None = None
 lone_in (Some x) = Some x

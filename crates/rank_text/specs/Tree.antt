@@ -1,10 +1,11 @@
--- Expressions as trees, without where they lie in memory.
+-- Expressions as trees, without where they lie in memory (the language's own manual, docs/LANGUAGE.md).
 use Rattle.std.specs.Prelude.{ℕ, List}
 use Rattle.rank_text.specs.declared.token.Operator.{Operator}
 use Rattle.rank_text.specs.declared.token.Reading.{Reading}
 use Rattle.rank_text.specs.declared.written.Written.{Written}
 use Rattle.rank_text.specs.declared.written.Written.TheVariants as made
 
+-- an expression whose variables and arrays are named
 pub data Tree : Type 0 where
   number : (n : ℕ) → Tree
   variable : (name : List ℕ) → Tree
@@ -13,6 +14,7 @@ pub data Tree : Type 0 where
   negation : (e : Tree) → Tree
   operation : (o : Operator) (a b : Tree) → Tree
 
+-- the tree of an expression in the code
 abbrev pub tree_of : Written → Tree
 tree_of (made.Number n) = number n
 tree_of (made.Variable x) = variable x

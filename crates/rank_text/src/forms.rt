@@ -191,3 +191,57 @@ pub fn form(alloc: Heap, tokens: &[Token]) -> Result<Option<Form>, AllocError>
 pub fn one_form()
     ensures { (ts : List Token) (f g : forms.Form) → IsForm ts f → IsForm ts g → f ≡ g }
 {}
+
+#[cfg(test)]
+mod tests {
+    use super::*;
+    use crate::lexer;
+    use std::test::Fail;
+
+    #[test]
+    fn lines_with_a_form(rt: HostRuntime) -> Result<(), Fail> {
+        for line in [
+            b"var x".as_slice(),
+            b"if a[i] == 0",
+            b"else",
+            b"end",
+            b"send rank + 1, 3, a",
+            b"send 1, 3, (a)",
+            b"recv any, any, a",
+            b"recv 0, 1 + 2, a",
+            b"print -(1 + 2) * 3",
+        ] {
+            let Some(tokens) = lexer::tokens(rt.alloc(), line)? else {
+                assert!(rt; false, "no tokens");
+                return Ok(());
+            };
+            assert!(rt; form(rt.alloc(), tokens.as_slice())?.is_some());
+        }
+        Ok(())
+    }
+
+    #[test]
+    fn lines_without_a_form(rt: HostRuntime) -> Result<(), Fail> {
+        for line in [
+            b"".as_slice(),
+            b"x",
+            b"var 1",
+            b"if any",
+            b"else 1",
+            b"send any, 0, 1",
+            b"send 1, 2",
+            b"recv any + 1, 0, a",
+            b"recv 0, 1, 2",
+            b"print 1 < 2 < 3",
+            b"print 1 2",
+            b"barrier",
+        ] {
+            let Some(tokens) = lexer::tokens(rt.alloc(), line)? else {
+                assert!(rt; false, "no tokens");
+                return Ok(());
+            };
+            assert!(rt; form(rt.alloc(), tokens.as_slice())?.is_none());
+        }
+        Ok(())
+    }
+}

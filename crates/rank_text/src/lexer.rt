@@ -212,3 +212,127 @@ pub fn tokens(alloc: Heap, line: &[u8]) -> Result<Option<Vec<Token, Heap>>, Allo
 pub fn one_lexing()
     ensures { (line : List ℕ) (ts us : List token.Token) → Lexes line ts → Lexes line us → ts ≡ us }
 {}
+
+#[cfg(test)]
+mod tests {
+    use super::*;
+    use crate::token::Keyword;
+    use std::process::Abort;
+    use std::test::Fail;
+
+    fn name(text: &[u8]) -> Token {
+        Token::Name(Name::new(text))
+    }
+
+    fn operator(operator: Operator) -> Token {
+        Token::Operator(operator)
+    }
+
+    fn cuts(rt: &impl Abort, alloc: Heap, line: &[u8], want: &[Token]) -> Result<(), Fail> {
+        let Some(found) = tokens(alloc, line)? else {
+            assert!(rt; false, "no tokens");
+            return Ok(());
+        };
+        assert_eq!(rt; found.as_slice(), want);
+        Ok(())
+    }
+
+    #[test]
+    fn tokens_that_touch(rt: HostRuntime) -> Result<(), Fail> {
+        let alloc = rt.alloc();
+        cuts(&rt, alloc, b"", &[])?;
+        cuts(&rt, alloc, b"   ", &[])?;
+        cuts(&rt, alloc, b"12abc", &[Token::Number(12), name(b"abc")])?;
+        cuts(&rt, alloc, b"print1", &[name(b"print1")])?;
+        cuts(&rt, alloc, b"a b", &[name(b"a"), name(b"b")])?;
+        cuts(
+            &rt,
+            alloc,
+            b"a<=b",
+            &[name(b"a"), operator(Operator::LessEqual), name(b"b")],
+        )?;
+        cuts(
+            &rt,
+            alloc,
+            b"a< =",
+            &[name(b"a"), operator(Operator::Less), Token::Assign],
+        )?;
+        cuts(
+            &rt,
+            alloc,
+            b"a===",
+            &[name(b"a"), operator(Operator::Equal), Token::Assign],
+        )
+    }
+
+    #[test]
+    fn symbols(rt: HostRuntime) -> Result<(), Fail> {
+        let alloc = rt.alloc();
+        cuts(
+            &rt,
+            alloc,
+            b"!=-",
+            &[operator(Operator::NotEqual), operator(Operator::Subtract)],
+        )?;
+        cuts(
+            &rt,
+            alloc,
+            b"print(1)",
+            &[
+                Token::Keyword(Keyword::Print),
+                Token::OpenParenthesis,
+                Token::Number(1),
+                Token::CloseParenthesis,
+            ],
+        )
+    }
+
+    #[test]
+    fn long_words_and_numbers(rt: HostRuntime) -> Result<(), Fail> {
+        let alloc = rt.alloc();
+        cuts(
+            &rt,
+            alloc,
+            b"abcdefghijklmnopq",
+            &[name(b"abcdefghijklmnopq")],
+        )?;
+        cuts(
+            &rt,
+            alloc,
+            b"abcdefghijklmnopqr",
+            &[name(b"abcdefghijklmnopq")],
+        )?;
+        cuts(
+            &rt,
+            alloc,
+            b"000000000000000000000000000000007",
+            &[Token::Number(7)],
+        )?;
+        cuts(
+            &rt,
+            alloc,
+            b"9223372036854775807",
+            &[Token::Number(9223372036854775807)],
+        )?;
+        cuts(
+            &rt,
+            alloc,
+            b"9223372036854775808",
+            &[Token::Number(9223372036854775808)],
+        )?;
+        cuts(
+            &rt,
+            alloc,
+            b"9999999999999999999999999999999999999999",
+            &[Token::Number(9223372036854775808)],
+        )
+    }
+
+    #[test]
+    fn no_tokens(rt: HostRuntime) -> Result<(), Fail> {
+        for line in [b"!".as_slice(), b"a ! = b", b"$ 1", b"\t", b"print \xff"] {
+            assert!(rt; tokens(rt.alloc(), line)?.is_none());
+        }
+        Ok(())
+    }
+}

@@ -1,4 +1,8 @@
 //! Tokens, expressions and the forms of lines of a rank program's text.
+//!
+//! A line is cut into tokens ([`tokens`]), and the tokens are read as a statement
+//! ([`forms::form`]) with its expressions. Each of the three is proved against a
+//! grammar, both ways; blocks, declarations and limits belong to the crates above.
 #![tactic(auto)]
 
 pub mod form;

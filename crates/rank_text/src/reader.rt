@@ -1,4 +1,6 @@
-// Reads an expression from tokens, without recursion: an open bracket costs an entry of a stack.
+//! Reads an expression from tokens, without recursion: an open bracket costs an
+//! entry of a stack of its own, so that no nesting can use up the thread's.
+
 ghost use Rattle.std.specs.Prelude.{◌≡◌, ◌<◌, ◌^◌, ◌-◌, IfOk, IfSome, Some, List, [], ◌∷◌, length};
 ghost use Rattle.rank_text.specs.Tree.{Tree, tree_of};
 ghost use Rattle.rank_text.specs.Grammar.{strength, Spells, whole};
@@ -338,7 +340,6 @@ fn found(read: Option<Written>, rest: &[Token]) -> Option<(Written, &[Token])>
 }
 
 /// The expression at the front, as much of the tokens as belongs to it, and the rest.
-
 #[tactic(auto, using(crate::proofs::Loop::goes_on, crate::proofs::Loop::ends, crate::proofs::Loop::signs))]
 pub fn expression_at(
     alloc: Heap,
@@ -373,7 +374,7 @@ pub(crate) fn whole_expression(alloc: Heap, tokens: &[Token]) -> Result<Option<W
     Ok(Some(operand))
 }
 
-/// The expression that all of the tokens spell.
+/// The expression that all of the tokens spell, or none where they spell none.
 pub fn expression(alloc: Heap, tokens: &[Token]) -> Result<Option<Written>, AllocError>
     // What is read is spelled so.
     ensures found { IfOk result (λ o. IfSome o (λ e. Spells whole tokens.now (tree_of e))) }
@@ -408,6 +409,22 @@ mod tests {
         tokens.push(Token::Number(1))?;
         for _i in 0..4000 {
             tokens.push(Token::CloseParenthesis)?;
+        }
+        let read = expression(rt.alloc(), tokens.as_slice())?;
+        assert!(rt; read.is_some());
+        Ok(())
+    }
+
+    #[test]
+    fn many_indexes(rt: HostRuntime) -> Result<(), Fail> {
+        let mut tokens = Vec::new(rt.alloc());
+        for _i in 0..2700 {
+            tokens.push(Token::Name(Name::new(b"a")))?;
+            tokens.push(Token::OpenBracket)?;
+        }
+        tokens.push(Token::Number(1))?;
+        for _i in 0..2700 {
+            tokens.push(Token::CloseBracket)?;
         }
         let read = expression(rt.alloc(), tokens.as_slice())?;
         assert!(rt; read.is_some());

@@ -1,4 +1,5 @@
-// The tokens of a line.
+//! The tokens of a line.
+
 ghost use Rattle.std.specs.Prelude.{◌≡◌};
 ghost use Rattle.rank_text.specs.Grammar.{strength};
 
@@ -29,6 +30,7 @@ pub enum Strength {
 }
 
 impl Operator {
+    /// How strongly the operator binds.
     pub fn strength(self) -> Strength
         ensures { result ≡ strength self }
     {
@@ -84,6 +86,8 @@ pub enum Reduction {
 }
 
 /// A token of a line.
+///
+/// A number above 9223372036854775807 is kept as 9223372036854775808.
 #[derive(Clone, Copy, Debug, PartialEq, Eq)]
 pub enum Token {
     Keyword(Keyword),

@@ -4,6 +4,9 @@ use crate::token::{Operator, Reading};
 use metered::Heap;
 
 /// An expression as it is written: what it reads is named.
+///
+/// It nests as deeply as its line, so what walks it recursively needs some
+/// 100 bytes of stack for each byte of the line; dropping it does.
 #[derive(Debug, Drop)]
 pub enum Written {
     /// A number, one above 9223372036854775807 kept as 9223372036854775808.

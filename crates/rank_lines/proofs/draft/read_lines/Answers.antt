@@ -1,4 +1,4 @@
-use Rattle.std.proofs.Common.{◌≡◌, ◌≤◌, Some, None, Ok, Err, sym, ap, ◌∙◌, arith}
+use Rattle.std.proofs.Common.{◌≡◌, Ok, Err, sym, ap, ◌∙◌, arith}
 use Rattle.rank_lines.specs.Lines.{lines_of}
 use Rattle.rank_lines.specs.Progress.{going, reader_seen, step, stepped}
 use Rattle.rank_lines.proofs.ReadLaws.{step_goes, step_stops, step_leads, step_in_time}

@@ -1,0 +1,66 @@
+-- The statements found from the last one on are the program of the whole text's statements: they are resolved by the
+-- tables that the statements leave, their targets are those of their tree, and their places are in the tables.
+use Rattle.std.proofs.Common.{◌≡◌, ℕ, ◌≤◌, List, [], length, map, Some, refl, ap, ◌∙◌, sym, subst, arith}
+use Rattle.rank_text.specs.Forms.{Form}
+use Rattle.rank_lines.specs.declared.scope.Array.{Array}
+use Rattle.rank_lines.specs.Scope.{Scope, Opened, nothing_yet, after_all, IsWhole}
+use Rattle.rank_lines.specs.SeenLines.{arrays_seen}
+use Rattle.rank_language.specs.declared.statement.Statement.{Statement}
+use Rattle.rank_language.specs.Block.{Line, lines_at}
+use Rattle.rank_language.specs.Shape.{step_of, tree_of_steps}
+use Rattle.rank_language.specs.Seen.{line_of}
+use Rattle.rank_language.specs.Program.{ProgramValue, tree_of, IsProgram, AllPlaced, program_value}
+use Rattle.rank_language.specs.Resolved.{all_resolved}
+use Rattle.rank_language.specs.Resolvable.{AllResolvable}
+use Rattle.rank_language.specs.Ends.{lines_from}
+use Rattle.rank_language.specs.Correct.{IsOfForms}
+use Rattle.rank_language.proofs.Resolving.{AreLines, are_lines}
+use Rattle.rank_language.proofs.Spread.{targeted_lines}
+use Rattle.rank_language.proofs.Whole.{resolvable, arrayless, balanced}
+
+-- the scope of these tables, where no block is open
+abbrev pub scope_with : List (List ℕ) → List (List ℕ × ℕ) → List Opened → Scope
+scope_with variables arrays blocks = record { variables = variables; arrays = arrays; blocks = blocks }
+
+-- the tables of a whole program are its scope at the end
+pub same_scope : (fs : List Form) (xs : List (List ℕ)) (as' : List Array) → IsWhole fs → xs ≡ (after_all nothing_yet fs).variables → arrays_seen as' ≡ (after_all nothing_yet fs).arrays → scope_with xs (arrays_seen as') [] ≡ after_all nothing_yet fs
+same_scope fs xs as' w v a =
+    let end = after_all nothing_yet fs in
+    ap (λ z. scope_with z (arrays_seen as') []) v
+    ∙ ap (λ z. scope_with end.variables z []) a
+    ∙ ap (λ z. scope_with end.variables end.arrays z) (sym w.closed)
+
+-- a whole program declares no array
+pub tables_arrayless : (fs : List Form) (as' : List Array) → arrays_seen as' ≡ (after_all nothing_yet fs).arrays → arrays_seen as' ≡ []
+tables_arrayless fs as' a = a ∙ arrayless fs
+
+-- a whole program's statements are resolvable by its tables
+pub tables_resolvable : (fs : List Form) (xs : List (List ℕ)) (as' : List Array) → IsWhole fs → xs ≡ (after_all nothing_yet fs).variables → arrays_seen as' ≡ (after_all nothing_yet fs).arrays → AllResolvable (scope_with xs (arrays_seen as') []) fs
+tables_resolvable fs xs as' w v a =
+    subst (λ s. AllResolvable s fs) (sym (same_scope fs xs as' w v a)) (resolvable fs w)
+
+-- What these statements and tables are.
+pub record IsBuilt (fs : List Form) (p : ProgramValue) : Type 0 where
+  pub stands : IsProgram p
+  pub program : IsOfForms fs p
+
+built_with : (fs : List Form) (p : ProgramValue) → IsWhole fs → p.variables ≡ (after_all nothing_yet fs).variables → p.arrays ≡ (after_all nothing_yet fs).arrays → AreLines (after_all nothing_yet fs) 0 fs p.statements → IsBuilt fs p
+built_with fs p w v a r =
+    let end = after_all nothing_yet fs in
+    let shaped = r.lines ∙ targeted_lines (map step_of p.statements) (balanced end fs (map step_of p.statements) w r.steps) in
+    let few = w.few in
+    let count = r.count in
+    record {
+      stands = record {
+        shaped = shaped;
+        placed = subst (λ n. AllPlaced n (length p.arrays) p.statements) (ap length (sym v)) (subst (λ n. AllPlaced (length end.variables) n p.statements) (ap length (sym a)) r.within);
+        few = omega arith;
+      };
+      program = record { variables = v; arrays = a; statements = r.steps; targets = shaped };
+    }
+
+-- the statements that were found are the program of the whole text's
+pub built : (fs : List Form) (ss : List Statement) (xs : List (List ℕ)) (as' : List Array) → IsWhole fs → xs ≡ (after_all nothing_yet fs).variables → arrays_seen as' ≡ (after_all nothing_yet fs).arrays → lines_from (scope_with xs (arrays_seen as') []) 0 fs ≡ Some (map line_of ss) → IsBuilt fs (program_value ss xs as')
+built fs ss xs as' w v a h =
+    let e = same_scope fs xs as' w v a in
+    built_with fs (program_value ss xs as') w v a (are_lines (after_all nothing_yet fs) 0 fs (map line_of ss) (ap (λ s. lines_from s 0 fs) (sym e) ∙ h))

@@ -1,0 +1,10 @@
+pub mod Places
+pub mod Targets
+pub mod Statements
+pub mod Names
+pub mod Ends
+pub mod Spread
+pub mod Options
+pub mod Resolving
+pub mod Whole
+pub mod Built

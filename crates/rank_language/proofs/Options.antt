@@ -1,0 +1,32 @@
+-- What a value that came through options says of them.
+use Rattle.std.proofs.Common.{◌≡◌, ℕ, ◌<◌, List, Bool, true, false, ◌&&◌, ◌||◌, Option, Some, None, option_map, refl}
+use Rattle.rank_text.specs.Forms.{◌>>=◌}
+
+-- a value of a mapped option comes from one of the option
+pub mapped : {A B : Type 0} (f : A → B) (o : Option A) (b : B) → option_map f o ≡ Some b → (a : A) × (o ≡ Some a) × (f a ≡ b)
+mapped f None b h = cc
+mapped f (Some a) b h = (a, refl, cc)
+
+-- a value that was gone on to comes from one of the first option
+pub gone_on : {A B : Type 0} (f : A → Option B) (o : Option A) (b : B) → (o >>= f) ≡ Some b → (a : A) × (o ≡ Some a) × (f a ≡ Some b)
+gone_on f None b h = cc
+gone_on f (Some a) b h = (a, refl, h)
+
+-- both parts of a conjunction hold
+pub both : (a b : Bool) → (a && b) ≡ true → (a ≡ true) × (b ≡ true)
+both true true h = (refl, refl)
+both true false h = cc
+both false b h = cc
+
+-- a conjunction of what holds holds
+pub joined : (a b : Bool) → a ≡ true → b ≡ true → (a && b) ≡ true
+joined true true h k = refl
+joined true false h k = k
+joined false b h k = h
+
+-- one part of a disjunction holds, so one part of another holds
+pub either : (a b c d : Bool) → (a ≡ true → c ≡ true) → (b ≡ true → d ≡ true) → (a || b) ≡ true → (c || d) ≡ true
+either true b true d f g h = refl
+either true b false d f g h = absurd (let k = f refl in cc)
+either false b true d f g h = refl
+either false b false d f g h = g h

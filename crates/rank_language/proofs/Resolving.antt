@@ -1,0 +1,161 @@
+-- What a resolved statement is. Its kind is that of the statement by name; each place in it is a place in a table.
+use Rattle.std.proofs.Common.{◌≡◌, ℕ, suc, ◌+◌, ◌<◌, List, [], ◌∷◌, length, map, Bool, true, false, cond, pos, Option, Some, None, option_map, refl, ap, ◌∙◌, sym, subst, arith, nat_lt}
+use Rattle.std.specs.List.{position, position_from}
+use Rattle.std.specs.Str.{bytes_eq}
+use Rattle.std.proofs.lemmas.Iterator.Adapters.{position_from-zero}
+use Rattle.std.proofs.lemmas.List.{length-map}
+use Rattle.rank_text.specs.Tree as text
+use Rattle.rank_text.specs.Forms as line
+use Rattle.rank_text.specs.Forms.{Form, ◌>>=◌}
+use Rattle.rank_lines.specs.Scope.{Scope}
+use Rattle.rank_language.specs.Placed.{Placed, number, variable, item, reading, negation, operation, Choice, any, value, Payload, one, Buffer, into_variable, Simple, declare, send, receive, print, Step, does, tests, otherwise, closes}
+use Rattle.rank_language.specs.Block.{Line, simple_line, if_line, else_line, end_line}
+use Rattle.rank_language.specs.Shape.{step_of}
+use Rattle.rank_language.specs.Program.{IsWithin, IsChoiceWithin, IsPayloadWithin, IsBufferWithin, IsPlaced, AllPlaced}
+use Rattle.rank_language.specs.Resolved.{place_in, variable_place, array_place, resolved, choice_resolved, payload_resolved, buffer_resolved, form_resolved, all_resolved}
+use Rattle.rank_language.specs.Ends.{Kind, kind_of, target_of, ends_before, ends_from, line_to, form_line, lines_from}
+use Rattle.rank_language.proofs.Options.{mapped, gone_on}
+use Rattle.rank_language.proofs.Spread.{kind_of_step, ends_at, targeted}
+
+below_from : (names : List (List ℕ)) (x : List ℕ) (i p : ℕ) → position_from (λ y. bytes_eq y x) i names ≡ Some p → p < i + length names
+below_from [] x i p h = cc
+below_from (y ∷ ys) x i p h =
+    elim (bytes_eq y x) as (λ b. cond b (Some i) (position_from (λ z. bytes_eq z x) (i + 1) ys) ≡ Some p → p < i + length (y ∷ ys))
+    [ true ↦ λ q. (let e : i ≡ p = cc in omega arith) | false ↦ λ q. (let k = below_from ys x (i + 1) p q in omega arith) ] h
+
+-- the place of a name is below the number of names
+pub place_below : (names : List (List ℕ)) (x : List ℕ) (p : ℕ) → place_in names x ≡ Some p → p < length names
+place_below names x p h =
+    let k = below_from names x 0 p (sym (position_from-zero (λ y. bytes_eq y x) names) ∙ h) in
+    omega (arith, k)
+
+-- the place of an array is below the number of arrays
+array_below : (s : Scope) (x : List ℕ) (p : ℕ) → array_place s x ≡ Some p → p < length s.arrays
+array_below s x p h =
+    subst (λ n. p < n) (length-map s.arrays (λ a. a.0)) (place_below (map (λ a. a.0) s.arrays) x p h)
+
+-- each place in a resolved expression is in a table
+pub resolved_within : (s : Scope) (e : text.Tree) (t : Placed) → resolved s e ≡ Some t → IsWithin (length s.variables) (length s.arrays) t
+resolved_within s (text.number n) t h =
+    let q : number (pos n) ≡ t = cc in subst (IsWithin _ _) q tt
+resolved_within s (text.variable x) t h =
+    let (p, e, q) = mapped variable (variable_place s x) t h in
+    subst (IsWithin _ _) q (place_below s.variables x p e)
+resolved_within s (text.item x i) t h =
+    let (p, e, k) = gone_on _ (array_place s x) t h in
+    let (index, g, q) = gone_on _ (resolved s i) t k in
+    let r : item p index ≡ t = cc in
+    subst (IsWithin _ _) r (array_below s x p e, resolved_within s i index g)
+resolved_within s (text.reading r) t h =
+    let q : reading r ≡ t = cc in subst (IsWithin _ _) q tt
+resolved_within s (text.negation e) t h =
+    let (a, g, q) = mapped negation (resolved s e) t h in
+    subst (IsWithin _ _) q (resolved_within s e a g)
+resolved_within s (text.operation o a b) t h =
+    let (left, g, k) = gone_on _ (resolved s a) t h in
+    let (right, i, q) = gone_on _ (resolved s b) t k in
+    let r : operation o left right ≡ t = cc in
+    subst (IsWithin _ _) r (resolved_within s a left g, resolved_within s b right i)
+
+choice_within : (s : Scope) (c : line.Choice) (t : Choice) → choice_resolved s c ≡ Some t → IsChoiceWithin (length s.variables) (length s.arrays) t
+choice_within s line.any t h =
+    let q : any ≡ t = cc in subst (IsChoiceWithin _ _) q tt
+choice_within s (line.value e) t h =
+    let (a, g, q) = mapped value (resolved s e) t h in
+    subst (IsChoiceWithin _ _) q (resolved_within s e a g)
+
+payload_within : (s : Scope) (p : line.Payload) (t : Payload) → payload_resolved s p ≡ Some t → IsPayloadWithin (length s.variables) (length s.arrays) t
+payload_within s (line.lone x) t h =
+    let (p, e, q) = mapped (λ k. one (variable k)) (variable_place s x) t h in
+    subst (IsPayloadWithin _ _) q (place_below s.variables x p e)
+payload_within s (line.one e) t h =
+    let (a, g, q) = mapped one (resolved s e) t h in
+    subst (IsPayloadWithin _ _) q (resolved_within s e a g)
+
+buffer_within : (s : Scope) (x : List ℕ) (t : Buffer) → buffer_resolved s x ≡ Some t → IsBufferWithin (length s.variables) (length s.arrays) t
+buffer_within s x t h =
+    let (p, e, q) = mapped into_variable (variable_place s x) t h in
+    subst (IsBufferWithin (length s.variables) (length s.arrays)) q (place_below s.variables x p e)
+
+-- What a resolved statement is: of the same kind, and with places in tables.
+pub record Becomes (s : Scope) (f : Form) (t : Step) : Type 0 where
+  pub kind : kind_of f ≡ kind_of_step t
+  pub within : (target : ℕ) → IsPlaced (length s.variables) (length s.arrays) (line_to target t)
+
+-- a resolved statement is of the same kind, with places in tables
+pub becomes : (s : Scope) (f : Form) (t : Step) → form_resolved s f ≡ Some t → Becomes s f t
+becomes s (line.var_form x) t h =
+    let (p, e, q) = mapped (λ k. does (declare k)) (variable_place s x) t h in
+    subst (Becomes s (line.var_form x)) q (record { kind = refl; within = λ n. place_below s.variables x p e })
+becomes s (line.if_form e) t h =
+    let (a, g, q) = mapped tests (resolved s e) t h in
+    subst (Becomes s (line.if_form e)) q (record { kind = refl; within = λ n. resolved_within s e a g })
+becomes s line.else_form t h =
+    let q : otherwise ≡ t = cc in subst (Becomes s line.else_form) q (record { kind = refl; within = λ n. tt })
+becomes s line.end_form t h =
+    let q : closes ≡ t = cc in subst (Becomes s line.end_form) q (record { kind = refl; within = λ n. tt })
+becomes s (line.send_form d g p) t h =
+    let (destination, a, i) = gone_on _ (resolved s d) t h in
+    let (tag, b, j) = gone_on _ (resolved s g) t i in
+    let (payload, c, k) = gone_on _ (payload_resolved s p) t j in
+    let q : does (send destination tag payload) ≡ t = cc in
+    subst (Becomes s (line.send_form d g p)) q (record { kind = refl; within = λ n. (resolved_within s d destination a, resolved_within s g tag b, payload_within s p payload c) })
+becomes s (line.recv_form r g x) t h =
+    let (source, a, i) = gone_on _ (choice_resolved s r) t h in
+    let (tag, b, j) = gone_on _ (choice_resolved s g) t i in
+    let (buffer, c, k) = gone_on _ (buffer_resolved s x) t j in
+    let q : does (receive source tag buffer) ≡ t = cc in
+    subst (Becomes s (line.recv_form r g x)) q (record { kind = refl; within = λ n. (choice_within s r source a, choice_within s g tag b, buffer_within s x buffer c) })
+becomes s (line.print_form e) t h =
+    let (a, g, q) = mapped (λ v. does (print v)) (resolved s e) t h in
+    subst (Becomes s (line.print_form e)) q (record { kind = refl; within = λ n. resolved_within s e a g })
+
+-- a line without its target is the statement
+step_of_line : (target : ℕ) (t : Step) → step_of (line_to target t) ≡ t
+step_of_line target (does s) = refl
+step_of_line target (tests e) = refl
+step_of_line target otherwise = refl
+step_of_line target closes = refl
+
+-- What lines found from the last statement on are: the statements resolved, with their targets, and all in the tables.
+pub record AreLines (s : Scope) (n : ℕ) (fs : List Form) (ls : List Line) : Type 0 where
+  pub steps : all_resolved s fs ≡ Some (map step_of ls)
+  pub lines : ls ≡ targeted n (map step_of ls)
+  pub ends : ends_from n fs ≡ ends_at n (map step_of ls)
+  pub within : AllPlaced (length s.variables) (length s.arrays) ls
+  pub count : length ls ≡ length fs
+
+all_front : (s : Scope) (f : Form) (fs : List Form) (t : Step) (ts : List Step) → form_resolved s f ≡ Some t → all_resolved s fs ≡ Some ts → all_resolved s (f ∷ fs) ≡ Some (t ∷ ts)
+all_front s f fs t ts h g = rw (h, g) refl
+
+are_more : (s : Scope) (n : ℕ) (f : Form) (fs : List Form) (t : Step) (ls : List Line) → form_resolved s f ≡ Some t → AreLines s (n + 1) fs ls → AreLines s n (f ∷ fs) (line_to (target_of (kind_of f) (ends_from (n + 1) fs)) t ∷ ls)
+are_more s n f fs t ls h r =
+    let b = becomes s f t h in
+    let target = target_of (kind_of f) (ends_from (n + 1) fs) in
+    let same = step_of_line target t in
+    let aim : target ≡ target_of (kind_of_step t) (ends_at (n + 1) (map step_of ls)) = ap (λ k. target_of k (ends_from (n + 1) fs)) b.kind ∙ ap (target_of (kind_of_step t)) r.ends in
+    record {
+      steps = all_front s f fs t (map step_of ls) h r.steps ∙ ap (λ x. Some (x ∷ map step_of ls)) (sym same);
+      lines =
+        ap (λ q. line_to q t ∷ ls) aim
+        ∙ ap (λ z. line_to (target_of (kind_of_step t) (ends_at (n + 1) (map step_of ls))) t ∷ z) r.lines
+        ∙ ap (λ x. targeted n (x ∷ map step_of ls)) (sym same);
+      ends =
+        ap (λ k. ends_before n k (ends_from (n + 1) fs)) b.kind
+        ∙ ap (ends_before n (kind_of_step t)) r.ends
+        ∙ ap (λ x. ends_at n (x ∷ map step_of ls)) (sym same);
+      within = (b.within target, r.within);
+      count = ap suc r.count;
+    }
+
+-- lines found from the last statement on are the statements with their targets
+pub are_lines : (s : Scope) (n : ℕ) (fs : List Form) (ls : List Line) → lines_from s n fs ≡ Some ls → AreLines s n fs ls
+are_lines s n [] ls h =
+    let q : [] ≡ ls = cc in
+    subst (AreLines s n []) q (record { steps = refl; lines = refl; ends = refl; within = tt; count = refl })
+are_lines s n (f ∷ fs) ls h =
+    let (l, g, i) = gone_on _ (form_line s (ends_from (n + 1) fs) f) ls h in
+    let (rest, j, k) = gone_on _ (lines_from s (n + 1) fs) ls i in
+    let (t, m, e) = mapped (line_to (target_of (kind_of f) (ends_from (n + 1) fs))) (form_resolved s f) l g in
+    let q : l ∷ rest ≡ ls = cc in
+    subst (AreLines s n (f ∷ fs)) q (subst (λ x. AreLines s n (f ∷ fs) (x ∷ rest)) e (are_more s n f fs t rest m (are_lines s (n + 1) fs rest j)))

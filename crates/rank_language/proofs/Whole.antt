@@ -1,0 +1,173 @@
+-- What a whole program's statements by name are, by the tables that they leave. Tables only grow, so what is declared in
+-- front of a statement is declared in the tables of the whole; and where each statement may stand, blocks balance.
+use Rattle.std.proofs.Common.{◌≡◌, ℕ, ◌+◌, List, [], ◌∷◌, ◌++◌, length, map, Bool, true, false, ◌&&◌, ◌||◌, not, Option, Some, None, refl, ap, ◌∙◌, sym, subst, arith}
+use Rattle.std.specs.Str.{bytes_eq}
+use Rattle.std.proofs.lemmas.Slice.Eq.{bytes_eq-Decides}
+use Rattle.rank_text.specs.Tree.{Tree, number, variable, item, reading, negation, operation}
+use Rattle.rank_text.specs.Forms.{Choice, any, value, Payload, lone, one, Form, var_form, if_form, else_form, end_form, send_form, recv_form, print_form}
+use Rattle.rank_lines.specs.Scope.{Scope, Opened, nothing_yet, is_name_in, is_variable, is_array, is_declared, all_declared, choice_declared, payload_declared, declared_in, is_stray, is_empty, is_open_if, after, after_all, MayStand, AllMayStand, IsWhole}
+use Rattle.rank_language.specs.Placed.{Step}
+use Rattle.rank_language.specs.Resolved.{form_resolved, all_resolved}
+use Rattle.rank_language.specs.Resolvable.{IsResolvable, AllResolvable, declares_in}
+use Rattle.rank_language.specs.Ends.{Kind, kind_of}
+use Rattle.rank_language.proofs.Options.{gone_on, both, joined, either}
+use Rattle.rank_language.proofs.Spread.{kind_of_step, blocks_after, strays, Balanced}
+use Rattle.rank_language.proofs.Resolving.{becomes}
+
+-- What is declared in one scope is declared in another.
+record Grows (s t : Scope) : Type 0 where
+  variables : (x : List ℕ) → is_variable s x ≡ true → is_variable t x ≡ true
+  arrays : (x : List ℕ) → is_array s x ≡ true → is_array t x ≡ true
+
+grows_twice : (r s t : Scope) → Grows r s → Grows s t → Grows r t
+grows_twice r s t g h = record { variables = λ x k. h.variables x (g.variables x k); arrays = λ x k. h.arrays x (g.arrays x k) }
+
+declared_grows : (s t : Scope) → Grows s t → (x : List ℕ) → is_declared s x ≡ true → is_declared t x ≡ true
+declared_grows s t g x h =
+    either (is_variable s x) (is_array s x) (is_variable t x) (is_array t x) (g.variables x) (g.arrays x) h
+
+tree_grows : (s t : Scope) → Grows s t → (e : Tree) → all_declared s e ≡ true → all_declared t e ≡ true
+tree_grows s t g (number n) h = refl
+tree_grows s t g (variable x) h = g.variables x h
+tree_grows s t g (item x e) h =
+    let (a, b) = both (is_array s x) (all_declared s e) h in
+    joined (is_array t x) (all_declared t e) (g.arrays x a) (tree_grows s t g e b)
+tree_grows s t g (reading r) h = refl
+tree_grows s t g (negation e) h = tree_grows s t g e h
+tree_grows s t g (operation o d e) h =
+    let (a, b) = both (all_declared s d) (all_declared s e) h in
+    joined (all_declared t d) (all_declared t e) (tree_grows s t g d a) (tree_grows s t g e b)
+
+choice_grows : (s t : Scope) → Grows s t → (c : Choice) → choice_declared s c ≡ true → choice_declared t c ≡ true
+choice_grows s t g any h = refl
+choice_grows s t g (value e) h = tree_grows s t g e h
+
+payload_grows : (s t : Scope) → Grows s t → (p : Payload) → payload_declared s p ≡ true → payload_declared t p ≡ true
+payload_grows s t g (lone x) h = declared_grows s t g x h
+payload_grows s t g (one e) h = tree_grows s t g e h
+
+form_grows : (s t : Scope) → Grows s t → (f : Form) → declared_in s f ≡ true → declared_in t f ≡ true
+form_grows s t g (var_form x) h = refl
+form_grows s t g (if_form e) h = tree_grows s t g e h
+form_grows s t g else_form h = refl
+form_grows s t g end_form h = refl
+form_grows s t g (send_form d e p) h =
+    let (ab, c) = both (all_declared s d && all_declared s e) (payload_declared s p) h in
+    let (a, b) = both (all_declared s d) (all_declared s e) ab in
+    joined (all_declared t d && all_declared t e) (payload_declared t p) (joined (all_declared t d) (all_declared t e) (tree_grows s t g d a) (tree_grows s t g e b)) (payload_grows s t g p c)
+form_grows s t g (recv_form r e x) h =
+    let (ab, c) = both (choice_declared s r && choice_declared s e) (is_declared s x) h in
+    let (a, b) = both (choice_declared s r) (choice_declared s e) ab in
+    joined (choice_declared t r && choice_declared t e) (is_declared t x) (joined (choice_declared t r) (choice_declared t e) (choice_grows s t g r a) (choice_grows s t g e b)) (declared_grows s t g x c)
+form_grows s t g (print_form e) h = tree_grows s t g e h
+
+named_longer : (xs ys : List (List ℕ)) (x : List ℕ) → is_name_in xs x ≡ true → is_name_in (xs ++ ys) x ≡ true
+named_longer [] ys x h = cc
+named_longer (z ∷ zs) ys x h =
+    either (bytes_eq z x) (is_name_in zs x) (bytes_eq z x) (is_name_in (zs ++ ys) x) (λ k. k) (named_longer zs ys x) h
+
+named_last : (xs : List (List ℕ)) (x : List ℕ) → is_name_in (xs ++ x ∷ []) x ≡ true
+named_last [] x = either true false (bytes_eq x x) false (λ k. (bytes_eq-Decides x x).1 refl) (λ k. k) refl
+named_last (z ∷ zs) x =
+    either false true (bytes_eq z x) (is_name_in (zs ++ x ∷ []) x) (λ k. absurd (cc)) (λ k. named_last zs x) refl
+
+-- the tables behind a statement have what those in front of it have
+after_grows : (s : Scope) (f : Form) → Grows s (after s f)
+after_grows s (var_form x) = record { variables = named_longer s.variables (x ∷ []); arrays = λ y h. h }
+after_grows s (if_form e) = record { variables = λ y h. h; arrays = λ y h. h }
+after_grows s else_form = record { variables = λ y h. h; arrays = λ y h. h }
+after_grows s end_form = record { variables = λ y h. h; arrays = λ y h. h }
+after_grows s (send_form d t p) = record { variables = λ y h. h; arrays = λ y h. h }
+after_grows s (recv_form c t x) = record { variables = λ y h. h; arrays = λ y h. h }
+after_grows s (print_form e) = record { variables = λ y h. h; arrays = λ y h. h }
+
+all_grows : (s : Scope) (fs : List Form) → Grows s (after_all s fs)
+all_grows s [] = record { variables = λ y h. h; arrays = λ y h. h }
+all_grows s (f ∷ fs) = grows_twice s (after s f) (after_all (after s f) fs) (after_grows s f) (all_grows (after s f) fs)
+
+-- what a statement declares is in the tables behind it
+declares_after : (s : Scope) (f : Form) → declares_in (after s f) f ≡ true
+declares_after s (var_form x) = named_last s.variables x
+declares_after s (if_form e) = refl
+declares_after s else_form = refl
+declares_after s end_form = refl
+declares_after s (send_form d t p) = refl
+declares_after s (recv_form c t x) = refl
+declares_after s (print_form e) = refl
+
+declares_grows : (s t : Scope) → Grows s t → (f : Form) → declares_in s f ≡ true → declares_in t f ≡ true
+declares_grows s t g (var_form x) h = g.variables x h
+declares_grows s t g (if_form e) h = refl
+declares_grows s t g else_form h = refl
+declares_grows s t g end_form h = refl
+declares_grows s t g (send_form d e p) h = refl
+declares_grows s t g (recv_form c e x) h = refl
+declares_grows s t g (print_form e) h = refl
+
+resolvable_from : (s : Scope) (fs : List Form) → AllMayStand s fs → AllResolvable (after_all s fs) fs
+resolvable_from s [] h = tt
+resolvable_from s (f ∷ fs) h =
+    let behind = all_grows (after s f) fs in
+    let all = grows_twice s (after s f) (after_all (after s f) fs) (after_grows s f) behind in (
+      record {
+        declared = form_grows s (after_all (after s f) fs) all f h.0.declared;
+        declares = declares_grows (after s f) (after_all (after s f) fs) behind f (declares_after s f);
+        fitting = h.0.fitting;
+      },
+      resolvable_from (after s f) fs h.1,
+    )
+
+-- a whole program's statements are resolvable by the tables that they leave
+pub resolvable : (fs : List Form) → IsWhole fs → AllResolvable (after_all nothing_yet fs) fs
+resolvable fs h = resolvable_from nothing_yet fs h.standing
+
+after_arrays : (s : Scope) (f : Form) → (after s f).arrays ≡ s.arrays
+after_arrays s (var_form x) = refl
+after_arrays s (if_form e) = refl
+after_arrays s else_form = refl
+after_arrays s end_form = refl
+after_arrays s (send_form d t p) = refl
+after_arrays s (recv_form c t x) = refl
+after_arrays s (print_form e) = refl
+
+arrays_from : (s : Scope) (fs : List Form) → (after_all s fs).arrays ≡ s.arrays
+arrays_from s [] = refl
+arrays_from s (f ∷ fs) = arrays_from (after s f) fs ∙ after_arrays s f
+
+-- no statement declares an array
+pub arrayless : (fs : List Form) → (after_all nothing_yet fs).arrays ≡ []
+arrayless fs = arrays_from nothing_yet fs
+
+blocks_behind : (s : Scope) (f : Form) → (after s f).blocks ≡ blocks_after (kind_of f) s.blocks
+blocks_behind s (var_form x) = refl
+blocks_behind s (if_form e) = refl
+blocks_behind s else_form = refl
+blocks_behind s end_form = refl
+blocks_behind s (send_form d t p) = refl
+blocks_behind s (recv_form c t x) = refl
+blocks_behind s (print_form e) = refl
+
+not_stray : (s : Scope) (f : Form) → is_stray s f ≡ false → strays (kind_of f) s.blocks ≡ false
+not_stray s (var_form x) h = refl
+not_stray s (if_form e) h = refl
+not_stray s else_form h = h
+not_stray s end_form h = h
+not_stray s (send_form d t p) h = refl
+not_stray s (recv_form c t x) h = refl
+not_stray s (print_form e) h = refl
+
+balanced_from : (s t : Scope) (fs : List Form) (ss : List Step) → AllMayStand s fs → (after_all s fs).blocks ≡ [] → all_resolved t fs ≡ Some ss → Balanced s.blocks ss
+balanced_from s t [] ss h e r =
+    let q : [] ≡ ss = cc in
+    subst (Balanced s.blocks) q e
+balanced_from s t (f ∷ fs) ss h e r =
+    let (x, a, k) = gone_on _ (form_resolved t f) ss r in
+    let (rest, b, j) = gone_on _ (all_resolved t fs) ss k in
+    let q : x ∷ rest ≡ ss = cc in
+    let same = (becomes t f x a).kind in
+    let more = subst (λ bs. Balanced bs rest) (blocks_behind s f ∙ ap (λ z. blocks_after z s.blocks) same) (balanced_from (after s f) t fs rest h.1 e b) in
+    subst (Balanced s.blocks) q (ap (λ z. strays z s.blocks) (sym same) ∙ not_stray s f h.0.placed, more)
+
+-- blocks balance in a whole program's statements
+pub balanced : (t : Scope) (fs : List Form) (ss : List Step) → IsWhole fs → all_resolved t fs ≡ Some ss → Balanced [] ss
+balanced t fs ss h r = balanced_from nothing_yet t fs ss h.standing h.closed r

@@ -1,0 +1,33 @@
+use Rattle.std.proofs.Common.{◌≡◌, [], Some, map}
+use Rattle.rank_lines.specs.SeenLines.{arrays_seen, forms_seen}
+use Rattle.rank_language.specs.Seen.{line_of}
+use Rattle.rank_language.specs.Program.{program_value}
+use Rattle.rank_language.specs.Ends.{lines_from}
+use Rattle.rank_language.proofs.Built.{IsBuilt, built, scope_with, tables_arrayless, tables_resolvable}
+use Rattle.rank_language.proofs.program.Program.build.Goals as goal
+
+pub statements_of-requires-clause-arrayless : goal.statements_of-requires-clause-arrayless
+statements_of-requires-clause-arrayless c =
+    rw c.deref-2.ensures.value (tables_arrayless (forms_seen c.args.draft.forms.items) c.args.draft.arrays.items c.requires.tables.arrays)
+
+pub statements_of-requires-clause-resolvable : goal.statements_of-requires-clause-resolvable
+statements_of-requires-clause-resolvable c =
+    rw (c.deref.ensures.value, c.deref-2.ensures.value, c.deref-3.ensures.value) (tables_resolvable _ c.args.draft.variables.items c.args.draft.arrays.items c.requires.whole c.requires.tables.variables c.requires.tables.arrays)
+
+-- the statements were found by the tables of the text
+found : (c : goal.In_ok-statements) → lines_from (scope_with c.args.draft.variables.items (arrays_seen c.args.draft.arrays.items) []) 0 (forms_seen c.args.draft.forms.items) ≡ Some (map line_of c.in_ok-statements.statements.items)
+found c =
+    rw (← c.deref.ensures.value, ← c.deref-2.ensures.value, ← c.deref-3.ensures.value) (c.in_ok-statements.ensures {u = tt})
+
+-- they are the program of the text's statements
+stands : (c : goal.In_ok-statements) → IsBuilt (forms_seen c.args.draft.forms.items) (program_value c.in_ok-statements.statements.items c.args.draft.variables.items c.args.draft.arrays.items)
+stands c =
+    built (forms_seen c.args.draft.forms.items) c.in_ok-statements.statements.items c.args.draft.variables.items c.args.draft.arrays.items c.requires.whole c.requires.tables.variables c.requires.tables.arrays (found c)
+
+pub invariant_of-result : goal.invariant_of-result
+invariant_of-result c = (stands c).stands
+
+pub returns : goal.returns
+returns c =
+    let found' : lines_from (scope_with c.args.draft.variables.items (arrays_seen c.args.draft.arrays.items) []) 0 (forms_seen c.args.draft.forms.items) ≡ Some (map line_of c.in_ok-statements.statements.items) = rw (← c.deref.ensures.value, ← c.deref-2.ensures.value, ← c.deref-3.ensures.value) (c.in_ok-statements.ensures {u = tt}) in
+    (built (forms_seen c.args.draft.forms.items) c.in_ok-statements.statements.items c.args.draft.variables.items c.args.draft.arrays.items c.requires.whole c.requires.tables.variables c.requires.tables.arrays found').program

@@ -1,0 +1,23 @@
+-- Which program a text has (the rank-program text: forms, meaning of one step, next positions).
+use Rattle.std.specs.Prelude.{◌≡◌, ℕ, List, Some, map}
+use Rattle.rank_text.specs.Forms.{Form}
+use Rattle.rank_lines.specs.Faults.{IsText}
+use Rattle.rank_lines.specs.Scope.{nothing_yet, after_all}
+use Rattle.rank_language.specs.Block.{lines_at}
+use Rattle.rank_language.specs.Shape.{step_of}
+use Rattle.rank_language.specs.Program.{ProgramValue, tree_of}
+use Rattle.rank_language.specs.Resolved.{all_resolved}
+
+-- The program of statements by name: it declares what they declare, it does the same in the same order with places for
+-- names, and each of its lines leads where the tree of the statements says.
+pub record IsOfForms (forms : List Form) (p : ProgramValue) : Type 0 where
+  pub variables : p.variables ≡ (after_all nothing_yet forms).variables
+  pub arrays : p.arrays ≡ (after_all nothing_yet forms).arrays
+  pub statements : all_resolved (after_all nothing_yet forms) forms ≡ Some (map step_of p.statements)
+  pub targets : p.statements ≡ lines_at 0 (tree_of p)
+
+-- The program of a text: that of the statements which the text has by its grammar.
+pub record IsProgramOf (text : List ℕ) (p : ProgramValue) : Type 0 where
+  pub forms : List Form
+  pub reads : IsText text forms
+  pub program : IsOfForms forms p

@@ -1,0 +1,11 @@
+pub mod Placed
+pub mod Coding
+pub mod Block
+pub mod Shape
+pub mod Seen
+pub mod Program
+pub mod Resolved
+pub mod SeenTables
+pub mod Ends
+pub mod Resolvable
+pub mod Correct

@@ -1,0 +1,40 @@
+-- Expressions and statements that read variables and arrays by their places (the rank-program text, meaning of one step).
+use Rattle.std.specs.Prelude.{ℕ, ℤ}
+use Rattle.rank_text.specs.declared.token.Operator.{Operator}
+use Rattle.rank_text.specs.declared.token.Reading.{Reading}
+
+-- an expression, whose variables and arrays are given by their places in the order of declaration
+pub data Placed : Type 0 where
+  number : (n : ℤ) → Placed
+  variable : (place : ℕ) → Placed
+  item : (place : ℕ) (index : Placed) → Placed
+  reading : (r : Reading) → Placed
+  negation : (e : Placed) → Placed
+  operation : (o : Operator) (a b : Placed) → Placed
+
+-- the source or the tag that a receive asks for
+pub data Choice : Type 0 where
+  any : Choice
+  value : (e : Placed) → Choice
+
+-- what a send gives: one item
+pub data Payload : Type 0 where
+  one : (e : Placed) → Payload
+
+-- where a receive puts the items: into a variable
+pub data Buffer : Type 0 where
+  into_variable : (place : ℕ) → Buffer
+
+-- a statement without parts
+pub data Simple : Type 0 where
+  declare : (place : ℕ) → Simple
+  send : (destination tag : Placed) (payload : Payload) → Simple
+  receive : (source tag : Choice) (buffer : Buffer) → Simple
+  print : (e : Placed) → Simple
+
+-- a line's statement by itself, without where it leads
+pub data Step : Type 0 where
+  does : (s : Simple) → Step
+  tests : (e : Placed) → Step
+  otherwise : Step
+  closes : Step

@@ -1,0 +1,66 @@
+-- A program as a value: its lines, and the names of its variables and arrays (the rank-program text, meaning of one step).
+use Rattle.std.specs.Prelude.{◌≡◌, ℕ, ◌<◌, ◌≤◌, List, [], ◌∷◌, length, map}
+use Rattle.rank_lines.specs.declared.scope.Array.{Array}
+use Rattle.rank_lines.specs.SeenLines.{arrays_seen}
+use Rattle.rank_language.specs.declared.statement.Statement.{Statement}
+use Rattle.rank_language.specs.Placed.{Placed, number, variable, item, reading, negation, operation, Choice, any, value, Payload, one, Buffer, into_variable, declare, send, receive, print}
+use Rattle.rank_language.specs.Block.{Block, Line, simple_line, if_line, else_line, end_line, lines_at}
+use Rattle.rank_language.specs.Shape.{step_of, tree_of_steps}
+use Rattle.rank_language.specs.Seen.{line_of}
+
+-- A program: its lines in order, the names of its variables, and those of its arrays with their lengths, in the order of declaration.
+pub record ProgramValue : Type 0 where
+  pub statements : List Line
+  pub variables : List (List ℕ)
+  pub arrays : List (List ℕ × ℕ)
+
+-- the tree that the lines spell
+abbrev pub tree_of : ProgramValue → Block
+tree_of p = tree_of_steps (map step_of p.statements)
+
+-- each place in an expression is below the number of variables, or of arrays
+abbrev pub IsWithin : ℕ → ℕ → Placed → Type 0
+IsWithin v a (number n) = Unit {0}
+IsWithin v a (variable p) = p < v
+IsWithin v a (item p e) = (p < a) × IsWithin v a e
+IsWithin v a (reading r) = Unit {0}
+IsWithin v a (negation e) = IsWithin v a e
+IsWithin v a (operation o e f) = IsWithin v a e × IsWithin v a f
+
+-- each place in a choice is
+abbrev pub IsChoiceWithin : ℕ → ℕ → Choice → Type 0
+IsChoiceWithin v a any = Unit {0}
+IsChoiceWithin v a (value e) = IsWithin v a e
+
+-- each place in a payload is
+abbrev pub IsPayloadWithin : ℕ → ℕ → Payload → Type 0
+IsPayloadWithin v a (one e) = IsWithin v a e
+
+-- the buffer's place is
+abbrev pub IsBufferWithin : ℕ → ℕ → Buffer → Type 0
+IsBufferWithin v a (into_variable p) = p < v
+
+-- each place in a line is below the number of variables, or of arrays
+abbrev pub IsPlaced : ℕ → ℕ → Line → Type 0
+IsPlaced v a (simple_line (declare p)) = p < v
+IsPlaced v a (simple_line (send d t p)) = IsWithin v a d × IsWithin v a t × IsPayloadWithin v a p
+IsPlaced v a (simple_line (receive s t b)) = IsChoiceWithin v a s × IsChoiceWithin v a t × IsBufferWithin v a b
+IsPlaced v a (simple_line (print e)) = IsWithin v a e
+IsPlaced v a (if_line e q) = IsWithin v a e
+IsPlaced v a (else_line q) = Unit {0}
+IsPlaced v a end_line = Unit {0}
+
+-- each line's places are
+abbrev pub AllPlaced : ℕ → ℕ → List Line → Type 0
+AllPlaced v a [] = Unit {0}
+AllPlaced v a (l ∷ ls) = IsPlaced v a l × AllPlaced v a ls
+
+-- What holds of every program.
+pub record IsProgram (p : ProgramValue) : Type 0 where
+  pub shaped : p.statements ≡ lines_at 0 (tree_of p)
+  pub placed : AllPlaced (length p.variables) (length p.arrays) p.statements
+  pub few : length p.statements ≤ 1000
+
+-- the program of these statements, variables and arrays
+abbrev pub program_value : List Statement → List (List ℕ) → List Array → ProgramValue
+program_value ss xs as_ = record { statements = map line_of ss; variables = xs; arrays = arrays_seen as_ }

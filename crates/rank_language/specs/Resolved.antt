@@ -1,0 +1,75 @@
+-- What the names of a text stand for: the places of what they declare (the rank-program text, fault Undeclared).
+use Rattle.std.specs.Prelude.{◌≡◌, ℕ, pos, List, [], ◌∷◌, Option, Some, None, option_map, map, position}
+use Rattle.std.specs.Str.{bytes_eq}
+use Rattle.rank_text.specs.Tree as text
+use Rattle.rank_text.specs.Forms as line
+use Rattle.rank_text.specs.Forms.{◌>>=◌}
+use Rattle.rank_lines.specs.Scope.{Scope}
+use Rattle.rank_language.specs.Placed.{Placed, number, variable, item, reading, negation, operation, Choice, any, value, Payload, one, Buffer, into_variable, Simple, declare, send, receive, print, Step, does, tests, otherwise, closes}
+
+-- the place of a name among names: the first at which it stands
+abbrev pub place_in : List (List ℕ) → List ℕ → Option ℕ
+place_in names x = position (λ y. bytes_eq y x) names
+
+-- the place of a variable among the variables
+abbrev pub variable_place : Scope → List ℕ → Option ℕ
+variable_place s x = place_in s.variables x
+
+-- the place of an array among the arrays
+abbrev pub array_place : Scope → List ℕ → Option ℕ
+array_place s x = place_in (map (λ a. a.0) s.arrays) x
+
+-- an expression with places for its names, where each is declared in the sort that is used
+abbrev pub resolved : Scope → text.Tree → Option Placed
+resolved s (text.number n) = Some (number (pos n))
+resolved s (text.variable x) = option_map variable (variable_place s x)
+resolved s (text.item x e) = do
+  p ← array_place s x
+  index ← resolved s e
+  Some (item p index)
+resolved s (text.reading r) = Some (reading r)
+resolved s (text.negation e) = option_map negation (resolved s e)
+resolved s (text.operation o a b) = do
+  left ← resolved s a
+  right ← resolved s b
+  Some (operation o left right)
+
+-- a source or a tag with places for its names
+abbrev pub choice_resolved : Scope → line.Choice → Option Choice
+choice_resolved s line.any = Some any
+choice_resolved s (line.value e) = option_map value (resolved s e)
+
+-- a payload with places for its names: a lone name that is a variable gives one item
+abbrev pub payload_resolved : Scope → line.Payload → Option Payload
+payload_resolved s (line.lone x) = option_map (λ p. one (variable p)) (variable_place s x)
+payload_resolved s (line.one e) = option_map one (resolved s e)
+
+-- a buffer with a place for its name, which is a variable's
+abbrev pub buffer_resolved : Scope → List ℕ → Option Buffer
+buffer_resolved s x = option_map into_variable (variable_place s x)
+
+-- a statement with places for its names, where each is declared in the sort that is used
+abbrev pub form_resolved : Scope → line.Form → Option Step
+form_resolved s (line.var_form x) = option_map (λ p. does (declare p)) (variable_place s x)
+form_resolved s (line.if_form e) = option_map tests (resolved s e)
+form_resolved s line.else_form = Some otherwise
+form_resolved s line.end_form = Some closes
+form_resolved s (line.send_form d t p) = do
+  destination ← resolved s d
+  tag ← resolved s t
+  payload ← payload_resolved s p
+  Some (does (send destination tag payload))
+form_resolved s (line.recv_form c t x) = do
+  source ← choice_resolved s c
+  tag ← choice_resolved s t
+  buffer ← buffer_resolved s x
+  Some (does (receive source tag buffer))
+form_resolved s (line.print_form e) = option_map (λ v. does (print v)) (resolved s e)
+
+-- statements with places for their names, in the same order
+abbrev pub all_resolved : Scope → List line.Form → Option (List Step)
+all_resolved s [] = Some []
+all_resolved s (f ∷ fs) = do
+  step ← form_resolved s f
+  steps ← all_resolved s fs
+  Some (step ∷ steps)

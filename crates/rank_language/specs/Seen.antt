@@ -1,0 +1,48 @@
+-- Statements of the code, without where they lie in memory.
+use Rattle.std.specs.Prelude.{Option, Some, None}
+use Rattle.std.specs.Borrow.{Bor}
+use Rattle.rank_language.specs.declared.expression.Expression.{Expression}
+use Rattle.rank_language.specs.declared.expression.Expression.TheVariants as made
+use Rattle.rank_language.specs.declared.statement.Choice as source_choice
+use Rattle.rank_language.specs.declared.statement.Payload as source_payload
+use Rattle.rank_language.specs.declared.statement.Buffer as source_buffer
+use Rattle.rank_language.specs.declared.statement.Statement as source_statement
+use Rattle.rank_language.specs.Placed.{Placed, number, variable, item, reading, negation, operation, Choice, any, value, Payload, one, Buffer, into_variable, declare, send, receive, print}
+use Rattle.rank_language.specs.Block.{Line, simple_line, if_line, else_line, end_line}
+
+-- an expression without where it lies
+abbrev pub placed_of : Expression → Placed
+placed_of (made.Number n) = number n
+placed_of (made.Variable p) = variable p
+placed_of (made.Item' p l e) = item p (placed_of e)
+placed_of (made.Reading r) = reading r
+placed_of (made.Negation' l e) = negation (placed_of e)
+placed_of (made.Operation' o l a m b) = operation o (placed_of a) (placed_of b)
+
+-- a choice without where it lies
+abbrev pub choice_of : source_choice.Choice → Choice
+choice_of source_choice.TheVariants.Any = any
+choice_of (source_choice.TheVariants.Value e) = value (placed_of e)
+
+-- a payload without where it lies
+abbrev pub payload_of : source_payload.Payload → Payload
+payload_of (source_payload.TheVariants.One e) = one (placed_of e)
+
+-- a buffer as the definitions have it
+abbrev pub buffer_of : source_buffer.Buffer → Buffer
+buffer_of (source_buffer.TheVariants.Variable p) = into_variable p
+
+-- a statement as a line
+abbrev pub line_of : source_statement.Statement → Line
+line_of (source_statement.TheVariants.Declare p) = simple_line (declare p)
+line_of (source_statement.TheVariants.If e q) = if_line (placed_of e) q
+line_of (source_statement.TheVariants.Else q) = else_line q
+line_of source_statement.TheVariants.EndIf = end_line
+line_of (source_statement.TheVariants.Send d t p) = simple_line (send (placed_of d) (placed_of t) (payload_of p))
+line_of (source_statement.TheVariants.Receive s t b) = simple_line (receive (choice_of s) (choice_of t) (buffer_of b))
+line_of (source_statement.TheVariants.Print e) = simple_line (print (placed_of e))
+
+-- the line of a statement that was found
+abbrev pub line_in : Option (Bor source_statement.Statement) → Option Line
+line_in None = None
+line_in (Some s) = Some (line_of s.now)

@@ -1,0 +1,47 @@
+-- The tree that lines spell (the rank-program text: `if` .. `else` .. `end`).
+use Rattle.std.specs.Prelude.{◌≡◌, List, [], ◌∷◌, Bool, true, false, map}
+use Rattle.rank_language.specs.Placed.{Placed, Step, does, tests, otherwise, closes}
+use Rattle.rank_language.specs.Block.{Block, done, plain, if_only, if_else, Line, simple_line, if_line, else_line, end_line, lines_at}
+
+-- a line without where it leads
+abbrev pub step_of : Line → Step
+step_of (simple_line s) = does s
+step_of (if_line e q) = tests e
+step_of (else_line q) = otherwise
+step_of end_line = closes
+
+-- A list of statements that lines begin, and whether an `else` ends it.
+abbrev pub Part : Type 0
+Part = Bool × Block
+
+-- the innermost list with more in front
+abbrev pub fronted : (Block → Block) → List Part → List Part
+fronted f [] = []
+fronted f (p ∷ ps) = (p.0, f p.1) ∷ ps
+
+-- the lists that an `if` begins: its parts go into it
+abbrev pub branched : Placed → List Part → List Part
+branched e ((false, y) ∷ ps) = fronted (if_only e y) ps
+branched e ((true, y) ∷ ((b, o) ∷ ps)) = fronted (if_else e y o) ps
+branched e _ = []
+
+-- the lists of statements that lines begin, the innermost first
+abbrev pub parts : List Step → List Part
+parts [] = (false, done) ∷ []
+parts (does s ∷ ss) = fronted (plain s) (parts ss)
+parts (tests e ∷ ss) = branched e (parts ss)
+parts (otherwise ∷ ss) = (true, done) ∷ parts ss
+parts (closes ∷ ss) = (false, done) ∷ parts ss
+
+-- the innermost list
+abbrev pub innermost : List Part → Block
+innermost [] = done
+innermost (p ∷ ps) = p.1
+
+-- the tree of a whole program's lines, whatever they say of where they lead
+abbrev pub tree_of_steps : List Step → Block
+tree_of_steps ss = innermost (parts ss)
+
+-- each line leads where the tree says
+abbrev pub IsShaped : List Line → Type 0
+IsShaped ls = ls ≡ lines_at 0 (tree_of_steps (map step_of ls))

@@ -1,0 +1,16 @@
+//! Expressions as a machine reads them: variables and arrays by their places.
+use metered::Heap;
+use rank_text::{Operator, Reading};
+
+/// An expression of a program. It has at most 64 nodes.
+#[derive(Debug, Drop)]
+pub enum Expression {
+    Number(i64),
+    /// A variable, by its place in the order of declaration.
+    Variable(usize),
+    /// An item of an array, by the array's place and the item's index.
+    Item(usize, Box<Expression, Heap>),
+    Reading(Reading),
+    Negation(Box<Expression, Heap>),
+    Operation(Operator, Box<Expression, Heap>, Box<Expression, Heap>),
+}

@@ -1,0 +1,16 @@
+//! Programs of ranks: from a text to statements in order, each with where it leads.
+#![tactic(auto)]
+
+mod build;
+pub mod expression;
+pub mod laws;
+pub mod program;
+mod resolve;
+mod resolve_form;
+pub mod statement;
+
+pub use expression::Expression;
+pub use program::Program;
+pub use rank_lines::{FaultKind, ParseFault, ProgramFault};
+pub use rank_text::{Name, Operator, Reading};
+pub use statement::{Buffer, Choice, Payload, Statement};

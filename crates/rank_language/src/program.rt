@@ -1,0 +1,108 @@
+//! Programs: statements in order, each with where it leads to.
+ghost use Rattle.rank_text.specs.Forms.{Form};
+ghost use Rattle.rank_lines.specs.declared.fault.ParseFault.TheVariants.{Fault, Memory};
+ghost use Rattle.rank_lines.specs.declared.fault.ProgramFault.{ProgramFault};
+ghost use Rattle.rank_lines.specs.Faults.{IsFaultOf, IsText};
+ghost use Rattle.rank_lines.specs.Progress.{HasTables};
+ghost use Rattle.rank_lines.specs.Scope.{IsWhole};
+ghost use Rattle.rank_lines.specs.SeenLines.{forms_seen};
+ghost use Rattle.rank_language.specs.Correct.{IsOfForms, IsProgramOf};
+ghost use Rattle.std.specs.Prelude.{List, Err, IfErr, IfOk, ◌≡◌, ◌<◌, ◌≤◌, IfSome, IsNone, ◌↔◌, length, slice_get, Bool};
+ghost use Rattle.rank_language.specs.Block.{size, remaining, Leads, next_position};
+ghost use Rattle.rank_language.specs.Seen.{line_of, line_in};
+ghost use Rattle.rank_language.specs.Program.{tree_of, IsPlaced};
+
+use crate::build::statements_of;
+use crate::resolve::Tables;
+use crate::statement::Statement;
+use metered::Heap;
+use rank_lines::{Array, Draft, ParseFault, ProgramFault, read};
+use rank_text::Name;
+use std::alloc::AllocError;
+use std::marker::Model;
+
+/// A rank program: its statements in order, and the variables and arrays that it declares.
+#[derive(Debug, Drop)]
+pub struct Program {
+    statements: Vec<Statement, Heap>,
+    variables: Vec<Name, Heap>,
+    arrays: Vec<Array, Heap>,
+}
+
+impl Model for Program {
+    ghost use Rattle.rank_language.specs.Program.{ProgramValue, IsProgram, program_value};
+    ghost use Rattle.std.specs.Coded.{codes};
+    ghost use Rattle.rank_language.specs.Coding.{placed_code};
+
+    ghost Value = { ProgramValue };
+
+    ghost coded = { Prim.hlevel (codes, placed_code) };
+
+    ghost view = { λ p. program_value p.statements.items p.variables.items p.arrays.items };
+
+    ghost invariant = { λ p. IsProgram (program_value p.statements.items p.variables.items p.arrays.items) };
+}
+
+impl Program {
+    /// The program of a text that was read.
+    fn build(alloc: Heap, draft: Draft) -> Result<Program, AllocError>
+        requires whole { IsWhole (forms_seen draft.forms.items) }
+        requires tables { HasTables draft }
+        ensures { IfOk result (λ program. IsOfForms (forms_seen draft.forms.items) program) }
+    {
+        let Draft {
+            forms,
+            variables,
+            arrays,
+        } = draft;
+        let tables = Tables {
+            variables: &variables,
+            arrays: &arrays,
+        };
+        let statements = statements_of(alloc, tables, &forms)?;
+        Ok(Program {
+            statements,
+            variables,
+            arrays,
+        })
+    }
+
+    /// The program of a text, or its first fault.
+    pub fn parse(alloc: Heap, text: &[u8]) -> Result<Program, ParseFault>
+        ensures program { IfOk result (λ program. IsProgramOf text.now program) }
+        ensures fault { (f : ProgramFault) → result ≡ Err (Fault f) → IsFaultOf text.now f.line f.kind }
+        ensures accepted { (fs : List Form) → IsText text.now fs → IfErr result (λ e. e ≡ Memory) }
+    {
+        match read(alloc, text) {
+            Err(fault) => Err(fault),
+            Ok(draft) => Program::build(alloc, draft).map_err(|_| ParseFault::Memory),
+        }
+    }
+
+    /// How many statements it has.
+    pub fn len(&self) -> usize
+        ensures count { result ≡ length self.now.statements }
+        ensures lines { result ≡ size (tree_of self.now) }
+    {
+        self.statements.len()
+    }
+
+    /// How many variables it declares: their places are below it.
+    pub fn variable_count(&self) -> usize
+        ensures { result ≡ length self.now.variables }
+    {
+        self.variables.len()
+    }
+
+    /// The statement at a position.
+    pub fn statement(&self, position: usize) -> Option<&Statement>
+        ensures line { line_in result ≡ slice_get self.now.statements position }
+        ensures there { IfSome result (λ s. Leads (remaining (tree_of self.now)) position (line_of s.now)) }
+        ensures within { IfSome result (λ s. (truth : Bool) → next_position (line_of s.now) position truth ≤ size (tree_of self.now)) }
+        ensures placed { IfSome result (λ s. IsPlaced (length self.now.variables) (length self.now.arrays) (line_of s.now)) }
+        ensures bound { IfSome result (λ _. position < 1000) }
+        ensures past { IsNone result ↔ (size (tree_of self.now) ≤ position) }
+    {
+        self.statements.get(position)
+    }
+}

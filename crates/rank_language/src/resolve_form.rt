@@ -1,0 +1,66 @@
+//! Places for the names of a statement.
+ghost use Rattle.std.specs.Prelude.{◌≡◌, [], Some, IfOk, true, false, option_map};
+ghost use Rattle.rank_text.specs.SeenForms.{choice_of as choice_seen, form_seen, payload_seen};
+ghost use Rattle.rank_lines.specs.Scope.{choice_declared, choice_is_great, payload_declared, payload_is_great};
+ghost use Rattle.rank_language.specs.Resolvable.{IsResolvable};
+ghost use Rattle.rank_language.specs.Resolved.{choice_resolved, form_resolved, payload_resolved};
+ghost use Rattle.rank_language.specs.Ends.{line_to};
+ghost use Rattle.rank_language.specs.Seen.{choice_of, line_of, payload_of};
+ghost use Rattle.rank_language.specs.SeenTables.{tables_seen};
+
+use crate::expression::Expression;
+use crate::resolve::{Tables, resolve};
+use crate::statement::{Buffer, Choice, Payload, Statement};
+use metered::Heap;
+use rank_text::{Form, form};
+use std::alloc::AllocError;
+
+/// The source or the tag with places for its names.
+pub(crate) fn resolve_choice(alloc: Heap, tables: Tables<'_>, choice: &form::Choice) -> Result<Choice, AllocError>
+    requires declared { choice_declared (tables_seen tables) (choice_seen choice.now) ≡ true }
+    requires fitting { choice_is_great (choice_seen choice.now) ≡ false }
+    ensures { IfOk result (λ c. choice_resolved (tables_seen tables.entry) (choice_seen choice.now) ≡ Some (choice_of c)) }
+{
+    match choice {
+        form::Choice::Any => Ok(Choice::Any),
+        form::Choice::Value(written) => Ok(Choice::Value(resolve(alloc, tables, written)?)),
+    }
+}
+
+/// The payload with places for its names, where no array is declared.
+pub(crate) fn resolve_payload(alloc: Heap, tables: Tables<'_>, payload: &form::Payload) -> Result<Payload, AllocError>
+    requires arrayless { (tables_seen tables).arrays ≡ [] }
+    requires declared { payload_declared (tables_seen tables) (payload_seen payload.now) ≡ true }
+    requires fitting { payload_is_great (payload_seen payload.now) ≡ false }
+    ensures { IfOk result (λ p. payload_resolved (tables_seen tables.entry) (payload_seen payload.now) ≡ Some (payload_of p)) }
+{
+    match payload {
+        form::Payload::Lone(name) => Ok(Payload::One(Expression::Variable(tables.variable(*name)))),
+        form::Payload::One(written) => Ok(Payload::One(resolve(alloc, tables, written)?)),
+    }
+}
+
+/// The statement with places for its names, which leads to a target.
+pub(crate) fn resolve_form(alloc: Heap, tables: Tables<'_>, form: &Form, target: usize) -> Result<Statement, AllocError>
+    requires arrayless { (tables_seen tables).arrays ≡ [] }
+    requires resolvable { IsResolvable (tables_seen tables) (form_seen form.now) }
+    ensures { IfOk result (λ statement. option_map (line_to target) (form_resolved (tables_seen tables.entry) (form_seen form.now)) ≡ Some (line_of statement)) }
+{
+    match form {
+        Form::Var(name) => Ok(Statement::Declare(tables.variable(*name))),
+        Form::If(test) => Ok(Statement::If(resolve(alloc, tables, test)?, target)),
+        Form::Else => Ok(Statement::Else(target)),
+        Form::End => Ok(Statement::EndIf),
+        Form::Send(destination, tag, payload) => Ok(Statement::Send {
+            destination: resolve(alloc, tables, destination)?,
+            tag: resolve(alloc, tables, tag)?,
+            payload: resolve_payload(alloc, tables, payload)?,
+        }),
+        Form::Recv(source, tag, buffer) => Ok(Statement::Receive {
+            source: resolve_choice(alloc, tables, source)?,
+            tag: resolve_choice(alloc, tables, tag)?,
+            buffer: Buffer::Variable(tables.variable(*buffer)),
+        }),
+        Form::Print(value) => Ok(Statement::Print(resolve(alloc, tables, value)?)),
+    }
+}

@@ -1,0 +1,65 @@
+//! Statements with the positions that they lead to.
+ghost use Rattle.std.specs.Prelude.{◌≡◌, ◌-◌, ◌^◌, ◌<◌};
+ghost use Rattle.rank_language.specs.Block.{next_position};
+ghost use Rattle.rank_language.specs.Seen.{line_of};
+
+use crate::expression::Expression;
+
+/// The source or the tag that a receive asks for.
+#[derive(Debug, Drop)]
+pub enum Choice {
+    Any,
+    Value(Expression),
+}
+
+/// What a send gives.
+#[derive(Debug, Drop)]
+pub enum Payload {
+    /// The value as one item.
+    One(Expression),
+}
+
+/// Where a receive puts the items.
+#[derive(Debug, Drop)]
+pub enum Buffer {
+    /// A variable, by its place in the order of declaration.
+    Variable(usize),
+}
+
+/// A statement of a program, which has a position of its own.
+#[derive(Debug, Drop)]
+pub enum Statement {
+    /// A variable by its place: it is 0 from the rank's beginning.
+    Declare(usize),
+    /// What is tested, and the position that follows where it is 0.
+    If(Expression, usize),
+    /// Reached from above, it leads past its `end`, to this position.
+    Else(usize),
+    /// The `end` of an `if`.
+    EndIf,
+    Send {
+        destination: Expression,
+        tag: Expression,
+        payload: Payload,
+    },
+    Receive {
+        source: Choice,
+        tag: Choice,
+        buffer: Buffer,
+    },
+    Print(Expression),
+}
+
+impl Statement {
+    /// The position after a statement that stands at a position, where what it tests isn't 0 as `truth` says.
+    pub fn next_position(&self, position: usize, truth: bool) -> usize
+        requires { position < 2 ^ 64 - 1 }
+        ensures { result ≡ next_position (line_of self.now) position truth }
+    {
+        match self {
+            Statement::If(_, otherwise) => { if truth { position + 1 } else { *otherwise } }
+            Statement::Else(after) => *after,
+            _ => position + 1,
+        }
+    }
+}
