@@ -1,16 +1,14 @@
 -- The statements found from the last one on are the program of the whole text's statements: they are resolved by the
 -- tables that the statements leave, their targets are those of their tree, and their places are in the tables.
-use Rattle.std.proofs.Common.{◌≡◌, ℕ, ◌≤◌, List, [], length, map, Some, refl, ap, ◌∙◌, sym, subst, arith}
+use Rattle.std.proofs.Common.{◌≡◌, ℕ, List, [], length, map, Some, ap, ◌∙◌, sym, subst, arith}
 use Rattle.rank_text.specs.Forms.{Form}
 use Rattle.rank_lines.specs.declared.scope.Array.{Array}
 use Rattle.rank_lines.specs.Scope.{Scope, Opened, nothing_yet, after_all, IsWhole}
 use Rattle.rank_lines.specs.SeenLines.{arrays_seen}
 use Rattle.rank_language.specs.declared.statement.Statement.{Statement}
-use Rattle.rank_language.specs.Block.{Line, lines_at}
-use Rattle.rank_language.specs.Shape.{step_of, tree_of_steps}
+use Rattle.rank_language.specs.Shape.{step_of}
 use Rattle.rank_language.specs.Seen.{line_of}
-use Rattle.rank_language.specs.Program.{ProgramValue, tree_of, IsProgram, AllPlaced, program_value}
-use Rattle.rank_language.specs.Resolved.{all_resolved}
+use Rattle.rank_language.specs.Program.{ProgramValue, IsProgram, AllPlaced, program_value}
 use Rattle.rank_language.specs.Resolvable.{AllResolvable}
 use Rattle.rank_language.specs.Ends.{lines_from}
 use Rattle.rank_language.specs.Correct.{IsOfForms}
@@ -55,6 +53,7 @@ built_with fs p w v a r =
         shaped = shaped;
         placed = subst (λ n. AllPlaced n (length p.arrays) p.statements) (ap length (sym v)) (subst (λ n. AllPlaced (length end.variables) n p.statements) (ap length (sym a)) r.within);
         few = omega arith;
+        arrayless = a ∙ arrayless fs;
       };
       program = record { variables = v; arrays = a; statements = r.steps; targets = shaped };
     }

@@ -1,14 +1,13 @@
 -- Lines found from the last statement on, as the code finds them: one more statement in front puts its line in front.
-use Rattle.std.proofs.Common.{◌≡◌, ℕ, ◌+◌, ◌<◌, ◌≤◌, zero, suc, List, [], ◌∷◌, ◌++◌, length, Option, Some, None, get_or, drop, map, option_map, reverse, refl, ap, ◌∙◌, sym, subst, arith}
+use Rattle.std.proofs.Common.{◌≡◌, ℕ, ◌+◌, ◌<◌, zero, suc, List, [], ◌∷◌, ◌++◌, length, Some, get_or, drop, map, reverse, refl, ap, ◌∙◌, sym, subst, arith}
 use Rattle.std.proofs.lemmas.List.{drop_more, reverse-append}
 use Rattle.rank_text.specs.declared.form.Form.{Form}
 use Rattle.rank_text.specs.SeenForms.{form_seen}
 use Rattle.rank_lines.specs.SeenLines.{forms_seen}
 use Rattle.rank_lines.specs.Scope.{Scope}
 use Rattle.rank_language.specs.Block.{Line}
-use Rattle.rank_language.specs.Resolved.{form_resolved}
 use Rattle.rank_language.specs.Resolvable.{IsResolvable, AllResolvable}
-use Rattle.rank_language.specs.Ends.{kind_of, target_of, ends_before, ends_from, line_to, lines_from, form_line}
+use Rattle.rank_language.specs.Ends.{kind_of, ends_before, ends_from, lines_from, form_line}
 
 -- what is left from a place on begins with what stands there
 front : (forms : List Form) (p q : ℕ) (f : Form) → p + 1 ≡ q → p < length forms → f ≡ get_or forms p f → forms_seen (drop p forms) ≡ form_seen f ∷ forms_seen (drop q forms)

@@ -8,3 +8,5 @@ pub mod Options
 pub mod Resolving
 pub mod Whole
 pub mod Built
+pub mod Declared
+pub mod OneProgram

@@ -1,8 +1,7 @@
 -- Names and their places. Two names are the same where their bytes are: the zeros behind them differ in number only
 -- where their lengths do. A name that stands among others has a first place, which is below their number.
-use Rattle.std.proofs.Common.{◌≡◌, ℕ, ◌+◌, ◌-◌, ◌<◌, List, [], ◌∷◌, ◌++◌, length, replicate, Bool, true, false, ◌&&◌, ◌||◌, nat_eq, Option, Some, None, cond, map, refl, ap, ◌∙◌, sym, arith}
+use Rattle.std.proofs.Common.{◌≡◌, ℕ, ◌+◌, ◌-◌, List, [], ◌∷◌, ◌++◌, length, replicate, true, false, ◌&&◌, ◌||◌, nat_eq, Some, None, cond, map, refl, ap, ◌∙◌, sym}
 use Rattle.std.specs.List.{position, position_from}
-use Rattle.std.specs.Bool.{Decides}
 use Rattle.std.specs.Str.{bytes_eq}
 use Rattle.std.proofs.lemmas.List.{append_cancel_right}
 use Rattle.std.proofs.lemmas.Slice.Eq.{bytes_eq-Decides}

@@ -1,5 +1,5 @@
 -- What a value that came through options says of them.
-use Rattle.std.proofs.Common.{◌≡◌, ℕ, ◌<◌, List, Bool, true, false, ◌&&◌, ◌||◌, Option, Some, None, option_map, refl}
+use Rattle.std.proofs.Common.{◌≡◌, Bool, true, false, ◌&&◌, ◌||◌, Option, Some, None, option_map, refl}
 use Rattle.rank_text.specs.Forms.{◌>>=◌}
 
 -- a value of a mapped option comes from one of the option

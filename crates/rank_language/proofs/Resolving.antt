@@ -1,6 +1,6 @@
 -- What a resolved statement is. Its kind is that of the statement by name; each place in it is a place in a table.
-use Rattle.std.proofs.Common.{◌≡◌, ℕ, suc, ◌+◌, ◌<◌, List, [], ◌∷◌, length, map, Bool, true, false, cond, pos, Option, Some, None, option_map, refl, ap, ◌∙◌, sym, subst, arith, nat_lt}
-use Rattle.std.specs.List.{position, position_from}
+use Rattle.std.proofs.Common.{◌≡◌, ℕ, suc, ◌+◌, ◌<◌, List, [], ◌∷◌, length, map, true, false, cond, pos, Some, refl, ap, ◌∙◌, sym, subst, arith}
+use Rattle.std.specs.List.{position_from}
 use Rattle.std.specs.Str.{bytes_eq}
 use Rattle.std.proofs.lemmas.Iterator.Adapters.{position_from-zero}
 use Rattle.std.proofs.lemmas.List.{length-map}
@@ -8,12 +8,12 @@ use Rattle.rank_text.specs.Tree as text
 use Rattle.rank_text.specs.Forms as line
 use Rattle.rank_text.specs.Forms.{Form, ◌>>=◌}
 use Rattle.rank_lines.specs.Scope.{Scope}
-use Rattle.rank_language.specs.Placed.{Placed, number, variable, item, reading, negation, operation, Choice, any, value, Payload, one, Buffer, into_variable, Simple, declare, send, receive, print, Step, does, tests, otherwise, closes}
-use Rattle.rank_language.specs.Block.{Line, simple_line, if_line, else_line, end_line}
+use Rattle.rank_language.specs.Placed.{Placed, number, variable, item, reading, negation, operation, Choice, any, value, Payload, one, Buffer, into_variable, declare, send, receive, print, Step, does, tests, otherwise, closes}
+use Rattle.rank_language.specs.Block.{Line}
 use Rattle.rank_language.specs.Shape.{step_of}
 use Rattle.rank_language.specs.Program.{IsWithin, IsChoiceWithin, IsPayloadWithin, IsBufferWithin, IsPlaced, AllPlaced}
 use Rattle.rank_language.specs.Resolved.{place_in, variable_place, array_place, resolved, choice_resolved, payload_resolved, buffer_resolved, form_resolved, all_resolved}
-use Rattle.rank_language.specs.Ends.{Kind, kind_of, target_of, ends_before, ends_from, line_to, form_line, lines_from}
+use Rattle.rank_language.specs.Ends.{kind_of, target_of, ends_before, ends_from, line_to, form_line, lines_from}
 use Rattle.rank_language.proofs.Options.{mapped, gone_on}
 use Rattle.rank_language.proofs.Spread.{kind_of_step, ends_at, targeted}
 
@@ -137,13 +137,13 @@ are_more s n f fs t ls h r =
     record {
       steps = all_front s f fs t (map step_of ls) h r.steps ∙ ap (λ x. Some (x ∷ map step_of ls)) (sym same);
       lines =
-        ap (λ q. line_to q t ∷ ls) aim
-        ∙ ap (λ z. line_to (target_of (kind_of_step t) (ends_at (n + 1) (map step_of ls))) t ∷ z) r.lines
-        ∙ ap (λ x. targeted n (x ∷ map step_of ls)) (sym same);
+          ap (λ q. line_to q t ∷ ls) aim
+          ∙ ap (λ z. line_to (target_of (kind_of_step t) (ends_at (n + 1) (map step_of ls))) t ∷ z) r.lines
+          ∙ ap (λ x. targeted n (x ∷ map step_of ls)) (sym same);
       ends =
-        ap (λ k. ends_before n k (ends_from (n + 1) fs)) b.kind
-        ∙ ap (ends_before n (kind_of_step t)) r.ends
-        ∙ ap (λ x. ends_at n (x ∷ map step_of ls)) (sym same);
+          ap (λ k. ends_before n k (ends_from (n + 1) fs)) b.kind
+          ∙ ap (ends_before n (kind_of_step t)) r.ends
+          ∙ ap (λ x. ends_at n (x ∷ map step_of ls)) (sym same);
       within = (b.within target, r.within);
       count = ap suc r.count;
     }

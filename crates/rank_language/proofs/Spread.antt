@@ -1,7 +1,7 @@
 -- Lines with their targets are those of a tree. The lists of statements that some lines begin (`parts`) fit the blocks
 -- that are open in front of them (`Fit`). Spread over positions, each list is followed by the line that closes it;
 -- one more line in front keeps this, and in front of a whole program there is one list, its tree.
-use Rattle.std.proofs.Common.{◌≡◌, ℕ, ◌+◌, List, [], ◌∷◌, ◌++◌, Bool, true, false, not, refl, ap, ◌∙◌, sym, subst, arith, append_assoc, append-nil}
+use Rattle.std.proofs.Common.{◌≡◌, ℕ, ◌+◌, List, [], ◌∷◌, ◌++◌, Bool, true, false, not, refl, ap, ◌∙◌, sym, arith, append_assoc, append-nil}
 use Rattle.rank_lines.specs.Scope.{Opened, in_if, in_else, is_empty, is_open_if, other_branch, outer}
 use Rattle.rank_language.specs.Placed.{Placed, Simple, Step, does, tests, otherwise, closes}
 use Rattle.rank_language.specs.Block.{Block, done, plain, if_only, if_else, Line, simple_line, if_line, else_line, end_line, size, lines_at}
@@ -134,8 +134,8 @@ stand_else n bs ss [] f h = absurd (elim bs as (λ z. Fit z [] → ⊥) [ [] ↦
 stand_else n bs ss (p ∷ ps) f h =
     let q : n + 1 ≡ n + 0 + 1 = omega arith in (
       ap (λ ends. else_line (nearest ends) ∷ targeted (n + 1) ss) h.1
-      ∙ ap (λ ls. else_line (nearest (tops (n + 1) (p ∷ ps))) ∷ ls) h.0
-      ∙ ap (λ m. else_line (nearest (tops m (p ∷ ps))) ∷ spread m (p ∷ ps)) q,
+          ∙ ap (λ ls. else_line (nearest (tops (n + 1) (p ∷ ps))) ∷ ls) h.0
+          ∙ ap (λ m. else_line (nearest (tops m (p ∷ ps))) ∷ spread m (p ∷ ps)) q,
       ap (λ ends. (n + 1) ∷ farther ends) h.1 ∙ ap (λ m. m ∷ farther (tops m (p ∷ ps))) q,
     )
 

@@ -1,17 +1,17 @@
 -- What a whole program's statements by name are, by the tables that they leave. Tables only grow, so what is declared in
 -- front of a statement is declared in the tables of the whole; and where each statement may stand, blocks balance.
-use Rattle.std.proofs.Common.{◌≡◌, ℕ, ◌+◌, List, [], ◌∷◌, ◌++◌, length, map, Bool, true, false, ◌&&◌, ◌||◌, not, Option, Some, None, refl, ap, ◌∙◌, sym, subst, arith}
+use Rattle.std.proofs.Common.{◌≡◌, ℕ, List, [], ◌∷◌, ◌++◌, true, false, ◌&&◌, Some, refl, ap, ◌∙◌, sym, subst}
 use Rattle.std.specs.Str.{bytes_eq}
 use Rattle.std.proofs.lemmas.Slice.Eq.{bytes_eq-Decides}
 use Rattle.rank_text.specs.Tree.{Tree, number, variable, item, reading, negation, operation}
 use Rattle.rank_text.specs.Forms.{Choice, any, value, Payload, lone, one, Form, var_form, if_form, else_form, end_form, send_form, recv_form, print_form}
-use Rattle.rank_lines.specs.Scope.{Scope, Opened, nothing_yet, is_name_in, is_variable, is_array, is_declared, all_declared, choice_declared, payload_declared, declared_in, is_stray, is_empty, is_open_if, after, after_all, MayStand, AllMayStand, IsWhole}
+use Rattle.rank_lines.specs.Scope.{Scope, nothing_yet, is_name_in, is_variable, is_array, is_declared, all_declared, choice_declared, payload_declared, declared_in, is_stray, after, after_all, AllMayStand, IsWhole}
 use Rattle.rank_language.specs.Placed.{Step}
 use Rattle.rank_language.specs.Resolved.{form_resolved, all_resolved}
-use Rattle.rank_language.specs.Resolvable.{IsResolvable, AllResolvable, declares_in}
-use Rattle.rank_language.specs.Ends.{Kind, kind_of}
+use Rattle.rank_language.specs.Resolvable.{AllResolvable, declares_in}
+use Rattle.rank_language.specs.Ends.{kind_of}
 use Rattle.rank_language.proofs.Options.{gone_on, both, joined, either}
-use Rattle.rank_language.proofs.Spread.{kind_of_step, blocks_after, strays, Balanced}
+use Rattle.rank_language.proofs.Spread.{blocks_after, strays, Balanced}
 use Rattle.rank_language.proofs.Resolving.{becomes}
 
 -- What is declared in one scope is declared in another.
@@ -66,7 +66,8 @@ named_longer [] ys x h = cc
 named_longer (z ∷ zs) ys x h =
     either (bytes_eq z x) (is_name_in zs x) (bytes_eq z x) (is_name_in (zs ++ ys) x) (λ k. k) (named_longer zs ys x) h
 
-named_last : (xs : List (List ℕ)) (x : List ℕ) → is_name_in (xs ++ x ∷ []) x ≡ true
+-- a name that is put last stands among them
+pub named_last : (xs : List (List ℕ)) (x : List ℕ) → is_name_in (xs ++ x ∷ []) x ≡ true
 named_last [] x = either true false (bytes_eq x x) false (λ k. (bytes_eq-Decides x x).1 refl) (λ k. k) refl
 named_last (z ∷ zs) x =
     either false true (bytes_eq z x) (is_name_in (zs ++ x ∷ []) x) (λ k. absurd (cc)) (λ k. named_last zs x) refl

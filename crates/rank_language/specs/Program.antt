@@ -55,11 +55,13 @@ abbrev pub AllPlaced : ℕ → ℕ → List Line → Type 0
 AllPlaced v a [] = Unit {0}
 AllPlaced v a (l ∷ ls) = IsPlaced v a l × AllPlaced v a ls
 
--- What holds of every program.
+-- What holds of every program: its lines are those of its tree, their places are in its tables, there are at most 1000,
+-- and no statement declares an array yet.
 pub record IsProgram (p : ProgramValue) : Type 0 where
   pub shaped : p.statements ≡ lines_at 0 (tree_of p)
   pub placed : AllPlaced (length p.variables) (length p.arrays) p.statements
   pub few : length p.statements ≤ 1000
+  pub arrayless : p.arrays ≡ []
 
 -- the program of these statements, variables and arrays
 abbrev pub program_value : List Statement → List (List ℕ) → List Array → ProgramValue

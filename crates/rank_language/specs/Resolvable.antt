@@ -1,5 +1,5 @@
 -- Statements whose names are declared and whose numbers fit, by the tables of the whole text.
-use Rattle.std.specs.Prelude.{◌≡◌, ℕ, List, [], ◌∷◌, Bool, true, false}
+use Rattle.std.specs.Prelude.{◌≡◌, List, [], ◌∷◌, Bool, true, false}
 use Rattle.rank_text.specs.Forms.{Form, var_form}
 use Rattle.rank_lines.specs.Scope.{Scope, declared_in, has_great_number, is_variable}
 

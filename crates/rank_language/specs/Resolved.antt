@@ -1,11 +1,11 @@
 -- What the names of a text stand for: the places of what they declare (the rank-program text, fault Undeclared).
-use Rattle.std.specs.Prelude.{◌≡◌, ℕ, pos, List, [], ◌∷◌, Option, Some, None, option_map, map, position}
+use Rattle.std.specs.Prelude.{ℕ, pos, List, [], ◌∷◌, Option, Some, option_map, map, position}
 use Rattle.std.specs.Str.{bytes_eq}
 use Rattle.rank_text.specs.Tree as text
 use Rattle.rank_text.specs.Forms as line
 use Rattle.rank_text.specs.Forms.{◌>>=◌}
 use Rattle.rank_lines.specs.Scope.{Scope}
-use Rattle.rank_language.specs.Placed.{Placed, number, variable, item, reading, negation, operation, Choice, any, value, Payload, one, Buffer, into_variable, Simple, declare, send, receive, print, Step, does, tests, otherwise, closes}
+use Rattle.rank_language.specs.Placed.{Placed, number, variable, item, reading, negation, operation, Choice, any, value, Payload, one, Buffer, into_variable, declare, send, receive, print, Step, does, tests, otherwise, closes}
 
 -- the place of a name among names: the first at which it stands
 abbrev pub place_in : List (List ℕ) → List ℕ → Option ℕ

@@ -1,5 +1,5 @@
 -- The tables of names of the code, as the scope of a whole text.
-use Rattle.std.specs.Prelude.{[], map}
+use Rattle.std.specs.Prelude.{[]}
 use Rattle.rank_lines.specs.Scope.{Scope}
 use Rattle.rank_language.specs.declared.resolve.Tables.{Tables}
 use Rattle.rank_lines.specs.SeenLines.{arrays_seen}

@@ -38,7 +38,11 @@ fn target(form: &Form, position: usize, ends: &mut Vec<usize, Heap>) -> Result<u
 
 #[tactic(auto, using(crate::proofs::Ends::ends_more, crate::proofs::Ends::lines_more, crate::proofs::Ends::line_pushed))]
 /// The statements of a text, each with where it leads.
-pub(crate) fn statements_of(alloc: Heap, tables: Tables<'_>, forms: &[Form]) -> Result<Vec<Statement, Heap>, AllocError>
+pub(crate) fn statements_of(
+    alloc: Heap,
+    tables: Tables<'_>,
+    forms: &[Form],
+) -> Result<Vec<Statement, Heap>, AllocError>
     requires arrayless { (tables_seen tables).arrays ≡ [] }
     requires resolvable { AllResolvable (tables_seen tables) (forms_seen forms.now) }
     ensures { IfOk result (λ statements. lines_from (tables_seen tables.entry) 0 (forms_seen forms.now) ≡ Some (map line_of statements.items)) }

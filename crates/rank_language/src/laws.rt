@@ -1,7 +1,13 @@
 //! What holds of the statements that remain in every program, where it begins and where it ends.
-ghost use Rattle.std.specs.Prelude.{◌≡◌};
+ghost use Rattle.std.specs.Prelude.{◌≡◌, ℕ, List, ◌↔◌, [], None, false};
+ghost use Rattle.rank_text.specs.Forms.{Form};
+ghost use Rattle.rank_lines.specs.Scope.{Scope, after, declared_in};
+ghost use Rattle.rank_lines.specs.declared.fault.FaultKind.{FaultKind};
+ghost use Rattle.rank_lines.specs.Faults.{IsFaultOf};
+ghost use Rattle.rank_language.specs.Correct.{IsProgramOf};
+ghost use Rattle.rank_language.specs.Resolved.{form_resolved};
 ghost use Rattle.rank_language.specs.Block.{size, remaining, done};
-ghost use Rattle.rank_language.specs.Program.{tree_of};
+ghost use Rattle.rank_language.specs.Program.{ProgramValue, tree_of};
 
 use crate::program::Program;
 
@@ -15,4 +21,20 @@ pub fn begins_there(program: &Program)
 #[tactic(auto, using(crate::proofs::Places::ends_there))]
 pub fn ends_there(program: &Program)
     ensures { remaining (tree_of program.now) (size (tree_of program.now)) ≡ done }
+{}
+
+/// A statement resolves, by the tables that it leaves, exactly where each name in it is declared in the sort that is
+/// used there. (No statement declares an array yet.)
+#[tactic(auto, using(crate::proofs::Declared::undeclared_unresolved))]
+pub fn resolved_where_declared()
+    ensures { (s : Scope) (f : Form) → s.arrays ≡ []
+        → (form_resolved (after s f) f ≡ None) ↔ (declared_in s f ≡ false) }
+{}
+
+/// A text has one program at the most, and none where it has a fault.
+pub fn one_program()
+    ensures one { (text : List ℕ) (p q : ProgramValue)
+        → IsProgramOf text p → IsProgramOf text q → p ≡ q }
+    ensures no_fault { (text : List ℕ) (p : ProgramValue) (line : ℕ) (kind : FaultKind)
+        → IsProgramOf text p → IsFaultOf text line kind → ⊥ }
 {}

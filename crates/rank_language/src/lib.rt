@@ -8,9 +8,11 @@ pub mod program;
 mod resolve;
 mod resolve_form;
 pub mod statement;
+#[cfg(test)]
+mod tests;
 
 pub use expression::Expression;
 pub use program::Program;
-pub use rank_lines::{FaultKind, ParseFault, ProgramFault};
+pub use rank_lines::{FaultKind, ParseFault, ProgramFault, one_reading, program_or_fault};
 pub use rank_text::{Name, Operator, Reading};
 pub use statement::{Buffer, Choice, Payload, Statement};

@@ -7,7 +7,7 @@ ghost use Rattle.rank_lines.specs.Progress.{HasTables};
 ghost use Rattle.rank_lines.specs.Scope.{IsWhole};
 ghost use Rattle.rank_lines.specs.SeenLines.{forms_seen};
 ghost use Rattle.rank_language.specs.Correct.{IsOfForms, IsProgramOf};
-ghost use Rattle.std.specs.Prelude.{List, Err, IfErr, IfOk, ◌≡◌, ◌<◌, ◌≤◌, IfSome, IsNone, ◌↔◌, length, slice_get, Bool};
+ghost use Rattle.std.specs.Prelude.{[], List, Err, IfErr, IfOk, ◌≡◌, ◌<◌, ◌≤◌, IfSome, IsNone, ◌↔◌, length, slice_get, Bool};
 ghost use Rattle.rank_language.specs.Block.{size, remaining, Leads, next_position};
 ghost use Rattle.rank_language.specs.Seen.{line_of, line_in};
 ghost use Rattle.rank_language.specs.Program.{tree_of, IsPlaced};
@@ -92,6 +92,13 @@ impl Program {
         ensures { result ≡ length self.now.variables }
     {
         self.variables.len()
+    }
+
+    /// No statement declares an array yet, so a program has none.
+    pub fn has_no_arrays(&self)
+        ensures { self.now.arrays ≡ [] }
+    {
+        let _arrays = &self.arrays;
     }
 
     /// The statement at a position.

@@ -31,7 +31,9 @@ fn is_same(one: &Name, other: &Name) -> bool
 fn variable_at(variables: &[Name], name: &Name) -> Option<usize>
     ensures { result ≡ place_in variables.now name.now }
 {
-    variables.iter().position(|variable| is_same(variable, name))
+    variables
+        .iter()
+        .position(|variable| is_same(variable, name))
 }
 
 /// The place of a name among those of arrays.
@@ -68,7 +70,11 @@ impl Tables<'_> {
 }
 
 /// The expression with places for its names.
-pub(crate) fn resolve(alloc: Heap, tables: Tables<'_>, written: &Written) -> Result<Expression, AllocError>
+pub(crate) fn resolve(
+    alloc: Heap,
+    tables: Tables<'_>,
+    written: &Written,
+) -> Result<Expression, AllocError>
     requires declared { all_declared (tables_seen tables) (tree_of written.now) ≡ true }
     requires fitting { is_great (tree_of written.now) ≡ false }
     ensures { IfOk result (λ e. resolved (tables_seen tables.entry) (tree_of written.now) ≡ Some (placed_of e)) }

@@ -16,7 +16,11 @@ use rank_text::{Form, form};
 use std::alloc::AllocError;
 
 /// The source or the tag with places for its names.
-pub(crate) fn resolve_choice(alloc: Heap, tables: Tables<'_>, choice: &form::Choice) -> Result<Choice, AllocError>
+pub(crate) fn resolve_choice(
+    alloc: Heap,
+    tables: Tables<'_>,
+    choice: &form::Choice,
+) -> Result<Choice, AllocError>
     requires declared { choice_declared (tables_seen tables) (choice_seen choice.now) ≡ true }
     requires fitting { choice_is_great (choice_seen choice.now) ≡ false }
     ensures { IfOk result (λ c. choice_resolved (tables_seen tables.entry) (choice_seen choice.now) ≡ Some (choice_of c)) }
@@ -28,7 +32,11 @@ pub(crate) fn resolve_choice(alloc: Heap, tables: Tables<'_>, choice: &form::Cho
 }
 
 /// The payload with places for its names, where no array is declared.
-pub(crate) fn resolve_payload(alloc: Heap, tables: Tables<'_>, payload: &form::Payload) -> Result<Payload, AllocError>
+pub(crate) fn resolve_payload(
+    alloc: Heap,
+    tables: Tables<'_>,
+    payload: &form::Payload,
+) -> Result<Payload, AllocError>
     requires arrayless { (tables_seen tables).arrays ≡ [] }
     requires declared { payload_declared (tables_seen tables) (payload_seen payload.now) ≡ true }
     requires fitting { payload_is_great (payload_seen payload.now) ≡ false }
@@ -41,7 +49,12 @@ pub(crate) fn resolve_payload(alloc: Heap, tables: Tables<'_>, payload: &form::P
 }
 
 /// The statement with places for its names, which leads to a target.
-pub(crate) fn resolve_form(alloc: Heap, tables: Tables<'_>, form: &Form, target: usize) -> Result<Statement, AllocError>
+pub(crate) fn resolve_form(
+    alloc: Heap,
+    tables: Tables<'_>,
+    form: &Form,
+    target: usize,
+) -> Result<Statement, AllocError>
     requires arrayless { (tables_seen tables).arrays ≡ [] }
     requires resolvable { IsResolvable (tables_seen tables) (form_seen form.now) }
     ensures { IfOk result (λ statement. option_map (line_to target) (form_resolved (tables_seen tables.entry) (form_seen form.now)) ≡ Some (line_of statement)) }

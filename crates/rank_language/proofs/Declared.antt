@@ -1,0 +1,104 @@
+-- A statement resolves exactly where its names are declared: by recursion, whether an expression resolves is whether
+-- all its names are declared, since a name has a place exactly where it stands in its table.
+use Rattle.std.proofs.Common.{◌≡◌, ℕ, List, [], map, Bool, true, false, ◌&&◌, ◌||◌, Option, Some, None, option_map, ◌↔◌, refl, ap, ◌∙◌, sym}
+use Rattle.std.specs.Option.{is_some}
+use Rattle.rank_text.specs.Tree.{Tree, number, variable, item, reading, negation, operation}
+use Rattle.rank_text.specs.Forms.{Choice, any, value, Payload, lone, one, Form, var_form, if_form, else_form, end_form, send_form, recv_form, print_form, ◌>>=◌}
+use Rattle.rank_lines.specs.Scope.{Scope, is_name_in, is_variable, is_array, is_declared, all_declared, choice_declared, payload_declared, declared_in, after}
+use Rattle.rank_language.specs.Resolved.{place_in, variable_place, array_place, resolved, choice_resolved, payload_resolved, buffer_resolved, form_resolved}
+use Rattle.rank_language.proofs.Names.{place_of_named, place_of_other}
+use Rattle.rank_language.proofs.Whole.{named_last}
+
+mapped_some : {A B : Type 0} (f : A → B) (o : Option A) → is_some o ≡ is_some (option_map f o)
+mapped_some f None = refl
+mapped_some f (Some a) = refl
+
+two_some : {A B C : Type 0} (f : A → B → C) (o : Option A) (q : Option B) → (is_some o && is_some q) ≡ is_some (o >>= λ a. q >>= λ b. Some (f a b))
+two_some f None q = refl
+two_some f (Some a) None = refl
+two_some f (Some a) (Some b) = refl
+
+three_some : {A B C D : Type 0} (f : A → B → C → D) (o : Option A) (q : Option B) (r : Option C) → (is_some o && is_some q && is_some r) ≡ is_some (o >>= λ a. q >>= λ b. r >>= λ c. Some (f a b c))
+three_some f None q r = refl
+three_some f (Some a) None r = refl
+three_some f (Some a) (Some b) None = refl
+three_some f (Some a) (Some b) (Some c) = refl
+
+place_known : (names : List (List ℕ)) (x : List ℕ) (b : Bool) → is_name_in names x ≡ b → b ≡ is_some (place_in names x)
+place_known names x true h =
+    let (p, e) = place_of_named names x h in
+    sym (ap is_some e)
+place_known names x false h = sym (ap is_some (place_of_other names x h))
+
+-- a name has a place exactly where it stands
+placed_some : (names : List (List ℕ)) (x : List ℕ) → is_name_in names x ≡ is_some (place_in names x)
+placed_some names x = place_known names x (is_name_in names x) refl
+
+tree_some : (s : Scope) (e : Tree) → all_declared s e ≡ is_some (resolved s e)
+tree_some s (number n) = refl
+tree_some s (variable x) = placed_some s.variables x ∙ mapped_some _ (variable_place s x)
+tree_some s (item x e) =
+    ap (λ b. b && all_declared s e) (placed_some (map (λ a. a.0) s.arrays) x)
+    ∙ ap (λ b. is_some (array_place s x) && b) (tree_some s e)
+    ∙ two_some _ (array_place s x) (resolved s e)
+tree_some s (reading r) = refl
+tree_some s (negation e) = tree_some s e ∙ mapped_some _ (resolved s e)
+tree_some s (operation o a b) =
+    ap (λ z. z && all_declared s b) (tree_some s a)
+    ∙ ap (λ z. is_some (resolved s a) && z) (tree_some s b)
+    ∙ two_some _ (resolved s a) (resolved s b)
+
+choice_some : (s : Scope) (c : Choice) → choice_declared s c ≡ is_some (choice_resolved s c)
+choice_some s any = refl
+choice_some s (value e) = tree_some s e ∙ mapped_some _ (resolved s e)
+
+or_false : (b : Bool) → (b || false) ≡ b
+or_false true = refl
+or_false false = refl
+
+-- where no array is declared, what is declared is a variable
+declared_variable : (s : Scope) (x : List ℕ) → s.arrays ≡ [] → is_declared s x ≡ is_variable s x
+declared_variable s x h =
+    ap (λ as'. is_variable s x || is_name_in (map (λ a. a.0) as') x) h ∙ or_false (is_variable s x)
+
+payload_some : (s : Scope) (p : Payload) → s.arrays ≡ [] → payload_declared s p ≡ is_some (payload_resolved s p)
+payload_some s (lone x) h =
+    declared_variable s x h ∙ placed_some s.variables x ∙ mapped_some _ (variable_place s x)
+payload_some s (one e) h = tree_some s e ∙ mapped_some _ (resolved s e)
+
+-- open blocks declare nothing
+same_tables : (s : Scope) (bs : _) (e : Tree) → all_declared s e ≡ all_declared (record s { blocks = bs }) e
+same_tables s bs (number n) = refl
+same_tables s bs (variable x) = refl
+same_tables s bs (item x e) = ap (λ b. is_array s x && b) (same_tables s bs e)
+same_tables s bs (reading r) = refl
+same_tables s bs (negation e) = same_tables s bs e
+same_tables s bs (operation o a b) =
+    ap (λ z. z && all_declared s b) (same_tables s bs a) ∙ ap (λ z. all_declared (record s { blocks = bs }) a && z) (same_tables s bs b)
+
+form_some : (s : Scope) (f : Form) → s.arrays ≡ [] → declared_in s f ≡ is_some (form_resolved (after s f) f)
+form_some s (var_form x) h =
+    sym (named_last s.variables x) ∙ placed_some (after s (var_form x)).variables x ∙ mapped_some _ (variable_place (after s (var_form x)) x)
+form_some s (if_form e) h =
+    same_tables s (after s (if_form e)).blocks e ∙ tree_some (after s (if_form e)) e ∙ mapped_some _ (resolved (after s (if_form e)) e)
+form_some s else_form h = refl
+form_some s end_form h = refl
+form_some s (send_form d t p) h =
+    ap (λ z. z && all_declared s t && payload_declared s p) (tree_some s d)
+    ∙ ap (λ z. is_some (resolved s d) && z && payload_declared s p) (tree_some s t)
+    ∙ ap (λ z. is_some (resolved s d) && is_some (resolved s t) && z) (payload_some s p h)
+    ∙ three_some _ (resolved s d) (resolved s t) (payload_resolved s p)
+form_some s (recv_form c t x) h =
+    ap (λ z. z && choice_declared s t && is_declared s x) (choice_some s c)
+    ∙ ap (λ z. is_some (choice_resolved s c) && z && is_declared s x) (choice_some s t)
+    ∙ ap (λ z. is_some (choice_resolved s c) && is_some (choice_resolved s t) && z) (declared_variable s x h ∙ placed_some s.variables x ∙ mapped_some _ (variable_place s x))
+    ∙ three_some _ (choice_resolved s c) (choice_resolved s t) (buffer_resolved s x)
+form_some s (print_form e) h = tree_some s e ∙ mapped_some _ (resolved s e)
+
+none_where : {A : Type 0} (o : Option A) (b : Bool) → b ≡ is_some o → (o ≡ None) ↔ (b ≡ false)
+none_where None b h = (λ _. h, λ _. refl)
+none_where (Some a) b h = (λ n. absurd (let k : Some a ≡ None = n in cc), λ n. absurd (let k : true ≡ false = sym h ∙ n in cc))
+
+-- a statement doesn't resolve exactly where a name in it isn't declared
+pub undeclared_unresolved : (s : Scope) (f : Form) → s.arrays ≡ [] → (form_resolved (after s f) f ≡ None) ↔ (declared_in s f ≡ false)
+undeclared_unresolved s f h = none_where (form_resolved (after s f) f) (declared_in s f) (form_some s f h)

@@ -1,0 +1,113 @@
+//! Programs of short texts, with positions and places worked out by hand.
+
+use crate::{FaultKind, ParseFault, Program};
+use metered::Heap;
+use std::alloc::AllocError;
+use std::test::*;
+
+/// Two declarations, and an `if` with `else` that holds another.
+const NESTED: &str =
+    "var x\nvar y\nif rank == 0\n  send 1, 7, y\n  if x\n    print 1\n  else\n    print -y\n  end\nelse\n  recv any, size - 1, y\nend\nprint (x + 2) * count\nif 0\nend\n";
+
+/// The statement at a position, as `Debug` has it.
+fn shown(alloc: Heap, program: &Program, position: usize) -> Result<String<Heap>, AllocError> {
+    format!(in alloc; "{:?}", program.statement(position))
+}
+
+/// Where the statement at a position leads.
+fn next(program: &Program, position: usize, truth: bool) -> Option<usize> {
+    match program.statement(position) {
+        Some(statement) => Some(statement.next_position(position, truth)),
+        None => None,
+    }
+}
+
+#[test]
+fn positions(rt: HostRuntime) -> Result<(), Fail> {
+    let program = Program::parse(rt.alloc(), NESTED.as_bytes())?;
+    assert_eq!(rt; program.len(), 15);
+    for (position, holds, fails) in [
+        (0, 1, 1),
+        (1, 2, 2),
+        (2, 3, 10),
+        (3, 4, 4),
+        (4, 5, 7),
+        (5, 6, 6),
+        (6, 9, 9),
+        (7, 8, 8),
+        (8, 9, 9),
+        (9, 12, 12),
+        (10, 11, 11),
+        (11, 12, 12),
+        (12, 13, 13),
+        (13, 14, 15),
+        (14, 15, 15),
+    ] {
+        assert_eq!(rt;
+            next(&program, position, true),
+            Some(holds),
+            "at {position}"
+        );
+        assert_eq!(rt;
+            next(&program, position, false),
+            Some(fails),
+            "at {position}"
+        );
+    }
+    assert_eq!(rt; next(&program, 15, true), None);
+    Ok(())
+}
+
+#[test]
+fn statements(rt: HostRuntime) -> Result<(), Fail> {
+    let program = Program::parse(rt.alloc(), NESTED.as_bytes())?;
+    assert_eq!(rt; program.variable_count(), 2);
+    for (position, want) in [
+        (0, "Some(Declare(0))"),
+        (1, "Some(Declare(1))"),
+        (
+            2,
+            "Some(If(Operation(Equal, Reading(Rank), Number(0)), 10))",
+        ),
+        (
+            3,
+            "Some(Send { destination: Number(1), tag: Number(7), payload: One(Variable(1)) })",
+        ),
+        (4, "Some(If(Variable(0), 7))"),
+        (6, "Some(Else(9))"),
+        (7, "Some(Print(Negation(Variable(1))))"),
+        (8, "Some(EndIf)"),
+        (
+            10,
+            "Some(Receive { source: Any, tag: Value(Operation(Subtract, Reading(Size), Number(1))), buffer: Variable(1) })",
+        ),
+        (
+            12,
+            "Some(Print(Operation(Multiply, Operation(Add, Variable(0), Number(2)), Reading(Count))))",
+        ),
+        (15, "None"),
+    ] {
+        let text = shown(rt.alloc(), &program, position)?;
+        assert_eq!(rt; text.as_str(), want, "at {position}");
+    }
+    Ok(())
+}
+
+#[test]
+fn refused(rt: HostRuntime) -> Result<(), Fail> {
+    for (text, line, kind) in [
+        ("print 1 +", 1, FaultKind::BadForm),
+        ("print y / 9223372036854775808", 1, FaultKind::Undeclared),
+        ("print 9223372036854775808", 1, FaultKind::NumberRange),
+        ("if 1", 2, FaultKind::BlockOpen),
+    ] {
+        match Program::parse(rt.alloc(), text.as_bytes()) {
+            Err(ParseFault::Fault(fault)) => {
+                assert_eq!(rt; fault.line, line, "{text}");
+                assert_eq!(rt; fault.kind, kind, "{text}");
+            }
+            _ => assert!(rt; false, "{text} is accepted"),
+        }
+    }
+    Ok(())
+}
