@@ -1,0 +1,103 @@
+-- A rank's machine as contracts see it: its program, where it stands in it, and the state that it stands for.
+use Rattle.std.specs.Prelude.{◌≡◌, ◌≢◌, ℕ, ℤ, ◌<◌, ◌≤◌, Bool, true, false, not, length, Ok, Err, Option, Some, None, ◌⊎◌, slice_get}
+use Rattle.matching.specs.Message as packet
+use Rattle.matching.specs.Matching.{matches}
+use Rattle.rank_language.specs.Block.{Line, if_line, simple_line, else_line, end_line, Leads, remaining, size, next_position}
+use Rattle.rank_language.specs.Program.{ProgramValue, tree_of}
+use Rattle.rank_machine.specs.declared.fault.MachineFault.{MachineFault}
+use Rattle.rank_machine.specs.declared.want.Want.{Want}
+use Rattle.rank_machine.specs.declared.want.Want.TheVariants as want
+use Rattle.rank_machine.specs.Values.{Store, Valued, value, is_zero}
+use Rattle.rank_machine.specs.States.{State, inner}
+use Rattle.rank_machine.specs.Wants.{simple_want, test_want, wants}
+
+pub record MachineValue : Type 0 where
+  pub program : ProgramValue
+  pub position : ℕ
+  pub store : Store
+  pub fault : Option MachineFault
+
+-- the state that a machine stands for: the statements that remain are those at its position
+abbrev pub state_of : MachineValue → State
+state_of m = record { store = m.store; rest = remaining (tree_of m.program) m.position; fault = m.fault }
+
+-- the line that a machine stands at; past the last line none
+abbrev pub line_at : MachineValue → Option Line
+line_at m = slice_get m.program.statements m.position
+
+-- an `else` that is reached from above and an `end` only lead on; at any other line a machine wants what its state wants
+abbrev pub asked : Option Line → Option MachineFault → Want → Want
+asked (Some (else_line q)) None w = want.Internal
+asked (Some end_line) None w = want.Internal
+asked l k w = w
+
+-- what a machine wants
+abbrev pub asks : MachineValue → Want
+asks m = asked (line_at m) m.fault (wants (state_of m))
+
+-- what a line asks for, or the fault of its evaluation
+abbrev pub line_want : Store → Line → Valued Want
+line_want s (simple_line x) = simple_want s x
+line_want s (if_line e q) = test_want s e
+line_want s (else_line q) = Ok want.Internal
+line_want s end_line = Ok want.Internal
+
+-- whether a value counts as true
+abbrev pub is_true : Valued ℤ → Bool
+is_true (Ok z) = not (is_zero z)
+is_true (Err k) = false
+
+-- the truth of what a line tests
+abbrev pub truth_of : Store → Line → Bool
+truth_of s (if_line e q) = is_true (value s e)
+truth_of s l = false
+
+-- where a line leads from this position; past the last line nowhere
+abbrev pub position_after : Store → Option Line → ℕ → ℕ
+position_after s None p = p
+position_after s (Some l) p = next_position l p (truth_of s l)
+
+-- the position after the machine's line
+abbrev pub next_of : MachineValue → ℕ
+next_of m = position_after m.store (line_at m) m.position
+
+-- What the line at a machine's position says: how the statements that remain go on from there, and past the last line that none remain.
+pub record IsAtLine (m : MachineValue) : Type 0 where
+  pub leads : (l : Line) → line_at m ≡ Some l → Leads (remaining (tree_of m.program)) m.position l
+  pub past : line_at m ≡ None → m.position ≡ size (tree_of m.program)
+
+-- the machine at another position
+abbrev pub moved_to : MachineValue → ℕ → MachineValue
+moved_to m p = record m { position = p }
+
+-- An internal step: at most one inner step of the state, to the position where the line leads, which is another. All else stays.
+pub record GoesOn (m m' : MachineValue) : Type 0 where
+  pub state : (inner (state_of m) ≡ Some (state_of m')) ⊎ (state_of m' ≡ state_of m)
+  pub position : m'.position ≡ next_of m
+  pub moves : m'.position ≢ m.position
+  pub program : m'.program ≡ m.program
+  pub store : m'.store ≡ m.store
+  pub fault : m'.fault ≡ m.fault
+
+-- the position after a reception: where the line leads, or where it stood if the message was too long
+abbrev pub received_at : MachineValue → Option MachineFault → ℕ
+received_at m None = next_of m
+received_at m (Some k) = m.position
+
+-- a receive stands that names this message
+abbrev pub IsReceiving : Want → packet.Message → Type 0
+IsReceiving (want.Receive w) m = matches w m ≡ true
+IsReceiving _ m = ⊥
+
+-- What an act leaves as it is.
+pub record KeepsRank (m m' : MachineValue) : Type 0 where
+  pub program : m'.program ≡ m.program
+  pub rank : m'.store.rank ≡ m.store.rank
+  pub size : m'.store.size ≡ m.store.size
+
+-- What holds of every machine.
+pub record IsMachine (m : MachineValue) : Type 0 where
+  pub position : m.position ≤ size (tree_of m.program)
+  pub variables : length m.store.variables ≡ length m.program.variables
+  pub arrays : length m.store.arrays ≡ length m.program.arrays
+  pub rank : m.store.rank < m.store.size
