@@ -1,0 +1,90 @@
+//! The program: what its words ask for, what it writes, and its exit status.
+//!
+//! | Status | When |
+//! |---|---|
+//! | 0 | done, help too |
+//! | 1 | a rank isn't halted |
+//! | 2 | the program or the script is refused, or a file can't be read |
+//! | 3 | the words are refused |
+//! | 4 | there is no memory |
+//! | 5 | standard output can't be written |
+ghost use Rattle.std.specs.Prelude.{◌≤◌};
+
+mod job;
+mod refusal;
+mod said;
+
+use crate::commands::job::work;
+use crate::commands::said::Said;
+use crate::files::Files;
+use metered::Heap;
+use runner_words::{NoJob, job_of};
+use std::alloc::AllocError;
+use std::io::Write;
+use std::sync::Wait;
+use std::thread::Threads;
+
+/// Does what the words say, and answers the exit status. The first word is the
+/// program's name.
+///
+/// What goes to `out` is made whole before any of it is written. A write to
+/// `err` that fails changes no status.
+pub fn command<R: Threads + Wait + Sync + Copy + Send + AllocGlobal, F: Files, O: Write, E: Write>(
+    rt: &R,
+    alloc: Heap,
+    words: &[String],
+    files: &mut F,
+    out: &mut O,
+    err: &mut E,
+) -> u8
+    ensures { result ≤ 5 }
+{
+    match speak(rt, alloc, words, files) {
+        Ok(said) => {
+            if write_whole(out, said.out.as_str()).is_err() {
+                return 5;
+            }
+            let _ = write_whole(err, said.err.as_str());
+            said.status
+        }
+        Err(_) => {
+            let _ = write_whole(err, "out of memory\n");
+            4
+        }
+    }
+}
+
+fn write_whole<W: Write>(to: &mut W, text: &str) -> std::io::Result<()> {
+    if text.is_empty() {
+        return Ok(());
+    }
+    to.write_all(text.as_bytes())?;
+    to.flush()
+}
+
+fn speak<R: Threads + Wait + Sync + Copy + Send + AllocGlobal, F: Files>(
+    rt: &R,
+    alloc: Heap,
+    words: &[String],
+    files: &mut F,
+) -> Result<Said, AllocError> {
+    match job_of(rt.alloc(), words) {
+        Ok(job) => work(rt, alloc, job, files),
+        Err(no_job) => refuse(alloc, &no_job),
+    }
+}
+
+// Help goes to standard output with status 0, a mistake in the words to standard error with status 3.
+fn refuse(alloc: Heap, no_job: &NoJob) -> Result<Said, AllocError> {
+    match no_job {
+        NoJob::Help(text) => {
+            let text = String::from_str(alloc, text.as_str())?;
+            Ok(Said::answer(alloc, 0, text))
+        }
+        NoJob::Mistake(text) => {
+            let text = String::from_str(alloc, text.as_str())?;
+            Ok(Said::refusal(alloc, 3, text))
+        }
+        NoJob::Memory => Err(AllocError),
+    }
+}

@@ -1,0 +1,87 @@
+//! What the program does once its words are read.
+use crate::commands::refusal::Refusal;
+use crate::commands::said::Said;
+use crate::files::Files;
+use crate::hold::Hold;
+use crate::output::{all_halted, print_report};
+use crate::report::Report;
+use crate::running::{RunLimits, run};
+use crate::script::Script;
+use metered::Heap;
+use rank_language::Program;
+use runner_words::{Job, RunJob};
+use std::alloc::AllocError;
+use std::sync::Wait;
+use std::thread::Threads;
+
+// Waits for no act.
+#[derive(Drop)]
+struct Nobody;
+
+impl Hold for Nobody {
+    fn before(&self, _rank: u8, _clock: u32) {}
+}
+
+/// Does the job.
+pub fn work<R: Threads + Wait + Sync + Copy + Send, F: Files>(
+    rt: &R,
+    alloc: Heap,
+    job: Job<'_>,
+    files: &mut F,
+) -> Result<Said, AllocError> {
+    match job {
+        Job::Run(job) => match report_of(rt, alloc, job, files) {
+            Ok(report) => answer(alloc, &report),
+            Err(refusal) => refusal.said(alloc),
+        },
+    }
+}
+
+// The program is read and parsed before the script is read.
+fn report_of<'a, R: Threads + Wait + Sync + Copy + Send, F: Files>(
+    rt: &R,
+    alloc: Heap,
+    job: RunJob<'a>,
+    files: &mut F,
+) -> Result<Report, Refusal<'a>> {
+    let program = program_in(alloc, job.program, files)?;
+    let script = match job.script {
+        Some(name) => script_in(alloc, name, job.ranks, files)?,
+        None => Script::new(),
+    };
+    let limits = RunLimits {
+        idle: job.idle,
+        steps: job.steps,
+    };
+    Ok(run(rt, alloc, &program, job.ranks, &script, limits, &Nobody)?)
+}
+
+fn program_in<'a, F: Files>(
+    alloc: Heap,
+    name: &'a str,
+    files: &mut F,
+) -> Result<Program, Refusal<'a>> {
+    match files.read(name) {
+        Ok(text) => Ok(Program::parse(alloc, text.as_slice())?),
+        Err(fault) => Err(Refusal::of_file(name, fault)),
+    }
+}
+
+fn script_in<'a, F: Files>(
+    alloc: Heap,
+    name: &'a str,
+    ranks: u8,
+    files: &mut F,
+) -> Result<Script, Refusal<'a>> {
+    match files.read(name) {
+        Ok(text) => Ok(Script::parse(alloc, text.as_slice(), ranks)?),
+        Err(fault) => Err(Refusal::of_file(name, fault)),
+    }
+}
+
+// The status is 1 where a rank isn't halted.
+fn answer(alloc: Heap, report: &Report) -> Result<Said, AllocError> {
+    let text = print_report(alloc, report)?;
+    let status = if all_halted(&report.outcome) { 0 } else { 1 };
+    Ok(Said::answer(alloc, status, text))
+}

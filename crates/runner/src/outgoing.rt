@@ -1,0 +1,62 @@
+//! What a rank sent to one destination.
+ghost use Rattle.std.specs.Prelude.{◌≡◌, ◌<◌, ◌≤◌, ◌⊎◌, ◌↔◌, [], ◌∷◌, ◌++◌, length, IsTrue, OnOk, OnErr};
+
+use crate::lane::Lane;
+use crate::packet::Packet;
+use metered::Heap;
+use std::alloc::AllocError;
+use std::collections::VecDeque;
+
+/// The messages from a rank to one destination: how many there were, and those
+/// that haven't yet been put into the lane.
+#[derive(Drop)]
+pub struct Outgoing {
+    sent: u32,
+    waiting: VecDeque<Packet, Heap>,
+}
+
+impl Outgoing {
+    pub fn new(alloc: Heap) -> Outgoing {
+        Outgoing {
+            sent: 0,
+            waiting: VecDeque::new(alloc),
+        }
+    }
+
+    /// Whether every message has been put into the lane.
+    pub fn is_empty(&self) -> bool {
+        self.waiting.is_empty()
+    }
+
+    /// The number of the next message. It never passes the sender's clock.
+    pub fn next_number(&self) -> u32 {
+        self.sent.saturating_add(1)
+    }
+
+    /// Takes the next message in.
+    pub fn send(&mut self, packet: Packet) -> Result<(), AllocError>
+        ensures ok { OnOk result (self.new.waiting.items ≡ self.old.waiting.items ++ packet ∷ []) }
+        ensures err { OnErr result (self.new.waiting.items ≡ self.old.waiting.items) }
+    {
+        self.waiting.push_back(packet)?;
+        self.sent = self.next_number();
+        Ok(())
+    }
+
+    /// Puts messages into the lane, oldest first, until it is full or none is
+    /// left. Answers whether any was put.
+    pub fn put_into(&mut self, lane: &mut Lane) -> bool
+        ensures kept { lane.new.packets.items ++ self.new.waiting.items ≡ lane.old.packets.items ++ self.old.waiting.items }
+        ensures all { (self.new.waiting.items ≡ []) ⊎ (64 ≤ length lane.new.packets.items) }
+    {
+        let mut put = false;
+        while !lane.is_full() {
+            let Some(packet) = self.waiting.pop_front() else {
+                break;
+            };
+            lane.put(packet).unwrap();
+            put = true;
+        }
+        put
+    }
+}

@@ -1,0 +1,44 @@
+//! What a run was.
+use crate::machine::MachineFault;
+use event_logger::Event;
+use metered::Heap;
+
+/// A line that a rank printed, with the clock of the print.
+#[derive(Clone, Copy, Debug, PartialEq, Eq)]
+pub struct Line {
+    pub rank: u8,
+    pub clock: u32,
+    pub value: i64,
+}
+
+/// How a rank ended.
+#[derive(Clone, Copy, Debug, PartialEq, Eq)]
+pub enum End {
+    /// After the program's last statement.
+    Halted,
+    Faulted(MachineFault),
+    /// At a receive that nothing was there for.
+    Stalled,
+    /// A limit of the run or of the rank was reached.
+    Unfinished,
+}
+
+/// What is known of a run afterwards.
+#[derive(Debug, Drop)]
+pub struct Outcome {
+    /// The events of each rank.
+    pub rows: Vec<Vec<Event, Heap>, Heap>,
+    /// The lines of all ranks, those of one rank by their clocks.
+    pub lines: Vec<Line, Heap>,
+    /// How each rank ended.
+    pub ends: Vec<End, Heap>,
+}
+
+/// The outcome of a run, and what it took.
+#[derive(Debug, Drop)]
+pub struct Report {
+    pub outcome: Outcome,
+    pub crashes: u64,
+    /// Each rank's calls of the event logger.
+    pub calls: Vec<u64, Heap>,
+}

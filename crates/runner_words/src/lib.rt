@@ -1,0 +1,12 @@
+//! The words of the program `ftmpi`, read by `clap`.
+//!
+//! Nothing here opens a file: a `Job` names what is to be read and within
+//! which limits it runs.
+#![tactic(auto)]
+
+mod job;
+mod no_job;
+mod syntax;
+
+pub use job::{Job, RunJob, job_of};
+pub use no_job::NoJob;

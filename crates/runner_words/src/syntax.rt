@@ -1,0 +1,69 @@
+//! The forms of the words.
+use clap::{Arg, ArgAction, Command, value_parser};
+use std::alloc::{AllocError, Global};
+
+/// All words that the program knows.
+pub fn syntax<'a>(alloc: Global) -> Result<Command<'a>, AllocError> {
+    Command::new(alloc, "ftmpi")
+        .about("Runs one rank program on several ranks that exchange messages")
+        .subcommand_required(true)
+        .subcommand(run(alloc)?)
+}
+
+fn run<'a>(alloc: Global) -> Result<Command<'a>, AllocError> {
+    Command::new(alloc, "run")
+        .about(
+            "Runs a program and prints its lines, how each rank ended, and the calls of the logger",
+        )
+        .arg(ranks(alloc))?
+        .arg(script(alloc))?
+        .arg(limit(
+            alloc,
+            "idle",
+            "T",
+            "Idle turns after which a rank counts as stalled",
+        ))?
+        .arg(limit(
+            alloc,
+            "steps",
+            "S",
+            "Steps after which a rank is left unfinished",
+        ))?
+        .arg(program(alloc))
+}
+
+fn ranks<'a>(alloc: Global) -> Arg<'a> {
+    Arg::new(alloc, "ranks")
+        .long("ranks")
+        .value_name("N")
+        .help("The number of ranks, 1 to 8")
+        .required(true)
+        .action(ArgAction::Set)
+        .value_parser(value_parser!(u8).range(1..=8))
+}
+
+fn script<'a>(alloc: Global) -> Arg<'a> {
+    Arg::new(alloc, "script")
+        .long("script")
+        .value_name("FILE")
+        .help("The script of the run")
+        .action(ArgAction::Set)
+}
+
+fn limit<'a>(alloc: Global, id: &'a str, value: &'a str, help: &'a str) -> Arg<'a> {
+    Arg::new(alloc, id)
+        .long(id)
+        .value_name(value)
+        .help(help)
+        .action(ArgAction::Set)
+        .default_value("1000000")
+        .value_parser(value_parser!(u32).range(1..=1000000000))
+}
+
+fn program<'a>(alloc: Global) -> Arg<'a> {
+    Arg::new(alloc, "program")
+        .value_name("PROGRAM")
+        .help("The rank program")
+        .required(true)
+        .action(ArgAction::Set)
+}
