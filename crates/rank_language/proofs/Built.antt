@@ -42,6 +42,7 @@ pub record IsBuilt (fs : List Form) (p : ProgramValue) : Type 0 where
   pub stands : IsProgram p
   pub program : IsOfForms fs p
 
+-- what is found by these tables stands, and is the program of the statements
 built_with : (fs : List Form) (p : ProgramValue) → IsWhole fs → p.variables ≡ (after_all nothing_yet fs).variables → p.arrays ≡ (after_all nothing_yet fs).arrays → AreLines (after_all nothing_yet fs) 0 fs p.statements → IsBuilt fs p
 built_with fs p w v a r =
     let end = after_all nothing_yet fs in

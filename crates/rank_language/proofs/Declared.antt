@@ -9,21 +9,25 @@ use Rattle.rank_language.specs.Resolved.{place_in, variable_place, array_place, 
 use Rattle.rank_language.proofs.Names.{place_of_named, place_of_other}
 use Rattle.rank_language.proofs.Whole.{named_last}
 
+-- a mapped option has a value exactly where the option has
 mapped_some : {A B : Type 0} (f : A → B) (o : Option A) → is_some o ≡ is_some (option_map f o)
 mapped_some f None = refl
 mapped_some f (Some a) = refl
 
+-- two steps have a value exactly where both have
 two_some : {A B C : Type 0} (f : A → B → C) (o : Option A) (q : Option B) → (is_some o && is_some q) ≡ is_some (o >>= λ a. q >>= λ b. Some (f a b))
 two_some f None q = refl
 two_some f (Some a) None = refl
 two_some f (Some a) (Some b) = refl
 
+-- three steps have a value exactly where all have
 three_some : {A B C D : Type 0} (f : A → B → C → D) (o : Option A) (q : Option B) (r : Option C) → (is_some o && is_some q && is_some r) ≡ is_some (o >>= λ a. q >>= λ b. r >>= λ c. Some (f a b c))
 three_some f None q r = refl
 three_some f (Some a) None r = refl
 three_some f (Some a) (Some b) None = refl
 three_some f (Some a) (Some b) (Some c) = refl
 
+-- a name has a place as it stands in its table or not
 place_known : (names : List (List ℕ)) (x : List ℕ) (b : Bool) → is_name_in names x ≡ b → b ≡ is_some (place_in names x)
 place_known names x true h =
     let (p, e) = place_of_named names x h in
@@ -34,6 +38,7 @@ place_known names x false h = sym (ap is_some (place_of_other names x h))
 placed_some : (names : List (List ℕ)) (x : List ℕ) → is_name_in names x ≡ is_some (place_in names x)
 placed_some names x = place_known names x (is_name_in names x) refl
 
+-- an expression resolves exactly where its names are declared
 tree_some : (s : Scope) (e : Tree) → all_declared s e ≡ is_some (resolved s e)
 tree_some s (number n) = refl
 tree_some s (variable x) = placed_some s.variables x ∙ mapped_some _ (variable_place s x)
@@ -48,10 +53,12 @@ tree_some s (operation o a b) =
     ∙ ap (λ z. is_some (resolved s a) && z) (tree_some s b)
     ∙ two_some _ (resolved s a) (resolved s b)
 
+-- a choice resolves exactly where its names are declared
 choice_some : (s : Scope) (c : Choice) → choice_declared s c ≡ is_some (choice_resolved s c)
 choice_some s any = refl
 choice_some s (value e) = tree_some s e ∙ mapped_some _ (resolved s e)
 
+-- a disjunction with what is false
 or_false : (b : Bool) → (b || false) ≡ b
 or_false true = refl
 or_false false = refl
@@ -61,6 +68,7 @@ declared_variable : (s : Scope) (x : List ℕ) → s.arrays ≡ [] → is_declar
 declared_variable s x h =
     ap (λ as'. is_variable s x || is_name_in (map (λ a. a.0) as') x) h ∙ or_false (is_variable s x)
 
+-- a payload resolves exactly where its names are declared
 payload_some : (s : Scope) (p : Payload) → s.arrays ≡ [] → payload_declared s p ≡ is_some (payload_resolved s p)
 payload_some s (lone x) h =
     declared_variable s x h ∙ placed_some s.variables x ∙ mapped_some _ (variable_place s x)
@@ -76,6 +84,7 @@ same_tables s bs (negation e) = same_tables s bs e
 same_tables s bs (operation o a b) =
     ap (λ z. z && all_declared s b) (same_tables s bs a) ∙ ap (λ z. all_declared (record s { blocks = bs }) a && z) (same_tables s bs b)
 
+-- a statement resolves exactly where its names are declared
 form_some : (s : Scope) (f : Form) → s.arrays ≡ [] → declared_in s f ≡ is_some (form_resolved (after s f) f)
 form_some s (var_form x) h =
     sym (named_last s.variables x) ∙ placed_some (after s (var_form x)).variables x ∙ mapped_some _ (variable_place (after s (var_form x)) x)
@@ -95,6 +104,7 @@ form_some s (recv_form c t x) h =
     ∙ three_some _ (choice_resolved s c) (choice_resolved s t) (buffer_resolved s x)
 form_some s (print_form e) h = tree_some s e ∙ mapped_some _ (resolved s e)
 
+-- an option without a value, by the test that says whether it has one
 none_where : {A : Type 0} (o : Option A) (b : Bool) → b ≡ is_some o → (o ≡ None) ↔ (b ≡ false)
 none_where None b h = (λ _. h, λ _. refl)
 none_where (Some a) b h = (λ n. absurd (let k : Some a ≡ None = n in cc), λ n. absurd (let k : true ≡ false = sym h ∙ n in cc))

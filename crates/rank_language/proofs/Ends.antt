@@ -21,6 +21,7 @@ pub ends_more : (forms : List Form) (p q : ℕ) (f : Form) (ends new : List ℕ)
 ends_more forms p q f ends new e h g i j =
     j ∙ ap (ends_before p (kind_of (form_seen f))) (i ∙ ap (λ n. ends_from n (forms_seen (drop q forms))) (sym e)) ∙ ap (ends_from p) (sym (front forms p q f e h g))
 
+-- one more line in front of lines
 lines_front : (s : Scope) (n : ℕ) (f : _) (fs : _) (line : Line) (lines : List Line) → form_line s (ends_from (n + 1) fs) f ≡ Some line → lines_from s (n + 1) fs ≡ Some lines → lines_from s n (f ∷ fs) ≡ Some (line ∷ lines)
 lines_front s n f fs line lines h g = rw (h, g) refl
 

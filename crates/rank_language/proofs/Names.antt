@@ -26,12 +26,14 @@ same_names xs ys =
     (Decides-like _ (unpadded xs ys) (λ q. (ap padded q, ap length q)) (Decides-and _ _ (bytes_eq-Decides (padded xs) (padded ys)) (Decides-eqb (length xs) (length ys))))
     (bytes_eq-Decides xs ys)
 
+-- a name that stands nowhere is not found, wherever counting begins
 missing_from : (names : List (List ℕ)) (x : List ℕ) (i : ℕ) → is_name_in names x ≡ false → position_from (λ y. bytes_eq y x) i names ≡ None
 missing_from [] x i h = refl
 missing_from (y ∷ ys) x i h =
     elim (bytes_eq y x) as (λ b. (b || is_name_in ys x) ≡ false → cond b (Some i) (position_from (λ z. bytes_eq z x) (i + 1) ys) ≡ None)
     [ true ↦ λ q. cc | false ↦ λ q. missing_from ys x (i + 1) q ] h
 
+-- a name that stands somewhere is found, wherever counting begins
 found_from : (names : List (List ℕ)) (x : List ℕ) (i : ℕ) → is_name_in names x ≡ true → (p : ℕ) × (position_from (λ y. bytes_eq y x) i names ≡ Some p)
 found_from [] x i h = cc
 found_from (y ∷ ys) x i h =
@@ -55,6 +57,7 @@ unplaced names x h q =
     let (p, e) = place_of_named names x h in
     cc
 
+-- arrays are looked up by their names
 place_from-map : (arrays : List Array) (x : List ℕ) (i : ℕ) → position_from (λ a. bytes_eq a.name x) i arrays ≡ position_from (λ y. bytes_eq y x) i (map (λ a. a.name) arrays)
 place_from-map [] x i = refl
 place_from-map (a ∷ as') x i = ap (cond (bytes_eq a.name x) (Some i)) (place_from-map as' x (i + 1))

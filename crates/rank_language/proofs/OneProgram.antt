@@ -10,9 +10,11 @@ use Rattle.rank_lines.specs.Faults.{IsFaultOf}
 use Rattle.rank_lines.proofs.TextLaws.{one_program as one_list, program_or_fault as list_or_fault}
 use Rattle.rank_language.specs.Correct.{IsOfForms, IsProgramOf}
 
+-- options with equal values have one value
 same_some : {A : Type 0} (a b : A) → Some a ≡ Some b → a ≡ b
 same_some a b h = cc
 
+-- a program of these parts
 abbrev value_with : List Line → List (List ℕ) → List (List ℕ × ℕ) → ProgramValue
 value_with ls xs as' = record { statements = ls; variables = xs; arrays = as' }
 

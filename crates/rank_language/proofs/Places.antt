@@ -18,13 +18,16 @@ abbrev Stands : (ℕ → Block) → ℕ → List Block → Type 0
 Stands at n [] = Unit {0}
 Stands at n (b ∷ bs) = (at n ≡ b) × Stands at (n + 1) bs
 
+-- the same places from an equal position on
 moved : (at : ℕ → Block) (m n : ℕ) (bs : List Block) → m ≡ n → Stands at m bs → Stands at n bs
 moved at m n bs q h = subst (λ k. Stands at k bs) q h
 
+-- the first of the places
 stands_front : (at : ℕ → Block) (n : ℕ) (xs ys : List Block) → Stands at n (xs ++ ys) → Stands at n xs
 stands_front at n [] ys h = tt
 stands_front at n (x ∷ xs) ys h = (h.0, stands_front at (n + 1) xs ys h.1)
 
+-- the last of the places, behind the first
 stands_back : (at : ℕ → Block) (n : ℕ) (xs ys : List Block) → Stands at n (xs ++ ys) → Stands at (n + length xs) ys
 stands_back at n [] ys h = moved at n (n + 0) ys (omega arith) h
 stands_back at n (x ∷ xs) ys h = moved at (n + 1 + length xs) (n + length (x ∷ xs)) ys (omega arith) (stands_back at (n + 1) xs ys h.1)
@@ -54,6 +57,7 @@ record Laid (at : ℕ → Block) (n : ℕ) (b k : Block) : Type 0 where
   each : Stands at n (places b k)
   after : at (n + size b) ≡ k
 
+-- what remains where a list begins
 here : (at : ℕ → Block) (n : ℕ) (b k : Block) → Laid at n b k → at n ≡ b then k
 here at n done k h = ap at (let q : n ≡ n + 0 = omega arith in q) ∙ h.after
 here at n (plain s r) k h = h.each.0
@@ -66,15 +70,18 @@ record Parted (at : ℕ → Block) (n : ℕ) (b : Block) (j : Block) (bs : List 
   behind : at (n + size b) ≡ j
   more : Stands at (n + size b + 1) bs
 
+-- a list inside a statement stands in front of what is behind it
 parted : (at : ℕ → Block) (n : ℕ) (b j : Block) (bs : List Block) → Stands at n (places b j ++ j ∷ bs) → Parted at n b j bs
 parted at n b j bs h =
     let back = moved at (n + length (places b j)) (n + size b) (j ∷ bs) (ap (λ k. n + k) (length-places b j)) (stands_back at n (places b j) (j ∷ bs) h) in
     record { part = record { each = stands_front at n (places b j) (j ∷ bs) h; after = back.0 }; behind = back.0; more = back.1 }
 
+-- each line leads where the places say
 abbrev AllLead : (ℕ → Block) → ℕ → List Line → Type 0
 AllLead at n [] = Unit {0}
 AllLead at n (l ∷ ls) = Leads at n l × AllLead at (n + 1) ls
 
+-- lines behind lines lead where the places say
 lead_append : (at : ℕ → Block) (n m : ℕ) (xs ys : List Line) → n + length xs ≡ m → AllLead at n xs → AllLead at m ys → AllLead at n (xs ++ ys)
 lead_append at n m [] ys q h k = subst (λ z. AllLead at z ys) (let e : m ≡ n = omega arith in e) k
 lead_append at n m (x ∷ xs) ys q h k = (h.0, lead_append at (n + 1) m xs ys (omega arith) h.1 k)
@@ -109,6 +116,7 @@ lead at n (if_else e y o r) k h =
       ),
     )
 
+-- places stand where they are listed
 stands_self : (all before bs : List Block) → all ≡ before ++ bs → Stands (λ p. get_or all p done) (length before) bs
 stands_self all before [] q = tt
 stands_self all before (b ∷ bs) q = (
@@ -123,6 +131,7 @@ laid t = record {
   after = get_or_past (places t done) (0 + size t) done (omega (arith, length-places t done));
 }
 
+-- one of the lines leads where the places say
 lead_at : (at : ℕ → Block) (n : ℕ) (ls : List Line) (p : ℕ) (l : Line) → AllLead at n ls → slice_get ls p ≡ Some l → Leads at (n + p) l
 lead_at at n [] p l h q = cc
 lead_at at n (x ∷ ls) zero l h q =

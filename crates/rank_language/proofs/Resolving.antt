@@ -17,6 +17,7 @@ use Rattle.rank_language.specs.Ends.{kind_of, target_of, ends_before, ends_from,
 use Rattle.rank_language.proofs.Options.{mapped, gone_on}
 use Rattle.rank_language.proofs.Spread.{kind_of_step, ends_at, targeted}
 
+-- a place that is found lies in the table, wherever counting begins
 below_from : (names : List (List ℕ)) (x : List ℕ) (i p : ℕ) → position_from (λ y. bytes_eq y x) i names ≡ Some p → p < i + length names
 below_from [] x i p h = cc
 below_from (y ∷ ys) x i p h =
@@ -57,6 +58,7 @@ resolved_within s (text.operation o a b) t h =
     let r : operation o left right ≡ t = cc in
     subst (IsWithin _ _) r (resolved_within s a left g, resolved_within s b right i)
 
+-- each place in a resolved choice is in a table
 choice_within : (s : Scope) (c : line.Choice) (t : Choice) → choice_resolved s c ≡ Some t → IsChoiceWithin (length s.variables) (length s.arrays) t
 choice_within s line.any t h =
     let q : any ≡ t = cc in subst (IsChoiceWithin _ _) q tt
@@ -64,6 +66,7 @@ choice_within s (line.value e) t h =
     let (a, g, q) = mapped value (resolved s e) t h in
     subst (IsChoiceWithin _ _) q (resolved_within s e a g)
 
+-- each place in a resolved payload is in a table
 payload_within : (s : Scope) (p : line.Payload) (t : Payload) → payload_resolved s p ≡ Some t → IsPayloadWithin (length s.variables) (length s.arrays) t
 payload_within s (line.lone x) t h =
     let (p, e, q) = mapped (λ k. one (variable k)) (variable_place s x) t h in
@@ -72,6 +75,7 @@ payload_within s (line.one e) t h =
     let (a, g, q) = mapped one (resolved s e) t h in
     subst (IsPayloadWithin _ _) q (resolved_within s e a g)
 
+-- the place of a resolved buffer is in a table
 buffer_within : (s : Scope) (x : List ℕ) (t : Buffer) → buffer_resolved s x ≡ Some t → IsBufferWithin (length s.variables) (length s.arrays) t
 buffer_within s x t h =
     let (p, e, q) = mapped into_variable (variable_place s x) t h in
@@ -125,9 +129,11 @@ pub record AreLines (s : Scope) (n : ℕ) (fs : List Form) (ls : List Line) : Ty
   pub within : AllPlaced (length s.variables) (length s.arrays) ls
   pub count : length ls ≡ length fs
 
+-- one more resolved statement in front
 all_front : (s : Scope) (f : Form) (fs : List Form) (t : Step) (ts : List Step) → form_resolved s f ≡ Some t → all_resolved s fs ≡ Some ts → all_resolved s (f ∷ fs) ≡ Some (t ∷ ts)
 all_front s f fs t ts h g = rw (h, g) refl
 
+-- one more statement in front of statements with their targets
 are_more : (s : Scope) (n : ℕ) (f : Form) (fs : List Form) (t : Step) (ls : List Line) → form_resolved s f ≡ Some t → AreLines s (n + 1) fs ls → AreLines s n (f ∷ fs) (line_to (target_of (kind_of f) (ends_from (n + 1) fs)) t ∷ ls)
 are_more s n f fs t ls h r =
     let b = becomes s f t h in

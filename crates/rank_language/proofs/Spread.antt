@@ -56,6 +56,7 @@ Fit (in_if ∷ bs) ((true, y) ∷ ps) = Fit (in_else ∷ bs) ps
 Fit (in_else ∷ bs) ((false, y) ∷ ps) = Fit bs ps
 Fit (in_else ∷ bs) ((true, y) ∷ ps) = ⊥
 
+-- more in front of the innermost list changes no block
 fit_fronted : (f : Block → Block) (bs : List Opened) (ps : List Part) → Fit bs ps → Fit bs (fronted f ps)
 fit_fronted f [] [] h = h
 fit_fronted f [] ((false, y) ∷ []) h = h
@@ -67,6 +68,7 @@ fit_fronted f (in_if ∷ bs) ((true, y) ∷ ps) h = h
 fit_fronted f (in_else ∷ bs) ((false, y) ∷ ps) h = h
 fit_fronted f (in_else ∷ bs) ((true, y) ∷ ps) h = h
 
+-- an `if` takes the lists of its block
 fit_branched : (e : Placed) (bs : List Opened) (ps : List Part) → Fit (in_if ∷ bs) ps → Fit bs (branched e ps)
 fit_branched e bs [] h = absurd h
 fit_branched e bs ((false, y) ∷ ps) h = fit_fronted (if_only e y) bs ps h
@@ -121,6 +123,7 @@ behind b ps m = closed b (nearest (tops m ps)) ps (spread m ps)
 abbrev Stand : ℕ → List Step → List Part → Type 0
 Stand n ss ps = (targeted n ss ≡ spread n ps) × (ends_at n ss ≡ tops n ps)
 
+-- a plain statement in front
 stand_plain : (n : ℕ) (s : Simple) (bs : List Opened) (ss : List Step) (ps : List Part) → Fit bs ps → Stand (n + 1) ss ps → Stand n (does s ∷ ss) (fronted (plain s) ps)
 stand_plain n s bs ss [] f h = absurd (elim bs as (λ z. Fit z [] → ⊥) [ [] ↦ λ x. x | b ∷ r ↦ λ x. x ] f)
 stand_plain n s bs ss (p ∷ ps) f h =
@@ -129,6 +132,7 @@ stand_plain n s bs ss (p ∷ ps) f h =
       h.1 ∙ ap (λ m. topped p.0 m ps (tops m ps)) q,
     )
 
+-- an `else` in front
 stand_else : (n : ℕ) (bs : List Opened) (ss : List Step) (ps : List Part) → Fit bs ps → Stand (n + 1) ss ps → Stand n (otherwise ∷ ss) ((true, done) ∷ ps)
 stand_else n bs ss [] f h = absurd (elim bs as (λ z. Fit z [] → ⊥) [ [] ↦ λ x. x | b ∷ r ↦ λ x. x ] f)
 stand_else n bs ss (p ∷ ps) f h =
@@ -139,6 +143,7 @@ stand_else n bs ss (p ∷ ps) f h =
       ap (λ ends. (n + 1) ∷ farther ends) h.1 ∙ ap (λ m. m ∷ farther (tops m (p ∷ ps))) q,
     )
 
+-- an `end` in front
 stand_end : (n : ℕ) (bs : List Opened) (ss : List Step) (ps : List Part) → Fit bs ps → Stand (n + 1) ss ps → Stand n (closes ∷ ss) ((false, done) ∷ ps)
 stand_end n bs ss [] f h = absurd (elim bs as (λ z. Fit z [] → ⊥) [ [] ↦ λ x. x | b ∷ r ↦ λ x. x ] f)
 stand_end n bs ss (p ∷ ps) f h =
@@ -166,16 +171,19 @@ lines_else e n y o p ps =
     ∙ ap (λ ls. if_line e m ∷ (lines_at (n + 1) y ++ else_line q ∷ ls)) (sym (append_assoc (lines_at m o) (end_line ∷ lines_at q p.1) (behind p.0 ps k)))
     ∙ ap (λ ls. if_line e m ∷ ls) (sym (append_assoc (lines_at (n + 1) y) (else_line q ∷ (lines_at m o ++ end_line ∷ lines_at q p.1)) (behind p.0 ps k)))
 
+-- the ends in front of an `if` without `else`
 tops_only : (e : Placed) (n : ℕ) (y : Block) (p : Part) (ps : List Part) → tops (n + 1 + size y + 1) (p ∷ ps) ≡ tops n ((p.0, if_only e y p.1) ∷ ps)
 tops_only e n y p ps =
     let q : n + 1 + size y + 1 + size p.1 + 1 ≡ n + (1 + (size y + (1 + size p.1))) + 1 = omega arith in
     ap (λ m. topped p.0 m ps (tops m ps)) q
 
+-- the ends in front of an `if` with `else`
 tops_else : (e : Placed) (n : ℕ) (y o : Block) (p : Part) (ps : List Part) → tops (n + 1 + size y + 1 + size o + 1) (p ∷ ps) ≡ tops n ((p.0, if_else e y o p.1) ∷ ps)
 tops_else e n y o p ps =
     let q : n + 1 + size y + 1 + size o + 1 + size p.1 + 1 ≡ n + (1 + (size y + (1 + (size o + (1 + size p.1))))) + 1 = omega arith in
     ap (λ m. topped p.0 m ps (tops m ps)) q
 
+-- there is a list
 fit_some : (bs : List Opened) → Fit bs [] → ⊥
 fit_some [] h = h
 fit_some (b ∷ bs) h = h
@@ -190,6 +198,7 @@ spread_if e n bs ((true, y) ∷ ((false, o) ∷ [])) f = absurd (fit_some bs f)
 spread_if e n bs ((true, y) ∷ ((false, o) ∷ (p ∷ ps))) f = (lines_else e n y o p ps, tops_else e n y o p ps)
 spread_if e n bs ((true, y) ∷ ((true, o) ∷ ps)) f = absurd f
 
+-- an `if` in front
 stand_if : (n : ℕ) (e : Placed) (bs : List Opened) (ss : List Step) (ps : List Part) → Fit (in_if ∷ bs) ps → Stand (n + 1) ss ps → Stand n (tests e ∷ ss) (branched e ps)
 stand_if n e bs ss ps f h =
     let s = spread_if e n bs ps f in (
@@ -209,6 +218,7 @@ stand n bs (otherwise ∷ ss) h =
 stand n bs (closes ∷ ss) h =
     stand_end n (outer bs) ss (parts ss) (fits (outer bs) ss h.1) (stand (n + 1) (outer bs) ss h.1)
 
+-- a whole program is one list
 whole : (ps : List Part) → Fit [] ps → spread 0 ps ≡ lines_at 0 (innermost ps)
 whole [] f = absurd f
 whole ((false, y) ∷ []) f = append-nil (lines_at 0 y)

@@ -18,6 +18,7 @@ statement_count p h = ap length h.shaped ∙ length-lines_at 0 (tree_of p)
 line_there : (p : ProgramValue) (k : ℕ) (l : Line) → IsProgram p → Some l ≡ slice_get p.statements k → slice_get (lines_at 0 (tree_of p)) k ≡ Some l
 line_there p k l h q = ap (λ ls. slice_get ls k) (sym h.shaped) ∙ sym q
 
+-- the places in one of the lines are in the tables
 placed_at : (v a : ℕ) (ls : List Line) (k : ℕ) (l : Line) → AllPlaced v a ls → Some l ≡ slice_get ls k → IsPlaced v a l
 placed_at v a [] k l h q = cc
 placed_at v a (x ∷ ls) zero l h q =
@@ -49,6 +50,7 @@ line_found ss k (Some x) Q e m =
     let q : slice_get ss k ≡ Some x.now = slice_get_read ss (length ss) k x.now refl m.0 e in
     sym (slice_get-map line_of ss k ∙ ap (option_map line_of) q)
 
+-- where no line stands the lines have ended
 missing_past : (ls : List Line) (k : ℕ) → None ≡ slice_get ls k → length ls ≤ k
 missing_past [] k q = omega arith
 missing_past (l ∷ ls) zero q = cc

@@ -8,6 +8,7 @@ abbrev Reach : ℕ → ℕ → List Line → Type 0
 Reach m n [] = Unit {0}
 Reach m n (l ∷ ls) = ((truth : Bool) → next_position l n truth ≤ m) × Reach m (n + 1) ls
 
+-- lines behind lines lead so far at the most
 reach_append : (m n k : ℕ) (xs ys : List Line) → n + length xs ≡ k → Reach m n xs → Reach m k ys → Reach m n (xs ++ ys)
 reach_append m n k [] ys q h g = subst (λ z. Reach m z ys) (let e : k ≡ n = omega arith in e) g
 reach_append m n k (x ∷ xs) ys q h g = (h.0, reach_append m (n + 1) k xs ys (omega arith) h.1 g)
@@ -17,6 +18,7 @@ if_reach : (e : _) (q p m : ℕ) → p + 1 ≤ m → q ≤ m → (truth : Bool) 
 if_reach e q p m h k true = h
 if_reach e q p m h k false = k
 
+-- the lines of a list lead behind its last at the most
 reach : (m n : ℕ) (b : Block) → n + size b ≤ m → Reach m n (lines_at n b)
 reach m n done h = tt
 reach m n (plain s r) h = (λ truth. omega arith, reach m (n + 1) r (omega arith))
@@ -35,6 +37,7 @@ reach m n (if_else e y o r) h =
       ),
     )
 
+-- one of the lines leads so far at the most
 reach_at : (m n : ℕ) (ls : List Line) (p : ℕ) (l : Line) → Reach m n ls → slice_get ls p ≡ Some l → (truth : Bool) → next_position l (n + p) truth ≤ m
 reach_at m n [] p l h q truth = cc
 reach_at m n (x ∷ ls) zero l h q truth =

@@ -19,13 +19,16 @@ record Grows (s t : Scope) : Type 0 where
   variables : (x : List ℕ) → is_variable s x ≡ true → is_variable t x ≡ true
   arrays : (x : List ℕ) → is_array s x ≡ true → is_array t x ≡ true
 
+-- growth upon growth
 grows_twice : (r s t : Scope) → Grows r s → Grows s t → Grows r t
 grows_twice r s t g h = record { variables = λ x k. h.variables x (g.variables x k); arrays = λ x k. h.arrays x (g.arrays x k) }
 
+-- a declared name stays declared
 declared_grows : (s t : Scope) → Grows s t → (x : List ℕ) → is_declared s x ≡ true → is_declared t x ≡ true
 declared_grows s t g x h =
     either (is_variable s x) (is_array s x) (is_variable t x) (is_array t x) (g.variables x) (g.arrays x) h
 
+-- an expression's names stay declared
 tree_grows : (s t : Scope) → Grows s t → (e : Tree) → all_declared s e ≡ true → all_declared t e ≡ true
 tree_grows s t g (number n) h = refl
 tree_grows s t g (variable x) h = g.variables x h
@@ -38,14 +41,17 @@ tree_grows s t g (operation o d e) h =
     let (a, b) = both (all_declared s d) (all_declared s e) h in
     joined (all_declared t d) (all_declared t e) (tree_grows s t g d a) (tree_grows s t g e b)
 
+-- a choice's names stay declared
 choice_grows : (s t : Scope) → Grows s t → (c : Choice) → choice_declared s c ≡ true → choice_declared t c ≡ true
 choice_grows s t g any h = refl
 choice_grows s t g (value e) h = tree_grows s t g e h
 
+-- a payload's names stay declared
 payload_grows : (s t : Scope) → Grows s t → (p : Payload) → payload_declared s p ≡ true → payload_declared t p ≡ true
 payload_grows s t g (lone x) h = declared_grows s t g x h
 payload_grows s t g (one e) h = tree_grows s t g e h
 
+-- a statement's names stay declared
 form_grows : (s t : Scope) → Grows s t → (f : Form) → declared_in s f ≡ true → declared_in t f ≡ true
 form_grows s t g (var_form x) h = refl
 form_grows s t g (if_form e) h = tree_grows s t g e h
@@ -61,6 +67,7 @@ form_grows s t g (recv_form r e x) h =
     joined (choice_declared t r && choice_declared t e) (is_declared t x) (joined (choice_declared t r) (choice_declared t e) (choice_grows s t g r a) (choice_grows s t g e b)) (declared_grows s t g x c)
 form_grows s t g (print_form e) h = tree_grows s t g e h
 
+-- a name that stands in a table stands in a longer one
 named_longer : (xs ys : List (List ℕ)) (x : List ℕ) → is_name_in xs x ≡ true → is_name_in (xs ++ ys) x ≡ true
 named_longer [] ys x h = cc
 named_longer (z ∷ zs) ys x h =
@@ -82,6 +89,7 @@ after_grows s (send_form d t p) = record { variables = λ y h. h; arrays = λ y 
 after_grows s (recv_form c t x) = record { variables = λ y h. h; arrays = λ y h. h }
 after_grows s (print_form e) = record { variables = λ y h. h; arrays = λ y h. h }
 
+-- the tables behind statements have what those in front have
 all_grows : (s : Scope) (fs : List Form) → Grows s (after_all s fs)
 all_grows s [] = record { variables = λ y h. h; arrays = λ y h. h }
 all_grows s (f ∷ fs) = grows_twice s (after s f) (after_all (after s f) fs) (after_grows s f) (all_grows (after s f) fs)
@@ -96,6 +104,7 @@ declares_after s (send_form d t p) = refl
 declares_after s (recv_form c t x) = refl
 declares_after s (print_form e) = refl
 
+-- what is in the tables stays there
 declares_grows : (s t : Scope) → Grows s t → (f : Form) → declares_in s f ≡ true → declares_in t f ≡ true
 declares_grows s t g (var_form x) h = g.variables x h
 declares_grows s t g (if_form e) h = refl
@@ -105,6 +114,7 @@ declares_grows s t g (send_form d e p) h = refl
 declares_grows s t g (recv_form c e x) h = refl
 declares_grows s t g (print_form e) h = refl
 
+-- statements that may stand are resolvable by the tables behind them
 resolvable_from : (s : Scope) (fs : List Form) → AllMayStand s fs → AllResolvable (after_all s fs) fs
 resolvable_from s [] h = tt
 resolvable_from s (f ∷ fs) h =
@@ -122,6 +132,7 @@ resolvable_from s (f ∷ fs) h =
 pub resolvable : (fs : List Form) → IsWhole fs → AllResolvable (after_all nothing_yet fs) fs
 resolvable fs h = resolvable_from nothing_yet fs h.standing
 
+-- no statement declares an array
 after_arrays : (s : Scope) (f : Form) → (after s f).arrays ≡ s.arrays
 after_arrays s (var_form x) = refl
 after_arrays s (if_form e) = refl
@@ -131,6 +142,7 @@ after_arrays s (send_form d t p) = refl
 after_arrays s (recv_form c t x) = refl
 after_arrays s (print_form e) = refl
 
+-- no statements declare an array
 arrays_from : (s : Scope) (fs : List Form) → (after_all s fs).arrays ≡ s.arrays
 arrays_from s [] = refl
 arrays_from s (f ∷ fs) = arrays_from (after s f) fs ∙ after_arrays s f
@@ -139,6 +151,7 @@ arrays_from s (f ∷ fs) = arrays_from (after s f) fs ∙ after_arrays s f
 pub arrayless : (fs : List Form) → (after_all nothing_yet fs).arrays ≡ []
 arrayless fs = arrays_from nothing_yet fs
 
+-- which blocks are open behind a statement, by its kind
 blocks_behind : (s : Scope) (f : Form) → (after s f).blocks ≡ blocks_after (kind_of f) s.blocks
 blocks_behind s (var_form x) = refl
 blocks_behind s (if_form e) = refl
@@ -148,6 +161,7 @@ blocks_behind s (send_form d t p) = refl
 blocks_behind s (recv_form c t x) = refl
 blocks_behind s (print_form e) = refl
 
+-- a statement that may stand finds its block
 not_stray : (s : Scope) (f : Form) → is_stray s f ≡ false → strays (kind_of f) s.blocks ≡ false
 not_stray s (var_form x) h = refl
 not_stray s (if_form e) h = refl
@@ -157,6 +171,7 @@ not_stray s (send_form d t p) h = refl
 not_stray s (recv_form c t x) h = refl
 not_stray s (print_form e) h = refl
 
+-- statements that may stand are balanced
 balanced_from : (s t : Scope) (fs : List Form) (ss : List Step) → AllMayStand s fs → (after_all s fs).blocks ≡ [] → all_resolved t fs ≡ Some ss → Balanced s.blocks ss
 balanced_from s t [] ss h e r =
     let q : [] ≡ ss = cc in

@@ -22,14 +22,17 @@ words (reading r) ws = inr (inr (inr (inl r))) ∷ ws
 words (negation e) ws = words e (inr (inr (inr (inr (inl tt)))) ∷ ws)
 words (operation o a b) ws = words a (words b (inr (inr (inr (inr (inr o)))) ∷ ws))
 
+-- an index by the last expression
 abbrev indexed : ℕ → List Placed → List Placed
 indexed p [] = []
 indexed p (e ∷ es) = item p e ∷ es
 
+-- the last expression negated
 abbrev negated : List Placed → List Placed
 negated [] = []
 negated (e ∷ es) = negation e ∷ es
 
+-- an operation on the last two expressions
 abbrev operated : Operator → List Placed → List Placed
 operated o (b ∷ (a ∷ es)) = operation o a b ∷ es
 operated o _ = []
@@ -48,6 +51,7 @@ abbrev read : List Word → List Placed → List Placed
 read [] es = es
 read (w ∷ ws) es = read ws (built w es)
 
+-- the expression read last
 abbrev last_read : List Placed → Placed
 last_read [] = number (pos 0)
 last_read (e ∷ es) = e
