@@ -1,3 +1,2 @@
-pub mod Faults
-pub mod Selector
+pub mod Arrivals
 pub mod Script

@@ -2,7 +2,7 @@
 ghost use Rattle.std.specs.Prelude.{◌≡◌};
 ghost use Rattle.std.specs.VecDeque.{deque_capacity};
 
-use crate::packet::Packet;
+use matching::Packet;
 use metered::Heap;
 use std::alloc::AllocError;
 use std::collections::VecDeque;

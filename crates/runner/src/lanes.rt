@@ -1,6 +1,5 @@
 //! The lanes between all ranks.
 use crate::lane::Lane;
-use crate::packet::Packet;
 use metered::Heap;
 use std::alloc::AllocError;
 

@@ -1,11 +1,14 @@
 //! What a rank sent to one destination.
-ghost use Rattle.std.specs.Prelude.{◌≡◌, ◌<◌, ◌≤◌, ◌⊎◌, ◌↔◌, [], ◌∷◌, ◌++◌, length, IsTrue, OnOk, OnErr};
+ghost use Rattle.std.specs.Prelude.{◌≡◌, ◌+◌, ◌<◌, ◌≤◌, ◌⊎◌, ◌↔◌, [], ◌∷◌, ◌++◌, length, IsTrue, IfSome, OnOk, OnErr};
 
 use crate::lane::Lane;
-use crate::packet::Packet;
+use matching::Packet;
 use metered::Heap;
 use std::alloc::AllocError;
 use std::collections::VecDeque;
+
+/// The greatest number of a message.
+const GREATEST_NUMBER: u32 = 268435455;
 
 /// The messages from a rank to one destination: how many there were, and those
 /// that haven't yet been put into the lane.
@@ -13,6 +16,7 @@ use std::collections::VecDeque;
 pub struct Outgoing {
     sent: u32,
     waiting: VecDeque<Packet, Heap>,
+    ghost counted: { sent ≤ 268435455 },
 }
 
 impl Outgoing {
@@ -28,18 +32,27 @@ impl Outgoing {
         self.waiting.is_empty()
     }
 
-    /// The number of the next message. It never passes the sender's clock.
-    pub fn next_number(&self) -> u32 {
-        self.sent.saturating_add(1)
+    /// The number of the next message, unless all numbers are spent. They never
+    /// pass the sender's clock, which is spent first.
+    pub fn next_number(&self) -> Option<u32>
+        ensures next { IfSome result (λ number. number ≡ self.now.sent + 1) }
+        ensures within { IfSome result (λ number. number ≤ 268435455) }
+    {
+        if self.sent >= GREATEST_NUMBER {
+            return None;
+        }
+        Some(self.sent + 1)
     }
 
     /// Takes the next message in.
     pub fn send(&mut self, packet: Packet) -> Result<(), AllocError>
         ensures ok { OnOk result (self.new.waiting.items ≡ self.old.waiting.items ++ packet ∷ []) }
+        ensures counted { OnOk result (self.new.sent ≡ packet.number) }
         ensures err { OnErr result (self.new.waiting.items ≡ self.old.waiting.items) }
     {
+        let number = packet.number;
         self.waiting.push_back(packet)?;
-        self.sent = self.next_number();
+        self.sent = number;
         Ok(())
     }
 

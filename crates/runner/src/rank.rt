@@ -2,28 +2,30 @@
 //!
 //! A turn takes what the lanes bring, makes one step, stores what the step
 //! left to be stored, and puts what the rank has sent into the lanes.
-ghost use Rattle.std.specs.Prelude.{◌≡◌, ◌<◌, ◌≤◌, ◌++◌, length, OnOk};
+ghost use Rattle.std.specs.Prelude.{◌≡◌, ◌<◌, ◌≤◌, length, OnOk};
+ghost use Rattle.runner.specs.Arrivals.{arrived, all_arrived};
 
 mod act;
 
 use crate::hold::Hold;
-use crate::inbox::Inbox;
 use crate::lane::{CAPACITY, Lane};
 use crate::lanes::Lanes;
-use crate::machine::{Machine, Want};
 use crate::outgoing::Outgoing;
 use crate::report::{End, Line};
 use crate::running::RunLimits;
 use crate::turn::Turn;
 use event_logger::{Event, LogFault, LoggerState};
+use matching::{Inbox, Packet};
 use metered::Heap;
 use rank_language::Program;
+use rank_machine::Machine;
 use std::alloc::AllocError;
 
 /// A rank with all that it holds.
 #[derive(Drop)]
 pub struct Rank<'p> {
     number: u8,
+    size: u8,
     machine: Machine<'p>,
     clock: u32,
     inbox: Inbox,
@@ -38,25 +40,26 @@ pub struct Rank<'p> {
     // `Stalled` is a mark that a frame takes back, the others stay.
     end: Option<End>,
     ghost clocked: { clock ≤ 268435455 },
+    ghost sized: { length inbox.accepted ≡ size },
 }
 
 impl<'p> Rank<'p> {
+    #[tactic(auto, using(crate::proofs::Rows::a_count_each))]
     pub fn new(
         alloc: Heap,
         program: &'p Program,
         number: u8,
         size: u8,
-    ) -> Result<Rank<'p>, AllocError> {
-        let mut outgoing = Vec::new(alloc);
-        for _ in 0..size {
-            outgoing.push(Outgoing::new(alloc))?;
-        }
+    ) -> Result<Rank<'p>, AllocError>
+        requires { number < size }
+    {
         Ok(Rank {
             number,
+            size,
             machine: Machine::new(alloc, program, number, size)?,
             clock: 0,
-            inbox: Inbox::new(alloc),
-            outgoing,
+            inbox: Inbox::new(alloc, usize::from(size))?,
+            outgoing: nothing_sent(alloc, size)?,
             unstored: None,
             events: 0,
             steps: 0,
@@ -102,7 +105,7 @@ impl<'p> Rank<'p> {
         let mut took = false;
         if let Some(lanes) = lanes.into_rank(self.number) {
             for lane in lanes.iter_mut() {
-                took = take_from(lane, &mut self.inbox)? || took;
+                took = take_from(lane, &mut self.inbox, self.size)? || took;
             }
         }
         if took && self.end == Some(End::Stalled) {
@@ -177,17 +180,44 @@ impl<'p> Rank<'p> {
     }
 }
 
+// Nothing has been sent to any rank.
+fn nothing_sent(alloc: Heap, size: u8) -> Result<Vec<Outgoing, Heap>, AllocError> {
+    let mut outgoing = Vec::new(alloc);
+    for _ in 0..size {
+        outgoing.push(Outgoing::new(alloc))?;
+    }
+    Ok(outgoing)
+}
+
 // At most as many packets as a lane holds go from the lane into the inbox, in their order.
-fn take_from(lane: &mut Lane, inbox: &mut Inbox) -> Result<bool, AllocError>
-    ensures { OnOk result (inbox.new.packets.items ++ lane.new.packets.items ≡ inbox.old.packets.items ++ lane.old.packets.items) }
+fn take_from(lane: &mut Lane, inbox: &mut Inbox, size: u8) -> Result<bool, AllocError>
+    requires { length inbox.old.accepted ≡ size }
+    // Of what was in the lane, what was taken has arrived, and the rest is still there.
+    ensures arrived { OnOk result (all_arrived inbox.new lane.new.packets.items ≡ all_arrived inbox.old lane.old.packets.items) }
+    ensures size { length inbox.new.accepted ≡ size }
 {
     let mut took = false;
     for _ in 0..CAPACITY {
         let Some(packet) = lane.take() else {
             break;
         };
-        inbox.accept(packet)?;
+        arrive(inbox, packet, size)?;
         took = true;
     }
     Ok(took)
+}
+
+// A packet whose source is no rank comes from nowhere, and is dropped.
+fn arrive(inbox: &mut Inbox, packet: Packet, size: u8) -> Result<(), AllocError>
+    requires { length inbox.old.accepted ≡ size }
+    ensures arrived { OnOk result (inbox.new ≡ arrived inbox.old packet) }
+    ensures size { length inbox.new.accepted ≡ size }
+{
+    if packet.source >= size {
+        return Ok(());
+    }
+    match inbox.accept(packet) {
+        Ok(_) => Ok(()),
+        Err(_) => Err(AllocError),
+    }
 }

@@ -1,7 +1,7 @@
 //! What a run was.
-use crate::machine::MachineFault;
 use event_logger::Event;
 use metered::Heap;
+use rank_machine::MachineFault;
 
 /// A line that a rank printed, with the clock of the print.
 #[derive(Clone, Copy, Debug, PartialEq, Eq)]

@@ -1,12 +1,15 @@
 //! One step of a rank.
-use crate::machine::Want;
-use crate::packet::Packet;
+ghost use Rattle.std.specs.Prelude.{◌≡◌, ◌≤◌, IfSome};
+ghost use Rattle.rank_machine.specs.Machine.{asks};
+ghost use Rattle.rank_machine.specs.Wants.{IsLegal};
+
 use crate::rank::Rank;
 use crate::report::{End, Line};
-use crate::selector::Selector;
 use crate::turn::Turn;
 use event_logger::{Event, Kind};
+use matching::{Context, Packet, Selector};
 use metered::Heap;
+use rank_machine::Want;
 use std::alloc::AllocError;
 
 /// The greatest clock of a rank.
@@ -22,21 +25,22 @@ impl Rank<'_> {
         alloc: Heap,
         want: Want,
         console: &mut Vec<Line, Heap>,
-    ) -> Result<Turn, AllocError> {
+    ) -> Result<Turn, AllocError>
+        requires stands { asks self.old.machine ≡ want }
+        requires legal { IsLegal self.old.machine.store.size want }
+    {
         match want {
             Want::Internal => {
                 self.machine.internal();
                 Ok(Turn::Moved)
             }
-            Want::Send {
-                destination,
-                context,
-                tag,
-            } => self.send(alloc, destination, context, tag),
+            Want::Send { dest, context, tag } => self.send(alloc, dest, context, tag),
             Want::Receive(selector) => Ok(self.receive(&selector)),
             Want::Print(value) => self.print(value, console),
             Want::Halted => Ok(self.ends(End::Halted)),
             Want::Faulted(fault) => Ok(self.ends(End::Faulted(fault))),
+            // No statement probes yet.
+            Want::Probe(_) | Want::TryProbe(_) => Ok(self.ends(End::Unfinished)),
         }
     }
 
@@ -48,32 +52,50 @@ impl Rank<'_> {
     fn send(
         &mut self,
         alloc: Heap,
-        destination: u8,
-        context: u8,
+        dest: u8,
+        context: Context,
         tag: u16,
-    ) -> Result<Turn, AllocError> {
+    ) -> Result<Turn, AllocError>
+        requires stands { asks self.old.machine ≡ Want.Send dest context tag }
+        requires legal { IsLegal self.old.machine.store.size (Want.Send dest context tag) }
+    {
         if self.clock >= GREATEST_CLOCK {
             return Ok(self.ends(End::Unfinished));
         }
+        let Some(number) = self.next_number(dest) else {
+            return Ok(self.ends(End::Unfinished));
+        };
         let payload = self.machine.payload(alloc)?;
         let clock = self.clock + 1;
-        if let Some(outgoing) = self.outgoing.get_mut(usize::from(destination)) {
-            outgoing.send(Packet {
-                source: self.number,
-                clock,
-                number: outgoing.next_number(),
-                context,
-                tag,
-                payload,
-            })?;
+        let packet = Packet {
+            source: self.number,
+            clock,
+            number,
+            context,
+            tag,
+            payload,
+        };
+        if let Some(outgoing) = self.outgoing.get_mut(usize::from(dest)) {
+            outgoing.send(packet)?;
         }
         self.clock = clock;
         self.machine.did_send();
         Ok(Turn::Moved)
     }
 
+    // The number of the next message to a rank; none where all are spent.
+    fn next_number(&self, dest: u8) -> Option<u32>
+        ensures least { IfSome result (λ number. 1 ≤ number) }
+        ensures greatest { IfSome result (λ number. number ≤ 268435455) }
+    {
+        let outgoing = self.outgoing.get(usize::from(dest))?;
+        outgoing.next_number()
+    }
+
     // Whether something is there is asked before the clock and the row.
-    fn receive(&mut self, selector: &Selector) -> Turn {
+    fn receive(&mut self, selector: &Selector) -> Turn
+        requires { asks self.old.machine ≡ Want.Receive selector.now }
+    {
         let Some(index) = self.inbox.find(selector) else {
             return Turn::Blocked;
         };
@@ -88,7 +110,9 @@ impl Rank<'_> {
         Turn::Moved
     }
 
-    fn print(&mut self, value: i64, console: &mut Vec<Line, Heap>) -> Result<Turn, AllocError> {
+    fn print(&mut self, value: i64, console: &mut Vec<Line, Heap>) -> Result<Turn, AllocError>
+        requires { asks self.old.machine ≡ Want.Print value }
+    {
         if self.clock >= GREATEST_CLOCK {
             return Ok(self.ends(End::Unfinished));
         }
