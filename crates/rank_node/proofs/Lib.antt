@@ -1,0 +1,2 @@
+pub mod NoProbe
+pub mod Found

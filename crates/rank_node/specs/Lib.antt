@@ -1,0 +1,7 @@
+pub mod Fault
+pub mod Stored
+pub mod Node
+pub mod Wanted
+pub mod Steps
+pub mod Storing
+pub mod Frames

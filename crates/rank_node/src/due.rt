@@ -1,0 +1,10 @@
+//! What a rank owes another beside packets.
+
+use crate::frame::{AskFrom, KeptUpto};
+
+/// The frames that are due to a rank.
+#[derive(Clone, Copy, Debug)]
+pub struct Due {
+    pub ask: Option<AskFrom>,
+    pub kept: Option<KeptUpto>,
+}

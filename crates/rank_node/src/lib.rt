@@ -1,0 +1,23 @@
+//! A rank at work: its machine behind the gate that lets nothing pass before
+//! the choices it rests on are stored and acknowledged.
+#![tactic(auto)]
+
+mod due;
+mod fault;
+mod frame;
+mod frames;
+mod running;
+mod screen;
+mod stable;
+mod stepping;
+mod storing;
+#[cfg(test)]
+mod tests;
+mod turn;
+
+pub use fault::NodeFault;
+pub use frame::{AskFrom, Frame, KeptUpto};
+pub use running::Running;
+pub use screen::{Screen, Shown};
+pub use stable::Stable;
+pub use turn::{Arrived, Turn};

@@ -1,0 +1,69 @@
+//! What of a rank outlives a crash.
+ghost use Rattle.std.specs.Prelude.{◌≡◌, ◌<◌, ◌≤◌};
+
+use checkpoint::Shelf;
+use std::marker::Model;
+
+/// A rank's desk at the logger, its shelf, and which of how many ranks it is.
+///
+/// There are at most 16 ranks. The value must be spent.
+pub struct Stable<S: Shelf, D> {
+    desk: D,
+    shelf: S,
+    rank: u8,
+    size: u8,
+}
+
+impl<S: Shelf, D> Model for Stable<S, D> {
+    ghost use Rattle.std.specs.Prelude.{◌<◌, ◌≤◌};
+    ghost use Rattle.rank_node.specs.Stored.{Stored};
+
+    ghost Value = { Stored S D };
+
+    ghost view = { λ s. record { desk = s.desk; shelf = s.shelf; rank = s.rank; size = s.size } };
+
+    ghost invariant = { λ s. (s.rank < s.size) × (s.size ≤ 16) };
+}
+
+impl<S: Shelf, D> Stable<S, D> {
+    /// What outlives the crashes of this rank.
+    pub fn new(desk: D, shelf: S, rank: u8, size: u8) -> Self
+        requires rank { rank < size }
+        requires size { size ≤ 16 }
+        ensures { result ≡ record { desk = desk; shelf = shelf; rank = rank; size = size } }
+    {
+        Stable {
+            desk,
+            shelf,
+            rank,
+            size,
+        }
+    }
+
+    /// Ends the rank, and gives its desk and its shelf.
+    pub fn parts(self) -> (D, S)
+        ensures { result ≡ (self.desk, self.shelf) }
+    {
+        let Stable {
+            desk,
+            shelf,
+            rank: _,
+            size: _,
+        } = self;
+        (desk, shelf)
+    }
+
+    pub(crate) fn rank(&self) -> u8
+        ensures value { result ≡ self.now.rank }
+        ensures below { result < self.now.size }
+    {
+        self.rank
+    }
+
+    pub(crate) fn size(&self) -> u8
+        ensures value { result ≡ self.now.size }
+        ensures within { result ≤ 16 }
+    {
+        self.size
+    }
+}

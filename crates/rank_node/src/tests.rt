@@ -1,0 +1,5 @@
+//! What no clause says: that the calls succeed where there is memory, with
+//! turns and answers worked out by hand.
+
+mod refusals;
+mod scenes;
