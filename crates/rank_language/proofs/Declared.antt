@@ -3,7 +3,7 @@
 use Rattle.std.proofs.Common.{◌≡◌, ℕ, List, [], map, Bool, true, false, ◌&&◌, ◌||◌, Option, Some, None, option_map, ◌↔◌, refl, ap, ◌∙◌, sym}
 use Rattle.std.specs.Option.{is_some}
 use Rattle.rank_text.specs.Tree.{Tree, number, variable, item, reading, negation, operation}
-use Rattle.rank_text.specs.Forms.{Choice, any, value, Payload, lone, one, Form, var_form, if_form, else_form, end_form, send_form, recv_form, print_form, ◌>>=◌}
+use Rattle.rank_text.specs.Forms.{Choice, any, value, Payload, lone, one, Form, var_form, let_form, if_form, else_form, end_form, while_form, send_form, recv_form, print_form, ◌>>=◌}
 use Rattle.rank_lines.specs.Scope.{Scope, is_name_in, is_variable, is_array, is_declared, all_declared, choice_declared, payload_declared, declared_in, after}
 use Rattle.rank_language.specs.Resolved.{place_in, variable_place, array_place, resolved, choice_resolved, payload_resolved, buffer_resolved, form_resolved}
 use Rattle.rank_language.proofs.Names.{place_of_named, place_of_other}
@@ -88,6 +88,12 @@ same_tables s bs (operation o a b) =
 form_some : (s : Scope) (f : Form) → s.arrays ≡ [] → declared_in s f ≡ is_some (form_resolved (after s f) f)
 form_some s (var_form x) h =
     sym (named_last s.variables x) ∙ placed_some (after s (var_form x)).variables x ∙ mapped_some _ (variable_place (after s (var_form x)) x)
+form_some s (let_form x e) h =
+    ap (λ z. z && all_declared s e) (placed_some s.variables x)
+    ∙ ap (λ z. is_some (variable_place s x) && z) (tree_some s e)
+    ∙ two_some _ (variable_place s x) (resolved s e)
+form_some s (while_form e) h =
+    same_tables s (after s (while_form e)).blocks e ∙ tree_some (after s (while_form e)) e ∙ mapped_some _ (resolved (after s (while_form e)) e)
 form_some s (if_form e) h =
     same_tables s (after s (if_form e)).blocks e ∙ tree_some (after s (if_form e)) e ∙ mapped_some _ (resolved (after s (if_form e)) e)
 form_some s else_form h = refl

@@ -7,7 +7,7 @@ use Rattle.rank_lines.specs.SeenLines.{forms_seen}
 use Rattle.rank_lines.specs.Scope.{Scope}
 use Rattle.rank_language.specs.Block.{Line}
 use Rattle.rank_language.specs.Resolvable.{IsResolvable, AllResolvable}
-use Rattle.rank_language.specs.Ends.{kind_of, ends_before, ends_from, lines_from, form_line}
+use Rattle.rank_language.specs.Ends.{kind_of, target_of, ends_before, ends_from, lines_from, lines_behind, form_line}
 
 -- what is left from a place on begins with what stands there
 front : (forms : List Form) (p q : ℕ) (f : Form) → p + 1 ≡ q → p < length forms → f ≡ get_or forms p f → forms_seen (drop p forms) ≡ form_seen f ∷ forms_seen (drop q forms)
@@ -22,16 +22,26 @@ ends_more forms p q f ends new e h g i j =
     j ∙ ap (ends_before p (kind_of (form_seen f))) (i ∙ ap (λ n. ends_from n (forms_seen (drop q forms))) (sym e)) ∙ ap (ends_from p) (sym (front forms p q f e h g))
 
 -- one more line in front of lines
-lines_front : (s : Scope) (n : ℕ) (f : _) (fs : _) (line : Line) (lines : List Line) → form_line s (ends_from (n + 1) fs) f ≡ Some line → lines_from s (n + 1) fs ≡ Some lines → lines_from s n (f ∷ fs) ≡ Some (line ∷ lines)
+lines_front : (s : Scope) (n : ℕ) (f : _) (fs : _) (line : Line) (lines : List Line) → form_line s (ends_from (n + 1) fs) f ≡ Some line →
+    lines_from s (n + 1) fs ≡ Some lines →
+    lines_from s n (f ∷ fs) ≡ Some (line ∷ lines_behind n (kind_of f) (target_of (kind_of f) (ends_from (n + 1) fs)) lines)
 lines_front s n f fs line lines h g = rw (h, g) refl
 
--- the lines of one more statement in front
-pub lines_more : (s : Scope) (forms : List Form) (p q : ℕ) (f : Form) (ends : List ℕ) (line : Line) (lines : List Line) → p + 1 ≡ q → p < length forms → f ≡ get_or forms p f → ends ≡ ends_from q (forms_seen (drop q forms)) → lines_from s q (forms_seen (drop q forms)) ≡ Some lines → form_line s ends (form_seen f) ≡ Some line → lines_from s p (forms_seen (drop p forms)) ≡ Some (line ∷ lines)
-lines_more s forms p q f ends line lines e h g i j k =
+-- the lines of one more statement in front of those behind it
+pub lines_more : (s : Scope) (forms : List Form) (p q : ℕ) (f : Form) (ends : List ℕ) (target : ℕ) (line : Line) (lines rest : List Line) →
+    p + 1 ≡ q → p < length forms → f ≡ get_or forms p f → ends ≡ ends_from q (forms_seen (drop q forms)) →
+    lines_from s q (forms_seen (drop q forms)) ≡ Some lines → target ≡ target_of (kind_of (form_seen f)) ends →
+    rest ≡ lines_behind p (kind_of (form_seen f)) target lines → form_line s ends (form_seen f) ≡ Some line →
+    lines_from s p (forms_seen (drop p forms)) ≡ Some (line ∷ rest)
+lines_more s forms p q f ends target line lines rest e h g i j t r k =
+    let kind = kind_of (form_seen f) in
+    let behind = forms_seen (drop q forms) in
+    let same : ends_from (p + 1) behind ≡ ends = sym (i ∙ ap (λ n. ends_from n behind) (sym e)) in
     ap (lines_from s p) (front forms p q f e h g)
-    ∙ lines_front s p (form_seen f) (forms_seen (drop q forms)) line lines
-    (ap (λ es. form_line s es (form_seen f)) (sym (i ∙ ap (λ n. ends_from n (forms_seen (drop q forms))) (sym e))) ∙ k)
-    (ap (λ n. lines_from s n (forms_seen (drop q forms))) e ∙ j)
+    ∙ lines_front s p (form_seen f) behind line lines (ap (λ es. form_line s es (form_seen f)) same ∙ k) (ap (λ n. lines_from s n behind) e ∙ j)
+    ∙ ap (λ es. Some (line ∷ lines_behind p kind (target_of kind es) lines)) same
+    ∙ ap (λ m. Some (line ∷ lines_behind p kind m lines)) (sym t)
+    ∙ ap (λ z. Some (line ∷ z)) (sym r)
 
 -- the lines in order are those found from the last one on, reversed
 pub line_pushed : {A B : Type 0} (f : A → B) (xs : List A) (x : A) → map f (reverse (xs ++ x ∷ [])) ≡ f x ∷ map f (reverse xs)

@@ -3,6 +3,7 @@ pub mod Targets
 pub mod Statements
 pub mod Names
 pub mod Ends
+pub mod Loops
 pub mod Spread
 pub mod Options
 pub mod Resolving

@@ -4,7 +4,7 @@
 use Rattle.std.proofs.Common.{◌≡◌, ℕ, zero, suc, ◌+◌, List, [], ◌∷◌, ◌++◌, length, true, false, Some, slice_get, refl, ap, ◌∙◌, sym, subst, arith, length-append, append_assoc, get_or}
 use Rattle.std.proofs.Math.Seq.{get_or-append_seam}
 use Rattle.std.proofs.lemmas.List.{get_or_past}
-use Rattle.rank_language.specs.Block.{Block, done, plain, if_only, if_else, ◌then◌, Line, else_line, end_line, size, lines_at, places, remaining, tested, taken, Leads}
+use Rattle.rank_language.specs.Block.{Block, done, plain, if_only, if_else, loop, ◌then◌, Line, else_line, end_line, back_line, size, lines_at, places, remaining, tested, taken, Leads}
 
 -- nothing after a list leaves the list
 pub then_done : (b : Block) → b then done ≡ b
@@ -12,6 +12,7 @@ then_done done = refl
 then_done (plain s r) = ap (plain s) (then_done r)
 then_done (if_only e y r) = ap (if_only e y) (then_done r)
 then_done (if_else e y o r) = ap (if_else e y o) (then_done r)
+then_done (loop e y r) = ap (loop e y) (then_done r)
 
 -- these stand from position n on
 abbrev Stands : (ℕ → Block) → ℕ → List Block → Type 0
@@ -40,6 +41,8 @@ length-places (if_only e y r) k =
     omega (arith, length-append (places y (r then k)) ((r then k) ∷ places r k), length-places y (r then k), length-places r k)
 length-places (if_else e y o r) k =
     omega (arith, length-append (places y (r then k)) ((r then k) ∷ (places o (r then k) ++ (r then k) ∷ places r k)), length-append (places o (r then k)) ((r then k) ∷ places r k), length-places y (r then k), length-places o (r then k), length-places r k)
+length-places (loop e y r) k =
+    omega (arith, length-append (places y (loop e y (r then k))) (loop e y (r then k) ∷ places r k), length-places y (loop e y (r then k)), length-places r k)
 
 -- a list has as many lines as its size says
 pub length-lines_at : (n : ℕ) (b : Block) → length (lines_at n b) ≡ size b
@@ -51,6 +54,8 @@ length-lines_at n (if_else e y o r) =
     let m = n + 1 + size y in
     let q = m + 1 + size o in
     omega (arith, length-append (lines_at (n + 1) y) (else_line (q + 1) ∷ (lines_at (m + 1) o ++ end_line ∷ lines_at (q + 1) r)), length-append (lines_at (m + 1) o) (end_line ∷ lines_at (q + 1) r), length-lines_at (n + 1) y, length-lines_at (m + 1) o, length-lines_at (q + 1) r)
+length-lines_at n (loop e y r) =
+    omega (arith, length-append (lines_at (n + 1) y) (back_line n ∷ lines_at (n + 1 + size y + 1) r), length-lines_at (n + 1) y, length-lines_at (n + 1 + size y + 1) r)
 
 -- What the lines of a list stand for from position n on, and what remains behind them.
 record Laid (at : ℕ → Block) (n : ℕ) (b k : Block) : Type 0 where
@@ -63,6 +68,7 @@ here at n done k h = ap at (let q : n ≡ n + 0 = omega arith in q) ∙ h.after
 here at n (plain s r) k h = h.each.0
 here at n (if_only e y r) k h = h.each.0
 here at n (if_else e y o r) k h = h.each.0
+here at n (loop e y r) k h = h.each.0
 
 -- A list inside a statement, the line behind it, and what comes behind that.
 record Parted (at : ℕ → Block) (n : ℕ) (b : Block) (j : Block) (bs : List Block) : Type 0 where
@@ -114,6 +120,16 @@ lead at n (if_else e y o r) k h =
         (omega arith, p.behind ∙ sym after),
         lead_append at (m + 1) q (lines_at (m + 1) o) (end_line ∷ lines_at (q + 1) r) (ap (λ z. m + 1 + z) (length-lines_at (m + 1) o)) (lead at (m + 1) o (r then k) p'.part) (p'.behind ∙ sym after, lead at (q + 1) r k l),
       ),
+    )
+lead at n (loop e y r) k h =
+    let again = loop e y (r then k) in
+    let p = parted at (n + 1) y again (places r k) h.each.1 in
+    let m = n + 1 + size y in
+    let l : Laid at (m + 1) r k = record { each = p.more; after = ap at (omega arith) ∙ h.after } in
+    let first = h.each.0 in
+    let after = here at (m + 1) r k l in (
+      (omega arith, ap tested first, here at (n + 1) y again p.part ∙ ap (taken true) (sym first), after ∙ ap (taken false) (sym first)),
+      lead_append at (n + 1) m (lines_at (n + 1) y) (back_line n ∷ lines_at (m + 1) r) (ap (λ z. n + 1 + z) (length-lines_at (n + 1) y)) (lead at (n + 1) y again p.part) ((omega arith, p.behind ∙ sym first), lead at (m + 1) r k l),
     )
 
 -- places stand where they are listed

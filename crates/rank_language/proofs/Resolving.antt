@@ -8,12 +8,13 @@ use Rattle.rank_text.specs.Tree as text
 use Rattle.rank_text.specs.Forms as line
 use Rattle.rank_text.specs.Forms.{Form, ◌>>=◌}
 use Rattle.rank_lines.specs.Scope.{Scope}
-use Rattle.rank_language.specs.Placed.{Placed, number, variable, item, reading, negation, operation, Choice, any, value, Payload, one, Buffer, into_variable, declare, send, receive, print, Step, does, tests, otherwise, closes}
+use Rattle.rank_language.specs.Placed.{Placed, number, variable, item, reading, negation, operation, Choice, any, value, Payload, one, Buffer, into_variable, declare, assign, send, receive, print, Step, does, tests, repeats, otherwise, closes}
 use Rattle.rank_language.specs.Block.{Line}
 use Rattle.rank_language.specs.Shape.{step_of}
 use Rattle.rank_language.specs.Program.{IsWithin, IsChoiceWithin, IsPayloadWithin, IsBufferWithin, IsPlaced, AllPlaced}
 use Rattle.rank_language.specs.Resolved.{place_in, variable_place, array_place, resolved, choice_resolved, payload_resolved, buffer_resolved, form_resolved, all_resolved}
-use Rattle.rank_language.specs.Ends.{kind_of, target_of, ends_before, ends_from, line_to, form_line, lines_from}
+use Rattle.rank_language.specs.Ends.{kind_of, target_of, ends_before, ends_from, line_to, lines_behind, form_line, lines_from}
+use Rattle.rank_language.proofs.Loops.{behind-steps, behind-placed}
 use Rattle.rank_language.proofs.Options.{mapped, gone_on}
 use Rattle.rank_language.proofs.Spread.{kind_of_step, ends_at, targeted}
 
@@ -91,6 +92,14 @@ pub becomes : (s : Scope) (f : Form) (t : Step) → form_resolved s f ≡ Some t
 becomes s (line.var_form x) t h =
     let (p, e, q) = mapped (λ k. does (declare k)) (variable_place s x) t h in
     subst (Becomes s (line.var_form x)) q (record { kind = refl; within = λ n. place_below s.variables x p e })
+becomes s (line.let_form x e) t h =
+    let (p, a, i) = gone_on _ (variable_place s x) t h in
+    let (v, b, j) = gone_on _ (resolved s e) t i in
+    let q : does (assign p v) ≡ t = cc in
+    subst (Becomes s (line.let_form x e)) q (record { kind = refl; within = λ n. (place_below s.variables x p a, resolved_within s e v b) })
+becomes s (line.while_form e) t h =
+    let (a, g, q) = mapped repeats (resolved s e) t h in
+    subst (Becomes s (line.while_form e)) q (record { kind = refl; within = λ n. resolved_within s e a g })
 becomes s (line.if_form e) t h =
     let (a, g, q) = mapped tests (resolved s e) t h in
     subst (Becomes s (line.if_form e)) q (record { kind = refl; within = λ n. resolved_within s e a g })
@@ -120,6 +129,7 @@ step_of_line target (does s) = refl
 step_of_line target (tests e) = refl
 step_of_line target otherwise = refl
 step_of_line target closes = refl
+step_of_line target (repeats e) = refl
 
 -- What lines found from the last statement on are: the statements resolved, with their targets, and all in the tables.
 pub record AreLines (s : Scope) (n : ℕ) (fs : List Form) (ls : List Line) : Type 0 where
@@ -129,29 +139,39 @@ pub record AreLines (s : Scope) (n : ℕ) (fs : List Form) (ls : List Line) : Ty
   pub within : AllPlaced (length s.variables) (length s.arrays) ls
   pub count : length ls ≡ length fs
 
+-- there are as many lines behind a statement as were found
+length_behind : (n : ℕ) (k : _) (target : ℕ) (ls : List Line) → length (lines_behind n k target ls) ≡ length ls
+length_behind n k target ls =
+    sym (length-map (lines_behind n k target ls) step_of) ∙ ap length (behind-steps n k target ls) ∙ length-map ls step_of
+
 -- one more resolved statement in front
 all_front : (s : Scope) (f : Form) (fs : List Form) (t : Step) (ts : List Step) → form_resolved s f ≡ Some t → all_resolved s fs ≡ Some ts → all_resolved s (f ∷ fs) ≡ Some (t ∷ ts)
 all_front s f fs t ts h g = rw (h, g) refl
 
 -- one more statement in front of statements with their targets
-are_more : (s : Scope) (n : ℕ) (f : Form) (fs : List Form) (t : Step) (ls : List Line) → form_resolved s f ≡ Some t → AreLines s (n + 1) fs ls → AreLines s n (f ∷ fs) (line_to (target_of (kind_of f) (ends_from (n + 1) fs)) t ∷ ls)
+are_more : (s : Scope) (n : ℕ) (f : Form) (fs : List Form) (t : Step) (ls : List Line) → form_resolved s f ≡ Some t → AreLines s (n + 1) fs ls →
+    AreLines s n (f ∷ fs) (line_to (target_of (kind_of f) (ends_from (n + 1) fs)) t ∷ lines_behind n (kind_of f) (target_of (kind_of f) (ends_from (n + 1) fs)) ls)
 are_more s n f fs t ls h r =
     let b = becomes s f t h in
     let target = target_of (kind_of f) (ends_from (n + 1) fs) in
-    let same = step_of_line target t in
-    let aim : target ≡ target_of (kind_of_step t) (ends_at (n + 1) (map step_of ls)) = ap (λ k. target_of k (ends_from (n + 1) fs)) b.kind ∙ ap (target_of (kind_of_step t)) r.ends in
+    let rest = lines_behind n (kind_of f) target ls in
+    let aimed = target_of (kind_of_step t) (ends_at (n + 1) (map step_of ls)) in
+    let steps : map step_of (line_to target t ∷ rest) ≡ t ∷ map step_of ls =
+    ap (λ x. x ∷ map step_of rest) (step_of_line target t) ∙ ap (λ z. t ∷ z) (behind-steps n (kind_of f) target ls) in
+    let aim : target ≡ aimed = ap (λ k. target_of k (ends_from (n + 1) fs)) b.kind ∙ ap (target_of (kind_of_step t)) r.ends in
     record {
-      steps = all_front s f fs t (map step_of ls) h r.steps ∙ ap (λ x. Some (x ∷ map step_of ls)) (sym same);
+      steps = all_front s f fs t (map step_of ls) h r.steps ∙ ap Some (sym steps);
       lines =
-          ap (λ q. line_to q t ∷ ls) aim
-          ∙ ap (λ z. line_to (target_of (kind_of_step t) (ends_at (n + 1) (map step_of ls))) t ∷ z) r.lines
-          ∙ ap (λ x. targeted n (x ∷ map step_of ls)) (sym same);
+          ap (λ q. line_to q t ∷ lines_behind n (kind_of f) q ls) aim
+          ∙ ap (λ k. line_to aimed t ∷ lines_behind n k aimed ls) b.kind
+          ∙ ap (λ z. line_to aimed t ∷ lines_behind n (kind_of_step t) aimed z) r.lines
+          ∙ ap (targeted n) (sym steps);
       ends =
           ap (λ k. ends_before n k (ends_from (n + 1) fs)) b.kind
           ∙ ap (ends_before n (kind_of_step t)) r.ends
-          ∙ ap (λ x. ends_at n (x ∷ map step_of ls)) (sym same);
-      within = (b.within target, r.within);
-      count = ap suc r.count;
+          ∙ ap (ends_at n) (sym steps);
+      within = (b.within target, behind-placed (length s.variables) (length s.arrays) n (kind_of f) target ls r.within);
+      count = ap suc (length_behind n (kind_of f) target ls ∙ r.count);
     }
 
 -- lines found from the last statement on are the statements with their targets
@@ -163,5 +183,6 @@ are_lines s n (f ∷ fs) ls h =
     let (l, g, i) = gone_on _ (form_line s (ends_from (n + 1) fs) f) ls h in
     let (rest, j, k) = gone_on _ (lines_from s (n + 1) fs) ls i in
     let (t, m, e) = mapped (line_to (target_of (kind_of f) (ends_from (n + 1) fs))) (form_resolved s f) l g in
-    let q : l ∷ rest ≡ ls = cc in
-    subst (AreLines s n (f ∷ fs)) q (subst (λ x. AreLines s n (f ∷ fs) (x ∷ rest)) e (are_more s n f fs t rest m (are_lines s (n + 1) fs rest j)))
+    let q : l ∷ lines_behind n (kind_of f) (target_of (kind_of f) (ends_from (n + 1) fs)) rest ≡ ls = cc in
+    let behind = lines_behind n (kind_of f) (target_of (kind_of f) (ends_from (n + 1) fs)) rest in
+    subst (AreLines s n (f ∷ fs)) q (subst (λ x. AreLines s n (f ∷ fs) (x ∷ behind)) e (are_more s n f fs t rest m (are_lines s (n + 1) fs rest j)))

@@ -1,12 +1,14 @@
 -- Lines with their targets are those of a tree. The lists of statements that some lines begin (`parts`) fit the blocks
 -- that are open in front of them (`Fit`). Spread over positions, each list is followed by the line that closes it;
 -- one more line in front keeps this, and in front of a whole program there is one list, its tree.
-use Rattle.std.proofs.Common.{◌≡◌, ℕ, ◌+◌, List, [], ◌∷◌, ◌++◌, Bool, true, false, not, refl, ap, ◌∙◌, sym, arith, append_assoc, append-nil}
-use Rattle.rank_lines.specs.Scope.{Opened, in_if, in_else, is_empty, is_open_if, other_branch, outer}
-use Rattle.rank_language.specs.Placed.{Placed, Simple, Step, does, tests, otherwise, closes}
-use Rattle.rank_language.specs.Block.{Block, done, plain, if_only, if_else, Line, simple_line, if_line, else_line, end_line, size, lines_at}
-use Rattle.rank_language.specs.Shape.{Part, fronted, branched, parts, innermost, tree_of_steps}
-use Rattle.rank_language.specs.Ends.{Kind, is_plain, is_if, is_else, is_end, nearest, farther, target_of, ends_before, line_to}
+use Rattle.std.proofs.Common.{◌≡◌, ℕ, ◌+◌, ◌-◌, length, List, [], ◌∷◌, ◌++◌, Bool, true, false, not, refl, ap, ◌∙◌, sym, arith, append_assoc, append-nil}
+use Rattle.rank_lines.specs.Scope.{Opened, in_if, in_else, in_while, is_empty, is_open_if, other_branch, outer}
+use Rattle.rank_language.specs.Placed.{Placed, Simple, Step, does, tests, repeats, otherwise, closes}
+use Rattle.rank_language.specs.Block.{Block, done, plain, if_only, if_else, loop, Line, simple_line, if_line, else_line, end_line, while_line, back_line, size, lines_at}
+use Rattle.rank_language.specs.Shape.{Part, fronted, branched, looped, parts, innermost, tree_of_steps}
+use Rattle.rank_language.specs.Ends.{Kind, is_plain, is_if, is_else, is_end, is_while, nearest, farther, target_of, ends_before, line_to, back_at, lines_behind}
+use Rattle.rank_language.proofs.Places.{length-lines_at}
+use Rattle.rank_language.proofs.Loops.{back_seam}
 
 -- what a statement does to blocks
 abbrev pub kind_of_step : Step → Kind
@@ -14,6 +16,7 @@ kind_of_step (does s) = is_plain
 kind_of_step (tests e) = is_if
 kind_of_step otherwise = is_else
 kind_of_step closes = is_end
+kind_of_step (repeats e) = is_while
 
 -- the blocks that are open behind a statement
 abbrev pub blocks_after : Kind → List Opened → List Opened
@@ -21,6 +24,7 @@ blocks_after is_plain bs = bs
 blocks_after is_if bs = in_if ∷ bs
 blocks_after is_else bs = other_branch bs
 blocks_after is_end bs = outer bs
+blocks_after is_while bs = in_while ∷ bs
 
 -- an `end` without its block, an `else` without its `if`
 abbrev pub strays : Kind → List Opened → Bool
@@ -28,6 +32,7 @@ strays is_plain bs = false
 strays is_if bs = false
 strays is_else bs = not (is_open_if bs)
 strays is_end bs = is_empty bs
+strays is_while bs = false
 
 -- each statement finds its block, and each block is closed
 abbrev pub Balanced : List Opened → List Step → Type 0
@@ -42,7 +47,9 @@ ends_at n (x ∷ ss) = ends_before n (kind_of_step x) (ends_at (n + 1) ss)
 -- the statements as lines with their targets
 abbrev pub targeted : ℕ → List Step → List Line
 targeted n [] = []
-targeted n (x ∷ ss) = line_to (target_of (kind_of_step x) (ends_at (n + 1) ss)) x ∷ targeted (n + 1) ss
+targeted n (x ∷ ss) =
+    let target = target_of (kind_of_step x) (ends_at (n + 1) ss) in
+    line_to target x ∷ lines_behind n (kind_of_step x) target (targeted (n + 1) ss)
 
 -- lists of statements that stand in open blocks
 abbrev Fit : List Opened → List Part → Type 0
@@ -55,6 +62,8 @@ Fit (in_if ∷ bs) ((false, y) ∷ ps) = Fit bs ps
 Fit (in_if ∷ bs) ((true, y) ∷ ps) = Fit (in_else ∷ bs) ps
 Fit (in_else ∷ bs) ((false, y) ∷ ps) = Fit bs ps
 Fit (in_else ∷ bs) ((true, y) ∷ ps) = ⊥
+Fit (in_while ∷ bs) ((false, y) ∷ ps) = Fit bs ps
+Fit (in_while ∷ bs) ((true, y) ∷ ps) = ⊥
 
 -- more in front of the innermost list changes no block
 fit_fronted : (f : Block → Block) (bs : List Opened) (ps : List Part) → Fit bs ps → Fit bs (fronted f ps)
@@ -67,6 +76,8 @@ fit_fronted f (in_if ∷ bs) ((false, y) ∷ ps) h = h
 fit_fronted f (in_if ∷ bs) ((true, y) ∷ ps) h = h
 fit_fronted f (in_else ∷ bs) ((false, y) ∷ ps) h = h
 fit_fronted f (in_else ∷ bs) ((true, y) ∷ ps) h = h
+fit_fronted f (in_while ∷ bs) ((false, y) ∷ ps) h = h
+fit_fronted f (in_while ∷ bs) ((true, y) ∷ ps) h = h
 
 -- an `if` takes the lists of its block
 fit_branched : (e : Placed) (bs : List Opened) (ps : List Part) → Fit (in_if ∷ bs) ps → Fit bs (branched e ps)
@@ -76,18 +87,27 @@ fit_branched e bs ((true, y) ∷ []) h = absurd h
 fit_branched e bs ((true, y) ∷ ((false, o) ∷ ps)) h = fit_fronted (if_else e y o) bs ps h
 fit_branched e bs ((true, y) ∷ ((true, o) ∷ ps)) h = absurd h
 
+-- a `while` takes the list of its block
+fit_looped : (e : Placed) (bs : List Opened) (ps : List Part) → Fit (in_while ∷ bs) ps → Fit bs (looped e ps)
+fit_looped e bs [] h = absurd h
+fit_looped e bs ((false, y) ∷ ps) h = fit_fronted (loop e y) bs ps h
+fit_looped e bs ((true, y) ∷ ps) h = absurd h
+
 -- the lists that balanced statements begin fit the blocks in front of them
 pub fits : (bs : List Opened) (ss : List Step) → Balanced bs ss → Fit bs (parts ss)
 fits [] [] h = tt
 fits (b ∷ bs) [] h = cc
 fits bs (does s ∷ ss) h = fit_fronted (plain s) bs (parts ss) (fits bs ss h.1)
 fits bs (tests e ∷ ss) h = fit_branched e bs (parts ss) (fits (in_if ∷ bs) ss h.1)
+fits bs (repeats e ∷ ss) h = fit_looped e bs (parts ss) (fits (in_while ∷ bs) ss h.1)
 fits [] (otherwise ∷ ss) h = cc
 fits (in_if ∷ bs) (otherwise ∷ ss) h = fits (in_else ∷ bs) ss h.1
 fits (in_else ∷ bs) (otherwise ∷ ss) h = cc
+fits (in_while ∷ bs) (otherwise ∷ ss) h = cc
 fits [] (closes ∷ ss) h = cc
 fits (in_if ∷ bs) (closes ∷ ss) h = fits bs ss h.1
 fits (in_else ∷ bs) (closes ∷ ss) h = fits bs ss h.1
+fits (in_while ∷ bs) (closes ∷ ss) h = fits bs ss h.1
 
 -- a list's closing line, and the lines behind it
 abbrev closed : Bool → ℕ → List Part → List Line → List Line
@@ -183,6 +203,29 @@ tops_else e n y o p ps =
     let q : n + 1 + size y + 1 + size o + 1 + size p.1 + 1 ≡ n + (1 + (size y + (1 + (size o + (1 + size p.1))))) + 1 = omega arith in
     ap (λ m. topped p.0 m ps (tops m ps)) q
 
+-- a `while` in front of its list and the list behind its `end`
+lines_loop : (e : Placed) (n : ℕ) (y : Block) (p : Part) (ps : List Part) →
+    let m = n + 1 + size y + 1 in while_line e m ∷ (lines_at (n + 1) y ++ back_line n ∷ spread m (p ∷ ps)) ≡ spread n ((p.0, loop e y p.1) ∷ ps)
+lines_loop e n y p ps =
+    let m = n + 1 + size y + 1 in
+    let q : m + size p.1 + 1 ≡ n + (1 + (size y + (1 + size p.1))) + 1 = omega arith in
+    ap (λ k. while_line e m ∷ (lines_at (n + 1) y ++ back_line n ∷ (lines_at m p.1 ++ behind p.0 ps k))) q
+    ∙ ap (λ ls. while_line e m ∷ ls) (sym (append_assoc (lines_at (n + 1) y) (back_line n ∷ lines_at m p.1) (behind p.0 ps (n + (1 + (size y + (1 + size p.1))) + 1))))
+
+-- a `while` leads the line that closes its list back to itself
+lines_back : (e : Placed) (n : ℕ) (y : Block) (p : Part) (ps : List Part) →
+    let m = n + 1 + size y + 1 in while_line e m ∷ back_at n (m - n - 2) (lines_at (n + 1) y ++ end_line ∷ spread m (p ∷ ps)) ≡ spread n ((p.0, loop e y p.1) ∷ ps)
+lines_back e n y p ps =
+    let m = n + 1 + size y + 1 in
+    let q : m - n - 2 ≡ length (lines_at (n + 1) y) = omega (arith, length-lines_at (n + 1) y) in
+    ap (λ ls. while_line e m ∷ ls) (back_seam n (m - n - 2) (lines_at (n + 1) y) (spread m (p ∷ ps)) end_line q) ∙ lines_loop e n y p ps
+
+-- the ends in front of a `while`
+tops_loop : (e : Placed) (n : ℕ) (y : Block) (p : Part) (ps : List Part) → tops (n + 1 + size y + 1) (p ∷ ps) ≡ tops n ((p.0, loop e y p.1) ∷ ps)
+tops_loop e n y p ps =
+    let q : n + 1 + size y + 1 + size p.1 + 1 ≡ n + (1 + (size y + (1 + size p.1))) + 1 = omega arith in
+    ap (λ m. topped p.0 m ps (tops m ps)) q
+
 -- there is a list
 fit_some : (bs : List Opened) → Fit bs [] → ⊥
 fit_some [] h = h
@@ -198,11 +241,29 @@ spread_if e n bs ((true, y) ∷ ((false, o) ∷ [])) f = absurd (fit_some bs f)
 spread_if e n bs ((true, y) ∷ ((false, o) ∷ (p ∷ ps))) f = (lines_else e n y o p ps, tops_else e n y o p ps)
 spread_if e n bs ((true, y) ∷ ((true, o) ∷ ps)) f = absurd f
 
+-- a `while` in front of lists that fit its block
+spread_while : (e : Placed) (n : ℕ) (bs : List Opened) (ps : List Part) → Fit (in_while ∷ bs) ps →
+    (let m = nearest (tops (n + 1) ps) in while_line e m ∷ back_at n (m - n - 2) (spread (n + 1) ps) ≡ spread n (looped e ps)) × (farther (tops (n + 1) ps) ≡ tops n (looped e ps))
+spread_while e n bs [] f = absurd f
+spread_while e n bs ((false, y) ∷ []) f = absurd (fit_some bs f)
+spread_while e n bs ((false, y) ∷ (p ∷ ps)) f = (lines_back e n y p ps, tops_loop e n y p ps)
+spread_while e n bs ((true, y) ∷ ps) f = absurd f
+
 -- an `if` in front
 stand_if : (n : ℕ) (e : Placed) (bs : List Opened) (ss : List Step) (ps : List Part) → Fit (in_if ∷ bs) ps → Stand (n + 1) ss ps → Stand n (tests e ∷ ss) (branched e ps)
 stand_if n e bs ss ps f h =
     let s = spread_if e n bs ps f in (
       ap (λ ends. if_line e (nearest ends) ∷ targeted (n + 1) ss) h.1 ∙ ap (λ ls. if_line e (nearest (tops (n + 1) ps)) ∷ ls) h.0 ∙ s.0,
+      ap farther h.1 ∙ s.1,
+    )
+
+-- a `while` in front
+stand_while : (n : ℕ) (e : Placed) (bs : List Opened) (ss : List Step) (ps : List Part) → Fit (in_while ∷ bs) ps → Stand (n + 1) ss ps →
+    Stand n (repeats e ∷ ss) (looped e ps)
+stand_while n e bs ss ps f h =
+    let s = spread_while e n bs ps f in
+    let aimed : ℕ → List Line → List Line = λ m ls. while_line e m ∷ back_at n (m - n - 2) ls in (
+      ap (λ ends. aimed (nearest ends) (targeted (n + 1) ss)) h.1 ∙ ap (aimed (nearest (tops (n + 1) ps))) h.0 ∙ s.0,
       ap farther h.1 ∙ s.1,
     )
 
@@ -213,6 +274,8 @@ stand n bs (does s ∷ ss) h =
     stand_plain n s bs ss (parts ss) (fits bs ss h.1) (stand (n + 1) bs ss h.1)
 stand n bs (tests e ∷ ss) h =
     stand_if n e bs ss (parts ss) (fits (in_if ∷ bs) ss h.1) (stand (n + 1) (in_if ∷ bs) ss h.1)
+stand n bs (repeats e ∷ ss) h =
+    stand_while n e bs ss (parts ss) (fits (in_while ∷ bs) ss h.1) (stand (n + 1) (in_while ∷ bs) ss h.1)
 stand n bs (otherwise ∷ ss) h =
     stand_else n (other_branch bs) ss (parts ss) (fits (other_branch bs) ss h.1) (stand (n + 1) (other_branch bs) ss h.1)
 stand n bs (closes ∷ ss) h =

@@ -1,6 +1,6 @@
 -- Where lines lead: each line of a list leads to a position up to the one behind the list's last line.
 use Rattle.std.proofs.Common.{◌≡◌, ℕ, zero, suc, ◌+◌, ◌≤◌, List, [], ◌∷◌, ◌++◌, length, Bool, true, false, Some, slice_get, ap, subst, arith}
-use Rattle.rank_language.specs.Block.{Block, done, plain, if_only, if_else, Line, if_line, else_line, end_line, size, lines_at, next_position}
+use Rattle.rank_language.specs.Block.{Block, done, plain, if_only, if_else, loop, Line, if_line, else_line, end_line, while_line, back_line, size, lines_at, next_position}
 use Rattle.rank_language.proofs.Places.{length-lines_at}
 
 -- every line, the first of them at position n, leads to m at the most
@@ -17,6 +17,11 @@ reach_append m n k (x ∷ xs) ys q h g = (h.0, reach_append m (n + 1) k xs ys (o
 if_reach : (e : _) (q p m : ℕ) → p + 1 ≤ m → q ≤ m → (truth : Bool) → next_position (if_line e q) p truth ≤ m
 if_reach e q p m h k true = h
 if_reach e q p m h k false = k
+
+-- and so does a `while`
+while_reach : (e : _) (q p m : ℕ) → p + 1 ≤ m → q ≤ m → (truth : Bool) → next_position (while_line e q) p truth ≤ m
+while_reach e q p m h k true = h
+while_reach e q p m h k false = k
 
 -- the lines of a list lead behind its last at the most
 reach : (m n : ℕ) (b : Block) → n + size b ≤ m → Reach m n (lines_at n b)
@@ -35,6 +40,11 @@ reach m n (if_else e y o r) h =
         λ truth. omega arith,
         reach_append m (a + 1) q (lines_at (a + 1) o) (end_line ∷ lines_at (q + 1) r) (ap (λ z. a + 1 + z) (length-lines_at (a + 1) o)) (reach m (a + 1) o (omega arith)) (λ truth. omega arith, reach m (q + 1) r (omega arith)),
       ),
+    )
+reach m n (loop e y r) h =
+    let a = n + 1 + size y in (
+      while_reach e (a + 1) n m (omega arith) (omega arith),
+      reach_append m (n + 1) a (lines_at (n + 1) y) (back_line n ∷ lines_at (a + 1) r) (ap (λ z. n + 1 + z) (length-lines_at (n + 1) y)) (reach m (n + 1) y (omega arith)) (λ truth. omega arith, reach m (a + 1) r (omega arith)),
     )
 
 -- one of the lines leads so far at the most

@@ -4,7 +4,7 @@ use Rattle.std.proofs.Common.{◌≡◌, ℕ, List, [], ◌∷◌, ◌++◌, tru
 use Rattle.std.specs.Str.{bytes_eq}
 use Rattle.std.proofs.lemmas.Slice.Eq.{bytes_eq-Decides}
 use Rattle.rank_text.specs.Tree.{Tree, number, variable, item, reading, negation, operation}
-use Rattle.rank_text.specs.Forms.{Choice, any, value, Payload, lone, one, Form, var_form, if_form, else_form, end_form, send_form, recv_form, print_form}
+use Rattle.rank_text.specs.Forms.{Choice, any, value, Payload, lone, one, Form, var_form, let_form, if_form, else_form, end_form, while_form, send_form, recv_form, print_form}
 use Rattle.rank_lines.specs.Scope.{Scope, nothing_yet, is_name_in, is_variable, is_array, is_declared, all_declared, choice_declared, payload_declared, declared_in, is_stray, after, after_all, AllMayStand, IsWhole}
 use Rattle.rank_language.specs.Placed.{Step}
 use Rattle.rank_language.specs.Resolved.{form_resolved, all_resolved}
@@ -54,7 +54,11 @@ payload_grows s t g (one e) h = tree_grows s t g e h
 -- a statement's names stay declared
 form_grows : (s t : Scope) → Grows s t → (f : Form) → declared_in s f ≡ true → declared_in t f ≡ true
 form_grows s t g (var_form x) h = refl
+form_grows s t g (let_form x e) h =
+    let (a, b) = both (is_variable s x) (all_declared s e) h in
+    joined (is_variable t x) (all_declared t e) (g.variables x a) (tree_grows s t g e b)
 form_grows s t g (if_form e) h = tree_grows s t g e h
+form_grows s t g (while_form e) h = tree_grows s t g e h
 form_grows s t g else_form h = refl
 form_grows s t g end_form h = refl
 form_grows s t g (send_form d e p) h =
@@ -82,7 +86,9 @@ named_last (z ∷ zs) x =
 -- the tables behind a statement have what those in front of it have
 after_grows : (s : Scope) (f : Form) → Grows s (after s f)
 after_grows s (var_form x) = record { variables = named_longer s.variables (x ∷ []); arrays = λ y h. h }
+after_grows s (let_form x e) = record { variables = λ y h. h; arrays = λ y h. h }
 after_grows s (if_form e) = record { variables = λ y h. h; arrays = λ y h. h }
+after_grows s (while_form e) = record { variables = λ y h. h; arrays = λ y h. h }
 after_grows s else_form = record { variables = λ y h. h; arrays = λ y h. h }
 after_grows s end_form = record { variables = λ y h. h; arrays = λ y h. h }
 after_grows s (send_form d t p) = record { variables = λ y h. h; arrays = λ y h. h }
@@ -97,7 +103,9 @@ all_grows s (f ∷ fs) = grows_twice s (after s f) (after_all (after s f) fs) (a
 -- what a statement declares is in the tables behind it
 declares_after : (s : Scope) (f : Form) → declares_in (after s f) f ≡ true
 declares_after s (var_form x) = named_last s.variables x
+declares_after s (let_form x e) = refl
 declares_after s (if_form e) = refl
+declares_after s (while_form e) = refl
 declares_after s else_form = refl
 declares_after s end_form = refl
 declares_after s (send_form d t p) = refl
@@ -107,7 +115,9 @@ declares_after s (print_form e) = refl
 -- what is in the tables stays there
 declares_grows : (s t : Scope) → Grows s t → (f : Form) → declares_in s f ≡ true → declares_in t f ≡ true
 declares_grows s t g (var_form x) h = g.variables x h
+declares_grows s t g (let_form x e) h = refl
 declares_grows s t g (if_form e) h = refl
+declares_grows s t g (while_form e) h = refl
 declares_grows s t g else_form h = refl
 declares_grows s t g end_form h = refl
 declares_grows s t g (send_form d e p) h = refl
@@ -135,7 +145,9 @@ resolvable fs h = resolvable_from nothing_yet fs h.standing
 -- no statement declares an array
 after_arrays : (s : Scope) (f : Form) → (after s f).arrays ≡ s.arrays
 after_arrays s (var_form x) = refl
+after_arrays s (let_form x e) = refl
 after_arrays s (if_form e) = refl
+after_arrays s (while_form e) = refl
 after_arrays s else_form = refl
 after_arrays s end_form = refl
 after_arrays s (send_form d t p) = refl
@@ -154,7 +166,9 @@ arrayless fs = arrays_from nothing_yet fs
 -- which blocks are open behind a statement, by its kind
 blocks_behind : (s : Scope) (f : Form) → (after s f).blocks ≡ blocks_after (kind_of f) s.blocks
 blocks_behind s (var_form x) = refl
+blocks_behind s (let_form x e) = refl
 blocks_behind s (if_form e) = refl
+blocks_behind s (while_form e) = refl
 blocks_behind s else_form = refl
 blocks_behind s end_form = refl
 blocks_behind s (send_form d t p) = refl
@@ -164,7 +178,9 @@ blocks_behind s (print_form e) = refl
 -- a statement that may stand finds its block
 not_stray : (s : Scope) (f : Form) → is_stray s f ≡ false → strays (kind_of f) s.blocks ≡ false
 not_stray s (var_form x) h = refl
+not_stray s (let_form x e) h = refl
 not_stray s (if_form e) h = refl
+not_stray s (while_form e) h = refl
 not_stray s else_form h = h
 not_stray s end_form h = h
 not_stray s (send_form d t p) h = refl

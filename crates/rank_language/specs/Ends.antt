@@ -1,10 +1,11 @@
 -- Where the statements of a text lead, found from the last one on: of each block that is still open in front of some
--- statements, the position behind the line that closes its present part (the rank-program text, next positions).
-use Rattle.std.specs.Prelude.{ℕ, ◌+◌, List, [], ◌∷◌, Option, Some, option_map}
-use Rattle.rank_text.specs.Forms.{Form, if_form, else_form, end_form, ◌>>=◌}
+-- statements, the position behind the line that closes its present part (the rank-program text, next positions). An `end` is
+-- met before the statement that it closes, so it goes on like that of an `if` until a `while` that is met leads it back.
+use Rattle.std.specs.Prelude.{ℕ, zero, suc, ◌+◌, ◌-◌, List, [], ◌∷◌, Option, Some, option_map}
+use Rattle.rank_text.specs.Forms.{Form, if_form, else_form, end_form, while_form, ◌>>=◌}
 use Rattle.rank_lines.specs.Scope.{Scope}
-use Rattle.rank_language.specs.Placed.{Step, does, tests, otherwise, closes}
-use Rattle.rank_language.specs.Block.{Line, simple_line, if_line, else_line, end_line}
+use Rattle.rank_language.specs.Placed.{Step, does, tests, repeats, otherwise, closes}
+use Rattle.rank_language.specs.Block.{Line, simple_line, if_line, else_line, end_line, while_line, back_line}
 use Rattle.rank_language.specs.Resolved.{form_resolved}
 
 -- the position behind the innermost block's part
@@ -23,20 +24,23 @@ pub data Kind : Type 0 where
   is_if : Kind
   is_else : Kind
   is_end : Kind
+  is_while : Kind
 
 -- what a statement by name does to blocks
 abbrev pub kind_of : Form → Kind
 kind_of (if_form e) = is_if
 kind_of else_form = is_else
 kind_of end_form = is_end
+kind_of (while_form e) = is_while
 kind_of _ = is_plain
 
--- the target of a statement behind which blocks with these ends are open: an `if` and an `else` lead to the nearest
+-- the target of a statement behind which blocks with these ends are open: an `if`, an `else` and a `while` lead to the nearest
 abbrev pub target_of : Kind → List ℕ → ℕ
 target_of is_plain ends = 0
 target_of is_if ends = nearest ends
 target_of is_else ends = nearest ends
 target_of is_end ends = 0
+target_of is_while ends = nearest ends
 
 -- the ends in front of a statement at position n, where these are the ends behind it
 abbrev pub ends_before : ℕ → Kind → List ℕ → List ℕ
@@ -44,6 +48,7 @@ ends_before n is_plain ends = ends
 ends_before n is_if ends = farther ends
 ends_before n is_else ends = (n + 1) ∷ farther ends
 ends_before n is_end ends = (n + 1) ∷ ends
+ends_before n is_while ends = farther ends
 
 -- the ends in front of statements, the first of them at position n
 abbrev pub ends_from : ℕ → List Form → List ℕ
@@ -56,6 +61,30 @@ line_to target (does s) = simple_line s
 line_to target (tests e) = if_line e target
 line_to target otherwise = else_line target
 line_to target closes = end_line
+line_to target (repeats e) = while_line e target
+
+-- a line, which leads back to position n where it is an `end`
+abbrev pub led_back : ℕ → Line → Line
+led_back n (simple_line s) = simple_line s
+led_back n (if_line e q) = if_line e q
+led_back n (else_line q) = else_line q
+led_back n end_line = back_line n
+led_back n (while_line e q) = while_line e q
+led_back n (back_line q) = back_line q
+
+-- of these lines the one at a place, counted from 0, leads back to position n where it is an `end`
+abbrev pub back_at : ℕ → ℕ → List Line → List Line
+back_at n place [] = []
+back_at n zero (l ∷ ls) = led_back n l ∷ ls
+back_at n (suc place) (l ∷ ls) = l ∷ back_at n place ls
+
+-- the lines behind a statement at position n that leads to a target: the one in front of a `while`'s target leads back to it
+abbrev pub lines_behind : ℕ → Kind → ℕ → List Line → List Line
+lines_behind n is_plain target ls = ls
+lines_behind n is_if target ls = ls
+lines_behind n is_else target ls = ls
+lines_behind n is_end target ls = ls
+lines_behind n is_while target ls = back_at n (target - n - 2) ls
 
 -- a statement as a line, where these are the ends behind it
 abbrev pub form_line : Scope → List ℕ → Form → Option Line
@@ -67,4 +96,4 @@ lines_from s n [] = Some []
 lines_from s n (f ∷ fs) = do
   line ← form_line s (ends_from (n + 1) fs) f
   lines ← lines_from s (n + 1) fs
-  Some (line ∷ lines)
+  Some (line ∷ lines_behind n (kind_of f) (target_of (kind_of f) (ends_from (n + 1) fs)) lines)

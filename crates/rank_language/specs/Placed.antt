@@ -28,13 +28,15 @@ pub data Buffer : Type 0 where
 -- a statement without parts
 pub data Simple : Type 0 where
   declare : (place : ℕ) → Simple
+  assign : (place : ℕ) (e : Placed) → Simple
   send : (destination tag : Placed) (payload : Payload) → Simple
   receive : (source tag : Choice) (buffer : Buffer) → Simple
   print : (e : Placed) → Simple
 
--- a line's statement by itself, without where it leads
+-- a line's statement by itself, without where it leads; an `end` doesn't say what it closes
 pub data Step : Type 0 where
   does : (s : Simple) → Step
   tests : (e : Placed) → Step
+  repeats : (e : Placed) → Step
   otherwise : Step
   closes : Step

@@ -3,8 +3,8 @@ use Rattle.std.specs.Prelude.{◌≡◌, ℕ, ◌<◌, ◌≤◌, List, [], ◌�
 use Rattle.rank_lines.specs.declared.scope.Array.{Array}
 use Rattle.rank_lines.specs.SeenLines.{arrays_seen}
 use Rattle.rank_language.specs.declared.statement.Statement.{Statement}
-use Rattle.rank_language.specs.Placed.{Placed, number, variable, item, reading, negation, operation, Choice, any, value, Payload, one, Buffer, into_variable, declare, send, receive, print}
-use Rattle.rank_language.specs.Block.{Block, Line, simple_line, if_line, else_line, end_line, lines_at}
+use Rattle.rank_language.specs.Placed.{Placed, number, variable, item, reading, negation, operation, Choice, any, value, Payload, one, Buffer, into_variable, declare, assign, send, receive, print}
+use Rattle.rank_language.specs.Block.{Block, Line, simple_line, if_line, else_line, end_line, while_line, back_line, lines_at}
 use Rattle.rank_language.specs.Shape.{step_of, tree_of_steps}
 use Rattle.rank_language.specs.Seen.{line_of}
 
@@ -43,12 +43,15 @@ IsBufferWithin v a (into_variable p) = p < v
 -- each place in a line is below the number of variables, or of arrays
 abbrev pub IsPlaced : ℕ → ℕ → Line → Type 0
 IsPlaced v a (simple_line (declare p)) = p < v
+IsPlaced v a (simple_line (assign p e)) = (p < v) × IsWithin v a e
 IsPlaced v a (simple_line (send d t p)) = IsWithin v a d × IsWithin v a t × IsPayloadWithin v a p
 IsPlaced v a (simple_line (receive s t b)) = IsChoiceWithin v a s × IsChoiceWithin v a t × IsBufferWithin v a b
 IsPlaced v a (simple_line (print e)) = IsWithin v a e
 IsPlaced v a (if_line e q) = IsWithin v a e
 IsPlaced v a (else_line q) = Unit {0}
 IsPlaced v a end_line = Unit {0}
+IsPlaced v a (while_line e q) = IsWithin v a e
+IsPlaced v a (back_line q) = Unit {0}
 
 -- each line's places are
 abbrev pub AllPlaced : ℕ → ℕ → List Line → Type 0

@@ -5,7 +5,7 @@ use Rattle.rank_text.specs.Tree as text
 use Rattle.rank_text.specs.Forms as line
 use Rattle.rank_text.specs.Forms.{◌>>=◌}
 use Rattle.rank_lines.specs.Scope.{Scope}
-use Rattle.rank_language.specs.Placed.{Placed, number, variable, item, reading, negation, operation, Choice, any, value, Payload, one, Buffer, into_variable, declare, send, receive, print, Step, does, tests, otherwise, closes}
+use Rattle.rank_language.specs.Placed.{Placed, number, variable, item, reading, negation, operation, Choice, any, value, Payload, one, Buffer, into_variable, declare, assign, send, receive, print, Step, does, tests, repeats, otherwise, closes}
 
 -- the place of a name among names: the first at which it stands
 abbrev pub place_in : List (List ℕ) → List ℕ → Option ℕ
@@ -51,9 +51,14 @@ buffer_resolved s x = option_map into_variable (variable_place s x)
 -- a statement with places for its names, where each is declared in the sort that is used
 abbrev pub form_resolved : Scope → line.Form → Option Step
 form_resolved s (line.var_form x) = option_map (λ p. does (declare p)) (variable_place s x)
+form_resolved s (line.let_form x e) = do
+  p ← variable_place s x
+  v ← resolved s e
+  Some (does (assign p v))
 form_resolved s (line.if_form e) = option_map tests (resolved s e)
 form_resolved s line.else_form = Some otherwise
 form_resolved s line.end_form = Some closes
+form_resolved s (line.while_form e) = option_map repeats (resolved s e)
 form_resolved s (line.send_form d t p) = do
   destination ← resolved s d
   tag ← resolved s t

@@ -7,8 +7,8 @@ use Rattle.rank_language.specs.declared.statement.Choice as source_choice
 use Rattle.rank_language.specs.declared.statement.Payload as source_payload
 use Rattle.rank_language.specs.declared.statement.Buffer as source_buffer
 use Rattle.rank_language.specs.declared.statement.Statement as source_statement
-use Rattle.rank_language.specs.Placed.{Placed, number, variable, item, reading, negation, operation, Choice, any, value, Payload, one, Buffer, into_variable, declare, send, receive, print}
-use Rattle.rank_language.specs.Block.{Line, simple_line, if_line, else_line, end_line}
+use Rattle.rank_language.specs.Placed.{Placed, number, variable, item, reading, negation, operation, Choice, any, value, Payload, one, Buffer, into_variable, declare, assign, send, receive, print}
+use Rattle.rank_language.specs.Block.{Line, simple_line, if_line, else_line, end_line, while_line, back_line}
 
 -- an expression without where it lies
 abbrev pub placed_of : Expression → Placed
@@ -35,9 +35,12 @@ buffer_of (source_buffer.TheVariants.Variable p) = into_variable p
 -- a statement as a line
 abbrev pub line_of : source_statement.Statement → Line
 line_of (source_statement.TheVariants.Declare p) = simple_line (declare p)
+line_of (source_statement.TheVariants.Assign p e) = simple_line (assign p (placed_of e))
 line_of (source_statement.TheVariants.If e q) = if_line (placed_of e) q
 line_of (source_statement.TheVariants.Else q) = else_line q
 line_of source_statement.TheVariants.EndIf = end_line
+line_of (source_statement.TheVariants.While e q) = while_line (placed_of e) q
+line_of (source_statement.TheVariants.EndWhile q) = back_line q
 line_of (source_statement.TheVariants.Send d t p) = simple_line (send (placed_of d) (placed_of t) (payload_of p))
 line_of (source_statement.TheVariants.Receive s t b) = simple_line (receive (choice_of s) (choice_of t) (buffer_of b))
 line_of (source_statement.TheVariants.Print e) = simple_line (print (placed_of e))

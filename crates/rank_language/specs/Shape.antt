@@ -1,7 +1,7 @@
--- The tree that lines spell (the rank-program text: `if` .. `else` .. `end`).
+-- The tree that lines spell (the rank-program text: `if` .. `else` .. `end`, `while` .. `end`).
 use Rattle.std.specs.Prelude.{◌≡◌, List, [], ◌∷◌, Bool, true, false, map}
-use Rattle.rank_language.specs.Placed.{Placed, Step, does, tests, otherwise, closes}
-use Rattle.rank_language.specs.Block.{Block, done, plain, if_only, if_else, Line, simple_line, if_line, else_line, end_line, lines_at}
+use Rattle.rank_language.specs.Placed.{Placed, Step, does, tests, repeats, otherwise, closes}
+use Rattle.rank_language.specs.Block.{Block, done, plain, if_only, if_else, loop, Line, simple_line, if_line, else_line, end_line, while_line, back_line, lines_at}
 
 -- a line without where it leads
 abbrev pub step_of : Line → Step
@@ -9,6 +9,8 @@ step_of (simple_line s) = does s
 step_of (if_line e q) = tests e
 step_of (else_line q) = otherwise
 step_of end_line = closes
+step_of (while_line e q) = repeats e
+step_of (back_line q) = closes
 
 -- A list of statements that lines begin, and whether an `else` ends it.
 abbrev pub Part : Type 0
@@ -25,11 +27,17 @@ branched e ((false, y) ∷ ps) = fronted (if_only e y) ps
 branched e ((true, y) ∷ ((b, o) ∷ ps)) = fronted (if_else e y o) ps
 branched e _ = []
 
+-- the lists that a `while` begins: its body goes into it
+abbrev pub looped : Placed → List Part → List Part
+looped e ((false, y) ∷ ps) = fronted (loop e y) ps
+looped e _ = []
+
 -- the lists of statements that lines begin, the innermost first
 abbrev pub parts : List Step → List Part
 parts [] = (false, done) ∷ []
 parts (does s ∷ ss) = fronted (plain s) (parts ss)
 parts (tests e ∷ ss) = branched e (parts ss)
+parts (repeats e ∷ ss) = looped e (parts ss)
 parts (otherwise ∷ ss) = (true, done) ∷ parts ss
 parts (closes ∷ ss) = (false, done) ∷ parts ss
 

@@ -2,7 +2,7 @@
 ghost use Rattle.std.specs.Prelude.{◌≡◌, ◌+◌, ◌-◌, ◌^◌, ◌<◌, [], length, All, Some, IfOk, drop, map, option_map, reverse};
 ghost use Rattle.rank_lines.specs.SeenLines.{forms_seen};
 ghost use Rattle.rank_text.specs.SeenForms.{form_seen};
-ghost use Rattle.rank_language.specs.Ends.{ends_before, form_line, kind_of, lines_from, target_of};
+ghost use Rattle.rank_language.specs.Ends.{ends_before, form_line, kind_of, lines_behind, lines_from, target_of};
 ghost use Rattle.rank_language.specs.Resolvable.{AllResolvable, IsResolvable};
 ghost use Rattle.rank_language.specs.Seen.{line_of};
 ghost use Rattle.rank_language.specs.SeenTables.{tables_seen};
@@ -22,7 +22,7 @@ fn target(form: &Form, position: usize, ends: &mut Vec<usize, Heap>) -> Result<u
         × (reverse ends.new.items ≡ ends_before position (kind_of (form_seen form.now)) (reverse ends.old.items))) }
 {
     match form {
-        Form::If(_) => Ok(ends.pop().unwrap_or(0)),
+        Form::If(_) | Form::While(_) => Ok(ends.pop().unwrap_or(0)),
         Form::Else => {
             let target = ends.pop().unwrap_or(0);
             ends.push(position + 1)?;
@@ -33,6 +33,26 @@ fn target(form: &Form, position: usize, ends: &mut Vec<usize, Heap>) -> Result<u
             Ok(0)
         }
         _ => Ok(0),
+    }
+}
+
+/// Behind a `while` the `end` in front of its target leads back to it. The last statement is the first of `statements`.
+#[tactic(auto, using(crate::proofs::Loops::kept, crate::proofs::Loops::back_past))]
+fn lead_back(form: &Form, position: usize, target: usize, statements: &mut Vec<Statement, Heap>)
+    ensures { map line_of (reverse statements.new.items)
+        ≡ lines_behind position (kind_of (form_seen form.now)) target (map line_of (reverse statements.old.items)) }
+{
+    let Form::While(_) = form else {
+        return;
+    };
+    let place = target.saturating_sub(position).saturating_sub(2);
+    let count = statements.len();
+    if place >= count {
+        return;
+    }
+    let index = count - 1 - place;
+    if let Statement::EndIf = &statements[index] {
+        statements[index] = Statement::EndWhile(position);
     }
 }
 
@@ -55,6 +75,7 @@ pub(crate) fn statements_of(
         position -= 1;
         let form = &forms[position];
         let target = target(form, position, &mut ends)?;
+        lead_back(form, position, target, &mut statements);
         let statement = resolve_form(alloc, tables, form, target)?;
         statements.push(statement)?;
     }

@@ -61,9 +61,15 @@ pub(crate) fn resolve_form(
 {
     match form {
         Form::Var(name) => Ok(Statement::Declare(tables.variable(*name))),
+        Form::Let(name, value) => {
+            let value = resolve(alloc, tables, value)?;
+            Ok(Statement::Assign(tables.variable(*name), value))
+        }
         Form::If(test) => Ok(Statement::If(resolve(alloc, tables, test)?, target)),
         Form::Else => Ok(Statement::Else(target)),
+        // an `end` of a `while` is led back when that `while` is met
         Form::End => Ok(Statement::EndIf),
+        Form::While(test) => Ok(Statement::While(resolve(alloc, tables, test)?, target)),
         Form::Send(destination, tag, payload) => Ok(Statement::Send {
             destination: resolve(alloc, tables, destination)?,
             tag: resolve(alloc, tables, tag)?,

@@ -31,12 +31,18 @@ pub enum Buffer {
 pub enum Statement {
     /// A variable by its place: it is 0 from the rank's beginning.
     Declare(usize),
+    /// A variable by its place, and its new value.
+    Assign(usize, Expression),
     /// What is tested, and the position that follows where it is 0.
     If(Expression, usize),
     /// Reached from above, it leads past its `end`, to this position.
     Else(usize),
     /// The `end` of an `if`.
     EndIf,
+    /// What is tested, and the position behind its `end`, which follows where it is 0.
+    While(Expression, usize),
+    /// The `end` of a `while`, and the position of that `while`, which follows.
+    EndWhile(usize),
     Send {
         destination: Expression,
         tag: Expression,
@@ -57,8 +63,11 @@ impl Statement {
         ensures { result ≡ next_position (line_of self.now) position truth }
     {
         match self {
-            Statement::If(_, otherwise) => { if truth { position + 1 } else { *otherwise } }
+            Statement::If(_, otherwise) | Statement::While(_, otherwise) => {
+                if truth { position + 1 } else { *otherwise }
+            }
             Statement::Else(after) => *after,
+            Statement::EndWhile(start) => *start,
             _ => position + 1,
         }
     }

@@ -9,6 +9,10 @@ use std::test::*;
 const NESTED: &str =
     "var x\nvar y\nif rank == 0\n  send 1, 7, y\n  if x\n    print 1\n  else\n    print -y\n  end\nelse\n  recv any, size - 1, y\nend\nprint (x + 2) * count\nif 0\nend\n";
 
+/// A `while` that holds an `if` with another `while`, and a `while` without a body.
+const LOOPS: &str =
+    "var x\nwhile x < 3\n  let x = x + 1\n  if x == 2\n    while 0\n    end\n  else\n    print x\n  end\nend\nwhile 1\nend\n";
+
 /// The statement at a position, as `Debug` has it.
 fn shown(alloc: Heap, program: &Program, position: usize) -> Result<String<Heap>, AllocError> {
     format!(in alloc; "{:?}", program.statement(position))
@@ -59,6 +63,54 @@ fn positions(rt: HostRuntime) -> Result<(), Fail> {
 }
 
 #[test]
+fn positions_of_loops(rt: HostRuntime) -> Result<(), Fail> {
+    let program = Program::parse(rt.alloc(), LOOPS.as_bytes())?;
+    for (position, holds, fails) in [
+        (1, 2, 10),
+        (2, 3, 3),
+        (3, 4, 7),
+        (4, 5, 6),
+        (5, 4, 4),
+        (6, 9, 9),
+        (8, 9, 9),
+        (9, 1, 1),
+        (10, 11, 12),
+        (11, 10, 10),
+    ] {
+        assert_eq!(rt;
+            next(&program, position, true),
+            Some(holds),
+            "at {position}"
+        );
+        assert_eq!(rt;
+            next(&program, position, false),
+            Some(fails),
+            "at {position}"
+        );
+    }
+    Ok(())
+}
+
+#[test]
+fn statements_of_loops(rt: HostRuntime) -> Result<(), Fail> {
+    let program = Program::parse(rt.alloc(), LOOPS.as_bytes())?;
+    for (position, want) in [
+        (
+            1,
+            "Some(While(Operation(Less, Variable(0), Number(3)), 10))",
+        ),
+        (2, "Some(Assign(0, Operation(Add, Variable(0), Number(1))))"),
+        (5, "Some(EndWhile(4))"),
+        (8, "Some(EndIf)"),
+        (9, "Some(EndWhile(1))"),
+    ] {
+        let text = shown(rt.alloc(), &program, position)?;
+        assert_eq!(rt; text.as_str(), want, "at {position}");
+    }
+    Ok(())
+}
+
+#[test]
 fn statements(rt: HostRuntime) -> Result<(), Fail> {
     let program = Program::parse(rt.alloc(), NESTED.as_bytes())?;
     assert_eq!(rt; program.variable_count(), 2);
@@ -100,6 +152,8 @@ fn refused(rt: HostRuntime) -> Result<(), Fail> {
         ("print y / 9223372036854775808", 1, FaultKind::Undeclared),
         ("print 9223372036854775808", 1, FaultKind::NumberRange),
         ("if 1", 2, FaultKind::BlockOpen),
+        ("while 1\nelse\nend", 2, FaultKind::BlockStray),
+        ("var x\nlet x[0] = 1", 2, FaultKind::BadForm),
     ] {
         match Program::parse(rt.alloc(), text.as_bytes()) {
             Err(ParseFault::Fault(fault)) => {

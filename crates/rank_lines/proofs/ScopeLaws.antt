@@ -4,7 +4,7 @@ use Rattle.std.specs.Prelude.{◌≡◌, ◌-◌, ◌<◌, List, [], ◌∷◌, 
 use Rattle.std.proofs.Common.{refl, sym, ap, ◌∙◌, arith, length-append, append-nil}
 use Rattle.std.proofs.lemmas.Bool.Decides.{nat_tests}
 use Rattle.rank_lines.specs.declared.scope.Opened as source_opened
-use Rattle.rank_lines.specs.Scope.{Opened, in_if, in_else, other_branch, outer, is_open_if, is_empty}
+use Rattle.rank_lines.specs.Scope.{Opened, in_if, in_else, in_while, other_branch, outer, is_open_if, is_empty}
 use Rattle.rank_lines.specs.SeenLines.{opened_seen, blocks_seen}
 
 -- the last block is seen first
@@ -21,20 +21,24 @@ blocks_length (b ∷ bs) = let h = blocks_length bs in omega (arith, length-appe
 front_if : (xs : List Opened) (x y : Opened) → is_open_if ((xs ++ x ∷ []) ++ y ∷ []) ≡ is_open_if (xs ++ x ∷ [])
 front_if [] in_if y = refl
 front_if [] in_else y = refl
+front_if [] in_while y = refl
 front_if (in_if ∷ xs) x y = refl
 front_if (in_else ∷ xs) x y = refl
+front_if (in_while ∷ xs) x y = refl
 
 -- a block is an `if` without its `else`
 abbrev pub is_if : Option source_opened.Opened → Bool
 is_if None = false
 is_if (Some source_opened.TheVariants.If) = true
 is_if (Some source_opened.TheVariants.Else) = false
+is_if (Some source_opened.TheVariants.While) = false
 
 -- the first of some blocks is seen last, and the last one first
 innermost_of : (b : source_opened.Opened) (bs : List source_opened.Opened)
     → is_open_if (blocks_seen (b ∷ bs)) ≡ is_if (slice_get (b ∷ bs) (length bs))
 innermost_of source_opened.TheVariants.If [] = refl
 innermost_of source_opened.TheVariants.Else [] = refl
+innermost_of source_opened.TheVariants.While [] = refl
 innermost_of b (c ∷ bs) = front_if (blocks_seen bs) (opened_seen c) (opened_seen b) ∙ innermost_of c bs
 
 -- the innermost block is the last of the code

@@ -5,12 +5,13 @@ use Rattle.std.specs.Str.{bytes_eq}
 use Rattle.rank_text.specs.declared.token.Token.{Token}
 use Rattle.rank_text.specs.declared.token.Token.TheVariants as t
 use Rattle.rank_text.specs.Tree.{Tree, number, variable, item, reading, negation, operation}
-use Rattle.rank_text.specs.Forms.{Choice, any, value, Payload, lone, one, Form, var_form, if_form, else_form, end_form, send_form, recv_form, print_form}
+use Rattle.rank_text.specs.Forms.{Choice, any, value, Payload, lone, one, Form, var_form, let_form, if_form, else_form, end_form, while_form, send_form, recv_form, print_form}
 
--- a block that is open: the first part of an `if`, or the part after its `else`
+-- a block that is open: the first part of an `if`, the part after its `else`, or a `while`
 pub data Opened : Type 0 where
   in_if : Opened
   in_else : Opened
+  in_while : Opened
 
 -- names in order of declaration, arrays with their lengths, and the open blocks, the innermost first
 pub record Scope : Type 0 where
@@ -60,7 +61,9 @@ payload_declared s (one e) = all_declared s e
 
 -- each name in a statement is declared in the sort that is used there
 abbrev pub declared_in : Scope → Form → Bool
+declared_in s (let_form x e) = is_variable s x && all_declared s e
 declared_in s (if_form e) = all_declared s e
+declared_in s (while_form e) = all_declared s e
 declared_in s (send_form d g p) = all_declared s d && all_declared s g && payload_declared s p
 declared_in s (recv_form c g x) = choice_declared s c && choice_declared s g && is_declared s x
 declared_in s (print_form e) = all_declared s e
@@ -111,7 +114,9 @@ payload_is_large (one e) = is_large e
 
 -- an expression of the statement has over 64 nodes
 abbrev pub has_large : Form → Bool
+has_large (let_form x e) = is_large e
 has_large (if_form e) = is_large e
+has_large (while_form e) = is_large e
 has_large (send_form d g p) = is_large d || is_large g || payload_is_large p
 has_large (recv_form c g x) = choice_is_large c || choice_is_large g
 has_large (print_form e) = is_large e
@@ -128,6 +133,7 @@ deepest n (_ ∷ ts) = deepest n ts
 abbrev pub is_past_table : Scope → Form → Bool
 is_past_table s (var_form x) = nat_le 64 (length s.variables) || nat_lt 16 (length x)
 is_past_table s (if_form e) = nat_le 32 (length s.blocks)
+is_past_table s (while_form e) = nat_le 32 (length s.blocks)
 is_past_table s _ = false
 
 -- a limit is passed
@@ -154,7 +160,9 @@ payload_is_great (one e) = is_great e
 
 -- a number of the statement is above 9223372036854775807
 abbrev pub has_great_number : Form → Bool
+has_great_number (let_form x e) = is_great e
 has_great_number (if_form e) = is_great e
+has_great_number (while_form e) = is_great e
 has_great_number (send_form d g p) = is_great d || is_great g || payload_is_great p
 has_great_number (recv_form c g x) = choice_is_great c || choice_is_great g
 has_great_number (print_form e) = is_great e
@@ -174,6 +182,7 @@ outer (b ∷ bs) = bs
 abbrev pub after : Scope → Form → Scope
 after s (var_form x) = record s { variables = s.variables ++ x ∷ [] }
 after s (if_form e) = record s { blocks = in_if ∷ s.blocks }
+after s (while_form e) = record s { blocks = in_while ∷ s.blocks }
 after s else_form = record s { blocks = other_branch s.blocks }
 after s end_form = record s { blocks = outer s.blocks }
 after s _ = s

@@ -10,7 +10,7 @@ use Rattle.rank_text.specs.declared.form.Form as source_form
 use Rattle.rank_text.specs.Forms.{Form}
 use Rattle.rank_text.specs.SeenForms.{form_seen}
 use Rattle.rank_lines.specs.Lines.{lines_of, onto_first}
-use Rattle.rank_lines.specs.Scope.{Opened, in_if, in_else, Scope}
+use Rattle.rank_lines.specs.Scope.{Opened, in_if, in_else, in_while, Scope}
 
 -- bytes with no LF, put in front of the first of some lines
 abbrev pub onto : List ℕ → List (List ℕ) → List (List ℕ)
@@ -26,6 +26,7 @@ cut_of (Some c) = c.0.now ∷ lines_of c.1.now
 abbrev pub opened_seen : source_opened.Opened → Opened
 opened_seen source_opened.TheVariants.If = in_if
 opened_seen source_opened.TheVariants.Else = in_else
+opened_seen source_opened.TheVariants.While = in_while
 
 -- the innermost block is the last of the code, and the first here
 abbrev pub blocks_seen : List source_opened.Opened → List Opened

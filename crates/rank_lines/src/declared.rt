@@ -45,7 +45,9 @@ pub(crate) fn declared_in(scope: &Scope, form: &Form) -> bool
     ensures { result ≡ declared_in (scope_seen scope.now) (form_seen form.now) }
 {
     match form {
+        Form::Let(name, value) => scope.is_variable(name) && all_declared(scope, value),
         Form::If(expression) => all_declared(scope, expression),
+        Form::While(expression) => all_declared(scope, expression),
         Form::Print(expression) => all_declared(scope, expression),
         Form::Send(dest, tag, payload) => {
             all_declared(scope, dest)

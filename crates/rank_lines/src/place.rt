@@ -67,6 +67,7 @@ pub(crate) fn is_past_table(scope: &Scope, form: &Form) -> bool
     match form {
         Form::Var(name) => scope.variables.len() >= VARIABLES || name.is_too_long(),
         Form::If(_) => has_all_blocks(scope),
+        Form::While(_) => has_all_blocks(scope),
         _ => false,
     }
 }

@@ -3,8 +3,8 @@ ghost use Rattle.std.specs.Prelude.{◌≡◌, ◌∷◌, OnOk, OnErr};
 ghost use Rattle.std.specs.Str.{bytes_eq};
 ghost use Rattle.rank_text.specs.Forms.{else_form, end_form, var_form};
 ghost use Rattle.rank_text.specs.SeenForms.{form_seen};
-ghost use Rattle.rank_lines.specs.Scope.{after, is_array, is_declared, is_name_in, is_variable, in_if, nothing_yet};
-ghost use Rattle.rank_lines.specs.SeenLines.{scope_seen};
+ghost use Rattle.rank_lines.specs.Scope.{after, is_array, is_declared, is_name_in, is_variable, nothing_yet};
+ghost use Rattle.rank_lines.specs.SeenLines.{opened_seen, scope_seen};
 
 use metered::Heap;
 use rank_text::{Form, Name};
@@ -17,11 +17,12 @@ pub struct Array {
     pub length: usize,
 }
 
-/// A block that is open: the first part of an `if`, or the part after its `else`.
+/// A block that is open: the first part of an `if`, the part after its `else`, or a `while`.
 #[derive(Clone, Copy, Debug, PartialEq, Eq)]
 pub(crate) enum Opened {
     If,
     Else,
+    While,
 }
 
 /// The names in order of declaration, and the open blocks, the innermost last.
@@ -88,12 +89,12 @@ impl Scope {
     }
 
     #[tactic(auto, using(crate::proofs::ScopeLaws::blocks_push))]
-    fn open(&mut self) -> Result<(), AllocError>
+    fn open(&mut self, block: Opened) -> Result<(), AllocError>
         ensures ok { OnOk result (scope_seen self.new
-            ≡ record (scope_seen self.old) { blocks = in_if ∷ (scope_seen self.old).blocks }) }
+            ≡ record (scope_seen self.old) { blocks = opened_seen block ∷ (scope_seen self.old).blocks }) }
         ensures err { OnErr result (scope_seen self.new ≡ scope_seen self.old) }
     {
-        self.blocks.push(Opened::If)?;
+        self.blocks.push(block)?;
         Ok(())
     }
 
@@ -121,7 +122,8 @@ impl Scope {
     {
         match form {
             Form::Var(name) => self.declare(*name),
-            Form::If(_) => self.open(),
+            Form::If(_) => self.open(Opened::If),
+            Form::While(_) => self.open(Opened::While),
             Form::Else => {
                 self.turn();
                 Ok(())

@@ -58,7 +58,9 @@ pub(crate) fn has_large(form: &Form) -> bool
     ensures { result ≡ has_large (form_seen form.now) }
 {
     match form {
+        Form::Let(_, value) => is_large(value),
         Form::If(expression) => is_large(expression),
+        Form::While(expression) => is_large(expression),
         Form::Print(expression) => is_large(expression),
         Form::Send(dest, tag, payload) => {
             is_large(dest) || is_large(tag) || payload_is_large(payload)

@@ -1,12 +1,12 @@
 -- What a rank does is determined by its acts and their messages.
 -- A state that fits an act has no inner step, so inner steps lead to just one state that does: from there the act leads on.
 use Rattle.std.proofs.Common.{◌≡◌, ℤ, List, [], ◌∷◌, Ok, Err, Option, Some, None, option_map, refl, sym, ap, ◌∙◌}
-use Rattle.rank_language.specs.Placed.{declare, send, receive, print}
-use Rattle.rank_language.specs.Block.{Block, done, plain, if_only, if_else}
+use Rattle.rank_language.specs.Placed.{declare, assign, send, receive, print}
+use Rattle.rank_language.specs.Block.{Block, done, plain, if_only, if_else, loop}
 use Rattle.rank_machine.specs.declared.fault.MachineFault.{MachineFault}
 use Rattle.rank_machine.specs.declared.want.Want.TheVariants as want
 use Rattle.rank_machine.specs.Values.{Store, Valued, ◌>>=◌, value}
-use Rattle.rank_machine.specs.States.{State, Inners, here, on, inner, inner_of, after_test}
+use Rattle.rank_machine.specs.States.{State, Inners, here, on, inner, inner_of, after_test, after_value}
 use Rattle.rank_machine.specs.Wants.{or_fault, want_of, wants, payload}
 use Rattle.rank_machine.specs.Acts.{Act, Message, Fits, Makes, next, Does, Runs}
 use Rattle.rank_machine.proofs.Lines.{tests_only}
@@ -15,31 +15,41 @@ still_of : (s : Store) (b : Block) (k : Option MachineFault) (items : List ℤ) 
 still_of s b (Some k) items act m f = refl
 still_of s done None items act m f = refl
 still_of s (plain (declare p) r) None items act m f = absurd f
+still_of s (plain (assign p e) r) None items act m f = absurd (tests_only (λ w. Fits w items act m) s e (λ k h. h) (λ h. h) f)
 still_of s (plain (send d t p) r) None items act m f = refl
 still_of s (plain (receive c t b) r) None items act m f = refl
 still_of s (plain (print e) r) None items act m f = refl
 still_of s (if_only e y r) None items act m f = absurd (tests_only (λ w. Fits w items act m) s e (λ k h. h) (λ h. h) f)
 still_of s (if_else e y o r) None items act m f = absurd (tests_only (λ w. Fits w items act m) s e (λ k h. h) (λ h. h) f)
+still_of s (loop e y r) None items act m f = absurd (tests_only (λ w. Fits w items act m) s e (λ k h. h) (λ h. h) f)
 
 -- where an act fits no inner step is possible
 pub still : (a : State) (act : Act) (m : Option Message) → Makes a act m → inner a ≡ None
 still a act m f = still_of a.store a.rest a.fault (payload a) act m f
 
 -- a test that takes a step is one that doesn't fault
-tested_internal : (s : Store) (b : Block) (v : Valued ℤ) (c : State) → option_map (λ (r : Block). let a : State = record { store = s; rest = r; fault = None } in a) (after_test b v) ≡ Some c →
+tested_internal : (b : Block) (v : Valued ℤ) (f : Block → State) (c : State) → option_map f (after_test b v) ≡ Some c →
     or_fault (v >>= (λ z. Ok want.Internal)) ≡ want.Internal
-tested_internal s b (Ok z) c h = refl
-tested_internal s b (Err k) c h = cc
+tested_internal b (Ok z) f c h = refl
+tested_internal b (Err k) f c h = cc
+
+-- and so is a `let`
+assigned_internal : (b : Block) (v : Valued ℤ) (f : Block → State) (c : State) → option_map f (after_value b v) ≡ Some c →
+    or_fault (v >>= (λ z. Ok want.Internal)) ≡ want.Internal
+assigned_internal b (Ok z) f c h = refl
+assigned_internal b (Err k) f c h = cc
 
 internal_of : (s : Store) (b : Block) (k : Option MachineFault) (c : State) → inner_of s b k ≡ Some c → want_of s b k ≡ want.Internal
 internal_of s b (Some k) c h = cc
 internal_of s done None c h = cc
 internal_of s (plain (declare p) r) None c h = refl
+internal_of s (plain (assign p e) r) None c h = assigned_internal r (value s e) _ c h
 internal_of s (plain (send d t p) r) None c h = cc
 internal_of s (plain (receive d t b) r) None c h = cc
 internal_of s (plain (print e) r) None c h = cc
-internal_of s (if_only e y r) None c h = tested_internal s (if_only e y r) (value s e) c h
-internal_of s (if_else e y o r) None c h = tested_internal s (if_else e y o r) (value s e) c h
+internal_of s (if_only e y r) None c h = tested_internal (if_only e y r) (value s e) _ c h
+internal_of s (if_else e y o r) None c h = tested_internal (if_else e y o r) (value s e) _ c h
+internal_of s (loop e y r) None c h = tested_internal (loop e y r) (value s e) _ c h
 
 -- a state that has an inner step wants it
 pub inner_wants : (a b : State) → inner a ≡ Some b → wants a ≡ want.Internal

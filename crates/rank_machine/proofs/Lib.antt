@@ -4,3 +4,4 @@ pub mod Going
 pub mod Standing
 pub mod Determined
 pub mod Making
+pub mod NoProbe

@@ -2,13 +2,14 @@
 use Rattle.std.specs.Prelude.{◌≡◌, ◌≢◌, ℕ, ℤ, ◌<◌, ◌≤◌, Bool, true, false, not, length, Ok, Err, Option, Some, None, ◌⊎◌, slice_get}
 use Rattle.matching.specs.Message as packet
 use Rattle.matching.specs.Matching.{matches}
-use Rattle.rank_language.specs.Block.{Line, if_line, simple_line, else_line, end_line, Leads, remaining, size, next_position}
+use Rattle.rank_language.specs.Placed.{assign}
+use Rattle.rank_language.specs.Block.{Line, if_line, simple_line, else_line, end_line, while_line, back_line, Leads, remaining, size, next_position}
 use Rattle.rank_language.specs.Program.{ProgramValue, tree_of}
 use Rattle.rank_machine.specs.declared.fault.MachineFault.{MachineFault}
 use Rattle.rank_machine.specs.declared.want.Want.{Want}
 use Rattle.rank_machine.specs.declared.want.Want.TheVariants as want
 use Rattle.rank_machine.specs.Values.{Store, Valued, value, is_zero}
-use Rattle.rank_machine.specs.States.{State, inner}
+use Rattle.rank_machine.specs.States.{State, inner, assigned}
 use Rattle.rank_machine.specs.Wants.{simple_want, test_want, wants}
 
 pub record MachineValue : Type 0 where
@@ -25,10 +26,11 @@ state_of m = record { store = m.store; rest = remaining (tree_of m.program) m.po
 abbrev pub line_at : MachineValue → Option Line
 line_at m = slice_get m.program.statements m.position
 
--- an `else` that is reached from above and an `end` only lead on; at any other line a machine wants what its state wants
+-- an `else` that is reached from above and an `end` only lead on, or back; at any other line a machine wants what its state wants
 abbrev pub asked : Option Line → Option MachineFault → Want → Want
 asked (Some (else_line q)) None w = want.Internal
 asked (Some end_line) None w = want.Internal
+asked (Some (back_line q)) None w = want.Internal
 asked l k w = w
 
 -- what a machine wants
@@ -41,6 +43,8 @@ line_want s (simple_line x) = simple_want s x
 line_want s (if_line e q) = test_want s e
 line_want s (else_line q) = Ok want.Internal
 line_want s end_line = Ok want.Internal
+line_want s (while_line e q) = test_want s e
+line_want s (back_line q) = Ok want.Internal
 
 -- whether a value counts as true
 abbrev pub is_true : Valued ℤ → Bool
@@ -50,6 +54,7 @@ is_true (Err k) = false
 -- the truth of what a line tests
 abbrev pub truth_of : Store → Line → Bool
 truth_of s (if_line e q) = is_true (value s e)
+truth_of s (while_line e q) = is_true (value s e)
 truth_of s l = false
 
 -- where a line leads from this position; past the last line nowhere
@@ -61,6 +66,20 @@ position_after s (Some l) p = next_position l p (truth_of s l)
 abbrev pub next_of : MachineValue → ℕ
 next_of m = position_after m.store (line_at m) m.position
 
+-- what is stored after a line: a `let` sets its variable, and nothing else changes
+abbrev pub line_store : Store → Line → Store
+line_store s (simple_line (assign p e)) = assigned s p (value s e)
+line_store s l = s
+
+-- what is stored after a line, if there is one
+abbrev pub store_after : Store → Option Line → Store
+store_after s None = s
+store_after s (Some l) = line_store s l
+
+-- what is stored after the machine's line
+abbrev pub stored_of : MachineValue → Store
+stored_of m = store_after m.store (line_at m)
+
 -- What the line at a machine's position says: how the statements that remain go on from there, and past the last line that none remain.
 pub record IsAtLine (m : MachineValue) : Type 0 where
   pub leads : (l : Line) → line_at m ≡ Some l → Leads (remaining (tree_of m.program)) m.position l
@@ -70,13 +89,20 @@ pub record IsAtLine (m : MachineValue) : Type 0 where
 abbrev pub moved_to : MachineValue → ℕ → MachineValue
 moved_to m p = record m { position = p }
 
--- An internal step: at most one inner step of the state, to the position where the line leads, which is another. All else stays.
+-- the machine with what is stored after a line at this position
+abbrev pub stored_at : MachineValue → ℕ → MachineValue
+stored_at m p = record m { store = store_after m.store (slice_get m.program.statements p) }
+
+-- An internal step: at most one inner step of the state, to the position where the line leads, which is another. A `let` sets its
+-- variable, and all else stays.
 pub record GoesOn (m m' : MachineValue) : Type 0 where
   pub state : (inner (state_of m) ≡ Some (state_of m')) ⊎ (state_of m' ≡ state_of m)
   pub position : m'.position ≡ next_of m
   pub moves : m'.position ≢ m.position
   pub program : m'.program ≡ m.program
-  pub store : m'.store ≡ m.store
+  pub store : m'.store ≡ stored_of m
+  pub rank : m'.store.rank ≡ m.store.rank
+  pub size : m'.store.size ≡ m.store.size
   pub fault : m'.fault ≡ m.fault
 
 -- the position after a reception: where the line leads, or where it stood if the message was too long

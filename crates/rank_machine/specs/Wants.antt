@@ -1,8 +1,8 @@
 -- What a state wants next (MPI 1.1, sections 3.2 and 3.8: the envelope of a send, the source and tag of a receive).
 use Rattle.std.specs.Prelude.{◌≡◌, ℕ, ℤ, pos, negsuc, ◌<◌, ◌≤◌, nat_lt, nat_le, Bool, true, false, List, [], ◌∷◌, Ok, Err, Option, Some, None, if◌then◌else◌}
 use Rattle.matching.specs.declared.packet.Context.TheVariants.{PointToPoint}
-use Rattle.rank_language.specs.Placed.{Placed, Choice, any, value as chosen, Payload, one, Simple, declare, send, receive, print}
-use Rattle.rank_language.specs.Block.{Block, done, plain, if_only, if_else}
+use Rattle.rank_language.specs.Placed.{Placed, Choice, any, value as chosen, Payload, one, Simple, declare, assign, send, receive, print}
+use Rattle.rank_language.specs.Block.{Block, done, plain, if_only, if_else, loop}
 use Rattle.rank_machine.specs.declared.fault.MachineFault.{MachineFault}
 use Rattle.rank_machine.specs.declared.fault.MachineFault.TheVariants.{BadRank, BadTag}
 use Rattle.rank_machine.specs.declared.want.Want.{Want}
@@ -53,16 +53,17 @@ receive_want s c t = do
   tag ← where_named tag_in y
   Ok (want.Receive (record { context = PointToPoint; source = source; tag = tag }))
 
+-- a test, and a `let`, is a step of its own, where its value doesn't fault
+abbrev pub test_want : Store → Placed → Valued Want
+test_want s e = value s e >>= (λ z. Ok want.Internal)
+
 -- what a statement without parts asks for, or the fault of its evaluation
 abbrev pub simple_want : Store → Simple → Valued Want
 simple_want s (declare p) = Ok want.Internal
+simple_want s (assign p e) = test_want s e
 simple_want s (send d t p) = send_want s d t p
 simple_want s (receive c t b) = receive_want s c t
 simple_want s (print e) = value s e >>= (λ z. Ok (want.Print z))
-
--- a test is a step of its own, where its value doesn't fault
-abbrev pub test_want : Store → Placed → Valued Want
-test_want s e = value s e >>= (λ z. Ok want.Internal)
 
 -- what the first statement asks for, or the fault of its evaluation
 abbrev pub first_want : Store → Block → Valued Want
@@ -70,6 +71,7 @@ first_want s done = Ok want.Halted
 first_want s (plain x r) = simple_want s x
 first_want s (if_only e y r) = test_want s e
 first_want s (if_else e y o r) = test_want s e
+first_want s (loop e y r) = test_want s e
 
 -- the want, or that evaluation faults
 abbrev pub or_fault : Valued Want → Want
@@ -130,3 +132,9 @@ is_act (want.Print z) = true
 is_act want.Internal = false
 is_act want.Halted = false
 is_act (want.Faulted k) = false
+
+-- the want is no probe (MPI 1.1, section 3.8, has probes; no statement makes one yet)
+abbrev pub IsNoProbe : Want → Type 0
+IsNoProbe (want.Probe selector) = ⊥
+IsNoProbe (want.TryProbe selector) = ⊥
+IsNoProbe _ = Unit {0}

@@ -6,7 +6,7 @@ ghost use Rattle.rank_machine.specs.Values.{value, read};
 ghost use Rattle.rank_machine.specs.States.{first_store};
 ghost use Rattle.rank_machine.specs.Wants.{rank_in, items_of, or_nothing};
 ghost use Rattle.rank_machine.specs.Acts.{room, written, with_status, carried};
-ghost use Rattle.rank_machine.specs.Machine.{truth_of};
+ghost use Rattle.rank_machine.specs.Machine.{truth_of, line_store};
 
 use crate::fault::MachineFault;
 use crate::operate::{negated, operated};
@@ -107,12 +107,27 @@ impl Store {
         requires { IsPlaced (length self.now.variables) (length self.now.arrays) (line_of statement.now) }
         ensures { result ≡ truth_of self.now (line_of statement.now) }
     {
+        let (Statement::If(condition, _) | Statement::While(condition, _)) = statement else {
+            return false;
+        };
+        match self.value_of(condition) {
+            Ok(value) => value != 0,
+            Err(_) => false,
+        }
+    }
+
+    /// A `let` sets its variable, where its value doesn't fault.
+    pub fn assign(&mut self, statement: &Statement)
+        requires { IsPlaced (length self.old.variables) (length self.old.arrays) (line_of statement.now) }
+        ensures { self.new ≡ line_store self.old (line_of statement.now) }
+    {
         match statement {
-            Statement::If(condition, _) => match self.value_of(condition) {
-                Ok(value) => value != 0,
-                Err(_) => false,
-            },
-            _ => false,
+            Statement::Assign(place, expression) => {
+                if let Ok(value) = self.value_of(expression) {
+                    self.variables[*place] = value;
+                }
+            }
+            _ => {}
         }
     }
 

@@ -22,9 +22,12 @@ impl Store {
         ensures legal { IfOk result (λ want. IsLegal self.now.size want) }
     {
         match statement {
-            Statement::Declare(_) | Statement::Else(_) | Statement::EndIf => Ok(Want::Internal),
-            Statement::If(condition, _) => {
-                self.value_of(condition)?;
+            Statement::Declare(_)
+            | Statement::Else(_)
+            | Statement::EndIf
+            | Statement::EndWhile(_) => Ok(Want::Internal),
+            Statement::Assign(_, value) | Statement::If(value, _) | Statement::While(value, _) => {
+                self.value_of(value)?;
                 Ok(Want::Internal)
             }
             Statement::Send {

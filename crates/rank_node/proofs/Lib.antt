@@ -1,2 +1,1 @@
-pub mod NoProbe
 pub mod Found

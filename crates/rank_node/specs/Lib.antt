@@ -1,7 +1,6 @@
 pub mod Fault
 pub mod Stored
 pub mod Node
-pub mod Wanted
 pub mod Steps
 pub mod Storing
 pub mod Frames

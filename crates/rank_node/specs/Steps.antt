@@ -1,6 +1,7 @@
 -- The steps of a rank that runs, and the gate before what others see: no send and no print passes while an event that
 -- it may rest on is unstored or unacknowledged (pessimistic logging: Alvisi and Marzullo 1998, section 3).
-use Rattle.std.specs.Prelude.{◌≡◌, ℕ, ◌+◌, Bool, true, false, List, [], ◌∷◌, ◌++◌, ℤ, Option, Some, None, is_some, slice_get, slice_set, nat_lt, ◌==◌, if◌then◌else◌, option_and_then, position, MatchBool}
+use Rattle.std.specs.Prelude.{◌≡◌, ℕ, ◌+◌, nat_lt, ◌==◌, ℤ, Bool, true, false, if◌then◌else◌, MatchBool}
+use Rattle.std.specs.Prelude.{List, [], ◌∷◌, ◌++◌, Option, Some, None, is_some, option_and_then, slice_get, slice_set, position}
 use Rattle.matching.specs.declared.packet.Context.{Context}
 use Rattle.matching.specs.declared.selector.Selector.{Selector}
 use Rattle.matching.specs.Message.{Message, greatest}

@@ -6,6 +6,7 @@ mod due;
 mod fault;
 mod frame;
 mod frames;
+mod outlook;
 mod running;
 mod screen;
 mod stable;

@@ -41,9 +41,29 @@ impl<'p, S: Shelf, D> Model for Running<'p, S, D> {
 
     ghost coded = { Prim.hlevel (codes, placed_code) };
 
-    ghost view = { λ r. record { stable = r.stable; machine = r.machine; clock = r.clock; made = r.made; inbox = r.inbox; log = r.log; pending = r.pending.items; stored = r.stored; dues = r.dues.items } };
+    ghost view = { λ r. record {
+      stable = r.stable;
+      machine = r.machine;
+      clock = r.clock;
+      made = r.made;
+      inbox = r.inbox;
+      log = r.log;
+      pending = r.pending.items;
+      stored = r.stored;
+      dues = r.dues.items;
+    } };
 
-    ghost invariant = { λ r. IsNode {S = S} {D = D} (record { stable = r.stable; machine = r.machine; clock = r.clock; made = r.made; inbox = r.inbox; log = r.log; pending = r.pending.items; stored = r.stored; dues = r.dues.items }) };
+    ghost invariant = { λ r. IsNode {S = S} {D = D} (record {
+      stable = r.stable;
+      machine = r.machine;
+      clock = r.clock;
+      made = r.made;
+      inbox = r.inbox;
+      log = r.log;
+      pending = r.pending.items;
+      stored = r.stored;
+      dues = r.dues.items;
+    }) };
 }
 
 impl<'p, S: Shelf, D> Running<'p, S, D> {

@@ -16,18 +16,20 @@ use matching::{Context, Packet, Selector};
 use rank_machine::Want;
 
 /// The greatest clock.
-const GREATEST: u32 = 268435455;
+pub(crate) const GREATEST: u32 = 268435455;
 
 /// How many events a rank may make.
 const MOST_EVENTS: usize = 4096;
 
 impl<'p, S: Shelf, D> Running<'p, S, D> {
     ghost use Rattle.rank_node.specs.Node.{is_settled};
-    ghost use Rattle.rank_node.specs.Steps.{turn_of, turn_at, after_step, step_at, refusal_of, refusal_at, event_refusal, takes_memory, takes_memory_at, MachineStep, MachineStepAt, ShowsStep, ShowsAt};
+    ghost use Rattle.rank_node.specs.Steps.{turn_of, turn_at, after_step, step_at};
+    ghost use Rattle.rank_node.specs.Steps.{refusal_of, refusal_at, event_refusal, takes_memory, takes_memory_at};
+    ghost use Rattle.rank_node.specs.Steps.{MachineStep, MachineStepAt, ShowsStep, ShowsAt};
 
     /// One step of the machine, or none where it is blocked, held or ended. A
     /// print is shown before the machine moves.
-    #[tactic(auto, using(crate::proofs::NoProbe::not_probe, crate::proofs::NoProbe::not_try_probe))]
+    #[tactic(auto, using(rank_machine::proofs::NoProbe::not_probe, rank_machine::proofs::NoProbe::not_try_probe))]
     pub fn step<C: Screen>(&mut self, screen: &mut C) -> Result<Turn, NodeFault>
         ensures turn { IfOk result (λ turn. turn ≡ turn_of self.old) }
         ensures ok { OnOk result (self.new ≡ after_step self.old self.new.machine) }
@@ -143,14 +145,14 @@ impl<'p, S: Shelf, D> Running<'p, S, D> {
     }
 
     // Whether every event is stored and acknowledged.
-    fn is_settled(&self) -> bool
+    pub(crate) fn is_settled(&self) -> bool
         ensures { result ≡ is_settled self.now.pending }
     {
         self.pending.is_empty()
     }
 
     // Whether a further event may be made.
-    fn has_room(&self) -> Result<(), NodeFault>
+    pub(crate) fn has_room(&self) -> Result<(), NodeFault>
         ensures ok { OnOk result (event_refusal self.now ≡ None) }
         ensures err { IfErr result (λ e. event_refusal self.now ≡ Some e) }
         ensures clock { OnOk result (self.now.clock < greatest) }

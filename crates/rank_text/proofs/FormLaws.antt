@@ -13,9 +13,9 @@ use Rattle.rank_text.specs.declared.form.Form as source_form
 use Rattle.rank_text.specs.Tree.{Tree}
 use Rattle.rank_text.specs.Grammar.{Spells, whole}
 use Rattle.rank_text.specs.Reader.{expression_at, whole_expression}
-use Rattle.rank_text.specs.Forms.{Choice, value, Payload, one, Form, if_form, send_form, recv_form, print_form}
-use Rattle.rank_text.specs.Forms.{IsChoice, is_any, is_value, IsNoName, IsPayload, is_lone, is_one, IsForm, is_var, is_if, is_else, is_end, is_send, is_recv, is_print}
-use Rattle.rank_text.specs.Forms.{◌>>=◌, comma, lone_name, choice_at, payload_of, var_of, if_of, send_of, recv_of, print_of, form_of}
+use Rattle.rank_text.specs.Forms.{Choice, value, Payload, one, Form, let_form, if_form, while_form, send_form, recv_form, print_form}
+use Rattle.rank_text.specs.Forms.{IsChoice, is_any, is_value, IsNoName, IsPayload, is_lone, is_one, IsForm, is_var, is_let, is_if, is_else, is_end, is_while, is_send, is_recv, is_print}
+use Rattle.rank_text.specs.Forms.{◌>>=◌, comma, lone_name, choice_at, payload_of, var_of, let_of, if_of, while_of, send_of, recv_of, print_of, form_of}
 use Rattle.rank_text.specs.SeenForms.{form_in, form_seen}
 use Rattle.rank_text.proofs.Complete.{complete}
 use Rattle.rank_text.proofs.Sound.{sound, ReadIs}
@@ -46,11 +46,13 @@ choice_read (is_value {ts} d) rest = of_value ts rest (complete d (t.Comma ∷ r
 
 -- what has a form is read as that form
 pub form_read : {ts : List Token} {f : Form} → IsForm ts f → form_of ts ≡ Some f
-unfolding var_of if_of send_of recv_of print_of
+unfolding var_of let_of if_of while_of send_of recv_of print_of
 form_read is_var = refl
+form_read (is_let {x} {ts} {e} d) = ap (λ o. o >>= (λ e. Some (let_form x e))) (read_whole ts e d)
 form_read (is_if {ts} {e} d) = ap (λ o. o >>= (λ e. Some (if_form e))) (read_whole ts e d)
 form_read is_else = refl
 form_read is_end = refl
+form_read (is_while {ts} {e} d) = ap (λ o. o >>= (λ e. Some (while_form e))) (read_whole ts e d)
 form_read (is_send {ds} {gs} {ps} {d} {g} {p} dd dg dp) =
     ap (λ o. o >>= (λ d. comma d.1 >>= (λ us. expression_at us >>= (λ g. comma g.1 >>= (λ vs. payload_of vs >>= (λ p. Some (send_form d.0 g.0 p))))))) (complete dd (t.Comma ∷ (gs ++ t.Comma ∷ ps)) tt)
     ∙ ap (λ o. o >>= (λ g. comma g.1 >>= (λ vs. payload_of vs >>= (λ p. Some (send_form d g.0 p))))) (complete dg (t.Comma ∷ ps) tt)
@@ -138,7 +140,10 @@ recv_spelled ts =
 
 -- what is read as a form has it
 pub form_spelled : (ts : List Token) → FormIs (form_of ts) ts
-unfolding var_of if_of print_of
+unfolding var_of let_of if_of while_of print_of
+form_spelled (t.Keyword k.Let ∷ (t.Name x ∷ (t.Assign ∷ ts))) =
+    ended (whole_expression ts) ts (let_form x) (t.Keyword k.Let ∷ t.Name x ∷ t.Assign ∷ ts) (whole_spelled ts) (λ e d. is_let d)
+form_spelled (t.Keyword k.While ∷ ts) = ended (whole_expression ts) ts while_form (t.Keyword k.While ∷ ts) (whole_spelled ts) (λ e d. is_while d)
 form_spelled (t.Keyword k.If ∷ ts) = ended (whole_expression ts) ts if_form (t.Keyword k.If ∷ ts) (whole_spelled ts) (λ e d. is_if d)
 form_spelled (t.Keyword k.Print ∷ ts) = ended (whole_expression ts) ts print_form (t.Keyword k.Print ∷ ts) (whole_spelled ts) (λ e d. is_print d)
 form_spelled (t.Keyword k.Else ∷ []) = is_else

@@ -4,17 +4,16 @@
 -- fresh start up to its end, and the rest likewise. What is read is what the grammar has
 -- (`spelled`): what is pending stands for the bytes since its token began (`Stands`), and
 -- where it stops those bytes are a token as long as it can be.
-use Rattle.std.proofs.Common.{◌≡◌, ℕ, zero, suc, ◌+◌, ◌-◌, ◌*◌, ◌^◌, ◌≤◌, min, Bool, true, false, ◌&&◌, ◌||◌, List, [], ◌∷◌, ◌++◌, length, take, Option, Some, None, Result, Ok, Err, IfOk, IfSome, refl, ap, ◌∙◌, sym, subst, append_assoc, append-nil, arith, inl, inr}
-use Rattle.std.specs.Prelude.{nat_eq, if◌then◌else◌, ◌⊎◌, ◌≢◌}
+use Rattle.std.proofs.Common.{◌≡◌, ℕ, ◌+◌, ◌-◌, ◌*◌, ◌^◌, min, Bool, true, false, ◌&&◌, ◌||◌, List, [], ◌∷◌, ◌++◌, take, Option, Some, None, Result, Ok, Err, IfOk, IfSome, refl, ap, ◌∙◌, sym, subst, append_assoc, arith, inl, inr}
+use Rattle.std.specs.Prelude.{nat_eq, if◌then◌else◌}
 use Rattle.std.specs.declared.alloc.AllocError.{AllocError}
 use Rattle.std.specs.Global.{Vec}
-use Rattle.std.specs.Str.{bytes_eq}
 use Rattle.std.proofs.lemmas.Bool.{eqb-true}
 use Rattle.std.proofs.lemmas.Bool.Decides.{nat_tests, eqb_tells}
 use Rattle.rank_text.specs.declared.token.Operator.TheVariants.{Add, Subtract, Multiply, Divide, Remainder, Equal, NotEqual, Less, LessEqual, Greater, GreaterEqual}
 use Rattle.rank_text.specs.declared.token.Token.{Token}
 use Rattle.rank_text.specs.declared.token.Token.TheVariants as t
-use Rattle.rank_text.specs.Tokens.{is_letter, is_digit, is_word_byte, is_sign, found_in, reserved, word_or_name, with_digit, Pending, nothing, word, digits, sign, whole, lone_sign, with_equal, single, listed, held, flushed, begun, grown, and_after, tokens_from, tokens_of}
+use Rattle.rank_text.specs.Tokens.{is_letter, is_digit, is_word_byte, is_sign, word_or_name, with_digit, Pending, nothing, word, digits, sign, whole, lone_sign, with_equal, single, listed, held, flushed, begun, grown, and_after, tokens_from, tokens_of}
 use Rattle.rank_text.specs.Lexes.{AllAre, StopsAt, IsWord, word_token, IsNumber, number_token, value_behind, Symbol, extends, Lexes, is_end, is_space, is_word, is_number, is_symbol}
 use Rattle.rank_text.specs.Lexes.{is_add, is_subtract, is_multiply, is_divide, is_remainder, is_open_parenthesis, is_close_parenthesis, is_open_bracket, is_close_bracket, is_comma, is_assign, is_less, is_greater, is_equal, is_not_equal, is_less_equal, is_greater_equal}
 use Rattle.rank_text.specs.SeenTokens.{tokens_in}

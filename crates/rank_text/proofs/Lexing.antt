@@ -3,14 +3,12 @@
 -- Where a byte doesn't go on with what is pending, or the line ends, the tokens are
 -- the one that is pending and those of the rest (`stops`). A word and a number grow
 -- to the end of their runs (`word_run`, `digits_run`), however much of them is kept.
-use Rattle.std.proofs.Common.{◌≡◌, ℕ, zero, suc, ◌+◌, ◌-◌, ◌*◌, ◌^◌, ◌≤◌, min, Bool, true, false, ◌&&◌, List, [], ◌∷◌, ◌++◌, length, take, Option, Some, None, refl, ap, ◌∙◌, sym, subst, append_assoc, append-nil, arith}
+use Rattle.std.proofs.Common.{◌≡◌, ℕ, zero, suc, ◌+◌, ◌-◌, ◌*◌, ◌^◌, min, Bool, true, false, List, [], ◌∷◌, ◌++◌, take, Option, Some, None, refl, ap, ◌∙◌, sym, append_assoc, append-nil, arith}
 use Rattle.std.specs.Prelude.{nat_eq, if◌then◌else◌}
-use Rattle.std.specs.Str.{bytes_eq}
 use Rattle.std.proofs.lemmas.Bool.Decides.{nat_tests}
 use Rattle.rank_text.specs.declared.token.Token.{Token}
-use Rattle.rank_text.specs.declared.token.Token.TheVariants as t
-use Rattle.rank_text.specs.Tokens.{is_letter, is_digit, is_word_byte, found_in, reserved, word_or_name, with_digit, Pending, nothing, word, digits, sign, whole, flushed, begun, grown, and_after, tokens_from}
-use Rattle.rank_text.specs.Lexes.{AllAre, StopsAt, word_token, value_behind}
+use Rattle.rank_text.specs.Tokens.{is_letter, is_digit, is_word_byte, with_digit, Pending, nothing, word, digits, sign, whole, flushed, begun, grown, and_after, tokens_from}
+use Rattle.rank_text.specs.Lexes.{AllAre, StopsAt, value_behind}
 
 -- no tokens before some
 pub none_before : (o : Option (List Token)) → and_after (Some []) o ≡ o

@@ -21,9 +21,11 @@ pub data Payload : Type 0 where
 -- the statement of a line, whatever stands on the lines round it
 pub data Form : Type 0 where
   var_form : (name : List ℕ) → Form
+  let_form : (name : List ℕ) (e : Tree) → Form
   if_form : (e : Tree) → Form
   else_form : Form
   end_form : Form
+  while_form : (e : Tree) → Form
   send_form : (dest tag : Tree) (p : Payload) → Form
   recv_form : (source tag : Choice) (buffer : List ℕ) → Form
   print_form : (e : Tree) → Form
@@ -43,12 +45,16 @@ pub data IsPayload : List Token → Payload → Type 0 where
   is_lone : {x : List ℕ} → IsPayload (t.Name x ∷ []) (lone x)
   is_one : {ts : List Token} {e : Tree} → IsNoName ts → Spells whole ts e → IsPayload ts (one e)
 
--- the tokens of a line have the form: a statement word and its arguments, with a comma between two arguments, and nothing more
+-- the tokens of a line have the form: a statement word and its arguments, with a comma between two arguments and `=` before the value
+-- of a `let`, and nothing more
 pub data IsForm : List Token → Form → Type 0 where
   is_var : {x : List ℕ} → IsForm (t.Keyword k.Var ∷ t.Name x ∷ []) (var_form x)
+  is_let : {x : List ℕ} {ts : List Token} {e : Tree}
+      → Spells whole ts e → IsForm (t.Keyword k.Let ∷ t.Name x ∷ t.Assign ∷ ts) (let_form x e)
   is_if : {ts : List Token} {e : Tree} → Spells whole ts e → IsForm (t.Keyword k.If ∷ ts) (if_form e)
   is_else : IsForm (t.Keyword k.Else ∷ []) else_form
   is_end : IsForm (t.Keyword k.End ∷ []) end_form
+  is_while : {ts : List Token} {e : Tree} → Spells whole ts e → IsForm (t.Keyword k.While ∷ ts) (while_form e)
   is_send : {ds gs ps : List Token} {d g : Tree} {p : Payload}
       → Spells whole ds d → Spells whole gs g → IsPayload ps p
       → IsForm (t.Keyword k.Send ∷ (ds ++ t.Comma ∷ (gs ++ t.Comma ∷ ps))) (send_form d g p)
@@ -99,11 +105,24 @@ var_of ts = do
   x ← lone_name ts
   Some (var_form x)
 
+-- the form of `let` with these arguments: a name, `=` and a value
+unfoldable pub let_of : List Token → Option Form
+let_of (t.Name x ∷ (t.Assign ∷ ts)) = do
+  e ← whole_expression ts
+  Some (let_form x e)
+let_of _ = None
+
 -- the form of `if` with these arguments
 unfoldable pub if_of : List Token → Option Form
 if_of ts = do
   e ← whole_expression ts
   Some (if_form e)
+
+-- the form of `while` with these arguments
+unfoldable pub while_of : List Token → Option Form
+while_of ts = do
+  e ← whole_expression ts
+  Some (while_form e)
 
 -- the form of `send` with these arguments
 unfoldable pub send_of : List Token → Option Form
@@ -134,9 +153,11 @@ print_of ts = do
 -- the form of a statement word with these arguments; a word that isn't named here has no form
 abbrev pub form_with : Keyword → List Token → Option Form
 form_with k.Var ts = var_of ts
+form_with k.Let ts = let_of ts
 form_with k.If ts = if_of ts
 form_with k.Else ts = bare else_form ts
 form_with k.End ts = bare end_form ts
+form_with k.While ts = while_of ts
 form_with k.Send ts = send_of ts
 form_with k.Recv ts = recv_of ts
 form_with k.Print ts = print_of ts

@@ -22,9 +22,12 @@ pub enum Payload {
 #[derive(Debug, Drop)]
 pub enum Form {
     Var(Name),
+    /// A variable and its new value.
+    Let(Name, Written),
     If(Written),
     Else,
     End,
+    While(Written),
     /// Destination, tag and payload.
     Send(Written, Written, Payload),
     /// Source, tag and buffer.

@@ -3,7 +3,7 @@
 ghost use Rattle.std.specs.Prelude.{◌≡◌, List, IfOk, IfSome, Some};
 ghost use Rattle.rank_text.specs.declared.token.Token.{Token};
 ghost use Rattle.rank_text.specs.Forms as forms;
-ghost use Rattle.rank_text.specs.Forms.{IsForm, comma, bare, lone_name, choice_at, payload_of, var_of, if_of, send_of, recv_of, print_of, form_with, form_of};
+ghost use Rattle.rank_text.specs.Forms.{IsForm, comma, bare, lone_name, choice_at, payload_of, var_of, let_of, if_of, while_of, send_of, recv_of, print_of, form_with, form_of};
 ghost use Rattle.rank_text.specs.SeenForms.{form_in, form_seen, payload_in, choice_in, rest_in, lone_in};
 
 use crate::form::{Choice, Form, Payload};
@@ -65,6 +65,21 @@ fn read_var(tokens: &[Token]) -> Option<Form>
     Some(Form::Var(name))
 }
 
+#[tactic(auto, unfolding(crate::specs::Forms::let_of))]
+fn read_let(alloc: Heap, tokens: &[Token]) -> Result<Option<Form>, AllocError>
+    ensures { IfOk result (λ f. form_in f ≡ let_of tokens.now) }
+{
+    match tokens {
+        [Token::Name(name), Token::Assign, value @ ..] => {
+            let Some(value) = whole_expression(alloc, value)? else {
+                return Ok(None);
+            };
+            Ok(Some(Form::Let(*name, value)))
+        }
+        _ => Ok(None),
+    }
+}
+
 #[tactic(auto, unfolding(crate::specs::Forms::if_of))]
 fn read_if(alloc: Heap, tokens: &[Token]) -> Result<Option<Form>, AllocError>
     ensures { IfOk result (λ f. form_in f ≡ if_of tokens.now) }
@@ -91,6 +106,16 @@ fn read_end(tokens: &[Token]) -> Option<Form>
         [] => Some(Form::End),
         _ => None,
     }
+}
+
+#[tactic(auto, unfolding(crate::specs::Forms::while_of))]
+fn read_while(alloc: Heap, tokens: &[Token]) -> Result<Option<Form>, AllocError>
+    ensures { IfOk result (λ f. form_in f ≡ while_of tokens.now) }
+{
+    let Some(test) = whole_expression(alloc, tokens)? else {
+        return Ok(None);
+    };
+    Ok(Some(Form::While(test)))
 }
 
 #[tactic(auto, unfolding(crate::specs::Forms::send_of))]
@@ -157,9 +182,11 @@ fn read_arguments(
 {
     match word {
         Keyword::Var => Ok(read_var(arguments)),
+        Keyword::Let => read_let(alloc, arguments),
         Keyword::If => read_if(alloc, arguments),
         Keyword::Else => Ok(read_else(arguments)),
         Keyword::End => Ok(read_end(arguments)),
+        Keyword::While => read_while(alloc, arguments),
         Keyword::Send => read_send(alloc, arguments),
         Keyword::Recv => read_recv(alloc, arguments),
         Keyword::Print => read_print(alloc, arguments),
@@ -202,7 +229,10 @@ mod tests {
     fn lines_with_a_form(rt: HostRuntime) -> Result<(), Fail> {
         for line in [
             b"var x".as_slice(),
+            b"let x = y",
+            b"let x=-(1 + 2) * 3",
             b"if a[i] == 0",
+            b"while x != 0",
             b"else",
             b"end",
             b"send rank + 1, 3, a",
@@ -226,7 +256,17 @@ mod tests {
             b"".as_slice(),
             b"x",
             b"var 1",
+            b"let x",
+            b"let x =",
+            b"let = 1",
+            b"let x == 1",
+            b"let x = 1 2",
+            b"let rank = 1",
+            b"let while = 1",
+            b"let a[0] = 1",
             b"if any",
+            b"while",
+            b"while 1, 2",
             b"else 1",
             b"send any, 0, 1",
             b"send 1, 2",

@@ -85,6 +85,25 @@ fn programs_alone(rt: HostRuntime) -> Result<(), Fail> {
         ("if 0\nprint 1\nend\nprint 3", "[3] Halted"),
         ("if 1 / 0\nend", "[] Faulted(ZeroDivide)"),
         ("if 1\nelse\nsend 9, 0, 0\nend", "[] Halted"),
+        (
+            "var x\nvar y\nlet y = 5\nlet x = y * y - 1\nprint x\nprint y",
+            "[24, 5] Halted",
+        ),
+        (
+            "var x\nlet x = 3\nlet x = x / 0\nprint x",
+            "[] Faulted(ZeroDivide)",
+        ),
+        (
+            "var i\nwhile i < 3\nprint i * i\nlet i = i + 1\nend\nprint i",
+            "[0, 1, 4, 3] Halted",
+        ),
+        (
+            "var i\nvar j\nwhile i < 2\nlet j = 0\nwhile j < 2\nif j == i\nprint 10 * i + j\nelse\nprint -1\nend\nlet j = j + 1\nend\nlet i = i + 1\nend",
+            "[0, -1, -1, 11] Halted",
+        ),
+        ("while 0\nprint 1\nend\nprint 2", "[2] Halted"),
+        ("while 1 / 0\nend", "[] Faulted(ZeroDivide)"),
+        ("while 1\nend", "[] Internal"),
         ("send 2, 32767, 4\nsend 0, 0, 5", "[4, 5] Halted"),
         ("send 3, 0, 1 / 0", "[] Faulted(ZeroDivide)"),
         ("send 3, 32768, 0", "[] Faulted(BadRank)"),
@@ -117,6 +136,10 @@ fn programs_that_receive(rt: HostRuntime) -> Result<(), Fail> {
         (
             "var x\nrecv 0, 5, x",
             "[] Receive(Selector { context: PointToPoint, source: Some(0), tag: Some(5) })",
+        ),
+        (
+            "var x\nvar n\nwhile n < 1\nrecv any, any, x\nlet n = n + 1\nsend source, gottag, x * x\nend",
+            "[64] Halted",
         ),
     ] {
         let got = outcome(rt.alloc(), text, packet(rt.alloc(), &[-8])?)?;

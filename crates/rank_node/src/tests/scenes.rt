@@ -1,8 +1,9 @@
-//! Ranks and screens for the tests.
-ghost use Rattle.std.specs.Prelude.{◌≡◌, IfOk};
+//! Ranks, screens and packets for the tests.
+ghost use Rattle.std.specs.Prelude.{◌≡◌, ◌≤◌, IfOk};
 
 use crate::{Running, Screen, Shown, Stable};
 use checkpoint::MemoryShelf;
+use matching::{Context, Packet};
 use metered::Heap;
 use rank_language::Program;
 use std::alloc::AllocError;
@@ -23,19 +24,50 @@ impl Screen for NoScreen {
     }
 }
 
-/// Rank 0 of two.
-pub fn start<'p>(alloc: Heap, program: &'p Program) -> Result<Rank<'p>, Fail>
-    ensures { IfOk result (λ rank. rank.stable.size ≡ 2) }
+/// A screen on which the last line stands: rank, clock and value.
+#[derive(Drop)]
+pub struct LastLine {
+    pub line: Option<(u8, u32, i64)>,
+}
+
+impl Screen for LastLine {
+    ghost shows = { λ _ _ _ _ _. Unit {0} };
+
+    fn show(&mut self, rank: u8, clock: u32, value: i64) -> Result<Shown, AllocError> {
+        self.line = Some((rank, clock, value));
+        Ok(Shown::Shown)
+    }
+}
+
+/// This rank of two.
+pub fn start<'p>(alloc: Heap, program: &'p Program, number: u8) -> Result<Rank<'p>, Fail>
+    requires { number ≤ 1 }
+    ensures size { IfOk result (λ rank. rank.stable.size ≡ 2) }
+    ensures number { IfOk result (λ rank. rank.stable.rank ≡ number) }
 {
-    match Running::start(
-        alloc,
-        program,
-        Stable::new((), MemoryShelf::new(alloc), 0, 2),
-    ) {
+    let shelf = MemoryShelf::new(alloc);
+    match Running::start(alloc, program, Stable::new((), shelf, number, 2)) {
         Ok(rank) => Ok(rank),
         Err((stable, fault)) => {
             let _ = stable.parts();
             Err(Fail::from(fault))
         }
     }
+}
+
+/// The packet of this number that a rank sends with tag 7, each act of it a
+/// send: the one item is ten times its number.
+pub fn packet(alloc: Heap, source: u8, number: u32) -> Result<Packet, AllocError>
+    requires source { source ≤ 1 }
+    requires number { (1 ≤ number) × (number ≤ 9) }
+    ensures { IfOk result (λ packet. packet.source ≡ source) }
+{
+    Ok(Packet {
+        source,
+        clock: number,
+        number,
+        context: Context::PointToPoint,
+        tag: 7,
+        payload: vec![in alloc; 10 * i64::from(number); 1]?,
+    })
 }

@@ -1,0 +1,75 @@
+//! What a rank would do next, for whoever steps it.
+ghost use Rattle.std.specs.Prelude.{◌≡◌, IfOk};
+ghost use Rattle.rank_machine.specs.Machine.{state_of, asks};
+ghost use Rattle.rank_machine.specs.Wants.{IsSend, payload};
+
+use crate::fault::NodeFault;
+use crate::running::Running;
+use crate::stepping::GREATEST;
+use crate::turn::Turn;
+use checkpoint::Shelf;
+use event_logger::Event;
+use metered::Heap;
+use rank_machine::Want;
+use std::alloc::AllocError;
+
+impl<'p, S: Shelf, D> Running<'p, S, D> {
+    ghost use Rattle.rank_node.specs.Steps.{turn_of, refusal_of, clock_refusal};
+    ghost use Rattle.rank_node.specs.Storing.{next_unstored};
+
+    /// What a step would come to, where it isn't refused.
+    #[tactic(auto, using(rank_machine::proofs::NoProbe::not_probe, rank_machine::proofs::NoProbe::not_try_probe))]
+    pub fn turn(&self) -> Turn
+        ensures { result ≡ turn_of self.now }
+    {
+        match self.machine.wants() {
+            Want::Internal => Turn::Moved,
+            Want::Send { .. } | Want::Print(_) if self.is_settled() => Turn::Moved,
+            Want::Send { .. } | Want::Print(_) => Turn::Held,
+            Want::Receive(selector) if self.inbox.find(&selector).is_some() => Turn::Moved,
+            Want::Receive(_) => Turn::Blocked,
+            Want::Probe(_) | Want::TryProbe(_) => unreachable!(),
+            Want::Halted | Want::Faulted(_) => Turn::Ended,
+        }
+    }
+
+    /// By which name a step would be refused, if it would be.
+    #[tactic(auto, using(rank_machine::proofs::NoProbe::not_probe, rank_machine::proofs::NoProbe::not_try_probe))]
+    pub fn refusal(&self) -> Option<NodeFault>
+        ensures { result ≡ refusal_of self.now }
+    {
+        match self.machine.wants() {
+            Want::Send { .. } | Want::Print(_) if self.is_settled() => self.clock_refusal(),
+            Want::Receive(selector) if self.inbox.find(&selector).is_some() => {
+                self.has_room().err()
+            }
+            Want::Probe(_) | Want::TryProbe(_) => unreachable!(),
+            _ => None,
+        }
+    }
+
+    /// The items of the send that stands, in memory of their own.
+    pub fn payload(&self) -> Result<Vec<i64, Heap>, AllocError>
+        requires { IsSend (asks self.now.machine) }
+        ensures { IfOk result (λ items. items.items ≡ payload (state_of self.now.machine)) }
+    {
+        self.machine.payload(self.alloc)
+    }
+
+    /// The oldest event that isn't stored, if there is one.
+    pub fn oldest_unstored(&self) -> Option<Event>
+        ensures { result ≡ next_unstored self.now }
+    {
+        self.pending.get(self.stored).copied()
+    }
+
+    fn clock_refusal(&self) -> Option<NodeFault>
+        ensures { result ≡ clock_refusal self.now }
+    {
+        if self.clock >= GREATEST {
+            Some(NodeFault::ClockSpent)
+        } else {
+            None
+        }
+    }
+}
