@@ -1,0 +1,10 @@
+//! What lies between ranks: the console.
+#![tactic(auto)]
+
+mod console_state;
+mod line;
+#[cfg(test)]
+mod tests;
+
+pub use console_state::ConsoleState;
+pub use line::Line;
