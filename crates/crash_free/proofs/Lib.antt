@@ -1,0 +1,11 @@
+pub mod Steps
+pub mod Lists
+pub mod Clocks
+pub mod Going
+pub mod Taking
+pub mod SlotLemmas
+pub mod MailLemmas
+pub mod Keeping
+pub mod Choosing
+pub mod Receiving
+pub mod Refusing

@@ -1,0 +1,113 @@
+-- The lists that are made of a rank's acts, after one more act.
+use Rattle.std.proofs.Common.{◌≡◌, ℕ, ℤ, zero, suc, ◌+◌, ◌<◌, Bool, true, false, ◌==◌, ◌||◌, List, [], ◌∷◌, ◌++◌, Option, Some, None, length, refl, sym, ap, ◌∙◌, arith, slice_get, ◌⊎◌, inl, inr}
+use Rattle.std.proofs.lemmas.Bool.{eq-eqb, ne_eqb}
+use Rattle.std.proofs.lemmas.List.{append-nil}
+use Rattle.rank_machine.specs.Acts.{Act, Message, sends, takes, hits, misses, prints}
+use Rattle.crash_free.specs.Runs.{Passed, History, at_place, history, sent, printed, sends_from, send_at, prints_from, print_at, cons_if, add_if, looked_up, taken, takes_it}
+
+-- what stands in a list stands in a longer one
+pub slice_get-append : {A : Type 0} (xs ys : List A) (i : ℕ) (x : A) → slice_get xs i ≡ Some x → slice_get (xs ++ ys) i ≡ Some x
+slice_get-append [] ys i x e = cc
+slice_get-append (y ∷ xs) ys zero x e = e
+slice_get-append (y ∷ xs) ys (suc i) x e = slice_get-append xs ys i x e
+
+-- what stands in a longer list, before something of the shorter one, stands in the shorter one
+pub slice_get-append_before : {A : Type 0} (xs ys : List A) (i j : ℕ) (x y : A) → i < j → slice_get xs j ≡ Some y → slice_get (xs ++ ys) i ≡ Some x → slice_get xs i ≡ Some x
+slice_get-append_before [] ys i j x y l e f = cc
+slice_get-append_before (z ∷ xs) ys zero j x y l e f = f
+slice_get-append_before (z ∷ xs) ys (suc i) zero x y l e f = absurd (omega arith)
+slice_get-append_before (z ∷ xs) ys (suc i) (suc j) x y l e f = slice_get-append_before xs ys i j x y (omega arith) e f
+
+-- the same of places
+pub at_place-append : {A : Type 0} (xs ys : List A) (i : ℕ) (x : A) → at_place xs i ≡ Some x → at_place (xs ++ ys) i ≡ Some x
+at_place-append xs ys zero x e = absurd cc
+at_place-append xs ys (suc i) x e = slice_get-append xs ys i x e
+
+pub at_place-append_before : {A : Type 0} (xs ys : List A) (i j : ℕ) (x y : A) → i < j → at_place xs j ≡ Some y → at_place (xs ++ ys) i ≡ Some x → at_place xs i ≡ Some x
+at_place-append_before xs ys zero j x y l e f = absurd cc
+at_place-append_before xs ys (suc i) zero x y l e f = absurd (omega arith)
+at_place-append_before xs ys (suc i) (suc j) x y l e f = slice_get-append_before xs ys i j x y (omega arith) e f
+
+-- what stands in a list with one more element stood there before, or is that element
+pub push_cases : {A : Type 0} (xs : List A) (y : A) (k : ℕ) (x : A) → slice_get (xs ++ y ∷ []) k ≡ Some x → (slice_get xs k ≡ Some x) ⊎ ((k ≡ length xs) × (x ≡ y))
+push_cases [] y zero x e = inr (refl, cc)
+push_cases [] y (suc k) x e = absurd cc
+push_cases (z ∷ xs) y zero x e = inl e
+push_cases (z ∷ xs) y (suc k) x e = more (push_cases xs y k x e)
+  where
+    more : (slice_get xs k ≡ Some x) ⊎ ((k ≡ length xs) × (x ≡ y)) → (slice_get xs k ≡ Some x) ⊎ ((suc k ≡ suc (length xs)) × (x ≡ y))
+    more (inl h) = inl h
+    more (inr h) = inr (ap suc h.0, h.1)
+
+cons_if-append : {A : Type 0} (b : Bool) (x : A) (xs ys : List A) → cons_if b x (xs ++ ys) ≡ cons_if b x xs ++ ys
+cons_if-append true x xs ys = refl
+cons_if-append false x xs ys = refl
+
+pub send_at-append : (c r : ℕ) (a : Act) (xs ys : List Message) → send_at c r a (xs ++ ys) ≡ send_at c r a xs ++ ys
+send_at-append c r (sends d context t items) xs ys = cons_if-append (d == r) _ xs ys
+send_at-append c r (takes s j) xs ys = refl
+send_at-append c r (hits s j) xs ys = refl
+send_at-append c r misses xs ys = refl
+send_at-append c r (prints v) xs ys = refl
+
+print_at-append : (c : ℕ) (a : Act) (xs ys : List (ℕ × ℤ)) → print_at c a (xs ++ ys) ≡ print_at c a xs ++ ys
+print_at-append c (sends d context t items) xs ys = refl
+print_at-append c (takes s j) xs ys = refl
+print_at-append c (hits s j) xs ys = refl
+print_at-append c misses xs ys = refl
+print_at-append c (prints v) xs ys = refl
+
+-- what was sent, after one more act
+pub sends_from-push : (k r : ℕ) (h : History) (x : Act × Option Message) → sends_from k r (h ++ x ∷ []) ≡ sends_from k r h ++ send_at (k + length h + 1) r x.0 []
+sends_from-push k r [] x =
+    let e : k + 1 ≡ k + 0 + 1 = omega arith in
+    rw e refl
+sends_from-push k r (y ∷ h) x =
+    let e : k + 1 + length h + 1 ≡ k + suc (length h) + 1 = omega arith in
+    rw (sends_from-push (k + 1) r h x, e) (send_at-append (k + 1) r y.0 _ _)
+
+-- what was printed, after one more act
+pub prints_from-push : (k : ℕ) (h : History) (x : Act × Option Message) → prints_from k (h ++ x ∷ []) ≡ prints_from k h ++ print_at (k + length h + 1) x.0 []
+prints_from-push k [] x =
+    let e : k + 1 ≡ k + 0 + 1 = omega arith in
+    rw e refl
+prints_from-push k (y ∷ h) x =
+    let e : k + 1 + length h + 1 ≡ k + suc (length h) + 1 = omega arith in
+    rw (prints_from-push (k + 1) h x, e) (print_at-append (k + 1) y.0 _ _)
+
+-- what is taken, after one more act
+pub taken-push : (h : History) (x : Act × Option Message) (s j : ℕ) → taken (h ++ x ∷ []) s j ≡ taken h s j || takes_it s j x.0
+taken-push [] x s j = grind arith
+taken-push (y ∷ h) x s j = rw (taken-push h x s j) (or_swap (takes_it s j y.0) (taken h s j) (takes_it s j x.0))
+  where
+    or_swap : (a b c : Bool) → (a || (b || c)) ≡ ((a || b) || c)
+    or_swap true b c = refl
+    or_swap false b c = refl
+
+-- the history of the rank that makes an act
+pub history-own : (C : List Passed) (r : ℕ) (a : Act) → history (record { rank = r; act = a } ∷ C) r ≡ history C r ++ (a, looked_up (λ s. sent C s r) a) ∷ []
+history-own C r a = rw (eq-eqb r r refl) refl
+
+-- the histories of the other ranks stay
+pub history-other : (C : List Passed) (p : Passed) (r : ℕ) → (p.rank ≡ r → ⊥) → history (p ∷ C) r ≡ history C r
+history-other C p r ne = rw (ne_eqb p.rank r ne) refl
+
+-- what the rank that makes an act has sent
+pub sent-own : (C : List Passed) (r d : ℕ) (a : Act) → sent (record { rank = r; act = a } ∷ C) r d ≡ sent C r d ++ send_at (length (history C r) + 1) d a []
+sent-own C r d a =
+    ap (λ h. sends_from 0 d h) (history-own C r a) ∙ sends_from-push 0 d (history C r) (a, looked_up (λ s. sent C s r) a)
+    ∙ (let z : 0 + length (history C r) ≡ length (history C r) = omega arith in rw z refl)
+
+-- what the other ranks have sent stays
+pub sent-other : (C : List Passed) (p : Passed) (s d : ℕ) → (p.rank ≡ s → ⊥) → sent (p ∷ C) s d ≡ sent C s d
+sent-other C p s d ne = ap (λ h. sends_from 0 d h) (history-other C p s ne)
+
+-- what the rank that makes an act has printed
+pub printed-own : (C : List Passed) (r : ℕ) (a : Act) → printed (record { rank = r; act = a } ∷ C) r ≡ printed C r ++ print_at (length (history C r) + 1) a []
+printed-own C r a =
+    ap (λ h. prints_from 0 h) (history-own C r a) ∙ prints_from-push 0 (history C r) (a, looked_up (λ s. sent C s r) a)
+    ∙ (let z : 0 + length (history C r) ≡ length (history C r) = omega arith in rw z refl)
+
+-- what the other ranks have printed stays
+pub printed-other : (C : List Passed) (p : Passed) (q : ℕ) → (p.rank ≡ q → ⊥) → printed (p ∷ C) q ≡ printed C q
+printed-other C p q ne = ap (λ h. prints_from 0 h) (history-other C p q ne)

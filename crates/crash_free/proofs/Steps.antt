@@ -1,0 +1,18 @@
+-- A rank's steps and acts, one more at their end.
+use Rattle.std.proofs.Common.{◌≡◌, List, [], ◌∷◌, ◌++◌, Option, Some, None, refl, sym, ◌∙◌}
+use Rattle.rank_machine.specs.States.{State, Inners, here, on, inner}
+use Rattle.rank_machine.specs.Acts.{Act, Message, Does, Runs}
+
+-- one more inner step
+pub Inners-push : {a b c : State} → Inners a b → inner b ≡ Some c → Inners a c
+Inners-push here e = on e here
+Inners-push (on e r) f = on e (Inners-push r f)
+
+-- acts after acts
+pub Runs-append : (a b c : State) (h k : List (Act × Option Message)) → Runs a h b → Runs b k c → Runs a (h ++ k) c
+Runs-append a b c [] k r s = rw r at s
+Runs-append a b c (x ∷ h) k r s = (r.0, r.1, Runs-append r.0 b c h k r.2 s)
+
+-- one more act
+pub Runs-push : (a b c : State) (h : List (Act × Option Message)) (x : Act × Option Message) → Runs a h b → Does b x.0 x.1 c → Runs a (h ++ x ∷ []) c
+Runs-push a b c h x r d = Runs-append a b c h (x ∷ []) r (c, d, refl)

@@ -1,0 +1,6 @@
+pub mod Runs
+pub mod Grows
+pub mod Seen
+pub mod Sim
+pub mod Slots
+pub mod Wanted

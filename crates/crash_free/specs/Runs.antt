@@ -1,0 +1,125 @@
+-- Crash-free runs of all ranks: which acts may follow which (MPI 1.1, section 3.5: messages of one sender don't overtake
+-- one another, and the choice among senders is free; section 3.8: a probe finds what a receive would take).
+--
+-- A run is the list of its acts, the newest first. A rank's history is the list of its own acts, the oldest first, each
+-- with the message that it took or hit. Places count from 1: the kth act of a rank has clock k, and the kth message of
+-- a sender to a rank has number k.
+use Rattle.std.specs.Prelude.{◌≡◌, ℕ, ℤ, zero, suc, ◌+◌, ◌<◌, ◌==◌, ◌&&◌, ◌||◌, Bool, true, false, List, [], ◌∷◌, ◌++◌, Option, Some, None, slice_get}
+use Rattle.matching.specs.declared.selector.Selector.{Selector}
+use Rattle.rank_machine.specs.declared.want.Want.{Want}
+use Rattle.rank_machine.specs.declared.want.Want.TheVariants as want
+use Rattle.rank_machine.specs.States.{State, Inners}
+use Rattle.rank_machine.specs.Wants.{wants}
+use Rattle.rank_machine.specs.Acts.{Message, Act, sends, takes, hits, misses, prints, Matches, Makes, Runs}
+
+-- an act of a run, with the rank that made it
+pub record Passed : Type 0 where
+  pub rank : ℕ
+  pub act : Act
+
+-- a rank's own acts, each with the message that it took or hit
+abbrev pub History : Type 0
+History = List (Act × Option Message)
+
+-- the element at a place; there is no place 0
+abbrev pub at_place : {A : Type 0} → List A → ℕ → Option A
+at_place xs zero = None
+at_place xs (suc k) = slice_get xs k
+
+-- the list with this in front, or without
+abbrev pub cons_if : {A : Type 0} → Bool → A → List A → List A
+cons_if true x xs = x ∷ xs
+cons_if false x xs = xs
+
+-- the list with this at its end, or without
+abbrev pub add_if : {A : Type 0} → Bool → List A → A → List A
+add_if true xs x = xs ++ x ∷ []
+add_if false xs x = xs
+
+-- a send to this rank, the act with this clock, gives a message
+abbrev pub send_at : ℕ → ℕ → Act → List Message → List Message
+send_at c r (sends d context tag items) rest = cons_if (d == r) (record { clock = c; context = context; tag = tag; items = items }) rest
+send_at c r _ rest = rest
+
+-- the messages of the sends to r in a history, before which the sender had made k acts
+abbrev pub sends_from : ℕ → ℕ → History → List Message
+sends_from k r [] = []
+sends_from k r (x ∷ h) = send_at (k + 1) r x.0 (sends_from (k + 1) r h)
+
+-- a print, the act with this clock, gives a line
+abbrev pub print_at : ℕ → Act → List (ℕ × ℤ) → List (ℕ × ℤ)
+print_at c (prints value) rest = (c, value) ∷ rest
+print_at c _ rest = rest
+
+-- the prints in a history, each with its clock
+abbrev pub prints_from : ℕ → History → List (ℕ × ℤ)
+prints_from k [] = []
+prints_from k (x ∷ h) = print_at (k + 1) x.0 (prints_from (k + 1) h)
+
+-- the message that an act takes or hits, among what each sender sent to its rank
+abbrev pub looked_up : (ℕ → List Message) → Act → Option Message
+looked_up inbound (takes source place) = at_place (inbound source) place
+looked_up inbound (hits source place) = at_place (inbound source) place
+looked_up inbound _ = None
+
+-- the history of a rank in a run
+abbrev pub history : List Passed → ℕ → History
+history [] r = []
+history (p ∷ C) r = add_if (p.rank == r) (history C r) (p.act, looked_up (λ s. sends_from 0 p.rank (history C s)) p.act)
+
+-- the messages that s sent to r in a run, in order
+abbrev pub sent : List Passed → ℕ → ℕ → List Message
+sent C s r = sends_from 0 r (history C s)
+
+-- what a rank printed in a run, each line with its clock
+abbrev pub printed : List Passed → ℕ → List (ℕ × ℤ)
+printed C r = prints_from 0 (history C r)
+
+-- an act takes the message at this place of this source
+abbrev pub takes_it : ℕ → ℕ → Act → Bool
+takes_it s j (takes source place) = source == s && place == j
+takes_it s j _ = false
+
+-- one of the acts takes the message at this place of this source
+abbrev pub taken : History → ℕ → ℕ → Bool
+taken [] s j = false
+taken (x ∷ h) s j = takes_it s j x.0 || taken h s j
+
+-- A rank with this history, to which each sender sent what is inbound, may take or hit the message at place j of s: it
+-- is there, it isn't taken, it matches, and each earlier message of s that matches is taken.
+pub record IsEligible (inbound : ℕ → List Message) (h : History) (s j : ℕ) (selector : Selector) : Type 0 where
+  pub message : Message
+  pub there : at_place (inbound s) j ≡ Some message
+  pub untaken : taken h s j ≡ false
+  pub matching : Matches selector s message
+  pub not_overtaking : (i : ℕ) (m : Message) → i < j → at_place (inbound s) i ≡ Some m → Matches selector s m → taken h s i ≡ true
+
+-- what an act takes or hits is eligible for the selector that stands
+abbrev pub IsFree : Want → Act → (ℕ → List Message) → History → Type 0
+IsFree (want.Receive selector) (takes s j) inbound h = IsEligible inbound h s j selector
+IsFree (want.Probe selector) (hits s j) inbound h = IsEligible inbound h s j selector
+IsFree (want.TryProbe selector) (hits s j) inbound h = IsEligible inbound h s j selector
+IsFree _ (takes s j) inbound h = ⊥
+IsFree _ (hits s j) inbound h = ⊥
+IsFree _ _ inbound h = Unit {0}
+
+-- A rank that began at this state and has this history may make this act next: by inner steps it gets to a state whose
+-- first statement makes the act, and what the act takes or hits is eligible.
+pub record MayMake (start : State) (inbound : ℕ → List Message) (h : History) (act : Act) : Type 0 where
+  pub after : State
+  pub stands : State
+  pub reached : Runs start h after
+  pub inner : Inners after stands
+  pub makes : Makes stands act (looked_up inbound act)
+  pub free : IsFree (wants stands) act inbound h
+
+-- the newest act of a run is of one of the n ranks, which may make it after the acts before
+abbrev pub IsRun : (ℕ → State) → ℕ → List Passed → Type 0
+IsRun start n [] = Unit {0}
+IsRun start n (p ∷ C) =
+    IsRun start n C × (p.rank < n) × MayMake (start p.rank) (λ s. sent C s p.rank) (history C p.rank) p.act
+
+-- a run that goes on by these acts of one rank, one after another
+abbrev pub continue : List Passed → ℕ → List Act → List Passed
+continue C r [] = C
+continue C r (act ∷ acts) = continue (record { rank = r; act = act } ∷ C) r acts

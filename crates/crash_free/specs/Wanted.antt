@@ -1,0 +1,15 @@
+-- What the machines of a run ask for.
+use Rattle.std.specs.Prelude.{◌≡◌, ◌⊎◌, ℕ, List, IsSomeAnd, slice_get}
+use Rattle.rank_machine.specs.declared.want.Want.{Want}
+use Rattle.rank_machine.specs.declared.want.Want.TheVariants as want
+use Rattle.rank_machine.specs.Wants.{wants}
+use Rattle.rank_machine.specs.Machine.{MachineValue, state_of, asks}
+
+-- a machine asks for this, which is to go on or what its state wants
+pub record Asks (m : MachineValue) (w : Want) : Type 0 where
+  pub asked : asks m ≡ w
+  pub from_state : (asks m ≡ want.Internal) ⊎ (asks m ≡ wants (state_of m))
+
+-- the machine of a rank asks for this
+abbrev pub AsksAt : List MachineValue → ℕ → Want → Type 0
+AsksAt machines r w = IsSomeAnd (slice_get machines r) (λ m. Asks m w)

@@ -1,0 +1,134 @@
+//! Acts, and the runs that are made of them.
+ghost use Rattle.std.specs.Prelude.{◌≡◌, IfOk};
+ghost use Rattle.crash_free.specs.Seen.{act_of};
+
+use matching::Context;
+use metered::Heap;
+use std::alloc::AllocError;
+use std::marker::Model;
+
+/// What a rank does that another can see.
+///
+/// A message is named by its place among those that its source sent to this
+/// rank, from 1.
+#[derive(Debug, Drop)]
+pub enum Act {
+    Sends {
+        dest: u8,
+        context: Context,
+        tag: u16,
+        items: Vec<i64, Heap>,
+    },
+    /// A receive took the message.
+    Takes {
+        source: u8,
+        place: u64,
+    },
+    /// A probe found the message.
+    Hits {
+        source: u8,
+        place: u64,
+    },
+    /// A probe that doesn't wait found none.
+    Misses,
+    Prints(i64),
+}
+
+impl Act {
+    /// The same act, in memory of its own.
+    pub fn copy(&self, alloc: Heap) -> Result<Act, AllocError>
+        ensures { IfOk result (λ copy. act_of copy ≡ act_of self.now) }
+    {
+        Ok(match self {
+            Act::Sends {
+                dest,
+                context,
+                tag,
+                items,
+            } => Act::Sends {
+                dest: *dest,
+                context: *context,
+                tag: *tag,
+                items: items.as_slice().to_vec(alloc)?,
+            },
+            Act::Takes { source, place } => Act::Takes {
+                source: *source,
+                place: *place,
+            },
+            Act::Hits { source, place } => Act::Hits {
+                source: *source,
+                place: *place,
+            },
+            Act::Misses => Act::Misses,
+            Act::Prints(value) => Act::Prints(*value),
+        })
+    }
+}
+
+/// An act of a run, with the rank that made it.
+#[derive(Debug, Drop)]
+pub struct Passed {
+    pub rank: u8,
+    pub act: Act,
+}
+
+impl Model for Passed {
+    ghost use Rattle.crash_free.specs.Runs as runs;
+    ghost use Rattle.crash_free.specs.Seen.{act_of};
+
+    ghost Value = { runs.Passed };
+
+    ghost view = { λ p. record { rank = p.rank; act = act_of p.act } };
+}
+
+impl Passed {
+    ghost use Rattle.rank_machine.specs.Acts as acts;
+
+    pub(crate) fn sends(
+        rank: u8,
+        dest: u8,
+        context: Context,
+        tag: u16,
+        items: Vec<i64, Heap>,
+    ) -> Passed
+        ensures { result ≡ record { rank = rank; act = acts.sends dest context tag items.items } }
+    {
+        Passed {
+            rank,
+            act: Act::Sends {
+                dest,
+                context,
+                tag,
+                items,
+            },
+        }
+    }
+
+    pub(crate) fn takes(rank: u8, source: u8, place: u64) -> Passed
+        ensures { result ≡ record { rank = rank; act = acts.takes source place } }
+    {
+        Passed {
+            rank,
+            act: Act::Takes { source, place },
+        }
+    }
+
+    pub(crate) fn prints(rank: u8, value: i64) -> Passed
+        ensures { result ≡ record { rank = rank; act = acts.prints value } }
+    {
+        Passed {
+            rank,
+            act: Act::Prints(value),
+        }
+    }
+
+    /// The same, in memory of its own.
+    pub fn copy(&self, alloc: Heap) -> Result<Passed, AllocError>
+        ensures { IfOk result (λ copy. copy ≡ self.now) }
+    {
+        Ok(Passed {
+            rank: self.rank,
+            act: self.act.copy(alloc)?,
+        })
+    }
+}

@@ -1,0 +1,13 @@
+//! What is chosen for a rank.
+
+/// What a rank is to do next.
+#[derive(Clone, Copy, Debug, PartialEq, Eq)]
+pub enum Choice {
+    /// The step of its own, the send or the print that it wants.
+    Next,
+    /// The receive takes, or the probe finds, the message at place `index`,
+    /// from 1, of what `source` sent to the rank.
+    Take { source: u32, index: u64 },
+    /// The probe that doesn't wait finds no message.
+    Miss,
+}

@@ -1,0 +1,118 @@
+//! The steps and acts of one rank.
+ghost use Rattle.std.specs.Prelude.{◌≡◌, ℕ, ◌<◌, ◌≤◌, IfOk, IfErr, OnOk, OnErr, length};
+ghost use Rattle.rank_machine.specs.Wants.{IsLegal};
+ghost use Rattle.crash_free.specs.Sim.{Allows, Refuses};
+ghost use Rattle.crash_free.specs.Wanted.{AsksAt};
+
+use crate::act::Passed;
+use crate::choice::Choice;
+use crate::not_allowed::NotAllowed;
+use crate::sim::Sim;
+use matching::{Context, Packet, Selector};
+use metered::Heap;
+use rank_machine::Want;
+use rank_machine::laws::{makes_its_print, makes_its_send};
+use std::alloc::AllocError;
+
+impl Sim<'_> {
+    pub(super) fn go_on(&mut self, rank: u8)
+        requires there { rank < length self.old.machines }
+        requires asks { AsksAt self.old.machines rank Want.Internal }
+        ensures allowed { Allows self.old rank Choice.Next self.new }
+    {
+        let machine = &mut self.machines[usize::from(rank)];
+        machine.internal();
+    }
+
+    pub(super) fn print(&mut self, rank: u8, value: i64) -> Result<(), AllocError>
+        requires there { rank < length self.old.machines }
+        requires asks { AsksAt self.old.machines rank (Want.Print value) }
+        ensures ok { OnOk result (Allows self.old rank Choice.Next self.new) }
+        ensures err { OnErr result (self.new ≡ self.old) }
+    {
+        self.passed.reserve(1)?;
+        let machine = &mut self.machines[usize::from(rank)];
+        makes_its_print(machine);
+        machine.did_print();
+        self.passed.push_reserved(Passed::prints(rank, value));
+        Ok(())
+    }
+
+    pub(super) fn send(
+        &mut self,
+        rank: u8,
+        dest: u8,
+        context: Context,
+        tag: u16,
+    ) -> Result<(), AllocError>
+        requires there { rank < length self.old.machines }
+        requires asks { AsksAt self.old.machines rank (Want.Send dest context tag) }
+        requires legal { IsLegal (length self.old.machines) (Want.Send dest context tag) }
+        ensures ok { OnOk result (Allows self.old rank Choice.Next self.new) }
+        ensures err { OnErr result (self.new ≡ self.old) }
+    {
+        self.passed.reserve(1)?;
+        let machine = &mut self.machines[usize::from(rank)];
+        let items = machine.payload(self.alloc)?;
+        // the run keeps the items for good, the packet until it is taken
+        let packet = packet(self.alloc, rank, context, tag, items.as_slice())?;
+        self.mail.post(rank, dest, packet)?;
+        makes_its_send(machine);
+        machine.did_send();
+        let act = Passed::sends(rank, dest, context, tag, items);
+        self.passed.push_reserved(act);
+        Ok(())
+    }
+
+    pub(super) fn receive(
+        &mut self,
+        rank: u8,
+        selector: &Selector,
+        source: u32,
+        index: u64,
+    ) -> Result<(), NotAllowed>
+        requires there { rank < length self.old.machines }
+        requires asks { AsksAt self.old.machines rank (Want.Receive selector.now) }
+        ensures ok { OnOk result (Allows self.old rank (Choice.Take source index) self.new) }
+        ensures refused { IfErr result (λ why. Refuses self.old rank (Choice.Take source index) why) }
+        ensures err { OnErr result (self.new ≡ self.old) }
+    {
+        let ranks = self.ranks();
+        let Some((source, place)) = self.mail.find(ranks, rank, selector, source, index) else {
+            return Err(NotAllowed::NotEligible);
+        };
+        if self.passed.reserve(1).is_err() {
+            return Err(NotAllowed::Memory);
+        }
+        let packet = self.mail.take(source, rank, place);
+        let machine = &mut self.machines[usize::from(rank)];
+        machine.give(packet);
+        self.passed
+            .push_reserved(Passed::takes(rank, source, index));
+        Ok(())
+    }
+}
+
+// What nothing looks at, clock and number, is 1.
+fn packet(
+    alloc: Heap,
+    source: u8,
+    context: Context,
+    tag: u16,
+    items: &[i64],
+) -> Result<Packet, AllocError>
+    requires context { context ≡ Context.PointToPoint }
+    requires tag { tag ≤ 32767 }
+    requires least { 1 ≤ length items.now }
+    requires most { length items.now ≤ 256 }
+    ensures { IfOk result (λ packet. packet ≡ record { source = source; clock = 1; number = 1; context = context; tag = tag; items = items.now }) }
+{
+    Ok(Packet {
+        source,
+        clock: 1,
+        number: 1,
+        context,
+        tag,
+        payload: items.to_vec(alloc)?,
+    })
+}
