@@ -1,0 +1,11 @@
+use Rattle.world_model.proofs.Headline.{stands_for}
+use Rattle.world_model.proofs.Sequences.{kept}
+use Rattle.world_model.proofs.world.World.apply.Goals as goal
+
+-- src/world.rt
+pub invariant_of-self : goal.invariant_of-self
+invariant_of-self c = kept _ _ c.args.event c.apply.result c.self.invariant c.apply.ensures.follows c.apply.ensures.err
+
+-- src/world.rt
+pub returns-clause-stands : goal.returns-clause-stands
+returns-clause-stands c = stands_for _ (kept _ _ c.args.event c.apply.result c.self.invariant c.apply.ensures.follows c.apply.ensures.err)

@@ -1,0 +1,25 @@
+use Rattle.std.proofs.Common.{ℕ, ◌+◌, ◌<◌, List, [], ◌∷◌, ◌++◌, length, take, get_or, arith}
+use Rattle.std.proofs.lemmas.List.{take_more}
+use Rattle.world_model.specs.World.{WorldValue}
+use Rattle.world_model.specs.Headline.{StandsFor}
+use Rattle.world_model.specs.Follows.{Follows, FollowsAll}
+use Rattle.world_model.specs.declared.event.WorldEvent.{WorldEvent}
+use Rattle.world_model.specs.declared.reply.Reply.{Reply}
+use Rattle.world_model.proofs.Sequences.{follows_push}
+use Rattle.world_model.proofs.world.World.run.Goals as goal
+
+-- one more event of the list
+go_on : (w v w' : WorldValue) (events : List WorldEvent) (replies : List Reply) (k : ℕ) (d : WorldEvent) (answer : Reply) → k < length events
+    → FollowsAll w (take k events) replies v → Follows v (get_or events k d) answer w' → StandsFor w' w'.run
+    → FollowsAll w (take (k + 1) events) (replies ++ answer ∷ []) w'
+go_on w v w' events replies k d answer l f g s = rw (take_more events k d l) (follows_push w v w' (take k events) replies (get_or events k d) answer f g s)
+
+-- src/world.rt
+pub loop-done-preserved : goal.loop-done-preserved
+loop-done-preserved c = record {
+  ran = rw c.push_reserved.ensures.items
+      (rw c.in-Ok.ensures.items
+      (go_on _ c.loop-done.self c.apply.new.self c.args.events.now c.loop-done.replies.items c.loop-done.done _ c.in-Ok-apply.reply (omega arith)
+      c.loop-done.invariant.ran c.in-Ok-apply.ensures.follows c.in-Ok-apply.ensures.stands));
+  stands = c.in-Ok-apply.ensures.stands;
+}

@@ -1,0 +1,112 @@
+-- A run that computes: rank 0 of two sends 41 with tag 7, and rank 1 takes it from whomever and prints one more.
+--
+--   var x
+--   if rank == 0
+--     send 1, 7, 41
+--   else
+--     recv any, any, x
+--     print x + 1
+--   end
+use Rattle.std.specs.Prelude.{◌≡◌, ℕ, ℤ, pos, zero, suc, ◌<◌, List, [], ◌∷◌, Option, Some, None}
+use Rattle.std.proofs.Common.{refl, lit<, arith}
+use Rattle.event_logger.specs.Event.{event_of}
+use Rattle.event_logger.specs.declared.kind.Kind.TheVariants as kind
+use Rattle.matching.specs.declared.packet.Context.TheVariants.{PointToPoint}
+use Rattle.rank_text.specs.declared.token.Operator.TheVariants.{Add, Equal}
+use Rattle.rank_text.specs.declared.token.Reading.TheVariants.{Rank}
+use Rattle.rank_language.specs.Placed.{Placed, number, variable, reading, operation, any, one, into_variable, declare, send, receive, print}
+use Rattle.rank_language.specs.Block.{Block, done, plain, if_else, lines_at}
+use Rattle.rank_language.specs.Program.{ProgramValue}
+use Rattle.rank_machine.specs.States.{State, opening, first_store, Inners, here, on}
+use Rattle.rank_machine.specs.Acts.{Message, sends, takes, prints, with_status, written}
+use Rattle.crash_free.specs.Runs.{Passed, at_place, sent, printed, IsRun, IsEligible, MayMake}
+use Rattle.world_model.specs.Rows.{row}
+
+abbrev printing : Block
+printing = plain (print (operation Add (variable 0) (number (pos 1)))) done
+
+abbrev receiving : Block
+receiving = plain (receive any any (into_variable 0)) printing
+
+abbrev sending : Block
+sending = plain (send (number (pos 1)) (number (pos 7)) (one (number (pos 41)))) done
+
+abbrev program : ProgramValue
+program = record {
+  statements = lines_at 0 (plain (declare 0) (if_else (operation Equal (reading Rank) (number (pos 0))) sending receiving done));
+  variables = (120 ∷ []) ∷ [];
+  arrays = [];
+}
+
+abbrev start : ℕ → State
+start r = opening program r 2
+
+abbrev message : Message
+message = record { clock = 1; context = PointToPoint; tag = 7; items = pos 41 ∷ [] }
+
+-- the run, newest act first
+abbrev C : List Passed
+C =
+    record { rank = 1; act = prints (pos 42) } ∷ record { rank = 1; act = takes 0 1 }
+    ∷ record { rank = 0; act = sends 1 PointToPoint 7 (pos 41 ∷ []) } ∷ []
+
+-- rank 0 sent rank 1 one message, with its first act
+sent_in_C : sent C 0 1 ≡ message ∷ []
+sent_in_C = refl
+
+-- rank 1 made one event: with its first act it took what rank 0 sent with its first
+row_in_C : row C 1 ≡ event_of kind.Reception 0 1 1 ∷ []
+row_in_C = refl
+
+-- and printed with its second
+printed_in_C : printed C 1 ≡ (2, pos 42) ∷ []
+printed_in_C = refl
+
+-- the states at the send, at the receive, and after the reception
+abbrev at_send : State
+at_send = record { store = first_store program 0 2; rest = sending; fault = None }
+
+abbrev at_receive : State
+at_receive = record { store = first_store program 1 2; rest = receiving; fault = None }
+
+abbrev at_print : State
+at_print = record { store = with_status 0 message (written (into_variable 0) (pos 41 ∷ []) (first_store program 1 2)); rest = printing; fault = None }
+
+none_before : (i : ℕ) (m : Message) → i < 1 → at_place (message ∷ []) i ≡ Some m → ⊥
+none_before zero m l e = cc
+none_before (suc i) m l e = omega arith
+
+C_is_run : IsRun start 2 C
+C_is_run = (
+  (
+    (
+      tt,
+      lit< tt,
+      record { after = start 0; stands = at_send; reached = refl; inner = on refl (on refl here); makes = (refl, refl, refl, refl); free = tt },
+    ),
+    lit< tt,
+    record {
+      after = start 1;
+      stands = at_receive;
+      reached = refl;
+      inner = on refl (on refl here);
+      makes = (refl, tt, tt);
+      free = record {
+        message = message;
+        there = refl;
+        untaken = refl;
+        matching = (refl, tt, tt);
+        not_overtaking = λ i m l e k. absurd (none_before i m l e);
+      };
+    },
+  ),
+  lit< tt,
+  record {
+    after = at_print;
+    stands = at_print;
+    reached = (at_print, (at_receive, on refl (on refl here), (refl, tt, tt), refl), refl);
+    inner = here;
+    makes = refl;
+    free = tt;
+  },
+)

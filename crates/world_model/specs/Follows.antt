@@ -1,0 +1,205 @@
+-- What each event does to a world: it is one call on the rank that it names, and the reply is that call's answer.
+use Rattle.std.specs.Prelude.{◌≡◌, ◌≢◌, ℕ, ◌+◌, ◌<◌, nat_le, List, [], ◌∷◌, ◌++◌, length, Option, Some, None, slice_get, slice_set, if◌then◌else◌}
+use Rattle.event_logger.specs.Event.{EventValue}
+use Rattle.event_logger.specs.History.{Answers}
+use Rattle.event_logger.specs.declared.call.Call.TheVariants.{Append}
+use Rattle.event_logger.specs.declared.call.Reply.TheVariants.{Length}
+use Rattle.rank_machine.specs.declared.want.Want.{Want}
+use Rattle.rank_machine.specs.declared.want.Want.TheVariants as want
+use Rattle.rank_machine.specs.Wants.{payload}
+use Rattle.rank_machine.specs.Acts.{Act, sends, prints}
+use Rattle.rank_machine.specs.Machine.{MachineValue, state_of, asks}
+use Rattle.rank_node.specs.declared.turn.Turn.{Turn}
+use Rattle.rank_node.specs.declared.turn.Turn.TheVariants as turn
+use Rattle.rank_node.specs.declared.turn.Arrived.{Arrived}
+use Rattle.rank_node.specs.declared.turn.Arrived.TheVariants as arrived
+use Rattle.rank_node.specs.declared.frame.Frame.{Frame}
+use Rattle.rank_node.specs.declared.frame.Frame.TheVariants as frame
+use Rattle.rank_node.specs.Steps.{turn_of, refusal_of, MachineStep, after_step}
+use Rattle.rank_node.specs.Frames.{outgoing_of, after_passed, arrival_of, after_frame}
+use Rattle.rank_node.specs.Storing.{next_unstored, after_store, after_ack}
+use Rattle.ports.specs.declared.line.Line.{Line}
+use Rattle.ports.specs.Console.{after_line}
+use Rattle.crash_free.specs.Runs.{Passed, history, continue}
+use Rattle.world_model.specs.declared.event.WorldEvent.{WorldEvent}
+use Rattle.world_model.specs.declared.event.WorldEvent.TheVariants.{Step, Put, Arrive, Store, Ack, Image, Crash, Restart}
+use Rattle.world_model.specs.declared.reply.Reply.{Reply}
+use Rattle.world_model.specs.declared.reply.Reply.TheVariants as reply
+use Rattle.world_model.specs.Rows.{Noted}
+use Rattle.world_model.specs.World.{Rank, Live, WorldValue, size, IsLive, IsWire, unstored}
+use Rattle.world_model.specs.Headline.{StandsFor}
+
+-- the world with this value in the place of a rank's
+abbrev pub with_rank : WorldValue → ℕ → Rank → WorldValue
+with_rank w r v = record {
+  program = w.program;
+  ranks = slice_set w.ranks r (Some (record { rank = v; left = [] }));
+  logger = w.logger;
+  wires = w.wires;
+  lines = w.lines;
+  run = w.run;
+}
+
+-- The event can't happen: no such rank is live, or its call is refused by name, or there is nothing to put, to arrive,
+-- to store or to acknowledge. No rank takes an image, crashes or starts again yet.
+abbrev pub CanNot : WorldValue → WorldEvent → Type 0
+CanNot w (Step r) = (v : Live) → IsLive w r v → (v.left ≡ []) × (refusal_of v.rank ≢ None)
+CanNot w (Put s d) = (v : Live) → IsLive w s v → d < size w → outgoing_of v.rank d ≡ None
+CanNot w (Arrive s d i) = (v : Live) (frames : List Frame) (f : Frame) → IsLive w d v → IsWire w s d frames → slice_get frames i ≢ Some f
+CanNot w (Store r) = (v : Live) → IsLive w r v → unstored v.rank ≡ []
+CanNot w (Ack r) = (v : Live) → IsLive w r v → v.rank.stored ≡ 0
+CanNot w (Image r) = Unit {0}
+CanNot w (Crash r) = Unit {0}
+CanNot w (Restart r) = Unit {0}
+
+-- the reply to a step
+abbrev pub stepped : Turn → Reply
+stepped turn.Moved = reply.Moved
+stepped turn.Blocked = reply.Blocked
+stepped turn.Held = reply.Held
+stepped turn.Ended = reply.Ended
+
+-- a send and a print pass as soon as they are made; what a rank receives passes when it is stored
+abbrev pub effect_at : Rank → Want → Turn → Option Act
+effect_at v (want.Send dest context tag) turn.Moved = Some (sends dest context tag (payload (state_of v.machine)))
+effect_at v (want.Print value) turn.Moved = Some (prints value)
+effect_at v w t = None
+
+-- the run after an act of this clock passes, if one does: it goes on where the act passes for the first time
+abbrev pub passed_at : List Passed → ℕ → ℕ → Option Act → List Passed
+passed_at C r clock None = C
+passed_at C r clock (Some act) = if nat_le clock (length (history C r)) then C else record { rank = r; act = act } ∷ C
+
+-- a print is shown with its clock
+abbrev pub lines_after : List Line → ℕ → Rank → Want → Turn → List Line
+lines_after lines r v (want.Print value) turn.Moved = after_line lines r (v.clock + 1) value
+lines_after lines r v w t = lines
+
+-- A step: the machine makes the step that it wants, unless it is blocked or held or has ended.
+pub record StepFollows (w : WorldValue) (r : ℕ) (answer : Reply) (w' : WorldValue) : Type 0 where
+  pub before : Live
+  pub live : IsLive w r before
+  pub running : before.left ≡ []
+  pub allowed : refusal_of before.rank ≡ None
+  pub machine : MachineValue
+  pub steps : MachineStep before.rank machine
+  pub answered : answer ≡ stepped (turn_of before.rank)
+  pub after : w' ≡ record {
+    program = w.program;
+    ranks = slice_set w.ranks r (Some (record { rank = after_step before.rank machine; left = [] }));
+    logger = w.logger;
+    wires = w.wires;
+    lines = lines_after w.lines r before.rank (asks before.rank.machine) (turn_of before.rank);
+    run = passed_at w.run r (before.rank.clock + 1) (effect_at before.rank (asks before.rank.machine) (turn_of before.rank));
+  }
+
+-- the reply to a frame that was put, by its index
+abbrev pub put_as : ℕ → Frame → Reply
+put_as index (frame.Data p) = reply.PutData index p.number
+put_as index (frame.Ask from) = reply.PutAsk index from
+put_as index (frame.Kept upto) = reply.PutKept index upto
+
+-- What goes next from a rank is put: it goes last on the wire.
+pub record PutFollows (w : WorldValue) (s d : ℕ) (answer : Reply) (w' : WorldValue) : Type 0 where
+  pub before : Live
+  pub live : IsLive w s before
+  pub frame : Frame
+  pub next : outgoing_of before.rank d ≡ Some frame
+  pub of_s : List (List Frame)
+  pub wires : slice_get w.wires s ≡ Some of_s
+  pub frames : List Frame
+  pub wire : slice_get of_s d ≡ Some frames
+  pub answered : answer ≡ put_as (length frames) frame
+  pub after : w' ≡ record {
+    program = w.program;
+    ranks = slice_set w.ranks s (Some (record { rank = after_passed before.rank d; left = before.left }));
+    logger = w.logger;
+    wires = slice_set w.wires s (slice_set of_s d (frames ++ frame ∷ []));
+    lines = w.lines;
+    run = w.run;
+  }
+
+-- the reply to a frame that arrived; no frame on a wire is foreign
+abbrev pub arrived_as : Arrived → Option Reply
+arrived_as arrived.Accepted = Some reply.Accepted
+arrived_as arrived.Repeated = Some reply.Repeated
+arrived_as arrived.Gap = Some reply.Gap
+arrived_as arrived.Noted = Some reply.Noted
+arrived_as arrived.Foreign = None
+
+-- A frame of the wire arrives; it stays on the wire.
+pub record ArriveFollows (w : WorldValue) (s d i : ℕ) (answer : Reply) (w' : WorldValue) : Type 0 where
+  pub before : Live
+  pub live : IsLive w d before
+  pub frames : List Frame
+  pub wire : IsWire w s d frames
+  pub frame : Frame
+  pub there : slice_get frames i ≡ Some frame
+  pub answered : arrived_as (arrival_of before.rank s frame) ≡ Some answer
+  pub after : w' ≡ record {
+    program = w.program;
+    ranks = slice_set w.ranks d (Some (record { rank = after_frame before.rank s frame; left = before.left }));
+    logger = w.logger;
+    wires = w.wires;
+    lines = w.lines;
+    run = w.run;
+  }
+
+-- The oldest unstored event is stored: it goes last in the rank's row, and its act passes.
+pub record StoreFollows (w : WorldValue) (r : ℕ) (answer : Reply) (w' : WorldValue) : Type 0 where
+  pub before : Live
+  pub live : IsLive w r before
+  pub event : EventValue
+  pub oldest : next_unstored before.rank ≡ Some event
+  pub count : ℕ
+  pub answered : answer ≡ reply.Stored count
+  pub appends : Answers w.logger r (Append event) (Length count) w'.logger
+  pub acts : List Act
+  pub noted : Noted w.run r acts event
+  pub after : w' ≡ record {
+    program = w.program;
+    ranks = slice_set w.ranks r (Some (record { rank = after_store before.rank; left = before.left }));
+    logger = w'.logger;
+    wires = w.wires;
+    lines = w.lines;
+    run = continue w.run r acts;
+  }
+
+-- The oldest stored event is acknowledged.
+pub record AckFollows (w : WorldValue) (r : ℕ) (answer : Reply) (w' : WorldValue) : Type 0 where
+  pub before : Live
+  pub live : IsLive w r before
+  pub some : before.rank.stored ≢ 0
+  pub answered : answer ≡ reply.Acked
+  pub after : w' ≡ record {
+    program = w.program;
+    ranks = slice_set w.ranks r (Some (record { rank = after_ack before.rank; left = before.left }));
+    logger = w.logger;
+    wires = w.wires;
+    lines = w.lines;
+    run = w.run;
+  }
+
+-- what an event that isn't refused does
+abbrev pub Happens : WorldValue → WorldEvent → Reply → WorldValue → Type 0
+Happens w (Step r) answer w' = StepFollows w r answer w'
+Happens w (Put s d) answer w' = PutFollows w s d answer w'
+Happens w (Arrive s d i) answer w' = ArriveFollows w s d i answer w'
+Happens w (Store r) answer w' = StoreFollows w r answer w'
+Happens w (Ack r) answer w' = AckFollows w r answer w'
+Happens w (Image r) answer w' = ⊥
+Happens w (Crash r) answer w' = ⊥
+Happens w (Restart r) answer w' = ⊥
+
+-- What an event does: it is refused and leaves all as it was, exactly where it can't happen; else it happens.
+abbrev pub Follows : WorldValue → WorldEvent → Reply → WorldValue → Type 0
+Follows w event reply.Refused w' = CanNot w event × (w' ≡ w)
+Follows w event answer w' = Happens w event answer w'
+
+-- what a list of events does, one after another; after each the world stands for its run
+abbrev pub FollowsAll : WorldValue → List WorldEvent → List Reply → WorldValue → Type 0
+FollowsAll w [] [] w' = w' ≡ w
+FollowsAll w (event ∷ events) (answer ∷ answers) w' =
+    (mid : WorldValue) × Follows w event answer mid × StandsFor mid mid.run × FollowsAll mid events answers w'
+FollowsAll w [] (answer ∷ answers) w' = ⊥
+FollowsAll w (event ∷ events) [] w' = ⊥

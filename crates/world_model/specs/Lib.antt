@@ -1,0 +1,9 @@
+pub mod Rows
+pub mod World
+pub mod Headline
+pub mod Follows
+pub mod Stands
+pub mod RunIndex
+pub mod Seats
+pub mod Wires
+pub mod Example

@@ -1,0 +1,18 @@
+//! A world of ranks under events in any order, and the crash-free run that it
+//! stands for.
+#![tactic(auto)]
+
+mod event;
+mod parts;
+mod reply;
+mod run;
+mod seat;
+mod seats;
+mod wire;
+mod wires;
+mod world;
+
+pub use crash_free::{Act, Choice, NotAllowed, Passed, Sim};
+pub use event::WorldEvent;
+pub use reply::Reply;
+pub use world::{Stopped, World};

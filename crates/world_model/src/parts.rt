@@ -1,0 +1,104 @@
+//! The parts of a world, and what each event does to them.
+//!
+//! It is given here that the parts stand for their run. That they do so again
+//! follows from what an event does, and is no concern of this module.
+ghost use Rattle.std.specs.Prelude.{◌≡◌, ◌<◌, ◌≤◌, length, MatchOption, IfOk};
+ghost use Rattle.world_model.specs.Headline.{IsFresh};
+
+mod acking;
+mod applying;
+mod arriving;
+mod putting;
+mod stepping;
+mod storing;
+
+use crate::run::Run;
+use crate::seats::Seats;
+use crate::wires::Wires;
+use event_logger::LoggerState;
+use metered::Heap;
+use ports::{ConsoleState, Line};
+use rank_language::Program;
+use std::alloc::AllocError;
+use std::marker::Model;
+
+/// A world's ranks, event logger, wires, console and run. It must be spent.
+pub struct Parts<'p> {
+    alloc: Heap,
+    program: &'p Program,
+    seats: Seats<'p>,
+    logger: LoggerState,
+    wires: Wires,
+    console: ConsoleState,
+    run: Run,
+}
+
+impl<'p> Model for Parts<'p> {
+    ghost use Rattle.std.specs.Prelude.{◌≡◌, ◌≤◌, length};
+    ghost use Rattle.std.specs.Coded.{codes};
+    ghost use Rattle.rank_language.specs.Coding.{placed_code};
+    ghost use Rattle.world_model.specs.World.{WorldValue};
+
+    ghost Value = { WorldValue };
+
+    ghost coded = { Prim.hlevel (codes, placed_code) };
+
+    ghost view = { λ w. record { program = w.program.now; ranks = w.seats; logger = w.logger; wires = w.wires; lines = w.console; run = w.run.acts } };
+
+    ghost invariant = { λ w. (length w.seats ≤ 16) × (w.run.ranks ≡ length w.seats) };
+}
+
+impl<'p> Parts<'p> {
+    /// A new world of this many ranks.
+    pub fn new(alloc: Heap, program: &'p Program, ranks: u8) -> Result<Parts<'p>, AllocError>
+        requires { ranks ≤ 16 }
+        ensures { IfOk result (λ world. IsFresh program.entry.now ranks world) }
+    {
+        let count = usize::from(ranks);
+        let logger = LoggerState::new(alloc, count)?;
+        let wires = Wires::new(alloc, count)?;
+        let console = ConsoleState::new(alloc, ranks)?;
+        let run = Run::new(alloc, ranks)?;
+        let seats = Seats::start(alloc, program, ranks)?;
+        Ok(Parts {
+            alloc,
+            program,
+            seats,
+            logger,
+            wires,
+            console,
+            run,
+        })
+    }
+
+    /// Ends the world.
+    pub fn end(self) {
+        let Parts {
+            alloc: _,
+            program: _,
+            seats,
+            logger: _,
+            wires: _,
+            console: _,
+            run: _,
+        } = self;
+        seats.end();
+    }
+
+    /// The console's lines, in order.
+    pub fn lines(&self) -> &[Line]
+        ensures { result.now ≡ self.now.lines }
+    {
+        self.console.lines()
+    }
+
+    /// The rank of this number, if there is one.
+    fn rank_of(&self, number: u32) -> Option<u8>
+        ensures { MatchOption result (length self.now.ranks ≤ number) (λ rank. (rank ≡ number) × (rank < length self.now.ranks)) }
+    {
+        match u8::try_from(number) {
+            Ok(rank) if usize::from(rank) < self.seats.len() => Some(rank),
+            _ => None,
+        }
+    }
+}

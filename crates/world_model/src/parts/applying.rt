@@ -1,0 +1,35 @@
+//! Events, each by its name.
+ghost use Rattle.std.specs.Prelude.{◌≡◌, IfOk, OnErr};
+
+use crate::event::WorldEvent;
+use crate::parts::Parts;
+use crate::reply::Reply;
+use std::alloc::AllocError;
+
+impl<'p> Parts<'p> {
+    ghost use Rattle.world_model.specs.Follows.{CanNot, Follows};
+    ghost use Rattle.world_model.specs.Stands.{Stands};
+
+    /// One event.
+    pub fn apply(&mut self, event: WorldEvent) -> Result<Reply, AllocError>
+        requires { Stands self.old }
+        ensures follows { IfOk result (λ reply. Follows self.old event reply self.new) }
+        ensures err { OnErr result (self.new ≡ self.old) }
+        ensures possible { OnErr result (CanNot self.old event → ⊥) }
+    {
+        match event {
+            WorldEvent::Step { rank } => self.step(rank),
+            WorldEvent::Put { source, dest } => self.put(source, dest),
+            WorldEvent::Arrive {
+                source,
+                dest,
+                index,
+            } => self.arrive(source, dest, index),
+            WorldEvent::Store { rank } => self.store(rank),
+            WorldEvent::Ack { rank } => Ok(self.ack(rank)),
+            WorldEvent::Image { .. } => Ok(Reply::Refused),
+            WorldEvent::Crash { .. } => Ok(Reply::Refused),
+            WorldEvent::Restart { .. } => Ok(Reply::Refused),
+        }
+    }
+}

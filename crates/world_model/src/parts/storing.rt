@@ -1,0 +1,81 @@
+//! Events that are stored.
+ghost use Rattle.std.specs.Prelude.{◌≡◌, ◌≢◌, ◌+◌, length, Some, IfOk, OnErr};
+
+use crate::parts::Parts;
+use crate::reply::Reply;
+use crash_free::{Act, Passed};
+use event_logger::{Event, Kind};
+use std::alloc::AllocError;
+
+impl<'p> Parts<'p> {
+    ghost use Rattle.crash_free.specs.Seen.{act_of};
+    ghost use Rattle.crash_free.specs.Runs.{history, sent, looked_up};
+    ghost use Rattle.rank_node.specs.Storing.{next_unstored};
+    ghost use Rattle.world_model.specs.declared.event.WorldEvent.TheVariants.{Store};
+    ghost use Rattle.world_model.specs.Follows.{CanNot, Follows};
+    ghost use Rattle.world_model.specs.Rows.{event_at};
+    ghost use Rattle.world_model.specs.RunIndex.{clock_at};
+    ghost use Rattle.world_model.specs.Seats.{AtRank};
+    ghost use Rattle.world_model.specs.Stands.{Stands};
+
+    /// The rank's oldest unstored event is stored. Its act goes on the run
+    /// first, and is taken back where memory ends after that.
+    #[tactic(auto, using(crate::proofs::Doing::store_nowhere, crate::proofs::Doing::store_none, crate::proofs::Doing::store_some, crate::proofs::Doing::store_row, crate::proofs::Doing::store_accepted, crate::proofs::Doing::store_oldest, crate::proofs::Doing::store_possible))]
+    pub fn store(&mut self, rank: u32) -> Result<Reply, AllocError>
+        requires { Stands self.old }
+        ensures follows { IfOk result (λ reply. Follows self.old (Store rank) reply self.new) }
+        ensures err { OnErr result (self.new ≡ self.old) }
+        ensures possible { OnErr result (CanNot self.old (Store rank) → ⊥) }
+    {
+        let Some(rank) = self.rank_of(rank) else {
+            return Ok(Reply::Refused);
+        };
+        let Some(event) = self.seats.running(rank).oldest_unstored() else {
+            return Ok(Reply::Refused);
+        };
+        let act = self.act_of(rank, event);
+        self.run.push(Passed { rank, act })?;
+        let Ok(count) = self.seats.store(rank, &mut self.logger) else {
+            self.run.take_back();
+            return Err(AllocError);
+        };
+        Ok(Reply::Stored(count))
+    }
+
+    /// The act that the rank's oldest unstored event stands for.
+    #[tactic(auto, using(crate::proofs::Doing::miss_stands, crate::proofs::Doing::hit_stands, crate::proofs::Doing::reception_stands))]
+    fn act_of(&self, rank: u8, event: Event) -> Act
+        requires stands { Stands self.now }
+        requires oldest { AtRank self.now.ranks rank (λ v. next_unstored v.rank ≡ Some event) }
+        ensures { event_at (length (history self.now.run rank) + 1) (act_of result) (looked_up (λ s. sent self.now.run s rank) (act_of result)) ≡ Some event }
+    {
+        match event.kind() {
+            Kind::Miss => Act::Misses,
+            Kind::Hit => Act::Hits {
+                source: event.sender(),
+                place: self.place_of(rank, event),
+            },
+            Kind::Reception => Act::Takes {
+                source: event.sender(),
+                place: self.place_of(rank, event),
+            },
+        }
+    }
+
+    /// The place of the message that the rank's oldest unstored event names.
+    #[tactic(auto, using(crate::proofs::Doing::names_a_rank, crate::proofs::Doing::names_a_message, crate::proofs::Doing::at_below))]
+    fn place_of(&self, rank: u8, event: Event) -> u64
+        requires stands { Stands self.now }
+        requires oldest { AtRank self.now.ranks rank (λ v. next_unstored v.rank ≡ Some event) }
+        requires named { event.kind ≢ Kind.Miss }
+        ensures { clock_at self.now.run event.sender rank result ≡ Some event.sender_clock }
+    {
+        let Some(place) = self
+            .run
+            .place_of(event.sender(), rank, event.sender_clock())
+        else {
+            unreachable!()
+        };
+        place
+    }
+}

@@ -1,0 +1,40 @@
+//! What a world answers to an event.
+
+/// The answer to an event.
+#[derive(Clone, Copy, Debug, PartialEq, Eq)]
+pub enum Reply {
+    /// The machine made a step.
+    Moved,
+    /// A receive or a blocking probe stands, and nothing in the inbox matches.
+    Blocked,
+    /// A send or a print stands, and some event isn't stored or acknowledged.
+    Held,
+    /// The program has halted or faulted.
+    Ended,
+    /// The packet of this number was put, and has this index on its wire.
+    PutData { index: u64, number: u32 },
+    /// A request for packets from this number on was put.
+    PutAsk { index: u64, from: u32 },
+    /// Word that an image has the packets up to this number was put.
+    PutKept { index: u64, upto: u32 },
+    /// The packet was the next of its source.
+    Accepted,
+    /// A packet of its number was accepted before.
+    Repeated,
+    /// A packet before it is missing.
+    Gap,
+    /// A request, or word of an image, was noted.
+    Noted,
+    /// The event was stored, and the row has this many now.
+    Stored(u32),
+    /// The event was acknowledged.
+    Acked,
+    /// The image was taken.
+    Imaged,
+    /// The rank is down.
+    Crashed,
+    /// The rank is up, with this many events to replay.
+    Restarted(u32),
+    /// The event can't happen, and nothing changed.
+    Refused,
+}

@@ -1,0 +1,115 @@
+//! The run that a world keeps.
+//!
+//! An index answers what would else need a walk of the run.
+ghost use Rattle.std.specs.Prelude.{◌≡◌, ℕ, ◌<◌, [], ◌∷◌, length, drop, replicate, reverse, Some, IfSome, IfNone, IfOk, OnOk, OnErr};
+ghost use Rattle.crash_free.specs.Runs.{history};
+ghost use Rattle.world_model.specs.RunIndex.{clock_at, none_made};
+
+mod clocks;
+mod made;
+#[cfg(test)]
+mod tests;
+
+use crash_free::Passed;
+use made::Made;
+use metered::Heap;
+use std::alloc::AllocError;
+use std::marker::Model;
+
+/// The acts that passed, in order.
+///
+/// Contracts see the newest first.
+#[derive(Debug, Drop)]
+pub struct Run {
+    ranks: u8,
+    acts: Vec<Passed, Heap>,
+    index: Vec<Made, Heap>,
+}
+
+impl Model for Run {
+    ghost use Rattle.std.specs.Prelude.{reverse};
+    ghost use Rattle.world_model.specs.RunIndex.{RunValue, IsIndexed};
+
+    ghost Value = { RunValue };
+
+    ghost view = { λ r. record { ranks = r.ranks; acts = reverse r.acts.items } };
+
+    ghost invariant = { λ r. IsIndexed r.ranks (reverse r.acts.items) r.index.items };
+}
+
+impl Run {
+    /// The run of this many ranks in which nothing happened. An `Err` is want
+    /// of memory.
+    pub fn new(alloc: Heap, ranks: u8) -> Result<Run, AllocError>
+        ensures ranks { IfOk result (λ run. run.ranks ≡ ranks) }
+        ensures acts { IfOk result (λ run. run.acts ≡ []) }
+    {
+        Ok(Run {
+            ranks,
+            acts: Vec::new(alloc),
+            index: index_of_none(alloc, ranks)?,
+        })
+    }
+
+    /// The acts, the oldest first.
+    pub fn acts(&self) -> &[Passed]
+        ensures { result.now ≡ reverse self.now.acts }
+    {
+        self.acts.as_slice()
+    }
+
+    /// How many acts a rank made.
+    pub fn count(&self, rank: u8) -> usize
+        requires { rank < self.now.ranks }
+        ensures { result ≡ length (history self.now.acts rank) }
+    {
+        self.index[usize::from(rank)].count()
+    }
+
+    /// The place, from 1, of the message with this clock among those that the
+    /// source sent to the destination.
+    pub fn place_of(&self, source: u8, dest: u8, clock: u32) -> Option<u64>
+        requires source { source < self.now.ranks }
+        requires dest { dest < self.now.ranks }
+        ensures some { IfSome result (λ j. clock_at self.now.acts source dest j ≡ Some clock) }
+        ensures none { IfNone result (
+            (j : ℕ) → clock_at self.now.acts source dest j ≡ Some clock → ⊥) }
+    {
+        self.index[usize::from(source)].place_of(dest, u64::from(clock))
+    }
+
+    /// Puts the newest act. An `Err` is want of memory.
+    #[tactic(auto, using(crate::proofs::RunIndex::count_fits))]
+    pub fn push(&mut self, passed: Passed) -> Result<(), AllocError>
+        requires { passed.rank < self.old.ranks }
+        ensures ok { OnOk result (self.new.acts ≡ passed ∷ self.old.acts) }
+        ensures ranks { self.new.ranks ≡ self.old.ranks }
+        ensures err { OnErr result (self.new ≡ self.old) }
+    {
+        self.acts.reserve(1)?;
+        self.index[usize::from(passed.rank)].note(&passed.act)?;
+        self.acts.push_reserved(passed);
+        Ok(())
+    }
+
+    /// Takes the newest act back, if there is one. This takes no memory.
+    #[tactic(auto, using(crate::proofs::RunIndex::counted_last))]
+    pub fn take_back(&mut self)
+        ensures acts { self.new.acts ≡ drop 1 self.old.acts }
+        ensures ranks { self.new.ranks ≡ self.old.ranks }
+    {
+        if let Some(passed) = self.acts.pop() {
+            self.index[usize::from(passed.rank)].forget(&passed.act);
+        }
+    }
+}
+
+fn index_of_none(alloc: Heap, ranks: u8) -> Result<Vec<Made, Heap>, AllocError>
+    ensures { IfOk result (λ index. index.items ≡ replicate ranks (none_made ranks)) }
+{
+    let mut index = Vec::new(alloc);
+    for _ in 0..ranks {
+        index.push(Made::new(alloc, ranks)?)?;
+    }
+    Ok(index)
+}

@@ -1,0 +1,104 @@
+//! A world, which stands for a crash-free run.
+ghost use Rattle.std.specs.Prelude.{◌≡◌, ◌≤◌, [], List, length, take, IfOk, IfErr, OnErr};
+ghost use Rattle.world_model.specs.declared.reply.Reply.{Reply};
+ghost use Rattle.world_model.specs.Headline.{IsFresh, StandsFor};
+ghost use Rattle.world_model.specs.Follows.{CanNot, Follows, FollowsAll};
+
+use crate::event::WorldEvent;
+use crate::parts::Parts;
+use crate::reply::Reply;
+use metered::Heap;
+use ports::Line;
+use rank_language::Program;
+use std::alloc::AllocError;
+use std::marker::Model;
+
+/// There was no more memory after this many events.
+#[derive(Clone, Copy, Debug, PartialEq, Eq)]
+pub struct Stopped {
+    pub done: usize,
+}
+
+/// Ranks of a program with their event logger, wires and console, and the
+/// crash-free run that they stand for. It must be spent.
+pub struct World<'p> {
+    parts: Parts<'p>,
+}
+
+impl<'p> Model for World<'p> {
+    ghost use Rattle.std.specs.Coded.{codes};
+    ghost use Rattle.rank_language.specs.Coding.{placed_code};
+    ghost use Rattle.world_model.specs.World.{WorldValue};
+    ghost use Rattle.world_model.specs.Stands.{Stands};
+
+    ghost Value = { WorldValue };
+
+    ghost coded = { Prim.hlevel (codes, placed_code) };
+
+    ghost view = { λ w. w.parts };
+
+    ghost invariant = { λ w. Stands w.parts };
+}
+
+impl<'p> World<'p> {
+    /// A new world of a program and 1 to 16 ranks.
+    #[tactic(auto, using(crate::proofs::Headline::stands_for, crate::proofs::Headline::stands_fresh))]
+    pub fn new(alloc: Heap, program: &'p Program, ranks: u8) -> Result<World<'p>, AllocError>
+        requires { ranks ≤ 16 }
+        ensures fresh { IfOk result (λ world. IsFresh program.entry.now ranks world) }
+        ensures stands { IfOk result (λ world. StandsFor world []) }
+    {
+        let parts = Parts::new(alloc, program, ranks)?;
+        Ok(World { parts })
+    }
+
+    /// Ends the world. This takes no memory.
+    pub fn close(self) {
+        let World { parts } = self;
+        parts.end();
+    }
+
+    /// The console's lines, in the order in which they were shown.
+    pub fn lines(&self) -> &[Line]
+        ensures { result.now ≡ self.now.lines }
+    {
+        self.parts.lines()
+    }
+
+    /// One event. An `Err` is want of memory, and comes only where the event
+    /// isn't refused.
+    #[tactic(auto, using(crate::proofs::Headline::stands_for, crate::proofs::Sequences::kept))]
+    pub fn apply(&mut self, event: WorldEvent) -> Result<Reply, AllocError>
+        ensures follows { IfOk result (λ reply. Follows self.old event reply self.new) }
+        ensures stands { StandsFor self.new self.new.run }
+
+        ensures err { OnErr result (self.new ≡ self.old) }
+        ensures possible { OnErr result (CanNot self.old event → ⊥) }
+    {
+        self.parts.apply(event)
+    }
+
+    /// A list of events, one after another. Where memory ends, the world is as
+    /// it was after the first `done` of them.
+    #[tactic(auto, using(crate::proofs::Headline::stands_for, crate::proofs::Sequences::follows_push))]
+    pub fn run(&mut self, alloc: Heap, events: &[WorldEvent]) -> Result<Vec<Reply, Heap>, Stopped>
+        ensures follows { IfOk result (λ replies. FollowsAll self.old events.now replies.items self.new) }
+        ensures stands { StandsFor self.new self.new.run }
+
+        ensures done { IfErr result (λ stopped. stopped.done ≤ length events.now) }
+        ensures stopped { IfErr result (λ stopped. (replies : List Reply) × FollowsAll self.old (take stopped.done events.now) replies self.new) }
+    {
+        let _parts = &self.parts;
+        let mut replies = Vec::new(alloc);
+        for (done, event) in events.iter().enumerate() {
+            let Ok(()) = replies.reserve(1) else {
+                return Err(Stopped { done });
+            };
+            let Ok(reply) = self.apply(*event) else {
+                return Err(Stopped { done });
+            };
+            replies.push_reserved(reply);
+        }
+        Ok(replies)
+    }
+}
