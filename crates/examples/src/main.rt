@@ -9,7 +9,7 @@ use std::sync::Wait;
 use std::thread::Threads;
 
 /// The words of each run, after the program's name.
-const RUNS: [&str; 22] = [
+const RUNS: [&str; 35] = [
     "run --ranks 2 answer.rank",
     "run --ranks 4 ring.rank",
     "run --ranks 2 ping_pong.rank",
@@ -21,17 +21,30 @@ const RUNS: [&str; 22] = [
     "run --ranks 1 overflow.rank",
     "run --ranks 2 --idle 100 stalled.rank",
     "run --ranks 2 --steps 2 unfinished.rank",
+    "run --ranks 2 squares.rank",
+    "run --ranks 1 --steps 1000 forever.rank",
+    "run --ranks 2 many_events.rank",
+    "run --ranks 1 bounded.rank",
     "run --ranks 1 bad_rank.rank",
     "run --ranks 1 bad_tag.rank",
     "run --ranks 1 fault_not_text.rank",
     "run --ranks 1 fault_not_a_statement.rank",
     "run --ranks 1 fault_bad_form.rank",
+    "run --ranks 1 let_item.rank",
     "run --ranks 2 refused.rank",
     "run --ranks 1 fault_declared_twice.rank",
     "run --ranks 1 fault_block_open.rank",
     "run --ranks 1 fault_block_stray.rank",
+    "run --ranks 1 while_stray.rank",
     "run --ranks 1 fault_limit.rank",
     "run --ranks 1 fault_number_range.rank",
+    "world --ranks 2 answer.rank answer.events",
+    "world --ranks 2 overtaking.rank overtaking.events",
+    "world --ranks 2 two_prints.rank two_prints.events",
+    "world --ranks 2 answer.rank cannot.events",
+    "world --ranks 2 answer.rank bad_line.events",
+    "world --ranks 2 answer.rank none.events",
+    "world --ranks 2 refused.rank none.events",
 ];
 
 fn main(rt: HostRuntime) -> io::Result<()> {

@@ -1,5 +1,5 @@
 -- What a lane brings to an inbox (reception in the order of sending: MPI 1.1, section 3.5).
-use Rattle.std.specs.Prelude.{ℕ, List, [], ◌∷◌, length, nat_lt, if◌then◌else◌}
+use Rattle.std.specs.Prelude.{List, [], ◌∷◌, length, nat_lt, if◌then◌else◌}
 use Rattle.matching.specs.Message.{Message}
 use Rattle.matching.specs.Inbox.{Mailbox, after_arrival}
 

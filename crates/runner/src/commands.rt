@@ -3,16 +3,18 @@
 //! | Status | When |
 //! |---|---|
 //! | 0 | done, help too |
-//! | 1 | a rank isn't halted |
-//! | 2 | the program or the script is refused, or a file can't be read |
+//! | 1 | after a run a rank isn't halted |
+//! | 2 | the program, the script or the events are refused, or a file can't be read |
 //! | 3 | the words are refused |
 //! | 4 | there is no memory |
 //! | 5 | standard output can't be written |
 ghost use Rattle.std.specs.Prelude.{◌≤◌};
 
 mod job;
+mod reading;
 mod refusal;
 mod said;
+mod world;
 
 use crate::commands::job::work;
 use crate::commands::said::Said;

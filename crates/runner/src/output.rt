@@ -1,8 +1,10 @@
-//! What the program prints of a run.
-use crate::report::{End, Line, Outcome, Report};
+//! What the program prints of a run and of a world.
+use crate::report::{End, Outcome, Report};
+use events_text::ReplyLine;
 use metered::Heap;
 use std::alloc::AllocError;
 use std::fmt::Write;
+use world_model::{Reply, World};
 
 /// The lines of each rank, how each rank ended, and what the run took.
 pub fn print_report(alloc: Heap, report: &Report) -> Result<String<Heap>, AllocError> {
@@ -15,6 +17,34 @@ pub fn print_report(alloc: Heap, report: &Report) -> Result<String<Heap>, AllocE
     Ok(text)
 }
 
+/// The replies, and then the lines of each rank of the world.
+pub fn print_world(
+    alloc: Heap,
+    replies: &[Reply],
+    ranks: u8,
+    world: &World<'_>,
+) -> Result<String<Heap>, AllocError> {
+    let mut text = String::new(alloc);
+    for reply in replies {
+        let reply = ReplyLine(*reply);
+        writeln!(text, "{reply}")?;
+    }
+    for rank in 0..ranks {
+        print_lines_of(&mut text, rank, world)?;
+    }
+    Ok(text)
+}
+
+// The lines of one rank stand by their clocks already.
+fn print_lines_of(text: &mut String<Heap>, rank: u8, world: &World<'_>) -> Result<(), AllocError> {
+    for line in world.lines() {
+        if line.rank == rank {
+            print_line(text, rank, line.value)?;
+        }
+    }
+    Ok(())
+}
+
 /// Whether every rank halted.
 pub fn all_halted(outcome: &Outcome) -> bool {
     outcome.ends.iter().all(|end| *end == End::Halted)
@@ -25,16 +55,14 @@ fn print_lines(text: &mut String<Heap>, outcome: &Outcome) -> Result<(), AllocEr
     for (rank, _) in (0u8..).zip(outcome.ends.iter()) {
         for line in outcome.lines.iter() {
             if line.rank == rank {
-                print_line(text, line)?;
+                print_line(text, rank, line.value)?;
             }
         }
     }
     Ok(())
 }
 
-fn print_line(text: &mut String<Heap>, line: &Line) -> Result<(), AllocError> {
-    let rank = line.rank;
-    let value = line.value;
+fn print_line(text: &mut String<Heap>, rank: u8, value: i64) -> Result<(), AllocError> {
     writeln!(text, "{rank}> {value}")
 }
 

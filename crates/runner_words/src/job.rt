@@ -1,5 +1,5 @@
 //! What the words ask for.
-ghost use Rattle.std.specs.Prelude.{◌≤◌};
+ghost use Rattle.std.specs.Prelude.{◌≤◌, IfSome};
 
 use crate::no_job::NoJob;
 use crate::syntax::syntax;
@@ -11,6 +11,7 @@ use std::alloc::Global;
 #[derive(Clone, Copy, Debug, PartialEq, Eq)]
 pub enum Job<'a> {
     Run(RunJob<'a>),
+    World(WorldJob<'a>),
 }
 
 /// One run of a program. `idle` and `steps` are at most 1000000000.
@@ -25,6 +26,16 @@ pub struct RunJob<'a> {
     pub ghost few_ranks: { ranks ≤ 8 },
     pub ghost some_idle: { 1 ≤ idle },
     pub ghost some_steps: { 1 ≤ steps },
+}
+
+/// One world of a program, under the events of a file.
+#[derive(Clone, Copy, Debug, PartialEq, Eq)]
+pub struct WorldJob<'a> {
+    pub ranks: u8,
+    pub program: &'a str,
+    pub events: &'a str,
+    pub ghost some_rank: { 1 ≤ ranks },
+    pub ghost few_ranks: { ranks ≤ 8 },
 }
 
 /// The job that the words name; the first word is the program's name.
@@ -46,18 +57,39 @@ fn parsed<'a>(alloc: Global, words: &'a [String]) -> Result<Job<'a>, Error> {
 
 fn chosen<'a>(matches: &ArgMatches<'a>) -> Option<Job<'a>> {
     let (name, inner) = matches.subcommand()?;
-    if name != "run" {
-        return None;
+    if name == "run" {
+        return Some(Job::Run(run_of(inner)?));
     }
-    // The syntax has these ranges too.
-    let ranks = inner
+    if name == "world" {
+        return Some(Job::World(world_of(inner)?));
+    }
+    None
+}
+
+// The syntax has these ranges too.
+fn ranks_of(inner: &ArgMatches<'_>) -> Option<u8>
+    ensures some { IfSome result (λ ranks. 1 ≤ ranks) }
+    ensures few { IfSome result (λ ranks. ranks ≤ 8) }
+{
+    inner
         .get_one::<u8>("ranks")
-        .filter(|ranks| (1..=8).contains(ranks))?;
-    Some(Job::Run(RunJob {
-        ranks,
+        .filter(|ranks| (1..=8).contains(ranks))
+}
+
+fn run_of<'a>(inner: &ArgMatches<'a>) -> Option<RunJob<'a>> {
+    Some(RunJob {
+        ranks: ranks_of(inner)?,
         script: inner.get_str("script"),
         idle: inner.get_one::<u32>("idle").filter(|idle| *idle >= 1)?,
         steps: inner.get_one::<u32>("steps").filter(|steps| *steps >= 1)?,
         program: inner.get_str("program")?,
-    }))
+    })
+}
+
+fn world_of<'a>(inner: &ArgMatches<'a>) -> Option<WorldJob<'a>> {
+    Some(WorldJob {
+        ranks: ranks_of(inner)?,
+        program: inner.get_str("program")?,
+        events: inner.get_str("events")?,
+    })
 }

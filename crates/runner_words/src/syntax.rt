@@ -7,7 +7,8 @@ pub fn syntax<'a>(alloc: Global) -> Result<Command<'a>, AllocError> {
     Command::new(alloc, "ftmpi")
         .about("Runs one rank program on several ranks that exchange messages")
         .subcommand_required(true)
-        .subcommand(run(alloc)?)
+        .subcommand(run(alloc)?)?
+        .subcommand(world(alloc)?)
 }
 
 fn run<'a>(alloc: Global) -> Result<Command<'a>, AllocError> {
@@ -30,6 +31,14 @@ fn run<'a>(alloc: Global) -> Result<Command<'a>, AllocError> {
             "Steps after which a rank is left unfinished",
         ))?
         .arg(program(alloc))
+}
+
+fn world<'a>(alloc: Global) -> Result<Command<'a>, AllocError> {
+    Command::new(alloc, "world")
+        .about("Applies events to the ranks of a program and prints each reply, and then the lines")
+        .arg(ranks(alloc))?
+        .arg(program(alloc))?
+        .arg(events(alloc))
 }
 
 fn ranks<'a>(alloc: Global) -> Arg<'a> {
@@ -64,6 +73,14 @@ fn program<'a>(alloc: Global) -> Arg<'a> {
     Arg::new(alloc, "program")
         .value_name("PROGRAM")
         .help("The rank program")
+        .required(true)
+        .action(ArgAction::Set)
+}
+
+fn events<'a>(alloc: Global) -> Arg<'a> {
+    Arg::new(alloc, "events")
+        .value_name("EVENTS")
+        .help("The events, one a line")
         .required(true)
         .action(ArgAction::Set)
 }

@@ -1,6 +1,8 @@
 //! What the program does once its words are read.
+use crate::commands::reading::{program_in, script_in};
 use crate::commands::refusal::Refusal;
 use crate::commands::said::Said;
+use crate::commands::world::world_text;
 use crate::files::Files;
 use crate::hold::Hold;
 use crate::output::{all_halted, print_report};
@@ -8,7 +10,6 @@ use crate::report::Report;
 use crate::running::{RunLimits, run};
 use crate::script::Script;
 use metered::Heap;
-use rank_language::Program;
 use runner_words::{Job, RunJob};
 use std::alloc::AllocError;
 use std::sync::Wait;
@@ -34,6 +35,10 @@ pub fn work<R: Threads + Wait + Sync + Copy + Send, F: Files>(
             Ok(report) => answer(alloc, &report),
             Err(refusal) => refusal.said(alloc),
         },
+        Job::World(job) => match world_text(alloc, job, files) {
+            Ok(text) => Ok(Said::answer(alloc, 0, text)),
+            Err(refusal) => refusal.said(alloc),
+        },
     }
 }
 
@@ -54,29 +59,6 @@ fn report_of<'a, R: Threads + Wait + Sync + Copy + Send, F: Files>(
         steps: job.steps,
     };
     Ok(run(rt, alloc, &program, job.ranks, &script, limits, &Nobody)?)
-}
-
-fn program_in<'a, F: Files>(
-    alloc: Heap,
-    name: &'a str,
-    files: &mut F,
-) -> Result<Program, Refusal<'a>> {
-    match files.read(name) {
-        Ok(text) => Ok(Program::parse(alloc, text.as_slice())?),
-        Err(fault) => Err(Refusal::of_file(name, fault)),
-    }
-}
-
-fn script_in<'a, F: Files>(
-    alloc: Heap,
-    name: &'a str,
-    ranks: u8,
-    files: &mut F,
-) -> Result<Script, Refusal<'a>> {
-    match files.read(name) {
-        Ok(text) => Ok(Script::parse(alloc, text.as_slice(), ranks)?),
-        Err(fault) => Err(Refusal::of_file(name, fault)),
-    }
 }
 
 // The status is 1 where a rank isn't halted.

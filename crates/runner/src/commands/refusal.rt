@@ -3,16 +3,18 @@ use crate::commands::said::Said;
 use crate::files::FileFault;
 use crate::running::RunFault;
 use crate::script::{ScriptFault, ScriptParseFault};
+use events_text::{EventsFault, EventsFaultKind};
 use metered::Heap;
 use rank_language::{ParseFault, ProgramFault};
 use std::alloc::AllocError;
 
-/// What stands in the way of a report.
+/// What stands in the way of an answer.
 #[derive(Clone, Copy, Debug, PartialEq, Eq)]
 pub enum Refusal<'a> {
     CannotRead(&'a str),
     Program(ProgramFault),
     Script(ScriptFault),
+    Events { line: usize, kind: EventsFaultKind },
     Memory,
 }
 
@@ -30,6 +32,7 @@ impl<'a> Refusal<'a> {
             Refusal::CannotRead(name) => format!(in alloc; "cannot read {name}\n")?,
             Refusal::Program(fault) => program_line(alloc, fault)?,
             Refusal::Script(fault) => script_line(alloc, fault)?,
+            Refusal::Events { line, kind } => events_line(alloc, line, kind)?,
             Refusal::Memory => return Err(AllocError),
         };
         Ok(Said::refusal(alloc, 2, text))
@@ -48,6 +51,30 @@ fn script_line(alloc: Heap, fault: ScriptFault) -> Result<String<Heap>, AllocErr
     let number = fault.kind.number();
     let name = fault.kind;
     format!(in alloc; "script line {line}: fault {number} {name}\n")
+}
+
+fn events_line(
+    alloc: Heap,
+    line: usize,
+    kind: EventsFaultKind,
+) -> Result<String<Heap>, AllocError> {
+    let number = kind.number();
+    format!(in alloc; "events line {line}: fault {number} {kind}\n")
+}
+
+impl From<AllocError> for Refusal<'_> {
+    fn from(_: AllocError) -> Self {
+        Refusal::Memory
+    }
+}
+
+impl From<EventsFault> for Refusal<'_> {
+    fn from(fault: EventsFault) -> Self {
+        match fault {
+            EventsFault::Fault { line, kind } => Refusal::Events { line, kind },
+            EventsFault::Memory => Refusal::Memory,
+        }
+    }
 }
 
 impl From<ParseFault> for Refusal<'_> {

@@ -1,4 +1,6 @@
-//! Refusals: of words, files, programs and scripts, and of a write.
+//! Refusals: of words, files and scripts, and of a write.
+//!
+//! The faults of programs and of events are among the runs of `examples`.
 use crate::command;
 use crate::tests::{Table, answer_of, words_of};
 use std::io::Write;
@@ -22,69 +24,6 @@ fn refused(rt: HostRuntime) -> Result<(), Fail> {
             "",
             4,
             "out of memory\n",
-        ),
-        (
-            "run --ranks 1 p",
-            "var x\nprint\t1\n",
-            "",
-            2,
-            "line 2: fault 1 NotText\n",
-        ),
-        (
-            "run --ranks 1 p",
-            "jump\n",
-            "",
-            2,
-            "line 1: fault 2 NotAStatement\n",
-        ),
-        (
-            "run --ranks 1 p",
-            "var x\nprint x +\n",
-            "",
-            2,
-            "line 2: fault 3 BadForm\n",
-        ),
-        (
-            "run --ranks 1 p",
-            "print y\n",
-            "",
-            2,
-            "line 1: fault 4 Undeclared\n",
-        ),
-        (
-            "run --ranks 1 p",
-            "var x\nvar x\n",
-            "",
-            2,
-            "line 2: fault 5 DeclaredTwice\n",
-        ),
-        (
-            "run --ranks 1 p",
-            "if 1",
-            "",
-            2,
-            "line 2: fault 6 BlockOpen\n",
-        ),
-        (
-            "run --ranks 1 p",
-            "end\n",
-            "",
-            2,
-            "line 1: fault 7 BlockStray\n",
-        ),
-        (
-            "run --ranks 1 p",
-            "var abcdefghijklmnopq\n",
-            "",
-            2,
-            "line 1: fault 8 Limit\n",
-        ),
-        (
-            "run --ranks 1 p",
-            "print 9223372036854775808\n",
-            "",
-            2,
-            "line 1: fault 9 NumberRange\n",
         ),
         // The program is judged before the script is read.
         (
@@ -115,6 +54,7 @@ fn refused(rt: HostRuntime) -> Result<(), Fail> {
             2,
             "script line 3: fault 1 BadLine\n",
         ),
+        ("world --ranks 1 p large", "", "", 4, "out of memory\n"),
     ] {
         let answer = answer_of(&rt, words, &[("p", text), ("s", script)])?;
         assert_eq!(rt; answer.err(), err, "at {words}:\n{text}");
@@ -148,7 +88,12 @@ fn words(rt: HostRuntime) -> Result<(), Fail> {
         ("run --ranks 1 p p", 3),
         ("jump", 3),
         ("check p", 3),
-        ("world --ranks 1 p p", 3),
+        ("world --help", 0),
+        ("world p s", 3),
+        ("world --ranks 1 p", 3),
+        ("world --ranks 0 p s", 3),
+        ("world --ranks 9 p s", 3),
+        ("world --ranks 1 --idle 1 p s", 3),
     ] {
         let answer = answer_of(&rt, words, &[("p", ""), ("s", "")])?;
         assert_eq!(rt; answer.status, status, "at {words}");
@@ -208,6 +153,7 @@ fn failed_writes(rt: HostRuntime) -> Result<(), Fail> {
     for (line, status) in [
         ("ftmpi run --ranks 1 p", 5u8),
         ("ftmpi --help", 5),
+        ("ftmpi world --ranks 1 p e", 5),
         ("ftmpi run --ranks 1 none", 2),
         ("ftmpi run", 3),
         ("ftmpi run --ranks 1 large", 4),
@@ -215,7 +161,7 @@ fn failed_writes(rt: HostRuntime) -> Result<(), Fail> {
         let words = words_of(alloc, line)?;
         let mut files = Table {
             alloc,
-            files: &[("p", "")],
+            files: &[("p", ""), ("e", "step 0")],
         };
         let mut out = Closed;
         let mut err = Closed;

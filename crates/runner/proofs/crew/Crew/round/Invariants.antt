@@ -1,5 +1,4 @@
 use Rattle.std.proofs.Common.{◌≡◌, length}
-use Rattle.std.specs.Vec.{vec_len}
 use Rattle.runner.proofs.crew.Crew.round.Given as goal
 
 abbrev pub invariant-loop-who : goal.invariant-loop-who

@@ -1,0 +1,14 @@
+-- The numbers and names of the faults of a text of events.
+use Rattle.std.specs.Prelude.{ℕ, List, codes}
+use Rattle.events_text.specs.declared.fault.EventsFaultKind.{EventsFaultKind}
+use Rattle.events_text.specs.declared.fault.EventsFaultKind.TheVariants.{BadLine, Limit}
+
+-- the faults are numbered from 1 in this order
+abbrev pub number_of : EventsFaultKind → ℕ
+number_of BadLine = 1
+number_of Limit = 2
+
+-- the fault's name
+abbrev pub name_of : EventsFaultKind → List ℕ
+name_of BadLine = codes "BadLine"
+name_of Limit = codes "Limit"

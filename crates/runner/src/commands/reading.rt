@@ -1,0 +1,45 @@
+//! Files that the program's words name, read and parsed.
+use crate::commands::refusal::Refusal;
+use crate::files::Files;
+use crate::script::Script;
+use events_text::parse_events;
+use metered::Heap;
+use rank_language::Program;
+use world_model::WorldEvent;
+
+/// The program of the file with this name.
+pub fn program_in<'a, F: Files>(
+    alloc: Heap,
+    name: &'a str,
+    files: &mut F,
+) -> Result<Program, Refusal<'a>> {
+    match files.read(name) {
+        Ok(text) => Ok(Program::parse(alloc, text.as_slice())?),
+        Err(fault) => Err(Refusal::of_file(name, fault)),
+    }
+}
+
+/// The script of the file with this name, for so many ranks.
+pub fn script_in<'a, F: Files>(
+    alloc: Heap,
+    name: &'a str,
+    ranks: u8,
+    files: &mut F,
+) -> Result<Script, Refusal<'a>> {
+    match files.read(name) {
+        Ok(text) => Ok(Script::parse(alloc, text.as_slice(), ranks)?),
+        Err(fault) => Err(Refusal::of_file(name, fault)),
+    }
+}
+
+/// The events of the file with this name.
+pub fn events_in<'a, F: Files>(
+    alloc: Heap,
+    name: &'a str,
+    files: &mut F,
+) -> Result<Vec<WorldEvent, Heap>, Refusal<'a>> {
+    match files.read(name) {
+        Ok(text) => Ok(parse_events(alloc, text.as_slice())?),
+        Err(fault) => Err(Refusal::of_file(name, fault)),
+    }
+}
