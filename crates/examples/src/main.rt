@@ -1,6 +1,8 @@
 //! Runs the example programs of the data folder and prints what each gives.
 #![tactic(auto)]
 
+mod manual;
+
 use runner::{MachineFiles, command};
 use std::alloc::{AllocError, Global};
 use std::io;
@@ -9,7 +11,7 @@ use std::sync::Wait;
 use std::thread::Threads;
 
 /// The words of each run, after the program's name.
-const RUNS: [&str; 35] = [
+const RUNS: [&str; 40] = [
     "run --ranks 2 answer.rank",
     "run --ranks 4 ring.rank",
     "run --ranks 2 ping_pong.rank",
@@ -25,6 +27,10 @@ const RUNS: [&str; 35] = [
     "run --ranks 1 --steps 1000 forever.rank",
     "run --ranks 2 many_events.rank",
     "run --ranks 1 bounded.rank",
+    "run --ranks 3 stencil.rank",
+    "run --ranks 2 sieve.rank",
+    "run --ranks 2 array_short.rank",
+    "run --ranks 1 array_index.rank",
     "run --ranks 1 bad_rank.rank",
     "run --ranks 1 bad_tag.rank",
     "run --ranks 1 fault_not_text.rank",
@@ -37,6 +43,7 @@ const RUNS: [&str; 35] = [
     "run --ranks 1 fault_block_stray.rank",
     "run --ranks 1 while_stray.rank",
     "run --ranks 1 fault_limit.rank",
+    "run --ranks 1 array_length.rank",
     "run --ranks 1 fault_number_range.rank",
     "world --ranks 2 answer.rank answer.events",
     "world --ranks 2 overtaking.rank overtaking.events",
@@ -48,8 +55,10 @@ const RUNS: [&str; 35] = [
 ];
 
 fn main(rt: HostRuntime) -> io::Result<()> {
-    for run in RUNS {
-        show(&rt, run)?;
+    for runs in [RUNS.as_slice(), manual::RUNS.as_slice()] {
+        for run in runs {
+            show(&rt, run)?;
+        }
     }
     Ok(())
 }

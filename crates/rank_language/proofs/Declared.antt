@@ -1,13 +1,13 @@
 -- A statement resolves exactly where its names are declared: by recursion, whether an expression resolves is whether
 -- all its names are declared, since a name has a place exactly where it stands in its table.
-use Rattle.std.proofs.Common.{◌≡◌, ℕ, List, [], map, Bool, true, false, ◌&&◌, ◌||◌, Option, Some, None, option_map, ◌↔◌, refl, ap, ◌∙◌, sym}
+use Rattle.std.proofs.Common.{◌≡◌, ℕ, List, map, Bool, true, false, ◌&&◌, ◌||◌, Option, Some, None, option_map, ◌↔◌, refl, ap, ◌∙◌, sym}
 use Rattle.std.specs.Option.{is_some}
 use Rattle.rank_text.specs.Tree.{Tree, number, variable, item, reading, negation, operation}
-use Rattle.rank_text.specs.Forms.{Choice, any, value, Payload, lone, one, Form, var_form, let_form, if_form, else_form, end_form, while_form, send_form, recv_form, print_form, ◌>>=◌}
-use Rattle.rank_lines.specs.Scope.{Scope, is_name_in, is_variable, is_array, is_declared, all_declared, choice_declared, payload_declared, declared_in, after}
-use Rattle.rank_language.specs.Resolved.{place_in, variable_place, array_place, resolved, choice_resolved, payload_resolved, buffer_resolved, form_resolved}
+use Rattle.rank_text.specs.Forms.{Choice, any, value, Payload, lone, one, Form, var_form, array_form, let_form, item_form, if_form, else_form, end_form, while_form, send_form, recv_form, print_form, ◌>>=◌}
+use Rattle.rank_lines.specs.Scope.{Scope, is_name_in, is_array, is_declared, all_declared, choice_declared, payload_declared, declared_in, after}
+use Rattle.rank_language.specs.Resolved.{place_in, variable_place, array_place, either_place, resolved, choice_resolved, payload_resolved, buffer_resolved, form_resolved}
 use Rattle.rank_language.proofs.Names.{place_of_named, place_of_other}
-use Rattle.rank_language.proofs.Whole.{named_last}
+use Rattle.rank_language.proofs.Whole.{named_last, array_last}
 
 -- a mapped option has a value exactly where the option has
 mapped_some : {A B : Type 0} (f : A → B) (o : Option A) → is_some o ≡ is_some (option_map f o)
@@ -58,21 +58,23 @@ choice_some : (s : Scope) (c : Choice) → choice_declared s c ≡ is_some (choi
 choice_some s any = refl
 choice_some s (value e) = tree_some s e ∙ mapped_some _ (resolved s e)
 
--- a disjunction with what is false
-or_false : (b : Bool) → (b || false) ≡ b
-or_false true = refl
-or_false false = refl
+-- a name stands for something exactly where it has one of two places
+either_some : {A : Type 0} (f g : ℕ → A) (o q : Option ℕ) → (is_some o || is_some q) ≡ is_some (either_place f g o q)
+either_some f g (Some p) q = refl
+either_some f g None None = refl
+either_some f g None (Some p) = refl
 
--- where no array is declared, what is declared is a variable
-declared_variable : (s : Scope) (x : List ℕ) → s.arrays ≡ [] → is_declared s x ≡ is_variable s x
-declared_variable s x h =
-    ap (λ as'. is_variable s x || is_name_in (map (λ a. a.0) as') x) h ∙ or_false (is_variable s x)
+-- a name stands for a variable or an array exactly where it is declared
+declared_some : {A : Type 0} (f g : ℕ → A) (s : Scope) (x : List ℕ) → is_declared s x ≡ is_some (either_place f g (variable_place s x) (array_place s x))
+declared_some f g s x =
+    ap (λ b. b || is_array s x) (placed_some s.variables x)
+    ∙ ap (λ b. is_some (variable_place s x) || b) (placed_some (map (λ a. a.0) s.arrays) x)
+    ∙ either_some f g (variable_place s x) (array_place s x)
 
 -- a payload resolves exactly where its names are declared
-payload_some : (s : Scope) (p : Payload) → s.arrays ≡ [] → payload_declared s p ≡ is_some (payload_resolved s p)
-payload_some s (lone x) h =
-    declared_variable s x h ∙ placed_some s.variables x ∙ mapped_some _ (variable_place s x)
-payload_some s (one e) h = tree_some s e ∙ mapped_some _ (resolved s e)
+payload_some : (s : Scope) (p : Payload) → payload_declared s p ≡ is_some (payload_resolved s p)
+payload_some s (lone x) = declared_some _ _ s x
+payload_some s (one e) = tree_some s e ∙ mapped_some _ (resolved s e)
 
 -- open blocks declare nothing
 same_tables : (s : Scope) (bs : _) (e : Tree) → all_declared s e ≡ all_declared (record s { blocks = bs }) e
@@ -85,30 +87,37 @@ same_tables s bs (operation o a b) =
     ap (λ z. z && all_declared s b) (same_tables s bs a) ∙ ap (λ z. all_declared (record s { blocks = bs }) a && z) (same_tables s bs b)
 
 -- a statement resolves exactly where its names are declared
-form_some : (s : Scope) (f : Form) → s.arrays ≡ [] → declared_in s f ≡ is_some (form_resolved (after s f) f)
-form_some s (var_form x) h =
+form_some : (s : Scope) (f : Form) → declared_in s f ≡ is_some (form_resolved (after s f) f)
+form_some s (var_form x) =
     sym (named_last s.variables x) ∙ placed_some (after s (var_form x)).variables x ∙ mapped_some _ (variable_place (after s (var_form x)) x)
-form_some s (let_form x e) h =
+form_some s (array_form x n) =
+    sym (array_last s.arrays x n) ∙ placed_some (map (λ a. a.0) (after s (array_form x n)).arrays) x ∙ mapped_some _ (array_place (after s (array_form x n)) x)
+form_some s (item_form x i e) =
+    ap (λ z. z && all_declared s i && all_declared s e) (placed_some (map (λ a. a.0) s.arrays) x)
+    ∙ ap (λ z. is_some (array_place s x) && z && all_declared s e) (tree_some s i)
+    ∙ ap (λ z. is_some (array_place s x) && is_some (resolved s i) && z) (tree_some s e)
+    ∙ three_some _ (array_place s x) (resolved s i) (resolved s e)
+form_some s (let_form x e) =
     ap (λ z. z && all_declared s e) (placed_some s.variables x)
     ∙ ap (λ z. is_some (variable_place s x) && z) (tree_some s e)
     ∙ two_some _ (variable_place s x) (resolved s e)
-form_some s (while_form e) h =
+form_some s (while_form e) =
     same_tables s (after s (while_form e)).blocks e ∙ tree_some (after s (while_form e)) e ∙ mapped_some _ (resolved (after s (while_form e)) e)
-form_some s (if_form e) h =
+form_some s (if_form e) =
     same_tables s (after s (if_form e)).blocks e ∙ tree_some (after s (if_form e)) e ∙ mapped_some _ (resolved (after s (if_form e)) e)
-form_some s else_form h = refl
-form_some s end_form h = refl
-form_some s (send_form d t p) h =
+form_some s else_form = refl
+form_some s end_form = refl
+form_some s (send_form d t p) =
     ap (λ z. z && all_declared s t && payload_declared s p) (tree_some s d)
     ∙ ap (λ z. is_some (resolved s d) && z && payload_declared s p) (tree_some s t)
-    ∙ ap (λ z. is_some (resolved s d) && is_some (resolved s t) && z) (payload_some s p h)
+    ∙ ap (λ z. is_some (resolved s d) && is_some (resolved s t) && z) (payload_some s p)
     ∙ three_some _ (resolved s d) (resolved s t) (payload_resolved s p)
-form_some s (recv_form c t x) h =
+form_some s (recv_form c t x) =
     ap (λ z. z && choice_declared s t && is_declared s x) (choice_some s c)
     ∙ ap (λ z. is_some (choice_resolved s c) && z && is_declared s x) (choice_some s t)
-    ∙ ap (λ z. is_some (choice_resolved s c) && is_some (choice_resolved s t) && z) (declared_variable s x h ∙ placed_some s.variables x ∙ mapped_some _ (variable_place s x))
+    ∙ ap (λ z. is_some (choice_resolved s c) && is_some (choice_resolved s t) && z) (declared_some _ _ s x)
     ∙ three_some _ (choice_resolved s c) (choice_resolved s t) (buffer_resolved s x)
-form_some s (print_form e) h = tree_some s e ∙ mapped_some _ (resolved s e)
+form_some s (print_form e) = tree_some s e ∙ mapped_some _ (resolved s e)
 
 -- an option without a value, by the test that says whether it has one
 none_where : {A : Type 0} (o : Option A) (b : Bool) → b ≡ is_some o → (o ≡ None) ↔ (b ≡ false)
@@ -116,5 +125,5 @@ none_where None b h = (λ _. h, λ _. refl)
 none_where (Some a) b h = (λ n. absurd (let k : Some a ≡ None = n in cc), λ n. absurd (let k : true ≡ false = sym h ∙ n in cc))
 
 -- a statement doesn't resolve exactly where a name in it isn't declared
-pub undeclared_unresolved : (s : Scope) (f : Form) → s.arrays ≡ [] → (form_resolved (after s f) f ≡ None) ↔ (declared_in s f ≡ false)
-undeclared_unresolved s f h = none_where (form_resolved (after s f) f) (declared_in s f) (form_some s f h)
+pub undeclared_unresolved : (s : Scope) (f : Form) → (form_resolved (after s f) f ≡ None) ↔ (declared_in s f ≡ false)
+undeclared_unresolved s f = none_where (form_resolved (after s f) f) (declared_in s f) (form_some s f)

@@ -11,3 +11,8 @@ pub mod Whole
 pub mod Built
 pub mod Declared
 pub mod OneProgram
+pub mod Naming
+pub mod Canonical
+pub mod Back
+pub mod Arrays
+pub mod Printed

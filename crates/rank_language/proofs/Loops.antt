@@ -111,7 +111,9 @@ written n (suc i) j (x ∷ xs) v d h e =
 -- a statement that is no `end` of an `if` isn't led back
 kept_line : (n : ℕ) (x : Statement) → x ≢ made.EndIf → led_back n (line_of x) ≡ line_of x
 kept_line n (made.Declare p) h = refl
+kept_line n (made.DeclareArray p) h = refl
 kept_line n (made.Assign p e) h = refl
+kept_line n (made.AssignItem p i e) h = refl
 kept_line n (made.If e q) h = refl
 kept_line n (made.Else q) h = refl
 kept_line n made.EndIf h = absurd (h refl)

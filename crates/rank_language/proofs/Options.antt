@@ -1,6 +1,7 @@
 -- What a value that came through options says of them.
-use Rattle.std.proofs.Common.{◌≡◌, Bool, true, false, ◌&&◌, ◌||◌, Option, Some, None, option_map, refl}
+use Rattle.std.proofs.Common.{◌≡◌, ℕ, Bool, true, false, ◌&&◌, ◌||◌, Option, Some, None, option_map, refl, subst}
 use Rattle.rank_text.specs.Forms.{◌>>=◌}
+use Rattle.rank_language.specs.Resolved.{either_place}
 
 -- a value of a mapped option comes from one of the option
 pub mapped : {A B : Type 0} (f : A → B) (o : Option A) (b : B) → option_map f o ≡ Some b → (a : A) × (o ≡ Some a) × (f a ≡ b)
@@ -30,3 +31,13 @@ either true b true d f g h = refl
 either true b false d f g h = absurd (let k = f refl in cc)
 either false b true d f g h = refl
 either false b false d f g h = g h
+
+-- what a name by itself stands for comes from one of its two places
+pub either_from : {A : Type 0} (f g : ℕ → A) (o q : Option ℕ) (P : A → Type 0) (t : A) → ((p : ℕ) → o ≡ Some p → P (f p)) → ((p : ℕ) → q ≡ Some p → P (g p)) → either_place f g o q ≡ Some t → P t
+either_from f g (Some p) q P t h k e =
+    let r : f p ≡ t = cc in
+    subst P r (h p refl)
+either_from f g None None P t h k e = cc
+either_from f g None (Some p) P t h k e =
+    let r : g p ≡ t = cc in
+    subst P r (k p refl)

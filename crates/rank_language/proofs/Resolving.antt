@@ -8,14 +8,14 @@ use Rattle.rank_text.specs.Tree as text
 use Rattle.rank_text.specs.Forms as line
 use Rattle.rank_text.specs.Forms.{Form, ◌>>=◌}
 use Rattle.rank_lines.specs.Scope.{Scope}
-use Rattle.rank_language.specs.Placed.{Placed, number, variable, item, reading, negation, operation, Choice, any, value, Payload, one, Buffer, into_variable, declare, assign, send, receive, print, Step, does, tests, repeats, otherwise, closes}
+use Rattle.rank_language.specs.Placed.{Placed, number, variable, item, reading, negation, operation, Choice, any, value, Payload, one, all_of, Buffer, into_variable, into_array, declare, declare_array, assign, assign_item, send, receive, print, Step, does, tests, repeats, otherwise, closes}
 use Rattle.rank_language.specs.Block.{Line}
 use Rattle.rank_language.specs.Shape.{step_of}
 use Rattle.rank_language.specs.Program.{IsWithin, IsChoiceWithin, IsPayloadWithin, IsBufferWithin, IsPlaced, AllPlaced}
 use Rattle.rank_language.specs.Resolved.{place_in, variable_place, array_place, resolved, choice_resolved, payload_resolved, buffer_resolved, form_resolved, all_resolved}
 use Rattle.rank_language.specs.Ends.{kind_of, target_of, ends_before, ends_from, line_to, lines_behind, form_line, lines_from}
 use Rattle.rank_language.proofs.Loops.{behind-steps, behind-placed}
-use Rattle.rank_language.proofs.Options.{mapped, gone_on}
+use Rattle.rank_language.proofs.Options.{mapped, gone_on, either_from}
 use Rattle.rank_language.proofs.Spread.{kind_of_step, ends_at, targeted}
 
 -- a place that is found lies in the table, wherever counting begins
@@ -70,8 +70,7 @@ choice_within s (line.value e) t h =
 -- each place in a resolved payload is in a table
 payload_within : (s : Scope) (p : line.Payload) (t : Payload) → payload_resolved s p ≡ Some t → IsPayloadWithin (length s.variables) (length s.arrays) t
 payload_within s (line.lone x) t h =
-    let (p, e, q) = mapped (λ k. one (variable k)) (variable_place s x) t h in
-    subst (IsPayloadWithin _ _) q (place_below s.variables x p e)
+    either_from (λ k. one (variable k)) all_of (variable_place s x) (array_place s x) (IsPayloadWithin (length s.variables) (length s.arrays)) t (place_below s.variables x) (array_below s x) h
 payload_within s (line.one e) t h =
     let (a, g, q) = mapped one (resolved s e) t h in
     subst (IsPayloadWithin _ _) q (resolved_within s e a g)
@@ -79,8 +78,7 @@ payload_within s (line.one e) t h =
 -- the place of a resolved buffer is in a table
 buffer_within : (s : Scope) (x : List ℕ) (t : Buffer) → buffer_resolved s x ≡ Some t → IsBufferWithin (length s.variables) (length s.arrays) t
 buffer_within s x t h =
-    let (p, e, q) = mapped into_variable (variable_place s x) t h in
-    subst (IsBufferWithin (length s.variables) (length s.arrays)) q (place_below s.variables x p e)
+    either_from into_variable into_array (variable_place s x) (array_place s x) (IsBufferWithin (length s.variables) (length s.arrays)) t (place_below s.variables x) (array_below s x) h
 
 -- What a resolved statement is: of the same kind, and with places in tables.
 pub record Becomes (s : Scope) (f : Form) (t : Step) : Type 0 where
@@ -97,6 +95,15 @@ becomes s (line.let_form x e) t h =
     let (v, b, j) = gone_on _ (resolved s e) t i in
     let q : does (assign p v) ≡ t = cc in
     subst (Becomes s (line.let_form x e)) q (record { kind = refl; within = λ n. (place_below s.variables x p a, resolved_within s e v b) })
+becomes s (line.array_form x c) t h =
+    let (p, e, q) = mapped (λ k. does (declare_array k)) (array_place s x) t h in
+    subst (Becomes s (line.array_form x c)) q (record { kind = refl; within = λ n. array_below s x p e })
+becomes s (line.item_form x d e) t h =
+    let (p, a, i) = gone_on _ (array_place s x) t h in
+    let (index, b, j) = gone_on _ (resolved s d) t i in
+    let (v, c, k) = gone_on _ (resolved s e) t j in
+    let q : does (assign_item p index v) ≡ t = cc in
+    subst (Becomes s (line.item_form x d e)) q (record { kind = refl; within = λ n. (array_below s x p a, resolved_within s d index b, resolved_within s e v c) })
 becomes s (line.while_form e) t h =
     let (a, g, q) = mapped repeats (resolved s e) t h in
     subst (Becomes s (line.while_form e)) q (record { kind = refl; within = λ n. resolved_within s e a g })
@@ -145,7 +152,7 @@ length_behind n k target ls =
     sym (length-map (lines_behind n k target ls) step_of) ∙ ap length (behind-steps n k target ls) ∙ length-map ls step_of
 
 -- one more resolved statement in front
-all_front : (s : Scope) (f : Form) (fs : List Form) (t : Step) (ts : List Step) → form_resolved s f ≡ Some t → all_resolved s fs ≡ Some ts → all_resolved s (f ∷ fs) ≡ Some (t ∷ ts)
+pub all_front : (s : Scope) (f : Form) (fs : List Form) (t : Step) (ts : List Step) → form_resolved s f ≡ Some t → all_resolved s fs ≡ Some ts → all_resolved s (f ∷ fs) ≡ Some (t ∷ ts)
 all_front s f fs t ts h g = rw (h, g) refl
 
 -- one more statement in front of statements with their targets

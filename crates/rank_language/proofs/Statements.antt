@@ -6,7 +6,8 @@ use Rattle.std.specs.Borrow.{Bor}
 use Rattle.rank_language.specs.declared.statement.Statement.{Statement}
 use Rattle.rank_language.specs.Block.{Line, size, remaining, Leads, lines_at, next_position}
 use Rattle.rank_language.specs.Seen.{line_of, line_in}
-use Rattle.rank_language.specs.Program.{ProgramValue, tree_of, IsProgram, IsPlaced, AllPlaced}
+use Rattle.rank_language.specs.Program.{ProgramValue, tree_of, IsPlaced, AllPlaced}
+use Rattle.rank_language.specs.Correct.{IsProgram}
 use Rattle.rank_language.proofs.Places.{leads, length-lines_at}
 use Rattle.rank_language.proofs.Targets.{reaches}
 

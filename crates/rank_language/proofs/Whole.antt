@@ -1,12 +1,14 @@
 -- What a whole program's statements by name are, by the tables that they leave. Tables only grow, so what is declared in
 -- front of a statement is declared in the tables of the whole; and where each statement may stand, blocks balance.
-use Rattle.std.proofs.Common.{◌≡◌, ℕ, List, [], ◌∷◌, ◌++◌, true, false, ◌&&◌, Some, refl, ap, ◌∙◌, sym, subst}
+use Rattle.std.proofs.Common.{◌≡◌, ℕ, ◌≤◌, List, [], ◌∷◌, ◌++◌, map, true, false, ◌&&◌, Some, arith, refl, ap, ◌∙◌, sym, subst}
 use Rattle.std.specs.Str.{bytes_eq}
 use Rattle.std.proofs.lemmas.Slice.Eq.{bytes_eq-Decides}
+use Rattle.std.proofs.lemmas.Bool.Decides.{nat_tests}
 use Rattle.rank_text.specs.Tree.{Tree, number, variable, item, reading, negation, operation}
-use Rattle.rank_text.specs.Forms.{Choice, any, value, Payload, lone, one, Form, var_form, let_form, if_form, else_form, end_form, while_form, send_form, recv_form, print_form}
-use Rattle.rank_lines.specs.Scope.{Scope, nothing_yet, is_name_in, is_variable, is_array, is_declared, all_declared, choice_declared, payload_declared, declared_in, is_stray, after, after_all, AllMayStand, IsWhole}
+use Rattle.rank_text.specs.Forms.{Choice, any, value, Payload, lone, one, Form, var_form, array_form, let_form, item_form, if_form, else_form, end_form, while_form, send_form, recv_form, print_form}
+use Rattle.rank_lines.specs.Scope.{Scope, nothing_yet, is_name_in, is_variable, is_array, is_declared, all_declared, choice_declared, payload_declared, declared_in, is_stray, is_past_table, after, after_all, AllMayStand, IsWhole}
 use Rattle.rank_language.specs.Placed.{Step}
+use Rattle.rank_language.specs.Program.{AllSized}
 use Rattle.rank_language.specs.Resolved.{form_resolved, all_resolved}
 use Rattle.rank_language.specs.Resolvable.{AllResolvable, declares_in}
 use Rattle.rank_language.specs.Ends.{kind_of}
@@ -57,6 +59,11 @@ form_grows s t g (var_form x) h = refl
 form_grows s t g (let_form x e) h =
     let (a, b) = both (is_variable s x) (all_declared s e) h in
     joined (is_variable t x) (all_declared t e) (g.variables x a) (tree_grows s t g e b)
+form_grows s t g (array_form x n) h = refl
+form_grows s t g (item_form x i e) h =
+    let (ab, c) = both (is_array s x && all_declared s i) (all_declared s e) h in
+    let (a, b) = both (is_array s x) (all_declared s i) ab in
+    joined (is_array t x && all_declared t i) (all_declared t e) (joined (is_array t x) (all_declared t i) (g.arrays x a) (tree_grows s t g i b)) (tree_grows s t g e c)
 form_grows s t g (if_form e) h = tree_grows s t g e h
 form_grows s t g (while_form e) h = tree_grows s t g e h
 form_grows s t g else_form h = refl
@@ -83,9 +90,23 @@ named_last [] x = either true false (bytes_eq x x) false (λ k. (bytes_eq-Decide
 named_last (z ∷ zs) x =
     either false true (bytes_eq z x) (is_name_in (zs ++ x ∷ []) x) (λ k. absurd (cc)) (λ k. named_last zs x) refl
 
+-- an array that stands in a table stands in a longer one
+array_longer : (xs : List (List ℕ × ℕ)) (a : List ℕ × ℕ) (y : List ℕ) → is_name_in (map (λ b. b.0) xs) y ≡ true → is_name_in (map (λ b. b.0) (xs ++ a ∷ [])) y ≡ true
+array_longer [] a y h = cc
+array_longer (z ∷ zs) a y h =
+    either (bytes_eq z.0 y) (is_name_in (map (λ b. b.0) zs) y) (bytes_eq z.0 y) (is_name_in (map (λ b. b.0) (zs ++ a ∷ [])) y) (λ k. k) (array_longer zs a y) h
+
+-- an array that is put last stands among them
+pub array_last : (xs : List (List ℕ × ℕ)) (x : List ℕ) (n : ℕ) → is_name_in (map (λ b. b.0) (xs ++ (x, n) ∷ [])) x ≡ true
+array_last [] x n = either true false (bytes_eq x x) false (λ k. (bytes_eq-Decides x x).1 refl) (λ k. k) refl
+array_last (z ∷ zs) x n =
+    either false true (bytes_eq z.0 x) (is_name_in (map (λ b. b.0) (zs ++ (x, n) ∷ [])) x) (λ k. absurd (cc)) (λ k. array_last zs x n) refl
+
 -- the tables behind a statement have what those in front of it have
 after_grows : (s : Scope) (f : Form) → Grows s (after s f)
 after_grows s (var_form x) = record { variables = named_longer s.variables (x ∷ []); arrays = λ y h. h }
+after_grows s (array_form x n) = record { variables = λ y h. h; arrays = array_longer s.arrays (x, n) }
+after_grows s (item_form x i e) = record { variables = λ y h. h; arrays = λ y h. h }
 after_grows s (let_form x e) = record { variables = λ y h. h; arrays = λ y h. h }
 after_grows s (if_form e) = record { variables = λ y h. h; arrays = λ y h. h }
 after_grows s (while_form e) = record { variables = λ y h. h; arrays = λ y h. h }
@@ -103,7 +124,9 @@ all_grows s (f ∷ fs) = grows_twice s (after s f) (after_all (after s f) fs) (a
 -- what a statement declares is in the tables behind it
 declares_after : (s : Scope) (f : Form) → declares_in (after s f) f ≡ true
 declares_after s (var_form x) = named_last s.variables x
+declares_after s (array_form x n) = array_last s.arrays x n
 declares_after s (let_form x e) = refl
+declares_after s (item_form x i e) = refl
 declares_after s (if_form e) = refl
 declares_after s (while_form e) = refl
 declares_after s else_form = refl
@@ -115,7 +138,9 @@ declares_after s (print_form e) = refl
 -- what is in the tables stays there
 declares_grows : (s t : Scope) → Grows s t → (f : Form) → declares_in s f ≡ true → declares_in t f ≡ true
 declares_grows s t g (var_form x) h = g.variables x h
+declares_grows s t g (array_form x n) h = g.arrays x h
 declares_grows s t g (let_form x e) h = refl
+declares_grows s t g (item_form x i e) h = refl
 declares_grows s t g (if_form e) h = refl
 declares_grows s t g (while_form e) h = refl
 declares_grows s t g else_form h = refl
@@ -142,31 +167,48 @@ resolvable_from s (f ∷ fs) h =
 pub resolvable : (fs : List Form) → IsWhole fs → AllResolvable (after_all nothing_yet fs) fs
 resolvable fs h = resolvable_from nothing_yet fs h.standing
 
--- no statement declares an array
-after_arrays : (s : Scope) (f : Form) → (after s f).arrays ≡ s.arrays
-after_arrays s (var_form x) = refl
-after_arrays s (let_form x e) = refl
-after_arrays s (if_form e) = refl
-after_arrays s (while_form e) = refl
-after_arrays s else_form = refl
-after_arrays s end_form = refl
-after_arrays s (send_form d t p) = refl
-after_arrays s (recv_form c t x) = refl
-after_arrays s (print_form e) = refl
+-- an array that is put last has its size
+sized_last : (xs : List (List ℕ × ℕ)) (x : List ℕ) (n : ℕ) → AllSized xs → 1 ≤ n → n ≤ 256 → AllSized (xs ++ (x, n) ∷ [])
+sized_last [] x n h l m = (l, m, tt)
+sized_last (z ∷ zs) x n h l m = (h.0, h.1, sized_last zs x n h.2 l m)
 
--- no statements declare an array
-arrays_from : (s : Scope) (fs : List Form) → (after_all s fs).arrays ≡ s.arrays
-arrays_from s [] = refl
-arrays_from s (f ∷ fs) = arrays_from (after s f) fs ∙ after_arrays s f
+-- an array for which the table has room isn't empty
+some_items : (s : Scope) (x : List ℕ) (n : ℕ) → is_past_table s (array_form x n) ≡ false → 1 ≤ n
+some_items s x n q = grind (arith, nat_tests)
 
--- no statement declares an array
-pub arrayless : (fs : List Form) → (after_all nothing_yet fs).arrays ≡ []
-arrayless fs = arrays_from nothing_yet fs
+-- and it has no more than 256 items
+few_items : (s : Scope) (x : List ℕ) (n : ℕ) → is_past_table s (array_form x n) ≡ false → n ≤ 256
+few_items s x n q = grind (arith, nat_tests)
+
+-- the arrays behind a statement that may stand have their sizes
+after_sized : (s : Scope) (f : Form) → is_past_table s f ≡ false → AllSized s.arrays → AllSized (after s f).arrays
+after_sized s (var_form x) q h = h
+after_sized s (array_form x n) q h = sized_last s.arrays x n h (some_items s x n q) (few_items s x n q)
+after_sized s (let_form x e) q h = h
+after_sized s (item_form x i e) q h = h
+after_sized s (if_form e) q h = h
+after_sized s (while_form e) q h = h
+after_sized s else_form q h = h
+after_sized s end_form q h = h
+after_sized s (send_form d t p) q h = h
+after_sized s (recv_form c t x) q h = h
+after_sized s (print_form e) q h = h
+
+-- the arrays behind statements that may stand have their sizes
+sized_from : (s : Scope) (fs : List Form) → AllMayStand s fs → AllSized s.arrays → AllSized (after_all s fs).arrays
+sized_from s [] h k = k
+sized_from s (f ∷ fs) h k = sized_from (after s f) fs h.1 (after_sized s f h.0.within k)
+
+-- the arrays of a whole program have their sizes
+pub sized : (fs : List Form) → IsWhole fs → AllSized (after_all nothing_yet fs).arrays
+sized fs h = sized_from nothing_yet fs h.standing tt
 
 -- which blocks are open behind a statement, by its kind
 blocks_behind : (s : Scope) (f : Form) → (after s f).blocks ≡ blocks_after (kind_of f) s.blocks
 blocks_behind s (var_form x) = refl
+blocks_behind s (array_form x n) = refl
 blocks_behind s (let_form x e) = refl
+blocks_behind s (item_form x i e) = refl
 blocks_behind s (if_form e) = refl
 blocks_behind s (while_form e) = refl
 blocks_behind s else_form = refl
@@ -178,7 +220,9 @@ blocks_behind s (print_form e) = refl
 -- a statement that may stand finds its block
 not_stray : (s : Scope) (f : Form) → is_stray s f ≡ false → strays (kind_of f) s.blocks ≡ false
 not_stray s (var_form x) h = refl
+not_stray s (array_form x n) h = refl
 not_stray s (let_form x e) h = refl
+not_stray s (item_form x i e) h = refl
 not_stray s (if_form e) h = refl
 not_stray s (while_form e) h = refl
 not_stray s else_form h = h

@@ -1,5 +1,5 @@
 -- A program as a tree, its lines in order, and the statements that remain at a line (the rank-program text, next positions).
-use Rattle.std.specs.Prelude.{◌≡◌, ℕ, ◌+◌, ◌<◌, List, [], ◌∷◌, ◌++◌, Bool, true, false, Option, Some, None, ◌⊎◌, slice_index_or}
+use Rattle.std.specs.Prelude.{◌≡◌, ℕ, ◌+◌, ◌<◌, List, [], ◌∷◌, ◌++◌, Bool, true, false, Option, Some, None, slice_index_or}
 use Rattle.rank_language.specs.Placed.{Placed, Simple}
 
 -- A list of statements. Each statement is followed by the rest of its list.

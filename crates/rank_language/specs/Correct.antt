@@ -1,11 +1,12 @@
 -- Which program a text has (the rank-program text: forms, meaning of one step, next positions).
-use Rattle.std.specs.Prelude.{◌≡◌, ℕ, List, Some, map}
+use Rattle.std.specs.Prelude.{◌≡◌, ℕ, ◌≤◌, List, Some, length, map}
 use Rattle.rank_text.specs.Forms.{Form}
 use Rattle.rank_lines.specs.Faults.{IsText}
-use Rattle.rank_lines.specs.Scope.{nothing_yet, after_all}
+use Rattle.rank_lines.specs.Scope.{nothing_yet, after_all, IsWhole}
 use Rattle.rank_language.specs.Block.{lines_at}
 use Rattle.rank_language.specs.Shape.{step_of}
-use Rattle.rank_language.specs.Program.{ProgramValue, tree_of}
+use Rattle.rank_language.specs.Program.{ProgramValue, tree_of, AllPlaced, AllSized}
+use Rattle.rank_language.specs.Named.{forms_of}
 use Rattle.rank_language.specs.Resolved.{all_resolved}
 
 -- The program of statements by name: it declares what they declare, it does the same in the same order with places for
@@ -15,6 +16,16 @@ pub record IsOfForms (forms : List Form) (p : ProgramValue) : Type 0 where
   pub arrays : p.arrays ≡ (after_all nothing_yet forms).arrays
   pub statements : all_resolved (after_all nothing_yet forms) forms ≡ Some (map step_of p.statements)
   pub targets : p.statements ≡ lines_at 0 (tree_of p)
+
+-- What holds of every program: its lines are those of its tree, their places are in its tables, there are at most 1000,
+-- each array has 1 to 256 items, and with names for its places it is the program of a whole text's statements.
+pub record IsProgram (p : ProgramValue) : Type 0 where
+  pub shaped : p.statements ≡ lines_at 0 (tree_of p)
+  pub placed : AllPlaced (length p.variables) (length p.arrays) p.statements
+  pub few : length p.statements ≤ 1000
+  pub sized : AllSized p.arrays
+  pub whole : IsWhole (forms_of p)
+  pub program : IsOfForms (forms_of p) p
 
 -- The program of a text: that of the statements which the text has by its grammar.
 pub record IsProgramOf (text : List ℕ) (p : ProgramValue) : Type 0 where

@@ -8,4 +8,5 @@ pub mod Resolved
 pub mod SeenTables
 pub mod Ends
 pub mod Resolvable
+pub mod Named
 pub mod Correct

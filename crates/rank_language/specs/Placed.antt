@@ -17,18 +17,22 @@ pub data Choice : Type 0 where
   any : Choice
   value : (e : Placed) → Choice
 
--- what a send gives: one item
+-- what a send gives: one item, or all items of an array
 pub data Payload : Type 0 where
   one : (e : Placed) → Payload
+  all_of : (place : ℕ) → Payload
 
--- where a receive puts the items: into a variable
+-- where a receive puts the items: into a variable, or to the beginning of an array
 pub data Buffer : Type 0 where
   into_variable : (place : ℕ) → Buffer
+  into_array : (place : ℕ) → Buffer
 
 -- a statement without parts
 pub data Simple : Type 0 where
   declare : (place : ℕ) → Simple
+  declare_array : (place : ℕ) → Simple
   assign : (place : ℕ) (e : Placed) → Simple
+  assign_item : (place : ℕ) (index e : Placed) → Simple
   send : (destination tag : Placed) (payload : Payload) → Simple
   receive : (source tag : Choice) (buffer : Buffer) → Simple
   print : (e : Placed) → Simple

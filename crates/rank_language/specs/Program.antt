@@ -1,10 +1,10 @@
 -- A program as a value: its lines, and the names of its variables and arrays (the rank-program text, meaning of one step).
-use Rattle.std.specs.Prelude.{◌≡◌, ℕ, ◌<◌, ◌≤◌, List, [], ◌∷◌, length, map}
+use Rattle.std.specs.Prelude.{ℕ, ◌<◌, ◌≤◌, List, [], ◌∷◌, map}
 use Rattle.rank_lines.specs.declared.scope.Array.{Array}
 use Rattle.rank_lines.specs.SeenLines.{arrays_seen}
 use Rattle.rank_language.specs.declared.statement.Statement.{Statement}
-use Rattle.rank_language.specs.Placed.{Placed, number, variable, item, reading, negation, operation, Choice, any, value, Payload, one, Buffer, into_variable, declare, assign, send, receive, print}
-use Rattle.rank_language.specs.Block.{Block, Line, simple_line, if_line, else_line, end_line, while_line, back_line, lines_at}
+use Rattle.rank_language.specs.Placed.{Placed, number, variable, item, reading, negation, operation, Choice, any, value, Payload, one, all_of, Buffer, into_variable, into_array, declare, declare_array, assign, assign_item, send, receive, print}
+use Rattle.rank_language.specs.Block.{Block, Line, simple_line, if_line, else_line, end_line, while_line, back_line}
 use Rattle.rank_language.specs.Shape.{step_of, tree_of_steps}
 use Rattle.rank_language.specs.Seen.{line_of}
 
@@ -35,15 +35,19 @@ IsChoiceWithin v a (value e) = IsWithin v a e
 -- each place in a payload is
 abbrev pub IsPayloadWithin : ℕ → ℕ → Payload → Type 0
 IsPayloadWithin v a (one e) = IsWithin v a e
+IsPayloadWithin v a (all_of p) = p < a
 
 -- the buffer's place is
 abbrev pub IsBufferWithin : ℕ → ℕ → Buffer → Type 0
 IsBufferWithin v a (into_variable p) = p < v
+IsBufferWithin v a (into_array p) = p < a
 
 -- each place in a line is below the number of variables, or of arrays
 abbrev pub IsPlaced : ℕ → ℕ → Line → Type 0
 IsPlaced v a (simple_line (declare p)) = p < v
+IsPlaced v a (simple_line (declare_array p)) = p < a
 IsPlaced v a (simple_line (assign p e)) = (p < v) × IsWithin v a e
+IsPlaced v a (simple_line (assign_item p i e)) = (p < a) × IsWithin v a i × IsWithin v a e
 IsPlaced v a (simple_line (send d t p)) = IsWithin v a d × IsWithin v a t × IsPayloadWithin v a p
 IsPlaced v a (simple_line (receive s t b)) = IsChoiceWithin v a s × IsChoiceWithin v a t × IsBufferWithin v a b
 IsPlaced v a (simple_line (print e)) = IsWithin v a e
@@ -58,13 +62,10 @@ abbrev pub AllPlaced : ℕ → ℕ → List Line → Type 0
 AllPlaced v a [] = Unit {0}
 AllPlaced v a (l ∷ ls) = IsPlaced v a l × AllPlaced v a ls
 
--- What holds of every program: its lines are those of its tree, their places are in its tables, there are at most 1000,
--- and no statement declares an array yet.
-pub record IsProgram (p : ProgramValue) : Type 0 where
-  pub shaped : p.statements ≡ lines_at 0 (tree_of p)
-  pub placed : AllPlaced (length p.variables) (length p.arrays) p.statements
-  pub few : length p.statements ≤ 1000
-  pub arrayless : p.arrays ≡ []
+-- each array has 1 to 256 items
+abbrev pub AllSized : List (List ℕ × ℕ) → Type 0
+AllSized [] = Unit {0}
+AllSized (a ∷ arrays) = (1 ≤ a.1) × (a.1 ≤ 256) × AllSized arrays
 
 -- the program of these statements, variables and arrays
 abbrev pub program_value : List Statement → List (List ℕ) → List Array → ProgramValue

@@ -1,14 +1,15 @@
 -- Statements whose names are declared and whose numbers fit, by the tables of the whole text.
 use Rattle.std.specs.Prelude.{◌≡◌, List, [], ◌∷◌, Bool, true, false}
-use Rattle.rank_text.specs.Forms.{Form, var_form}
-use Rattle.rank_lines.specs.Scope.{Scope, declared_in, has_great_number, is_variable}
+use Rattle.rank_text.specs.Forms.{Form, var_form, array_form}
+use Rattle.rank_lines.specs.Scope.{Scope, declared_in, has_great_number, is_variable, is_array}
 
--- a variable that the statement declares is in the table
+-- what the statement declares is in the table
 abbrev pub declares_in : Scope → Form → Bool
 declares_in s (var_form x) = is_variable s x
+declares_in s (array_form x n) = is_array s x
 declares_in s _ = true
 
--- A statement that becomes one of a program, where no array is declared.
+-- A statement that becomes one of a program.
 pub record IsResolvable (s : Scope) (f : Form) : Type 0 where
   pub declared : declared_in s f ≡ true
   pub declares : declares_in s f ≡ true

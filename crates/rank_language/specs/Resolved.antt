@@ -1,11 +1,11 @@
 -- What the names of a text stand for: the places of what they declare (the rank-program text, fault Undeclared).
-use Rattle.std.specs.Prelude.{ℕ, pos, List, [], ◌∷◌, Option, Some, option_map, map, position}
+use Rattle.std.specs.Prelude.{ℕ, pos, List, [], ◌∷◌, Option, Some, None, option_map, map, position}
 use Rattle.std.specs.Str.{bytes_eq}
 use Rattle.rank_text.specs.Tree as text
 use Rattle.rank_text.specs.Forms as line
 use Rattle.rank_text.specs.Forms.{◌>>=◌}
 use Rattle.rank_lines.specs.Scope.{Scope}
-use Rattle.rank_language.specs.Placed.{Placed, number, variable, item, reading, negation, operation, Choice, any, value, Payload, one, Buffer, into_variable, declare, assign, send, receive, print, Step, does, tests, repeats, otherwise, closes}
+use Rattle.rank_language.specs.Placed.{Placed, number, variable, item, reading, negation, operation, Choice, any, value, Payload, one, all_of, Buffer, into_variable, into_array, declare, declare_array, assign, assign_item, send, receive, print, Step, does, tests, repeats, otherwise, closes}
 
 -- the place of a name among names: the first at which it stands
 abbrev pub place_in : List (List ℕ) → List ℕ → Option ℕ
@@ -39,22 +39,33 @@ abbrev pub choice_resolved : Scope → line.Choice → Option Choice
 choice_resolved s line.any = Some any
 choice_resolved s (line.value e) = option_map value (resolved s e)
 
--- a payload with places for its names: a lone name that is a variable gives one item
+-- what a name by itself stands for: one thing where it is a variable, another where it is an array
+abbrev pub either_place : {A : Type 0} → (ℕ → A) → (ℕ → A) → Option ℕ → Option ℕ → Option A
+either_place f g (Some p) o = Some (f p)
+either_place f g None o = option_map g o
+
+-- a payload with places for its names: a lone name that is a variable gives one item, and one that is an array all of its items
 abbrev pub payload_resolved : Scope → line.Payload → Option Payload
-payload_resolved s (line.lone x) = option_map (λ p. one (variable p)) (variable_place s x)
+payload_resolved s (line.lone x) = either_place (λ p. one (variable p)) all_of (variable_place s x) (array_place s x)
 payload_resolved s (line.one e) = option_map one (resolved s e)
 
--- a buffer with a place for its name, which is a variable's
+-- a buffer with a place for its name, which is a variable's or an array's
 abbrev pub buffer_resolved : Scope → List ℕ → Option Buffer
-buffer_resolved s x = option_map into_variable (variable_place s x)
+buffer_resolved s x = either_place into_variable into_array (variable_place s x) (array_place s x)
 
 -- a statement with places for its names, where each is declared in the sort that is used
 abbrev pub form_resolved : Scope → line.Form → Option Step
 form_resolved s (line.var_form x) = option_map (λ p. does (declare p)) (variable_place s x)
+form_resolved s (line.array_form x n) = option_map (λ p. does (declare_array p)) (array_place s x)
 form_resolved s (line.let_form x e) = do
   p ← variable_place s x
   v ← resolved s e
   Some (does (assign p v))
+form_resolved s (line.item_form x i e) = do
+  p ← array_place s x
+  index ← resolved s i
+  v ← resolved s e
+  Some (does (assign_item p index v))
 form_resolved s (line.if_form e) = option_map tests (resolved s e)
 form_resolved s line.else_form = Some otherwise
 form_resolved s line.end_form = Some closes

@@ -7,7 +7,7 @@ use Rattle.rank_language.specs.declared.statement.Choice as source_choice
 use Rattle.rank_language.specs.declared.statement.Payload as source_payload
 use Rattle.rank_language.specs.declared.statement.Buffer as source_buffer
 use Rattle.rank_language.specs.declared.statement.Statement as source_statement
-use Rattle.rank_language.specs.Placed.{Placed, number, variable, item, reading, negation, operation, Choice, any, value, Payload, one, Buffer, into_variable, declare, assign, send, receive, print}
+use Rattle.rank_language.specs.Placed.{Placed, number, variable, item, reading, negation, operation, Choice, any, value, Payload, one, all_of, Buffer, into_variable, into_array, declare, declare_array, assign, assign_item, send, receive, print}
 use Rattle.rank_language.specs.Block.{Line, simple_line, if_line, else_line, end_line, while_line, back_line}
 
 -- an expression without where it lies
@@ -27,15 +27,19 @@ choice_of (source_choice.TheVariants.Value e) = value (placed_of e)
 -- a payload without where it lies
 abbrev pub payload_of : source_payload.Payload → Payload
 payload_of (source_payload.TheVariants.One e) = one (placed_of e)
+payload_of (source_payload.TheVariants.All p) = all_of p
 
 -- a buffer as the definitions have it
 abbrev pub buffer_of : source_buffer.Buffer → Buffer
 buffer_of (source_buffer.TheVariants.Variable p) = into_variable p
+buffer_of (source_buffer.TheVariants.Array p) = into_array p
 
 -- a statement as a line
 abbrev pub line_of : source_statement.Statement → Line
 line_of (source_statement.TheVariants.Declare p) = simple_line (declare p)
+line_of (source_statement.TheVariants.DeclareArray p) = simple_line (declare_array p)
 line_of (source_statement.TheVariants.Assign p e) = simple_line (assign p (placed_of e))
+line_of (source_statement.TheVariants.AssignItem p i e) = simple_line (assign_item p (placed_of i) (placed_of e))
 line_of (source_statement.TheVariants.If e q) = if_line (placed_of e) q
 line_of (source_statement.TheVariants.Else q) = else_line q
 line_of source_statement.TheVariants.EndIf = end_line

@@ -63,7 +63,6 @@ pub(crate) fn statements_of(
     tables: Tables<'_>,
     forms: &[Form],
 ) -> Result<Vec<Statement, Heap>, AllocError>
-    requires arrayless { (tables_seen tables).arrays ≡ [] }
     requires resolvable { AllResolvable (tables_seen tables) (forms_seen forms.now) }
     ensures { IfOk result (λ statements. lines_from (tables_seen tables.entry) 0 (forms_seen forms.now) ≡ Some (map line_of statements.items)) }
 {

@@ -1,5 +1,5 @@
 //! What holds of the statements that remain in every program, where it begins and where it ends.
-ghost use Rattle.std.specs.Prelude.{◌≡◌, ℕ, List, ◌↔◌, [], None, false};
+ghost use Rattle.std.specs.Prelude.{◌≡◌, ℕ, List, ◌↔◌, None, false};
 ghost use Rattle.rank_text.specs.Forms.{Form};
 ghost use Rattle.rank_lines.specs.Scope.{Scope, after, declared_in};
 ghost use Rattle.rank_lines.specs.declared.fault.FaultKind.{FaultKind};
@@ -24,10 +24,10 @@ pub fn ends_there(program: &Program)
 {}
 
 /// A statement resolves, by the tables that it leaves, exactly where each name in it is declared in the sort that is
-/// used there. (No statement declares an array yet.)
+/// used there.
 #[tactic(auto, using(crate::proofs::Declared::undeclared_unresolved))]
 pub fn resolved_where_declared()
-    ensures { (s : Scope) (f : Form) → s.arrays ≡ []
+    ensures { (s : Scope) (f : Form)
         → (form_resolved (after s f) f ≡ None) ↔ (declared_in s f ≡ false) }
 {}
 

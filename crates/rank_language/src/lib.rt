@@ -4,6 +4,7 @@
 mod build;
 pub mod expression;
 pub mod laws;
+mod name_form;
 pub mod program;
 mod resolve;
 mod resolve_form;
@@ -13,6 +14,6 @@ mod tests;
 
 pub use expression::Expression;
 pub use program::Program;
-pub use rank_lines::{FaultKind, ParseFault, ProgramFault, one_reading, program_or_fault};
+pub use rank_lines::{Array, FaultKind, ParseFault, ProgramFault, one_reading, program_or_fault};
 pub use rank_text::{Name, Operator, Reading};
 pub use statement::{Buffer, Choice, Payload, Statement};

@@ -5,18 +5,22 @@ ghost use Rattle.rank_lines.specs.declared.fault.ProgramFault.{ProgramFault};
 ghost use Rattle.rank_lines.specs.Faults.{IsFaultOf, IsText};
 ghost use Rattle.rank_lines.specs.Progress.{HasTables};
 ghost use Rattle.rank_lines.specs.Scope.{IsWhole};
-ghost use Rattle.rank_lines.specs.SeenLines.{forms_seen};
+ghost use Rattle.rank_lines.specs.SeenLines.{arrays_seen, forms_seen};
 ghost use Rattle.rank_language.specs.Correct.{IsOfForms, IsProgramOf};
+ghost use Rattle.rank_language.specs.Named.{forms_of};
+ghost use Rattle.rank_print.specs.Canonical.{program_text};
 ghost use Rattle.std.specs.Prelude.{[], List, Err, IfErr, IfOk, ◌≡◌, ◌<◌, ◌≤◌, IfSome, IsNone, ◌↔◌, length, slice_get, Bool};
 ghost use Rattle.rank_language.specs.Block.{size, remaining, Leads, next_position};
 ghost use Rattle.rank_language.specs.Seen.{line_of, line_in};
-ghost use Rattle.rank_language.specs.Program.{tree_of, IsPlaced};
+ghost use Rattle.rank_language.specs.Program.{tree_of, AllSized, IsPlaced};
 
 use crate::build::statements_of;
+use crate::name_form::name_forms;
 use crate::resolve::Tables;
 use crate::statement::Statement;
 use metered::Heap;
 use rank_lines::{Array, Draft, ParseFault, ProgramFault, read};
+use rank_print::print;
 use rank_text::Name;
 use std::alloc::AllocError;
 use std::marker::Model;
@@ -30,7 +34,8 @@ pub struct Program {
 }
 
 impl Model for Program {
-    ghost use Rattle.rank_language.specs.Program.{ProgramValue, IsProgram, program_value};
+    ghost use Rattle.rank_language.specs.Program.{ProgramValue, program_value};
+    ghost use Rattle.rank_language.specs.Correct.{IsProgram};
     ghost use Rattle.std.specs.Coded.{codes};
     ghost use Rattle.rank_language.specs.Coding.{placed_code};
 
@@ -79,6 +84,23 @@ impl Program {
         }
     }
 
+    /// The canonical text, which is a text of this program, so that checking it gives it again.
+    ///
+    /// The only error is want of memory.
+    pub fn print(&self, alloc: Heap) -> Result<Vec<u8, Heap>, AllocError>
+        // Its statements are written in the one canonical way.
+        ensures text { IfOk result (λ text. text.items ≡ program_text (forms_of self.now)) }
+        // By its definition the text is one of this program.
+        ensures program { IfOk result (λ text. IsProgramOf text.items self.now) }
+    {
+        let tables = Tables {
+            variables: &self.variables,
+            arrays: &self.arrays,
+        };
+        let forms = name_forms(alloc, tables, &self.statements)?;
+        print(alloc, &forms)
+    }
+
     /// How many statements it has.
     pub fn len(&self) -> usize
         ensures count { result ≡ length self.now.statements }
@@ -94,11 +116,12 @@ impl Program {
         self.variables.len()
     }
 
-    /// No statement declares an array yet, so a program has none.
-    pub fn has_no_arrays(&self)
-        ensures { self.now.arrays ≡ [] }
+    /// The arrays that it declares, in their order: their places are below their number.
+    pub fn arrays(&self) -> &[Array]
+        ensures arrays { arrays_seen result.now ≡ self.now.arrays }
+        ensures sized { AllSized self.now.arrays }
     {
-        let _arrays = &self.arrays;
+        &self.arrays
     }
 
     /// The statement at a position.

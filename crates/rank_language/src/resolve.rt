@@ -2,10 +2,10 @@
 ghost use Rattle.std.specs.Prelude.{◌≡◌, Some, IfOk, true, false, position};
 ghost use Rattle.std.specs.Str.{bytes_eq};
 ghost use Rattle.rank_text.specs.Tree.{tree_of};
-ghost use Rattle.rank_lines.specs.Scope.{all_declared, is_array, is_great, is_variable};
+ghost use Rattle.rank_lines.specs.Scope.{all_declared, is_array, is_declared, is_great, is_variable};
 ghost use Rattle.rank_language.specs.Resolved.{array_place, place_in, resolved, variable_place};
 ghost use Rattle.rank_language.specs.Seen.{placed_of};
-ghost use Rattle.rank_language.specs.SeenTables.{tables_seen};
+ghost use Rattle.rank_language.specs.SeenTables.{IsPlaceOf, tables_seen};
 
 use crate::expression::Expression;
 use metered::Heap;
@@ -56,9 +56,21 @@ impl Tables<'_> {
         }
     }
 
+    /// What a name that is declared is.
+    #[tactic(auto, using(crate::proofs::Names::unplaced, crate::proofs::Names::array_placed, crate::proofs::Names::array_unplaced))]
+    pub(crate) fn declared(self, name: Name) -> Declared
+        requires { is_declared (tables_seen self) name ≡ true }
+        ensures { IsPlaceOf (variable_place (tables_seen self.entry) name) (array_place (tables_seen self.entry) name) result }
+    {
+        match variable_at(self.variables, &name) {
+            Some(place) => Declared::Variable(place),
+            None => Declared::Array(self.array(name)),
+        }
+    }
+
     /// The place of an array that is declared.
     #[tactic(auto, using(crate::proofs::Names::array_placed, crate::proofs::Names::array_unplaced))]
-    fn array(self, name: Name) -> usize
+    pub(crate) fn array(self, name: Name) -> usize
         requires { is_array (tables_seen self) name ≡ true }
         ensures { array_place (tables_seen self.entry) name ≡ Some result }
     {
@@ -67,6 +79,13 @@ impl Tables<'_> {
             None => unreachable!(),
         }
     }
+}
+
+/// What a name is declared as, with its place in the order of declaration.
+#[derive(Clone, Copy)]
+pub(crate) enum Declared {
+    Variable(usize),
+    Array(usize),
 }
 
 /// The expression with places for its names.

@@ -1,18 +1,19 @@
 //! Places for the names of a statement.
-ghost use Rattle.std.specs.Prelude.{◌≡◌, [], Some, IfOk, true, false, option_map};
+ghost use Rattle.std.specs.Prelude.{◌≡◌, Some, IfOk, true, false, option_map};
 ghost use Rattle.rank_text.specs.SeenForms.{choice_of as choice_seen, form_seen, payload_seen};
-ghost use Rattle.rank_lines.specs.Scope.{choice_declared, choice_is_great, payload_declared, payload_is_great};
+ghost use Rattle.rank_text.specs.Forms.{lone};
+ghost use Rattle.rank_lines.specs.Scope.{is_declared, choice_declared, choice_is_great, payload_declared, payload_is_great};
 ghost use Rattle.rank_language.specs.Resolvable.{IsResolvable};
-ghost use Rattle.rank_language.specs.Resolved.{choice_resolved, form_resolved, payload_resolved};
+ghost use Rattle.rank_language.specs.Resolved.{buffer_resolved, choice_resolved, form_resolved, payload_resolved};
 ghost use Rattle.rank_language.specs.Ends.{line_to};
-ghost use Rattle.rank_language.specs.Seen.{choice_of, line_of, payload_of};
+ghost use Rattle.rank_language.specs.Seen.{buffer_of, choice_of, line_of, payload_of};
 ghost use Rattle.rank_language.specs.SeenTables.{tables_seen};
 
 use crate::expression::Expression;
-use crate::resolve::{Tables, resolve};
+use crate::resolve::{Declared, Tables, resolve};
 use crate::statement::{Buffer, Choice, Payload, Statement};
 use metered::Heap;
-use rank_text::{Form, form};
+use rank_text::{Form, Name, form};
 use std::alloc::AllocError;
 
 /// The source or the tag with places for its names.
@@ -31,19 +32,40 @@ pub(crate) fn resolve_choice(
     }
 }
 
-/// The payload with places for its names, where no array is declared.
+/// The payload that a name by itself is: a variable's value, or all items of an array.
+fn resolve_lone(tables: Tables<'_>, name: Name) -> Payload
+    requires { is_declared (tables_seen tables) name ≡ true }
+    ensures { payload_resolved (tables_seen tables.entry) (lone name) ≡ Some (payload_of result) }
+{
+    match tables.declared(name) {
+        Declared::Variable(place) => Payload::One(Expression::Variable(place)),
+        Declared::Array(place) => Payload::All(place),
+    }
+}
+
+/// The buffer of this name.
+fn resolve_buffer(tables: Tables<'_>, name: Name) -> Buffer
+    requires { is_declared (tables_seen tables) name ≡ true }
+    ensures { buffer_resolved (tables_seen tables.entry) name ≡ Some (buffer_of result) }
+{
+    match tables.declared(name) {
+        Declared::Variable(place) => Buffer::Variable(place),
+        Declared::Array(place) => Buffer::Array(place),
+    }
+}
+
+/// The payload with places for its names.
 pub(crate) fn resolve_payload(
     alloc: Heap,
     tables: Tables<'_>,
     payload: &form::Payload,
 ) -> Result<Payload, AllocError>
-    requires arrayless { (tables_seen tables).arrays ≡ [] }
     requires declared { payload_declared (tables_seen tables) (payload_seen payload.now) ≡ true }
     requires fitting { payload_is_great (payload_seen payload.now) ≡ false }
     ensures { IfOk result (λ p. payload_resolved (tables_seen tables.entry) (payload_seen payload.now) ≡ Some (payload_of p)) }
 {
     match payload {
-        form::Payload::Lone(name) => Ok(Payload::One(Expression::Variable(tables.variable(*name)))),
+        form::Payload::Lone(name) => Ok(resolve_lone(tables, *name)),
         form::Payload::One(written) => Ok(Payload::One(resolve(alloc, tables, written)?)),
     }
 }
@@ -55,15 +77,20 @@ pub(crate) fn resolve_form(
     form: &Form,
     target: usize,
 ) -> Result<Statement, AllocError>
-    requires arrayless { (tables_seen tables).arrays ≡ [] }
     requires resolvable { IsResolvable (tables_seen tables) (form_seen form.now) }
     ensures { IfOk result (λ statement. option_map (line_to target) (form_resolved (tables_seen tables.entry) (form_seen form.now)) ≡ Some (line_of statement)) }
 {
     match form {
         Form::Var(name) => Ok(Statement::Declare(tables.variable(*name))),
+        Form::Array(name, _) => Ok(Statement::DeclareArray(tables.array(*name))),
         Form::Let(name, value) => {
             let value = resolve(alloc, tables, value)?;
             Ok(Statement::Assign(tables.variable(*name), value))
+        }
+        Form::LetItem(name, index, value) => {
+            let index = resolve(alloc, tables, index)?;
+            let value = resolve(alloc, tables, value)?;
+            Ok(Statement::AssignItem(tables.array(*name), index, value))
         }
         Form::If(test) => Ok(Statement::If(resolve(alloc, tables, test)?, target)),
         Form::Else => Ok(Statement::Else(target)),
@@ -78,7 +105,7 @@ pub(crate) fn resolve_form(
         Form::Recv(source, tag, buffer) => Ok(Statement::Receive {
             source: resolve_choice(alloc, tables, source)?,
             tag: resolve_choice(alloc, tables, tag)?,
-            buffer: Buffer::Variable(tables.variable(*buffer)),
+            buffer: resolve_buffer(tables, *buffer),
         }),
         Form::Print(value) => Ok(Statement::Print(resolve(alloc, tables, value)?)),
     }

@@ -17,6 +17,8 @@ pub enum Choice {
 pub enum Payload {
     /// The value as one item.
     One(Expression),
+    /// All items of an array, by its place in the order of declaration.
+    All(usize),
 }
 
 /// Where a receive puts the items.
@@ -24,6 +26,8 @@ pub enum Payload {
 pub enum Buffer {
     /// A variable, by its place in the order of declaration.
     Variable(usize),
+    /// An array, by its place in the order of declaration; the items go to its beginning.
+    Array(usize),
 }
 
 /// A statement of a program, which has a position of its own.
@@ -31,8 +35,12 @@ pub enum Buffer {
 pub enum Statement {
     /// A variable by its place: it is 0 from the rank's beginning.
     Declare(usize),
+    /// An array by its place: its items are 0 from the rank's beginning.
+    DeclareArray(usize),
     /// A variable by its place, and its new value.
     Assign(usize, Expression),
+    /// An array by its place, the index of an item from 0, and the item's new value.
+    AssignItem(usize, Expression, Expression),
     /// What is tested, and the position that follows where it is 0.
     If(Expression, usize),
     /// Reached from above, it leads past its `end`, to this position.

@@ -13,6 +13,10 @@ const NESTED: &str =
 const LOOPS: &str =
     "var x\nwhile x < 3\n  let x = x + 1\n  if x == 2\n    while 0\n    end\n  else\n    print x\n  end\nend\nwhile 1\nend\n";
 
+/// Arrays between variables, set, sent whole and received into.
+const ARRAYS: &str =
+    "array a[3]\nvar x\narray bb[256]\nlet bb[x + 1] = a[2]\nsend 1, 0, bb\nsend 1, 0, (x)\nrecv any, any, a\nrecv any, any, x\n";
+
 /// The statement at a position, as `Debug` has it.
 fn shown(alloc: Heap, program: &Program, position: usize) -> Result<String<Heap>, AllocError> {
     format!(in alloc; "{:?}", program.statement(position))
@@ -146,6 +150,68 @@ fn statements(rt: HostRuntime) -> Result<(), Fail> {
 }
 
 #[test]
+fn statements_of_arrays(rt: HostRuntime) -> Result<(), Fail> {
+    let program = Program::parse(rt.alloc(), ARRAYS.as_bytes())?;
+    assert_eq!(rt; program.arrays().len(), 2);
+    assert_eq!(rt;
+        program.arrays().last().map(|array| array.length),
+        Some(256)
+    );
+    for (position, want) in [
+        (2, "Some(DeclareArray(1))"),
+        (
+            3,
+            "Some(AssignItem(1, Operation(Add, Variable(0), Number(1)), Item(0, Number(2))))",
+        ),
+        (
+            4,
+            "Some(Send { destination: Number(1), tag: Number(0), payload: All(1) })",
+        ),
+        (
+            5,
+            "Some(Send { destination: Number(1), tag: Number(0), payload: One(Variable(0)) })",
+        ),
+        (
+            6,
+            "Some(Receive { source: Any, tag: Any, buffer: Array(0) })",
+        ),
+        (
+            7,
+            "Some(Receive { source: Any, tag: Any, buffer: Variable(0) })",
+        ),
+    ] {
+        let text = shown(rt.alloc(), &program, position)?;
+        assert_eq!(rt; text.as_str(), want, "at {position}");
+    }
+    Ok(())
+}
+
+#[test]
+fn printed(rt: HostRuntime) -> Result<(), Fail> {
+    for (text, want) in [
+        ("", ""),
+        ("# nothing\n   \n", ""),
+        ("  var   x\nlet x=1+2*3", "var x\nlet x = 1 + (2 * 3)\n"),
+        (
+            "array a[007]\nlet a [ 00 ]=a[-1]",
+            "array a[7]\nlet a[0] = a[-1]\n",
+        ),
+        ("var x\nsend 1,0,(x)", "var x\nsend 1, 0, x\n"),
+        (
+            "if((1)) \nelse\nwhile 0\nprint--1\nend\nend",
+            "if 1\nelse\n  while 0\n    print -(-1)\n  end\nend\n",
+        ),
+    ] {
+        let program = Program::parse(rt.alloc(), text.as_bytes())?;
+        let canonical = program.print(rt.alloc())?;
+        assert_eq!(rt; canonical.as_slice(), want.as_bytes(), "{text}");
+        let again = Program::parse(rt.alloc(), canonical.as_slice())?.print(rt.alloc())?;
+        assert_eq!(rt; again.as_slice(), want.as_bytes(), "{text}");
+    }
+    Ok(())
+}
+
+#[test]
 fn refused(rt: HostRuntime) -> Result<(), Fail> {
     for (text, line, kind) in [
         ("print 1 +", 1, FaultKind::BadForm),
@@ -153,7 +219,9 @@ fn refused(rt: HostRuntime) -> Result<(), Fail> {
         ("print 9223372036854775808", 1, FaultKind::NumberRange),
         ("if 1", 2, FaultKind::BlockOpen),
         ("while 1\nelse\nend", 2, FaultKind::BlockStray),
-        ("var x\nlet x[0] = 1", 2, FaultKind::BadForm),
+        ("var x\nlet x[0] = 1", 2, FaultKind::Undeclared),
+        ("array a[2]\nlet a = 1", 2, FaultKind::Undeclared),
+        ("array a[257]", 1, FaultKind::Limit),
     ] {
         match Program::parse(rt.alloc(), text.as_bytes()) {
             Err(ParseFault::Fault(fault)) => {

@@ -5,3 +5,4 @@ pub mod CutLaws
 pub mod SizeLaws
 pub mod ScopeLaws
 pub mod ReadLaws
+pub mod NameLaws

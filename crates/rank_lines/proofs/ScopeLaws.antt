@@ -5,7 +5,8 @@ use Rattle.std.proofs.Common.{refl, sym, ap, ◌∙◌, arith, length-append, ap
 use Rattle.std.proofs.lemmas.Bool.Decides.{nat_tests}
 use Rattle.rank_lines.specs.declared.scope.Opened as source_opened
 use Rattle.rank_lines.specs.Scope.{Opened, in_if, in_else, in_while, other_branch, outer, is_open_if, is_empty}
-use Rattle.rank_lines.specs.SeenLines.{opened_seen, blocks_seen}
+use Rattle.rank_lines.specs.declared.scope.Array.{Array}
+use Rattle.rank_lines.specs.SeenLines.{opened_seen, blocks_seen, arrays_seen}
 
 -- the last block is seen first
 pub blocks_push : (bs : List source_opened.Opened) (b : source_opened.Opened) → blocks_seen (bs ++ b ∷ []) ≡ opened_seen b ∷ blocks_seen bs
@@ -97,3 +98,13 @@ blocks_turn (b ∷ bs) h =
 pub blocks_none : (bs : List source_opened.Opened) → length bs ≡ 0 → other_branch (blocks_seen bs) ≡ blocks_seen bs
 blocks_none [] h = refl
 blocks_none (b ∷ bs) h = absurd (omega arith)
+
+-- an array behind others is seen behind them
+pub arrays_push : (xs : List Array) (a : Array) → arrays_seen (xs ++ a ∷ []) ≡ arrays_seen xs ++ (a.name, a.length) ∷ []
+arrays_push [] a = refl
+arrays_push (x ∷ xs) a = ap (λ z. (x.name, x.length) ∷ z) (arrays_push xs a)
+
+-- as many arrays are seen as there are
+pub arrays_length : (xs : List Array) → length (arrays_seen xs) ≡ length xs
+arrays_length [] = refl
+arrays_length (x ∷ xs) = let h = arrays_length xs in omega arith

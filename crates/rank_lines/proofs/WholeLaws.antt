@@ -4,7 +4,8 @@ use Rattle.std.specs.Prelude.{◌≡◌, ℕ, ◌+◌, ◌<◌, ◌≤◌, List,
 use Rattle.std.proofs.Common.{refl, sym, ap, ◌∙◌, arith}
 use Rattle.rank_text.specs.declared.token.Token.{Token}
 use Rattle.rank_text.specs.Forms.{Form}
-use Rattle.rank_lines.specs.Scope.{Scope, declared_in, is_twice, is_stray, has_large, is_over, has_great_number, after_all, MayStand, AllMayStand, IsWhole}
+use Rattle.rank_lines.specs.Scope.{Scope, declared_in, is_twice, is_stray, is_past_table, has_large, is_over, has_great_number, after_all, MayStand, AllMayStand, IsWhole}
+use Rattle.rank_lines.proofs.NameLaws.{tokens_named, form_named}
 use Rattle.rank_lines.specs.Faults.{IsFormed, unknown_name, known_name, no_block, late_line, over, great_number, IsClean, IsLine, skipped, stated, AreLines, none, passed, taken, IsText}
 
 -- what can't be true is false
@@ -21,15 +22,22 @@ not_false false h = absurd (h refl)
 large_is_over : (s : Scope) (ts : List Token) (f : Form) → has_large f ≡ true → is_over s ts f ≡ true
 large_is_over s ts f q = grind arith
 
+-- a statement for which a table has no room is over a limit
+full_is_over : (s : Scope) (ts : List Token) (f : Form) → is_past_table s f ≡ true → is_over s ts f ≡ true
+full_is_over s ts f q = grind arith
+
 -- a statement without fault may stand where it does
 stands : {s : Scope} {n : ℕ} {l : List ℕ} {ts : List Token} {f : Form} → IsFormed l ts f → IsClean s n l → MayStand s f
-stands {s = s} {ts = ts} {f = f} d c = record {
-  declared = not_false (declared_in s f) (λ q. c _ (unknown_name d q));
-  once = not_true (is_twice s f) (λ q. c _ (known_name d q));
-  placed = not_true (is_stray s f) (λ q. c _ (no_block d q));
-  sized = not_true (has_large f) (λ q. c _ (over d (large_is_over s ts f q)));
-  fitting = not_true (has_great_number f) (λ q. c _ (great_number d q));
-}
+stands {s = s} {ts = ts} {f = f} d c =
+    let room : is_past_table s f ≡ false = not_true (is_past_table s f) (λ q. c _ (over d (full_is_over s ts f q))) in record {
+      declared = not_false (declared_in s f) (λ q. c _ (unknown_name d q));
+      once = not_true (is_twice s f) (λ q. c _ (known_name d q));
+      placed = not_true (is_stray s f) (λ q. c _ (no_block d q));
+      within = room;
+      named = form_named s d.form (tokens_named d.tokens) room;
+      sized = not_true (has_large f) (λ q. c _ (over d (large_is_over s ts f q)));
+      fitting = not_true (has_great_number f) (λ q. c _ (great_number d q));
+    }
 
 -- the statement of a line without fault may stand there
 line_stands : {s : Scope} {n : ℕ} {l : List ℕ} {f : Form} → IsLine s n l (Some f) → MayStand s f

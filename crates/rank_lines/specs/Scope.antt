@@ -4,8 +4,9 @@ use Rattle.std.specs.Prelude.{◌≡◌, ℕ, ◌+◌, ◌-◌, ◌^◌, ◌≤�
 use Rattle.std.specs.Str.{bytes_eq}
 use Rattle.rank_text.specs.declared.token.Token.{Token}
 use Rattle.rank_text.specs.declared.token.Token.TheVariants as t
+use Rattle.rank_text.specs.Lexes.{IsName}
 use Rattle.rank_text.specs.Tree.{Tree, number, variable, item, reading, negation, operation}
-use Rattle.rank_text.specs.Forms.{Choice, any, value, Payload, lone, one, Form, var_form, let_form, if_form, else_form, end_form, while_form, send_form, recv_form, print_form}
+use Rattle.rank_text.specs.Forms.{Choice, any, value, Payload, lone, one, Form, var_form, array_form, let_form, item_form, if_form, else_form, end_form, while_form, send_form, recv_form, print_form}
 
 -- a block that is open: the first part of an `if`, the part after its `else`, or a `while`
 pub data Opened : Type 0 where
@@ -62,6 +63,7 @@ payload_declared s (one e) = all_declared s e
 -- each name in a statement is declared in the sort that is used there
 abbrev pub declared_in : Scope → Form → Bool
 declared_in s (let_form x e) = is_variable s x && all_declared s e
+declared_in s (item_form x i e) = is_array s x && all_declared s i && all_declared s e
 declared_in s (if_form e) = all_declared s e
 declared_in s (while_form e) = all_declared s e
 declared_in s (send_form d g p) = all_declared s d && all_declared s g && payload_declared s p
@@ -72,6 +74,7 @@ declared_in s _ = true
 -- the name that the statement declares is already declared
 abbrev pub is_twice : Scope → Form → Bool
 is_twice s (var_form x) = is_declared s x
+is_twice s (array_form x n) = is_declared s x
 is_twice s _ = false
 
 -- no block is open
@@ -87,6 +90,7 @@ is_open_if _ = false
 -- a declaration stands in a block, an `else` has no `if` or a second one, or an `end` has no block
 abbrev pub is_stray : Scope → Form → Bool
 is_stray s (var_form x) = not (is_empty s.blocks)
+is_stray s (array_form x n) = not (is_empty s.blocks)
 is_stray s else_form = not (is_open_if s.blocks)
 is_stray s end_form = is_empty s.blocks
 is_stray s _ = false
@@ -115,6 +119,7 @@ payload_is_large (one e) = is_large e
 -- an expression of the statement has over 64 nodes
 abbrev pub has_large : Form → Bool
 has_large (let_form x e) = is_large e
+has_large (item_form x i e) = is_large i || is_large e
 has_large (if_form e) = is_large e
 has_large (while_form e) = is_large e
 has_large (send_form d g p) = is_large d || is_large g || payload_is_large p
@@ -129,9 +134,15 @@ deepest n (t.OpenParenthesis ∷ ts) = deepest (n + 1) ts
 deepest n (t.CloseParenthesis ∷ ts) = max n (deepest (n - 1) ts)
 deepest n (_ ∷ ts) = deepest n ts
 
--- the name is over 16 bytes, or it is the 65th variable, or the block is the 33rd that is open
+-- an array has 1 to 256 items
+abbrev pub is_array_length : ℕ → Bool
+is_array_length n = nat_le 1 n && nat_le n 256
+
+-- the name is over 16 bytes, or it is the 65th variable or the 17th array, or the array is too short or too long, or the block is
+-- the 33rd that is open
 abbrev pub is_past_table : Scope → Form → Bool
 is_past_table s (var_form x) = nat_le 64 (length s.variables) || nat_lt 16 (length x)
+is_past_table s (array_form x n) = nat_le 16 (length s.arrays) || nat_lt 16 (length x) || not (is_array_length n)
 is_past_table s (if_form e) = nat_le 32 (length s.blocks)
 is_past_table s (while_form e) = nat_le 32 (length s.blocks)
 is_past_table s _ = false
@@ -160,7 +171,9 @@ payload_is_great (one e) = is_great e
 
 -- a number of the statement is above 9223372036854775807
 abbrev pub has_great_number : Form → Bool
+has_great_number (array_form x n) = nat_le (2 ^ 63) n
 has_great_number (let_form x e) = is_great e
+has_great_number (item_form x i e) = is_great i || is_great e
 has_great_number (if_form e) = is_great e
 has_great_number (while_form e) = is_great e
 has_great_number (send_form d g p) = is_great d || is_great g || payload_is_great p
@@ -181,6 +194,7 @@ outer (b ∷ bs) = bs
 -- what a statement leaves
 abbrev pub after : Scope → Form → Scope
 after s (var_form x) = record s { variables = s.variables ++ x ∷ [] }
+after s (array_form x n) = record s { arrays = s.arrays ++ (x, n) ∷ [] }
 after s (if_form e) = record s { blocks = in_if ∷ s.blocks }
 after s (while_form e) = record s { blocks = in_while ∷ s.blocks }
 after s else_form = record s { blocks = other_branch s.blocks }
@@ -192,11 +206,19 @@ abbrev pub after_all : Scope → List Form → Scope
 after_all s [] = s
 after_all s (f ∷ fs) = after_all (after s f) fs
 
+-- what the statement declares has a name that isn't reserved
+abbrev pub IsNamed : Form → Type 0
+IsNamed (var_form x) = IsName x
+IsNamed (array_form x n) = IsName x
+IsNamed _ = Unit {0}
+
 -- A statement may stand after lines that leave the scope s.
 pub record MayStand (s : Scope) (f : Form) : Type 0 where
   pub declared : declared_in s f ≡ true
   pub once : is_twice s f ≡ false
   pub placed : is_stray s f ≡ false
+  pub within : is_past_table s f ≡ false
+  pub named : IsNamed f
   pub sized : has_large f ≡ false
   pub fitting : has_great_number f ≡ false
 

@@ -46,6 +46,9 @@ pub(crate) fn declared_in(scope: &Scope, form: &Form) -> bool
 {
     match form {
         Form::Let(name, value) => scope.is_variable(name) && all_declared(scope, value),
+        Form::LetItem(name, index, value) => {
+            scope.is_array(name) && all_declared(scope, index) && all_declared(scope, value)
+        }
         Form::If(expression) => all_declared(scope, expression),
         Form::While(expression) => all_declared(scope, expression),
         Form::Print(expression) => all_declared(scope, expression),

@@ -44,7 +44,9 @@ pub(crate) fn has_great_number(form: &Form) -> bool
     ensures { result ≡ has_great_number (form_seen form.now) }
 {
     match form {
+        Form::Array(_, length) => *length > GREATEST,
         Form::Let(_, value) => is_great(value),
+        Form::LetItem(_, index, value) => is_great(index) || is_great(value),
         Form::If(expression) => is_great(expression),
         Form::While(expression) => is_great(expression),
         Form::Print(expression) => is_great(expression),

@@ -1,7 +1,7 @@
 //! Whether a statement may stand where it does.
 ghost use Rattle.std.specs.Prelude.{◌≡◌, length, nat_le};
 ghost use Rattle.rank_text.specs.SeenForms.{form_seen};
-ghost use Rattle.rank_lines.specs.Scope.{is_empty, is_open_if, is_past_table, is_stray, is_twice};
+ghost use Rattle.rank_lines.specs.Scope.{is_array_length, is_empty, is_open_if, is_past_table, is_stray, is_twice};
 ghost use Rattle.rank_lines.specs.SeenLines.{scope_seen};
 
 use crate::scope::{Opened, Scope};
@@ -9,6 +9,12 @@ use rank_text::Form;
 
 /// The variables that a program may have.
 const VARIABLES: usize = 64;
+
+/// The arrays that a program may have.
+const ARRAYS: usize = 16;
+
+/// The items that an array may have.
+const ITEMS: u64 = 256;
 
 /// The blocks that may be open at once.
 const BLOCKS: usize = 32;
@@ -18,7 +24,7 @@ pub(crate) fn is_twice(scope: &Scope, form: &Form) -> bool
     ensures { result ≡ is_twice (scope_seen scope.now) (form_seen form.now) }
 {
     match form {
-        Form::Var(name) => scope.is_declared(name),
+        Form::Var(name) | Form::Array(name, _) => scope.is_declared(name),
         _ => false,
     }
 }
@@ -53,19 +59,36 @@ pub(crate) fn is_stray(scope: &Scope, form: &Form) -> bool
     ensures { result ≡ is_stray (scope_seen scope.now) (form_seen form.now) }
 {
     match form {
-        Form::Var(_) => !has_no_block(scope),
+        Form::Var(_) | Form::Array(..) => !has_no_block(scope),
         Form::Else => !is_open_if(scope),
         Form::End => has_no_block(scope),
         _ => false,
     }
 }
 
-/// Whether a table has no room for what the statement declares or opens, or its name is too long.
+#[tactic(auto, using(crate::proofs::ScopeLaws::arrays_length))]
+fn has_all_arrays(scope: &Scope) -> bool
+    ensures { result ≡ nat_le 16 (length (scope_seen scope.now).arrays) }
+{
+    scope.arrays.len() >= ARRAYS
+}
+
+fn is_array_length(length: u64) -> bool
+    ensures { result ≡ is_array_length length }
+{
+    1 <= length && length <= ITEMS
+}
+
+/// Whether a table has no room for what the statement declares or opens, or its name or
+/// its array is too long, or the array has no item.
 pub(crate) fn is_past_table(scope: &Scope, form: &Form) -> bool
     ensures { result ≡ is_past_table (scope_seen scope.now) (form_seen form.now) }
 {
     match form {
         Form::Var(name) => scope.variables.len() >= VARIABLES || name.is_too_long(),
+        Form::Array(name, length) => {
+            has_all_arrays(scope) || name.is_too_long() || !is_array_length(*length)
+        }
         Form::If(_) => has_all_blocks(scope),
         Form::While(_) => has_all_blocks(scope),
         _ => false,

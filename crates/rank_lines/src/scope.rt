@@ -1,7 +1,7 @@
 //! What the lines so far have declared and opened.
 ghost use Rattle.std.specs.Prelude.{◌≡◌, ◌∷◌, OnOk, OnErr};
 ghost use Rattle.std.specs.Str.{bytes_eq};
-ghost use Rattle.rank_text.specs.Forms.{else_form, end_form, var_form};
+ghost use Rattle.rank_text.specs.Forms.{array_form, else_form, end_form, var_form};
 ghost use Rattle.rank_text.specs.SeenForms.{form_seen};
 ghost use Rattle.rank_lines.specs.Scope.{after, is_array, is_declared, is_name_in, is_variable, nothing_yet};
 ghost use Rattle.rank_lines.specs.SeenLines.{opened_seen, scope_seen};
@@ -88,6 +88,18 @@ impl Scope {
         Ok(())
     }
 
+    #[tactic(auto, using(crate::proofs::ScopeLaws::arrays_push))]
+    fn declare_array(&mut self, name: Name, length: u64) -> Result<(), AllocError>
+        ensures ok { OnOk result (scope_seen self.new ≡ after (scope_seen self.old) (array_form name length)) }
+        ensures err { OnErr result (scope_seen self.new ≡ scope_seen self.old) }
+    {
+        self.arrays.push(Array {
+            name,
+            length: length as usize,
+        })?;
+        Ok(())
+    }
+
     #[tactic(auto, using(crate::proofs::ScopeLaws::blocks_push))]
     fn open(&mut self, block: Opened) -> Result<(), AllocError>
         ensures ok { OnOk result (scope_seen self.new
@@ -122,6 +134,7 @@ impl Scope {
     {
         match form {
             Form::Var(name) => self.declare(*name),
+            Form::Array(name, length) => self.declare_array(*name, *length),
             Form::If(_) => self.open(Opened::If),
             Form::While(_) => self.open(Opened::While),
             Form::Else => {

@@ -59,6 +59,7 @@ pub(crate) fn has_large(form: &Form) -> bool
 {
     match form {
         Form::Let(_, value) => is_large(value),
+        Form::LetItem(_, index, value) => is_large(index) || is_large(value),
         Form::If(expression) => is_large(expression),
         Form::While(expression) => is_large(expression),
         Form::Print(expression) => is_large(expression),

@@ -51,7 +51,7 @@ fn short_texts(rt: HostRuntime) -> Result<(), Fail> {
         ("print $", (1, 3)),
         ("print 12abc", (1, 3)),
         ("let x 1", (1, 3)),
-        ("let a[0] = 1", (1, 3)),
+        ("let a[0] = 1", (1, 4)),
         ("var x\nlet x + 1 = 2", (2, 3)),
         ("let x = 1", (1, 4)),
         ("var x\nlet x = y", (2, 4)),
@@ -95,6 +95,40 @@ fn short_texts(rt: HostRuntime) -> Result<(), Fail> {
 }
 
 #[test]
+fn arrays(rt: HostRuntime) -> Result<(), Fail> {
+    for (text, want) in [
+        ("array a[1]", (0, 0)),
+        ("array a[0256]", (0, 0)),
+        ("array a[0]", (1, 8)),
+        ("array a[257]", (1, 8)),
+        ("array a[9223372036854775808]", (1, 8)),
+        ("array abcdefghijklmnop[1]", (0, 0)),
+        ("array abcdefghijklmnopq[1]", (1, 8)),
+        ("array a", (1, 3)),
+        ("array a[1 + 1]", (1, 3)),
+        ("array a[1]\narray a[0]", (2, 5)),
+        ("var a\narray a[1]", (2, 5)),
+        ("array a[1]\nvar a", (2, 5)),
+        ("if 1\narray a[0]\nend", (2, 7)),
+        ("array a[1]\nlet a[a[1]] = -a[9]", (0, 0)),
+        ("array a[1]\nlet a[0] = b", (2, 4)),
+        ("array a[1]\nlet a[b] = 9223372036854775808", (2, 4)),
+        ("array a[1]\nlet a[9223372036854775808] = 1", (2, 9)),
+        ("array a[1]\nlet a = 1", (2, 4)),
+        ("var a\nlet a[0] = 1", (2, 4)),
+        ("array a[1]\nprint a", (2, 4)),
+        ("array a[1]\nsend 0, 0, a", (0, 0)),
+        ("array a[1]\nsend 0, 0, (a)", (2, 4)),
+        ("array a[1]\nsend a, 0, 1", (2, 4)),
+        ("array a[1]\nrecv 0, 0, a", (0, 0)),
+        ("array a[1]\nrecv 0, 0, a[0]", (2, 3)),
+    ] {
+        assert_eq!(rt; fault_of(rt.alloc(), text.as_bytes()), want, "at {text:?}");
+    }
+    Ok(())
+}
+
+#[test]
 fn limits(rt: HostRuntime) -> Result<(), Fail> {
     let line: (&str, usize) = ("print 1\n", 1000);
     let plus: (&str, usize) = ("+1", 31);
@@ -126,6 +160,22 @@ fn limits(rt: HostRuntime) -> Result<(), Fail> {
         ([("while ", 1), ("-", 2), ("1", 1), plus], (1, 8)),
         ([("print ", 1), ("-", 1), ("1", 1), plus], (0, 0)),
         ([("print ", 1), ("-", 2), ("1", 1), plus], (1, 8)),
+        (
+            [("array a[1]\nprint a[", 1), ("1", 1), plus, ("]", 1)],
+            (0, 0),
+        ),
+        (
+            [("array a[1]\nprint a[", 1), ("-1", 1), plus, ("]", 1)],
+            (2, 8),
+        ),
+        (
+            [("array a[1]\nlet a[", 1), ("-1", 1), plus, ("] = 1", 1)],
+            (0, 0),
+        ),
+        (
+            [("array a[1]\nlet a[", 1), ("--1", 1), plus, ("] = 1", 1)],
+            (2, 8),
+        ),
         ([("print ", 1), ("(", 64), ("1", 1), (")", 64)], (0, 0)),
         ([("print ", 1), ("(", 65), ("1", 1), (")", 65)], (1, 8)),
         ([("print ", 1), ("(", 8000), ("", 0), ("", 0)], (1, 3)),
@@ -159,13 +209,31 @@ fn sixty_five_variables(rt: HostRuntime) -> Result<(), Fail> {
 }
 
 #[test]
+fn seventeen_arrays(rt: HostRuntime) -> Result<(), Fail> {
+    let mut text = Vec::new(rt.alloc());
+    for letter in b'a'..b'q' {
+        text.extend_from_slice(b"array ".as_slice())?;
+        text.push(letter)?;
+        text.extend_from_slice(b"[1]\n".as_slice())?;
+    }
+    assert_eq!(rt; fault_of(rt.alloc(), text.as_slice()), (0, 0));
+    text.extend_from_slice(b"array z[1]".as_slice())?;
+    assert_eq!(rt; fault_of(rt.alloc(), text.as_slice()), (17, 8));
+    Ok(())
+}
+
+#[test]
 fn tables(rt: HostRuntime) -> Result<(), Fail> {
-    let text = b"var x\nvar yy\nif x\nprint yy\nend\n".as_slice();
+    let text = b"var x\narray a[7]\nvar yy\nif x\nprint a[yy]\nend\n".as_slice();
     match read(rt.alloc(), text) {
         Ok(draft) => {
-            assert_eq!(rt; draft.forms.len(), 5);
+            assert_eq!(rt; draft.forms.len(), 6);
             assert_eq!(rt; draft.variables.len(), 2);
-            assert!(rt; draft.arrays.is_empty());
+            assert_eq!(rt; draft.arrays.len(), 1);
+            for array in draft.arrays.as_slice() {
+                assert_eq!(rt; array.length, 7);
+                assert_eq!(rt; array.name.as_bytes(), b"a".as_slice());
+            }
         }
         Err(fault) => assert!(rt; false, "{fault}"),
     }

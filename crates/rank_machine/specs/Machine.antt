@@ -1,15 +1,15 @@
 -- A rank's machine as contracts see it: its program, where it stands in it, and the state that it stands for.
-use Rattle.std.specs.Prelude.{◌≡◌, ◌≢◌, ℕ, ℤ, ◌<◌, ◌≤◌, Bool, true, false, not, length, Ok, Err, Option, Some, None, ◌⊎◌, slice_get}
+use Rattle.std.specs.Prelude.{◌≡◌, ◌≢◌, ℕ, ℤ, ◌<◌, ◌≤◌, Bool, true, false, not, length, map, Ok, Err, Option, Some, None, ◌⊎◌, slice_get}
 use Rattle.matching.specs.Message as packet
 use Rattle.matching.specs.Matching.{matches}
-use Rattle.rank_language.specs.Placed.{assign}
+use Rattle.rank_language.specs.Placed.{assign, assign_item}
 use Rattle.rank_language.specs.Block.{Line, if_line, simple_line, else_line, end_line, while_line, back_line, Leads, remaining, size, next_position}
 use Rattle.rank_language.specs.Program.{ProgramValue, tree_of}
 use Rattle.rank_machine.specs.declared.fault.MachineFault.{MachineFault}
 use Rattle.rank_machine.specs.declared.want.Want.{Want}
 use Rattle.rank_machine.specs.declared.want.Want.TheVariants as want
 use Rattle.rank_machine.specs.Values.{Store, Valued, value, is_zero}
-use Rattle.rank_machine.specs.States.{State, inner, assigned}
+use Rattle.rank_machine.specs.States.{State, inner, assigned, item_value, item_assigned}
 use Rattle.rank_machine.specs.Wants.{simple_want, test_want, wants}
 
 pub record MachineValue : Type 0 where
@@ -66,9 +66,10 @@ position_after s (Some l) p = next_position l p (truth_of s l)
 abbrev pub next_of : MachineValue → ℕ
 next_of m = position_after m.store (line_at m) m.position
 
--- what is stored after a line: a `let` sets its variable, and nothing else changes
+-- what is stored after a line: a `let` sets its variable or its item, and nothing else changes
 abbrev pub line_store : Store → Line → Store
 line_store s (simple_line (assign p e)) = assigned s p (value s e)
+line_store s (simple_line (assign_item p i e)) = item_assigned s p (item_value s p i e)
 line_store s l = s
 
 -- what is stored after a line, if there is one
@@ -94,7 +95,7 @@ abbrev pub stored_at : MachineValue → ℕ → MachineValue
 stored_at m p = record m { store = store_after m.store (slice_get m.program.statements p) }
 
 -- An internal step: at most one inner step of the state, to the position where the line leads, which is another. A `let` sets its
--- variable, and all else stays.
+-- variable or its item, and all else stays.
 pub record GoesOn (m m' : MachineValue) : Type 0 where
   pub state : (inner (state_of m) ≡ Some (state_of m')) ⊎ (state_of m' ≡ state_of m)
   pub position : m'.position ≡ next_of m
@@ -121,9 +122,10 @@ pub record KeepsRank (m m' : MachineValue) : Type 0 where
   pub rank : m'.store.rank ≡ m.store.rank
   pub size : m'.store.size ≡ m.store.size
 
--- What holds of every machine.
+-- What holds of every machine: its arrays are as long as its program says.
 pub record IsMachine (m : MachineValue) : Type 0 where
   pub position : m.position ≤ size (tree_of m.program)
   pub variables : length m.store.variables ≡ length m.program.variables
   pub arrays : length m.store.arrays ≡ length m.program.arrays
+  pub lengths : map length m.store.arrays ≡ map (λ a. a.1) m.program.arrays
   pub rank : m.store.rank < m.store.size

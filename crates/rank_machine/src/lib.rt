@@ -2,6 +2,7 @@
 #![tactic(auto)]
 
 mod fault;
+mod items;
 pub mod laws;
 mod machine;
 mod operate;

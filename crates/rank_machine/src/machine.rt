@@ -58,7 +58,6 @@ impl<'p> Machine<'p> {
         ensures fault { IfOk result (λ machine. machine.fault ≡ None) }
         ensures opening { IfOk result (λ machine. state_of machine ≡ opening program.entry.now rank size) }
     {
-        program.has_no_arrays();
         Ok(Machine {
             program,
             position: 0,

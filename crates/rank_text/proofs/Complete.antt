@@ -73,23 +73,23 @@ reads (compared {o} {xs} {ys} {a = x} {b = y} q dx dy) = λ s rest h.
       ap (λ z. read (wants fresh s) z) (append_assoc xs (t.Operator o ∷ ys) rest) ∙ ih.3 ∙ after_operator Compares o q None ih.0 s ih.1 (ys ++ rest) ∙ ap (λ z. read (wants (level (Some (z, o)) None None 0) s) (ys ++ rest)) ih.2 ∙ ij.3,
     )
 
--- what ends an expression outside brackets: the line, a comma, or the sign that sets
+-- what ends an expression outside brackets of its own: the line, a comma, or the bracket that closes an index
 abbrev pub Ends : List Token → Type 0
 Ends [] = Unit {0}
 Ends (t.Comma ∷ ts) = Unit {0}
-Ends (t.Assign ∷ ts) = Unit {0}
+Ends (t.CloseBracket ∷ ts) = Unit {0}
 Ends (_ ∷ ts) = ⊥
 
 no_bracket : (rest : List Token) → Ends rest → NoBracket rest
 no_bracket [] h = tt
 no_bracket (t.Comma ∷ ts) h = tt
-no_bracket (t.Assign ∷ ts) h = tt
+no_bracket (t.CloseBracket ∷ ts) h = tt
 no_bracket (_ ∷ ts) h = absurd h
 
 stops : (c a : Left) (p : Tree) (rest : List Token) → Ends rest → read (has c a [] p) rest ≡ Some (all_of c a p, rest)
 stops c a p [] h = refl
 stops c a p (t.Comma ∷ ts) h = refl
-stops c a p (t.Assign ∷ ts) h = refl
+stops c a p (t.CloseBracket ∷ ts) h = refl
 stops c a p (_ ∷ ts) h = absurd h
 
 -- what is spelled is read, where it ends

@@ -13,9 +13,9 @@ use Rattle.rank_text.specs.declared.form.Form as source_form
 use Rattle.rank_text.specs.Tree.{Tree}
 use Rattle.rank_text.specs.Grammar.{Spells, whole}
 use Rattle.rank_text.specs.Reader.{expression_at, whole_expression}
-use Rattle.rank_text.specs.Forms.{Choice, value, Payload, one, Form, let_form, if_form, while_form, send_form, recv_form, print_form}
-use Rattle.rank_text.specs.Forms.{IsChoice, is_any, is_value, IsNoName, IsPayload, is_lone, is_one, IsForm, is_var, is_let, is_if, is_else, is_end, is_while, is_send, is_recv, is_print}
-use Rattle.rank_text.specs.Forms.{◌>>=◌, comma, lone_name, choice_at, payload_of, var_of, let_of, if_of, while_of, send_of, recv_of, print_of, form_of}
+use Rattle.rank_text.specs.Forms.{Choice, value, Payload, one, Form, let_form, item_form, if_form, while_form, send_form, recv_form, print_form}
+use Rattle.rank_text.specs.Forms.{IsChoice, is_any, is_value, IsNoName, IsPayload, is_lone, is_one, IsForm, is_var, is_array, is_let, is_let_item, is_if, is_else, is_end, is_while, is_send, is_recv, is_print}
+use Rattle.rank_text.specs.Forms.{◌>>=◌, comma, bracket_assign, lone_name, choice_at, payload_of, var_of, array_of, let_of, item_of, if_of, while_of, send_of, recv_of, print_of, form_of}
 use Rattle.rank_text.specs.SeenForms.{form_in, form_seen}
 use Rattle.rank_text.proofs.Complete.{complete}
 use Rattle.rank_text.proofs.Sound.{sound, ReadIs}
@@ -46,9 +46,13 @@ choice_read (is_value {ts} d) rest = of_value ts rest (complete d (t.Comma ∷ r
 
 -- what has a form is read as that form
 pub form_read : {ts : List Token} {f : Form} → IsForm ts f → form_of ts ≡ Some f
-unfolding var_of let_of if_of while_of send_of recv_of print_of
+unfolding var_of array_of let_of item_of if_of while_of send_of recv_of print_of
 form_read is_var = refl
+form_read is_array = refl
 form_read (is_let {x} {ts} {e} d) = ap (λ o. o >>= (λ e. Some (let_form x e))) (read_whole ts e d)
+form_read (is_let_item {x} {is} {ts} {i} {e} di de) =
+    ap (λ o. o >>= (λ i. bracket_assign i.1 >>= (λ us. whole_expression us >>= (λ e. Some (item_form x i.0 e))))) (complete di (t.CloseBracket ∷ t.Assign ∷ ts) tt)
+    ∙ ap (λ o. o >>= (λ e. Some (item_form x i e))) (read_whole ts e de)
 form_read (is_if {ts} {e} d) = ap (λ o. o >>= (λ e. Some (if_form e))) (read_whole ts e d)
 form_read is_else = refl
 form_read is_end = refl
@@ -138,9 +142,24 @@ recv_spelled ts =
     last_name vs s g (t.Keyword k.Recv ∷ ts) (λ x l.
     subst (λ z. IsForm (t.Keyword k.Recv ∷ z) (recv_form s g x)) (sym (q ∙ ap (λ z. ds ++ t.Comma ∷ z) (r ∙ ap (λ z. gs ++ t.Comma ∷ z) l))) (is_recv dd dg))))
 
+-- an expression, a bracket and `=`, and more
+then_bracket : (o : Option (Tree × List Token)) (ts : List Token) (next : Tree → List Token → Option Form) (all : List Token) → ReadIs o [] ts → ((e : Tree) (is us : List Token) → Spells whole is e → ts ≡ is ++ t.CloseBracket ∷ t.Assign ∷ us → FormIs (next e us) all) → FormIs (o >>= (λ i. bracket_assign i.1 >>= (λ us. next i.0 us))) all
+then_bracket None ts next all h build = tt
+then_bracket (Some (e, (t.CloseBracket ∷ (t.Assign ∷ us)))) ts next all h build = build e h.0 us h.1 h.2
+then_bracket (Some (e, _)) ts next all h build = tt
+
+item_spelled : (x : List ℕ) (ts : List Token) → FormIs (item_of x ts) (t.Keyword k.Let ∷ t.Name x ∷ t.OpenBracket ∷ ts)
+unfolding item_of
+item_spelled x ts =
+    then_bracket (expression_at ts) ts (λ i us. whole_expression us >>= (λ e. Some (item_form x i e))) (t.Keyword k.Let ∷ t.Name x ∷ t.OpenBracket ∷ ts) (sound ts) (λ i is us di q.
+    ended (whole_expression us) us (item_form x i) (t.Keyword k.Let ∷ t.Name x ∷ t.OpenBracket ∷ ts) (whole_spelled us) (λ e de.
+    subst (λ z. IsForm (t.Keyword k.Let ∷ t.Name x ∷ t.OpenBracket ∷ z) (item_form x i e)) (sym q) (is_let_item di de)))
+
 -- what is read as a form has it
 pub form_spelled : (ts : List Token) → FormIs (form_of ts) ts
-unfolding var_of let_of if_of while_of print_of
+unfolding var_of array_of let_of if_of while_of print_of
+form_spelled (t.Keyword k.Array ∷ (t.Name x ∷ (t.OpenBracket ∷ (t.Number n ∷ (t.CloseBracket ∷ []))))) = is_array
+form_spelled (t.Keyword k.Let ∷ (t.Name x ∷ (t.OpenBracket ∷ ts))) = item_spelled x ts
 form_spelled (t.Keyword k.Let ∷ (t.Name x ∷ (t.Assign ∷ ts))) =
     ended (whole_expression ts) ts (let_form x) (t.Keyword k.Let ∷ t.Name x ∷ t.Assign ∷ ts) (whole_spelled ts) (λ e d. is_let d)
 form_spelled (t.Keyword k.While ∷ ts) = ended (whole_expression ts) ts while_form (t.Keyword k.While ∷ ts) (whole_spelled ts) (λ e d. is_while d)

@@ -21,7 +21,9 @@ pub data Payload : Type 0 where
 -- the statement of a line, whatever stands on the lines round it
 pub data Form : Type 0 where
   var_form : (name : List ℕ) → Form
+  array_form : (name : List ℕ) (length : ℕ) → Form
   let_form : (name : List ℕ) (e : Tree) → Form
+  item_form : (name : List ℕ) (index e : Tree) → Form
   if_form : (e : Tree) → Form
   else_form : Form
   end_form : Form
@@ -45,12 +47,17 @@ pub data IsPayload : List Token → Payload → Type 0 where
   is_lone : {x : List ℕ} → IsPayload (t.Name x ∷ []) (lone x)
   is_one : {ts : List Token} {e : Tree} → IsNoName ts → Spells whole ts e → IsPayload ts (one e)
 
--- the tokens of a line have the form: a statement word and its arguments, with a comma between two arguments and `=` before the value
--- of a `let`, and nothing more
+-- the tokens of a line have the form: a statement word and its arguments, with a comma between two arguments, brackets round an
+-- array's length and an item's index, and `=` before the value of a `let`, and nothing more
 pub data IsForm : List Token → Form → Type 0 where
   is_var : {x : List ℕ} → IsForm (t.Keyword k.Var ∷ t.Name x ∷ []) (var_form x)
+  is_array : {x : List ℕ} {n : ℕ}
+      → IsForm (t.Keyword k.Array ∷ t.Name x ∷ t.OpenBracket ∷ t.Number n ∷ t.CloseBracket ∷ []) (array_form x n)
   is_let : {x : List ℕ} {ts : List Token} {e : Tree}
       → Spells whole ts e → IsForm (t.Keyword k.Let ∷ t.Name x ∷ t.Assign ∷ ts) (let_form x e)
+  is_let_item : {x : List ℕ} {is ts : List Token} {i e : Tree}
+      → Spells whole is i → Spells whole ts e
+      → IsForm (t.Keyword k.Let ∷ t.Name x ∷ t.OpenBracket ∷ (is ++ t.CloseBracket ∷ t.Assign ∷ ts)) (item_form x i e)
   is_if : {ts : List Token} {e : Tree} → Spells whole ts e → IsForm (t.Keyword k.If ∷ ts) (if_form e)
   is_else : IsForm (t.Keyword k.Else ∷ []) else_form
   is_end : IsForm (t.Keyword k.End ∷ []) end_form
@@ -105,11 +112,30 @@ var_of ts = do
   x ← lone_name ts
   Some (var_form x)
 
--- the form of `let` with these arguments: a name, `=` and a value
+-- the form of `array` with these arguments: a name, and in brackets a number
+unfoldable pub array_of : List Token → Option Form
+array_of (t.Name x ∷ (t.OpenBracket ∷ (t.Number n ∷ (t.CloseBracket ∷ [])))) = Some (array_form x n)
+array_of _ = None
+
+-- the tokens after a closing bracket and `=` in front
+abbrev pub bracket_assign : List Token → Option (List Token)
+bracket_assign (t.CloseBracket ∷ (t.Assign ∷ ts)) = Some ts
+bracket_assign _ = None
+
+-- the form of `let` with an item of this name, from its index on
+unfoldable pub item_of : List ℕ → List Token → Option Form
+item_of x ts = do
+  i ← expression_at ts
+  us ← bracket_assign i.1
+  e ← whole_expression us
+  Some (item_form x i.0 e)
+
+-- the form of `let` with these arguments: a name or an item, `=` and a value
 unfoldable pub let_of : List Token → Option Form
 let_of (t.Name x ∷ (t.Assign ∷ ts)) = do
   e ← whole_expression ts
   Some (let_form x e)
+let_of (t.Name x ∷ (t.OpenBracket ∷ ts)) = item_of x ts
 let_of _ = None
 
 -- the form of `if` with these arguments
@@ -153,6 +179,7 @@ print_of ts = do
 -- the form of a statement word with these arguments; a word that isn't named here has no form
 abbrev pub form_with : Keyword → List Token → Option Form
 form_with k.Var ts = var_of ts
+form_with k.Array ts = array_of ts
 form_with k.Let ts = let_of ts
 form_with k.If ts = if_of ts
 form_with k.Else ts = bare else_form ts

@@ -29,6 +29,10 @@ IsWord (b ∷ bs) = (is_letter b ≡ true) × AllAre is_word_byte bs
 abbrev pub word_token : List ℕ → Token
 word_token w = elim (found_in reserved w) [ None ↦ t.Name (take 17 w) | Some token ↦ token ]
 
+-- a name is a word that isn't reserved
+abbrev pub IsName : List ℕ → Type 0
+IsName x = IsWord x × (found_in reserved x ≡ None)
+
 -- a number is one digit or more
 abbrev pub IsNumber : List ℕ → Type 0
 IsNumber [] = ⊥

@@ -7,7 +7,7 @@ use Rattle.rank_text.specs.declared.form.Choice as source_choice
 use Rattle.rank_text.specs.declared.form.Payload as source_payload
 use Rattle.rank_text.specs.declared.form.Form as source_form
 use Rattle.rank_text.specs.Tree.{tree_of}
-use Rattle.rank_text.specs.Forms.{Choice, any, value, Payload, lone, one, Form, var_form, let_form, if_form, else_form, end_form, while_form, send_form, recv_form, print_form}
+use Rattle.rank_text.specs.Forms.{Choice, any, value, Payload, lone, one, Form, var_form, array_form, let_form, item_form, if_form, else_form, end_form, while_form, send_form, recv_form, print_form}
 
 -- a source or a tag
 abbrev pub choice_of : source_choice.Choice → Choice
@@ -22,7 +22,9 @@ payload_seen (source_payload.TheVariants.One e) = one (tree_of e)
 -- the statement of a line
 abbrev pub form_seen : source_form.Form → Form
 form_seen (source_form.TheVariants.Var x) = var_form x
+form_seen (source_form.TheVariants.Array x n) = array_form x n
 form_seen (source_form.TheVariants.Let x e) = let_form x (tree_of e)
+form_seen (source_form.TheVariants.LetItem x i e) = item_form x (tree_of i) (tree_of e)
 form_seen (source_form.TheVariants.If e) = if_form (tree_of e)
 form_seen source_form.TheVariants.Else = else_form
 form_seen source_form.TheVariants.End = end_form

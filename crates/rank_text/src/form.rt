@@ -22,8 +22,13 @@ pub enum Payload {
 #[derive(Debug, Drop)]
 pub enum Form {
     Var(Name),
+    /// An array and the number of its items, one above 9223372036854775807 kept as
+    /// 9223372036854775808.
+    Array(Name, u64),
     /// A variable and its new value.
     Let(Name, Written),
+    /// An item of an array, by its index, and its new value.
+    LetItem(Name, Written, Written),
     If(Written),
     Else,
     End,

@@ -3,7 +3,7 @@
 ghost use Rattle.std.specs.Prelude.{◌≡◌, List, IfOk, IfSome, Some};
 ghost use Rattle.rank_text.specs.declared.token.Token.{Token};
 ghost use Rattle.rank_text.specs.Forms as forms;
-ghost use Rattle.rank_text.specs.Forms.{IsForm, comma, bare, lone_name, choice_at, payload_of, var_of, let_of, if_of, while_of, send_of, recv_of, print_of, form_with, form_of};
+ghost use Rattle.rank_text.specs.Forms.{IsForm, comma, bracket_assign, bare, lone_name, choice_at, payload_of, var_of, array_of, let_of, item_of, if_of, while_of, send_of, recv_of, print_of, form_with, form_of};
 ghost use Rattle.rank_text.specs.SeenForms.{form_in, form_seen, payload_in, choice_in, rest_in, lone_in};
 
 use crate::form::{Choice, Form, Payload};
@@ -18,6 +18,15 @@ fn after_comma(tokens: &[Token]) -> Option<&[Token]>
 {
     match tokens {
         [Token::Comma, rest @ ..] => Some(rest),
+        _ => None,
+    }
+}
+
+fn after_bracket_assign(tokens: &[Token]) -> Option<&[Token]>
+    ensures { rest_in result ≡ bracket_assign tokens.now }
+{
+    match tokens {
+        [Token::CloseBracket, Token::Assign, rest @ ..] => Some(rest),
         _ => None,
     }
 }
@@ -65,6 +74,38 @@ fn read_var(tokens: &[Token]) -> Option<Form>
     Some(Form::Var(name))
 }
 
+#[tactic(auto, unfolding(crate::specs::Forms::array_of))]
+fn read_array(tokens: &[Token]) -> Option<Form>
+    ensures { form_in result ≡ array_of tokens.now }
+{
+    match tokens {
+        [
+            Token::Name(name),
+            Token::OpenBracket,
+            Token::Number(length),
+            Token::CloseBracket,
+        ] => { Some(Form::Array(*name, *length)) }
+        _ => None,
+    }
+}
+
+/// From the index on.
+#[tactic(auto, unfolding(crate::specs::Forms::item_of))]
+fn read_item(alloc: Heap, name: Name, tokens: &[Token]) -> Result<Option<Form>, AllocError>
+    ensures { IfOk result (λ f. form_in f ≡ item_of name tokens.now) }
+{
+    let Some((index, rest)) = expression_at(alloc, tokens)? else {
+        return Ok(None);
+    };
+    let Some(rest) = after_bracket_assign(rest) else {
+        return Ok(None);
+    };
+    let Some(value) = whole_expression(alloc, rest)? else {
+        return Ok(None);
+    };
+    Ok(Some(Form::LetItem(name, index, value)))
+}
+
 #[tactic(auto, unfolding(crate::specs::Forms::let_of))]
 fn read_let(alloc: Heap, tokens: &[Token]) -> Result<Option<Form>, AllocError>
     ensures { IfOk result (λ f. form_in f ≡ let_of tokens.now) }
@@ -76,6 +117,7 @@ fn read_let(alloc: Heap, tokens: &[Token]) -> Result<Option<Form>, AllocError>
             };
             Ok(Some(Form::Let(*name, value)))
         }
+        [Token::Name(name), Token::OpenBracket, item @ ..] => read_item(alloc, *name, item),
         _ => Ok(None),
     }
 }
@@ -182,6 +224,7 @@ fn read_arguments(
 {
     match word {
         Keyword::Var => Ok(read_var(arguments)),
+        Keyword::Array => Ok(read_array(arguments)),
         Keyword::Let => read_let(alloc, arguments),
         Keyword::If => read_if(alloc, arguments),
         Keyword::Else => Ok(read_else(arguments)),
@@ -229,7 +272,11 @@ mod tests {
     fn lines_with_a_form(rt: HostRuntime) -> Result<(), Fail> {
         for line in [
             b"var x".as_slice(),
+            b"array a[3]",
+            b"array a [ 007 ]",
             b"let x = y",
+            b"let a[0] = 1",
+            b"let a[a[i] + 1] = (2)",
             b"let x=-(1 + 2) * 3",
             b"if a[i] == 0",
             b"while x != 0",
@@ -263,7 +310,19 @@ mod tests {
             b"let x = 1 2",
             b"let rank = 1",
             b"let while = 1",
-            b"let a[0] = 1",
+            b"let a[0 = 1",
+            b"let a[0] 1",
+            b"let a[] = 1",
+            b"let a[0] = 1 2",
+            b"let a[0][1] = 1",
+            b"let (a)[0] = 1",
+            b"array a",
+            b"array a[]",
+            b"array a[-1]",
+            b"array a[1 + 1]",
+            b"array a[1] 2",
+            b"array 1[1]",
+            b"array sum[1]",
             b"if any",
             b"while",
             b"while 1, 2",

@@ -10,6 +10,7 @@
 //! | 5 | standard output can't be written |
 ghost use Rattle.std.specs.Prelude.{◌≤◌};
 
+mod check;
 mod job;
 mod reading;
 mod refusal;
@@ -43,24 +44,24 @@ pub fn command<R: Threads + Wait + Sync + Copy + Send + AllocGlobal, F: Files, O
 {
     match speak(rt, alloc, words, files) {
         Ok(said) => {
-            if write_whole(out, said.out.as_str()).is_err() {
+            if write_whole(out, said.out.as_slice()).is_err() {
                 return 5;
             }
-            let _ = write_whole(err, said.err.as_str());
+            let _ = write_whole(err, said.err.as_bytes());
             said.status
         }
         Err(_) => {
-            let _ = write_whole(err, "out of memory\n");
+            let _ = write_whole(err, b"out of memory\n");
             4
         }
     }
 }
 
-fn write_whole<W: Write>(to: &mut W, text: &str) -> std::io::Result<()> {
+fn write_whole<W: Write>(to: &mut W, text: &[u8]) -> std::io::Result<()> {
     if text.is_empty() {
         return Ok(());
     }
-    to.write_all(text.as_bytes())?;
+    to.write_all(text)?;
     to.flush()
 }
 
@@ -81,7 +82,7 @@ fn refuse(alloc: Heap, no_job: &NoJob) -> Result<Said, AllocError> {
     match no_job {
         NoJob::Help(text) => {
             let text = String::from_str(alloc, text.as_str())?;
-            Ok(Said::answer(alloc, 0, text))
+            Ok(Said::answer(alloc, 0, text.into_bytes()))
         }
         NoJob::Mistake(text) => {
             let text = String::from_str(alloc, text.as_str())?;

@@ -1,9 +1,9 @@
 //! What the program prints of a run and of a world.
-use crate::report::{End, Outcome, Report};
 use events_text::ReplyLine;
 use metered::Heap;
 use std::alloc::AllocError;
 use std::fmt::Write;
+use turns::{End, Outcome, Report};
 use world_model::{Reply, World};
 
 /// The lines of each rank, how each rank ended, and what the run took.

@@ -10,8 +10,15 @@ use std::alloc::Global;
 /// What is to be done.
 #[derive(Clone, Copy, Debug, PartialEq, Eq)]
 pub enum Job<'a> {
+    Check(CheckJob<'a>),
     Run(RunJob<'a>),
     World(WorldJob<'a>),
+}
+
+/// One program, whose canonical text is wanted.
+#[derive(Clone, Copy, Debug, PartialEq, Eq)]
+pub struct CheckJob<'a> {
+    pub program: &'a str,
 }
 
 /// One run of a program. `idle` and `steps` are at most 1000000000.
@@ -57,6 +64,9 @@ fn parsed<'a>(alloc: Global, words: &'a [String]) -> Result<Job<'a>, Error> {
 
 fn chosen<'a>(matches: &ArgMatches<'a>) -> Option<Job<'a>> {
     let (name, inner) = matches.subcommand()?;
+    if name == "check" {
+        return Some(Job::Check(check_of(inner)?));
+    }
     if name == "run" {
         return Some(Job::Run(run_of(inner)?));
     }
@@ -74,6 +84,12 @@ fn ranks_of(inner: &ArgMatches<'_>) -> Option<u8>
     inner
         .get_one::<u8>("ranks")
         .filter(|ranks| (1..=8).contains(ranks))
+}
+
+fn check_of<'a>(inner: &ArgMatches<'a>) -> Option<CheckJob<'a>> {
+    Some(CheckJob {
+        program: inner.get_str("program")?,
+    })
 }
 
 fn run_of<'a>(inner: &ArgMatches<'a>) -> Option<RunJob<'a>> {

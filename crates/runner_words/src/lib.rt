@@ -8,5 +8,5 @@ mod job;
 mod no_job;
 mod syntax;
 
-pub use job::{Job, RunJob, WorldJob, job_of};
+pub use job::{CheckJob, Job, RunJob, WorldJob, job_of};
 pub use no_job::NoJob;

@@ -7,8 +7,15 @@ pub fn syntax<'a>(alloc: Global) -> Result<Command<'a>, AllocError> {
     Command::new(alloc, "ftmpi")
         .about("Runs one rank program on several ranks that exchange messages")
         .subcommand_required(true)
+        .subcommand(check(alloc)?)?
         .subcommand(run(alloc)?)?
         .subcommand(world(alloc)?)
+}
+
+fn check<'a>(alloc: Global) -> Result<Command<'a>, AllocError> {
+    Command::new(alloc, "check")
+        .about("Prints a program's canonical text, or its first fault")
+        .arg(program(alloc))
 }
 
 fn run<'a>(alloc: Global) -> Result<Command<'a>, AllocError> {

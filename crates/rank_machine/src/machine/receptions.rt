@@ -1,13 +1,12 @@
 //! The receptions of a machine.
 ghost use Rattle.std.specs.Prelude.{◌≡◌, ℕ, Some};
-ghost use Rattle.rank_language.specs.Seen.{buffer_of};
-ghost use Rattle.rank_machine.specs.Acts.{next, takes, carried, room};
+ghost use Rattle.rank_machine.specs.Acts.{next, takes, carried};
 ghost use Rattle.rank_machine.specs.Machine.{state_of, asks, received_at, IsReceiving, KeepsRank};
 
 use crate::fault::MachineFault;
 use crate::machine::Machine;
 use matching::Packet;
-use rank_language::{Buffer, Statement};
+use rank_language::Statement;
 
 impl Machine<'_> {
     /// The receive that it wants takes the packet.
@@ -27,20 +26,11 @@ impl Machine<'_> {
         let Statement::Receive { buffer, .. } = statement else {
             unreachable!()
         };
-        if packet.payload.len() > room(buffer) {
+        if packet.payload.len() > self.store.room(buffer) {
             self.fault = Some(MachineFault::TooLong);
             return;
         }
         self.store.take(buffer, &packet);
         self.position += 1;
-    }
-}
-
-// How many items the buffer holds.
-fn room(buffer: &Buffer) -> usize
-    ensures { result ≡ room (buffer_of buffer.now) }
-{
-    match buffer {
-        Buffer::Variable(_) => 1,
     }
 }

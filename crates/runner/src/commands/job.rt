@@ -1,19 +1,17 @@
 //! What the program does once its words are read.
+use crate::commands::check::check_text;
 use crate::commands::reading::{program_in, script_in};
 use crate::commands::refusal::Refusal;
 use crate::commands::said::Said;
 use crate::commands::world::world_text;
 use crate::files::Files;
-use crate::hold::Hold;
 use crate::output::{all_halted, print_report};
-use crate::report::Report;
-use crate::running::{RunLimits, run};
-use crate::script::Script;
 use metered::Heap;
 use runner_words::{Job, RunJob};
 use std::alloc::AllocError;
 use std::sync::Wait;
 use std::thread::Threads;
+use turns::{Hold, Report, RunLimits, Script, run};
 
 // Waits for no act.
 #[derive(Drop)]
@@ -31,12 +29,16 @@ pub fn work<R: Threads + Wait + Sync + Copy + Send, F: Files>(
     files: &mut F,
 ) -> Result<Said, AllocError> {
     match job {
+        Job::Check(job) => match check_text(alloc, job, files) {
+            Ok(text) => Ok(Said::answer(alloc, 0, text)),
+            Err(refusal) => refusal.said(alloc),
+        },
         Job::Run(job) => match report_of(rt, alloc, job, files) {
             Ok(report) => answer(alloc, &report),
             Err(refusal) => refusal.said(alloc),
         },
         Job::World(job) => match world_text(alloc, job, files) {
-            Ok(text) => Ok(Said::answer(alloc, 0, text)),
+            Ok(text) => Ok(Said::answer(alloc, 0, text.into_bytes())),
             Err(refusal) => refusal.said(alloc),
         },
     }
@@ -65,5 +67,5 @@ fn report_of<'a, R: Threads + Wait + Sync + Copy + Send, F: Files>(
 fn answer(alloc: Heap, report: &Report) -> Result<Said, AllocError> {
     let text = print_report(alloc, report)?;
     let status = if all_halted(&report.outcome) { 0 } else { 1 };
-    Ok(Said::answer(alloc, status, text))
+    Ok(Said::answer(alloc, status, text.into_bytes()))
 }

@@ -1,10 +1,10 @@
 //! Files that the program's words name, read and parsed.
 use crate::commands::refusal::Refusal;
 use crate::files::Files;
-use crate::script::Script;
 use events_text::parse_events;
 use metered::Heap;
 use rank_language::Program;
+use turns::Script;
 use world_model::WorldEvent;
 
 /// The program of the file with this name.

@@ -1,12 +1,11 @@
 //! Why the program goes no further.
 use crate::commands::said::Said;
 use crate::files::FileFault;
-use crate::running::RunFault;
-use crate::script::{ScriptFault, ScriptParseFault};
 use events_text::{EventsFault, EventsFaultKind};
 use metered::Heap;
 use rank_language::{ParseFault, ProgramFault};
 use std::alloc::AllocError;
+use turns::{RunFault, ScriptFault, ScriptParseFault};
 
 /// What stands in the way of an answer.
 #[derive(Clone, Copy, Debug, PartialEq, Eq)]

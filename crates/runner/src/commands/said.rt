@@ -7,14 +7,14 @@ use metered::Heap;
 #[derive(Drop)]
 pub struct Said {
     pub status: u8,
-    pub out: String<Heap>,
+    pub out: Vec<u8, Heap>,
     pub err: String<Heap>,
     ghost known: { status ≤ 3 },
 }
 
 impl Said {
     /// A text for standard output.
-    pub fn answer(alloc: Heap, status: u8, out: String<Heap>) -> Said
+    pub fn answer(alloc: Heap, status: u8, out: Vec<u8, Heap>) -> Said
         requires { status ≤ 3 }
     {
         Said {
@@ -30,7 +30,7 @@ impl Said {
     {
         Said {
             status,
-            out: String::new(alloc),
+            out: Vec::new(alloc),
             err,
         }
     }

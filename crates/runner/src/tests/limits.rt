@@ -1,7 +1,9 @@
 //! Runs that a limit ends, and who is told of an act.
-use crate::tests::expect_run;
+use crate::tests::{answer_of, expect_run};
 use crate::{Hold, RunLimits, Script, run};
 use rank_language::Program;
+use std::alloc::{AllocError, Global};
+use std::fmt::Write;
 use std::sync::atomic::{AtomicU64, Ordering};
 use std::test::Fail;
 
@@ -42,6 +44,35 @@ fn limits(rt: HostRuntime) -> Result<(), Fail> {
         };
         expect_run(&rt, options, text, status, out)?;
     }
+    Ok(())
+}
+
+// The events of so many messages of a rank to itself, and a step and a try of the one after.
+fn events_of_rounds(alloc: Global, rounds: u32) -> Result<String, AllocError> {
+    let mut events = String::from_str(alloc, "step 0\n")?;
+    for round in 0..rounds {
+        events.push_str("step 0\nstep 0\nput 0 0\n")?;
+        write!(events, "arrive 0 0 {round}\nstep 0\n")?;
+        events.push_str("store 0\nack 0\nstep 0\n")?;
+    }
+    Ok(events)
+}
+
+// After 4096 receptions the next one is refused, and again.
+#[test]
+fn event_4097_in_a_world(rt: HostRuntime) -> Result<(), Fail> {
+    let text = "var x\nwhile 1\nsend 0, 0, 1\nrecv 0, 0, x\nend\n";
+    let mut events = events_of_rounds(rt.alloc(), 4096)?;
+    events.push_str("step 0\nstep 0\nput 0 0\narrive 0 0 4096\nstep 0\nstep 0\n")?;
+    let files = [("p", text), ("e", events.as_str())];
+    let answer = answer_of(&rt, "world --ranks 1 p e", &files)?;
+    assert!(rt; answer.out().contains("stored 4096\nacked\nmoved\n"));
+    assert!(rt;
+        answer
+            .out()
+            .ends_with("put 4096 data 4097\naccepted\nrefused\nrefused\n")
+    );
+    assert_eq!(rt; answer.status, 0);
     Ok(())
 }
 

@@ -3,16 +3,12 @@ use Rattle.rank_lines.specs.SeenLines.{arrays_seen, forms_seen}
 use Rattle.rank_language.specs.Seen.{line_of}
 use Rattle.rank_language.specs.Program.{program_value}
 use Rattle.rank_language.specs.Ends.{lines_from}
-use Rattle.rank_language.proofs.Built.{IsBuilt, built, scope_with, tables_arrayless, tables_resolvable}
+use Rattle.rank_language.proofs.Built.{IsBuilt, built, scope_with, tables_resolvable}
 use Rattle.rank_language.proofs.program.Program.build.Goals as goal
 
-pub statements_of-requires-clause-arrayless : goal.statements_of-requires-clause-arrayless
-statements_of-requires-clause-arrayless c =
-    rw c.deref-2.ensures.value (tables_arrayless (forms_seen c.args.draft.forms.items) c.args.draft.arrays.items c.requires.tables.arrays)
-
-pub statements_of-requires-clause-resolvable : goal.statements_of-requires-clause-resolvable
-statements_of-requires-clause-resolvable c =
-    rw (c.deref.ensures.value, c.deref-2.ensures.value, c.deref-3.ensures.value) (tables_resolvable _ c.args.draft.variables.items c.args.draft.arrays.items c.requires.whole c.requires.tables.variables c.requires.tables.arrays)
+pub statements_of-requires : goal.statements_of-requires
+statements_of-requires c =
+    record { resolvable = rw (c.deref.ensures.value, c.deref-2.ensures.value, c.deref-3.ensures.value) (tables_resolvable _ c.args.draft.variables.items c.args.draft.arrays.items c.requires.whole c.requires.tables.variables c.requires.tables.arrays) }
 
 -- the statements were found by the tables of the text
 found : (c : goal.In_ok-statements) → lines_from (scope_with c.args.draft.variables.items (arrays_seen c.args.draft.arrays.items) []) 0 (forms_seen c.args.draft.forms.items) ≡ Some (map line_of c.in_ok-statements.statements.items)

@@ -1,6 +1,6 @@
 use Rattle.std.proofs.Common.{◌≡◌, length, arith, ◌∙◌}
 use Rattle.std.proofs.lemmas.Grind.{common_steps}
-use Rattle.rank_language.specs.Program.{IsProgram}
+use Rattle.rank_language.specs.Correct.{IsProgram}
 use Rattle.rank_language.proofs.Statements.{statement_count}
 use Rattle.rank_language.proofs.program.Program.len.Goals as goal
 

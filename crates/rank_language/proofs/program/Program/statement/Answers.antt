@@ -1,5 +1,5 @@
 use Rattle.std.proofs.Common.{◌≡◌, slice_get}
-use Rattle.rank_language.specs.Program.{IsProgram}
+use Rattle.rank_language.specs.Correct.{IsProgram}
 use Rattle.rank_language.specs.Seen.{line_in}
 use Rattle.rank_language.proofs.Statements.{line_found, found_leads, found_reaches, found_placed, found_past}
 use Rattle.rank_language.proofs.program.Program.statement.Goals as goal

@@ -1,0 +1,171 @@
+//! Names for the places of a statement.
+ghost use Rattle.std.specs.Prelude.{◌≡◌, ◌<◌, IfOk, length, map};
+ghost use Rattle.rank_text.specs.SeenForms.{choice_of as choice_seen, form_seen, payload_seen};
+ghost use Rattle.rank_text.specs.Tree.{tree_of};
+ghost use Rattle.rank_lines.specs.SeenLines.{forms_seen};
+ghost use Rattle.rank_language.specs.Named.{array_at, buffer_name, choice_named, form_named, named, payload_named, value_named};
+ghost use Rattle.rank_language.specs.Program.{AllPlaced, IsBufferWithin, IsChoiceWithin, IsPayloadWithin, IsPlaced, IsWithin};
+ghost use Rattle.rank_language.specs.Seen.{buffer_of, choice_of, line_of, payload_of, placed_of};
+ghost use Rattle.rank_language.specs.SeenTables.{tables_seen};
+ghost use Rattle.rank_language.specs.Shape.{step_of};
+
+use crate::expression::Expression;
+use crate::resolve::Tables;
+use crate::statement::{Buffer, Choice, Payload, Statement};
+use metered::Heap;
+use rank_lines::Array;
+use rank_text::{Form, Name, Written, form};
+use std::alloc::AllocError;
+
+/// The array at a place.
+#[tactic(auto, using(crate::proofs::Naming::arrays_length, crate::proofs::Naming::array_seen_at))]
+fn array_at(tables: Tables<'_>, place: usize) -> Array
+    requires { place < length (tables_seen tables).arrays }
+    ensures { (result.name, result.length) ≡ array_at (tables_seen tables.entry) place }
+{
+    tables.arrays[place]
+}
+
+/// The expression with names for its places.
+fn name(alloc: Heap, tables: Tables<'_>, expression: &Expression) -> Result<Written, AllocError>
+    requires { IsWithin (length (tables_seen tables).variables) (length (tables_seen tables).arrays) (placed_of expression.now) }
+    ensures { IfOk result (λ e. tree_of e ≡ named (tables_seen tables.entry) (placed_of expression.now)) }
+{
+    match expression {
+        Expression::Number(number) => Ok(Written::Number(number.unsigned_abs())),
+        Expression::Variable(place) => Ok(Written::Variable(tables.variables[*place])),
+        Expression::Item(place, index) => {
+            let index = name(alloc, tables, index)?;
+            Ok(Written::Item(array_at(tables, *place).name, Box::new(alloc, index)?))
+        }
+        Expression::Reading(reading) => Ok(Written::Reading(*reading)),
+        Expression::Negation(operand) => {
+            let operand = name(alloc, tables, operand)?;
+            Ok(Written::Negation(Box::new(alloc, operand)?))
+        }
+        Expression::Operation(operator, left, right) => {
+            let left = Box::new(alloc, name(alloc, tables, left)?)?;
+            let right = Box::new(alloc, name(alloc, tables, right)?)?;
+            Ok(Written::Operation(*operator, left, right))
+        }
+    }
+}
+
+/// The source or the tag with names for its places.
+fn name_choice(alloc: Heap, tables: Tables<'_>, choice: &Choice) -> Result<form::Choice, AllocError>
+    requires { IsChoiceWithin (length (tables_seen tables).variables) (length (tables_seen tables).arrays) (choice_of choice.now) }
+    ensures { IfOk result (λ c. choice_seen c ≡ choice_named (tables_seen tables.entry) (choice_of choice.now)) }
+{
+    match choice {
+        Choice::Any => Ok(form::Choice::Any),
+        Choice::Value(expression) => Ok(form::Choice::Value(name(alloc, tables, expression)?)),
+    }
+}
+
+/// The value that is sent; a variable by itself is a lone name.
+fn name_value(
+    alloc: Heap,
+    tables: Tables<'_>,
+    expression: &Expression,
+) -> Result<form::Payload, AllocError>
+    requires { IsWithin (length (tables_seen tables).variables) (length (tables_seen tables).arrays) (placed_of expression.now) }
+    ensures { IfOk result (λ p. payload_seen p ≡ value_named (tables_seen tables.entry) (placed_of expression.now)) }
+{
+    match expression {
+        Expression::Variable(place) => Ok(form::Payload::Lone(tables.variables[*place])),
+        _ => Ok(form::Payload::One(name(alloc, tables, expression)?)),
+    }
+}
+
+/// The payload with names for its places.
+fn name_payload(
+    alloc: Heap,
+    tables: Tables<'_>,
+    payload: &Payload,
+) -> Result<form::Payload, AllocError>
+    requires { IsPayloadWithin (length (tables_seen tables).variables) (length (tables_seen tables).arrays) (payload_of payload.now) }
+    ensures { IfOk result (λ p. payload_seen p ≡ payload_named (tables_seen tables.entry) (payload_of payload.now)) }
+{
+    match payload {
+        Payload::One(expression) => name_value(alloc, tables, expression),
+        Payload::All(place) => Ok(form::Payload::Lone(array_at(tables, *place).name)),
+    }
+}
+
+/// The name of the buffer.
+fn name_buffer(tables: Tables<'_>, buffer: &Buffer) -> Name
+    requires { IsBufferWithin (length (tables_seen tables).variables) (length (tables_seen tables).arrays) (buffer_of buffer.now) }
+    ensures { result ≡ buffer_name (tables_seen tables.entry) (buffer_of buffer.now) }
+{
+    match buffer {
+        Buffer::Variable(place) => tables.variables[*place],
+        Buffer::Array(place) => array_at(tables, *place).name,
+    }
+}
+
+/// The statement with names for its places.
+pub(crate) fn name_form(
+    alloc: Heap,
+    tables: Tables<'_>,
+    statement: &Statement,
+) -> Result<Form, AllocError>
+    requires { IsPlaced (length (tables_seen tables).variables) (length (tables_seen tables).arrays) (line_of statement.now) }
+    ensures { IfOk result (λ f. form_seen f ≡ form_named (tables_seen tables.entry) (step_of (line_of statement.now))) }
+{
+    match statement {
+        Statement::Declare(place) => Ok(Form::Var(tables.variables[*place])),
+        Statement::DeclareArray(place) => {
+            let array = array_at(tables, *place);
+            Ok(Form::Array(array.name, array.length as u64))
+        }
+        Statement::Assign(place, value) => Ok(Form::Let(
+            tables.variables[*place],
+            name(alloc, tables, value)?,
+        )),
+        Statement::AssignItem(place, index, value) => Ok(Form::LetItem(
+            array_at(tables, *place).name,
+            name(alloc, tables, index)?,
+            name(alloc, tables, value)?,
+        )),
+        Statement::If(test, _) => Ok(Form::If(name(alloc, tables, test)?)),
+        Statement::Else(_) => Ok(Form::Else),
+        Statement::EndIf | Statement::EndWhile(_) => Ok(Form::End),
+        Statement::While(test, _) => Ok(Form::While(name(alloc, tables, test)?)),
+        Statement::Send {
+            destination,
+            tag,
+            payload,
+        } => Ok(Form::Send(
+            name(alloc, tables, destination)?,
+            name(alloc, tables, tag)?,
+            name_payload(alloc, tables, payload)?,
+        )),
+        Statement::Receive {
+            source,
+            tag,
+            buffer,
+        } => Ok(Form::Recv(
+            name_choice(alloc, tables, source)?,
+            name_choice(alloc, tables, tag)?,
+            name_buffer(tables, buffer),
+        )),
+        Statement::Print(value) => Ok(Form::Print(name(alloc, tables, value)?)),
+    }
+}
+
+/// The statements with names for their places.
+pub(crate) fn name_forms(
+    alloc: Heap,
+    tables: Tables<'_>,
+    statements: &[Statement],
+) -> Result<Vec<Form, Heap>, AllocError>
+    requires { AllPlaced (length (tables_seen tables).variables) (length (tables_seen tables).arrays) (map line_of statements.now) }
+    ensures { IfOk result (λ forms. forms_seen forms.items ≡ map (form_named (tables_seen tables.entry)) (map step_of (map line_of statements.now))) }
+{
+    let mut forms = Vec::new(alloc);
+    for statement in statements {
+        let form = name_form(alloc, tables, statement)?;
+        forms.push(form)?;
+    }
+    Ok(forms)
+}

@@ -1,0 +1,9 @@
+pub mod Fitting
+pub mod LineTexts
+pub mod PrintedTokens
+pub mod PrintedLexes
+pub mod Bounds
+pub mod PrintedLines
+pub mod Standing
+pub mod PrintedText
+pub mod Settled

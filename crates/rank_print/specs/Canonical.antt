@@ -1,0 +1,135 @@
+-- The canonical text of statements: what a program prints as (the language's own manual, docs/LANGUAGE.md).
+use Rattle.std.specs.Prelude.{ℕ, zero, suc, ◌+◌, ◌-◌, List, [], ◌∷◌, ◌++◌, codes, Bool, true, false, if◌then◌else◌}
+use Rattle.std.specs.Fmt.{decimal}
+use Rattle.rank_text.specs.declared.token.Operator.{Operator}
+use Rattle.rank_text.specs.declared.token.Operator.TheVariants.{Add, Subtract, Multiply, Divide, Remainder, Equal, NotEqual, Less, LessEqual, Greater, GreaterEqual}
+use Rattle.rank_text.specs.declared.token.Reading.{Reading}
+use Rattle.rank_text.specs.declared.token.Reading.TheVariants as reads
+use Rattle.rank_text.specs.Tree.{Tree, number, variable, item, reading, negation, operation}
+use Rattle.rank_text.specs.Forms.{Choice, any, value, Payload, lone, one, Form, var_form, array_form, let_form, item_form, if_form, else_form, end_form, while_form, send_form, recv_form, print_form}
+
+-- the sign of an operator, with a space on both sides
+abbrev pub operator_text : Operator → List ℕ
+operator_text Add = codes " + "
+operator_text Subtract = codes " - "
+operator_text Multiply = codes " * "
+operator_text Divide = codes " / "
+operator_text Remainder = codes " % "
+operator_text Equal = codes " == "
+operator_text NotEqual = codes " != "
+operator_text Less = codes " < "
+operator_text LessEqual = codes " <= "
+operator_text Greater = codes " > "
+operator_text GreaterEqual = codes " >= "
+
+-- the word for what a rank can only read
+abbrev pub reading_text : Reading → List ℕ
+reading_text reads.Rank = codes "rank"
+reading_text reads.Size = codes "size"
+reading_text reads.Source = codes "source"
+reading_text reads.Tag = codes "gottag"
+reading_text reads.Count = codes "count"
+
+-- the expression is an operation
+abbrev pub is_operation : Tree → Bool
+is_operation (negation e) = true
+is_operation (operation o a b) = true
+is_operation _ = false
+
+-- an operand with this text, in parentheses where it is itself an operation
+abbrev pub operand_text : Tree → List ℕ → List ℕ
+operand_text e text = if is_operation e then codes "(" ++ text ++ codes ")" else text
+
+-- an expression
+abbrev pub expression_text : Tree → List ℕ
+expression_text (number n) = decimal n
+expression_text (variable x) = x
+expression_text (item x e) = x ++ codes "[" ++ expression_text e ++ codes "]"
+expression_text (reading r) = reading_text r
+expression_text (negation e) = codes "-" ++ operand_text e (expression_text e)
+expression_text (operation o a b) = operand_text a (expression_text a) ++ operator_text o ++ operand_text b (expression_text b)
+
+-- a source or a tag
+abbrev pub choice_text : Choice → List ℕ
+choice_text any = codes "any"
+choice_text (value e) = expression_text e
+
+-- what a send gives
+abbrev pub payload_text : Payload → List ℕ
+payload_text (lone x) = x
+payload_text (one e) = expression_text e
+
+-- a statement, with a space after its word and after each comma
+abbrev pub form_text : Form → List ℕ
+form_text (var_form x) = codes "var " ++ x
+form_text (array_form x n) = codes "array " ++ x ++ codes "[" ++ decimal n ++ codes "]"
+form_text (let_form x e) = codes "let " ++ x ++ codes " = " ++ expression_text e
+form_text (item_form x i e) = codes "let " ++ x ++ codes "[" ++ expression_text i ++ codes "] = " ++ expression_text e
+form_text (if_form e) = codes "if " ++ expression_text e
+form_text else_form = codes "else"
+form_text end_form = codes "end"
+form_text (while_form e) = codes "while " ++ expression_text e
+form_text (send_form d g p) = codes "send " ++ expression_text d ++ codes ", " ++ expression_text g ++ codes ", " ++ payload_text p
+form_text (recv_form s g x) = codes "recv " ++ choice_text s ++ codes ", " ++ choice_text g ++ codes ", " ++ x
+form_text (print_form e) = codes "print " ++ expression_text e
+
+-- how far a statement is indented where this many blocks are open: `else` and `end` stand as the line that opened their block
+abbrev pub depth_of : ℕ → Form → ℕ
+depth_of depth else_form = depth - 1
+depth_of depth end_form = depth - 1
+depth_of depth _ = depth
+
+-- how many blocks are open after a statement
+abbrev pub depth_after : ℕ → Form → ℕ
+depth_after depth (if_form e) = depth + 1
+depth_after depth (while_form e) = depth + 1
+depth_after depth end_form = depth - 1
+depth_after depth _ = depth
+
+-- two spaces for each open block
+abbrev pub indentation : ℕ → List ℕ
+indentation zero = []
+indentation (suc depth) = codes "  " ++ indentation depth
+
+-- the line of a statement, without its LF
+abbrev pub line_text : ℕ → Form → List ℕ
+line_text depth f = indentation (depth_of depth f) ++ form_text f
+
+-- the lines of statements where this many blocks are open, each with its LF
+abbrev pub text_from : ℕ → List Form → List ℕ
+text_from depth [] = []
+text_from depth (f ∷ fs) = line_text depth f ++ codes "\n" ++ text_from (depth_after depth f) fs
+
+-- the canonical text of statements
+abbrev pub program_text : List Form → List ℕ
+program_text fs = text_from 0 fs
+
+-- a payload that is a variable by itself is a lone name
+abbrev pub IsCanonicalPayload : Payload → Type 0
+IsCanonicalPayload (one (variable x)) = ⊥
+IsCanonicalPayload _ = Unit {0}
+
+-- the statement is one that its text gives back
+abbrev pub IsCanonical : Form → Type 0
+IsCanonical (send_form d g p) = IsCanonicalPayload p
+IsCanonical _ = Unit {0}
+
+-- so is each of the statements
+abbrev pub AllCanonical : List Form → Type 0
+AllCanonical [] = Unit {0}
+AllCanonical (f ∷ fs) = IsCanonical f × AllCanonical fs
+
+-- the lone name that stands for a variable by itself
+abbrev pub canonical_payload : Payload → Payload
+canonical_payload (one (variable x)) = lone x
+canonical_payload p = p
+
+-- the statement that its text gives back
+abbrev pub canonical : Form → Form
+canonical (send_form d g p) = send_form d g (canonical_payload p)
+canonical f = f
+
+-- so of each of the statements
+abbrev pub all_canonical : List Form → List Form
+all_canonical [] = []
+all_canonical (f ∷ fs) = canonical f ∷ all_canonical fs

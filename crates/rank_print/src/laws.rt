@@ -1,0 +1,21 @@
+//! What the canonical text is by its definition, with nothing to compute.
+
+ghost use Rattle.std.specs.Prelude.{◌≡◌, List};
+ghost use Rattle.rank_text.specs.Forms.{Form};
+ghost use Rattle.rank_lines.specs.Faults.{IsText};
+ghost use Rattle.rank_lines.specs.Scope.{IsWhole};
+ghost use Rattle.rank_print.specs.Canonical.{AllCanonical, all_canonical, program_text};
+
+/// The canonical text of statements that are a whole program's is a text of just these statements.
+pub fn reads_back()
+    ensures { (fs : List Form) → IsWhole fs → AllCanonical fs → IsText (program_text fs) fs }
+{}
+
+/// What is printed of a whole program's statements is a text even where they aren't canonical: one
+/// of the canonical statements in their place, which have the same text.
+pub fn settles()
+    ensures text { (fs : List Form) → IsWhole fs → IsText (program_text fs) (all_canonical fs) }
+    ensures same { (fs : List Form) → program_text (all_canonical fs) ≡ program_text fs }
+    ensures whole { (fs : List Form) → IsWhole fs → IsWhole (all_canonical fs) }
+    ensures canonical { (fs : List Form) → AllCanonical (all_canonical fs) }
+{}

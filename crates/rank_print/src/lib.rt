@@ -1,0 +1,18 @@
+//! The canonical text of a rank program.
+//!
+//! [`print`] writes statements as text: one on each line, indented by the blocks that are
+//! open, with a space where the canonical text has one and with no parentheses but those
+//! round an operand that is itself an operation. What it writes of a whole program is a
+//! text of the same statements ([`reads_back`]).
+#![tactic(auto)]
+
+mod expression;
+pub mod laws;
+mod program;
+mod statement;
+
+pub use laws::{reads_back, settles};
+pub use program::print;
+
+#[cfg(test)]
+mod tests;

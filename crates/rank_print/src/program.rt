@@ -1,0 +1,75 @@
+//! Writes the statements of a program, a line each.
+
+ghost use Rattle.std.specs.Prelude.{◌≡◌, ◌+◌, ◌<◌, ◌^◌, ◌++◌, IfOk, OnOk, codes};
+ghost use Rattle.rank_text.specs.SeenForms.{form_seen};
+ghost use Rattle.rank_lines.specs.SeenLines.{forms_seen};
+ghost use Rattle.rank_print.specs.Canonical.{depth_after, depth_of, indentation, line_text, program_text};
+
+use crate::statement::put_form;
+use metered::Heap;
+use rank_text::Form;
+use std::alloc::AllocError;
+
+/// How far a statement is indented, where this many blocks are open.
+fn depth_of(depth: usize, form: &Form) -> usize
+    ensures { result ≡ depth_of depth (form_seen form.now) }
+{
+    match form {
+        Form::Else => depth.saturating_sub(1),
+        Form::End => depth.saturating_sub(1),
+        _ => depth,
+    }
+}
+
+/// How many blocks are open after a statement.
+fn depth_after(depth: usize, form: &Form) -> usize
+    requires { depth + 1 < 2 ^ 64 }
+    ensures { result ≡ depth_after depth (form_seen form.now) }
+{
+    match form {
+        Form::If(_) => depth + 1,
+        Form::While(_) => depth + 1,
+        Form::End => depth.saturating_sub(1),
+        _ => depth,
+    }
+}
+
+fn indent(text: &mut Vec<u8, Heap>, depth: usize) -> Result<(), AllocError>
+    ensures { OnOk result (text.new.items ≡ text.old.items ++ indentation depth) }
+{
+    for _i in 0..depth {
+        text.extend_from_slice(b"  ".as_slice())?;
+    }
+    Ok(())
+}
+
+fn put_line(
+    alloc: Heap,
+    text: &mut Vec<u8, Heap>,
+    depth: usize,
+    form: &Form,
+) -> Result<(), AllocError>
+    ensures { OnOk result (text.new.items ≡ text.old.items ++ (line_text depth (form_seen form.now) ++ codes "\n")) }
+{
+    indent(text, depth_of(depth, form))?;
+    put_form(alloc, text, form)?;
+    text.push(b'\n')?;
+    Ok(())
+}
+
+/// The canonical text of statements.
+///
+/// An expression is written with as much stack as it nests. Statements that
+/// `rank_lines::read` has read nest at most 64 deep; `rank_text::forms::form` alone puts no
+/// bound to it but the line's length. The only error is want of memory.
+pub fn print(alloc: Heap, forms: &[Form]) -> Result<Vec<u8, Heap>, AllocError>
+    ensures text { IfOk result (λ text. text.items ≡ program_text (forms_seen forms.now)) }
+{
+    let mut text = Vec::new(alloc);
+    let mut depth = 0;
+    for form in forms {
+        put_line(alloc, &mut text, depth, form)?;
+        depth = depth_after(depth, form);
+    }
+    Ok(text)
+}

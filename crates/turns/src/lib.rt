@@ -1,0 +1,20 @@
+//! Runs of a rank program whose ranks take turns: lanes between ranks, a rank's turn, and
+//! the report of a whole run.
+#![tactic(auto)]
+
+mod crew;
+mod hold;
+mod lane;
+mod lanes;
+mod outgoing;
+mod rank;
+mod report;
+mod running;
+mod script;
+mod turn;
+
+pub use hold::Hold;
+pub use rank_machine::MachineFault;
+pub use report::{End, Line, Outcome, Report};
+pub use running::{RunFault, RunLimits, run};
+pub use script::{Script, ScriptFault, ScriptFaultKind, ScriptParseFault};
