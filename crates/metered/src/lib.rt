@@ -1,8 +1,10 @@
-//! The memory that every other crate takes.
+//! What every other crate takes: the memory, and the limits of the project.
 //!
 //! Each type and each signature that allocates names `Heap`, so that what
 //! stands behind it can be changed in this one place.
 #![tactic(auto)]
+
+pub mod limits;
 
 use std::alloc::Global;
 
