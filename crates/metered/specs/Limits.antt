@@ -45,7 +45,7 @@ most_items = 256
 abbrev pub most_collective_items : ℕ
 most_collective_items = 259
 
--- the tag (MPI 1.1, section 7.1.2, asks for at least this one)
+-- the tag (MPI 1.1, section 3.2.3, asks for at least this one)
 abbrev pub greatest_tag : ℕ
 greatest_tag = 32767
 
