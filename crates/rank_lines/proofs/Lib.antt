@@ -2,7 +2,7 @@ pub mod LineLaws
 pub mod TextLaws
 pub mod WholeLaws
 pub mod CutLaws
-pub mod SizeLaws
 pub mod ScopeLaws
 pub mod ReadLaws
 pub mod NameLaws
+pub mod WaitingLaws

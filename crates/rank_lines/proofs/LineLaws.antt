@@ -5,6 +5,7 @@ use Rattle.std.specs.Prelude.{◌≡◌, ℕ, ◌<◌, ◌≤◌, List, [], ◌�
 use Rattle.std.proofs.Common.{◌⊎◌, inl, inr, refl, sym, ap, subst, ◌∙◌, arith}
 use Rattle.std.proofs.lemmas.Bool.{ltb-true}
 use Rattle.std.proofs.lemmas.Bool.Decides.{nat_tests}
+use Rattle.metered.specs.Limits.{most_lines, most_line_bytes}
 use Rattle.rank_lines.specs.declared.fault.FaultKind.{FaultKind}
 use Rattle.rank_lines.specs.declared.fault.FaultKind.TheVariants.{NotText, NotAStatement, BadForm, Undeclared, DeclaredTwice, BlockOpen, BlockStray, Limit, NumberRange}
 use Rattle.rank_text.specs.declared.token.Token.{Token}
@@ -103,7 +104,7 @@ none_is_picked false false false false true q j r = cc
 
 -- the tests of a statement
 abbrev picked : Scope → ℕ → List Token → Form → FaultKind → Bool
-picked s n ts f j = pick (not (declared_in s f)) (is_twice s f) (is_stray s f) (nat_lt 1000 n || is_over s ts f) (has_great_number f) j
+picked s n ts f j = pick (not (declared_in s f)) (is_twice s f) (is_stray s f) (nat_lt most_lines n || is_over s ts f) (has_great_number f) j
 
 -- a test that gives true decides an `or`
 or_left : (a b : Bool) → a ≡ true → (a || b) ≡ true
@@ -125,10 +126,10 @@ holds_picked {s = s} d w _ (unknown_name b q) = ap not (ap (declared_in s) (form
 holds_picked {s = s} d w _ (known_name b q) = ap (is_twice s) (form_one d b).1 ∙ q
 holds_picked {s = s} d w _ (no_block b q) = ap (is_stray s) (form_one d b).1 ∙ q
 holds_picked d w _ (long_line h) = let r = d.looked.short in absurd (omega arith)
-holds_picked {s = s} {n = n} {ts = ts} {f = f} d w _ (late_line h) = or_left (nat_lt 1000 n) (is_over s ts f) (grind (arith, nat_tests))
+holds_picked {s = s} {n = n} {ts = ts} {f = f} d w _ (late_line h) = or_left (nat_lt most_lines n) (is_over s ts f) (grind (arith, nat_tests))
 holds_picked {s = s} {n = n} {ts = ts} {f = f} d w _ (over {ts = us} b q) =
     let e = form_one d b in
-    or_right (nat_lt 1000 n) (is_over s ts f) (ap (λ z. is_over s z f) e.0 ∙ ap (λ z. is_over s us z) e.1 ∙ q)
+    or_right (nat_lt most_lines n) (is_over s ts f) (ap (λ z. is_over s z f) e.0 ∙ ap (λ z. is_over s us z) e.1 ∙ q)
 holds_picked d w _ (great_number b q) = ap has_great_number (form_one d b).1 ∙ q
 
 -- an `or` is true by one of its tests
@@ -138,8 +139,8 @@ or_cases false b q = inr q
 
 -- a late line and one over a limit both have fault 8
 limit_holds : {s : Scope} {n : ℕ} {line : List ℕ} {ts : List Token} {f : Form}
-    → IsFormed line ts f → (nat_lt 1000 n ≡ true) ⊎ (is_over s ts f ≡ true) → Holds s n line Limit
-limit_holds {n = n} d (inl q) = late_line (ltb-true 1000 n q)
+    → IsFormed line ts f → (nat_lt most_lines n ≡ true) ⊎ (is_over s ts f ≡ true) → Holds s n line Limit
+limit_holds {n = n} d (inl q) = late_line (ltb-true most_lines n q)
 limit_holds d (inr q) = over d q
 
 -- and where its test gives true the fault holds
@@ -148,7 +149,7 @@ picked_holds : {s : Scope} {n : ℕ} {line : List ℕ} {ts : List Token} {f : Fo
 picked_holds d Undeclared q = unknown_name d (grind arith)
 picked_holds d DeclaredTwice q = known_name d q
 picked_holds d BlockStray q = no_block d q
-picked_holds {s = s} {n = n} {ts = ts} {f = f} d Limit q = limit_holds d (or_cases (nat_lt 1000 n) (is_over s ts f) q)
+picked_holds {s = s} {n = n} {ts = ts} {f = f} d Limit q = limit_holds d (or_cases (nat_lt most_lines n) (is_over s ts f) q)
 picked_holds d NumberRange q = great_number d q
 picked_holds d _ q = absurd cc
 
@@ -205,7 +206,7 @@ only_8 p h _ (over b q) = absurd (h b.looked)
 only_8 p h _ (great_number b q) = absurd (h b.looked)
 
 -- and fault 8 of a line that is skipped and short is that it is late
-only_late : {s : Scope} {n : ℕ} {line : List ℕ} → length line ≤ 8192 → (IsLooked line → ⊥) → Holds s n line Limit → 1000 < n
+only_late : {s : Scope} {n : ℕ} {line : List ℕ} → length line ≤ most_line_bytes → (IsLooked line → ⊥) → Holds s n line Limit → most_lines < n
 only_late p h (long_line k) = absurd (omega arith)
 only_late p h (late_line k) = k
 only_late p h (over b q) = absurd (h b.looked)
@@ -220,7 +221,7 @@ at_fault : (s : Scope) (n : ℕ) (line : List ℕ) (ts : List Token) (f : Form) 
     → (o : Option FaultKind) → form_fault s n ts f ≡ o → Answers s n line (unless_fault o (Some f))
 at_fault s n line ts f d w None q = stated d (λ j h. none_is_picked _ _ _ _ _ q j (holds_picked d w j h))
 at_fault s n line ts f d w (Some k) q =
-    let limit = nat_lt 1000 n || is_over s ts f in
+    let limit = nat_lt most_lines n || is_over s ts f in
     let l = first_is_least (not (declared_in s f)) (is_twice s f) (is_stray s f) limit (has_great_number f) k q in
     record { holds = picked_holds d k l.0; lowest = λ j h. l.1 j (holds_picked d w j h) }
 
@@ -253,10 +254,10 @@ at_word s n line l false q = record { holds = no_word l q; lowest = not_1 l.text
 at_word s n line l true q = at_tokens s n line l q (tokens_of line) refl
 
 -- a skipped line has fault 8 where it is late, and else none
-at_number : (s : Scope) (n : ℕ) (line : List ℕ) → is_text line ≡ true → length line ≤ 8192 → is_skipped line ≡ true
-    → (b : Bool) → nat_lt 1000 n ≡ b → Answers s n line (if b then Err Limit else Ok None)
+at_number : (s : Scope) (n : ℕ) (line : List ℕ) → is_text line ≡ true → length line ≤ most_line_bytes → is_skipped line ≡ true
+    → (b : Bool) → nat_lt most_lines n ≡ b → Answers s n line (if b then Err Limit else Ok None)
 at_number s n line p h r true q = record {
-  holds = late_line (ltb-true 1000 n q);
+  holds = late_line (ltb-true most_lines n q);
   lowest = λ j k. (
       let e = only_8 p (λ l. let u = l.not_skipped in cc) j k in
       subst (λ z. 8 ≤ number_of z) (sym e) (omega arith));
@@ -266,32 +267,32 @@ at_number s n line p h r false q =
     skipped r (λ j k. (
     let e = only_8 p unlooked j k in
     let m = only_late {s = s} h unlooked (subst (λ z. Holds s n line z) e k) in
-    let c = ltb-false 1000 n q in
+    let c = ltb-false most_lines n q in
     omega arith))
 
 -- a line is skipped, or looked at
-at_skipped : (s : Scope) (n : ℕ) (line : List ℕ) → is_text line ≡ true → length line ≤ 8192
+at_skipped : (s : Scope) (n : ℕ) (line : List ℕ) → is_text line ≡ true → length line ≤ most_line_bytes
     → (b : Bool) → is_skipped line ≡ b → Answers s n line (if b then skipped_of n else looked s n line)
-at_skipped s n line p h true q = at_number s n line p h q (nat_lt 1000 n) refl
+at_skipped s n line p h true q = at_number s n line p h q (nat_lt most_lines n) refl
 at_skipped s n line p h false q = at_word s n line (record { text = p; short = h; not_skipped = q }) (is_statement line) refl
 
 -- a line that is too long has fault 8
-at_length : (s : Scope) (n : ℕ) (line : List ℕ) → is_text line ≡ true → (b : Bool) → nat_lt 8192 (length line) ≡ b
+at_length : (s : Scope) (n : ℕ) (line : List ℕ) → is_text line ≡ true → (b : Bool) → nat_lt most_line_bytes (length line) ≡ b
     → Answers s n line (if b then Err Limit else (if is_skipped line then skipped_of n else looked s n line))
 at_length s n line p true q =
-    let long = ltb-true 8192 (length line) q in record {
+    let long = ltb-true most_line_bytes (length line) q in record {
       holds = long_line long;
       lowest = λ j k. (
           let e = only_8 p (λ l. let u = l.short in omega arith) j k in
           subst (λ z. 8 ≤ number_of z) (sym e) (omega arith));
     }
-at_length s n line p false q = at_skipped s n line p (ltb-false 8192 (length line) q) (is_skipped line) refl
+at_length s n line p false q = at_skipped s n line p (ltb-false most_line_bytes (length line) q) (is_skipped line) refl
 
 -- a line with a byte outside has fault 1
 at_text : (s : Scope) (n : ℕ) (line : List ℕ) → (b : Bool) → is_text line ≡ b
     → Answers s n line (if not b then Err NotText else measured s n line)
 at_text s n line false q = record { holds = other_byte q; lowest = λ j k. at_least_1 j }
-at_text s n line true q = at_length s n line q (nat_lt 8192 (length line)) refl
+at_text s n line true q = at_length s n line q (nat_lt most_line_bytes (length line)) refl
 
 -- a line is answered as the relations have it
 pub line_answers : (s : Scope) (n : ℕ) (line : List ℕ) → Answers s n line (line_of s n line)

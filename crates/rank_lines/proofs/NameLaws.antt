@@ -5,6 +5,8 @@ use Rattle.std.specs.Str.{bytes_eq}
 use Rattle.std.proofs.Common.{refl, sym, subst, arith, length-take}
 use Rattle.std.proofs.lemmas.List.{take_all}
 use Rattle.std.proofs.lemmas.Bool.Decides.{nat_tests}
+use Rattle.metered.specs.Limits.{most_name_bytes}
+use Rattle.rank_text.specs.Name.{kept_bytes}
 use Rattle.rank_text.specs.declared.token.Token.{Token}
 use Rattle.rank_text.specs.declared.token.Token.TheVariants as t
 use Rattle.rank_text.specs.Tokens.{found_in, reserved, control_words, message_words, reading_words, argument_words}
@@ -41,9 +43,9 @@ reserved_none : AllNoName reserved
 unfolding control_words message_words reading_words argument_words
 reserved_none = (tt, (tt, (tt, (tt, (tt, (tt, (tt, (tt, (tt, (tt, (tt, (tt, (tt, (tt, (tt, (tt, (tt, (tt, (tt, (tt, (tt, (tt, (tt, (tt, tt))))))))))))))))))))))))
 
--- a token that is a name of at most 16 bytes is a name's
+-- a token that is a name of at most as many bytes as a name may have is a name's
 abbrev pub IsNamedToken : Token → Type 0
-IsNamedToken (t.Name x) = length x ≤ 16 → IsName x
+IsNamedToken (t.Name x) = length x ≤ most_name_bytes → IsName x
 IsNamedToken _ = Unit {0}
 
 -- each token is
@@ -55,12 +57,12 @@ other_token : (token : Token) → NoName token → IsNamedToken token
 other_token (t.Name x) h = absurd h
 other_token _ h = tt
 
--- of at most 16 bytes none is cut off
-uncut : (w : List ℕ) → length (take 17 w) ≤ 16 → take 17 w ≡ w
-uncut w h = take_all 17 w (omega (arith, length-take 17 w))
+-- of at most as many bytes as a name may have none is cut off
+uncut : (w : List ℕ) → length (take kept_bytes w) ≤ most_name_bytes → take kept_bytes w ≡ w
+uncut w h = take_all kept_bytes w (omega (arith, length-take kept_bytes w))
 
 -- the token of a word, where the table has this for it
-word_named_by : (w : List ℕ) (o : Option Token) → IsWord w → found_in reserved w ≡ o → FoundNoName o → IsNamedToken (elim o [ None ↦ t.Name (take 17 w) | Some token ↦ token ])
+word_named_by : (w : List ℕ) (o : Option Token) → IsWord w → found_in reserved w ≡ o → FoundNoName o → IsNamedToken (elim o [ None ↦ t.Name (take kept_bytes w) | Some token ↦ token ])
 word_named_by w None h q k = λ l. subst IsName (sym (uncut w l)) (h, q)
 word_named_by w (Some token) h q k = other_token token k
 
@@ -97,11 +99,11 @@ tokens_named (is_number ds line h s d) = (tt, tokens_named d)
 tokens_named (is_symbol w line y s d) = (symbol_named y, tokens_named d)
 
 -- a table that has room for a variable has it for a short name
-short_variable : (s : Scope) (x : List ℕ) → is_past_table s (var_form x) ≡ false → length x ≤ 16
+short_variable : (s : Scope) (x : List ℕ) → is_past_table s (var_form x) ≡ false → length x ≤ most_name_bytes
 short_variable s x q = grind (arith, nat_tests)
 
 -- and one for an array
-short_array : (s : Scope) (x : List ℕ) (n : ℕ) → is_past_table s (array_form x n) ≡ false → length x ≤ 16
+short_array : (s : Scope) (x : List ℕ) (n : ℕ) → is_past_table s (array_form x n) ≡ false → length x ≤ most_name_bytes
 short_array s x n q = grind (arith, nat_tests)
 
 -- what a statement of such tokens declares has a name

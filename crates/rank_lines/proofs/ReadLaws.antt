@@ -2,6 +2,7 @@
 -- gives, stays the same with each line, until a line at fault or the end decides.
 use Rattle.std.specs.Prelude.{◌≡◌, ℕ, ◌+◌, ◌≤◌, List, [], ◌∷◌, ◌++◌, Option, Some, None, Result, Ok, Err, IfOk, IfErr}
 use Rattle.std.proofs.Common.{refl, sym, ap, subst, ◌∙◌, append_assoc}
+use Rattle.metered.specs.Limits.{most_lines}
 use Rattle.rank_text.specs.declared.form.Form as source_form
 use Rattle.rank_text.specs.Forms.{Form}
 use Rattle.rank_text.specs.SeenForms.{form_seen}
@@ -77,12 +78,12 @@ step_stops r n line ls k q = stops_by r n ls (line_of r.scope n line) k (sym q)
 
 -- a line judged without fault is among the first thousand
 early_by : (s : Scope) (n : ℕ) (line : List ℕ) (a : Result (Option Form) FaultKind) → Answers s n line a → (r r' : Reading)
-    → step_by r a ≡ Ok r' → n ≤ 1000
+    → step_by r a ≡ Ok r' → n ≤ most_lines
 early_by s n line (Err k) h r r' q = absurd cc
 early_by s n line (Ok o) h r r' q = in_time h
 
 -- a line without fault is among the first thousand
-pub step_in_time : (r r' : Reading) (n : ℕ) (line : List ℕ) → Ok r' ≡ step r n line → n ≤ 1000
+pub step_in_time : (r r' : Reading) (n : ℕ) (line : List ℕ) → Ok r' ≡ step r n line → n ≤ most_lines
 step_in_time r r' n line q = early_by r.scope n line (line_of r.scope n line) (line_answers r.scope n line) r r' (sym q)
 
 -- a last statement comes after the others

@@ -2,6 +2,7 @@
 -- A line without fault shows each fact that its statement needs, since the fault of the opposite would hold.
 use Rattle.std.specs.Prelude.{◌≡◌, ℕ, ◌+◌, ◌<◌, ◌≤◌, List, Bool, true, false, length, Option, Some}
 use Rattle.std.proofs.Common.{refl, sym, ap, ◌∙◌, arith}
+use Rattle.metered.specs.Limits.{most_lines}
 use Rattle.rank_text.specs.declared.token.Token.{Token}
 use Rattle.rank_text.specs.Forms.{Form}
 use Rattle.rank_lines.specs.Scope.{Scope, declared_in, is_twice, is_stray, is_past_table, has_large, is_over, has_great_number, after_all, MayStand, AllMayStand, IsWhole}
@@ -44,9 +45,9 @@ line_stands : {s : Scope} {n : ℕ} {l : List ℕ} {f : Form} → IsLine s n l (
 line_stands (stated d c) = stands d c
 
 -- a line without fault is among the first thousand
-pub in_time : {s : Scope} {n : ℕ} {l : List ℕ} {o : Option Form} → IsLine s n l o → n ≤ 1000
-in_time (skipped q c) = let h : 1000 < _ → ⊥ = λ k. c _ (late_line k) in omega arith
-in_time (stated d c) = let h : 1000 < _ → ⊥ = λ k. c _ (late_line k) in omega arith
+pub in_time : {s : Scope} {n : ℕ} {l : List ℕ} {o : Option Form} → IsLine s n l o → n ≤ most_lines
+in_time (skipped q c) = let h : most_lines < _ → ⊥ = λ k. c _ (late_line k) in omega arith
+in_time (stated d c) = let h : most_lines < _ → ⊥ = λ k. c _ (late_line k) in omega arith
 
 -- the statements of lines may stand where they do
 lines_stand : {s s' : Scope} {n m : ℕ} {ls : List (List ℕ)} {fs : List Form} → AreLines s n ls fs s' m → AllMayStand s fs
@@ -61,7 +62,7 @@ lines_leave (passed a r) = lines_leave r
 lines_leave (taken a r) = lines_leave r
 
 -- lines have at most as many statements as there are lines up to the thousandth
-lines_few : {s s' : Scope} {n m : ℕ} {ls : List (List ℕ)} {fs : List Form} → AreLines s n ls fs s' m → n ≤ 1001 → n + length fs ≤ 1001
+lines_few : {s s' : Scope} {n m : ℕ} {ls : List (List ℕ)} {fs : List Form} → AreLines s n ls fs s' m → n ≤ most_lines + 1 → n + length fs ≤ most_lines + 1
 lines_few none h = omega arith
 lines_few (passed a r) h = let k = in_time a in let l = lines_few r (omega arith) in omega arith
 lines_few (taken a r) h = let k = in_time a in let l = lines_few r (omega arith) in omega arith

@@ -1,6 +1,7 @@
 -- Which texts are programs, and which first fault each other text has, by cases and apart from how a text is
 -- read (the language's own manual, docs/LANGUAGE.md, "Faults").
 use Rattle.std.specs.Prelude.{◌≡◌, ℕ, ◌+◌, ◌<◌, ◌≤◌, List, [], ◌∷◌, true, false, length, codes, Option, Some, None}
+use Rattle.metered.specs.Limits.{most_lines, most_line_bytes}
 use Rattle.rank_lines.specs.declared.fault.FaultKind.{FaultKind}
 use Rattle.rank_lines.specs.declared.fault.FaultKind.TheVariants.{NotText, NotAStatement, BadForm, Undeclared, DeclaredTwice, BlockOpen, BlockStray, Limit, NumberRange}
 use Rattle.rank_text.specs.declared.token.Token.{Token}
@@ -36,7 +37,7 @@ name_of NumberRange = codes "NumberRange"
 -- A line is looked at for more than its characters, its length and its number.
 pub record IsLooked (line : List ℕ) : Type 0 where
   pub text : is_text line ≡ true
-  pub short : length line ≤ 8192
+  pub short : length line ≤ most_line_bytes
   pub not_skipped : is_skipped line ≡ false
 
 -- A line that is looked at has these tokens, and they have the form of its statement word.
@@ -57,8 +58,8 @@ pub data Holds (s : Scope) (n : ℕ) (line : List ℕ) : FaultKind → Type 0 wh
       → IsFormed line ts f → is_twice s f ≡ true → Holds s n line DeclaredTwice
   no_block : {ts : List Token} {f : Form}
       → IsFormed line ts f → is_stray s f ≡ true → Holds s n line BlockStray
-  long_line : 8192 < length line → Holds s n line Limit
-  late_line : 1000 < n → Holds s n line Limit
+  long_line : most_line_bytes < length line → Holds s n line Limit
+  late_line : most_lines < n → Holds s n line Limit
   over : {ts : List Token} {f : Form}
       → IsFormed line ts f → is_over s ts f ≡ true → Holds s n line Limit
   great_number : {ts : List Token} {f : Form}

@@ -1,5 +1,5 @@
 -- The lines of a text, before their tokens are looked at (the language's own manual, docs/LANGUAGE.md, "Lines").
-use Rattle.std.specs.Prelude.{ℕ, List, [], ◌∷◌, Bool, true, false, ◌&&◌, nat_eq, Option, Some, if◌then◌else◌}
+use Rattle.std.specs.Prelude.{ℕ, List, [], ◌∷◌, Bool, true, false, ◌&&◌, nat_eq, Option, Some, None, if◌then◌else◌}
 use Rattle.rank_text.specs.declared.token.Token.{Token}
 use Rattle.rank_text.specs.declared.token.Token.TheVariants as t
 use Rattle.rank_text.specs.Tokens.{is_word_byte, is_between, found_in, reserved}
@@ -41,7 +41,19 @@ front_word (b ∷ bs) = if is_word_byte b then b ∷ front_word bs else []
 -- the token is a statement word
 abbrev pub is_keyword : Option Token → Bool
 is_keyword (Some (t.Keyword k)) = true
-is_keyword _ = false
+is_keyword None = false
+is_keyword (Some (t.Reduction r)) = false
+is_keyword (Some (t.Name x)) = false
+is_keyword (Some (t.Number n)) = false
+is_keyword (Some (t.Reading r)) = false
+is_keyword (Some (t.Operator o)) = false
+is_keyword (Some t.OpenParenthesis) = false
+is_keyword (Some t.CloseParenthesis) = false
+is_keyword (Some t.OpenBracket) = false
+is_keyword (Some t.CloseBracket) = false
+is_keyword (Some t.Comma) = false
+is_keyword (Some t.Assign) = false
+is_keyword (Some t.Any) = false
 
 -- the first token of the line is a statement word
 abbrev pub is_statement : List ℕ → Bool

@@ -1,5 +1,6 @@
 -- A text read line by line, as a function (`Faults` says the same by cases).
 use Rattle.std.specs.Prelude.{ℕ, ◌+◌, List, [], ◌∷◌, Bool, ◌||◌, not, nat_lt, length, Option, Some, None, Result, Ok, Err, if◌then◌else◌}
+use Rattle.metered.specs.Limits.{most_lines, most_line_bytes}
 use Rattle.rank_lines.specs.declared.fault.FaultKind.{FaultKind}
 use Rattle.rank_lines.specs.declared.fault.FaultKind.TheVariants.{NotText, NotAStatement, BadForm, Undeclared, DeclaredTwice, BlockOpen, BlockStray, Limit, NumberRange}
 use Rattle.rank_text.specs.declared.token.Token.{Token}
@@ -25,7 +26,7 @@ form_fault s n ts f =
     (not (declared_in s f), Undeclared)
     ∷ (is_twice s f, DeclaredTwice)
     ∷ (is_stray s f, BlockStray)
-    ∷ (nat_lt 1000 n || is_over s ts f, Limit)
+    ∷ (nat_lt most_lines n || is_over s ts f, Limit)
     ∷ (has_great_number f, NumberRange)
     ∷ [])
 
@@ -40,12 +41,12 @@ looked s n line = if is_statement line then formed s n (tokens_of line) else Err
 
 -- a skipped line, which counts as a line
 abbrev pub skipped_of : ℕ → Result (Option Form) FaultKind
-skipped_of n = if nat_lt 1000 n then Err Limit else Ok None
+skipped_of n = if nat_lt most_lines n then Err Limit else Ok None
 
 -- a line of characters of text
 abbrev pub measured : Scope → ℕ → List ℕ → Result (Option Form) FaultKind
 measured s n line =
-    if nat_lt 8192 (length line) then Err Limit else (if is_skipped line then skipped_of n else looked s n line)
+    if nat_lt most_line_bytes (length line) then Err Limit else (if is_skipped line then skipped_of n else looked s n line)
 
 -- a line's statement, or none where the line is skipped, or its lowest fault
 abbrev pub line_of : Scope → ℕ → List ℕ → Result (Option Form) FaultKind
@@ -54,7 +55,8 @@ line_of s n line = if not (is_text line) then Err NotText else measured s n line
 -- a line's statement in front of those of the lines behind it
 abbrev pub onto_forms : Option Form → Result (List Form) (ℕ × FaultKind) → Result (List Form) (ℕ × FaultKind)
 onto_forms (Some f) (Ok fs) = Ok (f ∷ fs)
-onto_forms _ r = r
+onto_forms (Some f) (Err e) = Err e
+onto_forms None r = r
 
 -- what a line leaves
 abbrev pub after_line : Scope → Option Form → Scope

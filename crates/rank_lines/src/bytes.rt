@@ -12,7 +12,7 @@ pub(crate) fn is_text(line: &[u8]) -> bool
 {
     let mut rest = line;
     while let [byte, more @ ..] = rest {
-        if *byte < 32 || 126 < *byte {
+        if *byte < b' ' || b'~' < *byte {
             return false;
         }
         rest = more;

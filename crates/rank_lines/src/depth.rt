@@ -18,7 +18,9 @@ pub(crate) fn deepest(tokens: &[Token]) -> usize
                 most = most.max(open);
                 open = open.saturating_sub(1);
             }
-            _ => {}
+            Token::Keyword(_) | Token::Reduction(_) | Token::Name(_) | Token::Number(_) => {}
+            Token::Reading(_) | Token::Operator(_) | Token::OpenBracket | Token::CloseBracket => {}
+            Token::Comma | Token::Assign | Token::Any => {}
         }
         rest = more;
     }

@@ -3,31 +3,21 @@ ghost use Rattle.std.specs.Prelude.{◌≡◌, IfOk, Some};
 ghost use Rattle.rank_text.specs.Forms.{form_of};
 ghost use Rattle.rank_text.specs.SeenForms.{form_seen};
 ghost use Rattle.rank_text.specs.Tokens.{tokens_of};
-ghost use Rattle.rank_lines.specs.Scope.{is_over};
+ghost use Rattle.rank_lines.specs.Scope.{has_large, is_over};
 ghost use Rattle.rank_lines.specs.SeenLines.{judged_seen, scope_seen};
 ghost use Rattle.rank_lines.specs.Verdict.{form_fault, formed, line_of, skipped_of, unless_fault};
 
 use crate::bytes::{is_skipped, is_statement, is_text};
-use crate::declared::declared_in;
 use crate::depth::deepest;
 use crate::fault::FaultKind;
-use crate::number::has_great_number;
 use crate::place::{is_past_table, is_stray, is_twice};
 use crate::scope::Scope;
-use crate::size::has_large;
+use crate::survey::Survey;
 use metered::Heap;
+use metered::limits::{MOST_LINE_BYTES, MOST_LINES, MOST_PARENTHESES};
 use rank_text::forms::form;
 use rank_text::{Form, Token, tokens};
 use std::alloc::AllocError;
-
-/// The lines that a text may have.
-const LINES: usize = 1000;
-
-/// The bytes that a line may have.
-const LINE_BYTES: usize = 8192;
-
-/// The parentheses that may be open at once.
-const PARENTHESES: usize = 64;
 
 /// What a line is.
 #[derive(Drop)]
@@ -38,42 +28,56 @@ pub(crate) enum Judged {
 }
 
 /// Whether a limit is passed.
-fn is_over(scope: &Scope, tokens: &[Token], form: &Form) -> bool
+fn is_over(scope: &Scope, tokens: &[Token], form: &Form, found: Survey) -> bool
+    requires { found.large ≡ has_large (form_seen form.now) }
     ensures { result ≡ is_over (scope_seen scope.now) tokens.now (form_seen form.now) }
 {
-    is_past_table(scope, form) || has_large(form) || deepest(tokens) > PARENTHESES
+    is_past_table(scope, form) || found.large || deepest(tokens) > MOST_PARENTHESES
 }
 
 /// The lowest fault of a line that has its form.
-fn form_fault(scope: &Scope, number: usize, tokens: &[Token], form: &Form) -> Option<FaultKind>
-    ensures { result ≡ form_fault (scope_seen scope.now) number tokens.now (form_seen form.now) }
+fn form_fault(
+    alloc: Heap,
+    scope: &Scope,
+    number: usize,
+    tokens: &[Token],
+    form: &Form,
+) -> Result<Option<FaultKind>, AllocError>
+    ensures { IfOk result (λ fault. fault ≡ form_fault (scope_seen scope.now) number tokens.now (form_seen form.now)) }
 {
-    if !declared_in(scope, form) {
-        return Some(FaultKind::Undeclared);
+    let found = Survey::of(alloc, scope, form)?;
+    if !found.declared {
+        return Ok(Some(FaultKind::Undeclared));
     }
     if is_twice(scope, form) {
-        return Some(FaultKind::DeclaredTwice);
+        return Ok(Some(FaultKind::DeclaredTwice));
     }
     if is_stray(scope, form) {
-        return Some(FaultKind::BlockStray);
+        return Ok(Some(FaultKind::BlockStray));
     }
-    if number > LINES || is_over(scope, tokens, form) {
-        return Some(FaultKind::Limit);
+    if number > MOST_LINES || is_over(scope, tokens, form, found) {
+        return Ok(Some(FaultKind::Limit));
     }
-    if has_great_number(form) {
-        return Some(FaultKind::NumberRange);
+    if found.great {
+        return Ok(Some(FaultKind::NumberRange));
     }
-    None
+    Ok(None)
 }
 
 /// A line that has its form.
-fn stated(scope: &Scope, number: usize, tokens: &[Token], form: Form) -> Judged
-    ensures { judged_seen result ≡ unless_fault
-        (form_fault (scope_seen scope.now) number tokens.now (form_seen form)) (Some (form_seen form)) }
+fn stated(
+    alloc: Heap,
+    scope: &Scope,
+    number: usize,
+    tokens: &[Token],
+    form: Form,
+) -> Result<Judged, AllocError>
+    ensures { IfOk result (λ j. judged_seen j ≡ unless_fault
+        (form_fault (scope_seen scope.now) number tokens.now (form_seen form)) (Some (form_seen form))) }
 {
-    match form_fault(scope, number, tokens, &form) {
-        None => Judged::Statement(form),
-        Some(kind) => Judged::Faulty(kind),
+    match form_fault(alloc, scope, number, tokens, &form)? {
+        None => Ok(Judged::Statement(form)),
+        Some(kind) => Ok(Judged::Faulty(kind)),
     }
 }
 
@@ -88,7 +92,7 @@ fn with_tokens(
 {
     match form(alloc, tokens)? {
         None => Ok(Judged::Faulty(FaultKind::BadForm)),
-        Some(form) => Ok(stated(scope, number, tokens, form)),
+        Some(form) => stated(alloc, scope, number, tokens, form),
     }
 }
 
@@ -106,7 +110,7 @@ fn formed(alloc: Heap, scope: &Scope, number: usize, line: &[u8]) -> Result<Judg
 fn skipped(number: usize) -> Judged
     ensures { judged_seen result ≡ skipped_of number }
 {
-    if number > LINES {
+    if number > MOST_LINES {
         Judged::Faulty(FaultKind::Limit)
     } else {
         Judged::Skipped
@@ -125,7 +129,7 @@ pub(crate) fn judge(
     if !is_text(line) {
         return Ok(Judged::Faulty(FaultKind::NotText));
     }
-    if line.len() > LINE_BYTES {
+    if line.len() > MOST_LINE_BYTES {
         return Ok(Judged::Faulty(FaultKind::Limit));
     }
     if is_skipped(line) {

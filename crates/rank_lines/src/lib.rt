@@ -3,21 +3,17 @@
 
 mod bytes;
 mod cut;
-mod declared;
 mod depth;
 pub mod draft;
+mod expression;
 pub mod fault;
 mod judge;
 pub mod laws;
-mod number;
 mod place;
 pub mod scope;
-mod size;
+mod survey;
 
 pub use draft::{Draft, read};
 pub use fault::{FaultKind, ParseFault, ProgramFault};
 pub use laws::{one_reading, program_or_fault};
 pub use scope::Array;
-
-#[cfg(test)]
-mod tests;

@@ -1,23 +1,13 @@
 //! Whether a statement may stand where it does.
 ghost use Rattle.std.specs.Prelude.{◌≡◌, length, nat_le};
+ghost use Rattle.metered.specs.Limits.{most_arrays, most_blocks};
 ghost use Rattle.rank_text.specs.SeenForms.{form_seen};
 ghost use Rattle.rank_lines.specs.Scope.{is_array_length, is_empty, is_open_if, is_past_table, is_stray, is_twice};
 ghost use Rattle.rank_lines.specs.SeenLines.{scope_seen};
 
 use crate::scope::{Opened, Scope};
+use metered::limits::{MOST_ARRAYS, MOST_BLOCKS, MOST_ITEMS, MOST_VARIABLES};
 use rank_text::Form;
-
-/// The variables that a program may have.
-const VARIABLES: usize = 64;
-
-/// The arrays that a program may have.
-const ARRAYS: usize = 16;
-
-/// The items that an array may have.
-const ITEMS: u64 = 256;
-
-/// The blocks that may be open at once.
-const BLOCKS: usize = 32;
 
 /// Whether the name that the statement declares is already declared.
 pub(crate) fn is_twice(scope: &Scope, form: &Form) -> bool
@@ -25,7 +15,9 @@ pub(crate) fn is_twice(scope: &Scope, form: &Form) -> bool
 {
     match form {
         Form::Var(name) | Form::Array(name, _) => scope.is_declared(name),
-        _ => false,
+        Form::Let(..) | Form::LetItem(..) => false,
+        Form::If(_) | Form::Else | Form::End | Form::While(_) => false,
+        Form::Send(..) | Form::Recv(..) | Form::Print(_) => false,
     }
 }
 
@@ -49,9 +41,9 @@ fn has_no_block(scope: &Scope) -> bool
 
 #[tactic(auto, using(crate::proofs::ScopeLaws::blocks_length))]
 fn has_all_blocks(scope: &Scope) -> bool
-    ensures { result ≡ nat_le 32 (length (scope_seen scope.now).blocks) }
+    ensures { result ≡ nat_le most_blocks (length (scope_seen scope.now).blocks) }
 {
-    scope.blocks.len() >= BLOCKS
+    scope.blocks.len() >= MOST_BLOCKS
 }
 
 /// Whether an `end` or `else` has no block of its own, or a declaration stands in one.
@@ -62,21 +54,22 @@ pub(crate) fn is_stray(scope: &Scope, form: &Form) -> bool
         Form::Var(_) | Form::Array(..) => !has_no_block(scope),
         Form::Else => !is_open_if(scope),
         Form::End => has_no_block(scope),
-        _ => false,
+        Form::Let(..) | Form::LetItem(..) | Form::If(_) | Form::While(_) => false,
+        Form::Send(..) | Form::Recv(..) | Form::Print(_) => false,
     }
 }
 
 #[tactic(auto, using(crate::proofs::ScopeLaws::arrays_length))]
 fn has_all_arrays(scope: &Scope) -> bool
-    ensures { result ≡ nat_le 16 (length (scope_seen scope.now).arrays) }
+    ensures { result ≡ nat_le most_arrays (length (scope_seen scope.now).arrays) }
 {
-    scope.arrays.len() >= ARRAYS
+    scope.arrays.len() >= MOST_ARRAYS
 }
 
 fn is_array_length(length: u64) -> bool
     ensures { result ≡ is_array_length length }
 {
-    1 <= length && length <= ITEMS
+    1 <= length && length <= MOST_ITEMS as u64
 }
 
 /// Whether a table has no room for what the statement declares or opens, or its name or
@@ -85,12 +78,12 @@ pub(crate) fn is_past_table(scope: &Scope, form: &Form) -> bool
     ensures { result ≡ is_past_table (scope_seen scope.now) (form_seen form.now) }
 {
     match form {
-        Form::Var(name) => scope.variables.len() >= VARIABLES || name.is_too_long(),
+        Form::Var(name) => scope.variables.len() >= MOST_VARIABLES || name.is_too_long(),
         Form::Array(name, length) => {
             has_all_arrays(scope) || name.is_too_long() || !is_array_length(*length)
         }
-        Form::If(_) => has_all_blocks(scope),
-        Form::While(_) => has_all_blocks(scope),
-        _ => false,
+        Form::If(_) | Form::While(_) => has_all_blocks(scope),
+        Form::Let(..) | Form::LetItem(..) | Form::Else | Form::End => false,
+        Form::Send(..) | Form::Recv(..) | Form::Print(_) => false,
     }
 }

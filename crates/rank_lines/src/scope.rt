@@ -145,7 +145,8 @@ impl Scope {
                 self.close();
                 Ok(())
             }
-            _ => Ok(()),
+            Form::Let(..) | Form::LetItem(..) => Ok(()),
+            Form::Send(..) | Form::Recv(..) | Form::Print(_) => Ok(()),
         }
     }
 }

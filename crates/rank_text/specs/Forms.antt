@@ -176,7 +176,7 @@ print_of ts = do
   e ← whole_expression ts
   Some (print_form e)
 
--- the form of a statement word with these arguments; a word that isn't named here has no form
+-- the form of a statement word with these arguments; the last five words have none yet
 abbrev pub form_with : Keyword → List Token → Option Form
 form_with k.Var ts = var_of ts
 form_with k.Array ts = array_of ts
@@ -188,7 +188,11 @@ form_with k.While ts = while_of ts
 form_with k.Send ts = send_of ts
 form_with k.Recv ts = recv_of ts
 form_with k.Print ts = print_of ts
-form_with _ ts = None
+form_with k.Probe ts = None
+form_with k.Iprobe ts = None
+form_with k.Barrier ts = None
+form_with k.Bcast ts = None
+form_with k.Reduce ts = None
 
 -- the form of a line's tokens
 abbrev pub form_of : List Token → Option Form

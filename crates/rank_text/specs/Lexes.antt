@@ -1,9 +1,11 @@
 -- The tokens of a line as a grammar: spaces between tokens are free, and the longest token that can
 -- stand somewhere stands there (the language's own manual, docs/LANGUAGE.md).
-use Rattle.std.specs.Prelude.{◌≡◌, ℕ, ◌+◌, ◌-◌, ◌*◌, ◌^◌, min, List, [], ◌∷◌, ◌++◌, Bool, true, false, ◌&&◌, ◌||◌, nat_eq, take, codes, Some, None}
+use Rattle.std.specs.Prelude.{◌≡◌, ℕ, ◌+◌, ◌-◌, ◌*◌, ◌^◌, min, List, [], ◌∷◌, ◌++◌}
+use Rattle.std.specs.Prelude.{Bool, true, false, ◌&&◌, ◌||◌, nat_eq, take, codes, Some, None}
 use Rattle.rank_text.specs.declared.token.Operator.TheVariants.{Add, Subtract, Multiply, Divide, Remainder, Equal, NotEqual, Less, LessEqual, Greater, GreaterEqual}
 use Rattle.rank_text.specs.declared.token.Token.{Token}
 use Rattle.rank_text.specs.declared.token.Token.TheVariants as t
+use Rattle.rank_text.specs.Name.{kept_bytes}
 use Rattle.rank_text.specs.Tokens.{is_letter, is_digit, is_word_byte, found_in, reserved}
 
 -- the byte of a space
@@ -25,9 +27,9 @@ abbrev pub IsWord : List ℕ → Type 0
 IsWord [] = ⊥
 IsWord (b ∷ bs) = (is_letter b ≡ true) × AllAre is_word_byte bs
 
--- a word's token is that of a reserved word, or else a name, of which 17 bytes are kept, one above the limit
+-- a word's token is that of a reserved word, or else a name, of which one byte above the limit is kept
 abbrev pub word_token : List ℕ → Token
-word_token w = elim (found_in reserved w) [ None ↦ t.Name (take 17 w) | Some token ↦ token ]
+word_token w = elim (found_in reserved w) [ None ↦ t.Name (take kept_bytes w) | Some token ↦ token ]
 
 -- a name is a word that isn't reserved
 abbrev pub IsName : List ℕ → Type 0

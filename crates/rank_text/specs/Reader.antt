@@ -3,7 +3,7 @@
 -- `Spells` says the same as a grammar. The reader has a stack of its own, so nesting costs no recursion.
 use Rattle.std.specs.Prelude.{ℕ, zero, suc, List, [], ◌∷◌, Option, Some, None}
 use Rattle.rank_text.specs.declared.token.Operator.{Operator}
-use Rattle.rank_text.specs.declared.token.Operator.TheVariants.{Subtract}
+use Rattle.rank_text.specs.declared.token.Operator.TheVariants.{Add, Subtract, Multiply, Divide, Remainder, Equal, NotEqual, Less, LessEqual, Greater, GreaterEqual}
 use Rattle.rank_text.specs.declared.token.Strength.{Strength}
 use Rattle.rank_text.specs.declared.token.Strength.TheVariants.{Compares, Adds, Multiplies}
 use Rattle.rank_text.specs.declared.token.Token.{Token}
@@ -80,7 +80,16 @@ have_next c a s e token = close token s (all_of c a e)
 -- a sign where an operand is wanted
 abbrev pub sign : Operator → Level → Stack → Option State
 sign Subtract f s = Some (wants (record f { minuses = suc f.minuses }) s)
-sign _ f s = None
+sign Add f s = None
+sign Multiply f s = None
+sign Divide f s = None
+sign Remainder f s = None
+sign Equal f s = None
+sign NotEqual f s = None
+sign Less f s = None
+sign LessEqual f s = None
+sign Greater f s = None
+sign GreaterEqual f s = None
 
 -- the reader after a token, or none where the token can't come there
 abbrev pub next : State → Token → Option State
@@ -89,7 +98,14 @@ next (wants f s) (t.Name x) = Some (named f s x)
 next (wants f s) (t.Reading r) = Some (arrive f s (reading r))
 next (wants f s) t.OpenParenthesis = Some (wants fresh ((parenthesis, f) ∷ s))
 next (wants f s) (t.Operator o) = sign o f s
-next (wants f s) _ = None
+next (wants f s) (t.Keyword k) = None
+next (wants f s) (t.Reduction r) = None
+next (wants f s) t.CloseParenthesis = None
+next (wants f s) t.OpenBracket = None
+next (wants f s) t.CloseBracket = None
+next (wants f s) t.Comma = None
+next (wants f s) t.Assign = None
+next (wants f s) t.Any = None
 next (named f s x) t.OpenBracket = Some (wants fresh ((index_of x, f) ∷ s))
 next (named f s x) token = have_next f.compared f.added s (join f.multiplied (negate f.minuses (variable x))) token
 next (has c a s e) token = have_next c a s e token

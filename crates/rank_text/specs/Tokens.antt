@@ -3,6 +3,7 @@
 -- `Lexes` says the same as a grammar, without what is pending.
 use Rattle.std.specs.Prelude.{ℕ, ◌+◌, ◌-◌, ◌*◌, ◌^◌, min, List, [], ◌∷◌, ◌++◌, Bool, ◌&&◌, ◌||◌, nat_eq, nat_le, take, codes, Option, Some, None, if◌then◌else◌}
 use Rattle.std.specs.Str.{bytes_eq}
+use Rattle.rank_text.specs.Name.{kept_bytes}
 use Rattle.rank_text.specs.declared.token.Operator.TheVariants.{Add, Subtract, Multiply, Divide, Remainder, Equal, NotEqual, Less, LessEqual, Greater, GreaterEqual}
 use Rattle.rank_text.specs.declared.token.Reading.TheVariants as reads
 use Rattle.rank_text.specs.declared.token.Reduction.TheVariants as reduces
@@ -87,7 +88,7 @@ word_or_name w = elim (found_in reserved w) [ None ↦ t.Name w | Some token ↦
 abbrev pub with_digit : ℕ → ℕ → ℕ
 with_digit n b = min (10 * n + (b - 48)) (2 ^ 63)
 
--- what may still grow by the next byte: a word, kept up to 17 bytes, one above the limit, a number,
+-- what may still grow by the next byte: a word, kept up to one byte above the limit, a number,
 -- a sign that `=` may follow, or a token that is whole
 pub data Pending : Type 0 where
   nothing : Pending
@@ -103,12 +104,16 @@ is_sign b = nat_eq b 61 || nat_eq b 60 || nat_eq b 62 || nat_eq b 33
 -- the token of a sign that `=` doesn't follow
 abbrev pub lone_sign : ℕ → Option Token
 lone_sign b =
-    if nat_eq b 61 then Some t.Assign else (if nat_eq b 60 then Some (t.Operator Less) else (if nat_eq b 62 then Some (t.Operator Greater) else None))
+    if nat_eq b 61 then Some t.Assign else (
+    if nat_eq b 60 then Some (t.Operator Less) else (
+    if nat_eq b 62 then Some (t.Operator Greater) else None))
 
 -- the token of a sign and `=`
 abbrev pub with_equal : ℕ → Token
 with_equal b =
-    if nat_eq b 61 then t.Operator Equal else (if nat_eq b 60 then t.Operator LessEqual else (if nat_eq b 62 then t.Operator GreaterEqual else t.Operator NotEqual))
+    if nat_eq b 61 then t.Operator Equal else (
+    if nat_eq b 60 then t.Operator LessEqual else (
+    if nat_eq b 62 then t.Operator GreaterEqual else t.Operator NotEqual))
 
 -- the token of a byte that stands for itself
 abbrev pub single : ℕ → Option Token
@@ -152,10 +157,11 @@ begun b =
 
 -- what a byte makes of what is pending, where it goes on with it
 abbrev pub grown : Pending → ℕ → Option Pending
-grown (word w) b = if is_word_byte b then Some (word (take 17 (w ++ b ∷ []))) else None
+grown (word w) b = if is_word_byte b then Some (word (take kept_bytes (w ++ b ∷ []))) else None
 grown (digits n) b = if is_digit b then Some (digits (with_digit n b)) else None
 grown (sign c) b = if nat_eq b 61 then Some (whole (with_equal c)) else None
-grown _ b = None
+grown nothing b = None
+grown (whole token) b = None
 
 -- some tokens, and more after them
 abbrev pub and_after : Option (List Token) → Option (List Token) → Option (List Token)

@@ -233,7 +233,8 @@ fn read_arguments(
         Keyword::Send => read_send(alloc, arguments),
         Keyword::Recv => read_recv(alloc, arguments),
         Keyword::Print => read_print(alloc, arguments),
-        _ => Ok(None),
+        Keyword::Probe | Keyword::Iprobe | Keyword::Barrier | Keyword::Bcast | Keyword::Reduce =>
+            Ok(None),
     }
 }
 
@@ -261,86 +262,3 @@ pub fn form(alloc: Heap, tokens: &[Token]) -> Result<Option<Form>, AllocError>
 pub fn one_form()
     ensures { (ts : List Token) (f g : forms.Form) → IsForm ts f → IsForm ts g → f ≡ g }
 {}
-
-#[cfg(test)]
-mod tests {
-    use super::*;
-    use crate::lexer;
-    use std::test::Fail;
-
-    #[test]
-    fn lines_with_a_form(rt: HostRuntime) -> Result<(), Fail> {
-        for line in [
-            b"var x".as_slice(),
-            b"array a[3]",
-            b"array a [ 007 ]",
-            b"let x = y",
-            b"let a[0] = 1",
-            b"let a[a[i] + 1] = (2)",
-            b"let x=-(1 + 2) * 3",
-            b"if a[i] == 0",
-            b"while x != 0",
-            b"else",
-            b"end",
-            b"send rank + 1, 3, a",
-            b"send 1, 3, (a)",
-            b"recv any, any, a",
-            b"recv 0, 1 + 2, a",
-            b"print -(1 + 2) * 3",
-        ] {
-            let Some(tokens) = lexer::tokens(rt.alloc(), line)? else {
-                assert!(rt; false, "no tokens");
-                return Ok(());
-            };
-            assert!(rt; form(rt.alloc(), tokens.as_slice())?.is_some());
-        }
-        Ok(())
-    }
-
-    #[test]
-    fn lines_without_a_form(rt: HostRuntime) -> Result<(), Fail> {
-        for line in [
-            b"".as_slice(),
-            b"x",
-            b"var 1",
-            b"let x",
-            b"let x =",
-            b"let = 1",
-            b"let x == 1",
-            b"let x = 1 2",
-            b"let rank = 1",
-            b"let while = 1",
-            b"let a[0 = 1",
-            b"let a[0] 1",
-            b"let a[] = 1",
-            b"let a[0] = 1 2",
-            b"let a[0][1] = 1",
-            b"let (a)[0] = 1",
-            b"array a",
-            b"array a[]",
-            b"array a[-1]",
-            b"array a[1 + 1]",
-            b"array a[1] 2",
-            b"array 1[1]",
-            b"array sum[1]",
-            b"if any",
-            b"while",
-            b"while 1, 2",
-            b"else 1",
-            b"send any, 0, 1",
-            b"send 1, 2",
-            b"recv any + 1, 0, a",
-            b"recv 0, 1, 2",
-            b"print 1 < 2 < 3",
-            b"print 1 2",
-            b"barrier",
-        ] {
-            let Some(tokens) = lexer::tokens(rt.alloc(), line)? else {
-                assert!(rt; false, "no tokens");
-                return Ok(());
-            };
-            assert!(rt; form(rt.alloc(), tokens.as_slice())?.is_none());
-        }
-        Ok(())
-    }
-}

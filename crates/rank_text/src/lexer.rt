@@ -26,13 +26,13 @@ enum Pending {
 fn is_letter(byte: u8) -> bool
     ensures { result ≡ is_letter byte }
 {
-    (65 <= byte && byte <= 90) || (97 <= byte && byte <= 122) || byte == 95
+    (b'A' <= byte && byte <= b'Z') || (b'a' <= byte && byte <= b'z') || byte == b'_'
 }
 
 fn is_digit(byte: u8) -> bool
     ensures { result ≡ is_digit byte }
 {
-    48 <= byte && byte <= 57
+    b'0' <= byte && byte <= b'9'
 }
 
 fn is_word_byte(byte: u8) -> bool
@@ -44,13 +44,13 @@ fn is_word_byte(byte: u8) -> bool
 fn is_sign(byte: u8) -> bool
     ensures { result ≡ is_sign byte }
 {
-    byte == 61 || byte == 60 || byte == 62 || byte == 33
+    byte == b'=' || byte == b'<' || byte == b'>' || byte == b'!'
 }
 
 fn with_digit(number: u64, digit: u8) -> u64
     ensures { result ≡ with_digit number digit }
 {
-    let value = u64::from(digit.saturating_sub(48));
+    let value = u64::from(digit.saturating_sub(b'0'));
     number.saturating_mul(10).saturating_add(value).min(1 << 63)
 }
 
@@ -98,14 +98,14 @@ fn single(byte: u8) -> Option<Token>
 fn begun(byte: u8) -> Option<Pending>
     ensures { pending_in result ≡ begun byte }
 {
-    if byte == 32 {
+    if byte == b' ' {
         return Some(Pending::Nothing);
     }
     if is_letter(byte) {
         return Some(Pending::Word(Name::new(&[byte])));
     }
     if is_digit(byte) {
-        return Some(Pending::Digits(u64::from(byte - 48)));
+        return Some(Pending::Digits(u64::from(byte - b'0')));
     }
     if is_sign(byte) {
         return Some(Pending::Sign(byte));
@@ -122,7 +122,7 @@ fn grown(pending: Pending, byte: u8) -> Option<Pending>
         Pending::Digits(number) => {
             is_digit(byte).then_some(Pending::Digits(with_digit(number, byte)))
         }
-        Pending::Sign(sign) => (byte == 61).then_some(Pending::Whole(with_equal(sign))),
+        Pending::Sign(sign) => (byte == b'=').then_some(Pending::Whole(with_equal(sign))),
         Pending::Nothing | Pending::Whole(_) => None,
     }
 }
@@ -212,127 +212,3 @@ pub fn tokens(alloc: Heap, line: &[u8]) -> Result<Option<Vec<Token, Heap>>, Allo
 pub fn one_lexing()
     ensures { (line : List ℕ) (ts us : List token.Token) → Lexes line ts → Lexes line us → ts ≡ us }
 {}
-
-#[cfg(test)]
-mod tests {
-    use super::*;
-    use crate::token::Keyword;
-    use std::process::Abort;
-    use std::test::Fail;
-
-    fn name(text: &[u8]) -> Token {
-        Token::Name(Name::new(text))
-    }
-
-    fn operator(operator: Operator) -> Token {
-        Token::Operator(operator)
-    }
-
-    fn cuts(rt: &impl Abort, alloc: Heap, line: &[u8], want: &[Token]) -> Result<(), Fail> {
-        let Some(found) = tokens(alloc, line)? else {
-            assert!(rt; false, "no tokens");
-            return Ok(());
-        };
-        assert_eq!(rt; found.as_slice(), want);
-        Ok(())
-    }
-
-    #[test]
-    fn tokens_that_touch(rt: HostRuntime) -> Result<(), Fail> {
-        let alloc = rt.alloc();
-        cuts(&rt, alloc, b"", &[])?;
-        cuts(&rt, alloc, b"   ", &[])?;
-        cuts(&rt, alloc, b"12abc", &[Token::Number(12), name(b"abc")])?;
-        cuts(&rt, alloc, b"print1", &[name(b"print1")])?;
-        cuts(&rt, alloc, b"a b", &[name(b"a"), name(b"b")])?;
-        cuts(
-            &rt,
-            alloc,
-            b"a<=b",
-            &[name(b"a"), operator(Operator::LessEqual), name(b"b")],
-        )?;
-        cuts(
-            &rt,
-            alloc,
-            b"a< =",
-            &[name(b"a"), operator(Operator::Less), Token::Assign],
-        )?;
-        cuts(
-            &rt,
-            alloc,
-            b"a===",
-            &[name(b"a"), operator(Operator::Equal), Token::Assign],
-        )
-    }
-
-    #[test]
-    fn symbols(rt: HostRuntime) -> Result<(), Fail> {
-        let alloc = rt.alloc();
-        cuts(
-            &rt,
-            alloc,
-            b"!=-",
-            &[operator(Operator::NotEqual), operator(Operator::Subtract)],
-        )?;
-        cuts(
-            &rt,
-            alloc,
-            b"print(1)",
-            &[
-                Token::Keyword(Keyword::Print),
-                Token::OpenParenthesis,
-                Token::Number(1),
-                Token::CloseParenthesis,
-            ],
-        )
-    }
-
-    #[test]
-    fn long_words_and_numbers(rt: HostRuntime) -> Result<(), Fail> {
-        let alloc = rt.alloc();
-        cuts(
-            &rt,
-            alloc,
-            b"abcdefghijklmnopq",
-            &[name(b"abcdefghijklmnopq")],
-        )?;
-        cuts(
-            &rt,
-            alloc,
-            b"abcdefghijklmnopqr",
-            &[name(b"abcdefghijklmnopq")],
-        )?;
-        cuts(
-            &rt,
-            alloc,
-            b"000000000000000000000000000000007",
-            &[Token::Number(7)],
-        )?;
-        cuts(
-            &rt,
-            alloc,
-            b"9223372036854775807",
-            &[Token::Number(9223372036854775807)],
-        )?;
-        cuts(
-            &rt,
-            alloc,
-            b"9223372036854775808",
-            &[Token::Number(9223372036854775808)],
-        )?;
-        cuts(
-            &rt,
-            alloc,
-            b"9999999999999999999999999999999999999999",
-            &[Token::Number(9223372036854775808)],
-        )
-    }
-
-    #[test]
-    fn no_tokens(rt: HostRuntime) -> Result<(), Fail> {
-        for line in [b"!".as_slice(), b"a ! = b", b"$ 1", b"\t", b"print \xff"] {
-            assert!(rt; tokens(rt.alloc(), line)?.is_none());
-        }
-        Ok(())
-    }
-}

@@ -1,19 +1,19 @@
 //! Names of variables and arrays.
 
 ghost use Rattle.std.specs.Prelude.{◌≡◌, ◌<◌, ◌↔◌, IsTrue, List, [], ◌∷◌, ◌++◌, length, take};
+ghost use Rattle.metered.specs.Limits.{most_name_bytes};
+ghost use Rattle.rank_text.specs.Name.{kept_bytes};
 
+use metered::limits::MOST_NAME_BYTES;
 use std::marker::Model;
-
-/// How many bytes a name may have.
-pub const LONGEST_NAME: usize = 16;
 
 /// How many bytes of a name are kept: one above the longest, so that a name
 /// which is too long is still told apart from each that isn't.
-const KEPT: usize = 17;
+const KEPT: usize = MOST_NAME_BYTES + 1;
 
-/// A name as a text has it, up to its first 17 bytes.
+/// A name as a text has it, up to its first 17 bytes, one more than a name may have.
 ///
-/// Two names that are both too long are equal where their first 17 bytes are;
+/// Two names that are both too long are equal where what is kept of them is;
 /// neither can be declared, so nothing is lost by that.
 #[derive(Clone, Copy, Debug, PartialEq, Eq)]
 pub struct Name {
@@ -23,14 +23,14 @@ pub struct Name {
 
 impl Model for Name {
     ghost use Rattle.std.specs.Prelude.{ℕ, List, length, ◌≡◌, ◌≤◌, take};
-    ghost use Rattle.rank_text.specs.Name.{padded};
+    ghost use Rattle.rank_text.specs.Name.{kept_bytes, padded};
     ghost use Rattle.rank_text.specs.NameLaws.{unpadded};
 
     ghost Value = { List ℕ };
 
     ghost view = { λ n. take n.len n.bytes };
 
-    ghost invariant = { λ n. (n.len ≤ 17) × (length n.bytes ≡ 17) × (n.bytes ≡ padded (take n.len n.bytes)) };
+    ghost invariant = { λ n. (n.len ≤ kept_bytes) × (length n.bytes ≡ kept_bytes) × (n.bytes ≡ padded (take n.len n.bytes)) };
 
     ghost inverse = { λ xs. record { bytes = padded xs; len = length xs } };
 
@@ -38,9 +38,9 @@ impl Model for Name {
 }
 
 impl Name {
-    /// The name of these bytes, of which it keeps 17.
+    /// The name of these bytes, of which it keeps one more than a name may have.
     pub fn new(bytes: &[u8]) -> Name
-        ensures { result ≡ take 17 bytes.now }
+        ensures { result ≡ take kept_bytes bytes.now }
     {
         let len = bytes.len().min(KEPT);
         let mut kept = [0; KEPT];
@@ -55,7 +55,7 @@ impl Name {
 
     /// The name with one byte more, if it isn't too long already.
     pub fn with(self, byte: u8) -> Name
-        ensures { result ≡ take 17 (self ++ byte ∷ []) }
+        ensures { result ≡ take kept_bytes (self ++ byte ∷ []) }
     {
         let mut longer = self;
         if (longer.len as usize) < KEPT {
@@ -65,7 +65,7 @@ impl Name {
         longer
     }
 
-    /// The bytes of the name, the first 17 where it is too long.
+    /// The bytes of the name, one more than a name may have where it is too long.
     pub fn as_bytes(&self) -> &[u8]
         ensures { result.now ≡ self.now }
     {
@@ -74,8 +74,8 @@ impl Name {
 
     /// Whether the name has more bytes than a name may have.
     pub fn is_too_long(&self) -> bool
-        ensures { IsTrue result ↔ (16 < length self.now) }
+        ensures { IsTrue result ↔ (most_name_bytes < length self.now) }
     {
-        self.len as usize > LONGEST_NAME
+        self.len as usize > MOST_NAME_BYTES
     }
 }

@@ -265,7 +265,14 @@ fn wanted(
             level.minuses += 1;
             Ok(Step::Next(State::Wants(level)))
         }
-        _ => Ok(Step::End(None)),
+        Token::Keyword(_)
+        | Token::Reduction(_)
+        | Token::CloseParenthesis
+        | Token::OpenBracket
+        | Token::CloseBracket
+        | Token::Comma
+        | Token::Assign
+        | Token::Any => Ok(Step::End(None)),
     }
 }
 
@@ -388,46 +395,3 @@ pub fn expression(alloc: Heap, tokens: &[Token]) -> Result<Option<Written>, Allo
 pub fn one_expression()
     ensures { (ts : List Token) (a b : Tree) → Spells whole ts a → Spells whole ts b → a ≡ b }
 {}
-
-#[cfg(test)]
-mod tests {
-    use super::*;
-    use std::test::Fail;
-
-    #[test]
-    fn many_signs(rt: HostRuntime) -> Result<(), Fail> {
-        let mut tokens = vec![in rt.alloc(); Token::Operator(Operator::Subtract); 8190]?;
-        tokens.push(Token::Number(1))?;
-        let read = expression(rt.alloc(), tokens.as_slice())?;
-        assert!(rt; read.is_some());
-        Ok(())
-    }
-
-    #[test]
-    fn many_parentheses(rt: HostRuntime) -> Result<(), Fail> {
-        let mut tokens = vec![in rt.alloc(); Token::OpenParenthesis; 4000]?;
-        tokens.push(Token::Number(1))?;
-        for _i in 0..4000 {
-            tokens.push(Token::CloseParenthesis)?;
-        }
-        let read = expression(rt.alloc(), tokens.as_slice())?;
-        assert!(rt; read.is_some());
-        Ok(())
-    }
-
-    #[test]
-    fn many_indexes(rt: HostRuntime) -> Result<(), Fail> {
-        let mut tokens = Vec::new(rt.alloc());
-        for _i in 0..2700 {
-            tokens.push(Token::Name(Name::new(b"a")))?;
-            tokens.push(Token::OpenBracket)?;
-        }
-        tokens.push(Token::Number(1))?;
-        for _i in 0..2700 {
-            tokens.push(Token::CloseBracket)?;
-        }
-        let read = expression(rt.alloc(), tokens.as_slice())?;
-        assert!(rt; read.is_some());
-        Ok(())
-    }
-}

@@ -1,4 +1,5 @@
-use Rattle.std.proofs.Common.{◌≡◌, ◌≤◌, length}
+use Rattle.std.proofs.Common.{◌≡◌, ◌≤◌, ◌+◌, length}
+use Rattle.metered.specs.Limits.{most_lines}
 use Rattle.rank_lines.specs.Lines.{lines_of}
 use Rattle.rank_lines.specs.Verdict.{reading_of}
 use Rattle.rank_lines.specs.Progress.{IsLed, going, reader_seen}
@@ -9,7 +10,7 @@ abbrev pub invariant-loop-line : goal.invariant-loop-line
 invariant-loop-line l = record {
   going : going (reader_seen l.reader) l.number (lines_of l.rest) ≡ reading_of l.text;
   led : IsLed (reader_seen l.reader);
-  early : l.number ≤ 1001;
+  early : l.number ≤ most_lines + 1;
 }
 
 abbrev pub decreases-loop-line : goal.decreases-loop-line
