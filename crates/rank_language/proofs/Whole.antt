@@ -1,5 +1,6 @@
 -- What a whole program's statements by name are, by the tables that they leave. Tables only grow, so what is declared in
 -- front of a statement is declared in the tables of the whole; and where each statement may stand, blocks balance.
+use Rattle.metered.specs.Limits.{most_items}
 use Rattle.std.proofs.Common.{◌≡◌, ℕ, ◌≤◌, List, [], ◌∷◌, ◌++◌, map, true, false, ◌&&◌, Some, arith, refl, ap, ◌∙◌, sym, subst}
 use Rattle.std.specs.Str.{bytes_eq}
 use Rattle.std.proofs.lemmas.Slice.Eq.{bytes_eq-Decides}
@@ -168,7 +169,7 @@ pub resolvable : (fs : List Form) → IsWhole fs → AllResolvable (after_all no
 resolvable fs h = resolvable_from nothing_yet fs h.standing
 
 -- an array that is put last has its size
-sized_last : (xs : List (List ℕ × ℕ)) (x : List ℕ) (n : ℕ) → AllSized xs → 1 ≤ n → n ≤ 256 → AllSized (xs ++ (x, n) ∷ [])
+sized_last : (xs : List (List ℕ × ℕ)) (x : List ℕ) (n : ℕ) → AllSized xs → 1 ≤ n → n ≤ most_items → AllSized (xs ++ (x, n) ∷ [])
 sized_last [] x n h l m = (l, m, tt)
 sized_last (z ∷ zs) x n h l m = (h.0, h.1, sized_last zs x n h.2 l m)
 
@@ -176,8 +177,8 @@ sized_last (z ∷ zs) x n h l m = (h.0, h.1, sized_last zs x n h.2 l m)
 some_items : (s : Scope) (x : List ℕ) (n : ℕ) → is_past_table s (array_form x n) ≡ false → 1 ≤ n
 some_items s x n q = grind (arith, nat_tests)
 
--- and it has no more than 256 items
-few_items : (s : Scope) (x : List ℕ) (n : ℕ) → is_past_table s (array_form x n) ≡ false → n ≤ 256
+-- and it has no more items than an array may have
+few_items : (s : Scope) (x : List ℕ) (n : ℕ) → is_past_table s (array_form x n) ≡ false → n ≤ most_items
 few_items s x n q = grind (arith, nat_tests)
 
 -- the arrays behind a statement that may stand have their sizes

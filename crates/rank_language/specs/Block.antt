@@ -67,20 +67,22 @@ remaining t p = slice_index_or (places t done) p done
 
 -- the expression that the first statement tests
 abbrev pub tested : Block → Option Placed
+tested done = None
+tested (plain s r) = None
 tested (if_only e y r) = Some e
 tested (if_else e y o r) = Some e
 tested (loop e y r) = Some e
-tested _ = None
 
 -- the statements that remain after a test; the body of a `while` is followed by the `while`
 abbrev pub taken : Bool → Block → Block
+taken truth done = done
+taken truth (plain s r) = plain s r
 taken true (if_only e y r) = y then r
 taken false (if_only e y r) = r
 taken true (if_else e y o r) = y then r
 taken false (if_else e y o r) = o then r
 taken true (loop e y r) = y then (loop e y r)
 taken false (loop e y r) = r
-taken _ b = b
 
 -- What a line at position p says of the statements that remain there, and of the positions that it leads to.
 abbrev pub Leads : (ℕ → Block) → ℕ → Line → Type 0

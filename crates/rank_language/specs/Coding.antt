@@ -35,7 +35,8 @@ negated (e ∷ es) = negation e ∷ es
 -- an operation on the last two expressions
 abbrev operated : Operator → List Placed → List Placed
 operated o (b ∷ (a ∷ es)) = operation o a b ∷ es
-operated o _ = []
+operated o [] = []
+operated o (b ∷ []) = []
 
 -- a word after these expressions, the last of them first
 abbrev built : Word → List Placed → List Placed

@@ -2,7 +2,7 @@
 -- statements, the position behind the line that closes its present part (the rank-program text, next positions). An `end` is
 -- met before the statement that it closes, so it goes on like that of an `if` until a `while` that is met leads it back.
 use Rattle.std.specs.Prelude.{ℕ, zero, suc, ◌+◌, ◌-◌, List, [], ◌∷◌, Option, Some, option_map}
-use Rattle.rank_text.specs.Forms.{Form, if_form, else_form, end_form, while_form, ◌>>=◌}
+use Rattle.rank_text.specs.Forms.{Form, var_form, array_form, let_form, item_form, if_form, else_form, end_form, while_form, send_form, recv_form, print_form, ◌>>=◌}
 use Rattle.rank_lines.specs.Scope.{Scope}
 use Rattle.rank_language.specs.Placed.{Step, does, tests, repeats, otherwise, closes}
 use Rattle.rank_language.specs.Block.{Line, simple_line, if_line, else_line, end_line, while_line, back_line}
@@ -28,11 +28,17 @@ pub data Kind : Type 0 where
 
 -- what a statement by name does to blocks
 abbrev pub kind_of : Form → Kind
+kind_of (var_form x) = is_plain
+kind_of (array_form x n) = is_plain
+kind_of (let_form x e) = is_plain
+kind_of (item_form x i e) = is_plain
 kind_of (if_form e) = is_if
 kind_of else_form = is_else
 kind_of end_form = is_end
 kind_of (while_form e) = is_while
-kind_of _ = is_plain
+kind_of (send_form d t p) = is_plain
+kind_of (recv_form s t x) = is_plain
+kind_of (print_form e) = is_plain
 
 -- the target of a statement behind which blocks with these ends are open: an `if`, an `else` and a `while` lead to the nearest
 abbrev pub target_of : Kind → List ℕ → ℕ

@@ -31,8 +31,12 @@ choice_named s (value e) = line.value (named s e)
 
 -- a value that is sent: a variable by itself is written as a lone name
 abbrev pub value_named : Scope → Placed → line.Payload
+value_named s (number n) = line.one (named s (number n))
 value_named s (variable p) = line.lone (variable_name s p)
-value_named s e = line.one (named s e)
+value_named s (item p e) = line.one (named s (item p e))
+value_named s (reading r) = line.one (named s (reading r))
+value_named s (negation e) = line.one (named s (negation e))
+value_named s (operation o a b) = line.one (named s (operation o a b))
 
 -- a payload with names for its places
 abbrev pub payload_named : Scope → Payload → line.Payload

@@ -1,5 +1,6 @@
 -- A program as a value: its lines, and the names of its variables and arrays (the rank-program text, meaning of one step).
 use Rattle.std.specs.Prelude.{ℕ, ◌<◌, ◌≤◌, List, [], ◌∷◌, map}
+use Rattle.metered.specs.Limits.{most_items}
 use Rattle.rank_lines.specs.declared.scope.Array.{Array}
 use Rattle.rank_lines.specs.SeenLines.{arrays_seen}
 use Rattle.rank_language.specs.declared.statement.Statement.{Statement}
@@ -62,10 +63,10 @@ abbrev pub AllPlaced : ℕ → ℕ → List Line → Type 0
 AllPlaced v a [] = Unit {0}
 AllPlaced v a (l ∷ ls) = IsPlaced v a l × AllPlaced v a ls
 
--- each array has 1 to 256 items
+-- each array has 1 item or more, up to the most that an array may have
 abbrev pub AllSized : List (List ℕ × ℕ) → Type 0
 AllSized [] = Unit {0}
-AllSized (a ∷ arrays) = (1 ≤ a.1) × (a.1 ≤ 256) × AllSized arrays
+AllSized (a ∷ arrays) = (1 ≤ a.1) × (a.1 ≤ most_items) × AllSized arrays
 
 -- the program of these statements, variables and arrays
 abbrev pub program_value : List Statement → List (List ℕ) → List Array → ProgramValue

@@ -23,14 +23,16 @@ fronted f (p ∷ ps) = (p.0, f p.1) ∷ ps
 
 -- the lists that an `if` begins: its parts go into it
 abbrev pub branched : Placed → List Part → List Part
+branched e [] = []
 branched e ((false, y) ∷ ps) = fronted (if_only e y) ps
+branched e ((true, y) ∷ []) = []
 branched e ((true, y) ∷ ((b, o) ∷ ps)) = fronted (if_else e y o) ps
-branched e _ = []
 
 -- the lists that a `while` begins: its body goes into it
 abbrev pub looped : Placed → List Part → List Part
+looped e [] = []
 looped e ((false, y) ∷ ps) = fronted (loop e y) ps
-looped e _ = []
+looped e ((true, y) ∷ ps) = []
 
 -- the lists of statements that lines begin, the innermost first
 abbrev pub parts : List Step → List Part

@@ -32,7 +32,8 @@ fn target(form: &Form, position: usize, ends: &mut Vec<usize, Heap>) -> Result<u
             ends.push(position + 1)?;
             Ok(0)
         }
-        _ => Ok(0),
+        Form::Var(_) | Form::Array(..) | Form::Let(..) | Form::LetItem(..) => Ok(0),
+        Form::Send(..) | Form::Recv(..) | Form::Print(_) => Ok(0),
     }
 }
 

@@ -2,7 +2,7 @@
 use metered::Heap;
 use rank_text::{Operator, Reading};
 
-/// An expression of a program. It has at most 64 nodes.
+/// An expression of a program. It has no more nodes than `metered::limits::MOST_NODES`.
 #[derive(Debug, Drop)]
 pub enum Expression {
     Number(i64),

@@ -73,7 +73,11 @@ fn name_value(
 {
     match expression {
         Expression::Variable(place) => Ok(form::Payload::Lone(tables.variables[*place])),
-        _ => Ok(form::Payload::One(name(alloc, tables, expression)?)),
+        Expression::Number(_)
+        | Expression::Item(..)
+        | Expression::Reading(_)
+        | Expression::Negation(_)
+        | Expression::Operation(..) => Ok(form::Payload::One(name(alloc, tables, expression)?)),
     }
 }
 

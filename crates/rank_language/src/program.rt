@@ -1,4 +1,5 @@
 //! Programs: statements in order, each with where it leads to.
+ghost use Rattle.metered.specs.Limits.{most_lines};
 ghost use Rattle.rank_text.specs.Forms.{Form};
 ghost use Rattle.rank_lines.specs.declared.fault.ParseFault.TheVariants.{Fault, Memory};
 ghost use Rattle.rank_lines.specs.declared.fault.ProgramFault.{ProgramFault};
@@ -130,7 +131,7 @@ impl Program {
         ensures there { IfSome result (λ s. Leads (remaining (tree_of self.now)) position (line_of s.now)) }
         ensures within { IfSome result (λ s. (truth : Bool) → next_position (line_of s.now) position truth ≤ size (tree_of self.now)) }
         ensures placed { IfSome result (λ s. IsPlaced (length self.now.variables) (length self.now.arrays) (line_of s.now)) }
-        ensures bound { IfSome result (λ _. position < 1000) }
+        ensures bound { IfSome result (λ _. position < most_lines) }
         ensures past { IsNone result ↔ (size (tree_of self.now) ≤ position) }
     {
         self.statements.get(position)

@@ -76,7 +76,10 @@ impl Statement {
             }
             Statement::Else(after) => *after,
             Statement::EndWhile(start) => *start,
-            _ => position + 1,
+            Statement::Declare(_) | Statement::DeclareArray(_) => position + 1,
+            Statement::Assign(..) | Statement::AssignItem(..) => position + 1,
+            Statement::Send { .. } | Statement::Receive { .. } => position + 1,
+            Statement::Print(_) | Statement::EndIf => position + 1,
         }
     }
 }

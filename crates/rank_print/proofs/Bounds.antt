@@ -3,6 +3,7 @@
 use Rattle.std.proofs.Common.{◌≡◌, ℕ, zero, suc, ◌+◌, ◌-◌, ◌*◌, ◌^◌, ◌<◌, ◌≤◌, Bool, true, false, List, [], ◌∷◌, ◌++◌, length, codes, refl, sym, subst, append_assoc, append-nil, length-append, arith}
 use Rattle.std.specs.Prelude.{if◌then◌else◌}
 use Rattle.std.specs.Fmt.{decimal}
+use Rattle.metered.specs.Limits.{most_line_bytes, most_blocks, most_parentheses}
 use Rattle.std.proofs.lemmas.Fmt.{length-decimal-le}
 use Rattle.rank_text.specs.declared.token.Operator.{Operator}
 use Rattle.rank_text.specs.declared.token.Operator.TheVariants.{Add, Subtract, Multiply, Divide, Remainder, Equal, NotEqual, Less, LessEqual, Greater, GreaterEqual}
@@ -58,39 +59,39 @@ expression_shallow (operation o a b) =
     (operator_shallow o (nodes (operation o a b)) (operand_tokens b (expression_tokens b)) right)
 
 -- an expression within its limit
-fit_shallow : (e : Tree) → IsFit e → Shallow 64 (expression_tokens e)
-fit_shallow e h = wider (nodes e) 64 (expression_tokens e) h.1 (expression_shallow e)
+fit_shallow : (e : Tree) → IsFit e → Shallow most_parentheses (expression_tokens e)
+fit_shallow e h = wider (nodes e) most_parentheses (expression_tokens e) h.1 (expression_shallow e)
 
 -- a source or a tag
-choice_shallow : (c : Choice) → ChoiceFits c → Shallow 64 (choice_tokens c)
+choice_shallow : (c : Choice) → ChoiceFits c → Shallow most_parentheses (choice_tokens c)
 choice_shallow any h = λ k n us p d. d
 choice_shallow (value e) h = fit_shallow e h
 
 -- what a send gives
-payload_shallow : (p : Payload) → PayloadFits p → Shallow 64 (payload_tokens p)
+payload_shallow : (p : Payload) → PayloadFits p → Shallow most_parentheses (payload_tokens p)
 payload_shallow (lone x) h = λ k n us p d. d
 payload_shallow (one e) h = fit_shallow e h
 
 -- nothing is open in the end
-none_open : deepest 0 [] ≤ 64
+none_open : deepest 0 [] ≤ most_parentheses
 none_open = omega arith
 
 -- tokens by themselves
-alone : (ts : List Token) → Shallow 64 ts → deepest 0 ts ≤ 64
-alone ts s = subst (λ z. deepest 0 z ≤ 64) (append-nil ts) (s 64 0 [] (omega arith) none_open)
+alone : (ts : List Token) → Shallow most_parentheses ts → deepest 0 ts ≤ most_parentheses
+alone ts s = subst (λ z. deepest 0 z ≤ most_parentheses) (append-nil ts) (s most_parentheses 0 [] (omega arith) none_open)
 
 -- three arguments with commas between them
-three_shallow : (xs ys zs : List Token) → Shallow 64 xs → Shallow 64 ys → Shallow 64 zs → deepest 0 (xs ++ t.Comma ∷ (ys ++ t.Comma ∷ zs)) ≤ 64
+three_shallow : (xs ys zs : List Token) → Shallow most_parentheses xs → Shallow most_parentheses ys → Shallow most_parentheses zs → deepest 0 (xs ++ t.Comma ∷ (ys ++ t.Comma ∷ zs)) ≤ most_parentheses
 three_shallow xs ys zs p q r =
-    p 64 0 (t.Comma ∷ (ys ++ t.Comma ∷ zs)) (omega arith) (q 64 0 (t.Comma ∷ zs) (omega arith) (alone zs r))
+    p most_parentheses 0 (t.Comma ∷ (ys ++ t.Comma ∷ zs)) (omega arith) (q most_parentheses 0 (t.Comma ∷ zs) (omega arith) (alone zs r))
 
--- the tokens of a statement nest at most 64 deep
-pub form_shallow : (f : Form) → FormFits f → deepest 0 (form_tokens f) ≤ 64
+-- the tokens of a statement nest no deeper than parentheses may
+pub form_shallow : (f : Form) → FormFits f → deepest 0 (form_tokens f) ≤ most_parentheses
 form_shallow (var_form x) h = none_open
 form_shallow (array_form x n) h = none_open
 form_shallow (let_form x e) h = alone (expression_tokens e) (fit_shallow e h.1)
 form_shallow (item_form x i e) h =
-    fit_shallow i h.1 64 0 (t.CloseBracket ∷ t.Assign ∷ expression_tokens e) (omega arith) (alone (expression_tokens e) (fit_shallow e h.2))
+    fit_shallow i h.1 most_parentheses 0 (t.CloseBracket ∷ t.Assign ∷ expression_tokens e) (omega arith) (alone (expression_tokens e) (fit_shallow e h.2))
 form_shallow (if_form e) h = alone (expression_tokens e) (fit_shallow e h)
 form_shallow else_form h = none_open
 form_shallow end_form h = none_open
@@ -213,6 +214,6 @@ indentation_length : (depth : ℕ) → length (indentation depth) ≡ 2 * depth
 indentation_length zero = refl
 indentation_length (suc depth) = omega (arith, indentation_length depth)
 
--- a line at most 8192, where at most 32 blocks are open
-pub line_length : (depth : ℕ) (f : Form) → depth ≤ 32 → FormFits f → length (indentation depth ++ form_text f) ≤ 8192
+-- a line no more than it may have, where no more blocks are open than may be
+pub line_length : (depth : ℕ) (f : Form) → depth ≤ most_blocks → FormFits f → length (indentation depth ++ form_text f) ≤ most_line_bytes
 line_length depth f h k = omega (arith, length-append (indentation depth) (form_text f), indentation_length depth, form_length f k, h)

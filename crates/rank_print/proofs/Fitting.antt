@@ -1,13 +1,14 @@
 -- Statements whose names and numbers are what a text can have, and whose expressions are within their limit.
 use Rattle.std.proofs.Common.{ℕ, ◌^◌, ◌<◌, ◌≤◌, List, length}
+use Rattle.metered.specs.Limits.{most_name_bytes, most_nodes}
 use Rattle.rank_text.specs.Lexes.{IsName}
 use Rattle.rank_text.specs.Tree.{Tree, number, variable, item, reading, negation, operation}
 use Rattle.rank_text.specs.Forms.{Choice, any, value, Payload, lone, one, Form, var_form, array_form, let_form, item_form, if_form, else_form, end_form, while_form, send_form, recv_form, print_form}
 use Rattle.rank_lines.specs.Scope.{nodes}
 
--- a name of at most 16 bytes
+-- a name that isn't too long
 abbrev pub IsShortName : List ℕ → Type 0
-IsShortName x = IsName x × (length x ≤ 16)
+IsShortName x = IsName x × (length x ≤ most_name_bytes)
 
 -- each name is such a name, and each number is in range
 abbrev pub IsPlain : Tree → Type 0
@@ -18,9 +19,9 @@ IsPlain (reading r) = Unit {0}
 IsPlain (negation e) = IsPlain e
 IsPlain (operation o a b) = IsPlain a × IsPlain b
 
--- and there are at most 64 nodes
+-- and there are no more nodes than an expression may have
 abbrev pub IsFit : Tree → Type 0
-IsFit e = IsPlain e × (nodes e ≤ 64)
+IsFit e = IsPlain e × (nodes e ≤ most_nodes)
 
 -- the same of a source or a tag
 abbrev pub ChoiceFits : Choice → Type 0

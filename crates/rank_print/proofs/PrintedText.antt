@@ -1,6 +1,7 @@
 -- The canonical text of a whole program's statements is a text of these statements: each of its lines has the tokens of
 -- its statement, and no fault holds of it.
 use Rattle.std.proofs.Common.{◌≡◌, ℕ, ◌+◌, ◌≤◌, List, [], ◌∷◌, length, Some, refl, sym, subst, arith}
+use Rattle.metered.specs.Limits.{most_lines, most_blocks}
 use Rattle.rank_text.specs.Forms.{Form}
 use Rattle.rank_text.specs.Lexes.{Lexes}
 use Rattle.rank_lines.specs.Lines.{lines_of}
@@ -14,12 +15,12 @@ use Rattle.rank_print.proofs.Bounds.{form_shallow, line_length}
 use Rattle.rank_print.proofs.Standing.{IsNamedWell, fits_of, named_after, depth_goes, blocks_few, depth_least, clean_of}
 
 -- a line has its statement's tokens and form
-line_formed : (s : Scope) (depth : ℕ) (f : Form) → IsNamedWell s → depth ≤ 32 → MayStand s f → IsCanonical f
+line_formed : (s : Scope) (depth : ℕ) (f : Form) → IsNamedWell s → depth ≤ most_blocks → MayStand s f → IsCanonical f
     → IsFormed (line_text depth f) (form_tokens f) f
 line_formed s depth f h k m c =
     let fits = fits_of s f h m in
     let at = depth_of depth f in
-    let low : at ≤ 32 = omega (arith, depth_least depth f, k) in
+    let low : at ≤ most_blocks = omega (arith, depth_least depth f, k) in
     let tokens : Lexes (line_text depth f) (form_tokens f) = line_lexes at f fits in
     record {
       looked = record { text = lexes_text tokens; short = line_length at f low fits; not_skipped = line_unskipped at f };
@@ -28,15 +29,15 @@ line_formed s depth f h k m c =
     }
 
 -- and is without fault
-line_stated : (s : Scope) (n depth : ℕ) (f : Form) → IsNamedWell s → depth ≤ 32 → n ≤ 1000 → MayStand s f → IsCanonical f
+line_stated : (s : Scope) (n depth : ℕ) (f : Form) → IsNamedWell s → depth ≤ most_blocks → n ≤ most_lines → MayStand s f → IsCanonical f
     → IsLine s n (line_text depth f) (Some f)
 line_stated s n depth f h k early m c =
     let formed = line_formed s depth f h k m c in
     stated formed (clean_of formed (line_states (depth_of depth f) f) early (form_shallow f (fits_of s f h m)) m)
 
 -- the lines of a text have its statements
-lines_are : (s : Scope) (n depth : ℕ) (fs : List Form) → IsNamedWell s → depth ≡ length s.blocks → length s.blocks ≤ 32
-    → n + length fs ≤ 1001 → AllMayStand s fs → AllCanonical fs
+lines_are : (s : Scope) (n depth : ℕ) (fs : List Form) → IsNamedWell s → depth ≡ length s.blocks → length s.blocks ≤ most_blocks
+    → n + length fs ≤ most_lines + 1 → AllMayStand s fs → AllCanonical fs
     → (count : ℕ) × AreLines s n (lines_of (text_from depth fs)) fs (after_all s fs) count
 lines_are s n depth [] h q k early m c = (n, none)
 lines_are s n depth (f ∷ fs) h q k early m c =

@@ -1,4 +1,4 @@
--- A statement that may stand where it does fits: its names are declared, so they are names of at most 16 bytes, and its
+-- A statement that may stand where it does fits: its names are declared, so they are names that aren't too long, and its
 -- numbers and expressions are within their limits. No fault holds of a line that has it.
 use Rattle.std.proofs.Common.{◌≡◌, ℕ, ◌-◌, ◌^◌, ◌<◌, ◌≤◌, ◌⊎◌, inl, inr, Bool, true, false, ◌&&◌, ◌||◌, List, [], ◌∷◌, ◌++◌, length, map, refl, sym, ap, subst, ◌∙◌, arith}
 use Rattle.std.specs.Prelude.{nat_le, nat_lt}
@@ -6,6 +6,7 @@ use Rattle.std.specs.Str.{bytes_eq}
 use Rattle.std.proofs.lemmas.Slice.Eq.{bytes_eq-Decides}
 use Rattle.std.proofs.lemmas.Bool.{and_parts}
 use Rattle.std.proofs.lemmas.Bool.Decides.{nat_tests}
+use Rattle.metered.specs.Limits.{most_lines, most_blocks, most_name_bytes, most_nodes, most_parentheses}
 use Rattle.rank_text.specs.declared.token.Token.{Token}
 use Rattle.rank_text.specs.Tree.{Tree, number, variable, item, reading, negation, operation}
 use Rattle.rank_text.specs.Forms.{Choice, any, value, Payload, lone, one, Form, var_form, array_form, let_form, item_form, if_form, else_form, end_form, while_form, send_form, recv_form, print_form}
@@ -17,7 +18,7 @@ use Rattle.rank_lines.proofs.LineLaws.{form_one}
 use Rattle.rank_print.specs.Canonical.{depth_of, depth_after}
 use Rattle.rank_print.proofs.Fitting.{IsShortName, IsPlain, IsFit, ChoiceFits, PayloadFits, FormFits}
 
--- each name is a name of at most 16 bytes
+-- each name is a name that isn't too long
 abbrev pub AllShort : List (List ℕ) → Type 0
 AllShort [] = Unit {0}
 AllShort (x ∷ xs) = IsShortName x × AllShort xs
@@ -73,7 +74,7 @@ plain_of s (operation o a b) h d g =
     let q = or_fails (is_great a) (is_great b) g in
     (plain_of s a h p.0 q.0, plain_of s b h p.1 q.1)
 
-few_nodes : (n : ℕ) → nat_lt 64 n ≡ false → n ≤ 64
+few_nodes : (n : ℕ) → nat_lt most_nodes n ≡ false → n ≤ most_nodes
 few_nodes n q = grind (arith, nat_tests)
 
 -- and that isn't too large
@@ -91,10 +92,10 @@ payload_fits s (lone x) h d l g = declared_short s x h d
 payload_fits s (one e) h d l g = fit_of s e h d l g
 
 -- a table that has room has it for a short name
-short_variable : (s : Scope) (x : List ℕ) → is_past_table s (var_form x) ≡ false → length x ≤ 16
+short_variable : (s : Scope) (x : List ℕ) → is_past_table s (var_form x) ≡ false → length x ≤ most_name_bytes
 short_variable s x q = grind (arith, nat_tests)
 
-short_array : (s : Scope) (x : List ℕ) (n : ℕ) → is_past_table s (array_form x n) ≡ false → length x ≤ 16
+short_array : (s : Scope) (x : List ℕ) (n : ℕ) → is_past_table s (array_form x n) ≡ false → length x ≤ most_name_bytes
 short_array s x n q = grind (arith, nat_tests)
 
 -- a statement that may stand where it does fits
@@ -180,11 +181,11 @@ depth_goes s (recv_form c g x) depth q = q
 depth_goes s (print_form e) depth q = q
 
 -- a table of blocks that has room
-room_in : (n : ℕ) → nat_le 32 n ≡ false → n < 32
+room_in : (n : ℕ) → nat_le most_blocks n ≡ false → n < most_blocks
 room_in n q = grind (arith, nat_tests)
 
--- at most 32 are
-pub blocks_few : (s : Scope) (f : Form) → MayStand s f → length s.blocks ≤ 32 → length (after s f).blocks ≤ 32
+-- no more are open behind a statement that may stand
+pub blocks_few : (s : Scope) (f : Form) → MayStand s f → length s.blocks ≤ most_blocks → length (after s f).blocks ≤ most_blocks
 blocks_few s (var_form x) m h = h
 blocks_few s (array_form x n) m h = h
 blocks_few s (let_form x e) m h = h
@@ -211,8 +212,8 @@ depth_least depth (send_form d g p) = omega arith
 depth_least depth (recv_form c g x) = omega arith
 depth_least depth (print_form e) = omega arith
 
--- parentheses that nest 64 deep aren't too many
-shallow_test : (n : ℕ) → n ≤ 64 → nat_lt 64 n ≡ false
+-- parentheses that nest no deeper than they may aren't too many
+shallow_test : (n : ℕ) → n ≤ most_parentheses → nat_lt most_parentheses n ≡ false
 shallow_test n h = grind (arith, nat_tests)
 
 -- three tests that fail
@@ -220,17 +221,17 @@ none_holds : (a b c : Bool) → a ≡ false → b ≡ false → c ≡ false → 
 none_holds a b c p q r = grind arith
 
 -- no limit is passed
-within_limits : (s : Scope) (ts : List Token) (f : Form) → MayStand s f → deepest 0 ts ≤ 64 → is_over s ts f ≡ false
+within_limits : (s : Scope) (ts : List Token) (f : Form) → MayStand s f → deepest 0 ts ≤ most_parentheses → is_over s ts f ≡ false
 within_limits s ts f m h =
-    none_holds (is_past_table s f) (has_large f) (nat_lt 64 (deepest 0 ts)) m.within m.sized (shallow_test (deepest 0 ts) h)
+    none_holds (is_past_table s f) (has_large f) (nat_lt most_parentheses (deepest 0 ts)) m.within m.sized (shallow_test (deepest 0 ts) h)
 
 -- the same test can't give both
 not_both : (b : Bool) → b ≡ true → b ≡ false → ⊥
 not_both b p q = cc
 
 -- no fault holds of a line that has a statement which may stand there
-pub clean_of : {s : Scope} {n : ℕ} {line : List ℕ} {ts : List Token} {f : Form} → IsFormed line ts f → is_statement line ≡ true → n ≤ 1000
-    → deepest 0 ts ≤ 64 → MayStand s f → (k : FaultKind) → Holds s n line k → ⊥
+pub clean_of : {s : Scope} {n : ℕ} {line : List ℕ} {ts : List Token} {f : Form} → IsFormed line ts f → is_statement line ≡ true → n ≤ most_lines
+    → deepest 0 ts ≤ most_parentheses → MayStand s f → (k : FaultKind) → Holds s n line k → ⊥
 clean_of {line = line} d w early shallow m _ (other_byte q) = not_both _ d.looked.text q
 clean_of d w early shallow m _ (no_word l q) = not_both _ w q
 clean_of {ts = ts} {f = f} d w early shallow m _ (no_form l q h) = h ts f d

@@ -32,9 +32,12 @@ reading_text reads.Count = codes "count"
 
 -- the expression is an operation
 abbrev pub is_operation : Tree → Bool
+is_operation (number n) = false
+is_operation (variable x) = false
+is_operation (item x e) = false
+is_operation (reading r) = false
 is_operation (negation e) = true
 is_operation (operation o a b) = true
-is_operation _ = false
 
 -- an operand with this text, in parentheses where it is itself an operation
 abbrev pub operand_text : Tree → List ℕ → List ℕ
@@ -73,18 +76,48 @@ form_text (send_form d g p) = codes "send " ++ expression_text d ++ codes ", " +
 form_text (recv_form s g x) = codes "recv " ++ choice_text s ++ codes ", " ++ choice_text g ++ codes ", " ++ x
 form_text (print_form e) = codes "print " ++ expression_text e
 
--- how far a statement is indented where this many blocks are open: `else` and `end` stand as the line that opened their block
+-- what a statement does to the blocks that are open
+pub data Nesting : Type 0 where
+  stays : Nesting
+  opens : Nesting
+  turns : Nesting
+  closes : Nesting
+
+-- a statement that tests opens a block, `else` goes on with its other part, and `end` closes it
+abbrev pub nesting_of : Form → Nesting
+nesting_of (var_form x) = stays
+nesting_of (array_form x n) = stays
+nesting_of (let_form x e) = stays
+nesting_of (item_form x i e) = stays
+nesting_of (if_form e) = opens
+nesting_of else_form = turns
+nesting_of end_form = closes
+nesting_of (while_form e) = opens
+nesting_of (send_form d g p) = stays
+nesting_of (recv_form s g x) = stays
+nesting_of (print_form e) = stays
+
+-- how far a line is indented where this many blocks are open: `else` and `end` stand as the line that opened their block
+abbrev pub indented_by : ℕ → Nesting → ℕ
+indented_by depth stays = depth
+indented_by depth opens = depth
+indented_by depth turns = depth - 1
+indented_by depth closes = depth - 1
+
+-- how many blocks are open after a line
+abbrev pub left_open : ℕ → Nesting → ℕ
+left_open depth stays = depth
+left_open depth opens = depth + 1
+left_open depth turns = depth
+left_open depth closes = depth - 1
+
+-- how far a statement is indented where this many blocks are open
 abbrev pub depth_of : ℕ → Form → ℕ
-depth_of depth else_form = depth - 1
-depth_of depth end_form = depth - 1
-depth_of depth _ = depth
+depth_of depth f = indented_by depth (nesting_of f)
 
 -- how many blocks are open after a statement
 abbrev pub depth_after : ℕ → Form → ℕ
-depth_after depth (if_form e) = depth + 1
-depth_after depth (while_form e) = depth + 1
-depth_after depth end_form = depth - 1
-depth_after depth _ = depth
+depth_after depth f = left_open depth (nesting_of f)
 
 -- two spaces for each open block
 abbrev pub indentation : ℕ → List ℕ
@@ -106,13 +139,27 @@ program_text fs = text_from 0 fs
 
 -- a payload that is a variable by itself is a lone name
 abbrev pub IsCanonicalPayload : Payload → Type 0
+IsCanonicalPayload (lone x) = Unit {0}
+IsCanonicalPayload (one (number n)) = Unit {0}
 IsCanonicalPayload (one (variable x)) = ⊥
-IsCanonicalPayload _ = Unit {0}
+IsCanonicalPayload (one (item x e)) = Unit {0}
+IsCanonicalPayload (one (reading r)) = Unit {0}
+IsCanonicalPayload (one (negation e)) = Unit {0}
+IsCanonicalPayload (one (operation o a b)) = Unit {0}
 
--- the statement is one that its text gives back
+-- the statement is one that its text gives back: only a payload can be written in two ways
 abbrev pub IsCanonical : Form → Type 0
+IsCanonical (var_form x) = Unit {0}
+IsCanonical (array_form x n) = Unit {0}
+IsCanonical (let_form x e) = Unit {0}
+IsCanonical (item_form x i e) = Unit {0}
+IsCanonical (if_form e) = Unit {0}
+IsCanonical else_form = Unit {0}
+IsCanonical end_form = Unit {0}
+IsCanonical (while_form e) = Unit {0}
 IsCanonical (send_form d g p) = IsCanonicalPayload p
-IsCanonical _ = Unit {0}
+IsCanonical (recv_form s g x) = Unit {0}
+IsCanonical (print_form e) = Unit {0}
 
 -- so is each of the statements
 abbrev pub AllCanonical : List Form → Type 0
@@ -121,13 +168,27 @@ AllCanonical (f ∷ fs) = IsCanonical f × AllCanonical fs
 
 -- the lone name that stands for a variable by itself
 abbrev pub canonical_payload : Payload → Payload
+canonical_payload (lone x) = lone x
+canonical_payload (one (number n)) = one (number n)
 canonical_payload (one (variable x)) = lone x
-canonical_payload p = p
+canonical_payload (one (item x e)) = one (item x e)
+canonical_payload (one (reading r)) = one (reading r)
+canonical_payload (one (negation e)) = one (negation e)
+canonical_payload (one (operation o a b)) = one (operation o a b)
 
 -- the statement that its text gives back
 abbrev pub canonical : Form → Form
+canonical (var_form x) = var_form x
+canonical (array_form x n) = array_form x n
+canonical (let_form x e) = let_form x e
+canonical (item_form x i e) = item_form x i e
+canonical (if_form e) = if_form e
+canonical else_form = else_form
+canonical end_form = end_form
+canonical (while_form e) = while_form e
 canonical (send_form d g p) = send_form d g (canonical_payload p)
-canonical f = f
+canonical (recv_form s g x) = recv_form s g x
+canonical (print_form e) = print_form e
 
 -- so of each of the statements
 abbrev pub all_canonical : List Form → List Form

@@ -58,9 +58,10 @@ fn is_operation(expression: &Written) -> bool
     ensures { result ≡ is_operation (tree_of expression.now) }
 {
     match expression {
-        Written::Negation(_) => true,
-        Written::Operation(..) => true,
-        _ => false,
+        Written::Negation(_) | Written::Operation(..) => true,
+        Written::Number(_) | Written::Variable(_) | Written::Item(..) | Written::Reading(_) => {
+            false
+        }
     }
 }
 

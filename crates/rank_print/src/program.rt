@@ -15,9 +15,10 @@ fn depth_of(depth: usize, form: &Form) -> usize
     ensures { result ≡ depth_of depth (form_seen form.now) }
 {
     match form {
-        Form::Else => depth.saturating_sub(1),
-        Form::End => depth.saturating_sub(1),
-        _ => depth,
+        Form::Else | Form::End => depth.saturating_sub(1),
+        Form::Var(_) | Form::Array(..) | Form::Let(..) | Form::LetItem(..) => depth,
+        Form::If(_) | Form::While(_) => depth,
+        Form::Send(..) | Form::Recv(..) | Form::Print(_) => depth,
     }
 }
 
@@ -27,13 +28,15 @@ fn depth_after(depth: usize, form: &Form) -> usize
     ensures { result ≡ depth_after depth (form_seen form.now) }
 {
     match form {
-        Form::If(_) => depth + 1,
-        Form::While(_) => depth + 1,
+        Form::If(_) | Form::While(_) => depth + 1,
+        Form::Else => depth,
         Form::End => depth.saturating_sub(1),
-        _ => depth,
+        Form::Var(_) | Form::Array(..) | Form::Let(..) | Form::LetItem(..) => depth,
+        Form::Send(..) | Form::Recv(..) | Form::Print(_) => depth,
     }
 }
 
+/// Writes two spaces for each open block.
 fn indent(text: &mut Vec<u8, Heap>, depth: usize) -> Result<(), AllocError>
     ensures { OnOk result (text.new.items ≡ text.old.items ++ indentation depth) }
 {
@@ -43,6 +46,7 @@ fn indent(text: &mut Vec<u8, Heap>, depth: usize) -> Result<(), AllocError>
     Ok(())
 }
 
+/// Writes the line of a statement, where this many blocks are open.
 fn put_line(
     alloc: Heap,
     text: &mut Vec<u8, Heap>,
@@ -60,8 +64,9 @@ fn put_line(
 /// The canonical text of statements.
 ///
 /// An expression is written with as much stack as it nests. Statements that
-/// `rank_lines::read` has read nest at most 64 deep; `rank_text::forms::form` alone puts no
-/// bound to it but the line's length. The only error is want of memory.
+/// `rank_lines::read` has read nest no deeper than `metered::limits::MOST_NODES`;
+/// `rank_text::forms::form` alone puts no bound to it but the line's length. The only error is
+/// want of memory.
 pub fn print(alloc: Heap, forms: &[Form]) -> Result<Vec<u8, Heap>, AllocError>
     ensures text { IfOk result (λ text. text.items ≡ program_text (forms_seen forms.now)) }
 {
