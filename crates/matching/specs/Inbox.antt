@@ -1,7 +1,8 @@
 -- The inbox as contracts see it (reception in the order of sending, without gap or repetition: Alvisi and
 -- Marzullo 1998; order of messages: MPI 1.1, section 3.5).
 use Rattle.std.specs.Prelude.{◌≡◌, ℕ, ◌+◌, ◌<◌, ◌≤◌, List, [], ◌∷◌, ◌++◌, length, ◌==◌, nat_le, if◌then◌else◌, slice_index, slice_set, remove, All, AllPairs}
-use Rattle.matching.specs.Message.{Message, greatest}
+use Rattle.metered.specs.Limits.{greatest_clock}
+use Rattle.matching.specs.Message.{Message}
 use Rattle.matching.specs.declared.inbox.Accept.{Accept}
 use Rattle.matching.specs.declared.inbox.Accept.TheVariants.{Accepted, Repeated, Gap}
 
@@ -50,4 +51,4 @@ RisesTo m n = m.source ≡ n.source → m.number < n.number
 pub record IsMailbox (box : Mailbox) : Type 0 where
   pub each : All (WasAccepted box.accepted) box.packets
   pub rising : AllPairs RisesTo box.packets
-  pub counts : All (λ n. n ≤ greatest) box.accepted
+  pub counts : All (λ n. n ≤ greatest_clock) box.accepted

@@ -1,6 +1,8 @@
 //! The inbox of a rank.
-ghost use Rattle.std.specs.Prelude.{◌≡◌, ℕ, ◌+◌, ◌<◌, ◌≤◌, [], length, replicate, remove, slice_get, position, Some, true, IfOk, IfErr, IfSome, OnOk, OnErr};
-ghost use Rattle.matching.specs.Message.{Message, greatest};
+ghost use Rattle.std.specs.Prelude.{◌≡◌, ℕ, ◌+◌, ◌<◌, ◌≤◌, [], length, replicate, remove, slice_get, position};
+ghost use Rattle.std.specs.Prelude.{Some, true, IfOk, IfErr, IfSome, OnOk, OnErr};
+ghost use Rattle.metered.specs.Limits.{greatest_clock};
+ghost use Rattle.matching.specs.Message.{Message};
 ghost use Rattle.matching.specs.Matching.{matches, is_named};
 
 use crate::packet::Packet;
@@ -124,7 +126,7 @@ impl Inbox {
     pub fn accepted(&self, source: u8) -> u32
         requires { source < length self.now.accepted }
         ensures value { result ≡ accepted_from self.now source }
-        ensures high { result ≤ greatest }
+        ensures high { result ≤ greatest_clock }
     {
         self.accepted[usize::from(source)]
     }

@@ -1,7 +1,9 @@
 -- What a sender keeps for one destination (sender-based message logging: Alvisi and Marzullo 1998; payloads kept in
 -- the sender's memory, and dropped once a receiver's checkpoint no longer needs them: MPICH-V2).
-use Rattle.std.specs.Prelude.{◌≡◌, ℕ, ◌+◌, ◌-◌, ◌<◌, ◌≤◌, List, [], ◌∷◌, ◌++◌, length, nat_lt, if◌then◌else◌, drop, min, max, slice_index_or, slice_get, Option}
-use Rattle.matching.specs.Message.{Message, greatest}
+use Rattle.std.specs.Prelude.{◌≡◌, ℕ, ◌+◌, ◌-◌, ◌<◌, ◌≤◌, List, [], ◌∷◌, ◌++◌, length, nat_lt, if◌then◌else◌, drop, min, max}
+use Rattle.std.specs.Prelude.{slice_index_or, slice_get, Option}
+use Rattle.metered.specs.Limits.{greatest_clock}
+use Rattle.matching.specs.Message.{Message}
 
 -- how many packets were let go, how many were saved in all, the number of the next to transmit, and the packets kept
 pub record Backlog : Type 0 where
@@ -20,8 +22,8 @@ pub record IsBacklog (b : Backlog) : Type 0 where
   pub numbered : AreNumbered b.base b.kept
   pub above : b.base < b.cursor
   pub below : b.cursor ≤ max b.base b.sent + 1
-  pub base : b.base ≤ greatest
-  pub sent : b.sent ≤ greatest
+  pub base : b.base ≤ greatest_clock
+  pub sent : b.sent ≤ greatest_clock
 
 -- nothing was saved
 abbrev pub new_backlog : Backlog

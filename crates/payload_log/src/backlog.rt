@@ -1,6 +1,6 @@
 //! What is kept for one destination.
 ghost use Rattle.std.specs.Prelude.{◌≡◌, ◌+◌, ◌<◌, ◌≤◌, ◌↔◌, IfSome, IsSome, IfErr, OnOk, OnErr, option_copied, drop};
-ghost use Rattle.matching.specs.Message.{greatest};
+ghost use Rattle.metered.specs.Limits.{greatest_clock};
 
 use matching::Packet;
 use metered::Heap;
@@ -87,7 +87,7 @@ impl Kept {
 
     /// Lets the packets up to a number go.
     pub fn prune(&mut self, upto: u32)
-        requires { upto ≤ greatest }
+        requires { upto ≤ greatest_clock }
         ensures { self.new ≡ pruned self.old upto }
     {
         // an old notice may come late, so the base never falls

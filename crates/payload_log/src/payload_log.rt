@@ -1,6 +1,7 @@
 //! The payloads that a sender keeps, for each destination.
-ghost use Rattle.std.specs.Prelude.{◌≡◌, ◌+◌, ◌<◌, ◌≤◌, ◌↔◌, IfSome, IsSome, IfErr, IfOk, OnOk, OnErr, length, replicate, slice_set, option_copied};
-ghost use Rattle.matching.specs.Message.{greatest};
+ghost use Rattle.std.specs.Prelude.{◌≡◌, ◌+◌, ◌<◌, ◌≤◌, ◌↔◌, IfSome, IsSome, IfErr, IfOk, OnOk, OnErr, length};
+ghost use Rattle.std.specs.Prelude.{replicate, slice_set, option_copied};
+ghost use Rattle.metered.specs.Limits.{greatest_clock};
 
 use crate::backlog::Kept;
 use matching::Packet;
@@ -78,7 +79,7 @@ impl PayloadLog {
     /// back to it, or as far as packets are kept.
     pub fn ask(&mut self, dest: usize, from: u32)
         requires there { dest < length self.old }
-        requires known { (1 ≤ from) × (from ≤ greatest + 1) }
+        requires known { (1 ≤ from) × (from ≤ greatest_clock + 1) }
         ensures { self.new ≡ slice_set self.old dest (asked (backlog self.old dest) from) }
     {
         let kept = &mut self.kept[dest];
@@ -89,7 +90,7 @@ impl PayloadLog {
     /// dropped.
     pub fn prune(&mut self, dest: usize, upto: u32)
         requires there { dest < length self.old }
-        requires known { upto ≤ greatest }
+        requires known { upto ≤ greatest_clock }
         ensures { self.new ≡ slice_set self.old dest (pruned (backlog self.old dest) upto) }
     {
         let kept = &mut self.kept[dest];
