@@ -12,6 +12,7 @@ mod screen;
 mod stable;
 mod stepping;
 mod storing;
+mod striding;
 #[cfg(test)]
 mod tests;
 mod turn;
