@@ -13,8 +13,6 @@ mod stable;
 mod stepping;
 mod storing;
 mod striding;
-#[cfg(test)]
-mod tests;
 mod turn;
 
 pub use fault::NodeFault;
