@@ -1,5 +1,6 @@
 //! The items of one array.
 ghost use Rattle.std.specs.Prelude.{◌≡◌, ◌<◌, ◌≤◌, IfOk, length, map, pos, replicate, slice_set};
+ghost use Rattle.metered.specs.Limits.{most_items};
 ghost use Rattle.rank_lines.specs.SeenLines.{arrays_seen};
 ghost use Rattle.rank_language.specs.Program.{AllSized};
 ghost use Rattle.rank_machine.specs.Values.{item_at, index_in};
@@ -19,19 +20,20 @@ pub struct Items {
 
 impl Model for Items {
     ghost use Rattle.std.specs.Prelude.{◌≤◌, List, ℤ, length};
+    ghost use Rattle.metered.specs.Limits.{most_items};
 
     ghost Value = { List ℤ };
 
     ghost view = { λ a. a.items.items };
 
-    ghost invariant = { λ a. (1 ≤ length a.items.items) × (length a.items.items ≤ 256) };
+    ghost invariant = { λ a. (1 ≤ length a.items.items) × (length a.items.items ≤ most_items) };
 }
 
 impl Items {
     /// So many items, each of them 0.
     pub fn new(alloc: Heap, length: usize) -> Result<Items, AllocError>
         requires least { 1 ≤ length }
-        requires most { length ≤ 256 }
+        requires most { length ≤ most_items }
         ensures { IfOk result (λ items. items ≡ replicate length (pos 0)) }
     {
         Ok(Items {
@@ -87,7 +89,7 @@ impl Items {
     pub fn copy(&self, alloc: Heap) -> Result<Vec<i64, Heap>, AllocError>
         ensures items { IfOk result (λ items. items.items ≡ self.now) }
         ensures least { IfOk result (λ items. 1 ≤ length items.items) }
-        ensures most { IfOk result (λ items. length items.items ≤ 256) }
+        ensures most { IfOk result (λ items. length items.items ≤ most_items) }
     {
         self.items.as_slice().to_vec(alloc)
     }

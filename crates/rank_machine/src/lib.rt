@@ -14,6 +14,3 @@ mod wanted;
 pub use fault::MachineFault;
 pub use machine::Machine;
 pub use want::Want;
-
-#[cfg(test)]
-mod tests;

@@ -105,5 +105,7 @@ after_passed v dest = sent_off v dest (outgoing_of v dest)
 
 -- a packet goes next
 abbrev pub IsPacket : Option Frame → Type 0
+IsPacket None = ⊥
 IsPacket (Some (frame.Data packet)) = Unit {0}
-IsPacket _ = ⊥
+IsPacket (Some (frame.Ask number)) = ⊥
+IsPacket (Some (frame.Kept number)) = ⊥

@@ -1,7 +1,7 @@
 -- A rank at work as contracts see it (pessimistic message logging with sender-based payloads: Alvisi and Marzullo 1998,
 -- "Message Logging: Pessimistic, Optimistic, Causal, and Optimal").
 use Rattle.std.specs.Prelude.{◌≡◌, ℕ, ◌<◌, ◌≤◌, Bool, true, false, List, [], ◌∷◌, length, None, replicate, All}
-use Rattle.matching.specs.Message.{greatest}
+use Rattle.metered.specs.Limits.{most_ranks, greatest_clock, most_events}
 use Rattle.matching.specs.Inbox.{Mailbox}
 use Rattle.payload_log.specs.Backlog.{Backlog, new_backlog}
 use Rattle.event_logger.specs.Event.{EventValue}
@@ -61,8 +61,8 @@ pub record IsNode {S D : Type 0} (v : Node S D) : Type 0 where
   pub machine_rank : v.machine.store.rank ≡ v.stable.rank
   pub machine_size : v.machine.store.size ≡ v.stable.size
   pub rank : v.stable.rank < v.stable.size
-  pub limit : v.stable.size ≤ 16
-  pub clock : v.clock ≤ greatest
-  pub made : v.made ≤ 4096
+  pub limit : v.stable.size ≤ most_ranks
+  pub clock : v.clock ≤ greatest_clock
+  pub made : v.made ≤ most_events
   pub stored : v.stored ≤ length v.pending
   pub sent : All (λ (b : Backlog). b.sent ≤ v.clock) v.log

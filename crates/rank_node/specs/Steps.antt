@@ -4,7 +4,8 @@ use Rattle.std.specs.Prelude.{◌≡◌, ℕ, ◌+◌, nat_lt, ◌==◌, ℤ, Bo
 use Rattle.std.specs.Prelude.{List, [], ◌∷◌, ◌++◌, Option, Some, None, is_some, option_and_then, slice_get, slice_set, position}
 use Rattle.matching.specs.declared.packet.Context.{Context}
 use Rattle.matching.specs.declared.selector.Selector.{Selector}
-use Rattle.matching.specs.Message.{Message, greatest}
+use Rattle.metered.specs.Limits.{greatest_clock, most_events}
+use Rattle.matching.specs.Message.{Message}
 use Rattle.matching.specs.Matching.{matches}
 use Rattle.matching.specs.Inbox.{without}
 use Rattle.payload_log.specs.Backlog.{backlog, saved}
@@ -47,20 +48,22 @@ turn_of v = turn_at v (asks v.machine)
 
 -- an act that would pass the greatest clock is refused
 abbrev pub clock_refusal : {S D : Type 0} → Node S D → Option NodeFault
-clock_refusal v = if v.clock == greatest then Some fault.ClockSpent else None
+clock_refusal v = if v.clock == greatest_clock then Some fault.ClockSpent else None
 
--- an act that makes an event is refused by its clock first, and then where the rank has made 4096 events
+-- an act that makes an event is refused by its clock first, and then where the rank has made as many events as it may
 abbrev pub event_refusal : {S D : Type 0} → Node S D → Option NodeFault
-event_refusal v = if v.clock == greatest then Some fault.ClockSpent else (if nat_lt v.made 4096 then None else Some fault.Log)
+event_refusal v = if v.clock == greatest_clock then Some fault.ClockSpent else (if nat_lt v.made most_events then None else Some fault.Log)
 
 -- only an act is refused, and only where it isn't held or blocked
 abbrev pub refusal_at : {S D : Type 0} → Node S D → Want → Option NodeFault
+refusal_at v want.Internal = None
 refusal_at v (want.Send dest context tag) = if is_settled v.pending then clock_refusal v else None
 refusal_at v (want.Receive selector) = if is_some (position (matches selector) v.inbox.packets) then event_refusal v else None
 refusal_at v (want.Probe selector) = if is_some (position (matches selector) v.inbox.packets) then event_refusal v else None
 refusal_at v (want.TryProbe selector) = event_refusal v
 refusal_at v (want.Print value) = if is_settled v.pending then clock_refusal v else None
-refusal_at v _ = None
+refusal_at v want.Halted = None
+refusal_at v (want.Faulted k) = None
 
 -- why the step of this rank is refused by name, if it is
 abbrev pub refusal_of : {S D : Type 0} → Node S D → Option NodeFault
@@ -68,13 +71,16 @@ refusal_of v = refusal_at v (asks v.machine)
 
 -- whether a step takes memory: an act does, and a step of the machine's own, a held or blocked one and the end don't
 abbrev pub takes_memory_at : {S D : Type 0} → Node S D → Want → Bool
+takes_memory_at v want.Internal = false
 takes_memory_at v (want.Send dest context tag) = is_settled v.pending
 takes_memory_at v (want.Receive selector) = is_some (position (matches selector) v.inbox.packets)
 takes_memory_at v (want.Probe selector) = is_some (position (matches selector) v.inbox.packets)
 takes_memory_at v (want.TryProbe selector) = true
 takes_memory_at v (want.Print value) = is_settled v.pending
-takes_memory_at v _ = false
+takes_memory_at v want.Halted = false
+takes_memory_at v (want.Faulted k) = false
 
+-- whether the step of this rank takes memory
 abbrev pub takes_memory : {S D : Type 0} → Node S D → Bool
 takes_memory v = takes_memory_at v (asks v.machine)
 
@@ -186,8 +192,10 @@ step_at v (want.Receive selector) machine = received v machine (found selector v
 step_at v (want.Probe selector) machine = probed v machine (found selector v.inbox.packets)
 step_at v (want.TryProbe selector) machine = tried v machine (found selector v.inbox.packets)
 step_at v (want.Print value) machine = if is_settled v.pending then after_print v machine else v
-step_at v _ machine = v
+step_at v want.Halted machine = v
+step_at v (want.Faulted k) machine = v
 
+-- the rank after its step, where that was not refused and the machine is then this one
 abbrev pub after_step : {S D : Type 0} → Node S D → MachineValue → Node S D
 after_step v machine = step_at v (asks v.machine) machine
 
@@ -232,15 +240,24 @@ MachineStepAt v (want.Receive selector) machine = TakesFound (found selector v.i
 MachineStepAt v (want.Probe selector) machine = IsShownFound (found selector v.inbox.packets) v.machine machine
 MachineStepAt v (want.TryProbe selector) machine = TriesFound (found selector v.inbox.packets) v.machine machine
 MachineStepAt v (want.Print value) machine = MatchBool (is_settled v.pending) (DidAct v.machine machine) (machine ≡ v.machine)
-MachineStepAt v _ machine = machine ≡ v.machine
+MachineStepAt v want.Halted machine = machine ≡ v.machine
+MachineStepAt v (want.Faulted k) machine = machine ≡ v.machine
 
+-- the machine makes just the step that this rank wants
 abbrev pub MachineStep : {S D : Type 0} → Node S D → MachineValue → Type 0
 MachineStep v machine = MachineStepAt v (asks v.machine) machine
 
 -- a print that passes is shown with the next clock, and nothing else is
 abbrev pub ShowsAt : {S D C : Type 0} → (C → ℕ → ℕ → ℤ → C → Type 0) → Node S D → Want → C → C → Type 0
+ShowsAt shows v want.Internal old new = new ≡ old
+ShowsAt shows v (want.Send dest context tag) old new = new ≡ old
+ShowsAt shows v (want.Receive selector) old new = new ≡ old
+ShowsAt shows v (want.Probe selector) old new = new ≡ old
+ShowsAt shows v (want.TryProbe selector) old new = new ≡ old
 ShowsAt shows v (want.Print value) old new = MatchBool (is_settled v.pending) (shows old v.stable.rank (v.clock + 1) value new) (new ≡ old)
-ShowsAt shows v _ old new = new ≡ old
+ShowsAt shows v want.Halted old new = new ≡ old
+ShowsAt shows v (want.Faulted k) old new = new ≡ old
 
+-- what the step of this rank shows
 abbrev pub ShowsStep : {S D C : Type 0} → (C → ℕ → ℕ → ℤ → C → Type 0) → Node S D → C → C → Type 0
 ShowsStep shows v old new = ShowsAt shows v (asks v.machine) old new

@@ -1,23 +1,25 @@
 //! Frames: what one rank puts on its way to another.
-ghost use Rattle.std.specs.Prelude.{◌≡◌, ◌≤◌};
+ghost use Rattle.std.specs.Prelude.{◌≡◌, ◌≤◌, ◌+◌};
+ghost use Rattle.metered.specs.Limits.{greatest_clock};
 
 use matching::Packet;
 use std::marker::Model;
 
-/// The number from which a rank asks for packets, 1 to 268435456.
+/// The number from which a rank asks for packets: from 1 to one more than the greatest.
 #[derive(Clone, Copy, Debug)]
 pub struct AskFrom {
     number: u32,
 }
 
 impl Model for AskFrom {
-    ghost use Rattle.std.specs.Prelude.{ℕ, ◌≤◌};
+    ghost use Rattle.std.specs.Prelude.{ℕ, ◌≤◌, ◌+◌};
+    ghost use Rattle.metered.specs.Limits.{greatest_clock};
 
     ghost Value = { ℕ };
 
     ghost view = { λ a. a.number };
 
-    ghost invariant = { λ a. (1 ≤ a.number) × (a.number ≤ 268435456) };
+    ghost invariant = { λ a. (1 ≤ a.number) × (a.number ≤ greatest_clock + 1) };
 
     ghost inverse = { λ n. record { number = n } };
 }
@@ -26,7 +28,7 @@ impl AskFrom {
     /// An ask from this number on.
     pub fn new(number: u32) -> AskFrom
         requires low { 1 ≤ number }
-        requires high { number ≤ 268435456 }
+        requires high { number ≤ greatest_clock + 1 }
         ensures { result ≡ number }
     {
         AskFrom { number }
@@ -36,13 +38,14 @@ impl AskFrom {
     pub fn number(self) -> u32
         ensures value { result ≡ self }
         ensures low { 1 ≤ result }
-        ensures high { result ≤ 268435456 }
+        ensures high { result ≤ greatest_clock + 1 }
     {
-        self.number
+        let AskFrom { number } = self;
+        number
     }
 }
 
-/// The number up to which a rank's image has accepted, at most 268435455.
+/// The number up to which a rank's image has accepted packets.
 #[derive(Clone, Copy, Debug)]
 pub struct KeptUpto {
     number: u32,
@@ -50,12 +53,13 @@ pub struct KeptUpto {
 
 impl Model for KeptUpto {
     ghost use Rattle.std.specs.Prelude.{ℕ, ◌≤◌};
+    ghost use Rattle.metered.specs.Limits.{greatest_clock};
 
     ghost Value = { ℕ };
 
     ghost view = { λ a. a.number };
 
-    ghost invariant = { λ a. a.number ≤ 268435455 };
+    ghost invariant = { λ a. a.number ≤ greatest_clock };
 
     ghost inverse = { λ n. record { number = n } };
 }
@@ -63,7 +67,7 @@ impl Model for KeptUpto {
 impl KeptUpto {
     /// An image has accepted up to this number.
     pub fn new(number: u32) -> KeptUpto
-        requires { number ≤ 268435455 }
+        requires { number ≤ greatest_clock }
         ensures { result ≡ number }
     {
         KeptUpto { number }
@@ -72,9 +76,10 @@ impl KeptUpto {
     /// The number up to which packets were accepted.
     pub fn number(self) -> u32
         ensures value { result ≡ self }
-        ensures high { result ≤ 268435455 }
+        ensures high { result ≤ greatest_clock }
     {
-        self.number
+        let KeptUpto { number } = self;
+        number
     }
 }
 

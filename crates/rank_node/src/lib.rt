@@ -12,8 +12,7 @@ mod screen;
 mod stable;
 mod stepping;
 mod storing;
-#[cfg(test)]
-mod tests;
+mod striding;
 mod turn;
 
 pub use fault::NodeFault;

@@ -5,11 +5,11 @@ ghost use Rattle.rank_machine.specs.Wants.{IsSend, payload};
 
 use crate::fault::NodeFault;
 use crate::running::Running;
-use crate::stepping::GREATEST;
 use crate::turn::Turn;
 use checkpoint::Shelf;
 use event_logger::Event;
 use metered::Heap;
+use metered::limits::GREATEST_CLOCK;
 use rank_machine::Want;
 use std::alloc::AllocError;
 
@@ -43,8 +43,9 @@ impl<'p, S: Shelf, D> Running<'p, S, D> {
             Want::Receive(selector) if self.inbox.find(&selector).is_some() => {
                 self.has_room().err()
             }
+            Want::Send { .. } | Want::Print(_) | Want::Receive(_) => None,
             Want::Probe(_) | Want::TryProbe(_) => unreachable!(),
-            _ => None,
+            Want::Internal | Want::Halted | Want::Faulted(_) => None,
         }
     }
 
@@ -66,7 +67,7 @@ impl<'p, S: Shelf, D> Running<'p, S, D> {
     fn clock_refusal(&self) -> Option<NodeFault>
         ensures { result ≡ clock_refusal self.now }
     {
-        if self.clock >= GREATEST {
+        if self.clock >= GREATEST_CLOCK {
             Some(NodeFault::ClockSpent)
         } else {
             None

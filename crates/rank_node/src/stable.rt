@@ -1,12 +1,13 @@
 //! What of a rank outlives a crash.
 ghost use Rattle.std.specs.Prelude.{◌≡◌, ◌<◌, ◌≤◌};
+ghost use Rattle.metered.specs.Limits.{most_ranks};
 
 use checkpoint::Shelf;
 use std::marker::Model;
 
 /// A rank's desk at the logger, its shelf, and which of how many ranks it is.
 ///
-/// There are at most 16 ranks. The value must be spent.
+/// There are at most 8 ranks. The value must be spent.
 pub struct Stable<S: Shelf, D> {
     desk: D,
     shelf: S,
@@ -16,20 +17,21 @@ pub struct Stable<S: Shelf, D> {
 
 impl<S: Shelf, D> Model for Stable<S, D> {
     ghost use Rattle.std.specs.Prelude.{◌<◌, ◌≤◌};
+    ghost use Rattle.metered.specs.Limits.{most_ranks};
     ghost use Rattle.rank_node.specs.Stored.{Stored};
 
     ghost Value = { Stored S D };
 
     ghost view = { λ s. record { desk = s.desk; shelf = s.shelf; rank = s.rank; size = s.size } };
 
-    ghost invariant = { λ s. (s.rank < s.size) × (s.size ≤ 16) };
+    ghost invariant = { λ s. (s.rank < s.size) × (s.size ≤ most_ranks) };
 }
 
 impl<S: Shelf, D> Stable<S, D> {
     /// What outlives the crashes of this rank.
     pub fn new(desk: D, shelf: S, rank: u8, size: u8) -> Self
         requires rank { rank < size }
-        requires size { size ≤ 16 }
+        requires size { size ≤ most_ranks }
         ensures { result ≡ record { desk = desk; shelf = shelf; rank = rank; size = size } }
     {
         Stable {
@@ -62,7 +64,7 @@ impl<S: Shelf, D> Stable<S, D> {
 
     pub(crate) fn size(&self) -> u8
         ensures value { result ≡ self.now.size }
-        ensures within { result ≤ 16 }
+        ensures within { result ≤ most_ranks }
     {
         self.size
     }

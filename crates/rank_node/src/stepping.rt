@@ -1,6 +1,6 @@
 //! The steps of a rank that runs.
 ghost use Rattle.std.specs.Prelude.{◌≡◌, ◌≢◌, ℕ, ◌+◌, ◌<◌, ◌≤◌, Some, None, true, IfOk, IfErr, OnOk, OnErr, IsErrOf};
-ghost use Rattle.matching.specs.Message.{greatest};
+ghost use Rattle.metered.specs.Limits.{greatest_clock, greatest_sender, most_events};
 ghost use Rattle.event_logger.specs.Event.{event_of};
 ghost use Rattle.event_logger.specs.declared.kind.Kind.TheVariants as kind;
 ghost use Rattle.rank_machine.specs.Wants.{IsLegal};
@@ -13,13 +13,8 @@ use crate::turn::Turn;
 use checkpoint::Shelf;
 use event_logger::{Event, Kind};
 use matching::{Context, Packet, Selector};
+use metered::limits::{GREATEST_CLOCK, MOST_EVENTS};
 use rank_machine::Want;
-
-/// The greatest clock.
-pub(crate) const GREATEST: u32 = 268435455;
-
-/// How many events a rank may make.
-const MOST_EVENTS: usize = 4096;
 
 impl<'p, S: Shelf, D> Running<'p, S, D> {
     ghost use Rattle.rank_node.specs.Node.{is_settled};
@@ -72,7 +67,7 @@ impl<'p, S: Shelf, D> Running<'p, S, D> {
         if !self.is_settled() {
             return Ok(Turn::Held);
         }
-        if self.clock >= GREATEST {
+        if self.clock >= GREATEST_CLOCK {
             return Err(NodeFault::ClockSpent);
         }
         let payload = self.machine.payload(self.alloc)?;
@@ -135,7 +130,7 @@ impl<'p, S: Shelf, D> Running<'p, S, D> {
         if !self.is_settled() {
             return Ok(Turn::Held);
         }
-        if self.clock >= GREATEST {
+        if self.clock >= GREATEST_CLOCK {
             return Err(NodeFault::ClockSpent);
         }
         screen.show(self.stable.rank(), self.clock + 1, value)?;
@@ -155,10 +150,10 @@ impl<'p, S: Shelf, D> Running<'p, S, D> {
     pub(crate) fn has_room(&self) -> Result<(), NodeFault>
         ensures ok { OnOk result (event_refusal self.now ≡ None) }
         ensures err { IfErr result (λ e. event_refusal self.now ≡ Some e) }
-        ensures clock { OnOk result (self.now.clock < greatest) }
-        ensures made { OnOk result (self.now.made < 4096) }
+        ensures clock { OnOk result (self.now.clock < greatest_clock) }
+        ensures made { OnOk result (self.now.made < most_events) }
     {
-        if self.clock >= GREATEST {
+        if self.clock >= GREATEST_CLOCK {
             return Err(NodeFault::ClockSpent);
         }
         if self.made >= MOST_EVENTS {
@@ -170,9 +165,9 @@ impl<'p, S: Shelf, D> Running<'p, S, D> {
 
 // The event of a reception at this clock.
 fn reception(packet: &Packet, clock: u32) -> Event
-    requires source { packet.now.source ≤ 15 }
+    requires source { packet.now.source ≤ greatest_sender }
     requires low { 1 ≤ clock }
-    requires high { clock ≤ greatest }
+    requires high { clock ≤ greatest_clock }
     ensures { result ≡ event_of kind.Reception packet.now.source packet.now.clock clock }
 {
     let Some(event) = Event::new(Kind::Reception, packet.source, packet.clock, clock) else {
