@@ -1,0 +1,7 @@
+use Rattle.std.proofs.Common.{◌≡◌}
+use Rattle.shared_logger.specs.Desks.{IsSameDesk}
+use Rattle.logger_tests.proofs.shared.append_all.Given as goal
+
+-- the desk stays the same
+abbrev pub invariant-loop-clock : goal.invariant-loop-clock
+invariant-loop-clock g l = IsSameDesk l.initial.desk l.desk
