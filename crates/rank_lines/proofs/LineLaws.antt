@@ -7,7 +7,9 @@ use Rattle.std.proofs.lemmas.Bool.{ltb-true}
 use Rattle.std.proofs.lemmas.Bool.Decides.{nat_tests}
 use Rattle.metered.specs.Limits.{most_lines, most_line_bytes}
 use Rattle.rank_lines.specs.declared.fault.FaultKind.{FaultKind}
-use Rattle.rank_lines.specs.declared.fault.FaultKind.TheVariants.{NotText, NotAStatement, BadForm, Undeclared, DeclaredTwice, BlockOpen, BlockStray, Limit, NumberRange}
+use Rattle.rank_lines.specs.declared.fault.FaultKind.TheVariants.{NotText, NotAStatement, BadForm}
+use Rattle.rank_lines.specs.declared.fault.FaultKind.TheVariants.{Undeclared, DeclaredTwice, BlockOpen}
+use Rattle.rank_lines.specs.declared.fault.FaultKind.TheVariants.{BlockStray, Limit, NumberRange}
 use Rattle.rank_text.specs.declared.token.Token.{Token}
 use Rattle.rank_text.specs.Tokens.{tokens_of}
 use Rattle.rank_text.specs.Forms.{Form, form_of}
@@ -15,7 +17,9 @@ use Rattle.rank_text.proofs.LexLaws.{lexed, one_lexing, read_is}
 use Rattle.rank_text.proofs.FormLaws.{form_read, form_spelled}
 use Rattle.rank_lines.specs.Lines.{is_text, is_skipped, is_statement}
 use Rattle.rank_lines.specs.Scope.{Scope, declared_in, is_twice, is_stray, is_over, has_great_number}
-use Rattle.rank_lines.specs.Faults.{number_of, IsLooked, IsFormed, Holds, other_byte, no_word, no_form, unknown_name, known_name, no_block, long_line, late_line, over, great_number, IsLowest, IsLine, skipped, stated}
+use Rattle.rank_lines.specs.Faults.{number_of, IsLooked, IsFormed, Holds, other_byte, no_word, no_form}
+use Rattle.rank_lines.specs.Faults.{unknown_name, known_name, no_block, long_line, late_line, over}
+use Rattle.rank_lines.specs.Faults.{great_number, IsLowest, IsLine, skipped, stated}
 use Rattle.rank_lines.specs.Verdict.{first_of, unless_fault, form_fault, formed, looked, skipped_of, measured, line_of}
 
 -- a test that gives false shows that the number isn't below

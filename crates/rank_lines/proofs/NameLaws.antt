@@ -10,8 +10,14 @@ use Rattle.rank_text.specs.Name.{kept_bytes}
 use Rattle.rank_text.specs.declared.token.Token.{Token}
 use Rattle.rank_text.specs.declared.token.Token.TheVariants as t
 use Rattle.rank_text.specs.Tokens.{found_in, reserved, control_words, message_words, reading_words, argument_words}
-use Rattle.rank_text.specs.Lexes.{IsWord, IsName, word_token, Symbol, is_add, is_subtract, is_multiply, is_divide, is_remainder, is_open_parenthesis, is_close_parenthesis, is_open_bracket, is_close_bracket, is_comma, is_assign, is_less, is_greater, is_equal, is_not_equal, is_less_equal, is_greater_equal, Lexes, is_end, is_space, is_word, is_number, is_symbol}
-use Rattle.rank_text.specs.Forms.{Form, var_form, array_form, IsForm, is_var, is_array, is_let, is_let_item, is_if, is_else, is_end as is_end_form, is_while, is_send, is_recv, is_print}
+use Rattle.rank_text.specs.Lexes.{IsWord, IsName, word_token, Symbol, is_add, is_subtract, is_multiply}
+use Rattle.rank_text.specs.Lexes.{is_divide, is_remainder, is_open_parenthesis, is_close_parenthesis}
+use Rattle.rank_text.specs.Lexes.{is_open_bracket, is_close_bracket, is_comma, is_assign, is_less}
+use Rattle.rank_text.specs.Lexes.{is_greater, is_equal, is_not_equal, is_less_equal, is_greater_equal, Lexes}
+use Rattle.rank_text.specs.Lexes.{is_end, is_space, is_word, is_number, is_symbol}
+use Rattle.rank_text.specs.Forms.{Form, var_form, array_form, IsForm, is_var, is_array, is_let, is_let_item}
+use Rattle.rank_text.specs.Forms.{is_if, is_else, is_end as is_end_form, is_while, is_send, is_recv}
+use Rattle.rank_text.specs.Forms.{is_print}
 use Rattle.rank_lines.specs.Scope.{Scope, is_past_table, IsNamed}
 
 -- the token is no name
@@ -41,7 +47,8 @@ found_none (r ∷ rs) w h = found_either (bytes_eq w r.0) r.1 (found_in rs w) h.
 -- no reserved word's token is a name
 reserved_none : AllNoName reserved
 unfolding control_words message_words reading_words argument_words
-reserved_none = (tt, (tt, (tt, (tt, (tt, (tt, (tt, (tt, (tt, (tt, (tt, (tt, (tt, (tt, (tt, (tt, (tt, (tt, (tt, (tt, (tt, (tt, (tt, (tt, tt))))))))))))))))))))))))
+reserved_none =
+    (tt, (tt, (tt, (tt, (tt, (tt, (tt, (tt, (tt, (tt, (tt, (tt, (tt, (tt, (tt, (tt, (tt, (tt, (tt, (tt, (tt, (tt, (tt, (tt, tt))))))))))))))))))))))))
 
 -- a token that is a name of at most as many bytes as a name may have is a name's
 abbrev pub IsNamedToken : Token → Type 0
@@ -62,7 +69,8 @@ uncut : (w : List ℕ) → length (take kept_bytes w) ≤ most_name_bytes → ta
 uncut w h = take_all kept_bytes w (omega (arith, length-take kept_bytes w))
 
 -- the token of a word, where the table has this for it
-word_named_by : (w : List ℕ) (o : Option Token) → IsWord w → found_in reserved w ≡ o → FoundNoName o → IsNamedToken (elim o [ None ↦ t.Name (take kept_bytes w) | Some token ↦ token ])
+word_named_by : (w : List ℕ) (o : Option Token) → IsWord w → found_in reserved w ≡ o → FoundNoName o
+    → IsNamedToken (elim o [ None ↦ t.Name (take kept_bytes w) | Some token ↦ token ])
 word_named_by w None h q k = λ l. subst IsName (sym (uncut w l)) (h, q)
 word_named_by w (Some token) h q k = other_token token k
 

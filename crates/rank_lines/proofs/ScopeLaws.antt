@@ -1,6 +1,7 @@
 -- The blocks that are open, in the code and as they are seen. The code has the innermost last and the definition
 -- has it first, so each change at the end of the one is a change at the front of the other.
-use Rattle.std.specs.Prelude.{◌≡◌, ◌-◌, ◌<◌, List, [], ◌∷◌, ◌++◌, length, Option, Some, None, Bool, true, false, nat_eq, slice_get, slice_set, option_to_list, IsSome}
+use Rattle.std.specs.Prelude.{◌≡◌, ◌-◌, ◌<◌, List, [], ◌∷◌, ◌++◌, length, Option, Some, None, Bool, true}
+use Rattle.std.specs.Prelude.{false, nat_eq, slice_get, slice_set, option_to_list, IsSome}
 use Rattle.std.proofs.Common.{refl, sym, ap, ◌∙◌, arith, length-append, append-nil}
 use Rattle.std.proofs.lemmas.Bool.Decides.{nat_tests}
 use Rattle.rank_lines.specs.declared.scope.Opened as source_opened

@@ -4,11 +4,15 @@
 use Rattle.std.specs.Prelude.{◌≡◌, ℕ, ◌+◌, List, [], ◌∷◌, Option, Some, None, Result, Ok, Err, if◌then◌else◌}
 use Rattle.std.proofs.Common.{◌⊎◌, inl, inr, refl, sym, ap, subst, ◌∙◌, arith, eqb}
 use Rattle.rank_lines.specs.declared.fault.FaultKind.{FaultKind}
-use Rattle.rank_lines.specs.declared.fault.FaultKind.TheVariants.{NotText, NotAStatement, BadForm, Undeclared, DeclaredTwice, BlockOpen, BlockStray, Limit, NumberRange}
+use Rattle.rank_lines.specs.declared.fault.FaultKind.TheVariants.{NotText, NotAStatement, BadForm}
+use Rattle.rank_lines.specs.declared.fault.FaultKind.TheVariants.{Undeclared, DeclaredTwice, BlockOpen}
+use Rattle.rank_lines.specs.declared.fault.FaultKind.TheVariants.{BlockStray, Limit, NumberRange}
 use Rattle.rank_text.specs.Forms.{Form}
 use Rattle.rank_lines.specs.Lines.{lines_of}
 use Rattle.rank_lines.specs.Scope.{Scope, Opened, nothing_yet, is_empty, after}
-use Rattle.rank_lines.specs.Faults.{number_of, IsClean, IsLowest, IsLine, skipped, stated, AreLines, none, passed, taken, IsText, HasFirstFault, at_end, here, past_skipped, past_stated, IsFaultOf}
+use Rattle.rank_lines.specs.Faults.{number_of, IsClean, IsLowest, IsLine, skipped, stated, AreLines, none}
+use Rattle.rank_lines.specs.Faults.{passed, taken, IsText, HasFirstFault, at_end, here, past_skipped}
+use Rattle.rank_lines.specs.Faults.{past_stated, IsFaultOf}
 use Rattle.rank_lines.specs.Verdict.{line_of, onto_forms, after_line, statements_of, reading_of}
 use Rattle.rank_lines.proofs.LineLaws.{form_one, Answers, line_answers}
 

@@ -102,3 +102,7 @@ some_room large room n h = ap (λ z. large || z) (less_room room n h)
 pub none_waits : (es : List (Bor Written)) → (0 < length es → ⊥) → es ≡ []
 none_waits [] h = refl
 none_waits (e ∷ es) h = absurd (h (omega arith))
+
+-- what is left waiting, and the tests of what was looked at
+pub ruleset waiting_laws =
+    (nodes_push, known_push, great_push, name_known, item_known, two_known, number_great, two_great, and_true, or_false, none_waits)

@@ -5,9 +5,12 @@ use Rattle.std.proofs.Common.{refl, sym, ap, ◌∙◌, arith}
 use Rattle.metered.specs.Limits.{most_lines}
 use Rattle.rank_text.specs.declared.token.Token.{Token}
 use Rattle.rank_text.specs.Forms.{Form}
-use Rattle.rank_lines.specs.Scope.{Scope, declared_in, is_twice, is_stray, is_past_table, has_large, is_over, has_great_number, after_all, MayStand, AllMayStand, IsWhole}
+use Rattle.rank_lines.specs.Scope.{Scope, declared_in, is_twice, is_stray, is_past_table, has_large, is_over}
+use Rattle.rank_lines.specs.Scope.{has_great_number, after_all, MayStand, AllMayStand, IsWhole}
 use Rattle.rank_lines.proofs.NameLaws.{tokens_named, form_named}
-use Rattle.rank_lines.specs.Faults.{IsFormed, unknown_name, known_name, no_block, late_line, over, great_number, IsClean, IsLine, skipped, stated, AreLines, none, passed, taken, IsText}
+use Rattle.rank_lines.specs.Faults.{IsFormed, unknown_name, known_name, no_block, late_line, over}
+use Rattle.rank_lines.specs.Faults.{great_number, IsClean, IsLine, skipped, stated, AreLines, none, passed}
+use Rattle.rank_lines.specs.Faults.{taken, IsText}
 
 -- what can't be true is false
 not_true : (b : Bool) → (b ≡ true → ⊥) → b ≡ false

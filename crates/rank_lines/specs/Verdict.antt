@@ -2,7 +2,9 @@
 use Rattle.std.specs.Prelude.{ℕ, ◌+◌, List, [], ◌∷◌, Bool, ◌||◌, not, nat_lt, length, Option, Some, None, Result, Ok, Err, if◌then◌else◌}
 use Rattle.metered.specs.Limits.{most_lines, most_line_bytes}
 use Rattle.rank_lines.specs.declared.fault.FaultKind.{FaultKind}
-use Rattle.rank_lines.specs.declared.fault.FaultKind.TheVariants.{NotText, NotAStatement, BadForm, Undeclared, DeclaredTwice, BlockOpen, BlockStray, Limit, NumberRange}
+use Rattle.rank_lines.specs.declared.fault.FaultKind.TheVariants.{NotText, NotAStatement, BadForm}
+use Rattle.rank_lines.specs.declared.fault.FaultKind.TheVariants.{Undeclared, DeclaredTwice, BlockOpen}
+use Rattle.rank_lines.specs.declared.fault.FaultKind.TheVariants.{BlockStray, Limit, NumberRange}
 use Rattle.rank_text.specs.declared.token.Token.{Token}
 use Rattle.rank_text.specs.Tokens.{tokens_of}
 use Rattle.rank_text.specs.Forms.{Form, form_of}

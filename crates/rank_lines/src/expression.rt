@@ -29,7 +29,7 @@ impl Survey {
     }
 
     /// A node is looked at, and what it stands over is put behind what waits.
-    #[tactic(auto, using(crate::proofs::WaitingLaws::nodes_push, crate::proofs::WaitingLaws::known_push, crate::proofs::WaitingLaws::great_push, crate::proofs::WaitingLaws::name_known, crate::proofs::WaitingLaws::item_known, crate::proofs::WaitingLaws::two_known, crate::proofs::WaitingLaws::number_great, crate::proofs::WaitingLaws::two_great, crate::proofs::WaitingLaws::and_true, crate::proofs::WaitingLaws::or_false))]
+    #[tactic(auto, using(crate::proofs::WaitingLaws::waiting_laws))]
     fn node<'a>(
         &mut self,
         scope: &Scope,
@@ -65,7 +65,7 @@ impl Survey {
     }
 
     /// What the expression adds to what has been found.
-    #[tactic(auto, using(crate::proofs::WaitingLaws::nodes_push, crate::proofs::WaitingLaws::known_push, crate::proofs::WaitingLaws::great_push, crate::proofs::WaitingLaws::and_true, crate::proofs::WaitingLaws::or_false, crate::proofs::WaitingLaws::none_waits))]
+    #[tactic(auto, using(crate::proofs::WaitingLaws::waiting_laws))]
     pub(crate) fn expression(
         &mut self,
         alloc: Heap,
