@@ -9,8 +9,6 @@ pub mod program;
 mod resolve;
 mod resolve_form;
 pub mod statement;
-#[cfg(test)]
-mod tests;
 
 pub use expression::Expression;
 pub use program::Program;

@@ -13,6 +13,3 @@ mod statement;
 
 pub use laws::{reads_back, settles};
 pub use program::print;
-
-#[cfg(test)]
-mod tests;
