@@ -3,8 +3,6 @@
 
 mod memory_shelf;
 mod shelf;
-#[cfg(test)]
-mod tests;
 
 pub use memory_shelf::MemoryShelf;
 pub use shelf::{Shelf, ShelfFault};

@@ -4,8 +4,6 @@
 mod backlog;
 mod laws;
 mod payload_log;
-#[cfg(test)]
-mod tests;
 
 pub use laws::keeps;
 pub use payload_log::PayloadLog;

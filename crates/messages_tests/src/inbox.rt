@@ -1,0 +1,189 @@
+//! Inboxes: which packets are accepted, and which one a receive finds.
+ghost use Rattle.std.specs.Prelude.{◌≡◌, ◌<◌, length};
+
+use crate::fixtures::packet;
+use matching::{Accept, Context, Inbox, Packet, Selector};
+use metered::Heap;
+use std::process::Abort;
+use std::test::*;
+
+/// The source and the number of an arrival, what becomes of it, and how many
+/// packets of the source were accepted then.
+const ARRIVALS: [(u8, u32, Accept, u32); 11] = [
+    (1, 2, Accept::Gap, 0),
+    (1, 1, Accept::Accepted, 1),
+    (1, 1, Accept::Repeated, 1),
+    (7, 2, Accept::Gap, 0),
+    (1, 3, Accept::Gap, 1),
+    (1, 2, Accept::Accepted, 2),
+    (7, 1, Accept::Accepted, 1),
+    (1, 1, Accept::Repeated, 2),
+    (0, 1, Accept::Accepted, 1),
+    (1, 3, Accept::Accepted, 3),
+    (7, 9, Accept::Gap, 1),
+];
+
+/// Lets a packet arrive; this is to become of it.
+fn arrives(rt: &impl Abort, inbox: &mut Inbox, arrival: Packet, want: Accept) -> Result<(), Fail>
+    requires { arrival.source < length inbox.old.accepted }
+    ensures { length inbox.new.accepted ≡ length inbox.old.accepted }
+{
+    let (source, number) = (arrival.source, arrival.number);
+    assert_eq!(rt;
+        inbox.accept(arrival)?,
+        want,
+        "number {number} of source {source}"
+    );
+    Ok(())
+}
+
+#[test]
+fn only_the_next_number_is_accepted(rt: HostRuntime) -> Result<(), Fail> {
+    let mut inbox = Inbox::new(rt.alloc(), 8)?;
+    for (source, number, want, accepted) in ARRIVALS {
+        assert!(rt; source < 8 && 0 < number && number < 10);
+        let arrival = packet(rt.alloc(), source, number, Context::PointToPoint, 0, &[7])?;
+        arrives(&rt, &mut inbox, arrival, want)?;
+        assert_eq!(rt;
+            inbox.accepted(source),
+            accepted,
+            "after number {number} of source {source}"
+        );
+    }
+    Ok(())
+}
+
+/// What names a packet of this context.
+fn selector(context: Context, source: Option<u8>, tag: Option<u16>) -> Selector {
+    Selector {
+        context,
+        source,
+        tag,
+    }
+}
+
+/// The point-to-point packets of the next test: source, number and tag.
+const PACKETS: [(u8, u32, u16); 3] = [(1, 1, 5), (7, 2, 6), (1, 2, 6)];
+
+/// A source and a tag, and where the first packet stands that they name.
+const NAMED: [(Option<u8>, Option<u16>, Option<usize>); 6] = [
+    (None, None, Some(1)),
+    (Some(7), None, Some(2)),
+    (None, Some(6), Some(2)),
+    (Some(1), Some(6), Some(3)),
+    (Some(0), None, None),
+    (Some(7), Some(5), None),
+];
+
+/// A source and a clock, and where the packet stands that they name.
+const SENT_AT: [(u8, u32, Option<usize>); 3] = [(1, 20, Some(3)), (7, 20, Some(2)), (7, 30, None)];
+
+#[test]
+fn the_first_match_of_its_context(rt: HostRuntime) -> Result<(), Fail> {
+    let mut inbox = Inbox::new(rt.alloc(), 8)?;
+    let collective = packet(rt.alloc(), 7, 1, Context::Collective, 0, &[7, 7, 7])?;
+    arrives(&rt, &mut inbox, collective, Accept::Accepted)?;
+    for (source, number, tag) in PACKETS {
+        assert!(rt; source < 8 && 0 < number && number < 3 && tag < 7);
+        let arrival = packet(rt.alloc(), source, number, Context::PointToPoint, tag, &[7])?;
+        arrives(&rt, &mut inbox, arrival, Accept::Accepted)?;
+    }
+    finds(&rt, &inbox);
+    Ok(())
+}
+
+/// Looks for what the tables name.
+fn finds(rt: &impl Abort, inbox: &Inbox) {
+    for (source, tag, want) in NAMED {
+        let named = selector(Context::PointToPoint, source, tag);
+        assert_eq!(rt; inbox.find(&named), want, "{named:?}");
+    }
+    for (source, clock, want) in SENT_AT {
+        assert_eq!(rt;
+            inbox.find_named(source, clock),
+            want,
+            "source {source} at clock {clock}"
+        );
+    }
+}
+
+#[test]
+fn three_hundred_packets_of_one_source(rt: HostRuntime) -> Result<(), Fail> {
+    let mut inbox = Inbox::new(rt.alloc(), 8)?;
+    three_hundred_arrive(&rt, rt.alloc(), &mut inbox)?;
+    one_of_each_other_source(&rt, rt.alloc(), &mut inbox)?;
+    assert_eq!(rt; inbox.accepted(7), 300);
+    assert_eq!(rt; inbox.find_named(7, 3000), Some(299));
+    takes_them_all(&rt, &mut inbox)
+}
+
+/// Packets of rank 7: odd numbers have tag 1, and even ones tag 0.
+fn three_hundred_arrive(rt: &impl Abort, alloc: Heap, inbox: &mut Inbox) -> Result<(), Fail>
+    requires { 7 < length inbox.old.accepted }
+    ensures { length inbox.new.accepted ≡ length inbox.old.accepted }
+{
+    for number in 1..301u32 {
+        let tag = (number % 2) as u16;
+        let arrival = packet(alloc, 7, number, Context::PointToPoint, tag, &[7])?;
+        arrives(rt, inbox, arrival, Accept::Accepted)?;
+    }
+    Ok(())
+}
+
+/// Packets of a collective.
+fn one_of_each_other_source(rt: &impl Abort, alloc: Heap, inbox: &mut Inbox) -> Result<(), Fail>
+    requires { 7 < length inbox.old.accepted }
+    ensures { length inbox.new.accepted ≡ length inbox.old.accepted }
+{
+    for source in 0..7u8 {
+        let arrival = packet(alloc, source, 1, Context::Collective, 0, &[7, 7, 7])?;
+        arrives(rt, inbox, arrival, Accept::Accepted)?;
+    }
+    Ok(())
+}
+
+/// Takes the even numbers, then the odd ones, and last those of the
+/// collective.
+fn takes_them_all(rt: &impl Abort, inbox: &mut Inbox) -> Result<(), Fail> {
+    let even = selector(Context::PointToPoint, Some(7), Some(0));
+    for k in 0..150u32 {
+        // the odd ones before it are still there
+        take(rt, inbox, &even, (k as usize + 1, 7, 2 * k + 2))?;
+    }
+    assert_eq!(rt; inbox.find(&even), None);
+    let any = selector(Context::PointToPoint, None, None);
+    for k in 0..150u32 {
+        take(rt, inbox, &any, (0, 7, 2 * k + 1))?;
+    }
+    assert_eq!(rt; inbox.find(&any), None);
+    let collective = selector(Context::Collective, None, None);
+    for source in 0..7u8 {
+        take(rt, inbox, &collective, (0, source, 1))?;
+    }
+    assert_eq!(rt; inbox.find(&collective), None);
+    Ok(())
+}
+
+/// Takes what the selector finds: it is to stand at this index, and to be this
+/// source's packet of this number.
+fn take(
+    rt: &impl Abort,
+    inbox: &mut Inbox,
+    named: &Selector,
+    want: (usize, u8, u32),
+) -> Result<(), Fail> {
+    let index = inbox.find(named).ok_or("nothing matches")?;
+    let shown = inbox.get(index);
+    assert_eq!(rt;
+        (index, shown.source, shown.number),
+        want,
+        "found by {named:?}"
+    );
+    let taken = inbox.take(index);
+    assert_eq!(rt;
+        (index, taken.source, taken.number),
+        want,
+        "taken by {named:?}"
+    );
+    Ok(())
+}

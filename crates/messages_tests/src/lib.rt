@@ -1,0 +1,14 @@
+//! Tests of `matching`, `payload_log`, `checkpoint` and `ports`: what no clause
+//! of them says, above all that calls succeed with ample memory at the limits.
+#![tactic(auto)]
+
+#[cfg(test)]
+mod fixtures;
+#[cfg(test)]
+mod inbox;
+#[cfg(test)]
+mod packets;
+#[cfg(test)]
+mod payload_logs;
+#[cfg(test)]
+mod shelf;
