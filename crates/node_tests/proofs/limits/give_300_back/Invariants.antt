@@ -1,0 +1,6 @@
+use Rattle.std.proofs.Common.{◌≡◌}
+use Rattle.node_tests.proofs.limits.give_300_back.Given as goal
+
+-- the calls leave which rank it is
+abbrev pub invariant-loop-number : goal.invariant-loop-number
+invariant-loop-number g l = l.rank.stable ≡ l.initial.rank.stable

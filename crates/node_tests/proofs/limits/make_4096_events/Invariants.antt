@@ -1,0 +1,6 @@
+use Rattle.std.proofs.Common.{◌≡◌}
+use Rattle.node_tests.proofs.limits.make_4096_events.Given as goal
+
+-- the calls leave which rank it is
+abbrev pub invariant-loop-number : goal.invariant-loop-number
+invariant-loop-number g l = l.rank.stable ≡ l.initial.rank.stable

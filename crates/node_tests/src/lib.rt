@@ -1,0 +1,28 @@
+//! Tests of a rank's machine and of a rank at work, over their public calls.
+//!
+//! They see what no clause says: that the definitions mean what the language
+//! says, and that each call can succeed. Expected values are worked out by hand.
+#![tactic(auto)]
+
+#[cfg(test)]
+mod arrays;
+#[cfg(test)]
+mod calls;
+#[cfg(test)]
+mod expressions;
+#[cfg(test)]
+mod limits;
+#[cfg(test)]
+mod machines;
+#[cfg(test)]
+mod outgoing;
+#[cfg(test)]
+mod programs;
+#[cfg(test)]
+mod refusals;
+#[cfg(test)]
+mod scenes;
+#[cfg(test)]
+mod sizes;
+#[cfg(test)]
+mod strides;

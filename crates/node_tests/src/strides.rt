@@ -1,0 +1,106 @@
+//! A loop that counts, cut into strides.
+
+use crate::scenes::{LastLine, Rank, start};
+use metered::Heap;
+use rank_language::Program;
+use rank_machine::{Machine, Want};
+use rank_node::Turn;
+use std::process::Abort;
+use std::test::*;
+
+/// One step declares the variable, three make each of 1000 rounds, and one more tests for the last time: 3002 steps, and
+/// then the print stands, at the fifth statement.
+const COUNTS: &[u8] = b"var i
+while i < 1000
+  let i = i + 1
+end
+print i
+";
+
+const STEPS: u32 = 3002;
+
+/// So many steps of its own, one after another, as far as it wants them.
+fn step_by_step(machine: &mut Machine, most: u32) -> u32 {
+    for made in 0..most {
+        if machine.wants() != Want::Internal {
+            return made;
+        }
+        machine.internal();
+    }
+    most
+}
+
+/// Strides of at most so many steps lead where single steps do. Answers how many strides made steps, and how many steps.
+fn stride_by_stride(
+    rt: &impl Abort,
+    alloc: Heap,
+    program: &Program,
+    most: u32,
+) -> Result<(u32, u32), Fail> {
+    let mut machine = Machine::new(alloc, program, 0, 1)?;
+    let mut slow = Machine::new(alloc, program, 0, 1)?;
+    let mut strides = 0u32;
+    let mut steps = 0u32;
+    for _ in 0..4000 {
+        let made = machine.advance(most);
+        assert_eq!(rt; step_by_step(&mut slow, made), made, "strides of {most}");
+        assert_eq!(rt; machine.position(), slow.position(), "strides of {most}");
+        assert_eq!(rt; machine.wants(), slow.wants(), "strides of {most}");
+        if made == 0 {
+            break;
+        }
+        strides = strides.saturating_add(1);
+        steps = steps.saturating_add(made);
+    }
+    assert_eq!(rt;
+        machine.wants(),
+        if most == 0 {
+            Want::Internal
+        } else {
+            Want::Print(1000)
+        }
+    );
+    assert_eq!(rt; machine.position(), if most == 0 { 0 } else { 4 });
+    Ok((strides, steps))
+}
+
+// A machine strides as it steps.
+fn machine_strides(rt: &impl Abort, alloc: Heap, program: &Program) -> Result<(), Fail> {
+    for (most, strides, steps) in [
+        (0, 0, 0),
+        (1, 3002, STEPS),
+        (7, 429, STEPS),
+        (1024, 3, STEPS),
+        (3001, 2, STEPS),
+        (3002, 1, STEPS),
+        (4294967295, 1, STEPS),
+    ] {
+        let got = stride_by_stride(rt, alloc, program, most)?;
+        assert_eq!(rt; got, (strides, steps), "strides of {most}");
+    }
+    Ok(())
+}
+
+// Each stride goes on where the one before ended, and the print is then one step.
+fn rank_strides(rt: &impl Abort, rank: &mut Rank) -> Result<(), Fail> {
+    for (most, made) in [(0, 0), (1, 1), (7, 7), (1024, 1024), (4000, 1970), (5, 0)] {
+        assert_eq!(rt; rank.stride(most), made, "a stride of {most}");
+        assert_eq!(rt; rank.clock(), 0);
+    }
+    assert_eq!(rt; rank.wants(), Want::Print(1000));
+    let mut screen = LastLine { line: None };
+    assert_eq!(rt; rank.step(&mut screen)?, Turn::Moved);
+    assert_eq!(rt; screen.line, Some((0, 1, 1000)));
+    assert_eq!(rt; rank.stride(1), 0);
+    Ok(())
+}
+
+#[test]
+fn strides_lead_where_steps_do(rt: HostRuntime) -> Result<(), Fail> {
+    let program = Program::parse(rt.alloc(), COUNTS)?;
+    machine_strides(&rt, rt.alloc(), &program)?;
+    let mut rank = start(rt.alloc(), &program, 0, 1)?;
+    let outcome = rank_strides(&rt, &mut rank);
+    let _ = rank.retire().parts();
+    outcome
+}
