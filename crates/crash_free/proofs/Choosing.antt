@@ -67,8 +67,7 @@ pub done_print : (program : ProgramValue) (machines : List MachineValue) (lanes 
     → IsDone program machines lanes C r m' choice.Next (prints v)
 done_print program machines lanes C r m m' v kept there a made state position stays =
     let after : IsAfter m (prints v) None m' = record { state = state; position = position; stays = stays } in
-    let wanted = wants_it m (want.Print v) a (λ e. cc) in
-    let free : IsFree (wants (state_of m)) (prints v) (inbound_of C r) (history C r) = rw wanted tt in
+    let free : IsFree (wants (state_of m)) (prints v) (inbound_of C r) (history C r) = tt in
     record {
       allowed = allowed_act program machines C r m m' choice.Next (prints v) there (rw a.asked refl) free after;
       kept = kept_act program machines lanes lanes C r m m' (prints v) kept there made free after (mail_print (length machines) lanes C r v kept.mail);
@@ -84,8 +83,7 @@ pub done_send : (program : ProgramValue) (machines : List MachineValue) (lanes :
 done_send program machines lanes C r m m' dest context tag kept there a receiver made state position stays =
     let act : Act = sends dest context tag (payload (state_of m)) in
     let after : IsAfter m act None m' = record { state = state; position = position; stays = stays } in
-    let wanted = wants_it m (want.Send dest context tag) a (λ e. cc) in
-    let free : IsFree (wants (state_of m)) act (inbound_of C r) (history C r) = rw wanted tt in
+    let free : IsFree (wants (state_of m)) act (inbound_of C r) (history C r) = tt in
     record {
       allowed = allowed_act program machines C r m m' choice.Next act there (rw a.asked refl) free after;
       kept = kept_act program machines lanes _ C r m m' act kept there made free after

@@ -14,7 +14,8 @@ unfolding Rises
 Rises-down k [] r = tt
 Rises-down k (m ∷ xs) r = (let z : k + 1 < m.clock = r.0 in omega arith, r.1)
 
-Rises-if : (b : Bool) (k : ℕ) (context : Context) (t : ℕ) (items : List ℤ) (xs : List Message) → Rises (k + 1) xs → Rises k (cons_if b (record { clock = k + 1; context = context; tag = t; items = items }) xs)
+Rises-if : (b : Bool) (k : ℕ) (context : Context) (t : ℕ) (items : List ℤ) (xs : List Message) → Rises (k + 1) xs
+    → Rises k (cons_if b (record { clock = k + 1; context = context; tag = t; items = items }) xs)
 unfolding Rises
 Rises-if true k context t items xs r = (omega arith, r)
 Rises-if false k context t items xs r = Rises-down k xs r
@@ -37,7 +38,8 @@ above_all k [] i m r e = absurd cc
 above_all k (x ∷ xs) zero m r e = let q : x ≡ m = cc in subst (λ z. k < z.clock) q r.0
 above_all k (x ∷ xs) (suc i) m r e = let b = above_all x.clock xs i m r.1 e in let z : k < x.clock = r.0 in omega (arith, b)
 
-one_place_rising : (k : ℕ) (xs : List Message) (i j : ℕ) (m m' : Message) → Rises k xs → slice_get xs i ≡ Some m → slice_get xs j ≡ Some m' → m.clock ≡ m'.clock → i ≡ j
+one_place_rising : (k : ℕ) (xs : List Message) (i j : ℕ) (m m' : Message) → Rises k xs → slice_get xs i ≡ Some m → slice_get xs j ≡ Some m'
+    → m.clock ≡ m'.clock → i ≡ j
 unfolding Rises
 one_place_rising k [] i j m m' r e f c = absurd cc
 one_place_rising k (x ∷ xs) zero zero m m' r e f c = refl
@@ -48,7 +50,8 @@ one_place_rising k (x ∷ xs) (suc i) zero m m' r e f c =
 one_place_rising k (x ∷ xs) (suc i) (suc j) m m' r e f c = ap suc (one_place_rising x.clock xs i j m m' r.1 e f c)
 
 -- of what a rank sent, one message has this clock
-pub one_clock : (k r : ℕ) (h : History) (i j : ℕ) (m m' : Message) → at_place (sends_from k r h) i ≡ Some m → at_place (sends_from k r h) j ≡ Some m' → m.clock ≡ m'.clock → i ≡ j
+pub one_clock : (k r : ℕ) (h : History) (i j : ℕ) (m m' : Message) → at_place (sends_from k r h) i ≡ Some m → at_place (sends_from k r h) j ≡ Some m'
+    → m.clock ≡ m'.clock → i ≡ j
 one_clock k r h zero j m m' e f c = absurd cc
 one_clock k r h (suc i) zero m m' e f c = absurd cc
 one_clock k r h (suc i) (suc j) m m' e f c = ap suc (one_place_rising k (sends_from k r h) i j m m' (sends-rise k r h) e f c)

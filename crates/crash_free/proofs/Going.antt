@@ -9,7 +9,8 @@ use Rattle.rank_machine.specs.declared.want.Want.TheVariants as want
 use Rattle.rank_machine.specs.States.{State}
 use Rattle.rank_machine.specs.Wants.{wants, payload}
 use Rattle.rank_machine.specs.Acts.{Act, Message, sends, takes, hits, misses, prints, Fits, Makes}
-use Rattle.crash_free.specs.Runs.{Passed, History, at_place, history, sent, sends_from, send_at, add_if, looked_up, taken, IsEligible, IsFree, MayMake, IsRun, continue}
+use Rattle.crash_free.specs.Runs.{Passed, History, at_place, history, sent, sends_from, send_at, add_if, looked_up, taken, IsEligible, IsFree}
+use Rattle.crash_free.specs.Runs.{MayMake, IsRun, continue}
 use Rattle.crash_free.specs.Grows.{Grows, Extends}
 use Rattle.crash_free.proofs.Lists.{at_place-append, at_place-append_before, sends_from-push, history-own, history-other, sent-own}
 
@@ -47,13 +48,16 @@ found_longer xs ys j P never f g = go (at_place xs j) refl
 pub looked_up_longer : (w : Want) (items : List ℤ) (inbound inbound' : ℕ → List Message) (a : Act)
     → Fits w items a (looked_up inbound a) → ((s : ℕ) → Grows (inbound s) (inbound' s)) → looked_up inbound' a ≡ looked_up inbound a
 looked_up_longer w items inbound inbound' (sends d c t is) f g = refl
-looked_up_longer w items inbound inbound' (takes s j) f g = found_longer (inbound s) (inbound' s) j (λ o. Fits w items (takes s j) o) (takes_some w items s j) f (g s)
-looked_up_longer w items inbound inbound' (hits s j) f g = found_longer (inbound s) (inbound' s) j (λ o. Fits w items (hits s j) o) (hits_some w items s j) f (g s)
+looked_up_longer w items inbound inbound' (takes s j) f g =
+    found_longer (inbound s) (inbound' s) j (λ o. Fits w items (takes s j) o) (takes_some w items s j) f (g s)
+looked_up_longer w items inbound inbound' (hits s j) f g =
+    found_longer (inbound s) (inbound' s) j (λ o. Fits w items (hits s j) o) (hits_some w items s j) f (g s)
 looked_up_longer w items inbound inbound' misses f g = refl
 looked_up_longer w items inbound inbound' (prints v) f g = refl
 
 -- an eligible message stays eligible
-pub IsEligible-longer : (inbound inbound' : ℕ → List Message) (h : History) (s j : ℕ) (w : Selector) → Grows (inbound s) (inbound' s) → IsEligible inbound h s j w → IsEligible inbound' h s j w
+pub IsEligible-longer : (inbound inbound' : ℕ → List Message) (h : History) (s j : ℕ) (w : Selector) → Grows (inbound s) (inbound' s)
+    → IsEligible inbound h s j w → IsEligible inbound' h s j w
 IsEligible-longer inbound inbound' h s j w g e =
     record {
       message = e.message;
@@ -97,7 +101,8 @@ free_silent (want.Print v) (prints value) inbound h i = tt
 free_silent want.Halted (prints value) inbound h i = tt
 free_silent (want.Faulted k) (prints value) inbound h i = tt
 
-IsFree-longer : (w : Want) (a : Act) (inbound inbound' : ℕ → List Message) (h : History) → ((s : ℕ) → Grows (inbound s) (inbound' s)) → IsFree w a inbound h → IsFree w a inbound' h
+IsFree-longer : (w : Want) (a : Act) (inbound inbound' : ℕ → List Message) (h : History) → ((s : ℕ) → Grows (inbound s) (inbound' s))
+    → IsFree w a inbound h → IsFree w a inbound' h
 IsFree-longer (want.Receive x) (takes s j) inbound inbound' h g e = IsEligible-longer inbound inbound' h s j x (g s) e
 IsFree-longer (want.Probe x) (hits s j) inbound inbound' h g e = IsEligible-longer inbound inbound' h s j x (g s) e
 IsFree-longer (want.TryProbe x) (hits s j) inbound inbound' h g e = IsEligible-longer inbound inbound' h s j x (g s) e
@@ -119,7 +124,8 @@ IsFree-longer w misses inbound inbound' h g e = free_silent w misses inbound' h 
 IsFree-longer w (prints v) inbound inbound' h g e = free_silent w (prints v) inbound' h tt
 
 -- what a rank may do it may do still where others sent it more
-pub MayMake-longer : (start : State) (inbound inbound' : ℕ → List Message) (h : History) (a : Act) → ((s : ℕ) → Grows (inbound s) (inbound' s)) → MayMake start inbound h a → MayMake start inbound' h a
+pub MayMake-longer : (start : State) (inbound inbound' : ℕ → List Message) (h : History) (a : Act) → ((s : ℕ) → Grows (inbound s) (inbound' s))
+    → MayMake start inbound h a → MayMake start inbound' h a
 MayMake-longer start inbound inbound' h a g c =
     record {
       after = c.after;
@@ -135,7 +141,8 @@ pub sent_grows : (C : List Passed) (p : Passed) (s r : ℕ) → Grows (sent C s 
 sent_grows C p s r = more (cases_eq p.rank s)
   where
     more : (p.rank ≡ s) ⊎ (p.rank ≡ s → ⊥) → Grows (sent C s r) (sent (p ∷ C) s r)
-    more (inl e) = (send_at (length (history C s) + 1) r p.act [], subst (λ z. sent (p ∷ C) z r ≡ sent C z r ++ send_at (length (history C z) + 1) r p.act []) e (sent-own C p.rank r p.act))
+    more (inl e) =
+        (send_at (length (history C s) + 1) r p.act [], subst (λ z. sent (p ∷ C) z r ≡ sent C z r ++ send_at (length (history C z) + 1) r p.act []) e (sent-own C p.rank r p.act))
     more (inr never) = ([], rw (history-other C p s never) (sym (append-nil _)))
 
 -- an act of another rank

@@ -1,8 +1,10 @@
 -- What a simulation keeps: a step of a rank leads on by inner steps, and an act makes the run one act longer.
-use Rattle.std.proofs.Common.{◌≡◌, ℕ, zero, suc, ◌+◌, ◌*◌, ◌<◌, ◌≤◌, List, [], ◌∷◌, ◌++◌, Some, length, refl, sym, ap, ◌∙◌, subst, arith, slice_get, ◌⊎◌, inl, inr}
+use Rattle.std.proofs.Common.{◌≡◌, ℕ, zero, suc, ◌+◌, ◌*◌, ◌<◌, ◌≤◌, List, [], ◌∷◌, ◌++◌, Some, length, refl, sym, ap, ◌∙◌, subst, arith, slice_get}
+use Rattle.std.proofs.Common.{◌⊎◌, inl, inr}
 use Rattle.std.specs.Prelude.{slice_set, slice_index_or, replicate}
 use Rattle.std.proofs.lemmas.List.{length-set}
 use Rattle.std.proofs.lemmas.Option.{slice_get_within}
+use Rattle.metered.specs.Limits.{most_ranks}
 use Rattle.rank_language.specs.Program.{ProgramValue}
 use Rattle.rank_machine.specs.States.{State, Inners, here, inner, opening}
 use Rattle.rank_machine.specs.Wants.{wants}
@@ -113,16 +115,17 @@ abbrev no_slots : List Slot
 no_slots = []
 
 -- no act has been made
-pub kept_new : (program : ProgramValue) (machines : List MachineValue) (n : ℕ) → 1 ≤ n → n ≤ 16 → length machines ≡ n
+pub kept_new : (program : ProgramValue) (machines : List MachineValue) (n : ℕ) → 1 ≤ n → n ≤ most_ranks → length machines ≡ n
     → ((r : ℕ) (m : MachineValue) → slice_get machines r ≡ Some m → IsRanks program n r m × (state_of m ≡ opening program r n))
-    → IsKept program machines (replicate (16 * n) []) []
+    → IsKept program machines (replicate (most_ranks * n) []) []
 kept_new program machines n some few long each =
     record {
       simulates = record { is_run = tt; ranks = λ r m at. (opening program r (length machines), refl, begun r m at) };
       ranks = λ r m at. rw long (each r m at).0;
       some = rw long some;
       few = rw long few;
-      mail = record { size = length_replicate (16 * n) ∙ ap (λ z. 16 * z) (sym long); each = λ r s rank source. none (16 * n) (16 * r + s) };
+      mail =
+          record { size = length_replicate (most_ranks * n) ∙ ap (λ z. most_ranks * z) (sym long); each = λ r s rank source. none (most_ranks * n) (most_ranks * r + s) };
     }
   where
     begun : (r : ℕ) (m : MachineValue) → slice_get machines r ≡ Some m → Inners (opening program r (length machines)) (state_of m)
@@ -147,8 +150,8 @@ begun_push program n machines m begun begins r x at = go (push_cases machines m 
     go (inr new) = rw (new.0, new.1) begins
 
 -- what machines at their beginning keep
-pub kept_begun : (program : ProgramValue) (machines : List MachineValue) (n : ℕ) → 1 ≤ n → n ≤ 16 → length machines ≡ n → AreBegun program n machines
-    → IsKept program machines (replicate (16 * n) []) []
+pub kept_begun : (program : ProgramValue) (machines : List MachineValue) (n : ℕ) → 1 ≤ n → n ≤ most_ranks → length machines ≡ n → AreBegun program n machines
+    → IsKept program machines (replicate (most_ranks * n) []) []
 kept_begun program machines n some few long begun =
     kept_new program machines n some few long (λ r m at. let b = begun r m at in
     (record { program_same = b.program_same; rank = ap (λ s. s.rank) b.store; size = ap (λ s. s.size) b.store }, b.state))

@@ -1,9 +1,11 @@
 -- The lists that are made of a rank's acts, after one more act.
-use Rattle.std.proofs.Common.{◌≡◌, ℕ, ℤ, zero, suc, ◌+◌, ◌<◌, Bool, true, false, ◌==◌, ◌||◌, List, [], ◌∷◌, ◌++◌, Option, Some, None, length, refl, sym, ap, ◌∙◌, arith, slice_get, ◌⊎◌, inl, inr}
+use Rattle.std.proofs.Common.{◌≡◌, ℕ, ℤ, zero, suc, ◌+◌, ◌<◌, Bool, true, false, ◌==◌, ◌||◌, List, [], ◌∷◌, ◌++◌, Option, Some, None, length, refl}
+use Rattle.std.proofs.Common.{sym, ap, ◌∙◌, arith, slice_get, ◌⊎◌, inl, inr}
 use Rattle.std.proofs.lemmas.Bool.{eq-eqb, ne_eqb}
 use Rattle.std.proofs.lemmas.List.{append-nil}
 use Rattle.rank_machine.specs.Acts.{Act, Message, sends, takes, hits, misses, prints}
-use Rattle.crash_free.specs.Runs.{Passed, History, at_place, history, sent, printed, sends_from, send_at, prints_from, print_at, cons_if, add_if, looked_up, taken, takes_it}
+use Rattle.crash_free.specs.Runs.{Passed, History, at_place, history, sent, printed, sends_from, send_at, prints_from, print_at, cons_if, add_if}
+use Rattle.crash_free.specs.Runs.{looked_up, taken, takes_it}
 
 -- what stands in a list stands in a longer one
 pub slice_get-append : {A : Type 0} (xs ys : List A) (i : ℕ) (x : A) → slice_get xs i ≡ Some x → slice_get (xs ++ ys) i ≡ Some x
@@ -12,7 +14,8 @@ slice_get-append (y ∷ xs) ys zero x e = e
 slice_get-append (y ∷ xs) ys (suc i) x e = slice_get-append xs ys i x e
 
 -- what stands in a longer list, before something of the shorter one, stands in the shorter one
-pub slice_get-append_before : {A : Type 0} (xs ys : List A) (i j : ℕ) (x y : A) → i < j → slice_get xs j ≡ Some y → slice_get (xs ++ ys) i ≡ Some x → slice_get xs i ≡ Some x
+pub slice_get-append_before : {A : Type 0} (xs ys : List A) (i j : ℕ) (x y : A) → i < j → slice_get xs j ≡ Some y → slice_get (xs ++ ys) i ≡ Some x
+    → slice_get xs i ≡ Some x
 slice_get-append_before [] ys i j x y l e f = cc
 slice_get-append_before (z ∷ xs) ys zero j x y l e f = f
 slice_get-append_before (z ∷ xs) ys (suc i) zero x y l e f = absurd (omega arith)
@@ -23,13 +26,15 @@ pub at_place-append : {A : Type 0} (xs ys : List A) (i : ℕ) (x : A) → at_pla
 at_place-append xs ys zero x e = absurd cc
 at_place-append xs ys (suc i) x e = slice_get-append xs ys i x e
 
-pub at_place-append_before : {A : Type 0} (xs ys : List A) (i j : ℕ) (x y : A) → i < j → at_place xs j ≡ Some y → at_place (xs ++ ys) i ≡ Some x → at_place xs i ≡ Some x
+pub at_place-append_before : {A : Type 0} (xs ys : List A) (i j : ℕ) (x y : A) → i < j → at_place xs j ≡ Some y → at_place (xs ++ ys) i ≡ Some x
+    → at_place xs i ≡ Some x
 at_place-append_before xs ys zero j x y l e f = absurd cc
 at_place-append_before xs ys (suc i) zero x y l e f = absurd (omega arith)
 at_place-append_before xs ys (suc i) (suc j) x y l e f = slice_get-append_before xs ys i j x y (omega arith) e f
 
 -- what stands in a list with one more element stood there before, or is that element
-pub push_cases : {A : Type 0} (xs : List A) (y : A) (k : ℕ) (x : A) → slice_get (xs ++ y ∷ []) k ≡ Some x → (slice_get xs k ≡ Some x) ⊎ ((k ≡ length xs) × (x ≡ y))
+pub push_cases : {A : Type 0} (xs : List A) (y : A) (k : ℕ) (x : A) → slice_get (xs ++ y ∷ []) k ≡ Some x
+    → (slice_get xs k ≡ Some x) ⊎ ((k ≡ length xs) × (x ≡ y))
 push_cases [] y zero x e = inr (refl, cc)
 push_cases [] y (suc k) x e = absurd cc
 push_cases (z ∷ xs) y zero x e = inl e
@@ -58,7 +63,8 @@ print_at-append c misses xs ys = refl
 print_at-append c (prints v) xs ys = refl
 
 -- what was sent, after one more act
-pub sends_from-push : (k r : ℕ) (h : History) (x : Act × Option Message) → sends_from k r (h ++ x ∷ []) ≡ sends_from k r h ++ send_at (k + length h + 1) r x.0 []
+pub sends_from-push : (k r : ℕ) (h : History) (x : Act × Option Message)
+    → sends_from k r (h ++ x ∷ []) ≡ sends_from k r h ++ send_at (k + length h + 1) r x.0 []
 sends_from-push k r [] x =
     let e : k + 1 ≡ k + 0 + 1 = omega arith in
     rw e refl

@@ -1,8 +1,10 @@
 -- The slots of all pairs of ranks after one more act of a run.
-use Rattle.std.proofs.Common.{◌≡◌, ℕ, ℤ, suc, ◌+◌, ◌<◌, ◌≤◌, ◌==◌, ◌&&◌, ◌||◌, Bool, true, false, List, [], ◌∷◌, ◌++◌, Some, None, length, refl, sym, ap, ◌∙◌, subst, arith, ◌⊎◌, inl, inr}
+use Rattle.std.proofs.Common.{◌≡◌, ℕ, ℤ, suc, ◌+◌, ◌<◌, ◌≤◌, ◌==◌, ◌&&◌, ◌||◌, Bool, true, false, List, [], ◌∷◌, ◌++◌, Some, None, length, refl, sym}
+use Rattle.std.proofs.Common.{ap, ◌∙◌, subst, arith, ◌⊎◌, inl, inr}
 use Rattle.std.specs.Prelude.{slice_set}
 use Rattle.std.proofs.lemmas.Bool.{eq-eqb, ne_eqb, cases_eq}
 use Rattle.std.proofs.lemmas.List.{get_or-set_same, get_or-set_other, length-set}
+use Rattle.metered.specs.Limits.{most_ranks}
 use Rattle.matching.specs.declared.packet.Context.{Context}
 use Rattle.rank_machine.specs.States.{State}
 use Rattle.rank_machine.specs.Acts.{Act, Message, sends, takes, prints}
@@ -77,7 +79,7 @@ with_emptied lanes q s₀ i = slice_set lanes (place_of s₀ q) (emptied lanes q
 
 -- a send to a rank gives it one more slot from the sender
 pub mail_send : (start : ℕ → State) (n : ℕ) (lanes : List (List Slot)) (C : List Passed) (q d : ℕ) (context : Context) (tag : ℕ) (items : List ℤ)
-    → IsRun start n C → IsMail n lanes C → n ≤ 16 → q < n → d < n
+    → IsRun start n C → IsMail n lanes C → n ≤ most_ranks → q < n → d < n
     → IsMail n (with_slot lanes q d context tag items) (sending C q d context tag items)
 mail_send start n lanes C q d context tag items run mail few sender receiver =
     record {
@@ -124,7 +126,7 @@ mail_send start n lanes C q d context tag items run mail few sender receiver =
 
 -- a reception empties the slot of its message
 pub mail_take : (n : ℕ) (lanes : List (List Slot)) (C : List Passed) (q s₀ i : ℕ)
-    → IsMail n lanes C → n ≤ 16 → q < n → s₀ < n
+    → IsMail n lanes C → n ≤ most_ranks → q < n → s₀ < n
     → IsMail n (with_emptied lanes q s₀ i) (taking C q s₀ i)
 mail_take n lanes C q s₀ i mail few receiver sender =
     record {

@@ -4,7 +4,8 @@
 -- A run is the list of its acts, the newest first. A rank's history is the list of its own acts, the oldest first, each
 -- with the message that it took or hit. Places count from 1: the kth act of a rank has clock k, and the kth message of
 -- a sender to a rank has number k.
-use Rattle.std.specs.Prelude.{◌≡◌, ℕ, ℤ, zero, suc, ◌+◌, ◌<◌, ◌==◌, ◌&&◌, ◌||◌, Bool, true, false, List, [], ◌∷◌, ◌++◌, Option, Some, None, slice_get}
+use Rattle.std.specs.Prelude.{◌≡◌, ℕ, ℤ, zero, suc, ◌+◌, ◌<◌, ◌==◌, ◌&&◌, ◌||◌, Bool, true, false, List, [], ◌∷◌, ◌++◌, Option, Some, None, IsSomeAnd}
+use Rattle.std.specs.Prelude.{slice_get}
 use Rattle.matching.specs.declared.selector.Selector.{Selector}
 use Rattle.rank_machine.specs.declared.want.Want.{Want}
 use Rattle.rank_machine.specs.declared.want.Want.TheVariants as want
@@ -39,7 +40,10 @@ add_if false xs x = xs
 -- a send to this rank, the act with this clock, gives a message
 abbrev pub send_at : ℕ → ℕ → Act → List Message → List Message
 send_at c r (sends d context tag items) rest = cons_if (d == r) (record { clock = c; context = context; tag = tag; items = items }) rest
-send_at c r _ rest = rest
+send_at c r (takes source place) rest = rest
+send_at c r (hits source place) rest = rest
+send_at c r misses rest = rest
+send_at c r (prints value) rest = rest
 
 -- the messages of the sends to r in a history, before which the sender had made k acts
 abbrev pub sends_from : ℕ → ℕ → History → List Message
@@ -49,7 +53,10 @@ sends_from k r (x ∷ h) = send_at (k + 1) r x.0 (sends_from (k + 1) r h)
 -- a print, the act with this clock, gives a line
 abbrev pub print_at : ℕ → Act → List (ℕ × ℤ) → List (ℕ × ℤ)
 print_at c (prints value) rest = (c, value) ∷ rest
-print_at c _ rest = rest
+print_at c (sends dest context tag items) rest = rest
+print_at c (takes source place) rest = rest
+print_at c (hits source place) rest = rest
+print_at c misses rest = rest
 
 -- the prints in a history, each with its clock
 abbrev pub prints_from : ℕ → History → List (ℕ × ℤ)
@@ -60,7 +67,9 @@ prints_from k (x ∷ h) = print_at (k + 1) x.0 (prints_from (k + 1) h)
 abbrev pub looked_up : (ℕ → List Message) → Act → Option Message
 looked_up inbound (takes source place) = at_place (inbound source) place
 looked_up inbound (hits source place) = at_place (inbound source) place
-looked_up inbound _ = None
+looked_up inbound (sends dest context tag items) = None
+looked_up inbound misses = None
+looked_up inbound (prints value) = None
 
 -- the history of a rank in a run
 abbrev pub history : List Passed → ℕ → History
@@ -78,7 +87,10 @@ printed C r = prints_from 0 (history C r)
 -- an act takes the message at this place of this source
 abbrev pub takes_it : ℕ → ℕ → Act → Bool
 takes_it s j (takes source place) = source == s && place == j
-takes_it s j _ = false
+takes_it s j (sends dest context tag items) = false
+takes_it s j (hits source place) = false
+takes_it s j misses = false
+takes_it s j (prints value) = false
 
 -- one of the acts takes the message at this place of this source
 abbrev pub taken : History → ℕ → ℕ → Bool
@@ -94,14 +106,35 @@ pub record IsEligible (inbound : ℕ → List Message) (h : History) (s j : ℕ)
   pub matching : Matches selector s message
   pub not_overtaking : (i : ℕ) (m : Message) → i < j → at_place (inbound s) i ≡ Some m → Matches selector s m → taken h s i ≡ true
 
+-- the selector of a receive that stands
+abbrev pub receives : Want → Option Selector
+receives (want.Receive selector) = Some selector
+receives want.Internal = None
+receives (want.Send dest context tag) = None
+receives (want.Probe selector) = None
+receives (want.TryProbe selector) = None
+receives (want.Print value) = None
+receives want.Halted = None
+receives (want.Faulted fault) = None
+
+-- the selector of a probe that stands, whether it waits or not
+abbrev pub probes : Want → Option Selector
+probes (want.Probe selector) = Some selector
+probes (want.TryProbe selector) = Some selector
+probes want.Internal = None
+probes (want.Send dest context tag) = None
+probes (want.Receive selector) = None
+probes (want.Print value) = None
+probes want.Halted = None
+probes (want.Faulted fault) = None
+
 -- what an act takes or hits is eligible for the selector that stands
 abbrev pub IsFree : Want → Act → (ℕ → List Message) → History → Type 0
-IsFree (want.Receive selector) (takes s j) inbound h = IsEligible inbound h s j selector
-IsFree (want.Probe selector) (hits s j) inbound h = IsEligible inbound h s j selector
-IsFree (want.TryProbe selector) (hits s j) inbound h = IsEligible inbound h s j selector
-IsFree _ (takes s j) inbound h = ⊥
-IsFree _ (hits s j) inbound h = ⊥
-IsFree _ _ inbound h = Unit {0}
+IsFree w (takes s j) inbound h = IsSomeAnd (receives w) (λ selector. IsEligible inbound h s j selector)
+IsFree w (hits s j) inbound h = IsSomeAnd (probes w) (λ selector. IsEligible inbound h s j selector)
+IsFree w (sends dest context tag items) inbound h = Unit {0}
+IsFree w misses inbound h = Unit {0}
+IsFree w (prints value) inbound h = Unit {0}
 
 -- A rank that began at this state and has this history may make this act next: by inner steps it gets to a state whose
 -- first statement makes the act, and what the act takes or hits is eligible.

@@ -55,13 +55,23 @@ abbrev pub meaning : Want → List ℤ → Choice → Meaning
 meaning want.Halted items c = ended
 meaning (want.Faulted fault) items c = ended
 meaning want.Internal items choice.Next = own_step
+meaning want.Internal items (choice.Take source index) = other
+meaning want.Internal items choice.Miss = other
 meaning (want.Send dest context tag) items choice.Next = makes (sends dest context tag items)
+meaning (want.Send dest context tag) items (choice.Take source index) = other
+meaning (want.Send dest context tag) items choice.Miss = other
 meaning (want.Print value) items choice.Next = makes (prints value)
+meaning (want.Print value) items (choice.Take source index) = other
+meaning (want.Print value) items choice.Miss = other
+meaning (want.Receive selector) items choice.Next = other
 meaning (want.Receive selector) items (choice.Take source index) = makes (takes source index)
+meaning (want.Receive selector) items choice.Miss = other
+meaning (want.Probe selector) items choice.Next = other
 meaning (want.Probe selector) items (choice.Take source index) = makes (hits source index)
+meaning (want.Probe selector) items choice.Miss = other
+meaning (want.TryProbe selector) items choice.Next = other
 meaning (want.TryProbe selector) items (choice.Take source index) = makes (hits source index)
 meaning (want.TryProbe selector) items choice.Miss = makes misses
-meaning _ items c = other
 
 -- what a choice is for a machine
 abbrev pub meant : MachineValue → Choice → Meaning
@@ -74,7 +84,10 @@ inbound_of C r source = sent C source r
 -- the position after an act: where the line leads, unless a message was too long
 abbrev pub position_after_act : MachineValue → Act → Option MachineFault → ℕ
 position_after_act m (takes source place) fault = received_at m fault
-position_after_act m _ fault = next_of m
+position_after_act m (sends dest context tag items) fault = next_of m
+position_after_act m (hits source place) fault = next_of m
+position_after_act m misses fault = next_of m
+position_after_act m (prints value) fault = next_of m
 
 -- what an act, with its message if it has one, makes of a machine
 pub record IsAfter (m : MachineValue) (act : Act) (message : Option Message) (m' : MachineValue) : Type 0 where
@@ -109,10 +122,21 @@ Allows s r c s' = IsSomeAnd (slice_get s.machines r) (λ m. IsSomeAnd (slice_get
 -- a choice of this meaning is refused so; want of memory comes where an act is made alone
 abbrev pub IsRefused : NotAllowed → Meaning → SimValue → ℕ → MachineValue → Type 0
 IsRefused refusal.Ended ended s r m = Unit {0}
+IsRefused refusal.Ended other s r m = ⊥
+IsRefused refusal.Ended own_step s r m = ⊥
+IsRefused refusal.Ended (makes act) s r m = ⊥
+IsRefused refusal.WantsOther ended s r m = ⊥
 IsRefused refusal.WantsOther other s r m = Unit {0}
+IsRefused refusal.WantsOther own_step s r m = ⊥
+IsRefused refusal.WantsOther (makes act) s r m = ⊥
+IsRefused refusal.NotEligible ended s r m = ⊥
+IsRefused refusal.NotEligible other s r m = ⊥
+IsRefused refusal.NotEligible own_step s r m = ⊥
 IsRefused refusal.NotEligible (makes act) s r m = IsFreeAt s r m act → ⊥
+IsRefused refusal.Memory ended s r m = ⊥
+IsRefused refusal.Memory other s r m = ⊥
+IsRefused refusal.Memory own_step s r m = ⊥
 IsRefused refusal.Memory (makes act) s r m = IsFreeAt s r m act
-IsRefused _ _ s r m = ⊥
 
 -- the choice is refused for the rank
 abbrev pub Refuses : SimValue → ℕ → Choice → NotAllowed → Type 0

@@ -1,6 +1,7 @@
 -- What a simulation keeps beside its machines and its run: for each ordered pair of ranks a list of slots, one for each
 -- message that the one sent to the other, of which those taken are empty.
 use Rattle.std.specs.Prelude.{◌≡◌, ℕ, ◌+◌, ◌*◌, ◌<◌, ◌≤◌, Bool, true, false, List, [], ◌∷◌, Option, Some, None, length, slice_index_or, slice_get}
+use Rattle.metered.specs.Limits.{most_ranks}
 use Rattle.matching.specs.Message as packet
 use Rattle.matching.specs.Matching.{matches}
 use Rattle.matching.specs.declared.selector.Selector.{Selector}
@@ -34,7 +35,7 @@ slots_of C s r = slots_from 0 s (history C r) (sent C s r)
 
 -- where the slots of a pair of ranks stand
 abbrev pub place_of : ℕ → ℕ → ℕ
-place_of s r = 16 * r + s
+place_of s r = most_ranks * r + s
 
 -- the slots of a pair of ranks
 abbrev pub lane : List (List Slot) → ℕ → ℕ → List Slot
@@ -47,7 +48,7 @@ passes w (Some m) = matches w m
 
 -- the slots of each pair of ranks are those of the run
 pub record IsMail (n : ℕ) (lanes : List (List Slot)) (C : List Passed) : Type 0 where
-  pub size : length lanes ≡ 16 * n
+  pub size : length lanes ≡ most_ranks * n
   pub each : (r s : ℕ) → r < n → s < n → lane lanes s r ≡ slots_of C s r
 
 -- a machine is this rank's
@@ -61,5 +62,5 @@ pub record IsKept (program : ProgramValue) (machines : List MachineValue) (lanes
   pub simulates : Simulates (record { program = program; machines = machines; run = C })
   pub ranks : (r : ℕ) (m : MachineValue) → slice_get machines r ≡ Some m → IsRanks program (length machines) r m
   pub some : 1 ≤ length machines
-  pub few : length machines ≤ 16
+  pub few : length machines ≤ most_ranks
   pub mail : IsMail (length machines) lanes C

@@ -6,8 +6,6 @@ mod choice;
 mod mail;
 mod not_allowed;
 mod sim;
-#[cfg(test)]
-mod tests;
 
 pub use act::{Act, Passed};
 pub use choice::Choice;

@@ -1,15 +1,14 @@
 //! The messages between ranks, without those that are taken.
 ghost use Rattle.std.specs.Prelude.{◌≡◌, ◌≢◌, ℕ, ◌+◌, ◌*◌, ◌<◌, ◌≤◌, [], ◌∷◌, ◌++◌, Some, None, IfOk, OnOk, OnErr, IfSome, IsNone, IsSomeAnd, IsSome, length, position, replicate, slice_get, slice_set};
+ghost use Rattle.metered.specs.Limits.{most_ranks};
 ghost use Rattle.crash_free.specs.Slots.{passes, lane, place_of};
 
 use matching::{Packet, Selector};
 use metered::Heap;
+use metered::limits::MOST_RANKS;
 use std::alloc::AllocError;
 use std::marker::Model;
 use std::mem;
-
-// One lane for each source of each rank, so that the place of a pair is a sum.
-const SOURCES: usize = 16;
 
 /// What one rank sent to another: a slot for each message, empty once it is taken.
 #[derive(Drop)]
@@ -80,10 +79,11 @@ impl Model for Mail {
 impl Mail {
     /// No rank of this many has sent anything.
     pub fn new(alloc: Heap, ranks: u8) -> Result<Mail, AllocError>
-        ensures { IfOk result (λ mail. mail ≡ replicate (16 * ranks) []) }
+        ensures { IfOk result (λ mail. mail ≡ replicate (most_ranks * ranks) []) }
     {
+        // one lane for each source that there may be, so that the place of a pair is a sum
         let mut lanes = Vec::new(alloc);
-        for _ in 0..SOURCES * usize::from(ranks) {
+        for _ in 0..MOST_RANKS * usize::from(ranks) {
             lanes.push(Lane {
                 slots: Vec::new(alloc),
             })?;
@@ -110,8 +110,8 @@ impl Mail {
         source: u32,
         index: u64,
     ) -> Option<(u8, usize)>
-        requires size { length self.now ≡ 16 * ranks }
-        requires few { ranks ≤ 16 }
+        requires size { length self.now ≡ most_ranks * ranks }
+        requires few { ranks ≤ most_ranks }
         requires rank { rank < ranks }
         ensures source { IfSome result (λ found. (found.0 ≡ source) × (found.0 < ranks)) }
         ensures index { IfSome result (λ found. found.1 + 1 ≡ index) }
@@ -155,5 +155,5 @@ impl Mail {
 fn place_of(source: u8, rank: u8) -> usize
     ensures { result ≡ place_of source rank }
 {
-    SOURCES * usize::from(rank) + usize::from(source)
+    MOST_RANKS * usize::from(rank) + usize::from(source)
 }

@@ -1,5 +1,6 @@
 //! Runs that are made act by act.
 ghost use Rattle.std.specs.Prelude.{◌≡◌, ◌≢◌, ◌<◌, ◌≤◌, [], Err, IfOk, IfErr, OnOk, OnErr, IsTrue, length};
+ghost use Rattle.metered.specs.Limits.{most_ranks};
 ghost use Rattle.rank_machine.specs.Wants.{IsLegal, IsNoProbe};
 ghost use Rattle.crash_free.specs.Sim.{Simulates, Allows, Refuses, AllowsAll, StopsAt, are_of_ranks, AreBegun};
 ghost use Rattle.crash_free.specs.Wanted.{AsksAt};
@@ -49,10 +50,11 @@ impl<'p> Model for Sim<'p> {
 }
 
 impl<'p> Sim<'p> {
-    /// All ranks at the beginning of the program, and no act made.
+    /// All ranks, at most `MOST_RANKS` of `metered::limits`, at the beginning
+    /// of the program, and no act made.
     pub fn new(alloc: Heap, program: &'p Program, ranks: u8) -> Result<Sim<'p>, AllocError>
         requires some { 1 ≤ ranks }
-        requires few { ranks ≤ 16 }
+        requires few { ranks ≤ most_ranks }
         ensures program { IfOk result (λ sim. sim.program ≡ program.entry.now) }
         ensures ranks { IfOk result (λ sim. length sim.machines ≡ ranks) }
         ensures begins { IfOk result (λ sim. AreBegun program.entry.now ranks sim.machines) }
@@ -117,7 +119,9 @@ impl<'p> Sim<'p> {
                 self.receive(rank, &selector, source, index)
             }
             (Want::Probe(_) | Want::TryProbe(_), _) => unreachable!(),
-            _ => Err(NotAllowed::WantsOther),
+            (Want::Internal | Want::Send { .. } | Want::Print(_), Choice::Take { .. })
+            | (Want::Internal | Want::Send { .. } | Want::Print(_), Choice::Miss)
+            | (Want::Receive(_), Choice::Next | Choice::Miss) => Err(NotAllowed::WantsOther),
         }
     }
 

@@ -1,6 +1,8 @@
 -- The events of a text, or its first faulty line and that line's lowest fault (docs/FORMATS.md, "Events").
-use Rattle.std.specs.Prelude.{ℕ, ◌+◌, ◌-◌, ◌*◌, List, [], ◌∷◌, ◌++◌, Bool, true, false, ◌&&◌, ◌||◌, nat_eq, nat_le, nat_lt, length, codes, Option, Some, None, Result, Ok, Err, if◌then◌else◌}
+use Rattle.std.specs.Prelude.{ℕ, ◌+◌, ◌-◌, ◌*◌, List, [], ◌∷◌, ◌++◌, Bool, true, false, ◌&&◌, ◌||◌, nat_eq, nat_le, nat_lt, length, codes, Option}
+use Rattle.std.specs.Prelude.{Some, None, Result, Ok, Err, if◌then◌else◌}
 use Rattle.std.specs.Str.{bytes_eq}
+use Rattle.metered.specs.Limits.{most_event_lines}
 use Rattle.world_model.specs.declared.event.WorldEvent.{WorldEvent}
 use Rattle.world_model.specs.declared.event.WorldEvent.TheVariants.{Step, Put, Arrive, Store, Ack, Image, Crash, Restart}
 use Rattle.events_text.specs.declared.fault.EventsFaultKind.{EventsFaultKind}
@@ -79,7 +81,7 @@ is_skipped line = is_comment line || is_none (words_of line)
 
 -- what a line of this number gives, where no form is wrong
 abbrev pub within_limit : ℕ → Option WorldEvent → Result (Option WorldEvent) EventsFaultKind
-within_limit n e = if nat_lt 100000 n then Err Limit else Ok e
+within_limit n e = if nat_lt most_event_lines n then Err Limit else Ok e
 
 -- an event, or the fault where there is none
 abbrev pub formed : ℕ → Option WorldEvent → Result (Option WorldEvent) EventsFaultKind
@@ -93,7 +95,8 @@ line_of n line = if is_skipped line then within_limit n None else formed n (even
 -- a line's event in front of those of the lines behind it
 abbrev pub onto_event : Option WorldEvent → Result (List WorldEvent) (ℕ × EventsFaultKind) → Result (List WorldEvent) (ℕ × EventsFaultKind)
 onto_event (Some e) (Ok es) = Ok (e ∷ es)
-onto_event _ r = r
+onto_event (Some e) (Err f) = Err f
+onto_event None r = r
 
 -- the events of lines from number n on, or the first fault and its line
 abbrev pub events_from : ℕ → List (List ℕ) → Result (List WorldEvent) (ℕ × EventsFaultKind)

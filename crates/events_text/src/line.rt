@@ -6,10 +6,8 @@ ghost use Rattle.events_text.specs.Events.{event_of, is_comment, is_skipped, jud
 use crate::bytes::next_word;
 use crate::fault::EventsFaultKind;
 use crate::number::number_of;
+use metered::limits::MOST_EVENT_LINES;
 use world_model::WorldEvent;
-
-/// How many lines a text may have.
-const MOST_LINES: usize = 100000;
 
 /// The number that is the line's only word.
 fn one_number(line: &[u8]) -> Option<u32>
@@ -133,7 +131,7 @@ pub(crate) fn judge(number: usize, line: &[u8]) -> Judged
             None => return Judged::Faulty(EventsFaultKind::BadLine),
         }
     };
-    if number > MOST_LINES {
+    if number > MOST_EVENT_LINES {
         return Judged::Faulty(EventsFaultKind::Limit);
     }
     judged

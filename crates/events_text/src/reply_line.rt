@@ -1,4 +1,7 @@
 //! How a reply is shown.
+ghost use Rattle.std.specs.Prelude.{Some};
+ghost use Rattle.events_text.specs.Output.{reply_text};
+
 use std::fmt;
 use world_model::Reply;
 
@@ -7,37 +10,27 @@ use world_model::Reply;
 pub struct ReplyLine(pub Reply);
 
 impl fmt::Display for ReplyLine {
+    ghost output = { λ line. Some (reply_text line.0) };
+
     fn fmt<W: fmt::Write>(&self, f: &mut fmt::Formatter<W>) -> fmt::Result {
         match self.0 {
+            Reply::Moved => write!(f, "moved"),
+            Reply::Blocked => write!(f, "blocked"),
+            Reply::Held => write!(f, "held"),
+            Reply::Ended => write!(f, "ended"),
             Reply::PutData { index, number } => write!(f, "put {index} data {number}"),
             Reply::PutAsk { index, from } => write!(f, "put {index} ask {from}"),
             Reply::PutKept { index, upto } => write!(f, "put {index} kept {upto}"),
-            Reply::Stored(length) => write!(f, "stored {length}"),
-            Reply::Restarted(events) => write!(f, "restarted {events}"),
-            reply => f.write_str(word_of(reply)),
+            Reply::Accepted => write!(f, "accepted"),
+            Reply::Repeated => write!(f, "repeated"),
+            Reply::Gap => write!(f, "gap"),
+            Reply::Noted => write!(f, "noted"),
+            Reply::Stored(count) => write!(f, "stored {count}"),
+            Reply::Acked => write!(f, "acked"),
+            Reply::Imaged => write!(f, "imaged"),
+            Reply::Crashed => write!(f, "crashed"),
+            Reply::Restarted(left) => write!(f, "restarted {left}"),
+            Reply::Refused => write!(f, "refused"),
         }
-    }
-}
-
-// The word of a reply without numbers.
-fn word_of(reply: Reply) -> &'static str {
-    match reply {
-        Reply::Moved => "moved",
-        Reply::Blocked => "blocked",
-        Reply::Held => "held",
-        Reply::Ended => "ended",
-        Reply::Accepted => "accepted",
-        Reply::Repeated => "repeated",
-        Reply::Gap => "gap",
-        Reply::Noted => "noted",
-        Reply::Acked => "acked",
-        Reply::Imaged => "imaged",
-        Reply::Crashed => "crashed",
-        Reply::Refused => "refused",
-        Reply::PutData { .. }
-        | Reply::PutAsk { .. }
-        | Reply::PutKept { .. }
-        | Reply::Stored(_)
-        | Reply::Restarted(_) => "",
     }
 }

@@ -1,5 +1,6 @@
 -- What an inbox stands for after a packet arrives.
-use Rattle.std.proofs.Common.{◌≡◌, ℕ, zero, suc, ◌+◌, ◌<◌, ◌≤◌, ◌⊎◌, inl, inr, ⊎_elim, Bool, true, false, ◌==◌, List, [], ◌∷◌, ◌++◌, Some, length, refl, sym, ap, subst, ◌∙◌, arith, slice_get, if◌then◌else◌}
+use Rattle.std.proofs.Common.{◌≡◌, ℕ, zero, suc, ◌+◌, ◌<◌, ◌≤◌, ◌⊎◌, inl, inr, ⊎_elim, Bool, true, false, ◌==◌, List, [], ◌∷◌, ◌++◌, Some, length}
+use Rattle.std.proofs.Common.{refl, sym, ap, subst, ◌∙◌, arith, slice_get, if◌then◌else◌}
 use Rattle.std.proofs.lemmas.Bool.{cases_eq, cases_lt, cases_Bool, eqb-true}
 use Rattle.std.proofs.lemmas.List.{get_or-set_same, get_or-set_other, length-set}
 use Rattle.std.proofs.lemmas.Option.{slice_get_within}
@@ -24,9 +25,12 @@ pub InboxStands-accepted : (box : Mailbox) (inbound : ℕ → List Message) (h :
     → InboxStands box inbound h → InboxStands (with_packet box p) inbound h
 InboxStands-accepted box inbound h p within next_one real i =
     record {
-      real = λ k q e. ⊎_elim (λ old. i.real k q old) (λ new. subst (λ z. at_place (inbound z.source) z.number ≡ Some (carried z)) (sym new.1) real) (push_cases box.packets p k q e);
-      untaken = λ k q e. ⊎_elim (λ old. i.untaken k q old) (λ new. subst (λ z. taken h z.source z.number ≡ false) (sym new.1) fresh) (push_cases box.packets p k q e);
-      accepted = λ k q e. ⊎_elim (λ old. more q.source q.number (i.accepted k q old)) (λ new. subst (λ z. z.number ≤ accepted_from (with_packet box p) z.source) (sym new.1) last) (push_cases box.packets p k q e);
+      real =
+          λ k q e. ⊎_elim (λ old. i.real k q old) (λ new. subst (λ z. at_place (inbound z.source) z.number ≡ Some (carried z)) (sym new.1) real) (push_cases box.packets p k q e);
+      untaken =
+          λ k q e. ⊎_elim (λ old. i.untaken k q old) (λ new. subst (λ z. taken h z.source z.number ≡ false) (sym new.1) fresh) (push_cases box.packets p k q e);
+      accepted =
+          λ k q e. ⊎_elim (λ old. more q.source q.number (i.accepted k q old)) (λ new. subst (λ z. z.number ≤ accepted_from (with_packet box p) z.source) (sym new.1) last) (push_cases box.packets p k q e);
       each = λ s j one l t. each s j one t (was s j l);
       rising = λ k l q q' lt e e' s. rising k l q q' lt s (push_cases box.packets p k q e) (push_cases box.packets p l q' e');
       taken_accepted = λ s j t. more s j (i.taken_accepted s j t);

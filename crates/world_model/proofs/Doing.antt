@@ -1,5 +1,7 @@
 -- What the calls on a world's parts come to, as events.
-use Rattle.std.proofs.Common.{◌≡◌, ◌≢◌, ℕ, zero, suc, ◌+◌, ◌<◌, ◌≤◌, true, false, List, [], ◌∷◌, Option, Some, None, length, drop, refl, sym, ap, subst, ◌∙◌, arith, slice_get, slice_index_or, Result, Ok, Err, OnErr, is_some, IsSome, if◌then◌else◌, IsSomeAnd, option_map}
+use Rattle.std.proofs.Common.{◌≡◌, ◌≢◌, ℕ, zero, suc, ◌+◌, ◌<◌, ◌≤◌, Bool, true, false, List, [], ◌∷◌, Option, Some, None, length, drop, refl, sym}
+use Rattle.std.proofs.Common.{ap, subst, ◌∙◌, arith, slice_get, slice_index_or, Result, Ok, Err, OnErr, is_some, IsSome, if◌then◌else◌, IsSomeAnd}
+use Rattle.std.proofs.Common.{option_map}
 use Rattle.std.proofs.lemmas.Option.{slice_get_within, slice_get-get_or}
 use Rattle.std.proofs.lemmas.Bool.{eq-eqb}
 use Rattle.matching.specs.declared.inbox.Accept.{Accept}
@@ -16,7 +18,10 @@ use Rattle.event_logger.specs.declared.kind.Kind.TheVariants as kind
 use Rattle.rank_machine.specs.Acts.{Act, Message, sends, takes, hits, misses, prints}
 use Rattle.rank_machine.specs.declared.want.Want.{Want}
 use Rattle.rank_machine.specs.declared.want.Want.TheVariants as want
-use Rattle.rank_machine.specs.Machine.{asks}
+use Rattle.rank_machine.specs.Wants.{payload}
+use Rattle.rank_machine.specs.Machine.{asks, state_of}
+use Rattle.rank_node.specs.Node.{is_settled}
+use Rattle.matching.specs.declared.packet.Context.{Context}
 use Rattle.rank_node.specs.declared.fault.NodeFault.{NodeFault}
 use Rattle.rank_node.specs.declared.frame.Frame.{Frame}
 use Rattle.rank_node.specs.declared.frame.Frame.TheVariants as frame
@@ -25,7 +30,7 @@ use Rattle.rank_node.specs.declared.turn.Turn.TheVariants as turn
 use Rattle.rank_node.specs.declared.turn.Arrived.{Arrived}
 use Rattle.rank_node.specs.declared.turn.Arrived.TheVariants as arrived
 use Rattle.rank_node.specs.Frames.{outgoing_of, after_passed, arrival_of, after_frame, IsPacket}
-use Rattle.rank_node.specs.Steps.{turn_of, refusal_of}
+use Rattle.rank_node.specs.Steps.{turn_of, turn_at, refusal_of, takes_memory, takes_memory_at}
 use Rattle.rank_node.specs.Storing.{next_unstored, after_store, after_ack, Appends}
 use Rattle.crash_free.specs.Runs.{Passed, at_place, history, sent, looked_up}
 use Rattle.world_model.specs.Rows.{event_at}
@@ -34,7 +39,8 @@ use Rattle.world_model.specs.World.{Rank, Live, WorldValue, size, IsLive, IsWire
 use Rattle.world_model.specs.Wires.{AllWires, HasWire, wire_of, with_frame}
 use Rattle.world_model.specs.Headline.{IsReal}
 use Rattle.world_model.specs.Seats.{at_work, AtRank, with_value, IsStep, IsAccepted}
-use Rattle.world_model.specs.Follows.{CanNot, Follows, StepFollows, PutFollows, ArriveFollows, lines_after, effect_at, passed_at, stepped, put_as, arrived_as}
+use Rattle.world_model.specs.Follows.{CanNot, Follows, StepFollows, PutFollows, ArriveFollows, TakesNoMemory, lines_after, effect_at, passed_at}
+use Rattle.world_model.specs.Follows.{stepped, put_as, arrived_as}
 use Rattle.world_model.specs.Stands.{start_at, Stands}
 use Rattle.world_model.specs.declared.event.WorldEvent.TheVariants.{Step, Put, Arrive, Store, Ack}
 use Rattle.world_model.specs.declared.reply.Reply.{Reply}
@@ -51,10 +57,12 @@ same_live : (w : WorldValue) (r : ℕ) (x : Rank) (v : Live) → slice_get w.ran
 same_live w r x v at live = let both : Some (Some v) ≡ Some (at_work x) = sym live ∙ at in cc
 
 -- what holds at a rank holds of its value
-at_value : (ranks : List (Option Live)) (r : ℕ) (x : Rank) (P : Live → Type 0) → slice_get ranks r ≡ Some (at_work x) → AtRank ranks r P → P (record { rank = x; left = [] })
+at_value : (ranks : List (Option Live)) (r : ℕ) (x : Rank) (P : Live → Type 0) → slice_get ranks r ≡ Some (at_work x) → AtRank ranks r P
+    → P (record { rank = x; left = [] })
 at_value ranks r x P at h = subst (λ z. IsSomeAnd z (λ y. IsSomeAnd y P)) at h
 
-value_at : (ranks : List (Option Live)) (r : ℕ) (x : Rank) (P : Live → Type 0) → slice_get ranks r ≡ Some (at_work x) → P (record { rank = x; left = [] }) → AtRank ranks r P
+value_at : (ranks : List (Option Live)) (r : ℕ) (x : Rank) (P : Live → Type 0) → slice_get ranks r ≡ Some (at_work x)
+    → P (record { rank = x; left = [] }) → AtRank ranks r P
 value_at ranks r x P at h = subst (λ z. IsSomeAnd z (λ y. IsSomeAnd y P)) (sym at) h
 
 -- what holds at a rank holds of some live value
@@ -67,7 +75,8 @@ live_at ranks r P h = go (slice_get ranks r) refl h
     go (Some (Some v)) e h = (v, e, h)
 
 -- a world is all its parts
-same_world : (a b : WorldValue) → a.program ≡ b.program → a.ranks ≡ b.ranks → a.logger ≡ b.logger → a.wires ≡ b.wires → a.lines ≡ b.lines → a.run ≡ b.run → a ≡ b
+same_world : (a b : WorldValue) → a.program ≡ b.program → a.ranks ≡ b.ranks → a.logger ≡ b.logger → a.wires ≡ b.wires → a.lines ≡ b.lines
+    → a.run ≡ b.run → a ≡ b
 same_world a b p r l wi li c =
     ap (λ z. made z a.ranks a.logger a.wires a.lines a.run) p ∙ ap (λ z. made b.program z a.logger a.wires a.lines a.run) r
     ∙ ap (λ z. made b.program b.ranks z a.wires a.lines a.run) l ∙ ap (λ z. made b.program b.ranks b.logger z a.lines a.run) wi
@@ -95,11 +104,13 @@ pub at_below : (ranks : List (Option Live)) (r : ℕ) (P : Live → Type 0) → 
 at_below ranks r P h = let x = live_at ranks r P h in slice_get_within ranks r (Some x.0) x.1
 
 -- what the oldest unstored event of a rank says of the run
-takes_of : (c s j : ℕ) (o : Option Message) (x : EventValue) → event_at c (takes s j) o ≡ Some x → (m : Message) × (o ≡ Some m) × (x ≡ event_of kind.Reception s m.clock c)
+takes_of : (c s j : ℕ) (o : Option Message) (x : EventValue) → event_at c (takes s j) o ≡ Some x
+    → (m : Message) × (o ≡ Some m) × (x ≡ event_of kind.Reception s m.clock c)
 takes_of c s j None x e = absurd cc
 takes_of c s j (Some m) x e = (m, refl, cc)
 
-hits_of : (c s j : ℕ) (o : Option Message) (x : EventValue) → event_at c (hits s j) o ≡ Some x → (m : Message) × (o ≡ Some m) × (x ≡ event_of kind.Hit s m.clock c)
+hits_of : (c s j : ℕ) (o : Option Message) (x : EventValue) → event_at c (hits s j) o ≡ Some x
+    → (m : Message) × (o ≡ Some m) × (x ≡ event_of kind.Hit s m.clock c)
 hits_of c s j None x e = absurd cc
 hits_of c s j (Some m) x e = (m, refl, cc)
 
@@ -113,7 +124,8 @@ pub record Names (w : WorldValue) (r : ℕ) (x : EventValue) : Type 0 where
   pub there : at_place (sent w.run x.sender r) place ≡ Some message
   pub clock : message.clock ≡ x.sender_clock
 
-named_by : (w : WorldValue) (r : ℕ) (x : EventValue) (a : Act) → event_at (length (history w.run r) + 1) a (looked_up (λ q. sent w.run q r) a) ≡ Some x → x.kind ≢ kind.Miss → Names w r x
+named_by : (w : WorldValue) (r : ℕ) (x : EventValue) (a : Act) → event_at (length (history w.run r) + 1) a (looked_up (λ q. sent w.run q r) a) ≡ Some x
+    → x.kind ≢ kind.Miss → Names w r x
 named_by w r x (takes s j) e ne =
     let h = takes_of (length (history w.run r) + 1) s j (at_place (sent w.run s r) j) x e in
     record {
@@ -140,7 +152,8 @@ names w r x s h ne =
     let a = oldest_act w r v.0 x s v.1 v.2 in
     named_by w r x a.0 a.1 ne
 
-pub names_a_rank : (w : WorldValue) (r n : ℕ) (x : EventValue) → Stands w → AtRank w.ranks r (λ v. next_unstored v.rank ≡ Some x) → x.kind ≢ kind.Miss → n ≡ length w.ranks → x.sender < n
+pub names_a_rank : (w : WorldValue) (r n : ℕ) (x : EventValue) → Stands w → AtRank w.ranks r (λ v. next_unstored v.rank ≡ Some x) → x.kind ≢ kind.Miss
+    → n ≡ length w.ranks → x.sender < n
 names_a_rank w r n x s h ne e =
     let m = names w r x s h ne in
     let l = sender_below (start_at w (size w)) (size w) w.run x.sender r m.place m.message s.is_run m.there in
@@ -153,7 +166,8 @@ names_a_message w r x s h ne none =
     none m.place (ap (λ o. option_map (λ (y : Message). y.clock) o) m.there ∙ ap Some m.clock)
 
 -- the clock of an oldest event is the next of its rank in the run
-own_clock : (w : WorldValue) (r : ℕ) (x : EventValue) → Stands w → AtRank w.ranks r (λ v. next_unstored v.rank ≡ Some x) → x.receiver_clock ≡ length (history w.run r) + 1
+own_clock : (w : WorldValue) (r : ℕ) (x : EventValue) → Stands w → AtRank w.ranks r (λ v. next_unstored v.rank ≡ Some x)
+    → x.receiver_clock ≡ length (history w.run r) + 1
 own_clock w r x s h =
     let v = live_at w.ranks r _ h in
     let a = oldest_act w r v.0 x s v.1 v.2 in
@@ -170,7 +184,8 @@ miss_stands w r x s h is =
     let a = oldest_act w r v.0 x s v.1 v.2 in
     go a.0 a.1
   where
-    go : (a : Act) → event_at (length (history w.run r) + 1) a (looked_up (λ q. sent w.run q r) a) ≡ Some x → ◌≡◌ {A = Option EventValue} (Some (event_of kind.Miss 0 0 (length (history w.run r) + 1))) (Some x)
+    go : (a : Act) → event_at (length (history w.run r) + 1) a (looked_up (λ q. sent w.run q r) a) ≡ Some x
+        → ◌≡◌ {A = Option EventValue} (Some (event_of kind.Miss 0 0 (length (history w.run r) + 1))) (Some x)
     go (takes q j) e = let z = sym is ∙ ap (λ y. y.kind) (takes_of _ q j (at_place (sent w.run q r) j) x e).2 in absurd cc
     go (hits q j) e = let z = sym is ∙ ap (λ y. y.kind) (hits_of _ q j (at_place (sent w.run q r) j) x e).2 in absurd cc
     go misses e = e
@@ -178,14 +193,17 @@ miss_stands w r x s h is =
     go (prints v) e = absurd cc
 
 pub hit_stands : (w : WorldValue) (r : ℕ) (x : EventValue) (j : ℕ) → Stands w → AtRank w.ranks r (λ v. next_unstored v.rank ≡ Some x) → x.kind ≡ kind.Hit
-    → clock_at w.run x.sender r j ≡ Some x.sender_clock → event_at (length (history w.run r) + 1) (hits x.sender j) (at_place (sent w.run x.sender r) j) ≡ Some x
+    → clock_at w.run x.sender r j ≡ Some x.sender_clock
+    → event_at (length (history w.run r) + 1) (hits x.sender j) (at_place (sent w.run x.sender r) j) ≡ Some x
 hit_stands w r x j s h is at =
     let m = with_clock (at_place (sent w.run x.sender r) j) x.sender_clock at in
     ap (λ o. event_at (length (history w.run r) + 1) (hits x.sender j) o) m.1
     ∙ ap Some (ap (λ k. event_of k x.sender m.0.clock (length (history w.run r) + 1)) (sym is) ∙ ap (λ k. event_of x.kind x.sender k (length (history w.run r) + 1)) m.2 ∙ ap (λ k. event_of x.kind x.sender x.sender_clock k) (sym (own_clock w r x s h)))
 
-pub reception_stands : (w : WorldValue) (r : ℕ) (x : EventValue) (j : ℕ) → Stands w → AtRank w.ranks r (λ v. next_unstored v.rank ≡ Some x) → x.kind ≡ kind.Reception
-    → clock_at w.run x.sender r j ≡ Some x.sender_clock → event_at (length (history w.run r) + 1) (takes x.sender j) (at_place (sent w.run x.sender r) j) ≡ Some x
+pub reception_stands : (w : WorldValue) (r : ℕ) (x : EventValue) (j : ℕ) → Stands w → AtRank w.ranks r (λ v. next_unstored v.rank ≡ Some x)
+    → x.kind ≡ kind.Reception
+    → clock_at w.run x.sender r j ≡ Some x.sender_clock
+    → event_at (length (history w.run r) + 1) (takes x.sender j) (at_place (sent w.run x.sender r) j) ≡ Some x
 reception_stands w r x j s h is at =
     let m = with_clock (at_place (sent w.run x.sender r) j) x.sender_clock at in
     ap (λ o. event_at (length (history w.run r) + 1) (takes x.sender j) o) m.1
@@ -207,20 +225,24 @@ nothing_unstored x e = go x.stored x.pending e
 pub store_none : (w : WorldValue) (r : ℕ) (x : Rank) → slice_get w.ranks r ≡ Some (at_work x) → next_unstored x ≡ None → Follows w (Store r) reply.Refused w
 store_none w r x at none = (λ v live. subst (λ z. unstored z.rank ≡ []) (sym (same_live w r x v at live)) (nothing_unstored x none), refl)
 
-pub store_row : (w : WorldValue) (r : ℕ) (x : Rank) → Stands w → slice_get w.ranks r ≡ Some (at_work x) → AtRank w.ranks r (λ v. (v.rank.stable.rank ≡ r) × (r < length w.logger.rows))
+pub store_row : (w : WorldValue) (r : ℕ) (x : Rank) → Stands w → slice_get w.ranks r ≡ Some (at_work x)
+    → AtRank w.ranks r (λ v. (v.rank.stable.rank ≡ r) × (r < length w.logger.rows))
 store_row w r x s at =
     let k = s.ranks r (record { rank = x; left = [] }) at in
     let l = slice_get_within w.ranks r (at_work x) at in
     value_at w.ranks r x (λ v. (v.rank.stable.rank ≡ r) × (r < length w.logger.rows)) at (k.number, let e = s.as_many_rows in omega (arith, l, e))
 
-pub store_accepted : (w : WorldValue) (r : ℕ) (x : Rank) (e : EventValue) → Stands w → slice_get w.ranks r ≡ Some (at_work x) → next_unstored x ≡ Some e → AtRank w.ranks r (λ v. IsAccepted w.logger r (next_unstored v.rank))
+pub store_accepted : (w : WorldValue) (r : ℕ) (x : Rank) (e : EventValue) → Stands w → slice_get w.ranks r ≡ Some (at_work x) → next_unstored x ≡ Some e
+    → AtRank w.ranks r (λ v. IsAccepted w.logger r (next_unstored v.rank))
 store_accepted w r x e s at oldest =
     value_at w.ranks r x (λ v. IsAccepted w.logger r (next_unstored v.rank)) at (accepts w r (record { rank = x; left = [] }) e s at oldest)
 
-pub store_oldest : (w : WorldValue) (r : ℕ) (x : Rank) (e : EventValue) → slice_get w.ranks r ≡ Some (at_work x) → next_unstored x ≡ Some e → AtRank w.ranks r (λ v. next_unstored v.rank ≡ Some e)
+pub store_oldest : (w : WorldValue) (r : ℕ) (x : Rank) (e : EventValue) → slice_get w.ranks r ≡ Some (at_work x) → next_unstored x ≡ Some e
+    → AtRank w.ranks r (λ v. next_unstored v.rank ≡ Some e)
 store_oldest w r x e at oldest = value_at w.ranks r x (λ v. next_unstored v.rank ≡ Some e) at oldest
 
-appended : (e : EventValue) (o : Option EventValue) (r count : ℕ) (w w' : WorldValue) → o ≡ Some e → Appends o r w.logger (Length count) w'.logger → Answers w.logger r (Append e) (Length count) w'.logger
+appended : (e : EventValue) (o : Option EventValue) (r count : ℕ) (w w' : WorldValue) → o ≡ Some e → Appends o r w.logger (Length count) w'.logger
+    → Answers w.logger r (Append e) (Length count) w'.logger
 appended e o r count w w' q h = subst (λ z. Appends z r w.logger (Length count) w'.logger) q h
 
 pub store_some : (w w' : WorldValue) (r : ℕ) (x : Rank) (e : EventValue) (a : Act) (count : ℕ)
@@ -269,11 +291,13 @@ no_refusal : (o : Option NodeFault) → is_some o ≡ false → o ≡ None
 no_refusal None e = refl
 no_refusal (Some k) e = absurd cc
 
-pub step_refused : (w : WorldValue) (r : ℕ) (x : Rank) → slice_get w.ranks r ≡ Some (at_work x) → is_some (refusal_of x) ≡ true → Follows w (Step r) reply.Refused w
+pub step_refused : (w : WorldValue) (r : ℕ) (x : Rank) → slice_get w.ranks r ≡ Some (at_work x) → is_some (refusal_of x) ≡ true
+    → Follows w (Step r) reply.Refused w
 step_refused w r x at e =
     (λ v live. subst (λ z. (z.left ≡ []) × (refusal_of z.rank ≢ None)) (sym (same_live w r x v at live)) (refl, some_refusal (refusal_of x) e), refl)
 
-pub step_allowed : (ranks : List (Option Live)) (r : ℕ) (x : Rank) → slice_get ranks r ≡ Some (at_work x) → is_some (refusal_of x) ≡ false → AtRank ranks r (λ v. refusal_of v.rank ≡ None)
+pub step_allowed : (ranks : List (Option Live)) (r : ℕ) (x : Rank) → slice_get ranks r ≡ Some (at_work x) → is_some (refusal_of x) ≡ false
+    → AtRank ranks r (λ v. refusal_of v.rank ≡ None)
 step_allowed ranks r x at e = value_at ranks r x (λ v. refusal_of v.rank ≡ None) at (no_refusal (refusal_of x) e)
 
 pub step_some : (w w' : WorldValue) (r : ℕ) (x : Rank) (t : Turn) → Stands w
@@ -341,7 +365,8 @@ has_wire w s d st l m =
     let e = st.wires_to_all s (slice_index_or w.wires s []) there in
     (omega (arith, n), omega (arith, e))
 
-pub put_due : (w : WorldValue) (s d : ℕ) (x : Rank) (f : Frame) → Stands w → slice_get w.ranks s ≡ Some (at_work x) → d < length w.ranks → outgoing_of x d ≡ Some f
+pub put_due : (w : WorldValue) (s d : ℕ) (x : Rank) (f : Frame) → Stands w → slice_get w.ranks s ≡ Some (at_work x) → d < length w.ranks
+    → outgoing_of x d ≡ Some f
     → AtRank w.ranks s (λ v. (d < v.rank.stable.size) × IsSome (outgoing_of v.rank d))
 put_due w s d x f st at l next =
     value_at w.ranks s x (λ v. (d < v.rank.stable.size) × IsSome (outgoing_of v.rank d)) at (live_size w s d x st at l, subst (λ z. IsSome z) (sym next) refl)
@@ -414,7 +439,8 @@ arrive_size w s d st h l =
 arrived_some : (x : Rank) (s : ℕ) (f : Frame) (C : List Passed) (d : ℕ) → IsReal C s d f → arrived_as (arrival_of x s f) ≢ None
 arrived_some x s (frame.Ask k) C d real e = cc
 arrived_some x s (frame.Kept k) C d real e = cc
-arrived_some x s (frame.Data p) C d real e = accepted (answer_to x.inbox p) (subst (λ b. arrived_as (if b then frames.arrived_as (answer_to x.inbox p) else arrived.Foreign) ≡ None) (eq-eqb p.source s real.0) e)
+arrived_some x s (frame.Data p) C d real e =
+    accepted (answer_to x.inbox p) (subst (λ b. arrived_as (if b then frames.arrived_as (answer_to x.inbox p) else arrived.Foreign) ≡ None) (eq-eqb p.source s real.0) e)
   where
     accepted : (a : Accept) → arrived_as (frames.arrived_as a) ≡ None → ⊥
     accepted accept.Accepted h = cc
@@ -477,13 +503,15 @@ arrive_named w w' s d i from to f a answer same_s same_d has there h ranks is pr
 pub step_possible : (w : WorldValue) (r : ℕ) (x : Rank) → slice_get w.ranks r ≡ Some (at_work x) → is_some (refusal_of x) ≡ false → CanNot w (Step r) → ⊥
 step_possible w r x at none cannot = (cannot (record { rank = x; left = [] }) at).1 (no_refusal (refusal_of x) none)
 
-pub store_possible : (w : WorldValue) (r : ℕ) (x : Rank) (e : EventValue) → slice_get w.ranks r ≡ Some (at_work x) → next_unstored x ≡ Some e → CanNot w (Store r) → ⊥
+pub store_possible : (w : WorldValue) (r : ℕ) (x : Rank) (e : EventValue) → slice_get w.ranks r ≡ Some (at_work x) → next_unstored x ≡ Some e
+    → CanNot w (Store r) → ⊥
 store_possible w r x e at oldest cannot =
     let none : unstored x ≡ [] = cannot (record { rank = x; left = [] }) at in
     let some = unstored_is x e oldest in
     cc
 
-pub put_possible : (w : WorldValue) (s d : ℕ) (x : Rank) → slice_get w.ranks s ≡ Some (at_work x) → d < length w.ranks → (outgoing_of x d ≡ None → ⊥) → CanNot w (Put s d) → ⊥
+pub put_possible : (w : WorldValue) (s d : ℕ) (x : Rank) → slice_get w.ranks s ≡ Some (at_work x) → d < length w.ranks → (outgoing_of x d ≡ None → ⊥)
+    → CanNot w (Put s d) → ⊥
 put_possible w s d x at l some cannot = some (cannot (record { rank = x; left = [] }) at l)
 
 pub packet_some : (o : Option Frame) → IsPacket o → o ≡ None → ⊥
@@ -493,12 +521,14 @@ packet_some (Some f) p e = cc
 pub frame_some : (o : Option Frame) (f : Frame) → o ≡ Some f → o ≡ None → ⊥
 frame_some o f e g = cc
 
-pub arrive_possible : (w : WorldValue) (s d i : ℕ) (f : Frame) → HasWire w.wires s d → slice_get (wire_of w.wires s d) i ≡ Some f → AtRank w.ranks d (λ v. Unit {0}) → CanNot w (Arrive s d i) → ⊥
+pub arrive_possible : (w : WorldValue) (s d i : ℕ) (f : Frame) → HasWire w.wires s d → slice_get (wire_of w.wires s d) i ≡ Some f
+    → AtRank w.ranks d (λ v. Unit {0}) → CanNot w (Arrive s d i) → ⊥
 arrive_possible w s d i f has there h cannot =
     let v = live_at w.ranks d _ h in
     cannot v.0 (wire_of w.wires s d) f v.1 (the_wire w s d has) there
 
-pub arrive_named_possible : (w : WorldValue) (s d i from to : ℕ) (f : Frame) → s ≡ from → d ≡ to → HasWire w.wires s d → slice_get (wire_of w.wires s d) i ≡ Some f → AtRank w.ranks d (λ v. Unit {0})
+pub arrive_named_possible : (w : WorldValue) (s d i from to : ℕ) (f : Frame) → s ≡ from → d ≡ to → HasWire w.wires s d
+    → slice_get (wire_of w.wires s d) i ≡ Some f → AtRank w.ranks d (λ v. Unit {0})
     → CanNot w (Arrive from to i) → ⊥
 arrive_named_possible w s d i from to f same_s same_d has there h =
     subst (λ z. CanNot w (Arrive z to i) → ⊥) same_s (subst (λ z. CanNot w (Arrive s z i) → ⊥) same_d (arrive_possible w s d i f has there h))
@@ -506,6 +536,49 @@ arrive_named_possible w s d i from to f same_s same_d has there h =
 pub on_err : {A E : Type 0} (r : Result A E) (P : Type 0) → P → OnErr r P
 on_err (Ok x) P p = tt
 on_err (Err e) P p = p
+
+-- a step with an effect takes memory
+effect_takes : (v : Rank) (w : Want) (a : Act) → Some a ≡ effect_at v w (turn_at v w) → takes_memory_at v w ≡ true
+effect_takes v want.Internal a e = absurd cc
+effect_takes v (want.Send d c t) a e = go (is_settled v.pending) e
+  where
+    go : (b : Bool) → Some a ≡ effect_at v (want.Send d c t) (if b then turn.Moved else turn.Held) → b ≡ true
+    go true e = refl
+    go false e = absurd cc
+effect_takes v (want.Receive s) a e = absurd cc
+effect_takes v (want.Probe s) a e = absurd cc
+effect_takes v (want.TryProbe s) a e = absurd cc
+effect_takes v (want.Print x) a e = go (is_settled v.pending) e
+  where
+    go : (b : Bool) → Some a ≡ effect_at v (want.Print x) (if b then turn.Moved else turn.Held) → b ≡ true
+    go true e = refl
+    go false e = absurd cc
+effect_takes v want.Halted a e = absurd cc
+effect_takes v (want.Faulted k) a e = absurd cc
+
+-- a send that moves takes memory
+pub send_takes : (v : Rank) (d t : ℕ) (c : Context) → want.Send d c t ≡ asks v.machine → turn.Moved ≡ turn_of v → takes_memory v ≡ true
+send_takes v d t c e moved =
+    let at : turn.Moved ≡ turn_at v (want.Send d c t) = moved ∙ ap (λ w. turn_at v w) (sym e) in
+    subst (λ w. takes_memory_at v w ≡ true) e
+    (effect_takes v (want.Send d c t) (sends d c t (payload (state_of v.machine))) (ap (λ u. effect_at v (want.Send d c t) u) at))
+
+-- so does any step with an effect
+pub pass_takes : (ranks : List (Option Live)) (r : ℕ) (x : Rank) (a : Act) → slice_get ranks r ≡ Some (at_work x)
+    → Some a ≡ effect_at x (asks x.machine) (turn_of x) → AtRank ranks r (λ v. takes_memory v.rank ≡ true)
+pass_takes ranks r x a at e = value_at ranks r x (λ v. takes_memory v.rank ≡ true) at (effect_takes x (asks x.machine) a e)
+
+-- what takes memory at a rank
+pub takes_at : (ranks : List (Option Live)) (r : ℕ) (x : Rank) → slice_get ranks r ≡ Some (at_work x) → takes_memory x ≡ true
+    → AtRank ranks r (λ v. takes_memory v.rank ≡ true)
+takes_at ranks r x at e = value_at ranks r x (λ v. takes_memory v.rank ≡ true) at e
+
+-- a step that takes memory isn't one that takes none
+pub step_takes : (w : WorldValue) (r : ℕ) → AtRank w.ranks r (λ v. takes_memory v.rank ≡ true) → TakesNoMemory w (Step r) → ⊥
+step_takes w r h none =
+    let v = live_at w.ranks r _ h in
+    let both : true ≡ false = sym v.2 ∙ none v.0 v.1 in
+    cc
 
 -- a step that doesn't move its machine has no effect
 pub unmoved : (v : Rank) (w : Want) (t : Turn) → t ≢ turn.Moved → ◌≡◌ {A = Option Act} None (effect_at v w t)

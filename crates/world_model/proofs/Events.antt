@@ -1,5 +1,6 @@
 -- Each event keeps what the world stands for.
-use Rattle.std.proofs.Common.{◌≡◌, ◌≢◌, ℕ, zero, suc, ◌+◌, ◌-◌, ◌<◌, ◌⊎◌, inl, inr, Bool, true, false, List, [], ◌∷◌, ◌++◌, Option, Some, None, length, drop, refl, sym, ap, subst, ◌∙◌, arith, slice_get, slice_set, ◌==◌, if◌then◌else◌, get_or, slice_index_or}
+use Rattle.std.proofs.Common.{◌≡◌, ◌≢◌, ℕ, zero, suc, ◌+◌, ◌-◌, ◌<◌, ◌⊎◌, inl, inr, Bool, true, false, List, [], ◌∷◌, ◌++◌, Option, Some, None}
+use Rattle.std.proofs.Common.{length, drop, refl, sym, ap, subst, ◌∙◌, arith, slice_get, slice_set, ◌==◌, if◌then◌else◌, get_or, slice_index_or}
 use Rattle.std.proofs.lemmas.List.{length-set, length-drop, drop-drop}
 use Rattle.std.proofs.Math.Seq.{drop-cons}
 use Rattle.std.proofs.lemmas.Option.{slice_get_within, get_or_from_slice_get, slice_get-get_or}
@@ -65,7 +66,8 @@ module _ (n : ℕ) (w : WorldValue) (r : ℕ) (v : Live) (s : StandsAt n w) (liv
   -- the payload log changes for one destination, and keeps what it stands for
   logs_with : (d : ℕ) (b : Backlog) → LogStands r (sends_from 0 d (history (continue w.run r k.acts) r)) b
       → (e : ℕ) (c : Backlog) → slice_get (slice_set v.rank.log d b) e ≡ Some c → LogStands r (sends_from 0 e (history (continue w.run r k.acts) r)) c
-  logs_with d b new = replaced_keeps (λ e c. LogStands r (sends_from 0 e (history (continue w.run r k.acts) r)) c) v.rank.log d b (λ e c ne at. k.log e c at) (λ c at. new)
+  logs_with d b new =
+      replaced_keeps (λ e c. LogStands r (sends_from 0 e (history (continue w.run r k.acts) r)) c) v.rank.log d b (λ e c ne at. k.log e c at) (λ c at. new)
 
   relogged : (d : ℕ) (b : Backlog) → LogStands r (sends_from 0 d (history (continue w.run r k.acts) r)) b
       → RankStands (start_at w n) n w.run r (record { rank = with_log v.rank (slice_set v.rank.log d b); left = v.left })
@@ -98,12 +100,14 @@ module _ (n : ℕ) (w : WorldValue) (r : ℕ) (v : Live) (s : StandsAt n w) (liv
   sent_off_stands d (Some (frame.Data p)) l = relogged d (passed (backlog v.rank.log d)) (LogStands-passed r _ (backlog v.rank.log d) (log_at d l))
 
   -- a frame that is real arrives
-  arriving : (from : ℕ) (f : Frame) → from < n → IsReal w.run from r f → RankStands (start_at w n) n w.run r (record { rank = after_frame v.rank from f; left = v.left })
+  arriving : (from : ℕ) (f : Frame) → from < n → IsReal w.run from r f
+      → RankStands (start_at w n) n w.run r (record { rank = after_frame v.rank from f; left = v.left })
   arriving from (frame.Ask x) l real = relogged from (asked (backlog v.rank.log from) x) (LogStands-asked r x _ (backlog v.rank.log from) (log_at from l))
   arriving from (frame.Kept x) l real = relogged from (pruned (backlog v.rank.log from) x) (LogStands-pruned r x _ (backlog v.rank.log from) (log_at from l))
   arriving from (frame.Data p) l real = go (p.source == from)
     where
-      go : (b : Bool) → RankStands (start_at w n) n w.run r (record { rank = if b then with_inbox v.rank (after_arrival v.rank.inbox p) else v.rank; left = v.left })
+      go : (b : Bool)
+          → RankStands (start_at w n) n w.run r (record { rank = if b then with_inbox v.rank (after_arrival v.rank.inbox p) else v.rank; left = v.left })
       go false = k
       go true =
           RankStands-frames (start_at w n) n w.run r v k (after_arrival v.rank.inbox p) v.rank.log v.rank.dues
@@ -143,7 +147,8 @@ pub unstored_is : (v : Rank) (x : EventValue) → next_unstored v ≡ Some x →
 unstored_is v x e =
     let l = slice_get_within v.pending v.stored x e in
     let more : suc v.stored ≡ v.stored + 1 = omega arith in
-    drop-cons v.pending v.stored x l ∙ ap (λ z. z ∷ drop (suc v.stored) v.pending) (get_or_from_slice_get v.pending v.stored x x e) ∙ ap (λ z. x ∷ drop z v.pending) more
+    drop-cons v.pending v.stored x l ∙ ap (λ z. z ∷ drop (suc v.stored) v.pending) (get_or_from_slice_get v.pending v.stored x x e)
+    ∙ ap (λ z. x ∷ drop z v.pending) more
 
 -- the oldest event is stored
 Stands-store : (w : WorldValue) (r : ℕ) (answer : Reply) (w' : WorldValue) → Stands w → StoreFollows w r answer w' → Stands w'
@@ -185,9 +190,11 @@ Stands-store w r answer w' s f =
     own_row = s.rows r (slice_index_or w.logger.rows r []) (there_is w.logger.rows r [] (subst (λ z. r < z) (sym s.as_many_rows) below))
 
     rows_are : (q : ℕ) (x : List EventValue) → slice_get w'.logger.rows q ≡ Some x → x ≡ row (record { rank = r; act = o.act } ∷ w.run) q
-    rows_are q x e = go (slice_set-get w.logger.rows r q x (slice_index_or w.logger.rows r [] ++ f.event ∷ []) (subst (λ z. slice_get z q ≡ Some x) rows_after e))
+    rows_are q x e =
+        go (slice_set-get w.logger.rows r q x (slice_index_or w.logger.rows r [] ++ f.event ∷ []) (subst (λ z. slice_get z q ≡ Some x) rows_after e))
       where
-        go : ((q ≡ r) × (x ≡ slice_index_or w.logger.rows r [] ++ f.event ∷ [])) ⊎ ((q ≡ r → ⊥) × (slice_get w.logger.rows q ≡ Some x)) → x ≡ row (record { rank = r; act = o.act } ∷ w.run) q
+        go : ((q ≡ r) × (x ≡ slice_index_or w.logger.rows r [] ++ f.event ∷ [])) ⊎ ((q ≡ r → ⊥) × (slice_get w.logger.rows q ≡ Some x))
+            → x ≡ row (record { rank = r; act = o.act } ∷ w.run) q
         go (inr h) = s.rows q x h.1 ∙ sym (row-other w.run (record { rank = r; act = o.act }) q (λ z. h.0 (sym z)))
         go (inl h) =
             h.1 ∙ ap (λ z. z ++ f.event ∷ []) own_row ∙ sym (row_one_more w.run r o.act f.event o.event)

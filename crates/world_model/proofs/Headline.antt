@@ -58,7 +58,8 @@ replicate_length zero x = refl
 replicate_length (suc n) x = ap suc (replicate_length n x)
 
 -- a rank at its beginning goes with the empty run
-fresh_rank : (program : ProgramValue) (n r : ℕ) (shelf : MemoryShelf) → RankStands (λ q. opening program q n) n [] r (record { rank = node.opening program (stable_of n r shelf); left = [] })
+fresh_rank : (program : ProgramValue) (n r : ℕ) (shelf : MemoryShelf)
+    → RankStands (λ q. opening program q n) n [] r (record { rank = node.opening program (stable_of n r shelf); left = [] })
 fresh_rank program n r shelf =
     record {
       number = refl;
@@ -72,7 +73,8 @@ fresh_rank program n r shelf =
       few = omega arith;
       after = opening program r n;
       reached = refl;
-      inner = subst (λ z. Inners (opening program r n) (record { store = first_store program r n; rest = z; fault = None })) (sym (begins_there (tree_of program))) here;
+      inner =
+          subst (λ z. Inners (opening program r n) (record { store = first_store program r n; rest = z; fault = None })) (sym (begins_there (tree_of program))) here;
       counted = replicate_length n 0;
       logged = replicate_length n new_backlog;
       log = λ d b e. subst (λ z. LogStands r [] z) (sym (replicate_get n new_backlog d b e)) (record { sent = refl; kept = λ k p f. absurd cc });

@@ -1,5 +1,6 @@
 -- What an inbox stands for, after a packet is taken, shown or accepted; and that the packet which `find` gives is eligible.
-use Rattle.std.proofs.Common.{◌≡◌, ℕ, zero, suc, ◌<◌, ◌≤◌, ◌⊎◌, inl, inr, ⊎_elim, Bool, true, false, ◌&&◌, ◌||◌, eqb, List, [], ◌∷◌, ◌++◌, Option, Some, None, refl, sym, ap, subst, ◌∙◌, arith, slice_get, remove, position, length-append}
+use Rattle.std.proofs.Common.{◌≡◌, ℕ, zero, suc, ◌<◌, ◌≤◌, ◌⊎◌, inl, inr, ⊎_elim, Bool, true, false, ◌&&◌, ◌||◌, eqb, List, [], ◌∷◌, ◌++◌, Option}
+use Rattle.std.proofs.Common.{Some, None, refl, sym, ap, subst, ◌∙◌, arith, slice_get, remove, position, length-append}
 use Rattle.std.proofs.lemmas.Bool.{eq-eqb, eqb-true, cases_order, cases_lt, cases_Bool, both_ways, or_cases, and_parts}
 use Rattle.std.proofs.lemmas.Option.{get_or_from_slice_get}
 use Rattle.std.proofs.lemmas.List.Quantifiers.{position-Some}
@@ -80,7 +81,8 @@ pub record Found (w : Selector) (packets : List packet.Message) (k : ℕ) (p : p
   pub matching : Matches w p.source (carried p)
   pub first : (l : ℕ) (q : packet.Message) → l < k → slice_get packets l ≡ Some q → Matches w q.source (carried q) → ⊥
 
-pub found_at : (w : Selector) (packets : List packet.Message) (k : ℕ) (p : packet.Message) → position (matches w) packets ≡ Some k → slice_get packets k ≡ Some p → Found w packets k p
+pub found_at : (w : Selector) (packets : List packet.Message) (k : ℕ) (p : packet.Message) → position (matches w) packets ≡ Some k
+    → slice_get packets k ≡ Some p → Found w packets k p
 found_at w packets k p e at =
     let f = position-Some (matches w) packets k p e in
     record {
@@ -139,7 +141,8 @@ found_is_eligible w box inbound h k p i f =
         absurd (clash j x.0 m x.1 l x.2 x.3 x.4 e c)
 
 -- other ranks sent more
-pub InboxStands-longer : (box : Mailbox) (inbound inbound' : ℕ → List Message) (h : History) → ((s : ℕ) → Grows (inbound s) (inbound' s)) → InboxStands box inbound h → InboxStands box inbound' h
+pub InboxStands-longer : (box : Mailbox) (inbound inbound' : ℕ → List Message) (h : History) → ((s : ℕ) → Grows (inbound s) (inbound' s))
+    → InboxStands box inbound h → InboxStands box inbound' h
 InboxStands-longer box inbound inbound' h g i =
     record {
       real = λ k p e. rw (g p.source).1 (at_place-append (inbound p.source) (g p.source).0 p.number (carried p) (i.real k p e));
@@ -205,7 +208,8 @@ InboxStands-taken box inbound h k p o at i =
         let r = get-removed box.packets k l q e in
         (r.0, r.1, λ z. ⊎_elim (λ x. omega (arith, x.0, x.1, z)) (λ x. omega (arith, x.0, x.1, z)) r.2)
 
-    still_free : (l : ℕ) (q : packet.Message) → slice_get (remove box.packets k) l ≡ Some q → taken (h ++ (takes p.source p.number, o) ∷ []) q.source q.number ≡ false
+    still_free : (l : ℕ) (q : packet.Message) → slice_get (remove box.packets k) l ≡ Some q
+        → taken (h ++ (takes p.source p.number, o) ∷ []) q.source q.number ≡ false
     still_free l q e =
         let r = place l q e in
         ⊎_elim
@@ -231,7 +235,8 @@ InboxStands-taken box inbound h k p o at i =
         let y = get-kept box.packets k x.0 x.1 x.2 ne in
         (y.0, x.1, y.1, x.3, x.4)
 
-    rising : (l l' : ℕ) (q q' : packet.Message) → l < l' → slice_get (remove box.packets k) l ≡ Some q → slice_get (remove box.packets k) l' ≡ Some q' → q.source ≡ q'.source → q.number < q'.number
+    rising : (l l' : ℕ) (q q' : packet.Message) → l < l' → slice_get (remove box.packets k) l ≡ Some q → slice_get (remove box.packets k) l' ≡ Some q'
+        → q.source ≡ q'.source → q.number < q'.number
     rising l l' q q' lt e e' s =
         let r = get-removed box.packets k l q e in
         let r' = get-removed box.packets k l' q' e' in

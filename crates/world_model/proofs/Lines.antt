@@ -1,5 +1,6 @@
 -- The lines of a console after one more print.
-use Rattle.std.proofs.Common.{◌≡◌, ℕ, ℤ, ◌+◌, ◌≤◌, ◌⊎◌, inl, inr, Bool, true, false, not, ◌==◌, ◌||◌, ◌&&◌, List, [], ◌∷◌, ◌++◌, length, refl, sym, ap, subst, ◌∙◌, arith, if◌then◌else◌}
+use Rattle.std.proofs.Common.{◌≡◌, ℕ, ℤ, ◌+◌, ◌≤◌, ◌⊎◌, inl, inr, Bool, true, false, not, ◌==◌, ◌||◌, ◌&&◌, List, [], ◌∷◌, ◌++◌, length, refl, sym}
+use Rattle.std.proofs.Common.{ap, subst, ◌∙◌, arith, if◌then◌else◌}
 use Rattle.std.proofs.lemmas.Bool.{eq-eqb, ne_eqb, cases_eq, lt-ltb}
 use Rattle.std.proofs.lemmas.List.{append-nil}
 use Rattle.ports.specs.declared.line.Line.{Line}
@@ -79,14 +80,17 @@ lines_after_print lines C r c value all had q =
     own = printed-own C r (prints value) ∙ ap (λ z. printed C r ++ (z + 1, value) ∷ []) (sym all)
 
     go : (r ≡ q) ⊎ (r ≡ q → ⊥) → lines_of q lines ++ cons_if (r == q) (c + 1, value) [] ≡ printed (record { rank = r; act = prints value } ∷ C) q
-    go (inr ne) = ap (λ b. lines_of q lines ++ cons_if b (c + 1, value) []) (ne_eqb r q ne) ∙ append-nil _ ∙ had q ∙ sym (printed-other C (record { rank = r; act = prints value }) q ne)
+    go (inr ne) =
+        ap (λ b. lines_of q lines ++ cons_if b (c + 1, value) []) (ne_eqb r q ne) ∙ append-nil _ ∙ had q
+        ∙ sym (printed-other C (record { rank = r; act = prints value }) q ne)
     go (inl e) =
         ap (λ b. lines_of q lines ++ cons_if b (c + 1, value) []) (eq-eqb r q e)
         ∙ ap (λ z. z ++ (c + 1, value) ∷ []) (had q)
         ∙ sym (subst (λ z. printed (record { rank = r; act = prints value } ∷ C) z ≡ printed C z ++ (c + 1, value) ∷ []) e own)
 
 -- an act that prints nothing leaves what was printed
-pub printed_same : (C : List Passed) (r q : ℕ) (a : Act) → print_at (length (history C r) + 1) a [] ≡ [] → printed (record { rank = r; act = a } ∷ C) q ≡ printed C q
+pub printed_same : (C : List Passed) (r q : ℕ) (a : Act) → print_at (length (history C r) + 1) a [] ≡ []
+    → printed (record { rank = r; act = a } ∷ C) q ≡ printed C q
 printed_same C r q a none = go (cases_eq r q)
   where
     own : printed (record { rank = r; act = a } ∷ C) r ≡ printed C r

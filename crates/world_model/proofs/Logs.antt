@@ -1,5 +1,6 @@
 -- What a payload log stands for, after a packet is saved or transmitted, is asked for again, or is no longer needed.
-use Rattle.std.proofs.Common.{◌≡◌, ℕ, zero, suc, ◌+◌, ◌-◌, ⊎_elim, Bool, true, false, List, [], ◌∷◌, ◌++◌, Some, length, drop, max, refl, sym, ap, subst, ◌∙◌, arith, slice_get, nat_lt, if◌then◌else◌}
+use Rattle.std.proofs.Common.{◌≡◌, ℕ, zero, suc, ◌+◌, ◌-◌, ⊎_elim, Bool, true, false, List, [], ◌∷◌, ◌++◌, Some, length, drop, max, refl, sym, ap}
+use Rattle.std.proofs.Common.{subst, ◌∙◌, arith, slice_get, nat_lt, if◌then◌else◌}
 use Rattle.std.proofs.lemmas.List.{length_push}
 use Rattle.matching.specs.Message as packet
 use Rattle.payload_log.specs.Backlog.{Backlog, saved, asked, pruned, passed, next_of}
@@ -30,7 +31,8 @@ LogStands-saved r messages b p source number s =
     older : (k : ℕ) (q : packet.Message) → slice_get b.kept k ≡ Some q → (q.source ≡ r) × (at_place (messages ++ carried p ∷ []) q.number ≡ Some (carried q))
     older k q e = ((s.kept k q e).0, at_place-append messages (carried p ∷ []) q.number (carried q) (s.kept k q e).1)
 
-    go : (k : ℕ) (q : packet.Message) (keeps : Bool) → slice_get (if keeps then b.kept ++ p ∷ [] else b.kept) k ≡ Some q → (q.source ≡ r) × (at_place (messages ++ carried p ∷ []) q.number ≡ Some (carried q))
+    go : (k : ℕ) (q : packet.Message) (keeps : Bool) → slice_get (if keeps then b.kept ++ p ∷ [] else b.kept) k ≡ Some q
+        → (q.source ≡ r) × (at_place (messages ++ carried p ∷ []) q.number ≡ Some (carried q))
     go k q false e = older k q e
     go k q true e =
         ⊎_elim (λ old. older k q old)
@@ -60,10 +62,12 @@ slice_get-drop (suc n) (y ∷ xs) k x e = rw (one_outside n k) (slice_get-drop n
 pub LogStands-pruned : (r upto : ℕ) (messages : List Message) (b : Backlog) → LogStands r messages b → LogStands r messages (pruned b upto)
 LogStands-pruned r upto messages b s = go (nat_lt b.base upto)
   where
-    go : (c : Bool) → LogStands r messages (if c then (record { base = upto; sent = b.sent; cursor = max b.cursor (upto + 1); kept = drop (upto - b.base) b.kept }) else b)
+    go : (c : Bool)
+        → LogStands r messages (if c then (record { base = upto; sent = b.sent; cursor = max b.cursor (upto + 1); kept = drop (upto - b.base) b.kept }) else b)
     go false = s
     go true = record { sent = s.sent; kept = λ k q e. s.kept (upto - b.base + k) q (slice_get-drop (upto - b.base) b.kept k q e) }
 
 -- what goes next is a message that was sent
-pub next_is_real : (r : ℕ) (messages : List Message) (b : Backlog) (p : packet.Message) → LogStands r messages b → next_of b ≡ Some p → (p.source ≡ r) × (at_place messages p.number ≡ Some (carried p))
+pub next_is_real : (r : ℕ) (messages : List Message) (b : Backlog) (p : packet.Message) → LogStands r messages b → next_of b ≡ Some p
+    → (p.source ≡ r) × (at_place messages p.number ≡ Some (carried p))
 next_is_real r messages b p s e = s.kept (b.cursor - (b.base + 1)) p e

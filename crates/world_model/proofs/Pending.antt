@@ -66,14 +66,16 @@ row_with_pending start C r (a ∷ acts) (x ∷ events) p =
     ∙ append_assoc (row C r) (x ∷ []) events
 
 -- each pending act has one event
-pub as_many_acts : (start : ℕ → State) (C : List Passed) (r : ℕ) (acts : List Act) (events : List EventValue) → Pending start C r acts events → length acts ≡ length events
+pub as_many_acts : (start : ℕ → State) (C : List Passed) (r : ℕ) (acts : List Act) (events : List EventValue) → Pending start C r acts events
+    → length acts ≡ length events
 as_many_acts start C r [] [] p = refl
 as_many_acts start C r [] (x ∷ events) p = absurd p
 as_many_acts start C r (a ∷ acts) [] p = absurd p
 as_many_acts start C r (a ∷ acts) (x ∷ events) p = ap suc (as_many_acts start (record { rank = r; act = a } ∷ C) r acts events p.2)
 
 -- where no event is pending no act is
-pub none_pending : (start : ℕ → State) (C : List Passed) (r : ℕ) (acts : List Act) (events : List EventValue) → Pending start C r acts events → events ≡ [] → acts ≡ []
+pub none_pending : (start : ℕ → State) (C : List Passed) (r : ℕ) (acts : List Act) (events : List EventValue) → Pending start C r acts events
+    → events ≡ [] → acts ≡ []
 none_pending start C r [] events p e = refl
 none_pending start C r (a ∷ acts) [] p e = absurd p
 none_pending start C r (a ∷ acts) (x ∷ events) p e = absurd cc

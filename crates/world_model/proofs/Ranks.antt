@@ -1,6 +1,8 @@
 -- A rank goes with the run still: after acts of other ranks, after steps of its own, and after frames.
-use Rattle.std.proofs.Common.{◌≡◌, ℕ, zero, suc, ◌+◌, ◌<◌, ◌≤◌, ◌⊎◌, inl, inr, List, [], ◌∷◌, ◌++◌, Option, Some, None, length, drop, refl, sym, ap, subst, ◌∙◌, arith, slice_get}
+use Rattle.std.proofs.Common.{◌≡◌, ℕ, zero, suc, ◌+◌, ◌<◌, ◌≤◌, ◌⊎◌, inl, inr, List, [], ◌∷◌, ◌++◌, Option, Some, None, length, drop, refl, sym, ap}
+use Rattle.std.proofs.Common.{subst, ◌∙◌, arith, slice_get}
 use Rattle.std.proofs.lemmas.List.{append-nil, length_push, drop-append-le}
+use Rattle.metered.specs.Limits.{most_events}
 use Rattle.event_logger.specs.Event.{EventValue}
 use Rattle.matching.specs.Inbox.{Mailbox}
 use Rattle.payload_log.specs.Backlog.{Backlog}
@@ -23,7 +25,8 @@ use Rattle.world_model.proofs.Pending.{Pending-extended, Pending-push, sent_with
 use Rattle.world_model.proofs.Inboxes.{InboxStands-longer, InboxStands-noted}
 
 -- acts of other ranks
-pub RankStands-extended : (start : ℕ → State) (n : ℕ) (C C' : List Passed) (r : ℕ) (v : Live) → Extends r C C' → RankStands start n C r v → RankStands start n C' r v
+pub RankStands-extended : (start : ℕ → State) (n : ℕ) (C C' : List Passed) (r : ℕ) (v : Live) → Extends r C C' → RankStands start n C r v
+    → RankStands start n C' r v
 RankStands-extended start n C C' r v e s =
     let both = Pending-extended start C C' r s.acts (unstored v.rank) e s.pending in
     record {
@@ -94,7 +97,7 @@ pub RankStands-event : (start : ℕ → State) (n : ℕ) (C : List Passed) (r : 
     → looked_up (λ q. sent C q r) a ≡ o
     → IsFree (wants (state_of v.rank.machine)) a (λ q. sent C q r) (history (continue C r s.acts) r)
     → event_at (v.rank.clock + 1) a o ≡ Some x
-    → v.rank.made < 4096
+    → v.rank.made < most_events
     → state_of m ≡ next (state_of v.rank.machine) a o
     → length inbox.accepted ≡ n
     → InboxStands inbox (λ q. sent C q r) (history (continue C r s.acts) r ++ (a, o) ∷ [])

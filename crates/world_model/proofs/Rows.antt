@@ -15,7 +15,8 @@ cons_some-append None xs ys = refl
 cons_some-append (Some x) xs ys = refl
 
 -- the events after one more act
-pub events_from-push : (k : ℕ) (h : History) (x : Act × Option Message) → events_from k (h ++ x ∷ []) ≡ events_from k h ++ cons_some (event_at (k + length h + 1) x.0 x.1) []
+pub events_from-push : (k : ℕ) (h : History) (x : Act × Option Message)
+    → events_from k (h ++ x ∷ []) ≡ events_from k h ++ cons_some (event_at (k + length h + 1) x.0 x.1) []
 events_from-push k [] x =
     let e : k + 1 ≡ k + 0 + 1 = omega arith in
     rw e refl
@@ -24,7 +25,8 @@ events_from-push k (y ∷ h) x =
     rw (events_from-push (k + 1) h x, e) (cons_some-append (event_at (k + 1) y.0 y.1) _ _)
 
 -- the row of the rank that makes an act
-pub row-own : (C : List Passed) (r : ℕ) (a : Act) → row (record { rank = r; act = a } ∷ C) r ≡ row C r ++ cons_some (event_at (length (history C r) + 1) a (looked_up (λ s. sent C s r) a)) []
+pub row-own : (C : List Passed) (r : ℕ) (a : Act)
+    → row (record { rank = r; act = a } ∷ C) r ≡ row C r ++ cons_some (event_at (length (history C r) + 1) a (looked_up (λ s. sent C s r) a)) []
 row-own C r a =
     ap (λ h. events_from 0 h) (history-own C r a) ∙ events_from-push 0 (history C r) (a, looked_up (λ s. sent C s r) a)
     ∙ (let z : 0 + length (history C r) ≡ length (history C r) = omega arith in rw z refl)
@@ -113,7 +115,8 @@ pub last_clock_low : (C : List Passed) (r : ℕ) → last_clock (row C r) ≤ le
 last_clock_low [] r = omega arith
 last_clock_low (p ∷ C) r = go (last_clock_low C p.rank) (last_clock_low C r) (cases_eq p.rank r)
   where
-    own : (q : ℕ) → last_clock (row C q) ≤ length (history C q) → last_clock (row (record { rank = q; act = p.act } ∷ C) q) ≤ length (history (record { rank = q; act = p.act } ∷ C) q)
+    own : (q : ℕ) → last_clock (row C q) ≤ length (history C q)
+        → last_clock (row (record { rank = q; act = p.act } ∷ C) q) ≤ length (history (record { rank = q; act = p.act } ∷ C) q)
     own q low =
         rw (row-own C q p.act, history-own C q p.act, length_push (history C q) (p.act, looked_up (λ s. sent C s q) p.act))
         (more (event_at (length (history C q) + 1) p.act (looked_up (λ s. sent C s q) p.act)) refl)

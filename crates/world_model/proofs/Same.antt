@@ -10,11 +10,13 @@ use Rattle.crash_free.proofs.Clocks.{one_clock}
 use Rattle.world_model.specs.Rows.{row, event_at, cons_some, Noted}
 use Rattle.world_model.proofs.Rows.{row-own}
 
-takes_event : (c s j : ℕ) (o : Option Message) (x : EventValue) → event_at c (takes s j) o ≡ Some x → (m : Message) × (o ≡ Some m) × (x ≡ event_of kind.Reception s m.clock c)
+takes_event : (c s j : ℕ) (o : Option Message) (x : EventValue) → event_at c (takes s j) o ≡ Some x
+    → (m : Message) × (o ≡ Some m) × (x ≡ event_of kind.Reception s m.clock c)
 takes_event c s j None x e = absurd cc
 takes_event c s j (Some m) x e = (m, refl, cc)
 
-hits_event : (c s j : ℕ) (o : Option Message) (x : EventValue) → event_at c (hits s j) o ≡ Some x → (m : Message) × (o ≡ Some m) × (x ≡ event_of kind.Hit s m.clock c)
+hits_event : (c s j : ℕ) (o : Option Message) (x : EventValue) → event_at c (hits s j) o ≡ Some x
+    → (m : Message) × (o ≡ Some m) × (x ≡ event_of kind.Hit s m.clock c)
 hits_event c s j None x e = absurd cc
 hits_event c s j (Some m) x e = (m, refl, cc)
 
@@ -25,7 +27,8 @@ module _ (C : List Passed) (r c : ℕ) (x : EventValue) where
   one_message : (s s' j j' : ℕ) (m m' : Message) → s ≡ s' → at_place (sent C s r) j ≡ Some m → at_place (sent C s' r) j' ≡ Some m' → m.clock ≡ m'.clock → j ≡ j'
   one_message s s' j j' m m' e f g h = one_clock 0 r (history C s') j j' m m' (subst (λ z. at_place (sent C z r) j ≡ Some m) e f) g h
 
-  same_takes : (s s' j j' : ℕ) → event_at c (takes s j) (at_place (sent C s r) j) ≡ Some x → event_at c (takes s' j') (at_place (sent C s' r) j') ≡ Some x → takes s j ≡ takes s' j'
+  same_takes : (s s' j j' : ℕ) → event_at c (takes s j) (at_place (sent C s r) j) ≡ Some x
+      → event_at c (takes s' j') (at_place (sent C s' r) j') ≡ Some x → takes s j ≡ takes s' j'
   same_takes s s' j j' e f =
       let a = takes_event c s j (at_place (sent C s r) j) x e in
       let b = takes_event c s' j' (at_place (sent C s' r) j') x f in
@@ -34,7 +37,8 @@ module _ (C : List Passed) (r c : ℕ) (x : EventValue) where
       let ej : j ≡ j' = one_message s s' j j' a.0 b.0 es a.1 b.1 (ap (λ z. z.sender_clock) q) in
       ap (λ z. takes z j) es ∙ ap (λ z. takes s' z) ej
 
-  same_hits : (s s' j j' : ℕ) → event_at c (hits s j) (at_place (sent C s r) j) ≡ Some x → event_at c (hits s' j') (at_place (sent C s' r) j') ≡ Some x → hits s j ≡ hits s' j'
+  same_hits : (s s' j j' : ℕ) → event_at c (hits s j) (at_place (sent C s r) j) ≡ Some x → event_at c (hits s' j') (at_place (sent C s' r) j') ≡ Some x
+      → hits s j ≡ hits s' j'
   same_hits s s' j j' e f =
       let a = hits_event c s j (at_place (sent C s r) j) x e in
       let b = hits_event c s' j' (at_place (sent C s' r) j') x f in

@@ -1,13 +1,14 @@
 -- A step keeps what the world stands for. What the machine wants decides what the step is: going on, a send or a print
 -- that passes at once, a reception whose event is pending, or nothing.
-use Rattle.std.proofs.Common.{◌≡◌, ℕ, ℤ, ◌+◌, ◌<◌, ⊎_elim, Bool, true, false, List, [], ◌∷◌, ◌++◌, Option, Some, None, length, refl, sym, ap, subst, ◌∙◌, arith, slice_get, slice_set, nat_lt, ◌==◌, if◌then◌else◌, MatchBool, is_some, position, option_and_then}
+use Rattle.std.proofs.Common.{◌≡◌, ℕ, ℤ, ◌+◌, ◌<◌, ⊎_elim, Bool, true, false, List, [], ◌∷◌, ◌++◌, Option, Some, None, length, refl, sym, ap, subst}
+use Rattle.std.proofs.Common.{◌∙◌, arith, slice_get, slice_set, nat_lt, ◌==◌, if◌then◌else◌, MatchBool, is_some, position, option_and_then}
 use Rattle.std.proofs.lemmas.Bool.{eq-eqb, ne_eqb, lt-leb, ltb-true}
 use Rattle.std.proofs.lemmas.List.{length-set, append-nil}
 use Rattle.std.proofs.lemmas.Option.{get_or_from_slice_get}
+use Rattle.metered.specs.Limits.{greatest_clock, most_events}
 use Rattle.matching.specs.declared.packet.Context.{Context}
 use Rattle.matching.specs.declared.selector.Selector.{Selector}
 use Rattle.matching.specs.Message as packet
-use Rattle.matching.specs.Message.{greatest}
 use Rattle.matching.specs.Matching.{matches}
 use Rattle.matching.specs.Inbox.{without}
 use Rattle.payload_log.specs.Backlog.{Backlog, backlog, saved, new_backlog}
@@ -23,7 +24,8 @@ use Rattle.rank_node.specs.declared.turn.Turn.TheVariants.{Moved, Held}
 use Rattle.rank_node.specs.declared.fault.NodeFault.TheVariants.{ClockSpent, Log}
 use Rattle.rank_node.specs.Node.{is_settled}
 use Rattle.rank_machine.proofs.NoProbe.{not_probe, not_try_probe}
-use Rattle.rank_node.specs.Steps.{turn_at, step_at, refusal_at, event_refusal, MachineStepAt, DidAct, Took, TakesFound, received, at_index, message_of, after_send, after_print, after_reception, with_machine}
+use Rattle.rank_node.specs.Steps.{turn_at, step_at, refusal_at, event_refusal, MachineStepAt, DidAct, Took, TakesFound, received, at_index}
+use Rattle.rank_node.specs.Steps.{message_of, after_send, after_print, after_reception, with_machine}
 use Rattle.ports.specs.declared.line.Line.{Line}
 use Rattle.ports.specs.Console.{after_line}
 use Rattle.crash_free.specs.Runs.{Passed, cons_if, history, sent, printed, sends_from, IsFree, continue}
@@ -185,7 +187,7 @@ module _ (n : ℕ) (w : WorldValue) (r : ℕ) (v : Live) (m : MachineValue) (s :
       (subst (λ z. IsFree z (takes p.source p.number) (λ q. sent w.run q r) (history (continue w.run r k.acts) r)) (sym wants_it)
       (found_is_eligible selector v.rank.inbox (λ q. sent w.run q r) (history (continue w.run r k.acts) r) i p k.inbox here))
       refl
-      (ltb-true v.rank.made 4096 (few_made (v.rank.clock == greatest) (nat_lt v.rank.made 4096) allowed))
+      (ltb-true v.rank.made most_events (few_made (v.rank.clock == greatest_clock) (nat_lt v.rank.made most_events) allowed))
       (took.state p.number)
       k.counted
       (InboxStands-taken v.rank.inbox (λ q. sent w.run q r) (history (continue w.run r k.acts) r) i p (Some (carried p)) at k.inbox))
@@ -216,7 +218,8 @@ module _ (n : ℕ) (w : WorldValue) (r : ℕ) (v : Live) (m : MachineValue) (s :
   -- a step of a rank that isn't refused
   pub stepping : (x : Want) → asks v.rank.machine ≡ x → refusal_at v.rank x ≡ None → MachineStepAt v.rank x m
       → StandsAt n (changed w r (record { rank = step_at v.rank x m; left = v.left }) w.logger (lines_after w.lines r v.rank x (turn_at v.rank x)) (passed_at w.run r (v.rank.clock + 1) (effect_at v.rank x (turn_at v.rank x))))
-  stepping want.Internal e allowed steps = Stands-rank n w r (record { rank = with_machine v.rank m; left = v.left }) s (RankStands-moved (start_at w n) n w.run r v m steps.state k)
+  stepping want.Internal e allowed steps =
+      Stands-rank n w r (record { rank = with_machine v.rank m; left = v.left }) s (RankStands-moved (start_at w n) n w.run r v m steps.state k)
   stepping (want.Send d c t) e allowed steps = go (is_settled v.rank.pending) refl steps
     where
       go : (b : Bool) → is_settled v.rank.pending ≡ b → MatchBool b (DidAct v.rank.machine m) (m ≡ v.rank.machine)

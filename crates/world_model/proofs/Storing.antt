@@ -1,7 +1,9 @@
 -- The oldest unstored event of a rank: the logger accepts it, and it names a message of the run.
-use Rattle.std.proofs.Common.{◌≡◌, ℕ, zero, suc, ◌+◌, ◌<◌, ◌≤◌, ⊎_elim, List, [], ◌∷◌, ◌++◌, Some, length, drop, refl, sym, ap, subst, ◌∙◌, arith, slice_index_or, length-append}
+use Rattle.std.proofs.Common.{◌≡◌, ℕ, zero, suc, ◌+◌, ◌<◌, ◌≤◌, ⊎_elim, List, [], ◌∷◌, ◌++◌, Some, length, drop, refl, sym, ap, subst, ◌∙◌, arith}
+use Rattle.std.proofs.Common.{slice_index_or, length-append}
 use Rattle.std.proofs.lemmas.Bool.{cases_lt, lt-leb}
 use Rattle.std.proofs.lemmas.Option.{slice_get_within, slice_get-get_or}
+use Rattle.metered.specs.Limits.{most_events}
 use Rattle.event_logger.specs.Event.{EventValue}
 use Rattle.event_logger.specs.History.{append_reply, last_clock}
 use Rattle.event_logger.specs.declared.call.Reply.TheVariants.{Length}
@@ -38,8 +40,8 @@ module _ (w : WorldValue) (r : ℕ) (v : Live) (x : EventValue) (s : Stands w) (
       let l = slice_get_within w.ranks r (Some v) live in
       s.rows r (slice_index_or w.logger.rows r []) (slice_get-get_or w.logger.rows r [] (let e = s.as_many_rows in omega (arith, l, e)))
 
-  -- fewer than 4096 events are stored
-  few_stored : length (row w.run r) < 4096
+  -- fewer events are stored than there may be
+  few_stored : length (row w.run r) < most_events
   few_stored =
       let all : row (continue w.run r k.acts) r ≡ row w.run r ++ unstored v.rank = row_with_pending (start_at w (size w)) w.run r k.acts (unstored v.rank) k.pending in
       let count : v.rank.made ≡ length (row w.run r ++ unstored v.rank) = k.made ∙ ap length all in
@@ -56,8 +58,8 @@ module _ (w : WorldValue) (r : ℕ) (v : Live) (x : EventValue) (s : Stands w) (
       let low = last_clock_low w.run r in
       omega (arith, clock, low)
 
-  replied : (es : List EventValue) → length es < 4096 → last_clock es < x.receiver_clock → append_reply es x ≡ Length (length es + 1)
-  replied es few above = rw (lt-leb 4096 (length es) few, lt-leb x.receiver_clock (last_clock es) above) refl
+  replied : (es : List EventValue) → length es < most_events → last_clock es < x.receiver_clock → append_reply es x ≡ Length (length es + 1)
+  replied es few above = rw (lt-leb most_events (length es) few, lt-leb x.receiver_clock (last_clock es) above) refl
 
   -- the logger accepts it
   pub accepts : IsAccepted w.logger r (next_unstored v.rank)
@@ -72,7 +74,8 @@ sends_none start n (p ∷ C) s l i =
     history-other C p s (λ e. let below : p.rank < n = i.1 in omega (arith, e)) ∙ sends_none start n C s l i.0
 
 pub sender_below : (start : ℕ → State) (n : ℕ) (C : List Passed) (s d j : ℕ) (m : Message) → IsRun start n C → at_place (sent C s d) j ≡ Some m → s < n
-sender_below start n C s d j m i at = ⊎_elim (λ (l : s < n). l) (λ (l : n ≤ s). absurd (nothing j (subst (λ z. at_place (sends_from 0 d z) j ≡ Some m) (sends_none start n C s l i) at))) (cases_lt s n)
+sender_below start n C s d j m i at =
+    ⊎_elim (λ (l : s < n). l) (λ (l : n ≤ s). absurd (nothing j (subst (λ z. at_place (sends_from 0 d z) j ≡ Some m) (sends_none start n C s l i) at))) (cases_lt s n)
   where
     nothing : (j : ℕ) → at_place {A = Message} [] j ≡ Some m → ⊥
     nothing zero e = cc

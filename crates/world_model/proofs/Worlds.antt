@@ -36,7 +36,8 @@ replaced n start C ranks r v others k q u e = go (slice_set-get ranks r q (Some 
     go (inl h) = rw (h.0, some_same u v h.1) k
 
 -- a rank changes, and the run stays
-pub Stands-rank : (n : ℕ) (w : WorldValue) (r : ℕ) (v : Live) → StandsAt n w → RankStands (start_at w n) n w.run r v → StandsAt n (changed w r v w.logger w.lines w.run)
+pub Stands-rank : (n : ℕ) (w : WorldValue) (r : ℕ) (v : Live) → StandsAt n w → RankStands (start_at w n) n w.run r v
+    → StandsAt n (changed w r v w.logger w.lines w.run)
 Stands-rank n w r v s k =
     record {
       is_run = s.is_run;
@@ -109,7 +110,8 @@ Stands-put n w r v d of_r frames f s k at_r at_d real =
       ranks = replaced n (start_at w n) w.run w.ranks r v (λ q u ne e. s.ranks q u e) k;
     }
   where
-    as_many : (q : ℕ) (x : List (List Frame)) → ((q ≡ r) × (x ≡ slice_set of_r d (frames ++ f ∷ []))) ⊎ ((q ≡ r → ⊥) × (slice_get w.wires q ≡ Some x)) → length x ≡ n
+    as_many : (q : ℕ) (x : List (List Frame)) → ((q ≡ r) × (x ≡ slice_set of_r d (frames ++ f ∷ []))) ⊎ ((q ≡ r → ⊥) × (slice_get w.wires q ≡ Some x))
+        → length x ≡ n
     as_many q x (inr h) = s.wires_to_all q x h.1
     as_many q x (inl h) = ap length h.1 ∙ length-set of_r d (frames ++ f ∷ []) ∙ s.wires_to_all r of_r at_r
 

@@ -1,5 +1,5 @@
 -- What each event does to a world: it is one call on the rank that it names, and the reply is that call's answer.
-use Rattle.std.specs.Prelude.{◌≡◌, ◌≢◌, ℕ, ◌+◌, ◌<◌, nat_le, List, [], ◌∷◌, ◌++◌, length, Option, Some, None, slice_get, slice_set, if◌then◌else◌}
+use Rattle.std.specs.Prelude.{◌≡◌, ◌≢◌, ℕ, ℤ, false, ◌+◌, ◌<◌, nat_le, List, [], ◌∷◌, ◌++◌, length, Option, Some, None, slice_get, slice_set, if◌then◌else◌}
 use Rattle.event_logger.specs.Event.{EventValue}
 use Rattle.event_logger.specs.History.{Answers}
 use Rattle.event_logger.specs.declared.call.Call.TheVariants.{Append}
@@ -15,7 +15,7 @@ use Rattle.rank_node.specs.declared.turn.Arrived.{Arrived}
 use Rattle.rank_node.specs.declared.turn.Arrived.TheVariants as arrived
 use Rattle.rank_node.specs.declared.frame.Frame.{Frame}
 use Rattle.rank_node.specs.declared.frame.Frame.TheVariants as frame
-use Rattle.rank_node.specs.Steps.{turn_of, refusal_of, MachineStep, after_step}
+use Rattle.rank_node.specs.Steps.{turn_of, refusal_of, takes_memory, MachineStep, after_step}
 use Rattle.rank_node.specs.Frames.{outgoing_of, after_passed, arrival_of, after_frame}
 use Rattle.rank_node.specs.Storing.{next_unstored, after_store, after_ack}
 use Rattle.ports.specs.declared.line.Line.{Line}
@@ -59,21 +59,46 @@ stepped turn.Blocked = reply.Blocked
 stepped turn.Held = reply.Held
 stepped turn.Ended = reply.Ended
 
+-- the act, where the turn made it
+abbrev pub where_moved : Turn → Act → Option Act
+where_moved turn.Moved act = Some act
+where_moved turn.Blocked act = None
+where_moved turn.Held act = None
+where_moved turn.Ended act = None
+
 -- a send and a print pass as soon as they are made; what a rank receives passes when it is stored
 abbrev pub effect_at : Rank → Want → Turn → Option Act
-effect_at v (want.Send dest context tag) turn.Moved = Some (sends dest context tag (payload (state_of v.machine)))
-effect_at v (want.Print value) turn.Moved = Some (prints value)
-effect_at v w t = None
+effect_at v (want.Send dest context tag) t = where_moved t (sends dest context tag (payload (state_of v.machine)))
+effect_at v (want.Print value) t = where_moved t (prints value)
+effect_at v want.Internal t = None
+effect_at v (want.Receive selector) t = None
+effect_at v (want.Probe selector) t = None
+effect_at v (want.TryProbe selector) t = None
+effect_at v want.Halted t = None
+effect_at v (want.Faulted fault) t = None
 
 -- the run after an act of this clock passes, if one does: it goes on where the act passes for the first time
 abbrev pub passed_at : List Passed → ℕ → ℕ → Option Act → List Passed
 passed_at C r clock None = C
 passed_at C r clock (Some act) = if nat_le clock (length (history C r)) then C else record { rank = r; act = act } ∷ C
 
+-- the lines after a print, where the turn made it
+abbrev pub shown_where_moved : List Line → ℕ → ℕ → ℤ → Turn → List Line
+shown_where_moved lines r clock value turn.Moved = after_line lines r clock value
+shown_where_moved lines r clock value turn.Blocked = lines
+shown_where_moved lines r clock value turn.Held = lines
+shown_where_moved lines r clock value turn.Ended = lines
+
 -- a print is shown with its clock
 abbrev pub lines_after : List Line → ℕ → Rank → Want → Turn → List Line
-lines_after lines r v (want.Print value) turn.Moved = after_line lines r (v.clock + 1) value
-lines_after lines r v w t = lines
+lines_after lines r v (want.Print value) t = shown_where_moved lines r (v.clock + 1) value t
+lines_after lines r v want.Internal t = lines
+lines_after lines r v (want.Send dest context tag) t = lines
+lines_after lines r v (want.Receive selector) t = lines
+lines_after lines r v (want.Probe selector) t = lines
+lines_after lines r v (want.TryProbe selector) t = lines
+lines_after lines r v want.Halted t = lines
+lines_after lines r v (want.Faulted fault) t = lines
 
 -- A step: the machine makes the step that it wants, unless it is blocked or held or has ended.
 pub record StepFollows (w : WorldValue) (r : ℕ) (answer : Reply) (w' : WorldValue) : Type 0 where
@@ -194,7 +219,34 @@ Happens w (Restart r) answer w' = ⊥
 -- What an event does: it is refused and leaves all as it was, exactly where it can't happen; else it happens.
 abbrev pub Follows : WorldValue → WorldEvent → Reply → WorldValue → Type 0
 Follows w event reply.Refused w' = CanNot w event × (w' ≡ w)
-Follows w event answer w' = Happens w event answer w'
+Follows w event reply.Moved w' = Happens w event reply.Moved w'
+Follows w event reply.Blocked w' = Happens w event reply.Blocked w'
+Follows w event reply.Held w' = Happens w event reply.Held w'
+Follows w event reply.Ended w' = Happens w event reply.Ended w'
+Follows w event (reply.PutData index number) w' = Happens w event (reply.PutData index number) w'
+Follows w event (reply.PutAsk index from) w' = Happens w event (reply.PutAsk index from) w'
+Follows w event (reply.PutKept index upto) w' = Happens w event (reply.PutKept index upto) w'
+Follows w event reply.Accepted w' = Happens w event reply.Accepted w'
+Follows w event reply.Repeated w' = Happens w event reply.Repeated w'
+Follows w event reply.Gap w' = Happens w event reply.Gap w'
+Follows w event reply.Noted w' = Happens w event reply.Noted w'
+Follows w event (reply.Stored count) w' = Happens w event (reply.Stored count) w'
+Follows w event reply.Acked w' = Happens w event reply.Acked w'
+Follows w event reply.Imaged w' = Happens w event reply.Imaged w'
+Follows w event reply.Crashed w' = Happens w event reply.Crashed w'
+Follows w event (reply.Restarted count) w' = Happens w event (reply.Restarted count) w'
+
+-- The event takes no memory: a step that is the machine's own, or is blocked or held, or comes after the end, and each
+-- acknowledgement. An event that can't happen takes none either.
+abbrev pub TakesNoMemory : WorldValue → WorldEvent → Type 0
+TakesNoMemory w (Step r) = (v : Live) → IsLive w r v → takes_memory v.rank ≡ false
+TakesNoMemory w (Put s d) = CanNot w (Put s d)
+TakesNoMemory w (Arrive s d i) = CanNot w (Arrive s d i)
+TakesNoMemory w (Store r) = CanNot w (Store r)
+TakesNoMemory w (Ack r) = Unit {0}
+TakesNoMemory w (Image r) = CanNot w (Image r)
+TakesNoMemory w (Crash r) = CanNot w (Crash r)
+TakesNoMemory w (Restart r) = CanNot w (Restart r)
 
 -- what a list of events does, one after another; after each the world stands for its run
 abbrev pub FollowsAll : WorldValue → List WorldEvent → List Reply → WorldValue → Type 0

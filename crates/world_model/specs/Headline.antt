@@ -25,7 +25,8 @@ lines_of r (l ∷ lines) = cons_if (l.rank == r) (l.clock, l.value) (lines_of r 
 -- a packet on the wire from s to d with number k is the kth message that s sent to d in the run
 abbrev pub IsReal : List Passed → ℕ → ℕ → Frame → Type 0
 IsReal C s d (frame.Data p) = (p.source ≡ s) × (at_place (sent C s d) p.number ≡ Some (carried p))
-IsReal C s d f = Unit {0}
+IsReal C s d (frame.Ask from) = Unit {0}
+IsReal C s d (frame.Kept upto) = Unit {0}
 
 -- how many acts a rank has made that aren't in the run yet: its events that aren't stored
 abbrev pub owed : Live → ℕ

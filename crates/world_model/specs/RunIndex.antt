@@ -1,7 +1,8 @@
 -- The run that a world keeps, and its index: for each rank how many acts it made, and the clocks of what it sent to each
 -- rank, so that no look-up walks the run.
-use Rattle.std.specs.Prelude.{◌≡◌, ℕ, ◌+◌, ◌-◌, ◌<◌, ◌≤◌, List, [], ◌∷◌, ◌++◌, length, map, take, replicate, slice_get, slice_set, slice_index_or, Option, Some, option_map}
-use Rattle.rank_machine.specs.Acts.{Act, sends}
+use Rattle.std.specs.Prelude.{◌≡◌, ℕ, ◌+◌, ◌-◌, ◌<◌, ◌≤◌, List, [], ◌∷◌, ◌++◌, length, map, take, replicate, slice_get, slice_set, slice_index_or}
+use Rattle.std.specs.Prelude.{Option, Some, option_map}
+use Rattle.rank_machine.specs.Acts.{Act, sends, takes, hits, misses, prints}
 use Rattle.crash_free.specs.Runs.{Passed, at_place, history, sent}
 
 -- a run of so many ranks, the newest act first
@@ -33,12 +34,18 @@ none_made n = record { count = 0; clocks = replicate n [] }
 -- the clocks for each rank, after an act with this clock
 abbrev pub clocks_with : ℕ → Act → List (List ℕ) → List (List ℕ)
 clocks_with c (sends d context tag items) ks = slice_set ks d (slice_index_or ks d [] ++ c ∷ [])
-clocks_with c _ ks = ks
+clocks_with c (takes source place) ks = ks
+clocks_with c (hits source place) ks = ks
+clocks_with c misses ks = ks
+clocks_with c (prints value) ks = ks
 
 -- the clocks for each rank, without the last act
 abbrev pub clocks_without : Act → List (List ℕ) → List (List ℕ)
 clocks_without (sends d context tag items) ks = let old = slice_index_or ks d [] in slice_set ks d (take (length old - 1) old)
-clocks_without _ ks = ks
+clocks_without (takes source place) ks = ks
+clocks_without (hits source place) ks = ks
+clocks_without misses ks = ks
+clocks_without (prints value) ks = ks
 
 -- with one more act
 abbrev pub made_with : MadeValue → Act → MadeValue

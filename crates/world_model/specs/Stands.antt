@@ -1,6 +1,7 @@
 -- The invariant of a world: how its ranks, inboxes and payload logs go with the run. That the world stands for its run
 -- follows from it.
 use Rattle.std.specs.Prelude.{◌≡◌, ℕ, ◌+◌, ◌<◌, ◌≤◌, true, false, List, [], ◌∷◌, length, Some, slice_get}
+use Rattle.metered.specs.Limits.{most_events}
 use Rattle.event_logger.specs.Event.{EventValue}
 use Rattle.matching.specs.Message as packet
 use Rattle.matching.specs.Inbox.{Mailbox, accepted_from}
@@ -54,7 +55,7 @@ pub record RankStands (start : ℕ → State) (n : ℕ) (C : List Passed) (r : �
   pub stored : v.rank.stored ≤ length v.rank.pending
   pub clock : v.rank.clock ≡ length (history (continue C r acts) r)
   pub made : v.rank.made ≡ length (row (continue C r acts) r)
-  pub few : v.rank.made ≤ 4096
+  pub few : v.rank.made ≤ most_events
   pub after : State
   pub reached : Runs (start r) (history (continue C r acts) r) after
   pub inner : Inners after (state_of v.rank.machine)

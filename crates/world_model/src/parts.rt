@@ -3,6 +3,7 @@
 //! It is given here that the parts stand for their run. That they do so again
 //! follows from what an event does, and is no concern of this module.
 ghost use Rattle.std.specs.Prelude.{◌≡◌, ◌<◌, ◌≤◌, length, MatchOption, IfOk};
+ghost use Rattle.metered.specs.Limits.{most_ranks};
 ghost use Rattle.world_model.specs.Headline.{IsFresh};
 
 mod acking;
@@ -35,6 +36,7 @@ pub struct Parts<'p> {
 
 impl<'p> Model for Parts<'p> {
     ghost use Rattle.std.specs.Prelude.{◌≡◌, ◌≤◌, length};
+    ghost use Rattle.metered.specs.Limits.{most_ranks};
     ghost use Rattle.std.specs.Coded.{codes};
     ghost use Rattle.rank_language.specs.Coding.{placed_code};
     ghost use Rattle.world_model.specs.World.{WorldValue};
@@ -45,13 +47,13 @@ impl<'p> Model for Parts<'p> {
 
     ghost view = { λ w. record { program = w.program.now; ranks = w.seats; logger = w.logger; wires = w.wires; lines = w.console; run = w.run.acts } };
 
-    ghost invariant = { λ w. (length w.seats ≤ 16) × (w.run.ranks ≡ length w.seats) };
+    ghost invariant = { λ w. (length w.seats ≤ most_ranks) × (w.run.ranks ≡ length w.seats) };
 }
 
 impl<'p> Parts<'p> {
     /// A new world of this many ranks.
     pub fn new(alloc: Heap, program: &'p Program, ranks: u8) -> Result<Parts<'p>, AllocError>
-        requires { ranks ≤ 16 }
+        requires { ranks ≤ most_ranks }
         ensures { IfOk result (λ world. IsFresh program.entry.now ranks world) }
     {
         let count = usize::from(ranks);
@@ -83,6 +85,13 @@ impl<'p> Parts<'p> {
             run: _,
         } = self;
         seats.end();
+    }
+
+    /// How many ranks there are.
+    pub fn ranks(&self) -> u8
+        ensures { result ≡ length self.now.ranks }
+    {
+        self.seats.len() as u8
     }
 
     /// The console's lines, in order.

@@ -7,8 +7,6 @@ ghost use Rattle.world_model.specs.RunIndex.{clock_at, none_made};
 
 mod clocks;
 mod made;
-#[cfg(test)]
-mod tests;
 
 use crash_free::Passed;
 use made::Made;

@@ -1,5 +1,6 @@
 //! A rank of a world.
 ghost use Rattle.std.specs.Prelude.{◌≡◌, ◌<◌, ◌≤◌, IfOk};
+ghost use Rattle.metered.specs.Limits.{most_ranks};
 
 use checkpoint::MemoryShelf;
 use metered::Heap;
@@ -38,7 +39,7 @@ impl<'p> Seat<'p> {
         size: u8,
     ) -> Result<Seat<'p>, AllocError>
         requires rank { rank < size }
-        requires size { size ≤ 16 }
+        requires size { size ≤ most_ranks }
         ensures { IfOk result (λ seat. IsOpened program.entry.now size rank seat) }
     {
         let stable = Stable::new((), MemoryShelf::new(alloc), rank, size);

@@ -1,5 +1,6 @@
 //! The ranks of a world, in the order of their numbers.
 ghost use Rattle.std.specs.Prelude.{◌≡◌, ◌<◌, ◌≤◌, ℕ, [], length, slice_get, slice_set, Option, Some, IsSome, IfOk, OnOk, OnErr};
+ghost use Rattle.metered.specs.Limits.{most_ranks};
 ghost use Rattle.std.specs.Bool.{OnTrue, OnFalse};
 ghost use Rattle.rank_node.specs.Frames.{outgoing_of, after_passed, arrival_of, after_frame};
 ghost use Rattle.rank_node.specs.Storing.{after_ack};
@@ -40,7 +41,7 @@ impl<'p> Seats<'p> {
     /// All ranks of a program, at its beginning.
     #[tactic(auto, using(crate::proofs::Opening::opened_more))]
     pub fn start(alloc: Heap, program: &'p Program, ranks: u8) -> Result<Seats<'p>, AllocError>
-        requires { ranks ≤ 16 }
+        requires { ranks ≤ most_ranks }
         ensures count { IfOk result (λ seats. length seats ≡ ranks) }
         ensures opened { IfOk result (λ seats. (r : ℕ) (x : Option Live) → slice_get seats r ≡ Some x → IsOpened program.entry.now ranks r x) }
     {

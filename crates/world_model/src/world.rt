@@ -1,8 +1,10 @@
 //! A world, which stands for a crash-free run.
-ghost use Rattle.std.specs.Prelude.{◌≡◌, ◌≤◌, [], List, length, take, IfOk, IfErr, OnErr};
+ghost use Rattle.std.specs.Prelude.{◌≡◌, ◌<◌, ◌≤◌, [], List, length, take, IfOk, IfErr, OnErr};
+ghost use Rattle.metered.specs.Limits.{most_ranks};
 ghost use Rattle.world_model.specs.declared.reply.Reply.{Reply};
 ghost use Rattle.world_model.specs.Headline.{IsFresh, StandsFor};
-ghost use Rattle.world_model.specs.Follows.{CanNot, Follows, FollowsAll};
+ghost use Rattle.world_model.specs.World.{size};
+ghost use Rattle.world_model.specs.Follows.{CanNot, Follows, FollowsAll, TakesNoMemory};
 
 use crate::event::WorldEvent;
 use crate::parts::Parts;
@@ -41,10 +43,11 @@ impl<'p> Model for World<'p> {
 }
 
 impl<'p> World<'p> {
-    /// A new world of a program and 1 to 16 ranks.
+    /// A new world of a program and at most `MOST_RANKS` ranks of
+    /// `metered::limits`.
     #[tactic(auto, using(crate::proofs::Headline::stands_for, crate::proofs::Headline::stands_fresh))]
     pub fn new(alloc: Heap, program: &'p Program, ranks: u8) -> Result<World<'p>, AllocError>
-        requires { ranks ≤ 16 }
+        requires { ranks ≤ most_ranks }
         ensures fresh { IfOk result (λ world. IsFresh program.entry.now ranks world) }
         ensures stands { IfOk result (λ world. StandsFor world []) }
     {
@@ -58,6 +61,13 @@ impl<'p> World<'p> {
         parts.end();
     }
 
+    /// How many ranks there are.
+    pub fn ranks(&self) -> u8
+        ensures { result ≡ size self.now }
+    {
+        self.parts.ranks()
+    }
+
     /// The console's lines, in the order in which they were shown.
     pub fn lines(&self) -> &[Line]
         ensures { result.now ≡ self.now.lines }
@@ -66,7 +76,8 @@ impl<'p> World<'p> {
     }
 
     /// One event. An `Err` is want of memory, and comes only where the event
-    /// isn't refused.
+    /// isn't refused and takes memory: an acknowledgement takes none, nor does
+    /// a step that is the machine's own, blocked or held, or after its end.
     #[tactic(auto, using(crate::proofs::Headline::stands_for, crate::proofs::Sequences::kept))]
     pub fn apply(&mut self, event: WorldEvent) -> Result<Reply, AllocError>
         ensures follows { IfOk result (λ reply. Follows self.old event reply self.new) }
@@ -74,6 +85,7 @@ impl<'p> World<'p> {
 
         ensures err { OnErr result (self.new ≡ self.old) }
         ensures possible { OnErr result (CanNot self.old event → ⊥) }
+        ensures frugal { OnErr result (TakesNoMemory self.old event → ⊥) }
     {
         self.parts.apply(event)
     }
@@ -85,7 +97,7 @@ impl<'p> World<'p> {
         ensures follows { IfOk result (λ replies. FollowsAll self.old events.now replies.items self.new) }
         ensures stands { StandsFor self.new self.new.run }
 
-        ensures done { IfErr result (λ stopped. stopped.done ≤ length events.now) }
+        ensures done { IfErr result (λ stopped. stopped.done < length events.now) }
         ensures stopped { IfErr result (λ stopped. (replies : List Reply) × FollowsAll self.old (take stopped.done events.now) replies self.new) }
     {
         let _parts = &self.parts;

@@ -1,5 +1,6 @@
 //! The steps and acts of one rank.
 ghost use Rattle.std.specs.Prelude.{◌≡◌, ℕ, ◌<◌, ◌≤◌, IfOk, IfErr, OnOk, OnErr, length};
+ghost use Rattle.metered.specs.Limits.{greatest_tag, most_items};
 ghost use Rattle.rank_machine.specs.Wants.{IsLegal};
 ghost use Rattle.crash_free.specs.Sim.{Allows, Refuses};
 ghost use Rattle.crash_free.specs.Wanted.{AsksAt};
@@ -102,9 +103,9 @@ fn packet(
     items: &[i64],
 ) -> Result<Packet, AllocError>
     requires context { context ≡ Context.PointToPoint }
-    requires tag { tag ≤ 32767 }
+    requires tag { tag ≤ greatest_tag }
     requires least { 1 ≤ length items.now }
-    requires most { length items.now ≤ 256 }
+    requires most { length items.now ≤ most_items }
     ensures { IfOk result (λ packet. packet ≡ record { source = source; clock = 1; number = 1; context = context; tag = tag; items = items.now }) }
 {
     Ok(Packet {

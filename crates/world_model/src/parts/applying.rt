@@ -7,7 +7,7 @@ use crate::reply::Reply;
 use std::alloc::AllocError;
 
 impl<'p> Parts<'p> {
-    ghost use Rattle.world_model.specs.Follows.{CanNot, Follows};
+    ghost use Rattle.world_model.specs.Follows.{CanNot, Follows, TakesNoMemory};
     ghost use Rattle.world_model.specs.Stands.{Stands};
 
     /// One event.
@@ -16,6 +16,7 @@ impl<'p> Parts<'p> {
         ensures follows { IfOk result (λ reply. Follows self.old event reply self.new) }
         ensures err { OnErr result (self.new ≡ self.old) }
         ensures possible { OnErr result (CanNot self.old event → ⊥) }
+        ensures frugal { OnErr result (TakesNoMemory self.old event → ⊥) }
     {
         match event {
             WorldEvent::Step { rank } => self.step(rank),

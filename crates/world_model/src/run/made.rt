@@ -61,11 +61,14 @@ impl Made {
         ensures err { OnErr result (self.new ≡ self.old) }
     {
         let clock = self.count + 1;
-        if let Act::Sends { dest, .. } = act {
-            let dest = usize::from(*dest);
-            if dest < self.clocks.len() {
-                self.clocks[dest].push(clock as u64)?;
+        match act {
+            Act::Sends { dest, .. } => {
+                let dest = usize::from(*dest);
+                if dest < self.clocks.len() {
+                    self.clocks[dest].push(clock as u64)?;
+                }
             }
+            Act::Takes { .. } | Act::Hits { .. } | Act::Misses | Act::Prints(_) => {}
         }
         self.count = clock;
         Ok(())
@@ -76,11 +79,14 @@ impl Made {
         requires { 0 < self.old.count }
         ensures { self.new ≡ made_without self.old (act_of act.now) }
     {
-        if let Act::Sends { dest, .. } = act {
-            let dest = usize::from(*dest);
-            if dest < self.clocks.len() {
-                self.clocks[dest].drop_last();
+        match act {
+            Act::Sends { dest, .. } => {
+                let dest = usize::from(*dest);
+                if dest < self.clocks.len() {
+                    self.clocks[dest].drop_last();
+                }
             }
+            Act::Takes { .. } | Act::Hits { .. } | Act::Misses | Act::Prints(_) => {}
         }
         self.count -= 1;
     }

@@ -1,5 +1,5 @@
 //! Steps of the ranks of a world.
-ghost use Rattle.std.specs.Prelude.{◌≡◌, ◌<◌, None, length, IfOk, OnOk, OnErr};
+ghost use Rattle.std.specs.Prelude.{◌≡◌, ◌<◌, true, None, length, IfOk, OnOk, OnErr};
 ghost use Rattle.world_model.specs.Seats.{AtRank, IsStep};
 
 use crate::seats::Seats;
@@ -8,7 +8,7 @@ use rank_node::Turn;
 use std::alloc::AllocError;
 
 impl<'p> Seats<'p> {
-    ghost use Rattle.rank_node.specs.Steps.{turn_of, refusal_of};
+    ghost use Rattle.rank_node.specs.Steps.{turn_of, refusal_of, takes_memory};
 
     /// A rank, whose step isn't refused by name, makes one step. An `Err` is
     /// want of memory.
@@ -19,6 +19,7 @@ impl<'p> Seats<'p> {
         ensures turn { IfOk result (λ turn. AtRank self.old rank (λ v. turn ≡ turn_of v.rank)) }
         ensures ok { OnOk result (AtRank self.old rank (λ v. IsStep v self.old rank self.new console.old console.new)) }
         ensures err { OnErr result (self.new ≡ self.old) }
+        ensures memory { OnErr result (AtRank self.old rank (λ v. takes_memory v.rank ≡ true)) }
         ensures err_console { OnErr result (console.new ≡ console.old) }
     {
         let seat = &mut self.seats[usize::from(rank)];

@@ -26,7 +26,8 @@ has_then c =
     c.in-Some.ensures.1 c.in-Some-rank_of.ensures.1
 
 -- and the frame on it
-there_then : (c : goal.After-arrived_as) → slice_get (wire_of c.args.self.now.wires c.in-Some.source c.in-Some-rank_of.dest) c.args.index ≡ Some c.in_ok-frame.frame
+there_then : (c : goal.After-arrived_as)
+    → slice_get (wire_of c.args.self.now.wires c.in-Some.source c.in-Some-rank_of.dest) c.args.index ≡ Some c.in_ok-frame.frame
 there_then c =
     subst (λ z. slice_get (wire_of z.wires c.in-Some.source c.in-Some-rank_of.dest) c.args.index ≡ Some c.in_ok-frame.frame) c.self.view_is
     (subst (λ z. slice_get z c.args.index ≡ Some c.in_ok-frame.frame) c.wire.ensures
