@@ -1,4 +1,4 @@
-//! Tests of `matching`, `payload_log`, `checkpoint` and `ports`: what no clause
+//! Tests of `matching`, `payload_log` and `checkpoint`: what no clause
 //! of them says, above all that calls succeed with ample memory at the limits.
 #![tactic(auto)]
 
