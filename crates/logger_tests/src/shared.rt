@@ -1,11 +1,11 @@
 //! The logger that threads share: eight ranks, each on a thread of its own.
 ghost use Rattle.std.specs.Prelude.{◌≡◌, ◌<◌, ◌≤◌, length, vec_len};
 ghost use Rattle.metered.specs.Limits.{most_ranks};
-ghost use Rattle.shared_logger.specs.Desks.{AreDesks, IsSameDesk};
+ghost use Rattle.event_logger.specs.Desks.{AreDesks, IsSameDesk};
 
-use event_logger::{Event, Kind, LogFault};
+use event_logger::{Counts, Desk, Ledger, Logger};
 use metered::Heap;
-use shared_logger::{Counts, Desk, Ledger, Logger};
+use plain_logger::{Event, Kind, LogFault};
 use std::process::Abort;
 use std::test::*;
 use std::thread;

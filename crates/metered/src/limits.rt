@@ -84,5 +84,4 @@ pub fn law_limits()
     ensures frames { MOST_FRAMES ≡ most_frames }
     ensures script_lines { MOST_SCRIPT_LINES ≡ most_script_lines }
     ensures event_lines { MOST_EVENT_LINES ≡ most_event_lines }
-{
-}
+{}

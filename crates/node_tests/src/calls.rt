@@ -2,8 +2,8 @@
 ghost use Rattle.std.specs.Prelude.{◌≡◌};
 
 use crate::scenes::{LastLine, Rank, packet, start};
-use event_logger::{Event, Kind, LoggerState};
 use metered::Heap;
+use plain_logger::{Event, Kind, LoggerState};
 use rank_language::Program;
 use rank_node::{Arrived, Frame, NodeFault, Turn};
 use std::process::Abort;

@@ -3,9 +3,9 @@ ghost use Rattle.std.specs.Prelude.{◌≡◌, ◌<◌, ◌≤◌, length};
 
 use crate::outgoing::{next_packet, notes, passes};
 use crate::scenes::{LastLine, Rank, packet, start};
-use event_logger::LoggerState;
 use matching::{Context, Packet};
 use metered::Heap;
+use plain_logger::LoggerState;
 use rank_language::Program;
 use rank_node::{Arrived, AskFrom, Frame, KeptUpto, NodeFault, Turn};
 use std::process::Abort;

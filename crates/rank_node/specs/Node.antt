@@ -4,7 +4,7 @@ use Rattle.std.specs.Prelude.{◌≡◌, ℕ, ◌<◌, ◌≤◌, Bool, true, fa
 use Rattle.metered.specs.Limits.{most_ranks, greatest_clock, most_events}
 use Rattle.matching.specs.Inbox.{Mailbox}
 use Rattle.payload_log.specs.Backlog.{Backlog, new_backlog}
-use Rattle.event_logger.specs.Event.{EventValue}
+use Rattle.plain_logger.specs.Event.{EventValue}
 use Rattle.rank_language.specs.Program.{ProgramValue}
 use Rattle.rank_machine.specs.States.{first_store}
 use Rattle.rank_machine.specs.Machine.{MachineValue}

@@ -9,9 +9,9 @@ use Rattle.matching.specs.Message.{Message}
 use Rattle.matching.specs.Matching.{matches}
 use Rattle.matching.specs.Inbox.{without}
 use Rattle.payload_log.specs.Backlog.{backlog, saved}
-use Rattle.event_logger.specs.declared.kind.Kind.{Kind}
-use Rattle.event_logger.specs.declared.kind.Kind.TheVariants as kind
-use Rattle.event_logger.specs.Event.{EventValue, event_of}
+use Rattle.plain_logger.specs.declared.kind.Kind.{Kind}
+use Rattle.plain_logger.specs.declared.kind.Kind.TheVariants as kind
+use Rattle.plain_logger.specs.Event.{EventValue, event_of}
 use Rattle.rank_machine.specs.declared.want.Want.{Want}
 use Rattle.rank_machine.specs.declared.want.Want.TheVariants as want
 use Rattle.rank_machine.specs.Wants.{payload}

@@ -1,10 +1,10 @@
 -- How the events of a rank reach its row at the logger, and leave the rank (Alvisi and Marzullo 1998, section 3).
 use Rattle.std.specs.Prelude.{ℕ, ◌+◌, ◌-◌, drop, slice_get, Option, Some, None, ◌⊎◌}
-use Rattle.event_logger.specs.Event.{EventValue}
-use Rattle.event_logger.specs.History.{StateValue, Answers}
-use Rattle.event_logger.specs.declared.call.Call.TheVariants.{Append}
-use Rattle.event_logger.specs.declared.call.Reply.{Reply}
-use Rattle.event_logger.specs.declared.call.Reply.TheVariants.{Full, Order}
+use Rattle.plain_logger.specs.Event.{EventValue}
+use Rattle.plain_logger.specs.History.{StateValue, Answers}
+use Rattle.plain_logger.specs.declared.call.Call.TheVariants.{Append}
+use Rattle.plain_logger.specs.declared.call.Reply.{Reply}
+use Rattle.plain_logger.specs.declared.call.Reply.TheVariants.{Full, Order}
 use Rattle.rank_node.specs.Node.{Node}
 
 -- the oldest event that isn't stored, if there is one

@@ -7,9 +7,9 @@ use crate::fault::NodeFault;
 use crate::running::Running;
 use crate::turn::Turn;
 use checkpoint::Shelf;
-use event_logger::Event;
 use metered::Heap;
 use metered::limits::GREATEST_CLOCK;
+use plain_logger::Event;
 use rank_machine::Want;
 use std::alloc::AllocError;
 

@@ -1,8 +1,8 @@
 //! The steps of a rank that runs.
 ghost use Rattle.std.specs.Prelude.{◌≡◌, ◌≢◌, ℕ, ◌+◌, ◌<◌, ◌≤◌, Some, None, true, IfOk, IfErr, OnOk, OnErr, IsErrOf};
 ghost use Rattle.metered.specs.Limits.{greatest_clock, greatest_sender, most_events};
-ghost use Rattle.event_logger.specs.Event.{event_of};
-ghost use Rattle.event_logger.specs.declared.kind.Kind.TheVariants as kind;
+ghost use Rattle.plain_logger.specs.Event.{event_of};
+ghost use Rattle.plain_logger.specs.declared.kind.Kind.TheVariants as kind;
 ghost use Rattle.rank_machine.specs.Wants.{IsLegal};
 ghost use Rattle.rank_machine.specs.Machine.{asks};
 
@@ -11,9 +11,9 @@ use crate::running::Running;
 use crate::screen::Screen;
 use crate::turn::Turn;
 use checkpoint::Shelf;
-use event_logger::{Event, Kind};
 use matching::{Context, Packet, Selector};
 use metered::limits::{GREATEST_CLOCK, MOST_EVENTS};
+use plain_logger::{Event, Kind};
 use rank_machine::Want;
 
 impl<'p, S: Shelf, D> Running<'p, S, D> {

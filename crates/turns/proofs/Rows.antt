@@ -2,7 +2,7 @@
 use Rattle.std.proofs.Common.{◌≡◌, ℕ, length}
 use Rattle.std.specs.Prelude.{replicate}
 use Rattle.std.proofs.lemmas.List.{length-replicate}
-use Rattle.event_logger.specs.History.{empty_rows}
+use Rattle.plain_logger.specs.History.{empty_rows}
 
 -- the rows of a new logger are as many as the ranks
 pub a_row_each : (ranks : ℕ) → length (empty_rows ranks) ≡ ranks

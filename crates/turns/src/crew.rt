@@ -7,8 +7,8 @@ use crate::lanes::Lanes;
 use crate::rank::Rank;
 use crate::report::{End, Line, Outcome, Report};
 use crate::running::RunLimits;
-use event_logger::LoggerState;
 use metered::Heap;
+use plain_logger::LoggerState;
 use rank_language::Program;
 use std::alloc::AllocError;
 

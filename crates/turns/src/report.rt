@@ -1,6 +1,6 @@
 //! What a run was.
-use event_logger::Event;
 use metered::Heap;
+use plain_logger::Event;
 use rank_machine::MachineFault;
 
 /// A line that a rank printed, with the clock of the print.

@@ -8,13 +8,13 @@ use Rattle.matching.specs.declared.inbox.Accept.{Accept}
 use Rattle.matching.specs.declared.inbox.Accept.TheVariants as accept
 use Rattle.matching.specs.Inbox.{answer_to}
 use Rattle.rank_node.specs.Frames as frames
-use Rattle.event_logger.specs.Event.{EventValue, event_of}
-use Rattle.event_logger.specs.History.{Answers, StateValue}
+use Rattle.plain_logger.specs.Event.{EventValue, event_of}
+use Rattle.plain_logger.specs.History.{Answers, StateValue}
 use Rattle.rank_language.specs.Program.{ProgramValue}
 use Rattle.ports.specs.declared.line.Line.{Line}
-use Rattle.event_logger.specs.declared.call.Call.TheVariants.{Append}
-use Rattle.event_logger.specs.declared.call.Reply.TheVariants.{Length}
-use Rattle.event_logger.specs.declared.kind.Kind.TheVariants as kind
+use Rattle.plain_logger.specs.declared.call.Call.TheVariants.{Append}
+use Rattle.plain_logger.specs.declared.call.Reply.TheVariants.{Length}
+use Rattle.plain_logger.specs.declared.kind.Kind.TheVariants as kind
 use Rattle.rank_machine.specs.Acts.{Act, Message, sends, takes, hits, misses, prints}
 use Rattle.rank_machine.specs.declared.want.Want.{Want}
 use Rattle.rank_machine.specs.declared.want.Want.TheVariants as want

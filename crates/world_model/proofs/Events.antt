@@ -7,7 +7,7 @@ use Rattle.std.proofs.lemmas.Option.{slice_get_within, get_or_from_slice_get, sl
 use Rattle.matching.specs.Message as packet
 use Rattle.matching.specs.Inbox.{after_arrival}
 use Rattle.payload_log.specs.Backlog.{Backlog, backlog, new_backlog, asked, pruned, passed, next_of}
-use Rattle.event_logger.specs.Event.{EventValue}
+use Rattle.plain_logger.specs.Event.{EventValue}
 use Rattle.rank_machine.specs.Acts.{Act, carried}
 use Rattle.rank_machine.specs.Machine.{asks}
 use Rattle.rank_node.specs.declared.due.Due.{Due}

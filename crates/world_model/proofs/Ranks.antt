@@ -3,7 +3,7 @@ use Rattle.std.proofs.Common.{◌≡◌, ℕ, zero, suc, ◌+◌, ◌<◌, ◌�
 use Rattle.std.proofs.Common.{subst, ◌∙◌, arith, slice_get}
 use Rattle.std.proofs.lemmas.List.{append-nil, length_push, drop-append-le}
 use Rattle.metered.specs.Limits.{most_events}
-use Rattle.event_logger.specs.Event.{EventValue}
+use Rattle.plain_logger.specs.Event.{EventValue}
 use Rattle.matching.specs.Inbox.{Mailbox}
 use Rattle.payload_log.specs.Backlog.{Backlog}
 use Rattle.rank_machine.specs.States.{State, Inners, here, inner}

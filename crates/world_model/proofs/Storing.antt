@@ -4,9 +4,9 @@ use Rattle.std.proofs.Common.{slice_index_or, length-append}
 use Rattle.std.proofs.lemmas.Bool.{cases_lt, lt-leb}
 use Rattle.std.proofs.lemmas.Option.{slice_get_within, slice_get-get_or}
 use Rattle.metered.specs.Limits.{most_events}
-use Rattle.event_logger.specs.Event.{EventValue}
-use Rattle.event_logger.specs.History.{append_reply, last_clock}
-use Rattle.event_logger.specs.declared.call.Reply.TheVariants.{Length}
+use Rattle.plain_logger.specs.Event.{EventValue}
+use Rattle.plain_logger.specs.History.{append_reply, last_clock}
+use Rattle.plain_logger.specs.declared.call.Reply.TheVariants.{Length}
 use Rattle.rank_machine.specs.States.{State}
 use Rattle.rank_machine.specs.Acts.{Act, Message}
 use Rattle.rank_node.specs.Storing.{next_unstored}

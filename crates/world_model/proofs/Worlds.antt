@@ -1,8 +1,8 @@
 -- A world keeps what it stands for, where one of its ranks changes, where a frame is put, and where an act passes.
 use Rattle.std.proofs.Common.{◌≡◌, ℕ, ◌<◌, ◌⊎◌, inl, inr, ⊎_elim, List, [], ◌∷◌, ◌++◌, Option, Some, length, sym, ap, subst, ◌∙◌, slice_get, slice_set}
 use Rattle.std.proofs.lemmas.List.{length-set}
-use Rattle.event_logger.specs.Event.{EventValue}
-use Rattle.event_logger.specs.History.{StateValue}
+use Rattle.plain_logger.specs.Event.{EventValue}
+use Rattle.plain_logger.specs.History.{StateValue}
 use Rattle.ports.specs.declared.line.Line.{Line}
 use Rattle.rank_machine.specs.States.{State}
 use Rattle.rank_machine.specs.Acts.{Act, carried}

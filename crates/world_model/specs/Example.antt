@@ -9,8 +9,8 @@
 --   end
 use Rattle.std.specs.Prelude.{◌≡◌, ℕ, ℤ, pos, zero, suc, ◌<◌, List, [], ◌∷◌, Option, Some, None}
 use Rattle.std.proofs.Common.{refl, lit<, arith}
-use Rattle.event_logger.specs.Event.{event_of}
-use Rattle.event_logger.specs.declared.kind.Kind.TheVariants as kind
+use Rattle.plain_logger.specs.Event.{event_of}
+use Rattle.plain_logger.specs.declared.kind.Kind.TheVariants as kind
 use Rattle.matching.specs.declared.packet.Context.TheVariants.{PointToPoint}
 use Rattle.rank_text.specs.declared.token.Operator.TheVariants.{Add, Equal}
 use Rattle.rank_text.specs.declared.token.Reading.TheVariants.{Rank}

@@ -1,9 +1,9 @@
 -- What each event does to a world: it is one call on the rank that it names, and the reply is that call's answer.
 use Rattle.std.specs.Prelude.{◌≡◌, ◌≢◌, ℕ, ℤ, false, ◌+◌, ◌<◌, nat_le, List, [], ◌∷◌, ◌++◌, length, Option, Some, None, slice_get, slice_set, if◌then◌else◌}
-use Rattle.event_logger.specs.Event.{EventValue}
-use Rattle.event_logger.specs.History.{Answers}
-use Rattle.event_logger.specs.declared.call.Call.TheVariants.{Append}
-use Rattle.event_logger.specs.declared.call.Reply.TheVariants.{Length}
+use Rattle.plain_logger.specs.Event.{EventValue}
+use Rattle.plain_logger.specs.History.{Answers}
+use Rattle.plain_logger.specs.declared.call.Call.TheVariants.{Append}
+use Rattle.plain_logger.specs.declared.call.Reply.TheVariants.{Length}
 use Rattle.rank_machine.specs.declared.want.Want.{Want}
 use Rattle.rank_machine.specs.declared.want.Want.TheVariants as want
 use Rattle.rank_machine.specs.Wants.{payload}

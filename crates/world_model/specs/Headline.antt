@@ -8,8 +8,8 @@ use Rattle.rank_node.specs.Node.{opening}
 use Rattle.rank_node.specs.Stored.{Stored}
 use Rattle.rank_node.specs.declared.frame.Frame.{Frame}
 use Rattle.rank_node.specs.declared.frame.Frame.TheVariants as frame
-use Rattle.event_logger.specs.Event.{EventValue}
-use Rattle.event_logger.specs.History.{empty_rows}
+use Rattle.plain_logger.specs.Event.{EventValue}
+use Rattle.plain_logger.specs.History.{empty_rows}
 use Rattle.ports.specs.declared.line.Line.{Line}
 use Rattle.checkpoint.specs.declared.memory_shelf.MemoryShelf.{MemoryShelf}
 use Rattle.checkpoint.specs.Shelf.{image_bytes}

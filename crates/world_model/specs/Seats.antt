@@ -1,9 +1,9 @@
 -- The live ranks of a world, by their numbers, and what the calls on one come to.
 use Rattle.std.specs.Prelude.{◌≡◌, ℕ, List, [], Option, Some, None, IsSomeAnd, slice_get, slice_set}
-use Rattle.event_logger.specs.Event.{EventValue}
-use Rattle.event_logger.specs.History.{StateValue, reply_of}
-use Rattle.event_logger.specs.declared.call.Call.TheVariants.{Append}
-use Rattle.event_logger.specs.declared.call.Reply.TheVariants.{Length}
+use Rattle.plain_logger.specs.Event.{EventValue}
+use Rattle.plain_logger.specs.History.{StateValue, reply_of}
+use Rattle.plain_logger.specs.declared.call.Call.TheVariants.{Append}
+use Rattle.plain_logger.specs.declared.call.Reply.TheVariants.{Length}
 use Rattle.rank_machine.specs.Machine.{MachineValue, asks}
 use Rattle.rank_node.specs.Steps.{turn_of, MachineStep, after_step}
 use Rattle.crash_free.specs.Runs.{Passed}

@@ -2,7 +2,7 @@
 -- follows from it.
 use Rattle.std.specs.Prelude.{◌≡◌, ℕ, ◌+◌, ◌<◌, ◌≤◌, true, false, List, [], ◌∷◌, length, Some, slice_get}
 use Rattle.metered.specs.Limits.{most_events}
-use Rattle.event_logger.specs.Event.{EventValue}
+use Rattle.plain_logger.specs.Event.{EventValue}
 use Rattle.matching.specs.Message as packet
 use Rattle.matching.specs.Inbox.{Mailbox, accepted_from}
 use Rattle.payload_log.specs.Backlog.{Backlog}

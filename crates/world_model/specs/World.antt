@@ -1,8 +1,8 @@
 -- A world as contracts see it: its ranks, the event logger, the wires, the console, and the run that it stands for.
 use Rattle.std.specs.Prelude.{◌≡◌, ℕ, List, length, Option, Some, slice_get, drop}
 use Rattle.checkpoint.specs.declared.memory_shelf.MemoryShelf.{MemoryShelf}
-use Rattle.event_logger.specs.Event.{EventValue}
-use Rattle.event_logger.specs.History.{StateValue}
+use Rattle.plain_logger.specs.Event.{EventValue}
+use Rattle.plain_logger.specs.History.{StateValue}
 use Rattle.rank_language.specs.Program.{ProgramValue}
 use Rattle.rank_machine.specs.States as states
 use Rattle.rank_node.specs.Node.{Node}

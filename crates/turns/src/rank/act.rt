@@ -6,9 +6,9 @@ ghost use Rattle.rank_machine.specs.Wants.{IsLegal};
 use crate::rank::Rank;
 use crate::report::{End, Line};
 use crate::turn::Turn;
-use event_logger::{Event, Kind};
 use matching::{Context, Packet, Selector};
 use metered::Heap;
+use plain_logger::{Event, Kind};
 use rank_machine::Want;
 use std::alloc::AllocError;
 

@@ -4,7 +4,7 @@ ghost use Rattle.std.specs.Prelude.{◌≡◌, ◌≢◌, ◌+◌, length, Some,
 use crate::parts::Parts;
 use crate::reply::Reply;
 use crash_free::{Act, Passed};
-use event_logger::{Event, Kind};
+use plain_logger::{Event, Kind};
 use std::alloc::AllocError;
 
 impl<'p> Parts<'p> {

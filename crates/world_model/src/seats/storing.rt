@@ -1,16 +1,16 @@
 //! Events of the ranks of a world on their way to the logger.
 ghost use Rattle.std.specs.Prelude.{◌≡◌, ◌<◌, Some, length, slice_get, IfOk, OnOk, OnErr};
-ghost use Rattle.event_logger.specs.Event.{EventValue};
+ghost use Rattle.plain_logger.specs.Event.{EventValue};
 ghost use Rattle.world_model.specs.Seats.{AtRank, with_value, IsAccepted};
 
 use crate::seats::Seats;
-use event_logger::LoggerState;
+use plain_logger::LoggerState;
 use std::alloc::AllocError;
 
 impl<'p> Seats<'p> {
-    ghost use Rattle.event_logger.specs.History.{Answers};
-    ghost use Rattle.event_logger.specs.declared.call.Call.TheVariants.{Append};
-    ghost use Rattle.event_logger.specs.declared.call.Reply.TheVariants.{Length};
+    ghost use Rattle.plain_logger.specs.History.{Answers};
+    ghost use Rattle.plain_logger.specs.declared.call.Call.TheVariants.{Append};
+    ghost use Rattle.plain_logger.specs.declared.call.Reply.TheVariants.{Length};
     ghost use Rattle.rank_node.specs.Storing.{next_unstored, after_store, Appends};
 
     /// The oldest unstored event of a rank, which the logger accepts, is

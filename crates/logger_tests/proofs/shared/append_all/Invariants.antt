@@ -1,5 +1,5 @@
 use Rattle.std.proofs.Common.{◌≡◌}
-use Rattle.shared_logger.specs.Desks.{IsSameDesk}
+use Rattle.event_logger.specs.Desks.{IsSameDesk}
 use Rattle.logger_tests.proofs.shared.append_all.Given as goal
 
 -- the desk stays the same

@@ -1,5 +1,5 @@
 use Rattle.std.proofs.Common.{◌≡◌}
-use Rattle.shared_logger.specs.Desks.{IsSameDesk}
+use Rattle.event_logger.specs.Desks.{IsSameDesk}
 use Rattle.logger_tests.proofs.shared.fill.Given as goal
 
 -- the desk stays the same

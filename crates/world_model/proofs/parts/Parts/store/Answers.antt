@@ -1,5 +1,5 @@
 use Rattle.std.proofs.Common.{◌≡◌, Some, ◌∷◌, sym, ap, subst, ◌∙◌, slice_get}
-use Rattle.event_logger.specs.declared.call.Reply.TheVariants.{Length}
+use Rattle.plain_logger.specs.declared.call.Reply.TheVariants.{Length}
 use Rattle.rank_node.specs.Storing.{next_unstored, after_store, Appends}
 use Rattle.crash_free.specs.Seen.{act_of}
 use Rattle.crash_free.specs.Runs.{Passed}
