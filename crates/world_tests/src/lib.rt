@@ -1,0 +1,15 @@
+//! Tests of crash-free runs, of worlds and of their texts, over public calls.
+//!
+//! They see what no clause says: that each call can succeed, at the limits too,
+//! and that the definitions mean what they should. Expected values are worked
+//! out by hand.
+#![tactic(auto)]
+
+#[cfg(test)]
+mod scenes;
+#[cfg(test)]
+mod simulations;
+#[cfg(test)]
+mod texts;
+#[cfg(test)]
+mod worlds;
