@@ -7,8 +7,6 @@
 mod commands;
 mod files;
 mod output;
-#[cfg(test)]
-mod tests;
 
 pub use commands::command;
 pub use files::{FileFault, Files, MachineFiles};

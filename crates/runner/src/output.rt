@@ -1,10 +1,8 @@
-//! What the program prints of a run and of a world.
-use events_text::ReplyLine;
+//! What the program prints of a run.
 use metered::Heap;
 use std::alloc::AllocError;
 use std::fmt::Write;
 use turns::{End, Outcome, Report};
-use world_model::{Reply, World};
 
 /// The lines of each rank, how each rank ended, and what the run took.
 pub fn print_report(alloc: Heap, report: &Report) -> Result<String<Heap>, AllocError> {
@@ -15,34 +13,6 @@ pub fn print_report(alloc: Heap, report: &Report) -> Result<String<Heap>, AllocE
     let calls = sum(report.calls.as_slice());
     writeln!(text, "crashes {crashes}, logger calls {calls}")?;
     Ok(text)
-}
-
-/// The replies, and then the lines of each rank of the world.
-pub fn print_world(
-    alloc: Heap,
-    replies: &[Reply],
-    ranks: u8,
-    world: &World<'_>,
-) -> Result<String<Heap>, AllocError> {
-    let mut text = String::new(alloc);
-    for reply in replies {
-        let reply = ReplyLine(*reply);
-        writeln!(text, "{reply}")?;
-    }
-    for rank in 0..ranks {
-        print_lines_of(&mut text, rank, world)?;
-    }
-    Ok(text)
-}
-
-// The lines of one rank stand by their clocks already.
-fn print_lines_of(text: &mut String<Heap>, rank: u8, world: &World<'_>) -> Result<(), AllocError> {
-    for line in world.lines() {
-        if line.rank == rank {
-            print_line(text, rank, line.value)?;
-        }
-    }
-    Ok(())
 }
 
 /// Whether every rank halted.

@@ -1,10 +1,12 @@
 //! What the words ask for.
 ghost use Rattle.std.specs.Prelude.{◌≤◌, IfSome};
+ghost use Rattle.metered.specs.Limits.{most_ranks};
 
 use crate::no_job::NoJob;
 use crate::syntax::syntax;
 use clap::error::ErrorKind;
 use clap::{ArgMatches, Error};
+use metered::limits::MOST_RANKS;
 use std::alloc::Global;
 
 /// What is to be done.
@@ -30,7 +32,7 @@ pub struct RunJob<'a> {
     pub steps: u32,
     pub program: &'a str,
     pub ghost some_rank: { 1 ≤ ranks },
-    pub ghost few_ranks: { ranks ≤ 8 },
+    pub ghost few_ranks: { ranks ≤ most_ranks },
     pub ghost some_idle: { 1 ≤ idle },
     pub ghost some_steps: { 1 ≤ steps },
 }
@@ -42,7 +44,7 @@ pub struct WorldJob<'a> {
     pub program: &'a str,
     pub events: &'a str,
     pub ghost some_rank: { 1 ≤ ranks },
-    pub ghost few_ranks: { ranks ≤ 8 },
+    pub ghost few_ranks: { ranks ≤ most_ranks },
 }
 
 /// The job that the words name; the first word is the program's name.
@@ -79,11 +81,11 @@ fn chosen<'a>(matches: &ArgMatches<'a>) -> Option<Job<'a>> {
 // The syntax has these ranges too.
 fn ranks_of(inner: &ArgMatches<'_>) -> Option<u8>
     ensures some { IfSome result (λ ranks. 1 ≤ ranks) }
-    ensures few { IfSome result (λ ranks. ranks ≤ 8) }
+    ensures few { IfSome result (λ ranks. ranks ≤ most_ranks) }
 {
     inner
         .get_one::<u8>("ranks")
-        .filter(|ranks| (1..=8).contains(ranks))
+        .filter(|ranks| *ranks >= 1 && usize::from(*ranks) <= MOST_RANKS)
 }
 
 fn check_of<'a>(inner: &ArgMatches<'a>) -> Option<CheckJob<'a>> {

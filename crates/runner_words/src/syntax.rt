@@ -1,5 +1,6 @@
 //! The forms of the words.
 use clap::{Arg, ArgAction, Command, value_parser};
+use metered::limits::MOST_RANKS;
 use std::alloc::{AllocError, Global};
 
 /// All words that the program knows.
@@ -55,7 +56,7 @@ fn ranks<'a>(alloc: Global) -> Arg<'a> {
         .help("The number of ranks, 1 to 8")
         .required(true)
         .action(ArgAction::Set)
-        .value_parser(value_parser!(u8).range(1..=8))
+        .value_parser(value_parser!(u8).range(1..=MOST_RANKS as i64))
 }
 
 fn script<'a>(alloc: Global) -> Arg<'a> {

@@ -1,15 +1,8 @@
 //! What a run was.
 use metered::Heap;
 use plain_logger::Event;
+use ports::Line;
 use rank_machine::MachineFault;
-
-/// A line that a rank printed, with the clock of the print.
-#[derive(Clone, Copy, Debug, PartialEq, Eq)]
-pub struct Line {
-    pub rank: u8,
-    pub clock: u32,
-    pub value: i64,
-}
 
 /// How a rank ended.
 #[derive(Clone, Copy, Debug, PartialEq, Eq)]

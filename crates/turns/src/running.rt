@@ -1,5 +1,7 @@
 //! One run of a program.
-ghost use Rattle.std.specs.Prelude.{◌≤◌};
+ghost use Rattle.std.specs.Prelude.{◌≡◌, ◌≤◌, IfOk};
+ghost use Rattle.metered.specs.Limits.{most_ranks};
+ghost use Rattle.turns.specs.Report.{IsReport};
 
 use crate::crew::Crew;
 use crate::hold::Hold;
@@ -43,15 +45,28 @@ pub fn run<R: Threads + Wait + Sync + Copy + Send, H: Hold + Sync>(
     hold: &H,
 ) -> Result<Report, RunFault>
     requires some { 1 ≤ ranks }
-    requires few { ranks ≤ 8 }
+    requires few { ranks ≤ most_ranks }
+    ensures { IfOk result (λ report. IsReport ranks report) }
 {
-    let mut crew = Crew::new(alloc, program, ranks)?;
-    // The limits end a run long before the count does.
+    let mut crew = Crew::start(alloc, program, ranks)?;
+    match take_turns(&mut crew, limits, hold) {
+        Ok(()) => Ok(crew.report(alloc)?),
+        Err(error) => {
+            crew.end();
+            Err(RunFault::from(error))
+        }
+    }
+}
+
+// The limits end a run long before the count does.
+fn take_turns<H: Hold>(crew: &mut Crew<'_>, limits: RunLimits, hold: &H) -> Result<(), AllocError>
+    ensures { crew.new.size ≡ crew.old.size }
+{
     for _ in 0..u64::MAX {
         if crew.is_done() {
             break;
         }
-        crew.round(alloc, limits, hold)?;
+        crew.round(limits, hold)?;
     }
-    Ok(crew.report(alloc)?)
+    Ok(())
 }

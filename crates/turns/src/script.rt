@@ -1,9 +1,7 @@
 //! The script of a run.
 use metered::Heap;
+use metered::limits::MOST_SCRIPT_LINES;
 use std::fmt;
-
-/// How many lines a script may have.
-const MOST_LINES: usize = 256;
 
 /// What a run is to do beside the program. Nothing can be asked for yet.
 #[derive(Debug, Drop)]
@@ -91,7 +89,7 @@ fn fault_of(line: usize, text: &[u8]) -> Option<ScriptFaultKind> {
     if !is_skipped(text) {
         return Some(ScriptFaultKind::BadLine);
     }
-    if line > MOST_LINES {
+    if line > MOST_SCRIPT_LINES {
         return Some(ScriptFaultKind::Limit);
     }
     None

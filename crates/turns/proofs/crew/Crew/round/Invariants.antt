@@ -1,5 +1,5 @@
-use Rattle.std.proofs.Common.{◌≡◌, length}
+use Rattle.std.proofs.Common.{◌≡◌}
 use Rattle.turns.proofs.crew.Crew.round.Given as goal
 
-abbrev pub invariant-loop-who : goal.invariant-loop-who
-invariant-loop-who g l = length l.logger.rows ≡ length l.initial.logger.rows
+abbrev pub invariant-loop-number : goal.invariant-loop-number
+invariant-loop-number g l = l.self.size ≡ l.initial.self.size

@@ -1,0 +1,23 @@
+//! Tests of whole runs over public calls alone: of `run` with all that it
+//! reports and tells, and of the program `command` with all that it writes.
+//!
+//! A proof says what a report can be; these say that there is one where memory
+//! is ample, and which. What is expected is worked by hand.
+#![tactic(auto)]
+
+#[cfg(test)]
+mod limits;
+#[cfg(test)]
+mod lines;
+#[cfg(test)]
+mod refusals;
+#[cfg(test)]
+mod reports;
+#[cfg(test)]
+mod scenes;
+#[cfg(test)]
+mod told;
+#[cfg(test)]
+mod values;
+#[cfg(test)]
+mod words;

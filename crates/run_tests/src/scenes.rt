@@ -1,0 +1,89 @@
+//! Calls of the whole program: words and files in, exit status and texts out.
+use runner::{FileFault, Files, command};
+use std::alloc::{AllocError, Global};
+use std::process::Abort;
+use std::sync::Wait;
+use std::test::Fail;
+use std::thread::Threads;
+
+// Files by name: `none` can't be read, and there is no memory for `large`.
+#[derive(Drop)]
+pub struct Table<'a> {
+    pub alloc: Global,
+    pub files: &'a [(&'a str, &'a str)],
+}
+
+impl Files for Table<'_> {
+    fn read(&mut self, name: &str) -> Result<Vec<u8>, FileFault> {
+        if name == "large" {
+            return Err(FileFault::Memory);
+        }
+        for (file, text) in self.files {
+            if *file == name {
+                return text
+                    .as_bytes()
+                    .to_vec(self.alloc)
+                    .map_err(|_| FileFault::Memory);
+            }
+        }
+        Err(FileFault::Cannot)
+    }
+}
+
+// What a call of the program answered.
+#[derive(Drop)]
+pub struct Answer {
+    pub status: u8,
+    pub out: Vec<u8>,
+    pub err: Vec<u8>,
+}
+
+impl Answer {
+    pub fn out(&self) -> &str {
+        std::str::from_utf8(self.out.as_slice()).unwrap_or("no text")
+    }
+
+    pub fn err(&self) -> &str {
+        std::str::from_utf8(self.err.as_slice()).unwrap_or("no text")
+    }
+}
+
+pub fn words_of(alloc: Global, line: &str) -> Result<Vec<String>, AllocError> {
+    let mut words = Vec::new(alloc);
+    for word in line.split(' ') {
+        words.push(String::from_str(alloc, word)?)?;
+    }
+    Ok(words)
+}
+
+// Calls the program with these words after its name.
+pub fn answer_of<R: Threads + Wait + Sync + Copy + Send + AllocGlobal>(
+    rt: &R,
+    words: &str,
+    files: &[(&str, &str)],
+) -> Result<Answer, AllocError> {
+    let alloc = rt.alloc();
+    let line = format!(in alloc; "ftmpi {words}")?;
+    let words = words_of(alloc, line.as_str())?;
+    let mut files = Table { alloc, files };
+    let mut out = Vec::new(alloc);
+    let mut err = Vec::new(alloc);
+    let status = command(rt, alloc, words.as_slice(), &mut files, &mut out, &mut err);
+    Ok(Answer { status, out, err })
+}
+
+// The program `text` run with these options answers this.
+pub fn expect_run<R: Threads + Wait + Sync + Copy + Send + AllocGlobal + Abort>(
+    rt: &R,
+    options: &str,
+    text: &str,
+    status: u8,
+    out: &str,
+) -> Result<(), Fail> {
+    let words = format!(in rt.alloc(); "run {options} p")?;
+    let answer = answer_of(rt, words.as_str(), &[("p", text)])?;
+    assert_eq!(rt; answer.out(), out, "at {options}:\n{text}");
+    assert_eq!(rt; answer.err(), "", "at {options}:\n{text}");
+    assert_eq!(rt; answer.status, status, "at {options}:\n{text}");
+    Ok(())
+}
