@@ -1,7 +1,9 @@
-//! Tests of `matching`, `payload_log` and `checkpoint`: what no clause
+//! Tests of `matching`, `payload_log`, `checkpoint` and `ports`: what no clause
 //! of them says, above all that calls succeed with ample memory at the limits.
 #![tactic(auto)]
 
+#[cfg(test)]
+mod console;
 #[cfg(test)]
 mod fixtures;
 #[cfg(test)]

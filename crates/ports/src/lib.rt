@@ -3,8 +3,6 @@
 
 mod console_state;
 mod line;
-#[cfg(test)]
-mod tests;
 
 pub use console_state::ConsoleState;
 pub use line::Line;
