@@ -1,12 +1,12 @@
-//! Programs as a machine reads them: what stands at each position, and where it leads.
+//! Programs as a machine reads them: what stands at each position, and where it leads. A row has a line, and its statement with
+//! the positions after it where its test holds and where it doesn't.
 
+use crate::answers::{Row, declared, same, statements_shown};
 use metered::Heap;
 use rank_language::Program;
 use std::alloc::AllocError;
+use std::process::Abort;
 use std::test::*;
-
-/// A line, and its statement with the positions after it where its test holds and where it doesn't.
-type Row = (&'static str, &'static str);
 
 /// Two declarations, and an `if` with `else` that holds another.
 const NESTED: [Row; 15] = [
@@ -112,46 +112,22 @@ fn wanted(alloc: Heap, rows: &[Row]) -> Result<String<Heap>, AllocError> {
     Ok(text)
 }
 
-/// A program's statements, a line each, and what it declares.
-fn shown(alloc: Heap, program: &Program) -> Result<String<Heap>, AllocError> {
-    let mut text = String::new(alloc);
-    for position in 0..program.len() {
-        if let Some(statement) = program.statement(position) {
-            let holds = statement.next_position(position, true);
-            let fails = statement.next_position(position, false);
-            let line = format!(in alloc; "{statement:?} {holds} {fails}\n")?;
-            text.push_str(line.as_str())?;
-        }
-    }
-    Ok(text)
-}
-
-/// The number of variables, and the length of each array.
-fn declared(alloc: Heap, program: &Program) -> Result<String<Heap>, AllocError> {
-    let mut text = format!(in alloc; "{}", program.variable_count())?;
-    for array in program.arrays() {
-        let length = format!(in alloc; " {}", array.length)?;
-        text.push_str(length.as_str())?;
-    }
-    Ok(text)
+/// A program of these lines has these statements, and declares this.
+fn has_statements(rt: &impl Abort, alloc: Heap, rows: &[Row], tables: &str) -> Result<(), Fail> {
+    let text = text_of(alloc, rows)?;
+    let program = Program::parse(alloc, text.as_bytes())?;
+    let want = wanted(alloc, rows)?;
+    let shown = statements_shown(alloc, &program)?;
+    same(rt, tables, shown.as_bytes(), want.as_bytes());
+    let shown = declared(alloc, &program)?;
+    same(rt, tables, shown.as_slice(), tables.as_bytes());
+    assert!(rt; program.statement(rows.len()).is_none());
+    Ok(())
 }
 
 #[test]
 fn statements(rt: HostRuntime) -> Result<(), Fail> {
-    for (rows, tables) in [
-        (NESTED.as_slice(), "2"),
-        (LOOPS.as_slice(), "1"),
-        (ARRAYS.as_slice(), "2 3 256"),
-    ] {
-        let text = text_of(rt.alloc(), rows)?;
-        let program = Program::parse(rt.alloc(), text.as_bytes())?;
-        let want = wanted(rt.alloc(), rows)?;
-        let found = shown(rt.alloc(), &program)?;
-        assert_eq!(rt; found.as_str(), want.as_str());
-        let found = declared(rt.alloc(), &program)?;
-        assert_eq!(rt; found.as_str(), tables, "at {}", text.as_str());
-        assert_eq!(rt; program.len(), rows.len());
-        assert!(rt; program.statement(rows.len()).is_none());
-    }
-    Ok(())
+    has_statements(&rt, rt.alloc(), &NESTED, "15 2")?;
+    has_statements(&rt, rt.alloc(), &LOOPS, "12 1")?;
+    has_statements(&rt, rt.alloc(), &ARRAYS, "9 2 a[3] bb[256]")
 }
