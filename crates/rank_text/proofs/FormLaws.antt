@@ -13,9 +13,9 @@ use Rattle.rank_text.specs.declared.form.Form as source_form
 use Rattle.rank_text.specs.Tree.{Tree}
 use Rattle.rank_text.specs.Grammar.{Spells, whole}
 use Rattle.rank_text.specs.Reader.{expression_at, whole_expression}
-use Rattle.rank_text.specs.Forms.{Choice, value, Payload, one, Form, let_form, item_form, if_form, while_form, send_form, recv_form, print_form}
-use Rattle.rank_text.specs.Forms.{IsChoice, is_any, is_value, IsNoName, IsPayload, is_lone, is_one, IsForm, is_var, is_array, is_let, is_let_item, is_if, is_else, is_end, is_while, is_send, is_recv, is_print}
-use Rattle.rank_text.specs.Forms.{◌>>=◌, comma, bracket_assign, lone_name, choice_at, payload_of, var_of, array_of, let_of, item_of, if_of, while_of, send_of, recv_of, print_of, form_of}
+use Rattle.rank_text.specs.Forms.{Choice, value, Payload, one, Form, let_form, item_form, if_form, while_form, send_form, recv_form, probe_form, try_probe_form, print_form}
+use Rattle.rank_text.specs.Forms.{IsChoice, is_any, is_value, IsNoName, IsPayload, is_lone, is_one, IsForm, is_var, is_array, is_let, is_let_item, is_if, is_else, is_end, is_while, is_send, is_recv, is_probe, is_try_probe, is_print}
+use Rattle.rank_text.specs.Forms.{◌>>=◌, comma, bracket_assign, lone_name, choice_at, whole_choice, payload_of, var_of, array_of, let_of, item_of, if_of, while_of, send_of, recv_of, probe_of, try_probe_of, print_of, form_of}
 use Rattle.rank_text.specs.SeenForms.{form_in, form_seen}
 use Rattle.rank_text.proofs.Complete.{complete}
 use Rattle.rank_text.proofs.Sound.{sound, ReadIs}
@@ -44,9 +44,21 @@ choice_read : {ts : List Token} {c : Choice} → IsChoice ts c → (rest : List 
 choice_read is_any rest = refl
 choice_read (is_value {ts} d) rest = of_value ts rest (complete d (t.Comma ∷ rest) tt)
 
+-- an expression is the choice of its tokens
+of_whole : (ts : List Token) {e : Tree} → whole_expression ts ≡ Some e → whole_choice ts ≡ Some (value e)
+of_whole [] q = ap (λ o. o >>= (λ e. Some (value e))) q
+of_whole (t.Any ∷ []) q = cc
+of_whole (t.Any ∷ (y ∷ ts)) q = ap (λ o. o >>= (λ e. Some (value e))) q
+of_whole (_ ∷ ts) q = ap (λ o. o >>= (λ e. Some (value e))) q
+
+-- what is a choice and nothing more is read as that choice
+whole_choice_read : {ts : List Token} {c : Choice} → IsChoice ts c → whole_choice ts ≡ Some c
+whole_choice_read is_any = refl
+whole_choice_read (is_value {ts} {e} d) = of_whole ts (read_whole ts e d)
+
 -- what has a form is read as that form
 pub form_read : {ts : List Token} {f : Form} → IsForm ts f → form_of ts ≡ Some f
-unfolding var_of array_of let_of item_of if_of while_of send_of recv_of print_of
+unfolding var_of array_of let_of item_of if_of while_of send_of recv_of probe_of try_probe_of print_of
 form_read is_var = refl
 form_read is_array = refl
 form_read (is_let {x} {ts} {e} d) = ap (λ o. o >>= (λ e. Some (let_form x e))) (read_whole ts e d)
@@ -64,6 +76,12 @@ form_read (is_send {ds} {gs} {ps} {d} {g} {p} dd dg dp) =
 form_read (is_recv {ss} {gs} {s} {g} {x} ds dg) =
     ap (λ o. o >>= (λ s. comma s.1 >>= (λ us. choice_at us >>= (λ g. comma g.1 >>= (λ vs. lone_name vs >>= (λ x. Some (recv_form s.0 g.0 x))))))) (choice_read ds (gs ++ t.Comma ∷ (t.Name x ∷ [])))
     ∙ ap (λ o. o >>= (λ g. comma g.1 >>= (λ vs. lone_name vs >>= (λ x. Some (recv_form s g.0 x))))) (choice_read dg (t.Name x ∷ []))
+form_read (is_probe {ss} {gs} {s} {g} ds dg) =
+    ap (λ o. o >>= (λ s. comma s.1 >>= (λ us. whole_choice us >>= (λ g. Some (probe_form s.0 g))))) (choice_read ds gs)
+    ∙ ap (λ o. o >>= (λ g. Some (probe_form s g))) (whole_choice_read dg)
+form_read (is_try_probe {ss} {gs} {s} {g} {x} ds dg) =
+    ap (λ o. o >>= (λ s. comma s.1 >>= (λ us. choice_at us >>= (λ g. comma g.1 >>= (λ vs. lone_name vs >>= (λ x. Some (try_probe_form s.0 g.0 x))))))) (choice_read ds (gs ++ t.Comma ∷ (t.Name x ∷ [])))
+    ∙ ap (λ o. o >>= (λ g. comma g.1 >>= (λ vs. lone_name vs >>= (λ x. Some (try_probe_form s g.0 x))))) (choice_read dg (t.Name x ∷ []))
 form_read (is_print {ts} {e} d) = ap (λ o. o >>= (λ e. Some (print_form e))) (read_whole ts e d)
 
 -- the tokens have the form, where there is one
@@ -129,18 +147,52 @@ choice_comma (Some (c, (t.Comma ∷ us))) ts next all h build = build c h.0 us h
 choice_comma (Some (c, _)) ts next all h build = tt
 
 -- a name and nothing more
-last_name : (vs : List Token) (s g : Choice) (all : List Token) → ((x : List ℕ) → vs ≡ t.Name x ∷ [] → IsForm all (recv_form s g x)) → FormIs (lone_name vs >>= (λ x. Some (recv_form s g x))) all
-last_name (t.Name x ∷ []) s g all build = build x refl
-last_name (t.Name x ∷ (y ∷ vs)) s g all build = tt
-last_name _ s g all build = tt
+last_name : (vs : List Token) (make : List ℕ → Form) (all : List Token) → ((x : List ℕ) → vs ≡ t.Name x ∷ [] → IsForm all (make x)) → FormIs (lone_name vs >>= (λ x. Some (make x))) all
+last_name (t.Name x ∷ []) make all build = build x refl
+last_name (t.Name x ∷ (y ∷ vs)) make all build = tt
+last_name _ make all build = tt
 
 recv_spelled : (ts : List Token) → FormIs (form_of (t.Keyword k.Recv ∷ ts)) (t.Keyword k.Recv ∷ ts)
 unfolding recv_of
 recv_spelled ts =
     choice_comma (choice_at ts) ts (λ s us. choice_at us >>= (λ g. comma g.1 >>= (λ vs. lone_name vs >>= (λ x. Some (recv_form s g.0 x))))) (t.Keyword k.Recv ∷ ts) (choice_spelled ts) (λ s ds us dd q.
     choice_comma (choice_at us) us (λ g vs. lone_name vs >>= (λ x. Some (recv_form s g x))) (t.Keyword k.Recv ∷ ts) (choice_spelled us) (λ g gs vs dg r.
-    last_name vs s g (t.Keyword k.Recv ∷ ts) (λ x l.
+    last_name vs (recv_form s g) (t.Keyword k.Recv ∷ ts) (λ x l.
     subst (λ z. IsForm (t.Keyword k.Recv ∷ z) (recv_form s g x)) (sym (q ∙ ap (λ z. ds ++ t.Comma ∷ z) (r ∙ ap (λ z. gs ++ t.Comma ∷ z) l))) (is_recv dd dg))))
+
+try_probe_spelled : (ts : List Token) → FormIs (form_of (t.Keyword k.Iprobe ∷ ts)) (t.Keyword k.Iprobe ∷ ts)
+unfolding try_probe_of
+try_probe_spelled ts =
+    choice_comma (choice_at ts) ts (λ s us. choice_at us >>= (λ g. comma g.1 >>= (λ vs. lone_name vs >>= (λ x. Some (try_probe_form s g.0 x))))) (t.Keyword k.Iprobe ∷ ts) (choice_spelled ts) (λ s ds us dd q.
+    choice_comma (choice_at us) us (λ g vs. lone_name vs >>= (λ x. Some (try_probe_form s g x))) (t.Keyword k.Iprobe ∷ ts) (choice_spelled us) (λ g gs vs dg r.
+    last_name vs (try_probe_form s g) (t.Keyword k.Iprobe ∷ ts) (λ x l.
+    subst (λ z. IsForm (t.Keyword k.Iprobe ∷ z) (try_probe_form s g x)) (sym (q ∙ ap (λ z. ds ++ t.Comma ∷ z) (r ∙ ap (λ z. gs ++ t.Comma ∷ z) l))) (is_try_probe dd dg))))
+
+abbrev WholeChoiceIs : Option Choice → List Token → Type 0
+WholeChoiceIs None ts = Unit {0}
+WholeChoiceIs (Some c) ts = IsChoice ts c
+
+whole_valued : (o : Option Tree) (ts : List Token) → AloneIs o ts → WholeChoiceIs (o >>= (λ e. Some (value e))) ts
+whole_valued None ts h = tt
+whole_valued (Some e) ts h = is_value h
+
+whole_choice_spelled : (ts : List Token) → WholeChoiceIs (whole_choice ts) ts
+whole_choice_spelled [] = tt
+whole_choice_spelled (t.Any ∷ []) = is_any
+whole_choice_spelled (t.Any ∷ (y ∷ ts)) = whole_valued (whole_expression (t.Any ∷ (y ∷ ts))) (t.Any ∷ (y ∷ ts)) (whole_spelled (t.Any ∷ (y ∷ ts)))
+whole_choice_spelled (token ∷ ts) = whole_valued (whole_expression (token ∷ ts)) (token ∷ ts) (whole_spelled (token ∷ ts))
+
+-- a choice and nothing more
+last_choice : (o : Option Choice) (us : List Token) (make : Choice → Form) (all : List Token) → WholeChoiceIs o us → ((g : Choice) → IsChoice us g → IsForm all (make g)) → FormIs (o >>= (λ g. Some (make g))) all
+last_choice None us make all h build = tt
+last_choice (Some g) us make all h build = build g h
+
+probe_spelled : (ts : List Token) → FormIs (form_of (t.Keyword k.Probe ∷ ts)) (t.Keyword k.Probe ∷ ts)
+unfolding probe_of
+probe_spelled ts =
+    choice_comma (choice_at ts) ts (λ s us. whole_choice us >>= (λ g. Some (probe_form s g))) (t.Keyword k.Probe ∷ ts) (choice_spelled ts) (λ s ds us dd q.
+    last_choice (whole_choice us) us (probe_form s) (t.Keyword k.Probe ∷ ts) (whole_choice_spelled us) (λ g dg.
+    subst (λ z. IsForm (t.Keyword k.Probe ∷ z) (probe_form s g)) (sym q) (is_probe dd dg)))
 
 -- an expression, a bracket and `=`, and more
 then_bracket : (o : Option (Tree × List Token)) (ts : List Token) (next : Tree → List Token → Option Form) (all : List Token) → ReadIs o [] ts → ((e : Tree) (is us : List Token) → Spells whole is e → ts ≡ is ++ t.CloseBracket ∷ t.Assign ∷ us → FormIs (next e us) all) → FormIs (o >>= (λ i. bracket_assign i.1 >>= (λ us. next i.0 us))) all
@@ -170,6 +222,8 @@ form_spelled (t.Keyword k.End ∷ []) = is_end
 form_spelled (t.Keyword k.Var ∷ (t.Name x ∷ [])) = is_var
 form_spelled (t.Keyword k.Send ∷ ts) = send_spelled ts
 form_spelled (t.Keyword k.Recv ∷ ts) = recv_spelled ts
+form_spelled (t.Keyword k.Probe ∷ ts) = probe_spelled ts
+form_spelled (t.Keyword k.Iprobe ∷ ts) = try_probe_spelled ts
 form_spelled _ = tt
 
 -- no tokens have two forms

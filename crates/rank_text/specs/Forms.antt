@@ -8,7 +8,7 @@ use Rattle.rank_text.specs.Tree.{Tree}
 use Rattle.rank_text.specs.Grammar.{Spells, whole}
 use Rattle.rank_text.specs.Reader.{expression_at, whole_expression}
 
--- the source or the tag of a receive: any, or the value of an expression
+-- the source or the tag of a receive or a probe: any, or the value of an expression
 pub data Choice : Type 0 where
   any : Choice
   value : (e : Tree) → Choice
@@ -30,6 +30,8 @@ pub data Form : Type 0 where
   while_form : (e : Tree) → Form
   send_form : (dest tag : Tree) (p : Payload) → Form
   recv_form : (source tag : Choice) (buffer : List ℕ) → Form
+  probe_form : (source tag : Choice) → Form
+  try_probe_form : (source tag : Choice) (flag : List ℕ) → Form
   print_form : (e : Tree) → Form
 
 -- a choice is written `any`, or as an expression
@@ -68,6 +70,12 @@ pub data IsForm : List Token → Form → Type 0 where
   is_recv : {ss gs : List Token} {s g : Choice} {x : List ℕ}
       → IsChoice ss s → IsChoice gs g
       → IsForm (t.Keyword k.Recv ∷ (ss ++ t.Comma ∷ (gs ++ t.Comma ∷ (t.Name x ∷ [])))) (recv_form s g x)
+  is_probe : {ss gs : List Token} {s g : Choice}
+      → IsChoice ss s → IsChoice gs g
+      → IsForm (t.Keyword k.Probe ∷ (ss ++ t.Comma ∷ gs)) (probe_form s g)
+  is_try_probe : {ss gs : List Token} {s g : Choice} {x : List ℕ}
+      → IsChoice ss s → IsChoice gs g
+      → IsForm (t.Keyword k.Iprobe ∷ (ss ++ t.Comma ∷ (gs ++ t.Comma ∷ (t.Name x ∷ [])))) (try_probe_form s g x)
   is_print : {ts : List Token} {e : Tree} → Spells whole ts e → IsForm (t.Keyword k.Print ∷ ts) (print_form e)
 
 -- The same, read from the left.
@@ -98,6 +106,13 @@ choice_at (t.Any ∷ ts) = Some (any, ts)
 choice_at ts = do
   e ← expression_at ts
   Some (value e.0, e.1)
+
+-- the choice that all of the tokens are
+abbrev pub whole_choice : List Token → Option Choice
+whole_choice (t.Any ∷ []) = Some any
+whole_choice ts = do
+  e ← whole_expression ts
+  Some (value e)
 
 -- the payload that all of the tokens are
 abbrev pub payload_of : List Token → Option Payload
@@ -170,13 +185,31 @@ recv_of ts = do
   x ← lone_name vs
   Some (recv_form s.0 g.0 x)
 
+-- the form of `probe` with these arguments
+unfoldable pub probe_of : List Token → Option Form
+probe_of ts = do
+  s ← choice_at ts
+  us ← comma s.1
+  g ← whole_choice us
+  Some (probe_form s.0 g)
+
+-- the form of `iprobe` with these arguments
+unfoldable pub try_probe_of : List Token → Option Form
+try_probe_of ts = do
+  s ← choice_at ts
+  us ← comma s.1
+  g ← choice_at us
+  vs ← comma g.1
+  x ← lone_name vs
+  Some (try_probe_form s.0 g.0 x)
+
 -- the form of `print` with these arguments
 unfoldable pub print_of : List Token → Option Form
 print_of ts = do
   e ← whole_expression ts
   Some (print_form e)
 
--- the form of a statement word with these arguments; the last five words have none yet
+-- the form of a statement word with these arguments; the last three words have none yet
 abbrev pub form_with : Keyword → List Token → Option Form
 form_with k.Var ts = var_of ts
 form_with k.Array ts = array_of ts
@@ -188,8 +221,8 @@ form_with k.While ts = while_of ts
 form_with k.Send ts = send_of ts
 form_with k.Recv ts = recv_of ts
 form_with k.Print ts = print_of ts
-form_with k.Probe ts = None
-form_with k.Iprobe ts = None
+form_with k.Probe ts = probe_of ts
+form_with k.Iprobe ts = try_probe_of ts
 form_with k.Barrier ts = None
 form_with k.Bcast ts = None
 form_with k.Reduce ts = None

@@ -7,7 +7,7 @@ use Rattle.rank_text.specs.declared.form.Choice as source_choice
 use Rattle.rank_text.specs.declared.form.Payload as source_payload
 use Rattle.rank_text.specs.declared.form.Form as source_form
 use Rattle.rank_text.specs.Tree.{tree_of}
-use Rattle.rank_text.specs.Forms.{Choice, any, value, Payload, lone, one, Form, var_form, array_form, let_form, item_form, if_form, else_form, end_form, while_form, send_form, recv_form, print_form}
+use Rattle.rank_text.specs.Forms.{Choice, any, value, Payload, lone, one, Form, var_form, array_form, let_form, item_form, if_form, else_form, end_form, while_form, send_form, recv_form, probe_form, try_probe_form, print_form}
 
 -- a source or a tag
 abbrev pub choice_of : source_choice.Choice → Choice
@@ -31,6 +31,8 @@ form_seen source_form.TheVariants.End = end_form
 form_seen (source_form.TheVariants.While e) = while_form (tree_of e)
 form_seen (source_form.TheVariants.Send d g p) = send_form (tree_of d) (tree_of g) (payload_seen p)
 form_seen (source_form.TheVariants.Recv s g x) = recv_form (choice_of s) (choice_of g) x
+form_seen (source_form.TheVariants.Probe s g) = probe_form (choice_of s) (choice_of g)
+form_seen (source_form.TheVariants.TryProbe s g x) = try_probe_form (choice_of s) (choice_of g) x
 form_seen (source_form.TheVariants.Print e) = print_form (tree_of e)
 
 -- the statement of a line, if it has one
@@ -47,6 +49,11 @@ payload_in (Some p) = Some (payload_seen p)
 abbrev pub choice_in : Option (source_choice.Choice × Bor (List Token)) → Option (Choice × List Token)
 choice_in None = None
 choice_in (Some c) = Some (choice_of c.0, c.1.now)
+
+-- the choice that all of the tokens are
+abbrev pub whole_choice_in : Option source_choice.Choice → Option Choice
+whole_choice_in None = None
+whole_choice_in (Some c) = Some (choice_of c)
 
 -- the tokens that are left
 abbrev pub rest_in : Option (Bor (List Token)) → Option (List Token)

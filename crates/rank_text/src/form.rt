@@ -3,7 +3,7 @@
 use crate::name::Name;
 use crate::written::Written;
 
-/// The source or the tag of a receive.
+/// The source or the tag of a receive or a probe.
 #[derive(Debug, Drop)]
 pub enum Choice {
     Any,
@@ -37,5 +37,9 @@ pub enum Form {
     Send(Written, Written, Payload),
     /// Source, tag and buffer.
     Recv(Choice, Choice, Name),
+    /// Source and tag.
+    Probe(Choice, Choice),
+    /// Source, tag and flag.
+    TryProbe(Choice, Choice, Name),
     Print(Written),
 }

@@ -3,8 +3,8 @@
 ghost use Rattle.std.specs.Prelude.{◌≡◌, List, IfOk, IfSome, Some};
 ghost use Rattle.rank_text.specs.declared.token.Token.{Token};
 ghost use Rattle.rank_text.specs.Forms as forms;
-ghost use Rattle.rank_text.specs.Forms.{IsForm, comma, bracket_assign, bare, lone_name, choice_at, payload_of, var_of, array_of, let_of, item_of, if_of, while_of, send_of, recv_of, print_of, form_with, form_of};
-ghost use Rattle.rank_text.specs.SeenForms.{form_in, form_seen, payload_in, choice_in, rest_in, lone_in};
+ghost use Rattle.rank_text.specs.Forms.{IsForm, comma, bracket_assign, bare, lone_name, choice_at, whole_choice, payload_of, var_of, array_of, let_of, item_of, if_of, while_of, send_of, recv_of, probe_of, try_probe_of, print_of, form_with, form_of};
+ghost use Rattle.rank_text.specs.SeenForms.{form_in, form_seen, payload_in, choice_in, whole_choice_in, rest_in, lone_in};
 
 use crate::form::{Choice, Form, Payload};
 use crate::name::Name;
@@ -50,6 +50,18 @@ fn choice_in_front(alloc: Heap, tokens: &[Token]) -> Result<Option<(Choice, &[To
         return Ok(None);
     };
     Ok(Some((Choice::Value(value), rest)))
+}
+
+fn whole_choice(alloc: Heap, tokens: &[Token]) -> Result<Option<Choice>, AllocError>
+    ensures { IfOk result (λ c. whole_choice_in c ≡ whole_choice tokens.now) }
+{
+    if let [Token::Any] = tokens {
+        return Ok(Some(Choice::Any));
+    }
+    let Some(value) = whole_expression(alloc, tokens)? else {
+        return Ok(None);
+    };
+    Ok(Some(Choice::Value(value)))
 }
 
 fn read_payload(alloc: Heap, tokens: &[Token]) -> Result<Option<Payload>, AllocError>
@@ -204,6 +216,44 @@ fn read_recv(alloc: Heap, tokens: &[Token]) -> Result<Option<Form>, AllocError>
     Ok(Some(Form::Recv(source, tag, buffer)))
 }
 
+#[tactic(auto, unfolding(crate::specs::Forms::probe_of))]
+fn read_probe(alloc: Heap, tokens: &[Token]) -> Result<Option<Form>, AllocError>
+    ensures { IfOk result (λ f. form_in f ≡ probe_of tokens.now) }
+{
+    let Some((source, rest)) = choice_in_front(alloc, tokens)? else {
+        return Ok(None);
+    };
+    let Some(rest) = after_comma(rest) else {
+        return Ok(None);
+    };
+    let Some(tag) = whole_choice(alloc, rest)? else {
+        return Ok(None);
+    };
+    Ok(Some(Form::Probe(source, tag)))
+}
+
+#[tactic(auto, unfolding(crate::specs::Forms::try_probe_of))]
+fn read_try_probe(alloc: Heap, tokens: &[Token]) -> Result<Option<Form>, AllocError>
+    ensures { IfOk result (λ f. form_in f ≡ try_probe_of tokens.now) }
+{
+    let Some((source, rest)) = choice_in_front(alloc, tokens)? else {
+        return Ok(None);
+    };
+    let Some(rest) = after_comma(rest) else {
+        return Ok(None);
+    };
+    let Some((tag, rest)) = choice_in_front(alloc, rest)? else {
+        return Ok(None);
+    };
+    let Some(rest) = after_comma(rest) else {
+        return Ok(None);
+    };
+    let Some(flag) = only_name(rest) else {
+        return Ok(None);
+    };
+    Ok(Some(Form::TryProbe(source, tag, flag)))
+}
+
 #[tactic(auto, unfolding(crate::specs::Forms::print_of))]
 fn read_print(alloc: Heap, tokens: &[Token]) -> Result<Option<Form>, AllocError>
     ensures { IfOk result (λ f. form_in f ≡ print_of tokens.now) }
@@ -233,8 +283,9 @@ fn read_arguments(
         Keyword::Send => read_send(alloc, arguments),
         Keyword::Recv => read_recv(alloc, arguments),
         Keyword::Print => read_print(alloc, arguments),
-        Keyword::Probe | Keyword::Iprobe | Keyword::Barrier | Keyword::Bcast | Keyword::Reduce =>
-            Ok(None),
+        Keyword::Probe => read_probe(alloc, arguments),
+        Keyword::Iprobe => read_try_probe(alloc, arguments),
+        Keyword::Barrier | Keyword::Bcast | Keyword::Reduce => Ok(None),
     }
 }
 
