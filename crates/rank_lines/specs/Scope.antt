@@ -9,7 +9,7 @@ use Rattle.rank_text.specs.Lexes.{IsName}
 use Rattle.rank_text.specs.Tree.{Tree, number, variable, item, reading, negation, operation}
 use Rattle.rank_text.specs.Forms.{Choice, any, value, Payload, lone, one}
 use Rattle.rank_text.specs.Forms.{Form, var_form, array_form, let_form, item_form, if_form, else_form, end_form, while_form}
-use Rattle.rank_text.specs.Forms.{send_form, recv_form, print_form}
+use Rattle.rank_text.specs.Forms.{send_form, recv_form, probe_form, try_probe_form, print_form}
 use Rattle.metered.specs.Limits.{most_lines, most_variables, most_arrays, most_items, most_blocks, most_name_bytes}
 use Rattle.metered.specs.Limits.{most_nodes, most_parentheses}
 use Rattle.rank_lines.specs.Arguments.{Argument, variable_name, array_name, either_name, expression, choice, payload}
@@ -92,6 +92,8 @@ is_twice s end_form = false
 is_twice s (while_form e) = false
 is_twice s (send_form d g p) = false
 is_twice s (recv_form c g x) = false
+is_twice s (probe_form c g) = false
+is_twice s (try_probe_form c g x) = false
 is_twice s (print_form e) = false
 
 -- no block is open
@@ -118,6 +120,8 @@ is_stray s (if_form e) = false
 is_stray s (while_form e) = false
 is_stray s (send_form d g p) = false
 is_stray s (recv_form c g x) = false
+is_stray s (probe_form c g) = false
+is_stray s (try_probe_form c g x) = false
 is_stray s (print_form e) = false
 
 -- each number, name, read-only word, indexing and operation is one node
@@ -180,6 +184,8 @@ is_past_table s else_form = false
 is_past_table s end_form = false
 is_past_table s (send_form d g p) = false
 is_past_table s (recv_form c g x) = false
+is_past_table s (probe_form c g) = false
+is_past_table s (try_probe_form c g x) = false
 is_past_table s (print_form e) = false
 
 -- a limit is passed
@@ -229,6 +235,8 @@ after s (let_form x e) = s
 after s (item_form x i e) = s
 after s (send_form d g p) = s
 after s (recv_form c g x) = s
+after s (probe_form c g) = s
+after s (try_probe_form c g x) = s
 after s (print_form e) = s
 
 -- what statements leave, one after another
@@ -248,6 +256,8 @@ IsNamed end_form = Unit {0}
 IsNamed (while_form e) = Unit {0}
 IsNamed (send_form d g p) = Unit {0}
 IsNamed (recv_form c g x) = Unit {0}
+IsNamed (probe_form c g) = Unit {0}
+IsNamed (try_probe_form c g x) = Unit {0}
 IsNamed (print_form e) = Unit {0}
 
 -- A statement may stand after lines that leave the scope s.

@@ -17,7 +17,8 @@ pub(crate) fn is_twice(scope: &Scope, form: &Form) -> bool
         Form::Var(name) | Form::Array(name, _) => scope.is_declared(name),
         Form::Let(..) | Form::LetItem(..) => false,
         Form::If(_) | Form::Else | Form::End | Form::While(_) => false,
-        Form::Send(..) | Form::Recv(..) | Form::Print(_) => false,
+        Form::Send(..) | Form::Recv(..) => false,
+        Form::Probe(..) | Form::TryProbe(..) | Form::Print(_) => false,
     }
 }
 
@@ -55,7 +56,8 @@ pub(crate) fn is_stray(scope: &Scope, form: &Form) -> bool
         Form::Else => !is_open_if(scope),
         Form::End => has_no_block(scope),
         Form::Let(..) | Form::LetItem(..) | Form::If(_) | Form::While(_) => false,
-        Form::Send(..) | Form::Recv(..) | Form::Print(_) => false,
+        Form::Send(..) | Form::Recv(..) => false,
+        Form::Probe(..) | Form::TryProbe(..) | Form::Print(_) => false,
     }
 }
 
@@ -84,6 +86,7 @@ pub(crate) fn is_past_table(scope: &Scope, form: &Form) -> bool
         }
         Form::If(_) | Form::While(_) => has_all_blocks(scope),
         Form::Let(..) | Form::LetItem(..) | Form::Else | Form::End => false,
-        Form::Send(..) | Form::Recv(..) | Form::Print(_) => false,
+        Form::Send(..) | Form::Recv(..) => false,
+        Form::Probe(..) | Form::TryProbe(..) | Form::Print(_) => false,
     }
 }

@@ -146,7 +146,8 @@ impl Scope {
                 Ok(())
             }
             Form::Let(..) | Form::LetItem(..) => Ok(()),
-            Form::Send(..) | Form::Recv(..) | Form::Print(_) => Ok(()),
+            Form::Send(..) | Form::Recv(..) => Ok(()),
+            Form::Probe(..) | Form::TryProbe(..) | Form::Print(_) => Ok(()),
         }
     }
 }

@@ -119,6 +119,16 @@ impl Survey {
                 self.either(scope, buffer);
                 Ok(())
             }
+            Form::Probe(source, tag) => {
+                self.choice(alloc, scope, source)?;
+                self.choice(alloc, scope, tag)
+            }
+            Form::TryProbe(source, tag, flag) => {
+                self.choice(alloc, scope, source)?;
+                self.choice(alloc, scope, tag)?;
+                self.variable(scope, flag);
+                Ok(())
+            }
             Form::Print(value) => self.expression(alloc, scope, value),
         }
     }
