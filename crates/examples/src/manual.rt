@@ -1,7 +1,7 @@
 //! The runs of the texts of docs/LANGUAGE.md, in its order.
 
 /// The words of each run, after the program's name.
-pub const RUNS: [&str; 67] = [
+pub const RUNS: [&str; 71] = [
     "run --ranks 1 manual_var.rank",
     "run --ranks 1 manual_array.rank",
     "run --ranks 1 manual_let.rank",
@@ -12,6 +12,8 @@ pub const RUNS: [&str; 67] = [
     "run --ranks 2 manual_short.rank",
     "run --ranks 2 manual_long.rank",
     "run --ranks 2 manual_item.rank",
+    "run --ranks 2 manual_probe.rank",
+    "run --ranks 2 manual_iprobe.rank",
     "run --ranks 2 manual_print.rank",
     "run --ranks 1 manual_values.rank",
     "run --ranks 1 manual_self.rank",
@@ -40,12 +42,14 @@ pub const RUNS: [&str; 67] = [
     "run --ranks 1 manual_chain.rank",
     "run --ranks 1 manual_length.rank",
     "run --ranks 1 manual_into_item.rank",
+    "run --ranks 1 manual_no_flag.rank",
     "run --ranks 1 manual_reserved.rank",
     "run --ranks 1 manual_undeclared.rank",
     "run --ranks 1 manual_later.rank",
     "run --ranks 1 manual_indexed.rank",
     "run --ranks 1 manual_array_value.rank",
     "run --ranks 1 manual_array_set.rank",
+    "run --ranks 1 manual_flag.rank",
     "run --ranks 1 manual_payload.rank",
     "run --ranks 1 manual_twice.rank",
     "run --ranks 1 manual_both_sorts.rank",
