@@ -12,7 +12,7 @@ use Rattle.rank_text.specs.declared.token.Reading.TheVariants as reads
 use Rattle.rank_text.specs.declared.token.Token.{Token}
 use Rattle.rank_text.specs.declared.token.Token.TheVariants as t
 use Rattle.rank_text.specs.Tree.{Tree, number, variable, item, reading, negation, operation}
-use Rattle.rank_text.specs.Forms.{Choice, any, value, Payload, lone, one, Form, var_form, array_form, let_form, item_form, if_form, else_form, end_form, while_form, send_form, recv_form, print_form}
+use Rattle.rank_text.specs.Forms.{Choice, any, value, Payload, lone, one, Form, var_form, array_form, let_form, item_form, if_form, else_form, end_form, while_form, send_form, recv_form, probe_form, try_probe_form, print_form}
 use Rattle.rank_lines.specs.Scope.{nodes, deepest}
 use Rattle.rank_print.specs.Canonical.{operator_text, reading_text, is_operation, operand_text, expression_text, choice_text, payload_text, form_text, indentation}
 use Rattle.rank_print.proofs.PrintedTokens.{operand_tokens, expression_tokens, choice_tokens, payload_tokens, form_tokens}
@@ -80,6 +80,10 @@ none_open = omega arith
 alone : (ts : List Token) → Shallow most_parentheses ts → deepest 0 ts ≤ most_parentheses
 alone ts s = subst (λ z. deepest 0 z ≤ most_parentheses) (append-nil ts) (s most_parentheses 0 [] (omega arith) none_open)
 
+-- two arguments with a comma between them
+two_shallow : (xs ys : List Token) → Shallow most_parentheses xs → Shallow most_parentheses ys → deepest 0 (xs ++ t.Comma ∷ ys) ≤ most_parentheses
+two_shallow xs ys p q = p most_parentheses 0 (t.Comma ∷ ys) (omega arith) (alone ys q)
+
 -- three arguments with commas between them
 three_shallow : (xs ys zs : List Token) → Shallow most_parentheses xs → Shallow most_parentheses ys → Shallow most_parentheses zs → deepest 0 (xs ++ t.Comma ∷ (ys ++ t.Comma ∷ zs)) ≤ most_parentheses
 three_shallow xs ys zs p q r =
@@ -99,6 +103,9 @@ form_shallow (while_form e) h = alone (expression_tokens e) (fit_shallow e h)
 form_shallow (send_form d g p) h =
     three_shallow (expression_tokens d) (expression_tokens g) (payload_tokens p) (fit_shallow d h.0) (fit_shallow g h.1) (payload_shallow p h.2)
 form_shallow (recv_form s g x) h =
+    three_shallow (choice_tokens s) (choice_tokens g) (t.Name x ∷ []) (choice_shallow s h.0) (choice_shallow g h.1) (λ k n us p d. d)
+form_shallow (probe_form s g) h = two_shallow (choice_tokens s) (choice_tokens g) (choice_shallow s h.0) (choice_shallow g h.1)
+form_shallow (try_probe_form s g x) h =
     three_shallow (choice_tokens s) (choice_tokens g) (t.Name x ∷ []) (choice_shallow s h.0) (choice_shallow g h.1) (λ k n us p d. d)
 form_shallow (print_form e) h = alone (expression_tokens e) (fit_shallow e h)
 
@@ -207,6 +214,10 @@ form_length (send_form d g p) h =
     )
 form_length (recv_form s g x) h =
     omega (arith, three_length (codes "recv ") (choice_text s) (choice_text g) x, choice_length s h.0, choice_length g h.1, h.2.1)
+form_length (probe_form s g) h =
+    omega (arith, between_length (codes "probe " ++ choice_text s) (codes ", ") (choice_text g), choice_length s h.0, choice_length g h.1)
+form_length (try_probe_form s g x) h =
+    omega (arith, three_length (codes "iprobe ") (choice_text s) (choice_text g) x, choice_length s h.0, choice_length g h.1, h.2.1)
 form_length (print_form e) h = omega (arith, fit_length e h)
 
 -- each open block takes two

@@ -20,7 +20,7 @@ use Rattle.rank_text.specs.Lexes.{space, AllAre, StopsAt, IsWord, word_token, Is
 use Rattle.rank_text.specs.Lexes.{is_add, is_subtract, is_multiply, is_divide, is_remainder, is_open_parenthesis, is_close_parenthesis, is_open_bracket, is_close_bracket, is_comma, is_assign, is_less, is_greater, is_equal, is_not_equal, is_less_equal, is_greater_equal}
 use Rattle.rank_text.specs.Grammar.{minus}
 use Rattle.rank_text.specs.Tree.{Tree, number, variable, item, reading, negation, operation}
-use Rattle.rank_text.specs.Forms.{Choice, any, value, Payload, lone, one, Form, var_form, array_form, let_form, item_form, if_form, else_form, end_form, while_form, send_form, recv_form, print_form}
+use Rattle.rank_text.specs.Forms.{Choice, any, value, Payload, lone, one, Form, var_form, array_form, let_form, item_form, if_form, else_form, end_form, while_form, send_form, recv_form, probe_form, try_probe_form, print_form}
 use Rattle.rank_print.specs.Canonical.{operator_text, reading_text, is_operation, operand_text, expression_text, choice_text, payload_text, form_text, indentation}
 use Rattle.rank_print.proofs.PrintedTokens.{operand_tokens, expression_tokens, choice_tokens, payload_tokens, form_tokens}
 use Rattle.rank_print.proofs.Fitting.{IsShortName, IsPlain, ChoiceFits, PayloadFits, FormFits}
@@ -301,6 +301,14 @@ recv_closed : Closed (codes "recv ") (t.Keyword k.Recv ∷ [])
 unfolding control_words message_words reading_words argument_words
 recv_closed = λ line ts l. word_closed (codes "recv") (t.Keyword k.Recv) (refl, (refl, (refl, (refl, tt)))) refl line ts l
 
+probe_closed : Closed (codes "probe ") (t.Keyword k.Probe ∷ [])
+unfolding control_words message_words reading_words argument_words
+probe_closed = λ line ts l. word_closed (codes "probe") (t.Keyword k.Probe) (refl, (refl, (refl, (refl, (refl, tt))))) refl line ts l
+
+try_probe_closed : Closed (codes "iprobe ") (t.Keyword k.Iprobe ∷ [])
+unfolding control_words message_words reading_words argument_words
+try_probe_closed = λ line ts l. word_closed (codes "iprobe") (t.Keyword k.Iprobe) (refl, (refl, (refl, (refl, (refl, (refl, tt)))))) refl line ts l
+
 print_closed : Closed (codes "print ") (t.Keyword k.Print ∷ [])
 unfolding control_words message_words reading_words argument_words
 print_closed = λ line ts l. word_closed (codes "print") (t.Keyword k.Print) (refl, (refl, (refl, (refl, (refl, tt))))) refl line ts l
@@ -313,12 +321,17 @@ end_reads : Reads (codes "end") (t.Keyword k.End ∷ [])
 unfolding control_words message_words reading_words argument_words
 end_reads = word_reads (codes "end") (t.Keyword k.End) (refl, (refl, (refl, tt))) refl
 
+-- two arguments behind a word, with a comma between them
+two_reads : (word a b : List ℕ) (w : Token) (xs ys : List Token) → Closed word (w ∷ []) → Reads a xs → Reads b ys
+    → Reads (word ++ a ++ codes ", " ++ b) (w ∷ (xs ++ t.Comma ∷ ys))
+two_reads word a b w xs ys p q r =
+    between (word ++ a) (codes ", ") b (w ∷ xs) (t.Comma ∷ []) ys (closed_then word a (w ∷ []) xs p q) comma_closed (λ line. refl) r
+
 -- three arguments behind a word, with commas between them
 three_reads : (word a b c : List ℕ) (w : Token) (xs ys zs : List Token) → Closed word (w ∷ []) → Reads a xs → Reads b ys → Reads c zs
     → Reads (word ++ a ++ codes ", " ++ b ++ codes ", " ++ c) (w ∷ (xs ++ t.Comma ∷ (ys ++ t.Comma ∷ zs)))
 three_reads word a b c w xs ys zs p q r s =
-    let first = closed_then word a (w ∷ []) xs p q in
-    let second = between (word ++ a) (codes ", ") b (w ∷ xs) (t.Comma ∷ []) ys first comma_closed (λ line. refl) r in
+    let second = two_reads word a b w xs ys p q r in
     let third = between (word ++ a ++ codes ", " ++ b) (codes ", ") c (w ∷ (xs ++ t.Comma ∷ ys)) (t.Comma ∷ []) zs second comma_closed (λ line. refl) s in
     subst (λ z. Reads (word ++ a ++ codes ", " ++ b ++ codes ", " ++ c) (w ∷ z)) (append_assoc xs (t.Comma ∷ ys) (t.Comma ∷ zs)) third
 
@@ -351,6 +364,12 @@ form_reads (send_form d g p) h =
 form_reads (recv_form s g x) h =
     three_reads (codes "recv ") (choice_text s) (choice_text g) x (t.Keyword k.Recv) (choice_tokens s) (choice_tokens g) (t.Name x ∷ [])
     recv_closed (choice_reads s h.0) (choice_reads g h.1) (name_reads x h.2)
+form_reads (probe_form s g) h =
+    two_reads (codes "probe ") (choice_text s) (choice_text g) (t.Keyword k.Probe) (choice_tokens s) (choice_tokens g)
+    probe_closed (choice_reads s h.0) (choice_reads g h.1)
+form_reads (try_probe_form s g x) h =
+    three_reads (codes "iprobe ") (choice_text s) (choice_text g) x (t.Keyword k.Iprobe) (choice_tokens s) (choice_tokens g) (t.Name x ∷ [])
+    try_probe_closed (choice_reads s h.0) (choice_reads g h.1) (name_reads x h.2)
 form_reads (print_form e) h =
     closed_then (codes "print ") (expression_text e) (t.Keyword k.Print ∷ []) (expression_tokens e) print_closed (expression_reads e h.0)
 

@@ -7,7 +7,7 @@ use Rattle.rank_text.specs.declared.token.Token.{Token}
 use Rattle.rank_text.specs.Tokens.{is_letter, is_digit, is_word_byte, is_between, control_words, message_words, reading_words, argument_words}
 use Rattle.rank_text.specs.Lexes.{AllAre, IsWord, IsNumber, Symbol, Lexes, is_end, is_space, is_word, is_number, is_symbol}
 use Rattle.rank_text.specs.Lexes.{is_add, is_subtract, is_multiply, is_divide, is_remainder, is_open_parenthesis, is_close_parenthesis, is_open_bracket, is_close_bracket, is_comma, is_assign, is_less, is_greater, is_equal, is_not_equal, is_less_equal, is_greater_equal}
-use Rattle.rank_text.specs.Forms.{Form, var_form, array_form, let_form, item_form, if_form, else_form, end_form, while_form, send_form, recv_form, print_form}
+use Rattle.rank_text.specs.Forms.{Form, var_form, array_form, let_form, item_form, if_form, else_form, end_form, while_form, send_form, recv_form, probe_form, try_probe_form, print_form}
 use Rattle.rank_lines.specs.Lines.{lines_of, onto_first, without_spaces, begins_comment, is_skipped, is_text, front_word, is_keyword, is_statement}
 use Rattle.rank_text.specs.Tokens.{found_in, reserved}
 use Rattle.rank_print.specs.Canonical.{form_text, indentation}
@@ -83,6 +83,8 @@ form_states end_form = refl
 form_states (while_form e) = refl
 form_states (send_form d g p) = refl
 form_states (recv_form s g x) = refl
+form_states (probe_form s g) = refl
+form_states (try_probe_form s g x) = refl
 form_states (print_form e) = refl
 
 -- and so isn't skipped
@@ -97,6 +99,8 @@ form_unskipped end_form = refl
 form_unskipped (while_form e) = refl
 form_unskipped (send_form d g p) = refl
 form_unskipped (recv_form s g x) = refl
+form_unskipped (probe_form s g) = refl
+form_unskipped (try_probe_form s g x) = refl
 form_unskipped (print_form e) = refl
 
 -- the indentation is only spaces

@@ -12,8 +12,8 @@ use Rattle.rank_text.specs.declared.token.Token.{Token}
 use Rattle.rank_text.specs.declared.token.Token.TheVariants as t
 use Rattle.rank_text.specs.Tree.{Tree, number, variable, item, reading, negation, operation}
 use Rattle.rank_text.specs.Grammar.{strength, minus, whole, atom, Spells, is_number, is_variable, is_reading, is_item, in_parentheses, is_atom, negated, is_unary, multiplied, is_product, added, is_sum, compared}
-use Rattle.rank_text.specs.Forms.{Choice, any, value, Payload, lone, one, Form, var_form, array_form, let_form, item_form, if_form, else_form, end_form, while_form, send_form, recv_form, print_form}
-use Rattle.rank_text.specs.Forms.{IsChoice, is_any, is_value, IsNoName, IsPayload, is_lone, is_one, IsForm, is_var, is_array, is_let, is_let_item, is_if, is_else, is_end, is_while, is_send, is_recv, is_print}
+use Rattle.rank_text.specs.Forms.{Choice, any, value, Payload, lone, one, Form, var_form, array_form, let_form, item_form, if_form, else_form, end_form, while_form, send_form, recv_form, probe_form, try_probe_form, print_form}
+use Rattle.rank_text.specs.Forms.{IsChoice, is_any, is_value, IsNoName, IsPayload, is_lone, is_one, IsForm, is_var, is_array, is_let, is_let_item, is_if, is_else, is_end, is_while, is_send, is_recv, is_probe, is_try_probe, is_print}
 use Rattle.rank_print.specs.Canonical.{is_operation, IsCanonicalPayload, IsCanonical}
 
 -- an operand with these tokens, in parentheses where it is itself an operation
@@ -53,6 +53,9 @@ form_tokens (while_form e) = t.Keyword k.While ∷ expression_tokens e
 form_tokens (send_form d g p) =
     t.Keyword k.Send ∷ (expression_tokens d ++ t.Comma ∷ (expression_tokens g ++ t.Comma ∷ payload_tokens p))
 form_tokens (recv_form s g x) = t.Keyword k.Recv ∷ (choice_tokens s ++ t.Comma ∷ (choice_tokens g ++ t.Comma ∷ (t.Name x ∷ [])))
+form_tokens (probe_form s g) = t.Keyword k.Probe ∷ (choice_tokens s ++ t.Comma ∷ choice_tokens g)
+form_tokens (try_probe_form s g x) =
+    t.Keyword k.Iprobe ∷ (choice_tokens s ++ t.Comma ∷ (choice_tokens g ++ t.Comma ∷ (t.Name x ∷ [])))
 form_tokens (print_form e) = t.Keyword k.Print ∷ expression_tokens e
 
 -- an atom is a whole expression
@@ -124,4 +127,6 @@ form_spells end_form c = is_end
 form_spells (while_form e) c = is_while (expression_spells e)
 form_spells (send_form d g p) c = is_send (expression_spells d) (expression_spells g) (payload_spells p c)
 form_spells (recv_form s g x) c = is_recv (choice_spells s) (choice_spells g)
+form_spells (probe_form s g) c = is_probe (choice_spells s) (choice_spells g)
+form_spells (try_probe_form s g x) c = is_try_probe (choice_spells s) (choice_spells g)
 form_spells (print_form e) c = is_print (expression_spells e)

@@ -2,7 +2,7 @@
 -- is always a text, of the canonical statements.
 use Rattle.std.proofs.Common.{◌≡◌, ℕ, Bool, true, false, ◌&&◌, ◌||◌, List, [], ◌∷◌, ◌++◌, length, codes, refl, sym, ap, subst, ◌∙◌, arith}
 use Rattle.rank_text.specs.Tree.{number, variable, item, reading, negation, operation}
-use Rattle.rank_text.specs.Forms.{Payload, lone, one, Form, var_form, array_form, let_form, item_form, if_form, else_form, end_form, while_form, send_form, recv_form, print_form}
+use Rattle.rank_text.specs.Forms.{Payload, lone, one, Form, var_form, array_form, let_form, item_form, if_form, else_form, end_form, while_form, send_form, recv_form, probe_form, try_probe_form, print_form}
 use Rattle.rank_lines.specs.Faults.{IsText}
 use Rattle.rank_lines.specs.Scope.{Scope, nothing_yet, is_array, all_declared, payload_declared, is_large, payload_is_large, is_great, payload_is_great, after, after_all, MayStand, AllMayStand, IsWhole}
 use Rattle.rank_print.specs.Canonical.{expression_text, payload_text, form_text, depth_of, depth_after, indentation, text_from, program_text, IsCanonicalPayload, IsCanonical, AllCanonical, canonical_payload, canonical, all_canonical}
@@ -84,6 +84,8 @@ form_stands s (send_form d g p) m = record {
   fitting = ap (λ z. is_great d || is_great g || z) (payload_range p) ∙ m.fitting;
 }
 form_stands s (recv_form c g x) m = m
+form_stands s (probe_form c g) m = m
+form_stands s (try_probe_form c g x) m = m
 form_stands s (print_form e) m = m
 
 -- and leaves what it left
@@ -98,6 +100,8 @@ form_leaves s end_form = refl
 form_leaves s (while_form e) = refl
 form_leaves s (send_form d g p) = refl
 form_leaves s (recv_form c g x) = refl
+form_leaves s (probe_form c g) = refl
+form_leaves s (try_probe_form c g x) = refl
 form_leaves s (print_form e) = refl
 
 form_canonical : (f : Form) → IsCanonical (canonical f)
@@ -111,6 +115,8 @@ form_canonical end_form = tt
 form_canonical (while_form e) = tt
 form_canonical (send_form d g p) = payload_canonical p
 form_canonical (recv_form c g x) = tt
+form_canonical (probe_form c g) = tt
+form_canonical (try_probe_form c g x) = tt
 form_canonical (print_form e) = tt
 
 -- its line is the same, and so is where the next one begins
@@ -129,6 +135,8 @@ same_line depth (while_form e) = (refl, refl, refl)
 same_line depth (send_form d g p) =
     (ap (λ z. codes "send " ++ expression_text d ++ codes ", " ++ expression_text g ++ codes ", " ++ z) (payload_same p), refl, refl)
 same_line depth (recv_form c g x) = (refl, refl, refl)
+same_line depth (probe_form c g) = (refl, refl, refl)
+same_line depth (try_probe_form c g x) = (refl, refl, refl)
 same_line depth (print_form e) = (refl, refl, refl)
 
 -- the text is the same

@@ -9,7 +9,7 @@ use Rattle.std.proofs.lemmas.Bool.Decides.{nat_tests}
 use Rattle.metered.specs.Limits.{most_lines, most_blocks, most_name_bytes, most_nodes, most_parentheses}
 use Rattle.rank_text.specs.declared.token.Token.{Token}
 use Rattle.rank_text.specs.Tree.{Tree, number, variable, item, reading, negation, operation}
-use Rattle.rank_text.specs.Forms.{Choice, any, value, Payload, lone, one, Form, var_form, array_form, let_form, item_form, if_form, else_form, end_form, while_form, send_form, recv_form, print_form}
+use Rattle.rank_text.specs.Forms.{Choice, any, value, Payload, lone, one, Form, var_form, array_form, let_form, item_form, if_form, else_form, end_form, while_form, send_form, recv_form, probe_form, try_probe_form, print_form}
 use Rattle.rank_lines.specs.declared.fault.FaultKind.{FaultKind}
 use Rattle.rank_lines.specs.Lines.{is_statement}
 use Rattle.rank_lines.specs.Faults.{IsFormed, Holds, other_byte, no_word, no_form, unknown_name, known_name, no_block, long_line, late_line, over, great_number}
@@ -129,6 +129,17 @@ fits_of s (recv_form c g x) h m =
     let l = or_fails (choice_is_large c) (choice_is_large g) m.sized in
     let j = or_fails (choice_is_great c) (choice_is_great g) m.fitting in
     (choice_fits s c h b.0 l.0 j.0, choice_fits s g h b.1 l.1 j.1, declared_short s x h a.1)
+fits_of s (probe_form c g) h m =
+    let a = and_parts (choice_declared s c) (choice_declared s g) m.declared in
+    let l = or_fails (choice_is_large c) (choice_is_large g) m.sized in
+    let j = or_fails (choice_is_great c) (choice_is_great g) m.fitting in
+    (choice_fits s c h a.0 l.0 j.0, choice_fits s g h a.1 l.1 j.1)
+fits_of s (try_probe_form c g x) h m =
+    let a = and_parts (choice_declared s c && choice_declared s g) (is_variable s x) m.declared in
+    let b = and_parts (choice_declared s c) (choice_declared s g) a.0 in
+    let l = or_fails (choice_is_large c) (choice_is_large g) m.sized in
+    let j = or_fails (choice_is_great c) (choice_is_great g) m.fitting in
+    (choice_fits s c h b.0 l.0 j.0, choice_fits s g h b.1 l.1 j.1, variable_short s x h a.1)
 fits_of s (print_form e) h m = fit_of s e h m.declared m.sized m.fitting
 
 -- a name more
@@ -154,6 +165,8 @@ named_after s end_form h m = h
 named_after s (while_form e) h m = h
 named_after s (send_form d g p) h m = h
 named_after s (recv_form c g x) h m = h
+named_after s (probe_form c g) h m = h
+named_after s (try_probe_form c g x) h m = h
 named_after s (print_form e) h m = h
 
 -- the other branch is as deep as the first
@@ -178,6 +191,8 @@ depth_goes s end_form depth q = omega (arith, q, outer_length s.blocks)
 depth_goes s (while_form e) depth q = omega (arith, q)
 depth_goes s (send_form d g p) depth q = q
 depth_goes s (recv_form c g x) depth q = q
+depth_goes s (probe_form c g) depth q = q
+depth_goes s (try_probe_form c g x) depth q = q
 depth_goes s (print_form e) depth q = q
 
 -- a table of blocks that has room
@@ -196,6 +211,8 @@ blocks_few s end_form m h = omega (arith, h, outer_length s.blocks)
 blocks_few s (while_form e) m h = omega (arith, room_in (length s.blocks) m.within)
 blocks_few s (send_form d g p) m h = h
 blocks_few s (recv_form c g x) m h = h
+blocks_few s (probe_form c g) m h = h
+blocks_few s (try_probe_form c g x) m h = h
 blocks_few s (print_form e) m h = h
 
 -- a line isn't indented deeper
@@ -210,6 +227,8 @@ depth_least depth end_form = omega arith
 depth_least depth (while_form e) = omega arith
 depth_least depth (send_form d g p) = omega arith
 depth_least depth (recv_form c g x) = omega arith
+depth_least depth (probe_form c g) = omega arith
+depth_least depth (try_probe_form c g x) = omega arith
 depth_least depth (print_form e) = omega arith
 
 -- parentheses that nest no deeper than they may aren't too many

@@ -6,7 +6,7 @@ use Rattle.rank_text.specs.declared.token.Operator.TheVariants.{Add, Subtract, M
 use Rattle.rank_text.specs.declared.token.Reading.{Reading}
 use Rattle.rank_text.specs.declared.token.Reading.TheVariants as reads
 use Rattle.rank_text.specs.Tree.{Tree, number, variable, item, reading, negation, operation}
-use Rattle.rank_text.specs.Forms.{Choice, any, value, Payload, lone, one, Form, var_form, array_form, let_form, item_form, if_form, else_form, end_form, while_form, send_form, recv_form, print_form}
+use Rattle.rank_text.specs.Forms.{Choice, any, value, Payload, lone, one, Form, var_form, array_form, let_form, item_form, if_form, else_form, end_form, while_form, send_form, recv_form, probe_form, try_probe_form, print_form}
 
 -- the sign of an operator, with a space on both sides
 abbrev pub operator_text : Operator → List ℕ
@@ -74,6 +74,8 @@ form_text end_form = codes "end"
 form_text (while_form e) = codes "while " ++ expression_text e
 form_text (send_form d g p) = codes "send " ++ expression_text d ++ codes ", " ++ expression_text g ++ codes ", " ++ payload_text p
 form_text (recv_form s g x) = codes "recv " ++ choice_text s ++ codes ", " ++ choice_text g ++ codes ", " ++ x
+form_text (probe_form s g) = codes "probe " ++ choice_text s ++ codes ", " ++ choice_text g
+form_text (try_probe_form s g x) = codes "iprobe " ++ choice_text s ++ codes ", " ++ choice_text g ++ codes ", " ++ x
 form_text (print_form e) = codes "print " ++ expression_text e
 
 -- what a statement does to the blocks that are open
@@ -95,6 +97,8 @@ nesting_of end_form = closes
 nesting_of (while_form e) = opens
 nesting_of (send_form d g p) = stays
 nesting_of (recv_form s g x) = stays
+nesting_of (probe_form s g) = stays
+nesting_of (try_probe_form s g x) = stays
 nesting_of (print_form e) = stays
 
 -- how far a line is indented where this many blocks are open: `else` and `end` stand as the line that opened their block
@@ -159,6 +163,8 @@ IsCanonical end_form = Unit {0}
 IsCanonical (while_form e) = Unit {0}
 IsCanonical (send_form d g p) = IsCanonicalPayload p
 IsCanonical (recv_form s g x) = Unit {0}
+IsCanonical (probe_form s g) = Unit {0}
+IsCanonical (try_probe_form s g x) = Unit {0}
 IsCanonical (print_form e) = Unit {0}
 
 -- so is each of the statements
@@ -188,6 +194,8 @@ canonical end_form = end_form
 canonical (while_form e) = while_form e
 canonical (send_form d g p) = send_form d g (canonical_payload p)
 canonical (recv_form s g x) = recv_form s g x
+canonical (probe_form s g) = probe_form s g
+canonical (try_probe_form s g x) = try_probe_form s g x
 canonical (print_form e) = print_form e
 
 -- so of each of the statements

@@ -18,7 +18,8 @@ fn depth_of(depth: usize, form: &Form) -> usize
         Form::Else | Form::End => depth.saturating_sub(1),
         Form::Var(_) | Form::Array(..) | Form::Let(..) | Form::LetItem(..) => depth,
         Form::If(_) | Form::While(_) => depth,
-        Form::Send(..) | Form::Recv(..) | Form::Print(_) => depth,
+        Form::Send(..) | Form::Recv(..) => depth,
+        Form::Probe(..) | Form::TryProbe(..) | Form::Print(_) => depth,
     }
 }
 
@@ -32,7 +33,8 @@ fn depth_after(depth: usize, form: &Form) -> usize
         Form::Else => depth,
         Form::End => depth.saturating_sub(1),
         Form::Var(_) | Form::Array(..) | Form::Let(..) | Form::LetItem(..) => depth,
-        Form::Send(..) | Form::Recv(..) | Form::Print(_) => depth,
+        Form::Send(..) | Form::Recv(..) => depth,
+        Form::Probe(..) | Form::TryProbe(..) | Form::Print(_) => depth,
     }
 }
 

@@ -1,7 +1,7 @@
 //! Writes a statement.
 
 ghost use Rattle.std.specs.Prelude.{◌≡◌, ◌++◌, OnOk, codes};
-ghost use Rattle.rank_text.specs.Forms.{array_form, item_form, let_form, recv_form, send_form, var_form};
+ghost use Rattle.rank_text.specs.Forms.{array_form, item_form, let_form, probe_form, recv_form, send_form, try_probe_form, var_form};
 ghost use Rattle.rank_text.specs.SeenForms.{choice_of, form_seen, payload_seen};
 ghost use Rattle.rank_text.specs.Tree.{tree_of};
 ghost use Rattle.rank_print.specs.Canonical.{choice_text, expression_text, form_text, payload_text};
@@ -120,6 +120,21 @@ fn put_send(
     put_payload(alloc, text, payload)
 }
 
+/// Writes a source and a tag, with a comma between them.
+fn put_choices(
+    alloc: Heap,
+    text: &mut Vec<u8, Heap>,
+    source: &Choice,
+    tag: &Choice,
+) -> Result<(), AllocError>
+    ensures { OnOk result (text.new.items
+        ≡ text.old.items ++ (choice_text (choice_of source.now) ++ codes ", " ++ choice_text (choice_of tag.now))) }
+{
+    put_choice(alloc, text, source)?;
+    put_comma(text)?;
+    put_choice(alloc, text, tag)
+}
+
 fn put_receive(
     alloc: Heap,
     text: &mut Vec<u8, Heap>,
@@ -131,11 +146,38 @@ fn put_receive(
         ≡ text.old.items ++ form_text (recv_form (choice_of source.now) (choice_of tag.now) buffer.now)) }
 {
     text.extend_from_slice(b"recv ".as_slice())?;
-    put_choice(alloc, text, source)?;
-    put_comma(text)?;
-    put_choice(alloc, text, tag)?;
+    put_choices(alloc, text, source, tag)?;
     put_comma(text)?;
     text.extend_from_slice(buffer.as_bytes())
+}
+
+fn put_probe(
+    alloc: Heap,
+    text: &mut Vec<u8, Heap>,
+    source: &Choice,
+    tag: &Choice,
+) -> Result<(), AllocError>
+    ensures { OnOk result (text.new.items
+        ≡ text.old.items ++ form_text (probe_form (choice_of source.now) (choice_of tag.now))) }
+{
+    text.extend_from_slice(b"probe ".as_slice())?;
+    put_choices(alloc, text, source, tag)
+}
+
+fn put_try_probe(
+    alloc: Heap,
+    text: &mut Vec<u8, Heap>,
+    source: &Choice,
+    tag: &Choice,
+    flag: &Name,
+) -> Result<(), AllocError>
+    ensures { OnOk result (text.new.items
+        ≡ text.old.items ++ form_text (try_probe_form (choice_of source.now) (choice_of tag.now) flag.now)) }
+{
+    text.extend_from_slice(b"iprobe ".as_slice())?;
+    put_choices(alloc, text, source, tag)?;
+    put_comma(text)?;
+    text.extend_from_slice(flag.as_bytes())
 }
 
 /// Writes a statement, without its line.
@@ -153,6 +195,8 @@ pub(crate) fn put_form(alloc: Heap, text: &mut Vec<u8, Heap>, form: &Form) -> Re
         Form::While(test) => put_with(alloc, text, b"while ", test),
         Form::Send(dest, tag, payload) => put_send(alloc, text, dest, tag, payload),
         Form::Recv(source, tag, buffer) => put_receive(alloc, text, source, tag, buffer),
+        Form::Probe(source, tag) => put_probe(alloc, text, source, tag),
+        Form::TryProbe(source, tag, flag) => put_try_probe(alloc, text, source, tag, flag),
         Form::Print(value) => put_with(alloc, text, b"print ", value),
     }
 }
