@@ -6,7 +6,7 @@ use Rattle.std.specs.List.{position_from}
 use Rattle.std.specs.Str.{bytes_eq}
 use Rattle.std.proofs.lemmas.Slice.Eq.{bytes_eq-Decides}
 use Rattle.std.proofs.lemmas.Iterator.Adapters.{position_from-zero}
-use Rattle.rank_text.specs.Forms.{Form, var_form, array_form, let_form, item_form, if_form, else_form, end_form, while_form, send_form, recv_form, print_form}
+use Rattle.rank_text.specs.Forms.{Form, var_form, array_form, let_form, item_form, if_form, else_form, end_form, while_form, send_form, recv_form, probe_form, try_probe_form, print_form}
 use Rattle.rank_lines.specs.Scope.{Scope, nothing_yet, is_name_in, is_variable, is_array, after, after_all, MayStand, AllMayStand, IsWhole}
 use Rattle.rank_language.specs.Resolved.{place_in, array_place}
 use Rattle.rank_language.specs.Named.{array_at}
@@ -31,7 +31,18 @@ at_behind (b ∷ as') bs a = at_behind as' bs a
 -- the arrays that a statement declares
 abbrev added : Form → List (List ℕ × ℕ)
 added (array_form x n) = (x, n) ∷ []
-added _ = []
+added (var_form x) = []
+added (let_form x e) = []
+added (item_form x i e) = []
+added (if_form e) = []
+added else_form = []
+added end_form = []
+added (while_form e) = []
+added (send_form d t p) = []
+added (recv_form c t x) = []
+added (probe_form c t) = []
+added (try_probe_form c t x) = []
+added (print_form e) = []
 
 -- they go last
 after_arrays : (s : Scope) (f : Form) → (after s f).arrays ≡ s.arrays ++ added f
@@ -45,6 +56,8 @@ after_arrays s else_form = sym (append-nil s.arrays)
 after_arrays s end_form = sym (append-nil s.arrays)
 after_arrays s (send_form d t p) = sym (append-nil s.arrays)
 after_arrays s (recv_form c t x) = sym (append-nil s.arrays)
+after_arrays s (probe_form c t) = sym (append-nil s.arrays)
+after_arrays s (try_probe_form c t x) = sym (append-nil s.arrays)
 after_arrays s (print_form e) = sym (append-nil s.arrays)
 
 -- the arrays behind statements begin with those in front
@@ -87,6 +100,8 @@ stands_there s else_form fs h = tt
 stands_there s end_form fs h = tt
 stands_there s (send_form d t p) fs h = tt
 stands_there s (recv_form c t x) fs h = tt
+stands_there s (probe_form c t) fs h = tt
+stands_there s (try_probe_form c t x) fs h = tt
 stands_there s (print_form e) fs h = tt
 
 stand_from : (s : Scope) (fs : List Form) → AllMayStand s fs → AllArraysStand (after_all s fs) fs

@@ -10,9 +10,9 @@ use Rattle.rank_text.specs.Tree as text
 use Rattle.rank_text.specs.Forms as line
 use Rattle.rank_text.specs.Forms.{Form, ◌>>=◌}
 use Rattle.rank_lines.specs.Scope.{Scope}
-use Rattle.rank_language.specs.Placed.{Placed, number, variable, item, reading, negation, operation, Choice, any, value, Payload, one, all_of, Buffer, into_variable, into_array, declare, declare_array, assign, assign_item, send, receive, print, Step, does, tests, repeats, otherwise, closes}
+use Rattle.rank_language.specs.Placed.{Placed, number, variable, item, reading, negation, operation, Choice, any, value, Payload, one, all_of, Buffer, into_variable, into_array, declare, declare_array, assign, assign_item, send, receive, probe, try_probe, print, Step, does, tests, repeats, otherwise, closes}
 use Rattle.rank_language.specs.Resolved.{place_in, variable_place, array_place, resolved, choice_resolved, payload_resolved, buffer_resolved, form_resolved, all_resolved}
-use Rattle.rank_language.specs.Named.{array_at, named, choice_named, value_named, payload_named, buffer_name, form_named}
+use Rattle.rank_language.specs.Named.{variable_name, array_at, named, choice_named, value_named, payload_named, buffer_name, form_named}
 use Rattle.rank_language.proofs.Options.{mapped, gone_on, either_from}
 use Rattle.rank_print.specs.Canonical.{canonical_payload, canonical, all_canonical}
 
@@ -114,7 +114,18 @@ buffer_back s x t h =
 -- an array that the statement declares stands at its place with its length
 abbrev pub ArrayStands : Scope → Form → Type 0
 ArrayStands s (line.array_form x n) = (p : ℕ) → array_place s x ≡ Some p → array_at s p ≡ (x, n)
-ArrayStands s _ = Unit {0}
+ArrayStands s (line.var_form x) = Unit {0}
+ArrayStands s (line.let_form x e) = Unit {0}
+ArrayStands s (line.item_form x i e) = Unit {0}
+ArrayStands s (line.if_form e) = Unit {0}
+ArrayStands s line.else_form = Unit {0}
+ArrayStands s line.end_form = Unit {0}
+ArrayStands s (line.while_form e) = Unit {0}
+ArrayStands s (line.send_form d g p) = Unit {0}
+ArrayStands s (line.recv_form c g x) = Unit {0}
+ArrayStands s (line.probe_form c g) = Unit {0}
+ArrayStands s (line.try_probe_form c g x) = Unit {0}
+ArrayStands s (line.print_form e) = Unit {0}
 
 -- each that statements declare does
 abbrev pub AllArraysStand : Scope → List Form → Type 0
@@ -162,6 +173,17 @@ form_back s (line.recv_form r g x) t l h =
     let (w, e, k) = gone_on _ (buffer_resolved s x) t j in
     let q : does (receive c y w) ≡ t = cc in
     subst (λ z. form_named s z ≡ line.recv_form r g x) q (ap (λ z. line.recv_form z (choice_named s y) (buffer_name s w)) (choice_back s r c a) ∙ ap (λ z. line.recv_form r z (buffer_name s w)) (choice_back s g y b) ∙ ap (line.recv_form r g) (buffer_back s x w e))
+form_back s (line.probe_form r g) t l h =
+    let (c, a, i) = gone_on _ (choice_resolved s r) t h in
+    let (y, b, j) = gone_on _ (choice_resolved s g) t i in
+    let q : does (probe c y) ≡ t = cc in
+    subst (λ z. form_named s z ≡ line.probe_form r g) q (ap (λ z. line.probe_form z (choice_named s y)) (choice_back s r c a) ∙ ap (line.probe_form r) (choice_back s g y b))
+form_back s (line.try_probe_form r g x) t l h =
+    let (c, a, i) = gone_on _ (choice_resolved s r) t h in
+    let (y, b, j) = gone_on _ (choice_resolved s g) t i in
+    let (p, e, k) = gone_on _ (variable_place s x) t j in
+    let q : does (try_probe c y p) ≡ t = cc in
+    subst (λ z. form_named s z ≡ line.try_probe_form r g x) q (ap (λ z. line.try_probe_form z (choice_named s y) (variable_name s p)) (choice_back s r c a) ∙ ap (λ z. line.try_probe_form r z (variable_name s p)) (choice_back s g y b) ∙ ap (line.try_probe_form r g) (name_back s.variables x p e))
 form_back s (line.print_form e) t l h =
     let (a, g, q) = mapped (λ v. does (print v)) (resolved s e) t h in
     subst (λ z. form_named s z ≡ line.print_form e) q (ap line.print_form (tree_back s e a g))

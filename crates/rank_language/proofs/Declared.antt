@@ -3,8 +3,8 @@
 use Rattle.std.proofs.Common.{◌≡◌, ℕ, List, map, Bool, true, false, ◌&&◌, ◌||◌, Option, Some, None, option_map, ◌↔◌, refl, ap, ◌∙◌, sym}
 use Rattle.std.specs.Option.{is_some}
 use Rattle.rank_text.specs.Tree.{Tree, number, variable, item, reading, negation, operation}
-use Rattle.rank_text.specs.Forms.{Choice, any, value, Payload, lone, one, Form, var_form, array_form, let_form, item_form, if_form, else_form, end_form, while_form, send_form, recv_form, print_form, ◌>>=◌}
-use Rattle.rank_lines.specs.Scope.{Scope, is_name_in, is_array, is_declared, all_declared, choice_declared, payload_declared, declared_in, after}
+use Rattle.rank_text.specs.Forms.{Choice, any, value, Payload, lone, one, Form, var_form, array_form, let_form, item_form, if_form, else_form, end_form, while_form, send_form, recv_form, probe_form, try_probe_form, print_form, ◌>>=◌}
+use Rattle.rank_lines.specs.Scope.{Scope, is_name_in, is_variable, is_array, is_declared, all_declared, choice_declared, payload_declared, declared_in, after}
 use Rattle.rank_language.specs.Resolved.{place_in, variable_place, array_place, either_place, resolved, choice_resolved, payload_resolved, buffer_resolved, form_resolved}
 use Rattle.rank_language.proofs.Names.{place_of_named, place_of_other}
 use Rattle.rank_language.proofs.Whole.{named_last, array_last}
@@ -117,6 +117,15 @@ form_some s (recv_form c t x) =
     ∙ ap (λ z. is_some (choice_resolved s c) && z && is_declared s x) (choice_some s t)
     ∙ ap (λ z. is_some (choice_resolved s c) && is_some (choice_resolved s t) && z) (declared_some _ _ s x)
     ∙ three_some _ (choice_resolved s c) (choice_resolved s t) (buffer_resolved s x)
+form_some s (probe_form c t) =
+    ap (λ z. z && choice_declared s t) (choice_some s c)
+    ∙ ap (λ z. is_some (choice_resolved s c) && z) (choice_some s t)
+    ∙ two_some _ (choice_resolved s c) (choice_resolved s t)
+form_some s (try_probe_form c t x) =
+    ap (λ z. z && choice_declared s t && is_variable s x) (choice_some s c)
+    ∙ ap (λ z. is_some (choice_resolved s c) && z && is_variable s x) (choice_some s t)
+    ∙ ap (λ z. is_some (choice_resolved s c) && is_some (choice_resolved s t) && z) (placed_some s.variables x)
+    ∙ three_some _ (choice_resolved s c) (choice_resolved s t) (variable_place s x)
 form_some s (print_form e) = tree_some s e ∙ mapped_some _ (resolved s e)
 
 -- an option without a value, by the test that says whether it has one

@@ -8,7 +8,7 @@ use Rattle.rank_text.specs.Tree as text
 use Rattle.rank_text.specs.Forms as line
 use Rattle.rank_text.specs.Forms.{Form, ◌>>=◌}
 use Rattle.rank_lines.specs.Scope.{Scope}
-use Rattle.rank_language.specs.Placed.{Placed, number, variable, item, reading, negation, operation, Choice, any, value, Payload, one, all_of, Buffer, into_variable, into_array, declare, declare_array, assign, assign_item, send, receive, print, Step, does, tests, repeats, otherwise, closes}
+use Rattle.rank_language.specs.Placed.{Placed, number, variable, item, reading, negation, operation, Choice, any, value, Payload, one, all_of, Buffer, into_variable, into_array, declare, declare_array, assign, assign_item, send, receive, probe, try_probe, print, Step, does, tests, repeats, otherwise, closes}
 use Rattle.rank_language.specs.Block.{Line}
 use Rattle.rank_language.specs.Shape.{step_of}
 use Rattle.rank_language.specs.Program.{IsWithin, IsChoiceWithin, IsPayloadWithin, IsBufferWithin, IsPlaced, AllPlaced}
@@ -126,6 +126,17 @@ becomes s (line.recv_form r g x) t h =
     let (buffer, c, k) = gone_on _ (buffer_resolved s x) t j in
     let q : does (receive source tag buffer) ≡ t = cc in
     subst (Becomes s (line.recv_form r g x)) q (record { kind = refl; within = λ n. (choice_within s r source a, choice_within s g tag b, buffer_within s x buffer c) })
+becomes s (line.probe_form r g) t h =
+    let (source, a, i) = gone_on _ (choice_resolved s r) t h in
+    let (tag, b, j) = gone_on _ (choice_resolved s g) t i in
+    let q : does (probe source tag) ≡ t = cc in
+    subst (Becomes s (line.probe_form r g)) q (record { kind = refl; within = λ n. (choice_within s r source a, choice_within s g tag b) })
+becomes s (line.try_probe_form r g x) t h =
+    let (source, a, i) = gone_on _ (choice_resolved s r) t h in
+    let (tag, b, j) = gone_on _ (choice_resolved s g) t i in
+    let (flag, c, k) = gone_on _ (variable_place s x) t j in
+    let q : does (try_probe source tag flag) ≡ t = cc in
+    subst (Becomes s (line.try_probe_form r g x)) q (record { kind = refl; within = λ n. (choice_within s r source a, choice_within s g tag b, place_below s.variables x flag c) })
 becomes s (line.print_form e) t h =
     let (a, g, q) = mapped (λ v. does (print v)) (resolved s e) t h in
     subst (Becomes s (line.print_form e)) q (record { kind = refl; within = λ n. resolved_within s e a g })

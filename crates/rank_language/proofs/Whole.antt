@@ -6,7 +6,7 @@ use Rattle.std.specs.Str.{bytes_eq}
 use Rattle.std.proofs.lemmas.Slice.Eq.{bytes_eq-Decides}
 use Rattle.std.proofs.lemmas.Bool.Decides.{nat_tests}
 use Rattle.rank_text.specs.Tree.{Tree, number, variable, item, reading, negation, operation}
-use Rattle.rank_text.specs.Forms.{Choice, any, value, Payload, lone, one, Form, var_form, array_form, let_form, item_form, if_form, else_form, end_form, while_form, send_form, recv_form, print_form}
+use Rattle.rank_text.specs.Forms.{Choice, any, value, Payload, lone, one, Form, var_form, array_form, let_form, item_form, if_form, else_form, end_form, while_form, send_form, recv_form, probe_form, try_probe_form, print_form}
 use Rattle.rank_lines.specs.Scope.{Scope, nothing_yet, is_name_in, is_variable, is_array, is_declared, all_declared, choice_declared, payload_declared, declared_in, is_stray, is_past_table, after, after_all, AllMayStand, IsWhole}
 use Rattle.rank_language.specs.Placed.{Step}
 use Rattle.rank_language.specs.Program.{AllSized}
@@ -77,6 +77,13 @@ form_grows s t g (recv_form r e x) h =
     let (ab, c) = both (choice_declared s r && choice_declared s e) (is_declared s x) h in
     let (a, b) = both (choice_declared s r) (choice_declared s e) ab in
     joined (choice_declared t r && choice_declared t e) (is_declared t x) (joined (choice_declared t r) (choice_declared t e) (choice_grows s t g r a) (choice_grows s t g e b)) (declared_grows s t g x c)
+form_grows s t g (probe_form r e) h =
+    let (a, b) = both (choice_declared s r) (choice_declared s e) h in
+    joined (choice_declared t r) (choice_declared t e) (choice_grows s t g r a) (choice_grows s t g e b)
+form_grows s t g (try_probe_form r e x) h =
+    let (ab, c) = both (choice_declared s r && choice_declared s e) (is_variable s x) h in
+    let (a, b) = both (choice_declared s r) (choice_declared s e) ab in
+    joined (choice_declared t r && choice_declared t e) (is_variable t x) (joined (choice_declared t r) (choice_declared t e) (choice_grows s t g r a) (choice_grows s t g e b)) (g.variables x c)
 form_grows s t g (print_form e) h = tree_grows s t g e h
 
 -- a name that stands in a table stands in a longer one
@@ -115,6 +122,8 @@ after_grows s else_form = record { variables = λ y h. h; arrays = λ y h. h }
 after_grows s end_form = record { variables = λ y h. h; arrays = λ y h. h }
 after_grows s (send_form d t p) = record { variables = λ y h. h; arrays = λ y h. h }
 after_grows s (recv_form c t x) = record { variables = λ y h. h; arrays = λ y h. h }
+after_grows s (probe_form c t) = record { variables = λ y h. h; arrays = λ y h. h }
+after_grows s (try_probe_form c t x) = record { variables = λ y h. h; arrays = λ y h. h }
 after_grows s (print_form e) = record { variables = λ y h. h; arrays = λ y h. h }
 
 -- the tables behind statements have what those in front have
@@ -134,6 +143,8 @@ declares_after s else_form = refl
 declares_after s end_form = refl
 declares_after s (send_form d t p) = refl
 declares_after s (recv_form c t x) = refl
+declares_after s (probe_form c t) = refl
+declares_after s (try_probe_form c t x) = refl
 declares_after s (print_form e) = refl
 
 -- what is in the tables stays there
@@ -148,6 +159,8 @@ declares_grows s t g else_form h = refl
 declares_grows s t g end_form h = refl
 declares_grows s t g (send_form d e p) h = refl
 declares_grows s t g (recv_form c e x) h = refl
+declares_grows s t g (probe_form c e) h = refl
+declares_grows s t g (try_probe_form c e x) h = refl
 declares_grows s t g (print_form e) h = refl
 
 -- statements that may stand are resolvable by the tables behind them
@@ -193,6 +206,8 @@ after_sized s else_form q h = h
 after_sized s end_form q h = h
 after_sized s (send_form d t p) q h = h
 after_sized s (recv_form c t x) q h = h
+after_sized s (probe_form c t) q h = h
+after_sized s (try_probe_form c t x) q h = h
 after_sized s (print_form e) q h = h
 
 -- the arrays behind statements that may stand have their sizes
@@ -216,6 +231,8 @@ blocks_behind s else_form = refl
 blocks_behind s end_form = refl
 blocks_behind s (send_form d t p) = refl
 blocks_behind s (recv_form c t x) = refl
+blocks_behind s (probe_form c t) = refl
+blocks_behind s (try_probe_form c t x) = refl
 blocks_behind s (print_form e) = refl
 
 -- a statement that may stand finds its block
@@ -230,6 +247,8 @@ not_stray s else_form h = h
 not_stray s end_form h = h
 not_stray s (send_form d t p) h = refl
 not_stray s (recv_form c t x) h = refl
+not_stray s (probe_form c t) h = refl
+not_stray s (try_probe_form c t x) h = refl
 not_stray s (print_form e) h = refl
 
 -- statements that may stand are balanced

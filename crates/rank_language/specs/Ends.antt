@@ -2,7 +2,7 @@
 -- statements, the position behind the line that closes its present part (the rank-program text, next positions). An `end` is
 -- met before the statement that it closes, so it goes on like that of an `if` until a `while` that is met leads it back.
 use Rattle.std.specs.Prelude.{ℕ, zero, suc, ◌+◌, ◌-◌, List, [], ◌∷◌, Option, Some, option_map}
-use Rattle.rank_text.specs.Forms.{Form, var_form, array_form, let_form, item_form, if_form, else_form, end_form, while_form, send_form, recv_form, print_form, ◌>>=◌}
+use Rattle.rank_text.specs.Forms.{Form, var_form, array_form, let_form, item_form, if_form, else_form, end_form, while_form, send_form, recv_form, probe_form, try_probe_form, print_form, ◌>>=◌}
 use Rattle.rank_lines.specs.Scope.{Scope}
 use Rattle.rank_language.specs.Placed.{Step, does, tests, repeats, otherwise, closes}
 use Rattle.rank_language.specs.Block.{Line, simple_line, if_line, else_line, end_line, while_line, back_line}
@@ -38,6 +38,8 @@ kind_of end_form = is_end
 kind_of (while_form e) = is_while
 kind_of (send_form d t p) = is_plain
 kind_of (recv_form s t x) = is_plain
+kind_of (probe_form s t) = is_plain
+kind_of (try_probe_form s t x) = is_plain
 kind_of (print_form e) = is_plain
 
 -- the target of a statement behind which blocks with these ends are open: an `if`, an `else` and a `while` lead to the nearest

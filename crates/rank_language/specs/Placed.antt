@@ -12,7 +12,7 @@ pub data Placed : Type 0 where
   negation : (e : Placed) → Placed
   operation : (o : Operator) (a b : Placed) → Placed
 
--- the source or the tag that a receive asks for
+-- the source or the tag that a receive or a probe asks for
 pub data Choice : Type 0 where
   any : Choice
   value : (e : Placed) → Choice
@@ -35,6 +35,8 @@ pub data Simple : Type 0 where
   assign_item : (place : ℕ) (index e : Placed) → Simple
   send : (destination tag : Placed) (payload : Payload) → Simple
   receive : (source tag : Choice) (buffer : Buffer) → Simple
+  probe : (source tag : Choice) → Simple
+  try_probe : (source tag : Choice) (flag : ℕ) → Simple
   print : (e : Placed) → Simple
 
 -- a line's statement by itself, without where it leads; an `end` doesn't say what it closes

@@ -1,6 +1,6 @@
 -- Statements whose names are declared and whose numbers fit, by the tables of the whole text.
 use Rattle.std.specs.Prelude.{◌≡◌, List, [], ◌∷◌, Bool, true, false}
-use Rattle.rank_text.specs.Forms.{Form, var_form, array_form, let_form, item_form, if_form, else_form, end_form, while_form, send_form, recv_form, print_form}
+use Rattle.rank_text.specs.Forms.{Form, var_form, array_form, let_form, item_form, if_form, else_form, end_form, while_form, send_form, recv_form, probe_form, try_probe_form, print_form}
 use Rattle.rank_lines.specs.Scope.{Scope, declared_in, has_great_number, is_variable, is_array}
 
 -- what the statement declares is in the table
@@ -15,6 +15,8 @@ declares_in s end_form = true
 declares_in s (while_form e) = true
 declares_in s (send_form d t p) = true
 declares_in s (recv_form c t x) = true
+declares_in s (probe_form c t) = true
+declares_in s (try_probe_form c t x) = true
 declares_in s (print_form e) = true
 
 -- A statement that becomes one of a program.

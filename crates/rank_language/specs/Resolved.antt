@@ -5,7 +5,7 @@ use Rattle.rank_text.specs.Tree as text
 use Rattle.rank_text.specs.Forms as line
 use Rattle.rank_text.specs.Forms.{◌>>=◌}
 use Rattle.rank_lines.specs.Scope.{Scope}
-use Rattle.rank_language.specs.Placed.{Placed, number, variable, item, reading, negation, operation, Choice, any, value, Payload, one, all_of, Buffer, into_variable, into_array, declare, declare_array, assign, assign_item, send, receive, print, Step, does, tests, repeats, otherwise, closes}
+use Rattle.rank_language.specs.Placed.{Placed, number, variable, item, reading, negation, operation, Choice, any, value, Payload, one, all_of, Buffer, into_variable, into_array, declare, declare_array, assign, assign_item, send, receive, probe, try_probe, print, Step, does, tests, repeats, otherwise, closes}
 
 -- the place of a name among names: the first at which it stands
 abbrev pub place_in : List (List ℕ) → List ℕ → Option ℕ
@@ -80,6 +80,15 @@ form_resolved s (line.recv_form c t x) = do
   tag ← choice_resolved s t
   buffer ← buffer_resolved s x
   Some (does (receive source tag buffer))
+form_resolved s (line.probe_form c t) = do
+  source ← choice_resolved s c
+  tag ← choice_resolved s t
+  Some (does (probe source tag))
+form_resolved s (line.try_probe_form c t x) = do
+  source ← choice_resolved s c
+  tag ← choice_resolved s t
+  flag ← variable_place s x
+  Some (does (try_probe source tag flag))
 form_resolved s (line.print_form e) = option_map (λ v. does (print v)) (resolved s e)
 
 -- statements with places for their names, in the same order

@@ -33,7 +33,8 @@ fn target(form: &Form, position: usize, ends: &mut Vec<usize, Heap>) -> Result<u
             Ok(0)
         }
         Form::Var(_) | Form::Array(..) | Form::Let(..) | Form::LetItem(..) => Ok(0),
-        Form::Send(..) | Form::Recv(..) | Form::Print(_) => Ok(0),
+        Form::Send(..) | Form::Recv(..) => Ok(0),
+        Form::Probe(..) | Form::TryProbe(..) | Form::Print(_) => Ok(0),
     }
 }
 

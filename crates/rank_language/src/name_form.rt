@@ -153,6 +153,15 @@ pub(crate) fn name_form(
             name_choice(alloc, tables, tag)?,
             name_buffer(tables, buffer),
         )),
+        Statement::Probe { source, tag } => Ok(Form::Probe(
+            name_choice(alloc, tables, source)?,
+            name_choice(alloc, tables, tag)?,
+        )),
+        Statement::TryProbe { source, tag, flag } => Ok(Form::TryProbe(
+            name_choice(alloc, tables, source)?,
+            name_choice(alloc, tables, tag)?,
+            tables.variables[*flag],
+        )),
         Statement::Print(value) => Ok(Form::Print(name(alloc, tables, value)?)),
     }
 }

@@ -107,6 +107,15 @@ pub(crate) fn resolve_form(
             tag: resolve_choice(alloc, tables, tag)?,
             buffer: resolve_buffer(tables, *buffer),
         }),
+        Form::Probe(source, tag) => Ok(Statement::Probe {
+            source: resolve_choice(alloc, tables, source)?,
+            tag: resolve_choice(alloc, tables, tag)?,
+        }),
+        Form::TryProbe(source, tag, flag) => Ok(Statement::TryProbe {
+            source: resolve_choice(alloc, tables, source)?,
+            tag: resolve_choice(alloc, tables, tag)?,
+            flag: tables.variable(*flag),
+        }),
         Form::Print(value) => Ok(Statement::Print(resolve(alloc, tables, value)?)),
     }
 }
