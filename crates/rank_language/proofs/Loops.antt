@@ -121,6 +121,8 @@ kept_line n (made.While e q) h = refl
 kept_line n (made.EndWhile q) h = refl
 kept_line n (made.Send d t p) h = refl
 kept_line n (made.Receive s t b) h = refl
+kept_line n (made.Probe s t) h = refl
+kept_line n (made.TryProbe s t p) h = refl
 kept_line n (made.Print e) h = refl
 
 -- behind a `while`, the `end` that is written over leads back to it

@@ -6,7 +6,7 @@ use Rattle.std.specs.Global.{Global}
 use Rattle.rank_print.specs.Canonical.{IsCanonicalPayload, IsCanonical, AllCanonical, program_text}
 use Rattle.rank_print.proofs.PrintedText.{reads_back}
 use Rattle.rank_lines.specs.Scope.{Scope}
-use Rattle.rank_language.specs.Placed.{Placed, number, variable, item, reading, negation, operation, Payload, one, all_of, declare, declare_array, assign, assign_item, send, receive, print, Step, does, tests, repeats, otherwise, closes}
+use Rattle.rank_language.specs.Placed.{Placed, number, variable, item, reading, negation, operation, Payload, one, all_of, declare, declare_array, assign, assign_item, send, receive, probe, try_probe, print, Step, does, tests, repeats, otherwise, closes}
 use Rattle.rank_language.specs.Named.{value_named, payload_named, form_named, declared_by, forms_of}
 use Rattle.rank_language.specs.Shape.{step_of}
 use Rattle.rank_language.specs.Program.{ProgramValue}
@@ -34,6 +34,8 @@ form_canonical s (does (assign p e)) = tt
 form_canonical s (does (assign_item p i e)) = tt
 form_canonical s (does (send d t p)) = payload_canonical s p
 form_canonical s (does (receive c t b)) = tt
+form_canonical s (does (probe c t)) = tt
+form_canonical s (does (try_probe c t p)) = tt
 form_canonical s (does (print e)) = tt
 form_canonical s (tests e) = tt
 form_canonical s (repeats e) = tt

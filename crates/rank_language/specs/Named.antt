@@ -3,7 +3,7 @@ use Rattle.std.specs.Prelude.{ℕ, List, [], map, slice_index_or, unsigned_abs}
 use Rattle.rank_text.specs.Tree as text
 use Rattle.rank_text.specs.Forms as line
 use Rattle.rank_lines.specs.Scope.{Scope}
-use Rattle.rank_language.specs.Placed.{Placed, number, variable, item, reading, negation, operation, Choice, any, value, Payload, one, all_of, Buffer, into_variable, into_array, declare, declare_array, assign, assign_item, send, receive, print, Step, does, tests, repeats, otherwise, closes}
+use Rattle.rank_language.specs.Placed.{Placed, number, variable, item, reading, negation, operation, Choice, any, value, Payload, one, all_of, Buffer, into_variable, into_array, declare, declare_array, assign, assign_item, send, receive, probe, try_probe, print, Step, does, tests, repeats, otherwise, closes}
 use Rattle.rank_language.specs.Shape.{step_of}
 use Rattle.rank_language.specs.Program.{ProgramValue}
 
@@ -56,6 +56,8 @@ form_named s (does (assign p e)) = line.let_form (variable_name s p) (named s e)
 form_named s (does (assign_item p i e)) = line.item_form (array_at s p).0 (named s i) (named s e)
 form_named s (does (send d t p)) = line.send_form (named s d) (named s t) (payload_named s p)
 form_named s (does (receive c t b)) = line.recv_form (choice_named s c) (choice_named s t) (buffer_name s b)
+form_named s (does (probe c t)) = line.else_form
+form_named s (does (try_probe c t p)) = line.else_form
 form_named s (does (print e)) = line.print_form (named s e)
 form_named s (tests e) = line.if_form (named s e)
 form_named s (repeats e) = line.while_form (named s e)

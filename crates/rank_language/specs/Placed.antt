@@ -35,6 +35,8 @@ pub data Simple : Type 0 where
   assign_item : (place : ℕ) (index e : Placed) → Simple
   send : (destination tag : Placed) (payload : Payload) → Simple
   receive : (source tag : Choice) (buffer : Buffer) → Simple
+  probe : (source tag : Choice) → Simple
+  try_probe : (source tag : Choice) (flag : ℕ) → Simple
   print : (e : Placed) → Simple
 
 -- a line's statement by itself, without where it leads; an `end` doesn't say what it closes

@@ -4,7 +4,7 @@ use Rattle.metered.specs.Limits.{most_items}
 use Rattle.rank_lines.specs.declared.scope.Array.{Array}
 use Rattle.rank_lines.specs.SeenLines.{arrays_seen}
 use Rattle.rank_language.specs.declared.statement.Statement.{Statement}
-use Rattle.rank_language.specs.Placed.{Placed, number, variable, item, reading, negation, operation, Choice, any, value, Payload, one, all_of, Buffer, into_variable, into_array, declare, declare_array, assign, assign_item, send, receive, print}
+use Rattle.rank_language.specs.Placed.{Placed, number, variable, item, reading, negation, operation, Choice, any, value, Payload, one, all_of, Buffer, into_variable, into_array, declare, declare_array, assign, assign_item, send, receive, probe, try_probe, print}
 use Rattle.rank_language.specs.Block.{Block, Line, simple_line, if_line, else_line, end_line, while_line, back_line}
 use Rattle.rank_language.specs.Shape.{step_of, tree_of_steps}
 use Rattle.rank_language.specs.Seen.{line_of}
@@ -51,6 +51,8 @@ IsPlaced v a (simple_line (assign p e)) = (p < v) × IsWithin v a e
 IsPlaced v a (simple_line (assign_item p i e)) = (p < a) × IsWithin v a i × IsWithin v a e
 IsPlaced v a (simple_line (send d t p)) = IsWithin v a d × IsWithin v a t × IsPayloadWithin v a p
 IsPlaced v a (simple_line (receive s t b)) = IsChoiceWithin v a s × IsChoiceWithin v a t × IsBufferWithin v a b
+IsPlaced v a (simple_line (probe s t)) = IsChoiceWithin v a s × IsChoiceWithin v a t
+IsPlaced v a (simple_line (try_probe s t p)) = IsChoiceWithin v a s × IsChoiceWithin v a t × (p < v)
 IsPlaced v a (simple_line (print e)) = IsWithin v a e
 IsPlaced v a (if_line e q) = IsWithin v a e
 IsPlaced v a (else_line q) = Unit {0}

@@ -7,7 +7,7 @@ use Rattle.rank_language.specs.declared.statement.Choice as source_choice
 use Rattle.rank_language.specs.declared.statement.Payload as source_payload
 use Rattle.rank_language.specs.declared.statement.Buffer as source_buffer
 use Rattle.rank_language.specs.declared.statement.Statement as source_statement
-use Rattle.rank_language.specs.Placed.{Placed, number, variable, item, reading, negation, operation, Choice, any, value, Payload, one, all_of, Buffer, into_variable, into_array, declare, declare_array, assign, assign_item, send, receive, print}
+use Rattle.rank_language.specs.Placed.{Placed, number, variable, item, reading, negation, operation, Choice, any, value, Payload, one, all_of, Buffer, into_variable, into_array, declare, declare_array, assign, assign_item, send, receive, probe, try_probe, print}
 use Rattle.rank_language.specs.Block.{Line, simple_line, if_line, else_line, end_line, while_line, back_line}
 
 -- an expression without where it lies
@@ -47,6 +47,8 @@ line_of (source_statement.TheVariants.While e q) = while_line (placed_of e) q
 line_of (source_statement.TheVariants.EndWhile q) = back_line q
 line_of (source_statement.TheVariants.Send d t p) = simple_line (send (placed_of d) (placed_of t) (payload_of p))
 line_of (source_statement.TheVariants.Receive s t b) = simple_line (receive (choice_of s) (choice_of t) (buffer_of b))
+line_of (source_statement.TheVariants.Probe s t) = simple_line (probe (choice_of s) (choice_of t))
+line_of (source_statement.TheVariants.TryProbe s t p) = simple_line (try_probe (choice_of s) (choice_of t) p)
 line_of (source_statement.TheVariants.Print e) = simple_line (print (placed_of e))
 
 -- the line of a statement that was found

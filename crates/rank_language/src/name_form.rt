@@ -153,6 +153,7 @@ pub(crate) fn name_form(
             name_choice(alloc, tables, tag)?,
             name_buffer(tables, buffer),
         )),
+        Statement::Probe { .. } | Statement::TryProbe { .. } => Ok(Form::Else),
         Statement::Print(value) => Ok(Form::Print(name(alloc, tables, value)?)),
     }
 }

@@ -61,6 +61,17 @@ pub enum Statement {
         tag: Choice,
         buffer: Buffer,
     },
+    /// It shows the packet that a receive would take, and leaves it.
+    Probe {
+        source: Choice,
+        tag: Choice,
+    },
+    /// A probe that doesn't wait: the variable `flag`, by its place, gets 1 where a packet is shown, else 0.
+    TryProbe {
+        source: Choice,
+        tag: Choice,
+        flag: usize,
+    },
     Print(Expression),
 }
 
@@ -79,6 +90,7 @@ impl Statement {
             Statement::Declare(_) | Statement::DeclareArray(_) => position + 1,
             Statement::Assign(..) | Statement::AssignItem(..) => position + 1,
             Statement::Send { .. } | Statement::Receive { .. } => position + 1,
+            Statement::Probe { .. } | Statement::TryProbe { .. } => position + 1,
             Statement::Print(_) | Statement::EndIf => position + 1,
         }
     }
