@@ -8,7 +8,7 @@ use std::process::Abort;
 use std::test::*;
 
 /// The bytes of a line, the nodes of an expression and its parentheses, with what is lower where a limit is passed.
-const EXPRESSIONS: [Row; 40] = [
+const EXPRESSIONS: [Row; 46] = [
     ("print 1{8185| }", "print 1\n"),
     ("print 1{8186| }", "line 1: fault 8 Limit"),
     ("{8185| }print 1", "print 1\n"),
@@ -30,6 +30,15 @@ const EXPRESSIONS: [Row; 40] = [
     ),
     ("var x\nrecv --1{31|+1}, 0, x", "line 2: fault 8 Limit"),
     ("var x\nrecv 0, --1{31|+1}, x", "line 2: fault 8 Limit"),
+    ("probe --1{31|+1}, 0", "line 1: fault 8 Limit"),
+    ("probe 0, --1{31|+1}", "line 1: fault 8 Limit"),
+    (
+        "probe -1{31|+1}, -1{31|+1}",
+        "probe {31|(}-1{31|) + 1}, {31|(}-1{31|) + 1}\n",
+    ),
+    ("var f\niprobe --1{31|+1}, 0, f", "line 2: fault 8 Limit"),
+    ("var f\niprobe 0, --1{31|+1}, f", "line 2: fault 8 Limit"),
+    ("probe {65|(}0{65|)}, 0", "line 1: fault 8 Limit"),
     ("var x\nlet x = --1{31|+1}", "line 2: fault 8 Limit"),
     (
         "array a[1]\nprint a[1{31|+1}]",

@@ -72,7 +72,7 @@ fn tokens_of_lines(rt: HostRuntime) -> Result<(), Fail> {
 }
 
 /// Lines with a statement, and last those that nest deep.
-const STATEMENTS: [Row; 31] = [
+const STATEMENTS: [Row; 37] = [
     ("var  x", "var x\n"),
     ("array a [ 007 ]", "array a[7]\n"),
     ("let x = y", "let x = y\n"),
@@ -91,6 +91,12 @@ const STATEMENTS: [Row; 31] = [
     ("send 1, 2, a", "send 1, 2, a\n"),
     ("recv any,1>2,x", "recv any, 1 > 2, x\n"),
     ("recv source,any,x", "recv source, any, x\n"),
+    ("probe any,any", "probe any, any\n"),
+    ("probe(x),y+1", "probe x, y + 1\n"),
+    ("  probe  source , -1 ", "probe source, -1\n"),
+    ("iprobe any,1>2,f", "iprobe any, 1 > 2, f\n"),
+    ("iprobe x,y,f", "iprobe x, y, f\n"),
+    ("iprobe  (rank) , any ,  f ", "iprobe rank, any, f\n"),
     ("print --1", "print -(-1)\n"),
     ("print (1)", "print 1\n"),
     ("print -1 * 2", "print (-1) * 2\n"),
@@ -107,7 +113,7 @@ const STATEMENTS: [Row; 31] = [
 ];
 
 /// Lines whose tokens are of no form.
-const NO_STATEMENT: [Row; 38] = [
+const NO_STATEMENT: [Row; 57] = [
     ("", "no form"),
     ("x", "no form"),
     ("var 1", "no form"),
@@ -144,7 +150,26 @@ const NO_STATEMENT: [Row; 38] = [
     ("print (1", "no form"),
     ("print 1)", "no form"),
     ("barrier", "no form"),
-    ("probe 0, 0, x, x", "no form"),
+    ("probe", "no form"),
+    ("probe any", "no form"),
+    ("probe any,", "no form"),
+    ("probe any any", "no form"),
+    ("probe any + 1, 0", "no form"),
+    ("probe 0, any + 1", "no form"),
+    ("probe 0, (any)", "no form"),
+    ("probe 0, 0 1", "no form"),
+    ("probe 0, 0, x", "no form"),
+    ("probe, 0", "no form"),
+    ("iprobe any, any", "no form"),
+    ("iprobe any, any,", "no form"),
+    ("iprobe any, f f", "no form"),
+    ("iprobe any, any, 1", "no form"),
+    ("iprobe any, any, any", "no form"),
+    ("iprobe any, any, a[0]", "no form"),
+    ("iprobe any, any, (f)", "no form"),
+    ("iprobe any, any, f f", "no form"),
+    ("iprobe 0, 0, f, f", "no form"),
+    ("iprobe any + 1, 0, f", "no form"),
     ("reduce sum, 0, x", "no form"),
 ];
 

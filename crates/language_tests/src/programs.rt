@@ -92,6 +92,29 @@ const ARRAYS: [Row; 9] = [
     ),
 ];
 
+/// Probes, with variables on both sides of an array.
+const PROBES: [Row; 7] = [
+    ("var x", "Declare(0) 1 1"),
+    ("array a[2]", "DeclareArray(0) 2 2"),
+    ("var f", "Declare(1) 3 3"),
+    (
+        "probe any, x + 1",
+        "Probe { source: Any, tag: Value(Operation(Add, Variable(0), Number(1))) } 4 4",
+    ),
+    (
+        "probe a[1], any",
+        "Probe { source: Value(Item(0, Number(1))), tag: Any } 5 5",
+    ),
+    (
+        "iprobe x, f, f",
+        "TryProbe { source: Value(Variable(0)), tag: Value(Variable(1)), flag: 1 } 6 6",
+    ),
+    (
+        "iprobe any, any, x",
+        "TryProbe { source: Any, tag: Any, flag: 0 } 7 7",
+    ),
+];
+
 /// The lines of a program's text.
 fn text_of(alloc: Heap, rows: &[Row]) -> Result<String<Heap>, AllocError> {
     let mut text = String::new(alloc);
@@ -129,5 +152,6 @@ fn has_statements(rt: &impl Abort, alloc: Heap, rows: &[Row], tables: &str) -> R
 fn statements(rt: HostRuntime) -> Result<(), Fail> {
     has_statements(&rt, rt.alloc(), &NESTED, "15 2")?;
     has_statements(&rt, rt.alloc(), &LOOPS, "12 1")?;
-    has_statements(&rt, rt.alloc(), &ARRAYS, "9 2 a[3] bb[256]")
+    has_statements(&rt, rt.alloc(), &ARRAYS, "9 2 a[3] bb[256]")?;
+    has_statements(&rt, rt.alloc(), &PROBES, "7 2 a[2]")
 }

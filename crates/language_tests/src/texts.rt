@@ -8,13 +8,17 @@ use std::process::Abort;
 use std::test::*;
 
 /// Texts without a fault.
-const TEXTS: [Row; 11] = [
+const TEXTS: [Row; 12] = [
     ("", ""),
     ("\n \n  # note\n", ""),
     ("print 1", "print 1\n"),
     ("print(1)\nif(1)\nelse\nend", "print 1\nif 1\nelse\nend\n"),
     ("  var   x\nlet x=1+2*3", "var x\nlet x = 1 + (2 * 3)\n"),
     ("var x\nsend 1,0,(x)", "var x\nsend 1, 0, x\n"),
+    (
+        "var f\nvar x\nwhile f==0\niprobe any,x,f\nend\nprobe source,gottag",
+        "var f\nvar x\nwhile f == 0\n  iprobe any, x, f\nend\nprobe source, gottag\n",
+    ),
     (
         "array a[007]\nlet a [ 00 ]=a[-1]",
         "array a[7]\nlet a[0] = a[-1]\n",
@@ -53,7 +57,7 @@ fn canonical_texts(rt: HostRuntime) -> Result<(), Fail> {
 }
 
 /// The first fault of each text: bytes, statement words, forms, names and open blocks.
-const EARLY_FAULTS: [Row; 45] = [
+const EARLY_FAULTS: [Row; 58] = [
     ("print 1\r\n", "line 1: fault 1 NotText"),
     ("# \t", "line 1: fault 1 NotText"),
     ("print 1\n#\u{7f}", "line 2: fault 1 NotText"),
@@ -72,6 +76,12 @@ const EARLY_FAULTS: [Row; 45] = [
     ("array a", "line 1: fault 3 BadForm"),
     ("var x\nlet x + 1 = 2", "line 2: fault 3 BadForm"),
     ("array a[1]\nrecv 0, 0, a[0]", "line 2: fault 3 BadForm"),
+    ("probe any", "line 1: fault 3 BadForm"),
+    ("probe any, any, any", "line 1: fault 3 BadForm"),
+    ("var f\niprobe any, any", "line 2: fault 3 BadForm"),
+    ("var f\niprobe any, f", "line 2: fault 3 BadForm"),
+    ("var f\niprobe 0, 0, f, f", "line 2: fault 3 BadForm"),
+    ("array a[1]\niprobe 0, 0, a[0]", "line 2: fault 3 BadForm"),
     ("let x = 1\nvar x", "line 1: fault 4 Undeclared"),
     ("var x\nlet x = y", "line 2: fault 4 Undeclared"),
     ("while x\nend", "line 1: fault 4 Undeclared"),
@@ -86,6 +96,16 @@ const EARLY_FAULTS: [Row; 45] = [
     ("recv 0, 0, y", "line 1: fault 4 Undeclared"),
     ("var x\nrecv y, 0, x", "line 2: fault 4 Undeclared"),
     ("var x\nrecv 0, y, x", "line 2: fault 4 Undeclared"),
+    ("probe y, 0", "line 1: fault 4 Undeclared"),
+    ("probe any, y", "line 1: fault 4 Undeclared"),
+    ("array a[1]\nprobe a, 0", "line 2: fault 4 Undeclared"),
+    ("var f\niprobe y, 0, f", "line 2: fault 4 Undeclared"),
+    ("var f\niprobe 0, y, f", "line 2: fault 4 Undeclared"),
+    ("iprobe any, any, f", "line 1: fault 4 Undeclared"),
+    (
+        "array f[1]\niprobe any, any, f",
+        "line 2: fault 4 Undeclared",
+    ),
     ("array a[1]\nlet a = 1", "line 2: fault 4 Undeclared"),
     ("array a[1]\nlet a[b] = 1", "line 2: fault 4 Undeclared"),
     ("var a\nlet a[0] = 1", "line 2: fault 4 Undeclared"),
@@ -102,7 +122,7 @@ const EARLY_FAULTS: [Row; 45] = [
 ];
 
 /// Strays, limits and numbers; then of two faults on a line the lower, and of two lines with a fault the first.
-const LATER_FAULTS: [Row; 36] = [
+const LATER_FAULTS: [Row; 41] = [
     ("end", "line 1: fault 7 BlockStray"),
     ("else", "line 1: fault 7 BlockStray"),
     ("while 1\nelse\nend", "line 2: fault 7 BlockStray"),
@@ -136,6 +156,26 @@ const LATER_FAULTS: [Row; 36] = [
     (
         "var x\nrecv 9223372036854775808, 0, x",
         "line 2: fault 9 NumberRange",
+    ),
+    (
+        "probe 9223372036854775808, 0",
+        "line 1: fault 9 NumberRange",
+    ),
+    (
+        "probe 0, 9223372036854775808",
+        "line 1: fault 9 NumberRange",
+    ),
+    (
+        "var f\niprobe 9223372036854775808, 0, f",
+        "line 2: fault 9 NumberRange",
+    ),
+    (
+        "var f\niprobe 0, 9223372036854775808, f",
+        "line 2: fault 9 NumberRange",
+    ),
+    (
+        "iprobe 0, 9223372036854775808, f",
+        "line 1: fault 4 Undeclared",
     ),
     ("foo\t", "line 1: fault 1 NotText"),
     ("print\t", "line 1: fault 1 NotText"),
