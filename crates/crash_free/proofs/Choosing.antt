@@ -1,14 +1,15 @@
--- Steps, sends and prints: each is allowed where the rank's machine asks for it, and what a simulation keeps stays kept.
+-- Steps, sends, prints and misses: each is allowed where the rank's machine asks for it, and what a simulation keeps stays kept.
 use Rattle.std.proofs.Common.{◌≡◌, ℕ, ℤ, ◌<◌, List, [], ◌∷◌, Some, None, length, refl, sym, ◌∙◌, subst, slice_get, get_or, ◌++◌, ◌⊎◌, inl, inr}
 use Rattle.std.specs.Prelude.{slice_set, position, IsSomeAnd}
 use Rattle.std.proofs.lemmas.Option.{slice_get_within, slice_get_read}
 use Rattle.matching.specs.declared.packet.Context.{Context}
+use Rattle.matching.specs.declared.selector.Selector.{Selector}
 use Rattle.rank_language.specs.Program.{ProgramValue}
 use Rattle.rank_machine.specs.declared.want.Want.{Want}
 use Rattle.rank_machine.specs.declared.want.Want.TheVariants as want
 use Rattle.rank_machine.specs.Wants.{wants, payload}
-use Rattle.rank_machine.specs.Acts.{Act, sends, prints, Makes, next}
-use Rattle.rank_machine.specs.Machine.{MachineValue, state_of, asks, GoesOn, next_of, KeepsRank}
+use Rattle.rank_machine.specs.Acts.{Act, sends, misses, prints, Makes, next}
+use Rattle.rank_machine.specs.Machine.{MachineValue, state_of, asks, GoesOn, next_of, IsTrying, KeepsRank}
 use Rattle.crash_free.specs.declared.choice.Choice.{Choice}
 use Rattle.crash_free.specs.declared.choice.Choice.TheVariants as choice
 use Rattle.crash_free.specs.Runs.{Passed, history, looked_up, IsFree}
@@ -17,7 +18,7 @@ use Rattle.std.specs.Prelude.{reverse}
 use Rattle.crash_free.specs.Sim.{SimValue, start_of, makes, meant, inbound_of, IsAfter, IsFreeAt, Does, Allows}
 use Rattle.crash_free.specs.Slots.{Slot, IsKept}
 use Rattle.crash_free.specs.Wanted.{Asks, AsksAt}
-use Rattle.crash_free.proofs.MailLemmas.{mail_print, mail_send, with_slot}
+use Rattle.crash_free.proofs.MailLemmas.{mail_print, mail_miss, mail_send, with_slot}
 use Rattle.crash_free.proofs.Keeping.{set_there, kept_act}
 
 -- what a machine asks for that is no step of its own its state wants
@@ -71,6 +72,23 @@ done_print program machines lanes C r m m' v kept there a made state position st
     record {
       allowed = allowed_act program machines C r m m' choice.Next (prints v) there (rw a.asked refl) free after;
       kept = kept_act program machines lanes lanes C r m m' (prints v) kept there made free after (mail_print (length machines) lanes C r v kept.mail);
+    }
+
+-- a machine that asks for a probe that doesn't wait may miss
+pub may_miss : (m : MachineValue) (w : Selector) → Asks m (want.TryProbe w) → IsTrying (asks m)
+may_miss m w a = rw a.asked tt
+
+-- a miss is made
+pub done_miss : (program : ProgramValue) (machines : List MachineValue) (lanes : List (List Slot)) (C : List Passed) (r : ℕ) (m m' : MachineValue) (w : Selector)
+    → IsKept program machines lanes C → slice_get machines r ≡ Some m → Asks m (want.TryProbe w)
+    → Makes (state_of m) misses None → state_of m' ≡ next (state_of m) misses None → m'.position ≡ next_of m → KeepsRank m m'
+    → IsDone program machines lanes C r m' choice.Miss misses
+done_miss program machines lanes C r m m' w kept there a made state position stays =
+    let after : IsAfter m misses None m' = record { state = state; position = position; stays = stays } in
+    let free : IsFree (wants (state_of m)) misses (inbound_of C r) (history C r) = tt in
+    record {
+      allowed = allowed_act program machines C r m m' choice.Miss misses there (rw a.asked refl) free after;
+      kept = kept_act program machines lanes lanes C r m m' misses kept there made free after (mail_miss (length machines) lanes C r kept.mail);
     }
 
 -- a send is made, and its message has a slot

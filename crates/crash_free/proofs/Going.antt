@@ -71,7 +71,9 @@ IsEligible-longer inbound inbound' h s j w g e =
 abbrev pub IsSilent : Act → Type 0
 IsSilent (takes s j) = ⊥
 IsSilent (hits s j) = ⊥
-IsSilent _ = Unit {0}
+IsSilent (sends d c t items) = Unit {0}
+IsSilent misses = Unit {0}
+IsSilent (prints v) = Unit {0}
 
 pub free_silent : (w : Want) (a : Act) (inbound : ℕ → List Message) (h : History) → IsSilent a → IsFree w a inbound h
 free_silent w (takes s j) inbound h i = absurd i
