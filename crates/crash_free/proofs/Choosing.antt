@@ -7,7 +7,7 @@ use Rattle.matching.specs.declared.selector.Selector.{Selector}
 use Rattle.rank_language.specs.Program.{ProgramValue}
 use Rattle.rank_machine.specs.declared.want.Want.{Want}
 use Rattle.rank_machine.specs.declared.want.Want.TheVariants as want
-use Rattle.rank_machine.specs.Wants.{wants, payload}
+use Rattle.rank_machine.specs.Wants.{wants, payload, IsLegal}
 use Rattle.rank_machine.specs.Acts.{Act, sends, misses, prints, Makes, next}
 use Rattle.rank_machine.specs.Machine.{MachineValue, state_of, asks, GoesOn, next_of, IsTrying, KeepsRank}
 use Rattle.crash_free.specs.declared.choice.Choice.{Choice}
@@ -114,17 +114,31 @@ done_send program machines lanes C r m m' dest context tag kept there a receiver
 pub asks_there : (machines : List MachineValue) (r : ℕ) (w : Want) (m : MachineValue) → AsksAt machines r w → slice_get machines r ≡ Some m → Asks m w
 asks_there machines r w m asks there = subst (λ o. IsSomeAnd o (λ x. Asks x w)) there asks
 
--- the machine that a call reads is its rank's, and asks for what the call asks
+-- the machine that a call reads is its rank's
+read_machine : (now : SimValue) (program : ProgramValue) (machines : List MachineValue) (C : List Passed) (k r : ℕ) (m : MachineValue)
+    → value_of program machines C ≡ now → k ≡ r → r < length now.machines → m ≡ get_or machines k m → slice_get machines r ≡ Some m
+read_machine now program machines C k r m seen place low read =
+    subst (λ z. slice_get machines z ≡ Some m) place (slice_get_read machines (length machines) k m refl inside read)
+  where
+    inside : k < length machines
+    inside = rw place (subst (λ (s : SimValue). r < length s.machines) (sym seen) low)
+
+-- and asks for what the call asks
 pub found_machine : (now : SimValue) (program : ProgramValue) (machines : List MachineValue) (C : List Passed) (k r : ℕ) (m : MachineValue) (w : Want)
     → value_of program machines C ≡ now → k ≡ r → r < length now.machines → AsksAt now.machines r w → m ≡ get_or machines k m
     → (slice_get machines r ≡ Some m) × Asks m w
 found_machine now program machines C k r m w seen place low asks read =
-    let there : slice_get machines r ≡ Some m = subst (λ z. slice_get machines z ≡ Some m) place
-    (slice_get_read machines (length machines) k m refl inside read) in
+    let there = read_machine now program machines C k r m seen place low read in
     (there, asks_there machines r w m (subst (λ (s : SimValue). AsksAt s.machines r w) (sym seen) asks) there)
-  where
-    inside : k < length machines
-    inside = rw place (subst (λ (s : SimValue). r < length s.machines) (sym seen) low)
+
+-- what it wants names ranks that there are
+pub legal_there : (now : SimValue) (program : ProgramValue) (machines : List MachineValue) (lanes : List (List Slot)) (C : List Passed) (k r : ℕ)
+    (m : MachineValue) (w : Want)
+    → value_of program machines C ≡ now → IsKept program machines lanes C → k ≡ r → r < length now.machines → m ≡ get_or machines k m
+    → IsLegal m.store.size w → IsLegal (length now.machines) w
+legal_there now program machines lanes C k r m w seen kept place low read legal =
+    let there = read_machine now program machines C k r m seen place low read in
+    subst (λ (s : SimValue). IsLegal (length s.machines) w) seen (subst (λ n. IsLegal n w) (kept.ranks r m there).size legal)
 
 -- a run with one more act, newest first
 pub run_push : (acts : List Passed) (p : Passed) → reverse (acts ++ p ∷ []) ≡ p ∷ reverse acts

@@ -118,7 +118,10 @@ impl<'p> Sim<'p> {
             (Want::Receive(selector), Choice::Take { source, index }) => {
                 self.receive(rank, &selector, source, index)
             }
-            (Want::Probe(selector) | Want::TryProbe(selector), Choice::Take { source, index }) => {
+            (Want::Probe(selector), Choice::Take { source, index }) => {
+                self.hit(rank, &selector, source, index)
+            }
+            (Want::TryProbe(selector), Choice::Take { source, index }) => {
                 self.hit(rank, &selector, source, index)
             }
             (Want::TryProbe(_), Choice::Miss) => self.miss(rank).map_err(|_| NotAllowed::Memory),

@@ -116,8 +116,7 @@ impl Sim<'_> {
         let packet = self.mail.look(source, rank, place);
         let machine = &mut self.machines[usize::from(rank)];
         machine.show(packet);
-        self.passed
-            .push_reserved(Passed::hits(rank, source, index));
+        self.passed.push_reserved(Passed::hits(rank, source, index));
         Ok(())
     }
 
