@@ -19,7 +19,7 @@ use Rattle.rank_machine.specs.declared.want.Want.TheVariants as want
 use Rattle.rank_machine.specs.Wants.{wants, payload}
 use Rattle.rank_machine.specs.Acts.{Act, Makes, Runs, sends, takes, hits, misses, prints, carried, next}
 use Rattle.rank_machine.specs.Machine.{MachineValue, state_of, asks, IsReceiving, IsShowing, IsTrying}
-use Rattle.rank_machine.proofs.Making.{asks_or, makes_sent, makes_printed, makes_taken, makes_shown, makes_missed}
+use Rattle.rank_machine.proofs.Making.{asks_or, makes_sent, makes_printed, makes_taken, makes_hit, makes_missed}
 use Rattle.rank_node.specs.declared.turn.Turn.TheVariants.{Moved, Held}
 use Rattle.rank_node.specs.declared.fault.NodeFault.TheVariants.{ClockSpent, Log}
 use Rattle.rank_node.specs.Node.{is_settled}
@@ -224,7 +224,7 @@ module _ (n : ℕ) (w : WorldValue) (r : ℕ) (v : Live) (m : MachineValue) (s :
       Stands-rank n w r (record { rank = after_probe v.rank m kind.Hit p.source p.clock; left = v.left }) s
       (RankStands-event (start_at w n) n w.run r v k (hits p.source p.number) (Some (carried p)) (event_of kind.Hit p.source p.clock (v.rank.clock + 1))
       v.rank.inbox m
-      (makes_shown v.rank.machine p p.number (subst (λ z. IsShowing z p) (sym e) (shows p (matches_if_named selector p here.matching))))
+      (makes_hit v.rank.machine p p.number (subst (λ z. IsShowing z p) (sym e) (shows p (matches_if_named selector p here.matching))))
       (k.inbox.real i p at)
       (subst (λ z. IsFree z (hits p.source p.number) (λ q. sent w.run q r) (history (continue w.run r k.acts) r)) (sym wants_it) free)
       refl
