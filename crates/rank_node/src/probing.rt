@@ -73,7 +73,8 @@ impl<'p, S: Shelf, D> Running<'p, S, D> {
         self.has_room()?;
         self.inbox.numbers_rise();
         let packet = self.inbox.get(index);
-        self.pending.push_back(naming(Kind::Hit, packet, self.clock + 1))?;
+        self.pending
+            .push_back(naming(Kind::Hit, packet, self.clock + 1))?;
         self.machine.show(packet);
         self.clock += 1;
         self.made += 1;
