@@ -1,14 +1,15 @@
--- Steps, sends and prints: each is allowed where the rank's machine asks for it, and what a simulation keeps stays kept.
+-- Steps, sends, prints and misses: each is allowed where the rank's machine asks for it, and what a simulation keeps stays kept.
 use Rattle.std.proofs.Common.{◌≡◌, ℕ, ℤ, ◌<◌, List, [], ◌∷◌, Some, None, length, refl, sym, ◌∙◌, subst, slice_get, get_or, ◌++◌, ◌⊎◌, inl, inr}
 use Rattle.std.specs.Prelude.{slice_set, position, IsSomeAnd}
 use Rattle.std.proofs.lemmas.Option.{slice_get_within, slice_get_read}
 use Rattle.matching.specs.declared.packet.Context.{Context}
+use Rattle.matching.specs.declared.selector.Selector.{Selector}
 use Rattle.rank_language.specs.Program.{ProgramValue}
 use Rattle.rank_machine.specs.declared.want.Want.{Want}
 use Rattle.rank_machine.specs.declared.want.Want.TheVariants as want
-use Rattle.rank_machine.specs.Wants.{wants, payload}
-use Rattle.rank_machine.specs.Acts.{Act, sends, prints, Makes, next}
-use Rattle.rank_machine.specs.Machine.{MachineValue, state_of, asks, GoesOn, next_of, KeepsRank}
+use Rattle.rank_machine.specs.Wants.{wants, payload, IsLegal}
+use Rattle.rank_machine.specs.Acts.{Act, sends, misses, prints, Makes, next}
+use Rattle.rank_machine.specs.Machine.{MachineValue, state_of, asks, GoesOn, next_of, IsTrying, KeepsRank}
 use Rattle.crash_free.specs.declared.choice.Choice.{Choice}
 use Rattle.crash_free.specs.declared.choice.Choice.TheVariants as choice
 use Rattle.crash_free.specs.Runs.{Passed, history, looked_up, IsFree}
@@ -17,7 +18,7 @@ use Rattle.std.specs.Prelude.{reverse}
 use Rattle.crash_free.specs.Sim.{SimValue, start_of, makes, meant, inbound_of, IsAfter, IsFreeAt, Does, Allows}
 use Rattle.crash_free.specs.Slots.{Slot, IsKept}
 use Rattle.crash_free.specs.Wanted.{Asks, AsksAt}
-use Rattle.crash_free.proofs.MailLemmas.{mail_print, mail_send, with_slot}
+use Rattle.crash_free.proofs.MailLemmas.{mail_print, mail_miss, mail_send, with_slot}
 use Rattle.crash_free.proofs.Keeping.{set_there, kept_act}
 
 -- what a machine asks for that is no step of its own its state wants
@@ -73,6 +74,23 @@ done_print program machines lanes C r m m' v kept there a made state position st
       kept = kept_act program machines lanes lanes C r m m' (prints v) kept there made free after (mail_print (length machines) lanes C r v kept.mail);
     }
 
+-- a machine that asks for a probe that doesn't wait may miss
+pub may_miss : (m : MachineValue) (w : Selector) → Asks m (want.TryProbe w) → IsTrying (asks m)
+may_miss m w a = rw a.asked tt
+
+-- a miss is made
+pub done_miss : (program : ProgramValue) (machines : List MachineValue) (lanes : List (List Slot)) (C : List Passed) (r : ℕ) (m m' : MachineValue) (w : Selector)
+    → IsKept program machines lanes C → slice_get machines r ≡ Some m → Asks m (want.TryProbe w)
+    → Makes (state_of m) misses None → state_of m' ≡ next (state_of m) misses None → m'.position ≡ next_of m → KeepsRank m m'
+    → IsDone program machines lanes C r m' choice.Miss misses
+done_miss program machines lanes C r m m' w kept there a made state position stays =
+    let after : IsAfter m misses None m' = record { state = state; position = position; stays = stays } in
+    let free : IsFree (wants (state_of m)) misses (inbound_of C r) (history C r) = tt in
+    record {
+      allowed = allowed_act program machines C r m m' choice.Miss misses there (rw a.asked refl) free after;
+      kept = kept_act program machines lanes lanes C r m m' misses kept there made free after (mail_miss (length machines) lanes C r kept.mail);
+    }
+
 -- a send is made, and its message has a slot
 pub done_send : (program : ProgramValue) (machines : List MachineValue) (lanes : List (List Slot)) (C : List Passed) (r : ℕ) (m m' : MachineValue)
     (dest : ℕ) (context : Context) (tag : ℕ)
@@ -96,17 +114,31 @@ done_send program machines lanes C r m m' dest context tag kept there a receiver
 pub asks_there : (machines : List MachineValue) (r : ℕ) (w : Want) (m : MachineValue) → AsksAt machines r w → slice_get machines r ≡ Some m → Asks m w
 asks_there machines r w m asks there = subst (λ o. IsSomeAnd o (λ x. Asks x w)) there asks
 
--- the machine that a call reads is its rank's, and asks for what the call asks
+-- the machine that a call reads is its rank's
+read_machine : (now : SimValue) (program : ProgramValue) (machines : List MachineValue) (C : List Passed) (k r : ℕ) (m : MachineValue)
+    → value_of program machines C ≡ now → k ≡ r → r < length now.machines → m ≡ get_or machines k m → slice_get machines r ≡ Some m
+read_machine now program machines C k r m seen place low read =
+    subst (λ z. slice_get machines z ≡ Some m) place (slice_get_read machines (length machines) k m refl inside read)
+  where
+    inside : k < length machines
+    inside = rw place (subst (λ (s : SimValue). r < length s.machines) (sym seen) low)
+
+-- and asks for what the call asks
 pub found_machine : (now : SimValue) (program : ProgramValue) (machines : List MachineValue) (C : List Passed) (k r : ℕ) (m : MachineValue) (w : Want)
     → value_of program machines C ≡ now → k ≡ r → r < length now.machines → AsksAt now.machines r w → m ≡ get_or machines k m
     → (slice_get machines r ≡ Some m) × Asks m w
 found_machine now program machines C k r m w seen place low asks read =
-    let there : slice_get machines r ≡ Some m = subst (λ z. slice_get machines z ≡ Some m) place
-    (slice_get_read machines (length machines) k m refl inside read) in
+    let there = read_machine now program machines C k r m seen place low read in
     (there, asks_there machines r w m (subst (λ (s : SimValue). AsksAt s.machines r w) (sym seen) asks) there)
-  where
-    inside : k < length machines
-    inside = rw place (subst (λ (s : SimValue). r < length s.machines) (sym seen) low)
+
+-- what it wants names ranks that there are
+pub legal_there : (now : SimValue) (program : ProgramValue) (machines : List MachineValue) (lanes : List (List Slot)) (C : List Passed) (k r : ℕ)
+    (m : MachineValue) (w : Want)
+    → value_of program machines C ≡ now → IsKept program machines lanes C → k ≡ r → r < length now.machines → m ≡ get_or machines k m
+    → IsLegal m.store.size w → IsLegal (length now.machines) w
+legal_there now program machines lanes C k r m w seen kept place low read legal =
+    let there = read_machine now program machines C k r m seen place low read in
+    subst (λ (s : SimValue). IsLegal (length s.machines) w) seen (subst (λ n. IsLegal n w) (kept.ranks r m there).size legal)
 
 -- a run with one more act, newest first
 pub run_push : (acts : List Passed) (p : Passed) → reverse (acts ++ p ∷ []) ≡ p ∷ reverse acts

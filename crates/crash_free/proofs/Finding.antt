@@ -1,42 +1,108 @@
--- Receptions: what is found in the slots of a pair of ranks may be taken, and where nothing is found nothing may.
-use Rattle.std.proofs.Common.{◌≡◌, ◌≢◌, ℕ, ℤ, zero, suc, ◌+◌, ◌<◌, ◌≤◌, List, [], ◌∷◌, Some, None, length, refl, sym, ap, ◌∙◌, subst, arith}
+-- Receptions and hits: what is found in the slots of a pair of ranks may be taken or hit, and where nothing is found nothing may.
+-- A receive and the two probes have this in common: each looks for what its selector names, and makes one kind of act of it.
+use Rattle.std.proofs.Common.{◌≡◌, ◌≢◌, ℕ, ℤ, zero, suc, ◌+◌, ◌<◌, ◌≤◌, List, [], ◌∷◌, Option, Some, None, length, refl, sym, ap, ◌∙◌, subst, arith}
 use Rattle.std.proofs.Common.{slice_get, ◌⊎◌, inl, inr, true}
 use Rattle.std.specs.Prelude.{position, IsSomeAnd, IsSome}
 use Rattle.std.proofs.lemmas.Option.{slice_get_within, get_or_from_slice_get}
 use Rattle.matching.specs.declared.selector.Selector.{Selector}
-use Rattle.matching.specs.declared.packet.Context.{Context}
 use Rattle.matching.specs.Message as packet
 use Rattle.matching.specs.Matching.{matches}
 use Rattle.rank_language.specs.Program.{ProgramValue}
-use Rattle.rank_language.specs.Placed.{receive}
-use Rattle.rank_language.specs.Block.{Block, plain}
+use Rattle.rank_language.specs.Placed.{Buffer, declare, declare_array, assign, assign_item, send, receive, probe, try_probe, print}
+use Rattle.rank_language.specs.Block.{Block, done, plain, if_only, if_else, loop}
+use Rattle.rank_machine.specs.declared.fault.MachineFault.{MachineFault}
+use Rattle.rank_machine.specs.declared.want.Want.{Want}
 use Rattle.rank_machine.specs.declared.want.Want.TheVariants as want
-use Rattle.rank_machine.specs.Values.{Store}
-use Rattle.rank_machine.specs.Wants.{wants}
-use Rattle.rank_machine.specs.Acts.{Message, carried, takes, Makes, taken_by, next}
-use Rattle.rank_machine.specs.Machine.{MachineValue, state_of, asks, received_at, IsReceiving, KeepsRank}
+use Rattle.rank_machine.specs.States.{State}
+use Rattle.rank_machine.specs.Wants.{wants, payload}
+use Rattle.rank_machine.specs.Acts.{Act, Message, carried, sends, takes, hits, misses, prints, Matches, Fits, Makes}
+use Rattle.rank_machine.specs.Acts.{after_receive, after_probe, after_try_probe, after_first, unless_faulted, next}
+use Rattle.rank_machine.specs.Machine.{MachineValue, state_of, asks, IsReceiving, IsShowing, KeepsRank}
+use Rattle.crash_free.specs.declared.choice.Choice.{Choice}
 use Rattle.crash_free.specs.declared.choice.Choice.TheVariants as choice
+use Rattle.crash_free.specs.declared.not_allowed.NotAllowed.{NotAllowed}
 use Rattle.crash_free.specs.declared.not_allowed.NotAllowed.TheVariants as refusal
-use Rattle.crash_free.specs.Runs.{Passed, history, sent, sends_from, at_place, IsEligible, IsFree}
+use Rattle.crash_free.specs.Runs.{Passed, History, history, sent, sends_from, at_place, looked_up, IsEligible, IsFree}
 use Rattle.std.proofs.lemmas.Bool.{cases_lt}
 use Rattle.std.proofs.lemmas.List.Quantifiers.{position-Some}
-use Rattle.crash_free.specs.Sim.{SimValue, start_of, inbound_of, IsAfter, Refuses}
-use Rattle.crash_free.specs.Slots.{Slot, packet_of, passes, lane, IsKept}
-use Rattle.crash_free.specs.Wanted.{Asks, AsksAt}
+use Rattle.crash_free.specs.Sim.{SimValue, start_of, Meaning, makes, meaning, meant, inbound_of, position_after_act, IsAfter, IsRefused, Refuses}
+use Rattle.crash_free.specs.Slots.{Slot, packet_of, passes, lane, IsMail, IsKept}
+use Rattle.crash_free.specs.Wanted.{Asks, AsksAt, ProbesAt}
 use Rattle.crash_free.proofs.Taking.{no_history}
 use Rattle.crash_free.proofs.SlotLemmas.{eligible_first, first_eligible, packet_first}
-use Rattle.crash_free.proofs.MailLemmas.{mail_take, with_emptied}
+use Rattle.crash_free.proofs.MailLemmas.{mail_take, mail_hit, with_emptied}
 use Rattle.crash_free.proofs.Keeping.{kept_act}
 use Rattle.crash_free.proofs.Choosing.{wants_it, value_of, allowed_act, IsDone, asks_there}
 
--- a reception doesn't look at the clock of its message
-same_reception : (s : Store) (b : Block) (source c c' : ℕ) (context : Context) (tag : ℕ) (items : List ℤ)
-    → taken_by s b source (record { clock = c; context = context; tag = tag; items = items }) ≡ taken_by s b source
-    (record { clock = c'; context = context; tag = tag; items = items })
-same_reception s (plain (receive x y z) r) source c c' context tag items = refl
-same_reception s b source c c' context tag items = refl
+-- what an act makes of a rank doesn't depend on its message's clock: so of a receive
+receive_clock : (a : State) (b : Buffer) (r : Block) (act : Act) (m : Message) (c : ℕ)
+    → after_receive a b r act (Some (record m { clock = c })) ≡ after_receive a b r act (Some m)
+receive_clock a b r (sends d x t items) m c = refl
+receive_clock a b r (takes s j) m c = refl
+receive_clock a b r (hits s j) m c = refl
+receive_clock a b r misses m c = refl
+receive_clock a b r (prints v) m c = refl
 
--- what was found stands first, so it may be taken
+-- of a probe that waits
+probe_clock : (a : State) (r : Block) (act : Act) (m : Message) (c : ℕ) → after_probe a r act (Some (record m { clock = c })) ≡ after_probe a r act (Some m)
+probe_clock a r (sends d x t items) m c = refl
+probe_clock a r (takes s j) m c = refl
+probe_clock a r (hits s j) m c = refl
+probe_clock a r misses m c = refl
+probe_clock a r (prints v) m c = refl
+
+-- of one that doesn't
+try_clock : (a : State) (f : ℕ) (r : Block) (act : Act) (m : Message) (c : ℕ)
+    → after_try_probe a f r act (Some (record m { clock = c })) ≡ after_try_probe a f r act (Some m)
+try_clock a f r (sends d x t items) m c = refl
+try_clock a f r (takes s j) m c = refl
+try_clock a f r (hits s j) m c = refl
+try_clock a f r misses m c = refl
+try_clock a f r (prints v) m c = refl
+
+-- of each statement
+first_clock : (a : State) (b : Block) (act : Act) (m : Message) (c : ℕ) → after_first a b act (Some (record m { clock = c })) ≡ after_first a b act (Some m)
+first_clock a done act m c = refl
+first_clock a (plain (declare p) r) act m c = refl
+first_clock a (plain (declare_array p) r) act m c = refl
+first_clock a (plain (assign p e) r) act m c = refl
+first_clock a (plain (assign_item p i e) r) act m c = refl
+first_clock a (plain (send d t p) r) act m c = refl
+first_clock a (plain (receive x t b) r) act m c = receive_clock a b r act m c
+first_clock a (plain (probe x t) r) act m c = probe_clock a r act m c
+first_clock a (plain (try_probe x t f) r) act m c = try_clock a f r act m c
+first_clock a (plain (print e) r) act m c = refl
+first_clock a (if_only e y r) act m c = refl
+first_clock a (if_else e y o r) act m c = refl
+first_clock a (loop e y r) act m c = refl
+
+next_clock : (k : Option MachineFault) (a : State) (act : Act) (m : Message) (c : ℕ)
+    → unless_faulted k a act (Some (record m { clock = c })) ≡ unless_faulted k a act (Some m)
+next_clock None a act m c = first_clock a a.rest act m c
+next_clock (Some k) a act m c = refl
+
+-- A want that looks for what its selector names, and the kind of act that it makes of a message of a source, at a place.
+pub record Seeks (v : Want) (w : Selector) (act : ℕ → ℕ → Act) : Type 0 where
+  pub no_step : want.Internal ≡ v → ⊥
+  pub means : (items : List ℤ) (s j : ℕ) → meaning v items (choice.Take s j) ≡ makes (act s j)
+  pub free : (inbound : ℕ → List Message) (h : History) (s j : ℕ) → IsEligible inbound h s j w → IsFree v (act s j) inbound h
+  pub eligible : (inbound : ℕ → List Message) (h : History) (s j : ℕ) → IsFree v (act s j) inbound h → IsEligible inbound h s j w
+  pub fits : (items : List ℤ) (s j : ℕ) (m : Message) → Matches w s m → Fits v items (act s j) (Some m)
+  pub finds : (inbound : ℕ → List Message) (s j : ℕ) → looked_up inbound (act s j) ≡ at_place (inbound s) j
+
+-- a receive takes it
+pub receiving : (w : Selector) → Seeks (want.Receive w) w takes
+receiving w = record { no_step = λ e. cc; means = λ items s j. refl; free = λ inbound h s j e. e; eligible = λ inbound h s j f. f; fits = λ items s j m h. h; finds = λ inbound s j. refl }
+
+-- a probe that waits hits it
+probing : (w : Selector) → Seeks (want.Probe w) w hits
+probing w = record { no_step = λ e. cc; means = λ items s j. refl; free = λ inbound h s j e. e; eligible = λ inbound h s j f. f; fits = λ items s j m h. h; finds = λ inbound s j. refl }
+
+-- and so does one that doesn't
+trying : (w : Selector) → Seeks (want.TryProbe w) w hits
+trying w = record { no_step = λ e. cc; means = λ items s j. refl; free = λ inbound h s j e. e; eligible = λ inbound h s j f. f; fits = λ items s j m h. h; finds = λ inbound s j. refl }
+
+-- what is found stands first, so it may be taken or hit
 found_eligible : (program : ProgramValue) (machines : List MachineValue) (lanes : List (List Slot)) (C : List Passed) (r s i : ℕ) (w : Selector)
     → IsKept program machines lanes C → r < length machines → s < length machines → position (passes w) (lane lanes s r) ≡ Some i
     → IsEligible (inbound_of C r) (history C r) s (suc i) w
@@ -51,18 +117,23 @@ found_there program machines lanes C r s i w kept rank source found =
     let e = found_eligible program machines lanes C r s i w kept rank source found in
     (packet_of s e.message, ap (λ xs. slice_get xs i) (kept.mail.each r s rank source) ∙ packet_first (inbound_of C r) (history C r) s i w e, refl)
 
--- the message that was found is received
-pub done_receive : (program : ProgramValue) (machines : List MachineValue) (lanes : List (List Slot)) (C : List Passed) (r s i : ℕ) (m m' : MachineValue)
-    (w : Selector) (p : packet.Message)
-    → IsKept program machines lanes C → slice_get machines r ≡ Some m → Asks m (want.Receive w) → s < length machines
+-- for a machine that looks for it, the choice of a message means its act
+means_it : (m : MachineValue) (v : Want) (w : Selector) (act : ℕ → ℕ → Act) (s j : ℕ) → Seeks v w act → Asks m v → meant m (choice.Take s j) ≡ makes (act s j)
+means_it m v w act s j k a = ap (λ u. meaning u (payload (state_of m)) (choice.Take s j)) a.asked ∙ k.means (payload (state_of m)) s j
+
+-- the act that is made of the message that was found
+done_first : (program : ProgramValue) (machines : List MachineValue) (lanes lanes' : List (List Slot)) (C : List Passed) (r s i : ℕ) (m m' : MachineValue)
+    (v : Want) (w : Selector) (act : ℕ → ℕ → Act) (p : packet.Message)
+    → Seeks v w act → IsKept program machines lanes C → slice_get machines r ≡ Some m → Asks m v → s < length machines
     → position (passes w) (lane lanes s r) ≡ Some i → slice_get (lane lanes s r) i ≡ Some (Some p)
-    → ((place : ℕ) → state_of m' ≡ next (state_of m) (takes p.source place) (Some (carried p))) → m'.position ≡ received_at m m'.fault → KeepsRank m m'
-    → IsDone program machines (with_emptied lanes r s i) C r m' (choice.Take s (suc i)) (takes s (suc i))
-done_receive program machines lanes C r s i m m' w p kept there a source found slot state position stays =
+    → ((place : ℕ) → state_of m' ≡ next (state_of m) (act p.source place) (Some (carried p)))
+    → m'.position ≡ position_after_act m (act s (suc i)) m'.fault → KeepsRank m m'
+    → IsMail (length machines) lanes' (record { rank = r; act = act s (suc i) } ∷ C)
+    → IsDone program machines lanes' C r m' (choice.Take s (suc i)) (act s (suc i))
+done_first program machines lanes lanes' C r s i m m' v w act p k kept there a source found slot state position stays mail =
     record {
-      allowed = allowed_act program machines C r m m' (choice.Take s (suc i)) (takes s (suc i)) there (rw a.asked refl) free after;
-      kept = kept_act program machines lanes _ C r m m' (takes s (suc i)) kept there made free after
-          (mail_take (length machines) lanes C r s i kept.mail kept.few rank source);
+      allowed = allowed_act program machines C r m m' (choice.Take s (suc i)) (act s (suc i)) there (means_it m v w act s (suc i) k a) free after;
+      kept = kept_act program machines lanes lanes' C r m m' (act s (suc i)) kept there made free after mail;
     }
   where
     rank : r < length machines
@@ -71,14 +142,19 @@ done_receive program machines lanes C r s i m m' w p kept there a source found s
     e : IsEligible (inbound_of C r) (history C r) s (suc i) w
     e = found_eligible program machines lanes C r s i w kept rank source found
 
-    wanted : wants (state_of m) ≡ want.Receive w
-    wanted = wants_it m (want.Receive w) a (λ e. cc)
+    wanted : wants (state_of m) ≡ v
+    wanted = wants_it m v a k.no_step
 
-    free : IsFree (wants (state_of m)) (takes s (suc i)) (inbound_of C r) (history C r)
-    free = rw wanted e
+    named : looked_up (inbound_of C r) (act s (suc i)) ≡ Some e.message
+    named = k.finds (inbound_of C r) s (suc i) ∙ e.there
 
-    made : Makes (state_of m) (takes s (suc i)) (at_place (sent C s r) (suc i))
-    made = rw (wanted, e.there) e.matching
+    free : IsFree (wants (state_of m)) (act s (suc i)) (inbound_of C r) (history C r)
+    free = subst (λ u. IsFree u (act s (suc i)) (inbound_of C r) (history C r)) (sym wanted) (k.free (inbound_of C r) (history C r) s (suc i) e)
+
+    made : Makes (state_of m) (act s (suc i)) (looked_up (inbound_of C r) (act s (suc i)))
+    made =
+        subst (λ o. Fits (wants (state_of m)) (payload (state_of m)) (act s (suc i)) o) (sym named)
+        (subst (λ u. Fits u (payload (state_of m)) (act s (suc i)) (Some e.message)) (sym wanted) (k.fits (payload (state_of m)) s (suc i) e.message e.matching))
 
     same : p ≡ packet_of s e.message
     same = some_same (some_same (sym slot ∙ ap (λ xs. slice_get xs i) (kept.mail.each r s rank source) ∙ packet_first (inbound_of C r) (history C r) s i w e))
@@ -86,29 +162,35 @@ done_receive program machines lanes C r s i m m' w p kept there a source found s
         some_same : {A : Type 0} {x y : A} → Some x ≡ Some y → x ≡ y
         some_same q = cc
 
-    received : state_of m' ≡ next (state_of m) (takes s (suc i)) (at_place (sent C s r) (suc i))
-    received =
-        subst (λ z. state_of m' ≡ next (state_of m) (takes z.source (suc i)) (Some (carried z))) same (state (suc i))
-        ∙ same_reception (state_of m).store (state_of m).rest s 1 e.message.clock e.message.context e.message.tag e.message.items
-        ∙ ap (λ o. next (state_of m) (takes s (suc i)) o) (sym e.there)
+    reached : state_of m' ≡ next (state_of m) (act s (suc i)) (looked_up (inbound_of C r) (act s (suc i)))
+    reached =
+        subst (λ z. state_of m' ≡ next (state_of m) (act z.source (suc i)) (Some (carried z))) same (state (suc i))
+        ∙ next_clock (state_of m).fault (state_of m) (act s (suc i)) e.message 1
+        ∙ ap (λ o. next (state_of m) (act s (suc i)) o) (sym named)
 
-    after : IsAfter m (takes s (suc i)) (at_place (sent C s r) (suc i)) m'
-    after = record { state = received; position = position; stays = stays }
+    after : IsAfter m (act s (suc i)) (looked_up (inbound_of C r) (act s (suc i))) m'
+    after = record { state = reached; position = position; stays = stays }
 
--- where nothing was found nothing may be taken
-pub not_eligible : (program : ProgramValue) (machines : List MachineValue) (lanes : List (List Slot)) (C : List Passed) (r s j : ℕ) (m : MachineValue)
-    (w : Selector)
-    → IsKept program machines lanes C → slice_get machines r ≡ Some m → Asks m (want.Receive w)
+-- a choice of this meaning is refused
+refused_at : (s : SimValue) (r : ℕ) (m : MachineValue) (c : Choice) (M : Meaning) (why : NotAllowed) → slice_get s.machines r ≡ Some m → meant m c ≡ M
+    → IsRefused why M s r m → Refuses s r c why
+refused_at s r m c M why there means refused = rw (there, means) refused
+
+-- where nothing was found nothing may be taken or hit
+not_eligible : (program : ProgramValue) (machines : List MachineValue) (lanes : List (List Slot)) (C : List Passed) (r s j : ℕ) (m : MachineValue)
+    (v : Want) (w : Selector) (act : ℕ → ℕ → Act)
+    → Seeks v w act → IsKept program machines lanes C → slice_get machines r ≡ Some m → Asks m v
     → (s < length machines → (i : ℕ) → i + 1 ≡ j → position (passes w) (lane lanes s r) ≢ Some i)
     → Refuses (value_of program machines C) r (choice.Take s j) refusal.NotEligible
-not_eligible program machines lanes C r s j m w kept there a none =
-    rw (there, a.asked) (λ free. never j none (subst (λ v. IsFree v (takes s j) (inbound_of C r) (history C r)) wanted free))
+not_eligible program machines lanes C r s j m v w act k kept there a none =
+    refused_at (value_of program machines C) r m (choice.Take s j) (makes (act s j)) refusal.NotEligible there (means_it m v w act s j k a)
+    (λ free. never j none (k.eligible (inbound_of C r) (history C r) s j (subst (λ u. IsFree u (act s j) (inbound_of C r) (history C r)) wanted free)))
   where
     rank : r < length machines
     rank = slice_get_within machines r m there
 
-    wanted : wants (state_of m) ≡ want.Receive w
-    wanted = wants_it m (want.Receive w) a (λ e. cc)
+    wanted : wants (state_of m) ≡ v
+    wanted = wants_it m v a k.no_step
 
     nothing : (j : ℕ) (x : Message) → at_place [] j ≡ Some x → ⊥
     nothing zero x e = cc
@@ -132,13 +214,13 @@ machine_of [] r low = absurd (omega arith)
 machine_of (m ∷ machines) zero low = (m, refl)
 machine_of (m ∷ machines) (suc r) low = machine_of machines r (omega arith)
 
--- What a call knows of a rank that wants to receive: the simulation it sees, what that keeps, and what the rank asks for.
-pub record Receives (now : SimValue) (program : ProgramValue) (machines : List MachineValue) (lanes : List (List Slot)) (C : List Passed) (r : ℕ)
-    (w : Selector) : Type 0 where
+-- What a call knows of a rank that looks for a message: the simulation it sees, what that keeps, and what the rank asks for.
+pub record Sought (now : SimValue) (program : ProgramValue) (machines : List MachineValue) (lanes : List (List Slot)) (C : List Passed) (r : ℕ)
+    (v : Want) : Type 0 where
   pub seen : value_of program machines C ≡ now
   pub kept : IsKept program machines lanes C
   pub rank : r < length now.machines
-  pub asks : AsksAt now.machines r (want.Receive w)
+  pub asks : AsksAt now.machines r v
 
 -- what was found by a call, for the source and the index that it was given
 pub record Found (machines : List MachineValue) (lanes : List (List Slot)) (r : ℕ) (w : Selector) (source index s i : ℕ) : Type 0 where
@@ -147,24 +229,25 @@ pub record Found (machines : List MachineValue) (lanes : List (List Slot)) (r : 
   pub there : s < length machines
   pub first : position (passes w) (lane lanes s r) ≡ Some i
 
--- where nothing was found the reception is refused
+-- where nothing was found the choice is refused
 pub refuses_take : (now : SimValue) (program : ProgramValue) (machines : List MachineValue) (lanes : List (List Slot)) (C : List Passed) (r s j : ℕ)
-    (w : Selector)
-    → Receives now program machines lanes C r w
+    (v : Want) (w : Selector) (act : ℕ → ℕ → Act)
+    → Seeks v w act → Sought now program machines lanes C r v
     → (s < length machines → (i : ℕ) → i + 1 ≡ j → position (passes w) (lane lanes s r) ≢ Some i)
     → Refuses now r (choice.Take s j) refusal.NotEligible
-refuses_take now program machines lanes C r s j w known none =
+refuses_take now program machines lanes C r s j v w act k known none =
     let rank = subst (λ (s : SimValue). r < length s.machines) (sym known.seen) known.rank in
-    let asks = subst (λ (s : SimValue). AsksAt s.machines r (want.Receive w)) (sym known.seen) known.asks in
+    let asks = subst (λ (s : SimValue). AsksAt s.machines r v) (sym known.seen) known.asks in
     let m = machine_of machines r rank in
     subst (λ z. Refuses z r (choice.Take s j) refusal.NotEligible) known.seen
-    (not_eligible program machines lanes C r s j m.0 w known.kept m.1 (asks_there machines r (want.Receive w) m.0 asks m.1) none)
+    (not_eligible program machines lanes C r s j m.0 v w act k known.kept m.1 (asks_there machines r v m.0 asks m.1) none)
 
 -- where it was found memory may want
 pub refuses_memory : (now : SimValue) (program : ProgramValue) (machines : List MachineValue) (lanes : List (List Slot)) (C : List Passed)
-    (r source index s i : ℕ) (w : Selector)
-    → Receives now program machines lanes C r w → Found machines lanes r w source index s i → Refuses now r (choice.Take source index) refusal.Memory
-refuses_memory now program machines lanes C r source index s i w known found =
+    (r source index s i : ℕ) (v : Want) (w : Selector) (act : ℕ → ℕ → Act)
+    → Seeks v w act → Sought now program machines lanes C r v → Found machines lanes r w source index s i
+    → Refuses now r (choice.Take source index) refusal.Memory
+refuses_memory now program machines lanes C r source index s i v w act k known found =
     subst (λ z. Refuses z r (choice.Take source index) refusal.Memory) known.seen (at (machine_of machines r rank))
   where
     rank : r < length machines
@@ -181,15 +264,16 @@ refuses_memory now program machines lanes C r source index s i w known found =
 
     at : (m : MachineValue) × (slice_get machines r ≡ Some m) → Refuses (value_of program machines C) r (choice.Take source index) refusal.Memory
     at m =
-        let a = asks_there machines r (want.Receive w) m.0 (subst (λ (s : SimValue). AsksAt s.machines r (want.Receive w)) (sym known.seen) known.asks) m.1 in
-        let wanted = wants_it m.0 (want.Receive w) a (λ e. cc) in
-        rw (m.1, a.asked) (subst (λ v. IsFree v (takes source index) (inbound_of C r) (history C r)) (sym wanted) e')
+        let a = asks_there machines r v m.0 (subst (λ (s : SimValue). AsksAt s.machines r v) (sym known.seen) known.asks) m.1 in
+        let wanted = wants_it m.0 v a k.no_step in
+        refused_at (value_of program machines C) r m.0 (choice.Take source index) (makes (act source index)) refusal.Memory m.1 (means_it m.0 v w act source index k a)
+        (subst (λ u. IsFree u (act source index) (inbound_of C r) (history C r)) (sym wanted) (k.free (inbound_of C r) (history C r) source index e'))
 
 -- the slot that was found holds a packet
 pub slot_there : (now : SimValue) (program : ProgramValue) (machines : List MachineValue) (lanes : List (List Slot)) (C : List Passed)
-    (r source index s i : ℕ) (w : Selector)
-    → Receives now program machines lanes C r w → Found machines lanes r w source index s i → IsSomeAnd (slice_get (lane lanes s r) i) IsSome
-slot_there now program machines lanes C r source index s i w known found =
+    (r source index s i : ℕ) (v : Want) (w : Selector)
+    → Sought now program machines lanes C r v → Found machines lanes r w source index s i → IsSomeAnd (slice_get (lane lanes s r) i) IsSome
+slot_there now program machines lanes C r source index s i v w known found =
     let rank = subst (λ (s : SimValue). r < length s.machines) (sym known.seen) known.rank in
     let p = found_there program machines lanes C r s i w known.kept rank found.there found.first in
     rw p.1 refl
@@ -205,15 +289,56 @@ packet_matches xs i w p first slot =
 pub may_give : (m : MachineValue) (w : Selector) (p : packet.Message) → Asks m (want.Receive w) → matches w p ≡ true → IsReceiving (asks m) p
 may_give m w p a names = rw a.asked names
 
+-- What a call knows of a rank that asks for a probe, whether it waits or not.
+pub record Probes (machines : List MachineValue) (r : ℕ) (w : Selector) : Type 0 where
+  pub want : Want
+  pub seeks : Seeks want w hits
+  pub shows : (p : packet.Message) → matches w p ≡ true → IsShowing want p
+  pub asks : AsksAt machines r want
+
+pub probes_there : (machines : List MachineValue) (r : ℕ) (w : Selector) → ProbesAt machines r w → Probes machines r w
+probes_there machines r w (inl a) = record { want = want.Probe w; seeks = probing w; shows = λ p names. names; asks = a }
+probes_there machines r w (inr a) = record { want = want.TryProbe w; seeks = trying w; shows = λ p names. names; asks = a }
+
+-- a machine that asks for a probe may be shown it
+pub may_show : (m : MachineValue) (v : Want) (p : packet.Message) → Asks m v → IsShowing v p → IsShowing (asks m) p
+may_show m v p a shows = subst (λ u. IsShowing u p) (sym a.asked) shows
+
+-- the act is made of the message that was found, for the source and the index that the call was given
+done_found : (program : ProgramValue) (machines : List MachineValue) (lanes lanes' : List (List Slot)) (C : List Passed) (r source index s i : ℕ)
+    (m m' : MachineValue) (v : Want) (w : Selector) (act : ℕ → ℕ → Act) (p : packet.Message)
+    → Seeks v w act → IsKept program machines lanes C → slice_get machines r ≡ Some m → Asks m v → Found machines lanes r w source index s i
+    → slice_get (lane lanes s r) i ≡ Some (Some p)
+    → ((place : ℕ) → state_of m' ≡ next (state_of m) (act p.source place) (Some (carried p)))
+    → m'.position ≡ position_after_act m (act s (suc i)) m'.fault → KeepsRank m m'
+    → IsMail (length machines) lanes' (record { rank = r; act = act s (suc i) } ∷ C)
+    → IsDone program machines lanes' C r m' (choice.Take source index) (act s index)
+done_found program machines lanes lanes' C r source index s i m m' v w act p k kept there a found slot state position stays mail =
+    let place : suc i ≡ index = let q = found.place in omega (arith, q) in
+    subst (λ z. IsDone program machines lanes' C r m' (choice.Take z index) (act s index)) found.same_source
+    (subst (λ z. IsDone program machines lanes' C r m' (choice.Take s z) (act s z)) place
+    (done_first program machines lanes lanes' C r s i m m' v w act p k kept there a found.there found.first slot state position stays mail))
+
 -- the message that was found is received
 pub done_take : (program : ProgramValue) (machines : List MachineValue) (lanes : List (List Slot)) (C : List Passed) (r source index s i : ℕ)
     (m m' : MachineValue) (w : Selector) (p : packet.Message)
     → IsKept program machines lanes C → slice_get machines r ≡ Some m → Asks m (want.Receive w) → Found machines lanes r w source index s i
     → slice_get (lane lanes s r) i ≡ Some (Some p)
-    → ((place : ℕ) → state_of m' ≡ next (state_of m) (takes p.source place) (Some (carried p))) → m'.position ≡ received_at m m'.fault → KeepsRank m m'
+    → ((place : ℕ) → state_of m' ≡ next (state_of m) (takes p.source place) (Some (carried p)))
+    → m'.position ≡ position_after_act m (takes s (suc i)) m'.fault → KeepsRank m m'
     → IsDone program machines (with_emptied lanes r s i) C r m' (choice.Take source index) (takes s index)
 done_take program machines lanes C r source index s i m m' w p kept there a found slot state position stays =
-    let place : suc i ≡ index = let q = found.place in omega (arith, q) in
-    subst (λ z. IsDone program machines (with_emptied lanes r s i) C r m' (choice.Take z index) (takes s index)) found.same_source
-    (subst (λ z. IsDone program machines (with_emptied lanes r s i) C r m' (choice.Take s z) (takes s z)) place
-    (done_receive program machines lanes C r s i m m' w p kept there a found.there found.first slot state position stays))
+    done_found program machines lanes (with_emptied lanes r s i) C r source index s i m m' (want.Receive w) w takes p (receiving w) kept there a found slot
+    state position stays (mail_take (length machines) lanes C r s i kept.mail kept.few (slice_get_within machines r m there) found.there)
+
+-- the message that was found is hit, and stays
+pub done_hit : (program : ProgramValue) (machines : List MachineValue) (lanes : List (List Slot)) (C : List Passed) (r source index s i : ℕ)
+    (m m' : MachineValue) (v : Want) (w : Selector) (p : packet.Message)
+    → Seeks v w hits → IsKept program machines lanes C → slice_get machines r ≡ Some m → Asks m v → Found machines lanes r w source index s i
+    → slice_get (lane lanes s r) i ≡ Some (Some p)
+    → ((place : ℕ) → state_of m' ≡ next (state_of m) (hits p.source place) (Some (carried p)))
+    → m'.position ≡ position_after_act m (hits s (suc i)) m'.fault → KeepsRank m m'
+    → IsDone program machines lanes C r m' (choice.Take source index) (hits s index)
+done_hit program machines lanes C r source index s i m m' v w p k kept there a found slot state position stays =
+    done_found program machines lanes lanes C r source index s i m m' v w hits p k kept there a found slot state position stays
+    (mail_hit (length machines) lanes C r s (suc i) kept.mail)

@@ -1,18 +1,18 @@
 -- What a rank may do it may do still after acts of other ranks: they change nothing of its history, and what was sent to
 -- it only grows, while eligibility looks only at places up to the message itself.
-use Rattle.std.proofs.Common.{◌≡◌, ℕ, ℤ, zero, suc, ◌+◌, ◌<◌, ◌⊎◌, inl, inr, List, [], ◌∷◌, ◌++◌, Option, Some, None, length, refl, sym, ap, subst, ◌∙◌, arith}
-use Rattle.std.proofs.lemmas.Bool.{eq-eqb, ne_eqb, cases_eq}
+use Rattle.std.proofs.Common.{◌≡◌, ℕ, ℤ, ◌+◌, ◌⊎◌, inl, inr, List, [], ◌∷◌, ◌++◌, Option, Some, None, length, refl, sym, ap, subst, ◌∙◌, arith}
+use Rattle.std.proofs.lemmas.Bool.{cases_eq}
 use Rattle.std.proofs.lemmas.List.{append-nil, length_push}
 use Rattle.matching.specs.declared.selector.Selector.{Selector}
 use Rattle.rank_machine.specs.declared.want.Want.{Want}
 use Rattle.rank_machine.specs.declared.want.Want.TheVariants as want
 use Rattle.rank_machine.specs.States.{State}
 use Rattle.rank_machine.specs.Wants.{wants, payload}
-use Rattle.rank_machine.specs.Acts.{Act, Message, sends, takes, hits, misses, prints, Fits, Makes}
-use Rattle.crash_free.specs.Runs.{Passed, History, at_place, history, sent, sends_from, send_at, add_if, looked_up, taken, IsEligible, IsFree}
-use Rattle.crash_free.specs.Runs.{MayMake, IsRun, continue}
+use Rattle.rank_machine.specs.Acts.{Act, Message, sends, takes, hits, misses, prints, Fits}
+use Rattle.crash_free.specs.Runs.{Passed, History, at_place, history, sent, sends_from, send_at, looked_up, IsEligible, IsFree}
+use Rattle.crash_free.specs.Runs.{MayMake, continue}
 use Rattle.crash_free.specs.Grows.{Grows, Extends}
-use Rattle.crash_free.proofs.Lists.{at_place-append, at_place-append_before, sends_from-push, history-own, history-other, sent-own}
+use Rattle.crash_free.proofs.Lists.{at_place-append, at_place-append_before, history-own, history-other, sent-own}
 
 -- a reception takes a message
 takes_some : (w : Want) (items : List ℤ) (s j : ℕ) → Fits w items (takes s j) None → ⊥
@@ -71,7 +71,9 @@ IsEligible-longer inbound inbound' h s j w g e =
 abbrev pub IsSilent : Act → Type 0
 IsSilent (takes s j) = ⊥
 IsSilent (hits s j) = ⊥
-IsSilent _ = Unit {0}
+IsSilent (sends d c t items) = Unit {0}
+IsSilent misses = Unit {0}
+IsSilent (prints v) = Unit {0}
 
 pub free_silent : (w : Want) (a : Act) (inbound : ℕ → List Message) (h : History) → IsSilent a → IsFree w a inbound h
 free_silent w (takes s j) inbound h i = absurd i

@@ -7,5 +7,5 @@ pub mod SlotLemmas
 pub mod MailLemmas
 pub mod Keeping
 pub mod Choosing
-pub mod Receiving
+pub mod Finding
 pub mod Refusing

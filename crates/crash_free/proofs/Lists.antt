@@ -1,10 +1,9 @@
 -- The lists that are made of a rank's acts, after one more act.
-use Rattle.std.proofs.Common.{◌≡◌, ℕ, ℤ, zero, suc, ◌+◌, ◌<◌, Bool, true, false, ◌==◌, ◌||◌, List, [], ◌∷◌, ◌++◌, Option, Some, None, length, refl}
-use Rattle.std.proofs.Common.{sym, ap, ◌∙◌, arith, slice_get, ◌⊎◌, inl, inr}
+use Rattle.std.proofs.Common.{◌≡◌, ℕ, ℤ, zero, suc, ◌+◌, ◌<◌, Bool, true, false, ◌==◌, ◌||◌, List, [], ◌∷◌, ◌++◌, Option, Some, length, refl}
+use Rattle.std.proofs.Common.{ap, ◌∙◌, arith, slice_get, ◌⊎◌, inl, inr}
 use Rattle.std.proofs.lemmas.Bool.{eq-eqb, ne_eqb}
-use Rattle.std.proofs.lemmas.List.{append-nil}
 use Rattle.rank_machine.specs.Acts.{Act, Message, sends, takes, hits, misses, prints}
-use Rattle.crash_free.specs.Runs.{Passed, History, at_place, history, sent, printed, sends_from, send_at, prints_from, print_at, cons_if, add_if}
+use Rattle.crash_free.specs.Runs.{Passed, History, at_place, history, sent, printed, sends_from, send_at, prints_from, print_at, cons_if}
 use Rattle.crash_free.specs.Runs.{looked_up, taken, takes_it}
 
 -- what stands in a list stands in a longer one

@@ -7,8 +7,8 @@ use Rattle.std.proofs.lemmas.List.{get_or-set_same, get_or-set_other, length-set
 use Rattle.metered.specs.Limits.{most_ranks}
 use Rattle.matching.specs.declared.packet.Context.{Context}
 use Rattle.rank_machine.specs.States.{State}
-use Rattle.rank_machine.specs.Acts.{Act, Message, sends, takes, prints}
-use Rattle.crash_free.specs.Runs.{Passed, history, sent, taken, takes_it, IsRun}
+use Rattle.rank_machine.specs.Acts.{Act, Message, sends, takes, hits, misses, prints}
+use Rattle.crash_free.specs.Runs.{Passed, history, sent, send_at, taken, takes_it, IsRun}
 use Rattle.crash_free.specs.Slots.{Slot, packet_of, slots_from, slots_of, place_of, lane, IsMail}
 use Rattle.crash_free.proofs.Lists.{sent-own, sent-other}
 use Rattle.crash_free.proofs.Taking.{taken_after, sent_same, untaken_beyond}
@@ -42,15 +42,30 @@ and_false : (b : Bool) → (b && false) ≡ false
 and_false true = refl
 and_false false = refl
 
--- a print leaves all slots
-pub mail_print : (n : ℕ) (lanes : List (List Slot)) (C : List Passed) (q : ℕ) (v : ℤ) → IsMail n lanes C
-    → IsMail n lanes (record { rank = q; act = prints v } ∷ C)
-mail_print n lanes C q v mail =
+-- an act that sends nothing and takes nothing leaves all slots
+mail_same : (n : ℕ) (lanes : List (List Slot)) (C : List Passed) (q : ℕ) (a : Act) → ((k r : ℕ) → send_at k r a [] ≡ []) → ((s j : ℕ) → takes_it s j a ≡ false)
+    → IsMail n lanes C → IsMail n lanes (record { rank = q; act = a } ∷ C)
+mail_same n lanes C q a silent none mail =
     record {
       size = mail.size;
       each = λ r s rank source. mail.each r s rank source
-          ∙ sym (slots_kept C q (prints v) s r (sent_same C q (prints v) s r (λ k. refl)) (λ j. and_false (q == r)));
+          ∙ sym (slots_kept C q a s r (sent_same C q a s r (λ k. silent k r)) (λ j. ap (λ b. q == r && b) (none s j) ∙ and_false (q == r)));
     }
+
+-- so does a print
+pub mail_print : (n : ℕ) (lanes : List (List Slot)) (C : List Passed) (q : ℕ) (v : ℤ) → IsMail n lanes C
+    → IsMail n lanes (record { rank = q; act = prints v } ∷ C)
+mail_print n lanes C q v mail = mail_same n lanes C q (prints v) (λ k r. refl) (λ s j. refl) mail
+
+-- a hit, which leaves the message to later acts
+pub mail_hit : (n : ℕ) (lanes : List (List Slot)) (C : List Passed) (q s j : ℕ) → IsMail n lanes C
+    → IsMail n lanes (record { rank = q; act = hits s j } ∷ C)
+mail_hit n lanes C q s j mail = mail_same n lanes C q (hits s j) (λ k r. refl) (λ s' j'. refl) mail
+
+-- and a miss
+pub mail_miss : (n : ℕ) (lanes : List (List Slot)) (C : List Passed) (q : ℕ) → IsMail n lanes C
+    → IsMail n lanes (record { rank = q; act = misses } ∷ C)
+mail_miss n lanes C q mail = mail_same n lanes C q misses (λ k r. refl) (λ s j. refl) mail
 
 -- a run after one more send, and one more reception
 abbrev pub sending : List Passed → ℕ → ℕ → Context → ℕ → List ℤ → List Passed

@@ -1,5 +1,5 @@
 -- A rank's steps and acts, one more at their end.
-use Rattle.std.proofs.Common.{◌≡◌, List, [], ◌∷◌, ◌++◌, Option, Some, None, refl, sym, ◌∙◌}
+use Rattle.std.proofs.Common.{◌≡◌, List, [], ◌∷◌, ◌++◌, Option, Some, refl}
 use Rattle.rank_machine.specs.States.{State, Inners, here, on, inner}
 use Rattle.rank_machine.specs.Acts.{Act, Message, Does, Runs}
 

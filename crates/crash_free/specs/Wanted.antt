@@ -1,5 +1,6 @@
 -- What the machines of a run ask for.
 use Rattle.std.specs.Prelude.{◌≡◌, ◌⊎◌, ℕ, List, IsSomeAnd, slice_get}
+use Rattle.matching.specs.declared.selector.Selector.{Selector}
 use Rattle.rank_machine.specs.declared.want.Want.{Want}
 use Rattle.rank_machine.specs.declared.want.Want.TheVariants as want
 use Rattle.rank_machine.specs.Wants.{wants}
@@ -13,3 +14,11 @@ pub record Asks (m : MachineValue) (w : Want) : Type 0 where
 -- the machine of a rank asks for this
 abbrev pub AsksAt : List MachineValue → ℕ → Want → Type 0
 AsksAt machines r w = IsSomeAnd (slice_get machines r) (λ m. Asks m w)
+
+-- the machine of a rank asks for a probe of this selector, one that waits or one that doesn't
+abbrev pub ProbesAt : List MachineValue → ℕ → Selector → Type 0
+ProbesAt machines r w = AsksAt machines r (want.Probe w) ⊎ AsksAt machines r (want.TryProbe w)
+
+-- the machine of a rank asks for a probe that doesn't wait
+abbrev pub TriesAt : List MachineValue → ℕ → Type 0
+TriesAt machines r = (w : Selector) × AsksAt machines r (want.TryProbe w)

@@ -113,6 +113,24 @@ impl Passed {
         }
     }
 
+    pub(crate) fn hits(rank: u8, source: u8, place: u64) -> Passed
+        ensures { result ≡ record { rank = rank; act = acts.hits source place } }
+    {
+        Passed {
+            rank,
+            act: Act::Hits { source, place },
+        }
+    }
+
+    pub(crate) fn misses(rank: u8) -> Passed
+        ensures { result ≡ record { rank = rank; act = acts.misses } }
+    {
+        Passed {
+            rank,
+            act: Act::Misses,
+        }
+    }
+
     pub(crate) fn prints(rank: u8, value: i64) -> Passed
         ensures { result ≡ record { rank = rank; act = acts.prints value } }
     {

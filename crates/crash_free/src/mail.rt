@@ -40,6 +40,16 @@ impl Lane {
         Ok(())
     }
 
+    fn look(&self, index: usize) -> &Packet
+        requires { IsSomeAnd (slice_get self.now index) IsSome }
+        ensures { slice_get self.now index ≡ Some (Some result.now) }
+    {
+        let Some(packet) = &self.slots[index] else {
+            unreachable!()
+        };
+        packet
+    }
+
     fn take(&mut self, index: usize) -> Packet
         requires { IsSomeAnd (slice_get self.old index) IsSome }
         ensures packet { slice_get self.old index ≡ Some (Some result) }
@@ -138,6 +148,16 @@ impl Mail {
     {
         let lane = &mut self.lanes[place_of(source, rank)];
         lane.push(packet)
+    }
+
+    /// The message of this source with this index, from 0, which stays.
+    pub fn look(&self, source: u8, rank: u8, index: usize) -> &Packet
+        requires place { place_of source rank < length self.now }
+        requires there { IsSomeAnd (slice_get (lane self.now source rank) index) IsSome }
+        ensures { slice_get (lane self.now source rank) index ≡ Some (Some result.now) }
+    {
+        let lane = &self.lanes[place_of(source, rank)];
+        lane.look(index)
     }
 
     /// Takes the message of this source with this index, from 0.

@@ -1,7 +1,7 @@
 //! Runs that are made act by act.
 ghost use Rattle.std.specs.Prelude.{◌≡◌, ◌≢◌, ◌<◌, ◌≤◌, [], Err, IfOk, IfErr, OnOk, OnErr, IsTrue, length};
 ghost use Rattle.metered.specs.Limits.{most_ranks};
-ghost use Rattle.rank_machine.specs.Wants.{IsLegal, IsNoProbe};
+ghost use Rattle.rank_machine.specs.Wants.{IsLegal};
 ghost use Rattle.crash_free.specs.Sim.{Simulates, Allows, Refuses, AllowsAll, StopsAt, are_of_ranks, AreBegun};
 ghost use Rattle.crash_free.specs.Wanted.{AsksAt};
 
@@ -118,9 +118,17 @@ impl<'p> Sim<'p> {
             (Want::Receive(selector), Choice::Take { source, index }) => {
                 self.receive(rank, &selector, source, index)
             }
-            (Want::Probe(_) | Want::TryProbe(_), _) => unreachable!(),
+            (Want::Probe(selector), Choice::Take { source, index }) => {
+                self.hit(rank, &selector, source, index)
+            }
+            (Want::TryProbe(selector), Choice::Take { source, index }) => {
+                self.hit(rank, &selector, source, index)
+            }
+            (Want::TryProbe(_), Choice::Miss) => self.miss(rank).map_err(|_| NotAllowed::Memory),
             (Want::Internal | Want::Send { .. } | Want::Print(_), Choice::Take { .. })
             | (Want::Internal | Want::Send { .. } | Want::Print(_), Choice::Miss)
+            | (Want::Probe(_), Choice::Next | Choice::Miss)
+            | (Want::TryProbe(_), Choice::Next)
             | (Want::Receive(_), Choice::Next | Choice::Miss) => Err(NotAllowed::WantsOther),
         }
     }
@@ -156,12 +164,10 @@ impl<'p> Sim<'p> {
     }
 
     // What the rank wants.
-    #[tactic(auto, using(rank_machine::proofs::NoProbe::no_probe))]
     fn wants(&self, rank: u8) -> Want
         requires { rank < length self.now.machines }
         ensures asks { AsksAt self.now.machines rank result }
         ensures legal { IsLegal (length self.now.machines) result }
-        ensures no_probe { IsNoProbe result }
     {
         let machine = &self.machines[usize::from(rank)];
         asks_its_state(machine);

@@ -3,7 +3,7 @@ ghost use Rattle.std.specs.Prelude.{◌≡◌, ℕ, ◌<◌, ◌≤◌, IfOk, If
 ghost use Rattle.metered.specs.Limits.{greatest_tag, most_items};
 ghost use Rattle.rank_machine.specs.Wants.{IsLegal};
 ghost use Rattle.crash_free.specs.Sim.{Allows, Refuses};
-ghost use Rattle.crash_free.specs.Wanted.{AsksAt};
+ghost use Rattle.crash_free.specs.Wanted.{AsksAt, ProbesAt, TriesAt};
 
 use crate::act::Passed;
 use crate::choice::Choice;
@@ -12,7 +12,7 @@ use crate::sim::Sim;
 use matching::{Context, Packet, Selector};
 use metered::Heap;
 use rank_machine::Want;
-use rank_machine::laws::{makes_its_print, makes_its_send};
+use rank_machine::laws::{makes_its_miss, makes_its_print, makes_its_send};
 use std::alloc::AllocError;
 
 impl Sim<'_> {
@@ -90,6 +90,47 @@ impl Sim<'_> {
         machine.give(packet);
         self.passed
             .push_reserved(Passed::takes(rank, source, index));
+        Ok(())
+    }
+
+    pub(super) fn hit(
+        &mut self,
+        rank: u8,
+        selector: &Selector,
+        source: u32,
+        index: u64,
+    ) -> Result<(), NotAllowed>
+        requires there { rank < length self.old.machines }
+        requires asks { ProbesAt self.old.machines rank selector.now }
+        ensures ok { OnOk result (Allows self.old rank (Choice.Take source index) self.new) }
+        ensures refused { IfErr result (λ why. Refuses self.old rank (Choice.Take source index) why) }
+        ensures err { OnErr result (self.new ≡ self.old) }
+    {
+        let ranks = self.ranks();
+        let Some((source, place)) = self.mail.find(ranks, rank, selector, source, index) else {
+            return Err(NotAllowed::NotEligible);
+        };
+        if self.passed.reserve(1).is_err() {
+            return Err(NotAllowed::Memory);
+        }
+        let packet = self.mail.look(source, rank, place);
+        let machine = &mut self.machines[usize::from(rank)];
+        machine.show(packet);
+        self.passed.push_reserved(Passed::hits(rank, source, index));
+        Ok(())
+    }
+
+    pub(super) fn miss(&mut self, rank: u8) -> Result<(), AllocError>
+        requires there { rank < length self.old.machines }
+        requires asks { TriesAt self.old.machines rank }
+        ensures ok { OnOk result (Allows self.old rank Choice.Miss self.new) }
+        ensures err { OnErr result (self.new ≡ self.old) }
+    {
+        self.passed.reserve(1)?;
+        let machine = &mut self.machines[usize::from(rank)];
+        makes_its_miss(machine);
+        machine.miss();
+        self.passed.push_reserved(Passed::misses(rank));
         Ok(())
     }
 }

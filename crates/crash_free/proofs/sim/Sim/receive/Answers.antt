@@ -1,26 +1,28 @@
 use Rattle.std.proofs.Common.{◌≡◌, length, refl, sym, ap, ◌∙◌}
 use Rattle.std.specs.Prelude.{reverse}
 use Rattle.rank_machine.specs.declared.want.Want.TheVariants.{Receive}
+use Rattle.rank_machine.specs.Acts.{takes}
 use Rattle.crash_free.specs.Sim.{SimValue}
 use Rattle.crash_free.proofs.Choosing.{found_machine, run_push}
-use Rattle.crash_free.proofs.Receiving.{Receives, Found, refuses_take, refuses_memory, slot_there, packet_matches, may_give, done_take}
+use Rattle.crash_free.proofs.Finding.{Sought, Found, receiving, refuses_take, refuses_memory, slot_there, packet_matches, may_give, done_take}
 use Rattle.crash_free.proofs.sim.Sim.receive.Goals as goal
 
 pub returns-in_default-clause-refused : goal.returns-in_default-clause-refused
 returns-in_default-clause-refused c =
     let s = c.self.inside in
     let run = reverse s.passed.items in
-    let known : Receives c.args.self.now s.program.now s.machines.items s.mail run c.args.rank c.args.selector.now =
+    let known : Sought c.args.self.now s.program.now s.machines.items s.mail run c.args.rank (Receive c.args.selector.now) =
     record { seen = c.self.view_is; kept = c.self.invariant; rank = c.requires.there; asks = c.requires.asks } in
     let ranks : c.ranks-ranks.result ≡ length s.machines.items = c.ranks-ranks.ensures.value ∙ ap (λ (v : SimValue). length v.machines) (sym c.self.view_is) in
-    refuses_take c.args.self.now s.program.now s.machines.items s.mail run c.args.rank c.args.source c.args.index c.args.selector.now known
+    refuses_take c.args.self.now s.program.now s.machines.items s.mail run c.args.rank c.args.source c.args.index (Receive c.args.selector.now) c.args.selector.now takes
+    (receiving c.args.selector.now) known
     (λ low. c.in_default.ensures.none refl (rw ranks low))
 
 pub returns-then-is_err-clause-refused : goal.returns-then-is_err-clause-refused
 returns-then-is_err-clause-refused c =
     let s = c.self.inside in
     let run = reverse s.passed.items in
-    let known : Receives c.args.self.now s.program.now s.machines.items s.mail run c.args.rank c.args.selector.now =
+    let known : Sought c.args.self.now s.program.now s.machines.items s.mail run c.args.rank (Receive c.args.selector.now) =
     record { seen = c.self.view_is; kept = c.self.invariant; rank = c.requires.there; asks = c.requires.asks } in
     let ranks : c.ranks-ranks.result ≡ length s.machines.items = c.ranks-ranks.ensures.value ∙ ap (λ (v : SimValue). length v.machines) (sym c.self.view_is) in
     let found : Found s.machines.items s.mail c.args.rank c.args.selector.now c.args.source c.args.index c.in-Some.source c.in-Some.place =
@@ -31,13 +33,13 @@ returns-then-is_err-clause-refused c =
       first = c.in-Some.ensures.first;
     } in
     refuses_memory c.args.self.now s.program.now s.machines.items s.mail run c.args.rank c.args.source c.args.index c.in-Some.source c.in-Some.place
-    c.args.selector.now known found
+    (Receive c.args.selector.now) c.args.selector.now takes (receiving c.args.selector.now) known found
 
 pub take-packet-requires-clause-there : goal.take-packet-requires-clause-there
 take-packet-requires-clause-there c =
     let s = c.self.inside in
     let run = reverse s.passed.items in
-    let known : Receives c.args.self.now s.program.now s.machines.items s.mail run c.args.rank c.args.selector.now =
+    let known : Sought c.args.self.now s.program.now s.machines.items s.mail run c.args.rank (Receive c.args.selector.now) =
     record { seen = c.self.view_is; kept = c.self.invariant; rank = c.requires.there; asks = c.requires.asks } in
     let ranks : c.ranks-ranks.result ≡ length s.machines.items = c.ranks-ranks.ensures.value ∙ ap (λ (v : SimValue). length v.machines) (sym c.self.view_is) in
     let found : Found s.machines.items s.mail c.args.rank c.args.selector.now c.args.source c.args.index c.in-Some.source c.in-Some.place =
@@ -48,13 +50,13 @@ take-packet-requires-clause-there c =
       first = c.in-Some.ensures.first;
     } in
     slot_there c.args.self.now s.program.now s.machines.items s.mail run c.args.rank c.args.source c.args.index c.in-Some.source c.in-Some.place
-    c.args.selector.now known found
+    (Receive c.args.selector.now) c.args.selector.now known found
 
 pub give-requires : goal.give-requires
 give-requires c =
     let s = c.self.inside in
     let run = reverse s.passed.items in
-    let known : Receives c.args.self.now s.program.now s.machines.items s.mail run c.args.rank c.args.selector.now =
+    let known : Sought c.args.self.now s.program.now s.machines.items s.mail run c.args.rank (Receive c.args.selector.now) =
     record { seen = c.self.view_is; kept = c.self.invariant; rank = c.requires.there; asks = c.requires.asks } in
     let ranks : c.ranks-ranks.result ≡ length s.machines.items = c.ranks-ranks.ensures.value ∙ ap (λ (v : SimValue). length v.machines) (sym c.self.view_is) in
     let found : Found s.machines.items s.mail c.args.rank c.args.selector.now c.args.source c.args.index c.in-Some.source c.in-Some.place =
@@ -73,7 +75,7 @@ pub invariant_of-self-2 : goal.invariant_of-self-2
 invariant_of-self-2 c =
     let s = c.self.inside in
     let run = reverse s.passed.items in
-    let known : Receives c.args.self.now s.program.now s.machines.items s.mail run c.args.rank c.args.selector.now =
+    let known : Sought c.args.self.now s.program.now s.machines.items s.mail run c.args.rank (Receive c.args.selector.now) =
     record { seen = c.self.view_is; kept = c.self.invariant; rank = c.requires.there; asks = c.requires.asks } in
     let ranks : c.ranks-ranks.result ≡ length s.machines.items = c.ranks-ranks.ensures.value ∙ ap (λ (v : SimValue). length v.machines) (sym c.self.view_is) in
     let found : Found s.machines.items s.mail c.args.rank c.args.selector.now c.args.source c.args.index c.in-Some.source c.in-Some.place =
@@ -96,7 +98,7 @@ pub returns-clause-ok : goal.returns-clause-ok
 returns-clause-ok c =
     let s = c.self.inside in
     let run = reverse s.passed.items in
-    let known : Receives c.args.self.now s.program.now s.machines.items s.mail run c.args.rank c.args.selector.now =
+    let known : Sought c.args.self.now s.program.now s.machines.items s.mail run c.args.rank (Receive c.args.selector.now) =
     record { seen = c.self.view_is; kept = c.self.invariant; rank = c.requires.there; asks = c.requires.asks } in
     let ranks : c.ranks-ranks.result ≡ length s.machines.items = c.ranks-ranks.ensures.value ∙ ap (λ (v : SimValue). length v.machines) (sym c.self.view_is) in
     let found : Found s.machines.items s.mail c.args.rank c.args.selector.now c.args.source c.args.index c.in-Some.source c.in-Some.place =
