@@ -1,13 +1,13 @@
--- What a receive takes is what was found: the first packet that the selector names is found at its index, and the machine
--- was given just that one.
+-- What a receive takes and a probe is shown is what was found: the first packet that the selector names is found at its
+-- index, and the machine was given or shown just that one.
 use Rattle.std.specs.Prelude.{◌≡◌, ℕ, List, Option, Some, slice_get, option_and_then, position}
 use Rattle.std.proofs.Common.{ap, sym, subst, ◌∙◌}
 use Rattle.matching.specs.declared.selector.Selector.{Selector}
 use Rattle.matching.specs.Message.{Message}
 use Rattle.matching.specs.Matching.{matches}
 use Rattle.rank_machine.specs.Acts as acts
-use Rattle.rank_machine.specs.Machine.{MachineValue, state_of, received_at, KeepsRank}
-use Rattle.rank_node.specs.Steps.{at_index, found, TakesFound}
+use Rattle.rank_machine.specs.Machine.{MachineValue, state_of, next_of, received_at, KeepsRank}
+use Rattle.rank_node.specs.Steps.{at_index, found, TakesFound, IsShownFound, TriesFound, WasShown}
 
 -- the packet at the first index that the selector names is the one found
 pub found-at : (s : Selector) (ms : List Message) (i : ℕ) (m : Message) → Some i ≡ position (matches s) ms → slice_get ms i ≡ Some m → found s ms ≡ Some (i, m)
@@ -23,3 +23,14 @@ pub takes_found : (s : Selector) (ms : List Message) (i : ℕ) (m : Message) (ol
 takes_found s ms i m old new first there state position stays =
     let P : Option (ℕ × Message) → Type 0 = λ f. TakesFound f old new in
     subst P (sym (found-at s ms i m first there)) (record { state = state; position = position; stays = stays })
+
+-- a probe that was shown the packet at an index was shown what is at that index
+pub was_shown : (ms : List Message) (i : ℕ) (m : Message) (old new : MachineValue) → slice_get ms i ≡ Some m
+    → ((place : ℕ) → state_of new ≡ acts.next (state_of old) (acts.hits m.source place) (Some (acts.carried m)))
+    → new.position ≡ next_of old → KeepsRank old new
+    → IsShownFound (at_index ms i) old new × TriesFound (at_index ms i) old new
+was_shown ms i m old new there state position stays =
+    let P : Option (ℕ × Message) → Type 0 = λ f. IsShownFound f old new × TriesFound f old new in
+    let at : Some (i, m) ≡ at_index ms i = sym (ap (option_and_then (λ packet. Some (i, packet))) there) in
+    let shown : WasShown m old new = record { state = state; position = position; stays = stays } in
+    subst P at (shown, shown)

@@ -217,6 +217,12 @@ pub record WasShown (packet : Message) (old new : MachineValue) : Type 0 where
   pub position : new.position ≡ next_of old
   pub stays : KeepsRank old new
 
+-- The machine's probe that doesn't wait found nothing.
+pub record Missed (old new : MachineValue) : Type 0 where
+  pub state : state_of new ≡ acts.next (state_of old) acts.misses None
+  pub position : new.position ≡ next_of old
+  pub stays : KeepsRank old new
+
 -- a receive takes what was found, and where nothing was the machine stays
 abbrev pub TakesFound : Option (ℕ × Message) → MachineValue → MachineValue → Type 0
 TakesFound None old new = new ≡ old
@@ -227,9 +233,9 @@ abbrev pub IsShownFound : Option (ℕ × Message) → MachineValue → MachineVa
 IsShownFound None old new = new ≡ old
 IsShownFound (Some f) old new = WasShown f.1 old new
 
--- a probe that doesn't wait goes on where nothing was found
+-- a probe that doesn't wait is shown what was found, and misses where nothing was
 abbrev pub TriesFound : Option (ℕ × Message) → MachineValue → MachineValue → Type 0
-TriesFound None old new = DidAct old new
+TriesFound None old new = Missed old new
 TriesFound (Some f) old new = WasShown f.1 old new
 
 -- the machine makes just the step that it wants, and none where the step is held or blocked or the program has ended

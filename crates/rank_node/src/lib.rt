@@ -3,10 +3,12 @@
 #![tactic(auto)]
 
 mod due;
+mod events;
 mod fault;
 mod frame;
 mod frames;
 mod outlook;
+mod probing;
 mod running;
 mod screen;
 mod stable;

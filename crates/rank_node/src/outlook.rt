@@ -1,5 +1,6 @@
 //! What a rank would do next, for whoever steps it.
-ghost use Rattle.std.specs.Prelude.{◌≡◌, IfOk};
+ghost use Rattle.std.specs.Prelude.{◌≡◌, is_some, position, IfOk};
+ghost use Rattle.matching.specs.Matching.{matches};
 ghost use Rattle.rank_machine.specs.Machine.{state_of, asks};
 ghost use Rattle.rank_machine.specs.Wants.{IsSend, payload};
 
@@ -7,6 +8,7 @@ use crate::fault::NodeFault;
 use crate::running::Running;
 use crate::turn::Turn;
 use checkpoint::Shelf;
+use matching::Selector;
 use metered::Heap;
 use metered::limits::GREATEST_CLOCK;
 use plain_logger::Event;
@@ -18,7 +20,6 @@ impl<'p, S: Shelf, D> Running<'p, S, D> {
     ghost use Rattle.rank_node.specs.Storing.{next_unstored};
 
     /// What a step would come to, where it isn't refused.
-    #[tactic(auto, using(rank_machine::proofs::NoProbe::not_probe, rank_machine::proofs::NoProbe::not_try_probe))]
     pub fn turn(&self) -> Turn
         ensures { result ≡ turn_of self.now }
     {
@@ -26,25 +27,24 @@ impl<'p, S: Shelf, D> Running<'p, S, D> {
             Want::Internal => Turn::Moved,
             Want::Send { .. } | Want::Print(_) if self.is_settled() => Turn::Moved,
             Want::Send { .. } | Want::Print(_) => Turn::Held,
-            Want::Receive(selector) if self.inbox.find(&selector).is_some() => Turn::Moved,
-            Want::Receive(_) => Turn::Blocked,
-            Want::Probe(_) | Want::TryProbe(_) => unreachable!(),
+            Want::Receive(selector) | Want::Probe(selector) if self.has(&selector) => Turn::Moved,
+            Want::Receive(_) | Want::Probe(_) => Turn::Blocked,
+            Want::TryProbe(_) => Turn::Moved,
             Want::Halted | Want::Faulted(_) => Turn::Ended,
         }
     }
 
     /// By which name a step would be refused, if it would be.
-    #[tactic(auto, using(rank_machine::proofs::NoProbe::not_probe, rank_machine::proofs::NoProbe::not_try_probe))]
     pub fn refusal(&self) -> Option<NodeFault>
         ensures { result ≡ refusal_of self.now }
     {
         match self.machine.wants() {
             Want::Send { .. } | Want::Print(_) if self.is_settled() => self.clock_refusal(),
-            Want::Receive(selector) if self.inbox.find(&selector).is_some() => {
+            Want::Receive(selector) | Want::Probe(selector) if self.has(&selector) => {
                 self.has_room().err()
             }
-            Want::Send { .. } | Want::Print(_) | Want::Receive(_) => None,
-            Want::Probe(_) | Want::TryProbe(_) => unreachable!(),
+            Want::TryProbe(_) => self.has_room().err(),
+            Want::Send { .. } | Want::Print(_) | Want::Receive(_) | Want::Probe(_) => None,
             Want::Internal | Want::Halted | Want::Faulted(_) => None,
         }
     }
@@ -62,6 +62,13 @@ impl<'p, S: Shelf, D> Running<'p, S, D> {
         ensures { result ≡ next_unstored self.now }
     {
         self.pending.get(self.stored).copied()
+    }
+
+    // Whether the inbox has a packet that the selector names.
+    fn has(&self, selector: &Selector) -> bool
+        ensures { result ≡ is_some (position (matches selector.now) self.now.inbox.packets) }
+    {
+        self.inbox.find(selector).is_some()
     }
 
     fn clock_refusal(&self) -> Option<NodeFault>

@@ -1,11 +1,10 @@
 //! The steps of a rank that runs.
 ghost use Rattle.std.specs.Prelude.{◌≡◌, ◌≢◌, ℕ, ◌+◌, ◌<◌, ◌≤◌, Some, None, true, IfOk, IfErr, OnOk, OnErr, IsErrOf};
-ghost use Rattle.metered.specs.Limits.{greatest_clock, greatest_sender, most_events};
-ghost use Rattle.plain_logger.specs.Event.{event_of};
-ghost use Rattle.plain_logger.specs.declared.kind.Kind.TheVariants as kind;
+ghost use Rattle.metered.specs.Limits.{greatest_clock, most_events};
 ghost use Rattle.rank_machine.specs.Wants.{IsLegal};
 ghost use Rattle.rank_machine.specs.Machine.{asks};
 
+use crate::events::naming;
 use crate::fault::NodeFault;
 use crate::running::Running;
 use crate::screen::Screen;
@@ -13,7 +12,7 @@ use crate::turn::Turn;
 use checkpoint::Shelf;
 use matching::{Context, Packet, Selector};
 use metered::limits::{GREATEST_CLOCK, MOST_EVENTS};
-use plain_logger::{Event, Kind};
+use plain_logger::Kind;
 use rank_machine::Want;
 
 impl<'p, S: Shelf, D> Running<'p, S, D> {
@@ -24,7 +23,6 @@ impl<'p, S: Shelf, D> Running<'p, S, D> {
 
     /// One step of the machine, or none where it is blocked, held or ended. A
     /// print is shown before the machine moves.
-    #[tactic(auto, using(rank_machine::proofs::NoProbe::not_probe, rank_machine::proofs::NoProbe::not_try_probe))]
     pub fn step<C: Screen>(&mut self, screen: &mut C) -> Result<Turn, NodeFault>
         ensures turn { IfOk result (λ turn. turn ≡ turn_of self.old) }
         ensures ok { OnOk result (self.new ≡ after_step self.old self.new.machine) }
@@ -45,7 +43,8 @@ impl<'p, S: Shelf, D> Running<'p, S, D> {
             }
             Want::Send { dest, context, tag } => self.send(dest, context, tag),
             Want::Receive(selector) => self.receive(&selector),
-            Want::Probe(_) | Want::TryProbe(_) => unreachable!(),
+            Want::Probe(selector) => self.probe(&selector),
+            Want::TryProbe(selector) => self.try_probe(&selector),
             Want::Print(value) => self.print(screen, value),
             Want::Halted | Want::Faulted(_) => Ok(Turn::Ended),
         }
@@ -104,7 +103,7 @@ impl<'p, S: Shelf, D> Running<'p, S, D> {
         };
         self.has_room()?;
         self.inbox.numbers_rise();
-        let event = reception(self.inbox.get(index), self.clock + 1);
+        let event = naming(Kind::Reception, self.inbox.get(index), self.clock + 1);
         self.pending.push_back(event)?;
         let packet = self.inbox.take(index);
         self.machine.give(packet);
@@ -161,17 +160,4 @@ impl<'p, S: Shelf, D> Running<'p, S, D> {
         }
         Ok(())
     }
-}
-
-// The event of a reception at this clock.
-fn reception(packet: &Packet, clock: u32) -> Event
-    requires source { packet.now.source ≤ greatest_sender }
-    requires low { 1 ≤ clock }
-    requires high { clock ≤ greatest_clock }
-    ensures { result ≡ event_of kind.Reception packet.now.source packet.now.clock clock }
-{
-    let Some(event) = Event::new(Kind::Reception, packet.source, packet.clock, clock) else {
-        unreachable!()
-    };
-    event
 }

@@ -2,7 +2,7 @@
 
 /// Is called by a run before each act of a rank.
 pub trait Hold {
-    /// `rank` is about to make the act of clock `clock`, a receive that turns
-    /// out to be blocked too. Internal steps aren't told.
+    /// `rank` is about to make the act of clock `clock`, a receive or a probe
+    /// that turns out to be blocked too. Internal steps aren't told.
     fn before(&self, rank: u8, clock: u32);
 }

@@ -10,7 +10,7 @@ pub enum End {
     /// After the program's last statement.
     Halted,
     Faulted(MachineFault),
-    /// At a receive that nothing was there for.
+    /// At a receive or a blocking probe that nothing was there for.
     Stalled,
     /// A limit of the run or of the rank was reached.
     Unfinished,

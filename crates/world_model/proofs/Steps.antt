@@ -1,7 +1,7 @@
 -- A step keeps what the world stands for. What the machine wants decides what the step is: going on, a send or a print
--- that passes at once, a reception whose event is pending, or nothing.
+-- that passes at once, a reception, a hit or a miss whose event is pending, or nothing.
 use Rattle.std.proofs.Common.{◌≡◌, ℕ, ℤ, ◌+◌, ◌<◌, ⊎_elim, Bool, true, false, List, [], ◌∷◌, ◌++◌, Option, Some, None, length, refl, sym, ap, subst}
-use Rattle.std.proofs.Common.{◌∙◌, arith, slice_get, slice_set, nat_lt, ◌==◌, if◌then◌else◌, MatchBool, is_some, position, option_and_then}
+use Rattle.std.proofs.Common.{◌∙◌, arith, slice_get, slice_set, nat_lt, ◌==◌, if◌then◌else◌, MatchBool, is_some, IsSomeAnd, position, option_and_then}
 use Rattle.std.proofs.lemmas.Bool.{eq-eqb, ne_eqb, lt-leb, ltb-true}
 use Rattle.std.proofs.lemmas.List.{length-set, append-nil}
 use Rattle.std.proofs.lemmas.Option.{get_or_from_slice_get}
@@ -18,17 +18,16 @@ use Rattle.rank_machine.specs.declared.want.Want.{Want}
 use Rattle.rank_machine.specs.declared.want.Want.TheVariants as want
 use Rattle.rank_machine.specs.Wants.{wants, payload}
 use Rattle.rank_machine.specs.Acts.{Act, Makes, Runs, sends, takes, hits, misses, prints, carried, next}
-use Rattle.rank_machine.specs.Machine.{MachineValue, state_of, asks, IsReceiving}
-use Rattle.rank_machine.proofs.Making.{asks_or, makes_sent, makes_printed, makes_taken}
+use Rattle.rank_machine.specs.Machine.{MachineValue, state_of, asks, IsReceiving, IsShowing, IsTrying}
+use Rattle.rank_machine.proofs.Making.{asks_or, makes_sent, makes_printed, makes_taken, makes_hit, makes_missed}
 use Rattle.rank_node.specs.declared.turn.Turn.TheVariants.{Moved, Held}
 use Rattle.rank_node.specs.declared.fault.NodeFault.TheVariants.{ClockSpent, Log}
 use Rattle.rank_node.specs.Node.{is_settled}
-use Rattle.rank_machine.proofs.NoProbe.{not_probe, not_try_probe}
-use Rattle.rank_node.specs.Steps.{turn_at, step_at, refusal_at, event_refusal, MachineStepAt, DidAct, Took, TakesFound, received, at_index}
-use Rattle.rank_node.specs.Steps.{message_of, after_send, after_print, after_reception, with_machine}
+use Rattle.rank_node.specs.Steps.{turn_at, step_at, refusal_at, event_refusal, MachineStepAt, DidAct, Took, WasShown, Missed, TakesFound, IsShownFound, TriesFound}
+use Rattle.rank_node.specs.Steps.{received, probed, tried, at_index, message_of, after_send, after_print, after_reception, after_probe, with_machine}
 use Rattle.ports.specs.declared.line.Line.{Line}
 use Rattle.ports.specs.Console.{after_line}
-use Rattle.crash_free.specs.Runs.{Passed, cons_if, history, sent, printed, sends_from, IsFree, continue}
+use Rattle.crash_free.specs.Runs.{Passed, cons_if, history, sent, printed, sends_from, probes, IsEligible, IsFree, continue}
 use Rattle.crash_free.proofs.Lists.{sends_from-push}
 use Rattle.crash_free.proofs.Going.{free_silent}
 use Rattle.world_model.specs.World.{Live, WorldValue, IsLive}
@@ -37,7 +36,7 @@ use Rattle.world_model.specs.Follows.{lines_after, effect_at, passed_at}
 use Rattle.world_model.specs.Stands.{start_at, LogStands, RankStands, StandsAt}
 use Rattle.world_model.proofs.Rows.{IsEffect, row_of_effect, effect_finds}
 use Rattle.world_model.proofs.Places.{replaced_keeps}
-use Rattle.world_model.proofs.Inboxes.{Found, found_at, matches_if_named, found_is_eligible, InboxStands-taken}
+use Rattle.world_model.proofs.Inboxes.{Found, found_at, matches_if_named, found_is_eligible, InboxStands-noted, InboxStands-taken}
 use Rattle.world_model.proofs.Logs.{LogStands-saved}
 use Rattle.world_model.proofs.Ranks.{after_effect, RankStands-moved, RankStands-effect, RankStands-event, RankStands-settled}
 use Rattle.world_model.proofs.Lines.{lines_after_print, printed_same}
@@ -215,6 +214,76 @@ module _ (n : ℕ) (w : WorldValue) (r : ℕ) (v : Live) (m : MachineValue) (s :
       go None f t = Stands-still
       go (Some p) f t = receiving selector e i p at f allowed t
 
+  -- a probe is shown the packet that was found, which stays in the inbox
+  showing : (x : Want) (selector : Selector) → asks v.rank.machine ≡ x → wants (state_of v.rank.machine) ≡ x → probes x ≡ Some selector
+      → ((q : packet.Message) → matches selector q ≡ true → IsShowing x q) → (i : ℕ) (p : packet.Message)
+      → position (matches selector) v.rank.inbox.packets ≡ Some i → slice_get v.rank.inbox.packets i ≡ Some p
+      → event_refusal v.rank ≡ None → WasShown p v.rank.machine m
+      → StandsAt n (changed w r (record { rank = after_probe v.rank m kind.Hit p.source p.clock; left = v.left }) w.logger w.lines w.run)
+  showing x selector e wants_it probe shows i p first at allowed shown =
+      Stands-rank n w r (record { rank = after_probe v.rank m kind.Hit p.source p.clock; left = v.left }) s
+      (RankStands-event (start_at w n) n w.run r v k (hits p.source p.number) (Some (carried p)) (event_of kind.Hit p.source p.clock (v.rank.clock + 1))
+      v.rank.inbox m
+      (makes_hit v.rank.machine p p.number (subst (λ z. IsShowing z p) (sym e) (shows p (matches_if_named selector p here.matching))))
+      (k.inbox.real i p at)
+      (subst (λ z. IsFree z (hits p.source p.number) (λ q. sent w.run q r) (history (continue w.run r k.acts) r)) (sym wants_it) free)
+      refl
+      (ltb-true v.rank.made most_events (few_made (v.rank.clock == greatest_clock) (nat_lt v.rank.made most_events) allowed))
+      (shown.state p.number)
+      k.counted
+      (InboxStands-noted v.rank.inbox (λ q. sent w.run q r) (history (continue w.run r k.acts) r) (hits p.source p.number, Some (carried p)) (λ q j. refl) k.inbox))
+    where
+      here : Found selector v.rank.inbox.packets i p
+      here = found_at selector v.rank.inbox.packets i p first at
+
+      free : IsFree x (hits p.source p.number) (λ q. sent w.run q r) (history (continue w.run r k.acts) r)
+      free =
+          subst (λ o. IsSomeAnd o (λ selector. IsEligible (λ q. sent w.run q r) (history (continue w.run r k.acts) r) p.source p.number selector)) (sym probe)
+          (found_is_eligible selector v.rank.inbox (λ q. sent w.run q r) (history (continue w.run r k.acts) r) i p k.inbox here)
+
+  -- a blocking probe finds a packet or is blocked
+  probing : (selector : Selector) → asks v.rank.machine ≡ want.Probe selector → (o : Option ℕ) → position (matches selector) v.rank.inbox.packets ≡ o
+      → (if is_some o then event_refusal v.rank else None) ≡ None
+      → IsShownFound (option_and_then (at_index v.rank.inbox.packets) o) v.rank.machine m
+      → StandsAt n (changed w r (record { rank = probed v.rank m (option_and_then (at_index v.rank.inbox.packets) o); left = v.left }) w.logger w.lines w.run)
+  probing selector e None at allowed steps = Stands-still
+  probing selector e (Some i) at allowed steps = go (slice_get v.rank.inbox.packets i) refl steps
+    where
+      go : (o : Option packet.Message) → slice_get v.rank.inbox.packets i ≡ o
+          → IsShownFound (option_and_then (λ p. Some (i, p)) o) v.rank.machine m
+          → StandsAt n (changed w r (record { rank = probed v.rank m (option_and_then (λ p. Some (i, p)) o); left = v.left }) w.logger w.lines w.run)
+      go None f t = Stands-still
+      go (Some p) f t = showing (want.Probe selector) selector e (wanted v.rank.machine (want.Probe selector) e (λ z. cc)) refl (λ q h. h) i p at f allowed t
+
+  -- a probe that doesn't wait misses
+  missing : (selector : Selector) → asks v.rank.machine ≡ want.TryProbe selector → event_refusal v.rank ≡ None → Missed v.rank.machine m
+      → StandsAt n (changed w r (record { rank = after_probe v.rank m kind.Miss 0 0; left = v.left }) w.logger w.lines w.run)
+  missing selector e allowed missed =
+      Stands-rank n w r (record { rank = after_probe v.rank m kind.Miss 0 0; left = v.left }) s
+      (RankStands-event (start_at w n) n w.run r v k misses None (event_of kind.Miss 0 0 (v.rank.clock + 1)) v.rank.inbox m
+      (makes_missed v.rank.machine (subst IsTrying (sym e) tt))
+      refl
+      (free_silent (wants (state_of v.rank.machine)) misses (λ q. sent w.run q r) (history (continue w.run r k.acts) r) tt)
+      refl
+      (ltb-true v.rank.made most_events (few_made (v.rank.clock == greatest_clock) (nat_lt v.rank.made most_events) allowed))
+      missed.state
+      k.counted
+      (InboxStands-noted v.rank.inbox (λ q. sent w.run q r) (history (continue w.run r k.acts) r) (misses, None) (λ q j. refl) k.inbox))
+
+  -- a probe that doesn't wait finds a packet or misses
+  trying : (selector : Selector) → asks v.rank.machine ≡ want.TryProbe selector → (o : Option ℕ) → position (matches selector) v.rank.inbox.packets ≡ o
+      → event_refusal v.rank ≡ None
+      → TriesFound (option_and_then (at_index v.rank.inbox.packets) o) v.rank.machine m
+      → StandsAt n (changed w r (record { rank = tried v.rank m (option_and_then (at_index v.rank.inbox.packets) o); left = v.left }) w.logger w.lines w.run)
+  trying selector e None at allowed steps = missing selector e allowed steps
+  trying selector e (Some i) at allowed steps = go (slice_get v.rank.inbox.packets i) refl steps
+    where
+      go : (o : Option packet.Message) → slice_get v.rank.inbox.packets i ≡ o
+          → TriesFound (option_and_then (λ p. Some (i, p)) o) v.rank.machine m
+          → StandsAt n (changed w r (record { rank = tried v.rank m (option_and_then (λ p. Some (i, p)) o); left = v.left }) w.logger w.lines w.run)
+      go None f t = missing selector e allowed t
+      go (Some p) f t = showing (want.TryProbe selector) selector e (wanted v.rank.machine (want.TryProbe selector) e (λ z. cc)) refl (λ q h. h) i p at f allowed t
+
   -- a step of a rank that isn't refused
   pub stepping : (x : Want) → asks v.rank.machine ≡ x → refusal_at v.rank x ≡ None → MachineStepAt v.rank x m
       → StandsAt n (changed w r (record { rank = step_at v.rank x m; left = v.left }) w.logger (lines_after w.lines r v.rank x (turn_at v.rank x)) (passed_at w.run r (v.rank.clock + 1) (effect_at v.rank x (turn_at v.rank x))))
@@ -228,8 +297,8 @@ module _ (n : ℕ) (w : WorldValue) (r : ℕ) (v : Live) (m : MachineValue) (s :
       go true settled did = sending d c t e did (settled_none v.rank.pending settled)
       go false settled same = Stands-still
   stepping (want.Receive selector) e allowed steps = finding selector e (position (matches selector) v.rank.inbox.packets) refl allowed steps
-  stepping (want.Probe selector) e allowed steps = absurd (not_probe v.rank.machine selector e)
-  stepping (want.TryProbe selector) e allowed steps = absurd (not_try_probe v.rank.machine selector e)
+  stepping (want.Probe selector) e allowed steps = probing selector e (position (matches selector) v.rank.inbox.packets) refl allowed steps
+  stepping (want.TryProbe selector) e allowed steps = trying selector e (position (matches selector) v.rank.inbox.packets) refl allowed steps
   stepping (want.Print x) e allowed steps = go (is_settled v.rank.pending) refl steps
     where
       go : (b : Bool) → is_settled v.rank.pending ≡ b → MatchBool b (DidAct v.rank.machine m) (m ≡ v.rank.machine)

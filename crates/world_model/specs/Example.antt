@@ -18,7 +18,7 @@ use Rattle.rank_language.specs.Placed.{Placed, number, variable, reading, operat
 use Rattle.rank_language.specs.Block.{Block, done, plain, if_else, lines_at}
 use Rattle.rank_language.specs.Program.{ProgramValue}
 use Rattle.rank_machine.specs.States.{State, opening, first_store, Inners, here, on}
-use Rattle.rank_machine.specs.Acts.{Message, sends, takes, prints, with_status, written}
+use Rattle.rank_machine.specs.Acts.{Message, sends, takes, hits, misses, prints, with_status, written}
 use Rattle.crash_free.specs.Runs.{Passed, at_place, sent, printed, IsRun, IsEligible, MayMake}
 use Rattle.world_model.specs.Rows.{row}
 
@@ -71,6 +71,16 @@ at_receive = record { store = first_store program 1 2; rest = receiving; fault =
 
 abbrev at_print : State
 at_print = record { store = with_status 0 message (written (into_variable 0) (pos 41 ∷ []) (first_store program 1 2)); rest = printing; fault = None }
+
+-- acts in which rank 1 probes: it misses, hits the message once that is sent, and takes it still
+abbrev P : List Passed
+P =
+    record { rank = 1; act = takes 0 1 } ∷ record { rank = 1; act = hits 0 1 }
+    ∷ record { rank = 0; act = sends 1 PointToPoint 7 (pos 41 ∷ []) } ∷ record { rank = 1; act = misses } ∷ []
+
+-- each of the three is an event, and the hit leaves the message for the reception
+row_in_P : row P 1 ≡ event_of kind.Miss 0 0 1 ∷ event_of kind.Hit 0 1 2 ∷ event_of kind.Reception 0 1 3 ∷ []
+row_in_P = refl
 
 none_before : (i : ℕ) (m : Message) → i < 1 → at_place (message ∷ []) i ≡ Some m → ⊥
 none_before zero m l e = cc

@@ -66,7 +66,7 @@ where_moved turn.Blocked act = None
 where_moved turn.Held act = None
 where_moved turn.Ended act = None
 
--- a send and a print pass as soon as they are made; what a rank receives passes when it is stored
+-- a send and a print pass as soon as they are made; a reception, a hit and a miss pass when they are stored
 abbrev pub effect_at : Rank → Want → Turn → Option Act
 effect_at v (want.Send dest context tag) t = where_moved t (sends dest context tag (payload (state_of v.machine)))
 effect_at v (want.Print value) t = where_moved t (prints value)
