@@ -93,6 +93,7 @@ impl Sim<'_> {
         Ok(())
     }
 
+    // The message stays, so that a later act may take it.
     pub(super) fn hit(
         &mut self,
         rank: u8,
