@@ -11,7 +11,7 @@ use std::sync::Wait;
 use std::thread::Threads;
 
 /// The words of each run, after the program's name.
-const RUNS: [&str; 40] = [
+const RUNS: [&str; 48] = [
     "run --ranks 2 answer.rank",
     "run --ranks 4 ring.rank",
     "run --ranks 2 ping_pong.rank",
@@ -33,6 +33,10 @@ const RUNS: [&str; 40] = [
     "run --ranks 1 array_index.rank",
     "run --ranks 1 bad_rank.rank",
     "run --ranks 1 bad_tag.rank",
+    "run --ranks 2 probe.rank",
+    "run --ranks 2 poll.rank",
+    "run --ranks 1 probe_status.rank",
+    "run --ranks 2 --idle 100 probe_stalled.rank",
     "run --ranks 1 fault_not_text.rank",
     "run --ranks 1 fault_not_a_statement.rank",
     "run --ranks 1 fault_bad_form.rank",
@@ -48,6 +52,10 @@ const RUNS: [&str; 40] = [
     "world --ranks 2 answer.rank answer.events",
     "world --ranks 2 overtaking.rank overtaking.events",
     "world --ranks 2 two_prints.rank two_prints.events",
+    "world --ranks 2 probing.rank missed.events",
+    "world --ranks 2 probing.rank shown.events",
+    "world --ranks 2 probing.rank too_late.events",
+    "world --ranks 2 probe.rank probe.events",
     "world --ranks 2 answer.rank cannot.events",
     "world --ranks 2 answer.rank bad_line.events",
     "world --ranks 2 answer.rank none.events",
