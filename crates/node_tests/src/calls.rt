@@ -6,6 +6,8 @@ use metered::Heap;
 use plain_logger::{Event, Kind, LoggerState};
 use rank_language::Program;
 use rank_node::{Arrived, Frame, NodeFault, Turn};
+use std::alloc::AllocError;
+use std::fmt::Write;
 use std::process::Abort;
 use std::test::*;
 
@@ -104,16 +106,24 @@ fn play(
     Ok(scene)
 }
 
-/// The row of rank 1 has just the receptions of these sender's and receiver's
-/// clocks, from rank 0.
-fn expect_row(rt: &impl Abort, logger: &LoggerState, clocks: &[(u32, u32)]) {
-    assert!(rt; logger.ranks() == 2);
-    let row = logger.row(1);
-    assert_eq!(rt; row.len(), clocks.len());
-    for (event, (sent, received)) in row.iter().zip(clocks) {
-        let want = Event::new(Kind::Reception, 0, *sent, *received);
-        assert_eq!(rt; Some(*event), want);
+/// What is left around a rank: its last line, and the rows of the logger.
+fn left(alloc: Heap, scene: Scene) -> Result<String<Heap>, AllocError> {
+    let mut text = format!(in alloc; "{:?}", scene.screen.line)?;
+    for row in scene.logger.into_rows().iter() {
+        write!(text, ";")?;
+        put_row(&mut text, row.as_slice())?;
     }
+    Ok(text)
+}
+
+/// Each event of a row.
+fn put_row(text: &mut String<Heap>, row: &[Event]) -> Result<(), AllocError> {
+    for event in row {
+        let (kind, sender) = (event.kind(), event.sender());
+        let (sent, received) = (event.sender_clock(), event.receiver_clock());
+        write!(text, " {kind:?} {sender}@{sent} at {received}")?;
+    }
+    Ok(())
 }
 
 const TAKES_AND_PRINTS: &[u8] = b"var x
@@ -195,35 +205,43 @@ fn logger_with(alloc: Heap, later: Option<u32>) -> Result<LoggerState, Fail> {
     Ok(logger)
 }
 
-#[test]
-fn calls_on_rank_one_of_two(rt: HostRuntime) -> Result<(), Fail> {
-    for (text, calls, later, line, row) in [
-        (
-            TAKES_AND_PRINTS,
-            PRINTS,
-            None,
-            Some((1, 2, 11)),
-            [(1, 1)].as_slice(),
-        ),
-        (
-            TAKES_TWICE_AND_SENDS,
-            SENDS,
-            None,
-            None,
-            [(1, 1), (2, 2)].as_slice(),
-        ),
-        (
-            TAKES_AND_PRINTS,
-            IS_REFUSED,
-            Some(9),
-            None,
-            [(1, 9)].as_slice(),
-        ),
-    ] {
-        let logger = logger_with(rt.alloc(), later)?;
-        let scene = play(&rt, rt.alloc(), text, logger, calls)?;
-        assert_eq!(rt; scene.screen.line, line, "{calls:?}");
-        expect_row(&rt, &scene.logger, row);
+/// A rank's program, the calls on it, the clock of the reception that the logger has already, and what is left around the rank.
+type Play = (&'static [u8], &'static [Call], Option<u32>, &'static str);
+
+const PLAYS: [Play; 3] = [
+    (
+        TAKES_AND_PRINTS,
+        PRINTS,
+        None,
+        "Some((1, 2, 11));; Reception 0@1 at 1",
+    ),
+    (
+        TAKES_TWICE_AND_SENDS,
+        SENDS,
+        None,
+        "None;; Reception 0@1 at 1 Reception 0@2 at 2",
+    ),
+    (
+        TAKES_AND_PRINTS,
+        IS_REFUSED,
+        Some(9),
+        "None;; Reception 0@1 at 9",
+    ),
+];
+
+/// Plays each of these.
+fn play_all(rt: &impl Abort, alloc: Heap, plays: &[Play]) -> Result<(), Fail> {
+    for row in plays {
+        let (text, calls, later, want) = *row;
+        let logger = logger_with(alloc, later)?;
+        let scene = play(rt, alloc, text, logger, calls)?;
+        let found = left(alloc, scene)?;
+        assert_eq!(rt; found.as_str(), want, "{calls:?}");
     }
     Ok(())
+}
+
+#[test]
+fn calls_on_rank_one_of_two(rt: HostRuntime) -> Result<(), Fail> {
+    play_all(&rt, rt.alloc(), &PLAYS)
 }

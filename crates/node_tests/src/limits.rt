@@ -1,7 +1,7 @@
 //! Ranks at their limits: the last of eight, messages of 256 items, and 300 packets through one rank.
 ghost use Rattle.std.specs.Prelude.{◌≡◌, ◌<◌, ◌≤◌, length};
 
-use crate::outgoing::{next_packet, notes, passes};
+use crate::outgoing::{Outgoing, next_packet, notes, passes};
 use crate::scenes::{LastLine, Rank, packet, start};
 use matching::{Context, Packet};
 use metered::Heap;
@@ -84,28 +84,65 @@ end
 print x + source
 ";
 
-// Packets for two ranks wait at once, each with the next number of its pair of ranks, and none for a third.
-fn two_destinations(rt: &impl Abort, rank: &mut Rank) -> Result<(), Fail>
+/// What goes to rank 0 next, what goes to rank 3, and to which rank something passes then.
+const OUTGOING: [(Outgoing, Outgoing, u8); 3] = [
+    (Some((1, 1, 1, Some(10))), Some((1, 2, 1, Some(20))), 0),
+    (Some((2, 3, 1, Some(30))), Some((1, 2, 1, Some(20))), 3),
+    (Some((2, 3, 1, Some(30))), None, 0),
+];
+
+// Packets for two ranks wait at once, each with the next number of its pair of ranks.
+fn pass_to_two(
+    rt: &impl Abort,
+    rank: &mut Rank,
+    rows: &[(Outgoing, Outgoing, u8)],
+) -> Result<(), Fail>
     requires size { rank.old.stable.size ≡ 8 }
     ensures { rank.new.stable ≡ rank.old.stable }
 {
-    for wanted in [
-        (Some((1, 1, 1, Some(10))), Some((1, 2, 1, Some(20))), 0),
-        (Some((2, 3, 1, Some(30))), Some((1, 2, 1, Some(20))), 3),
-        (Some((2, 3, 1, Some(30))), None, 0),
-        (None, None, 7),
-    ] {
-        let (to_0, to_3, passed) = wanted;
+    for row in rows {
+        let (to_0, to_3, passed) = *row;
         assert!(rt; passed < 8);
         assert_eq!(rt; next_packet(rank, 0)?, to_0);
         assert_eq!(rt; next_packet(rank, 3)?, to_3);
-        for dest in [1, 2, 4, 5, 6, 7] {
-            assert!(rt; dest < 8);
-            assert_eq!(rt; next_packet(rank, dest)?, None, "to {dest}");
-        }
-        assert_eq!(rt; passes(rank, passed)?, passed < 7, "to {passed}");
+        nothing_outgoing(rt, rank, &OTHERS)?;
+        assert!(rt; passes(rank, passed)?, "to {passed}");
     }
     Ok(())
+}
+
+/// The ranks that get nothing.
+const OTHERS: [u8; 6] = [1, 2, 4, 5, 6, 7];
+
+// Nothing goes to these ranks.
+fn nothing_outgoing(rt: &impl Abort, rank: &Rank, ranks: &[u8]) -> Result<(), NodeFault>
+    requires size { rank.now.stable.size ≡ 8 }
+{
+    for dest in ranks {
+        assert!(rt; *dest < 8);
+        assert_eq!(rt; next_packet(rank, *dest)?, None, "to {dest}");
+    }
+    Ok(())
+}
+
+// A packet of each other rank is accepted.
+fn take_of_each(rt: &impl Abort, alloc: Heap, rank: &mut Rank) -> Result<(), Fail>
+    requires size { rank.old.stable.size ≡ 8 }
+    ensures { rank.new.stable ≡ rank.old.stable }
+{
+    for source in 0..7 {
+        accepts(rt, rank, source, packet(alloc, source, 1)?)?;
+    }
+    Ok(())
+}
+
+// The last of eight rows has seven events, and no other row has one.
+fn rows_of_the_last(rt: &impl Abort, logger: LoggerState) {
+    let rows = logger.into_rows();
+    assert_eq!(rt; rows.len(), 8);
+    for (who, row) in rows.iter().enumerate() {
+        assert_eq!(rt; row.len(), if who == 7 { 7 } else { 0 }, "row {who}");
+    }
 }
 
 fn work_as_the_last(rt: &impl Abort, alloc: Heap, rank: &mut Rank) -> Result<(), Fail>
@@ -114,17 +151,14 @@ fn work_as_the_last(rt: &impl Abort, alloc: Heap, rank: &mut Rank) -> Result<(),
 {
     let mut around = nothing_around(alloc)?;
     assert_eq!(rt; work(rt, rank, &mut around)?, (6, 0));
-    two_destinations(rt, rank)?;
-    for source in 0..7 {
-        accepts(rt, rank, source, packet(alloc, source, 1)?)?;
-    }
+    pass_to_two(rt, rank, &OUTGOING)?;
+    nothing_outgoing(rt, rank, &[0, 1, 2, 3, 4, 5, 6, 7])?;
+    assert!(rt; !passes(rank, 7)?);
+    take_of_each(rt, alloc, rank)?;
     // The print is held once for each of the seven events.
     assert_eq!(rt; work(rt, rank, &mut around)?, (29, 7));
     assert_eq!(rt; around.screen.line, Some((7, 11, 16)));
-    assert_eq!(rt; around.logger.ranks(), 8);
-    for (who, row) in around.logger.into_rows().iter().enumerate() {
-        assert_eq!(rt; row.len(), if who == 7 { 7 } else { 0 }, "row {who}");
-    }
+    rows_of_the_last(rt, around.logger);
     Ok(())
 }
 
@@ -203,14 +237,23 @@ fn gave_back(rt: &impl Abort, rank: &mut Rank, first: u32) -> Result<(), Fail>
     Ok(())
 }
 
+// 300 packets of rank 1 are accepted.
+fn take_300(rt: &impl Abort, alloc: Heap, rank: &mut Rank) -> Result<(), Fail>
+    requires size { rank.old.stable.size ≡ 8 }
+    ensures { rank.new.stable ≡ rank.old.stable }
+{
+    for number in 1..=300 {
+        accepts(rt, rank, 1, packet(alloc, 1, number)?)?;
+    }
+    Ok(())
+}
+
 fn give_300_back(rt: &impl Abort, alloc: Heap, rank: &mut Rank) -> Result<(), Fail>
     requires size { rank.old.stable.size ≡ 8 }
     requires number { rank.old.stable.rank ≡ 0 }
 {
     let mut around = nothing_around(alloc)?;
-    for number in 1..=300 {
-        accepts(rt, rank, 1, packet(alloc, 1, number)?)?;
-    }
+    take_300(rt, alloc, rank)?;
     assert_eq!(rt; work(rt, rank, &mut around)?, (1504, 300));
     assert_eq!(rt; around.screen.line, Some((0, 601, 300)));
     gave_back(rt, rank, 1)?;
@@ -241,25 +284,37 @@ while 1
 end
 ";
 
-// As many events as a rank may make, and then a refusal, as often as it is asked.
-fn make_4096_events(rt: &impl Abort, alloc: Heap, rank: &mut Rank) -> Result<(), Fail>
+// As many events as a rank may make, each of a packet of rank 1.
+fn take_on(rt: &impl Abort, alloc: Heap, rank: &mut Rank, screen: &mut LastLine) -> Result<(), Fail>
     requires size { rank.old.stable.size ≡ 8 }
-    requires number { rank.old.stable.rank ≡ 0 }
+    ensures { rank.new.stable ≡ rank.old.stable }
 {
-    let mut screen = LastLine { line: None };
     for number in 1..=4096 {
         accepts(rt, rank, 1, packet(alloc, 1, number)?)?;
         assert_eq!(rt; rank.stride(9), 2, "before event {number}");
-        assert_eq!(rt; rank.step(&mut screen)?, Turn::Moved, "event {number}");
+        assert_eq!(rt; rank.step(screen)?, Turn::Moved, "event {number}");
     }
+    Ok(())
+}
+
+// One more event is refused, as often as it is asked for.
+fn refuses_the_next(rt: &impl Abort, rank: &mut Rank, screen: &mut LastLine) {
+    for _ in 0..2 {
+        assert_eq!(rt; rank.refusal(), Some(NodeFault::Log));
+        assert_eq!(rt; rank.step(screen), Err(NodeFault::Log));
+        assert_eq!(rt; rank.clock(), 4096);
+    }
+}
+
+fn make_4096_events(rt: &impl Abort, alloc: Heap, rank: &mut Rank) -> Result<(), Fail>
+    requires size { rank.old.stable.size ≡ 8 }
+{
+    let mut screen = LastLine { line: None };
+    take_on(rt, alloc, rank, &mut screen)?;
     assert_eq!(rt; rank.stride(9), 2);
     assert_eq!(rt; rank.step(&mut screen), Ok(Turn::Blocked));
     accepts(rt, rank, 1, packet(alloc, 1, 4097)?)?;
-    for _ in 0..2 {
-        assert_eq!(rt; rank.refusal(), Some(NodeFault::Log));
-        assert_eq!(rt; rank.step(&mut screen), Err(NodeFault::Log));
-        assert_eq!(rt; rank.clock(), 4096);
-    }
+    refuses_the_next(rt, rank, &mut screen);
     Ok(())
 }
 

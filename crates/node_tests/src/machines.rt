@@ -6,7 +6,27 @@ use matching::{Context, Packet};
 use metered::Heap;
 use rank_language::Program;
 use rank_machine::{Machine, Want};
+use std::alloc::AllocError;
+use std::process::Abort;
 use std::test::*;
+
+/// A program's text, and what its machine shows.
+pub type Row = (&'static str, &'static str);
+
+/// Looks at what each of these programs shows where no message comes.
+pub fn shows(rt: &impl Abort, alloc: Heap, rows: &[Row]) -> Result<(), Fail> {
+    for row in rows {
+        let (text, want) = *row;
+        let got = outcome(alloc, text, None)?;
+        same(rt, text, got.as_str(), want);
+    }
+    Ok(())
+}
+
+/// What is found is what is wanted, in this case.
+pub fn same(rt: &impl Abort, case: &str, found: &str, wanted: &str) {
+    assert_eq!(rt; found, wanted, "at {case:?}");
+}
 
 /// What rank 1 of 3 prints and sends, and what it wants that is no step of its own, no print, no send and no receive of
 /// the packet.

@@ -1,10 +1,10 @@
 //! Each rank of each size, as a machine and at work.
 
-use crate::scenes::{LastLine, start};
+use crate::scenes::{LastLine, Rank, start};
 use metered::Heap;
 use rank_language::Program;
 use rank_machine::{Machine, Want};
-use rank_node::Turn;
+use rank_node::{NodeFault, Turn};
 use std::process::Abort;
 use std::test::*;
 
@@ -18,11 +18,9 @@ fn begin_machine(
 ) -> Result<(), Fail> {
     assert!(rt; rank < size);
     let machine = Machine::new(alloc, program, rank, size)?;
-    assert_eq!(rt;
-        (machine.rank(), machine.size(), machine.position()),
-        (rank, size, 0)
-    );
+    let begun = (machine.rank(), machine.size(), machine.position());
     let want = Want::Print(10 * i64::from(rank) + i64::from(size));
+    assert_eq!(rt; begun, (rank, size, 0));
     assert_eq!(rt; machine.wants(), want, "rank {rank} of {size}");
     Ok(())
 }
@@ -32,34 +30,40 @@ fn begin_rank(
     rt: &impl Abort,
     alloc: Heap,
     program: &Program,
-    number: u8,
+    rank: u8,
     size: u8,
 ) -> Result<(), Fail> {
-    assert!(rt; number < size && size <= 8);
+    assert!(rt; rank < size && size <= 8);
+    let (turn, clock, line) = first_act(start(alloc, program, rank, size)?);
+    let value = 10 * i64::from(rank) + i64::from(size);
+    assert_eq!(rt; (turn, clock), (Ok(Turn::Moved), 1));
+    assert_eq!(rt; line, Some((rank, 1, value)), "rank {rank} of {size}");
+    Ok(())
+}
+
+/// What a rank answers to its first step, its clock then, and the line on the screen.
+fn first_act(rank: Rank) -> (Result<Turn, NodeFault>, u32, Option<(u8, u32, i64)>) {
+    let mut rank = rank;
     let mut screen = LastLine { line: None };
-    let mut rank = start(alloc, program, number, size)?;
     let turn = rank.step(&mut screen);
     let clock = rank.clock();
     let _ = rank.retire().parts();
-    assert_eq!(rt; turn, Ok(Turn::Moved), "rank {number} of {size}");
-    assert_eq!(rt; clock, 1);
-    let want = 10 * i64::from(number) + i64::from(size);
-    assert_eq!(rt;
-        screen.line,
-        Some((number, 1, want)),
-        "rank {number} of {size}"
-    );
+    (turn, clock, screen.line)
+}
+
+/// Each rank of each size.
+fn begin_all(rt: &impl Abort, alloc: Heap, program: &Program) -> Result<(), Fail> {
+    for size in 1..=8 {
+        for rank in 0..size {
+            begin_machine(rt, alloc, program, rank, size)?;
+            begin_rank(rt, alloc, program, rank, size)?;
+        }
+    }
     Ok(())
 }
 
 #[test]
 fn each_rank_of_each_size_begins(rt: HostRuntime) -> Result<(), Fail> {
     let program = Program::parse(rt.alloc(), b"print 10 * rank + size")?;
-    for size in 1..=8 {
-        for rank in 0..size {
-            begin_machine(&rt, rt.alloc(), &program, rank, size)?;
-            begin_rank(&rt, rt.alloc(), &program, rank, size)?;
-        }
-    }
-    Ok(())
+    begin_all(&rt, rt.alloc(), &program)
 }

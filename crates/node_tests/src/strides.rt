@@ -39,54 +39,81 @@ fn stride_by_stride(
 ) -> Result<(u32, u32), Fail> {
     let mut machine = Machine::new(alloc, program, 0, 1)?;
     let mut slow = Machine::new(alloc, program, 0, 1)?;
+    let (strides, steps) = stride_on(rt, &mut machine, &mut slow, most);
+    let want = if most == 0 {
+        (Want::Internal, 0)
+    } else {
+        (Want::Print(1000), 4)
+    };
+    assert_eq!(rt; (machine.wants(), machine.position()), want);
+    Ok((strides, steps))
+}
+
+// Strides of the one machine and steps of the other, until no stride makes a step.
+fn stride_on(rt: &impl Abort, machine: &mut Machine, slow: &mut Machine, most: u32) -> (u32, u32) {
     let mut strides = 0u32;
     let mut steps = 0u32;
     for _ in 0..4000 {
         let made = machine.advance(most);
-        assert_eq!(rt; step_by_step(&mut slow, made), made, "strides of {most}");
-        assert_eq!(rt; machine.position(), slow.position(), "strides of {most}");
-        assert_eq!(rt; machine.wants(), slow.wants(), "strides of {most}");
+        assert_eq!(rt; step_by_step(slow, made), made, "strides of {most}");
+        assert_eq!(rt;
+            (machine.position(), machine.wants()),
+            (slow.position(), slow.wants()),
+            "strides of {most}"
+        );
         if made == 0 {
             break;
         }
         strides = strides.saturating_add(1);
         steps = steps.saturating_add(made);
     }
-    assert_eq!(rt;
-        machine.wants(),
-        if most == 0 {
-            Want::Internal
-        } else {
-            Want::Print(1000)
-        }
-    );
-    assert_eq!(rt; machine.position(), if most == 0 { 0 } else { 4 });
-    Ok((strides, steps))
+    (strides, steps)
 }
 
+/// The most steps of a stride, how many strides then make steps, and how many steps.
+const STRIDES: [(u32, u32, u32); 7] = [
+    (0, 0, 0),
+    (1, 3002, STEPS),
+    (7, 429, STEPS),
+    (1024, 3, STEPS),
+    (3001, 2, STEPS),
+    (3002, 1, STEPS),
+    (4294967295, 1, STEPS),
+];
+
 // A machine strides as it steps.
-fn machine_strides(rt: &impl Abort, alloc: Heap, program: &Program) -> Result<(), Fail> {
-    for (most, strides, steps) in [
-        (0, 0, 0),
-        (1, 3002, STEPS),
-        (7, 429, STEPS),
-        (1024, 3, STEPS),
-        (3001, 2, STEPS),
-        (3002, 1, STEPS),
-        (4294967295, 1, STEPS),
-    ] {
+fn machine_strides(
+    rt: &impl Abort,
+    alloc: Heap,
+    program: &Program,
+    rows: &[(u32, u32, u32)],
+) -> Result<(), Fail> {
+    for row in rows {
+        let (most, strides, steps) = *row;
         let got = stride_by_stride(rt, alloc, program, most)?;
         assert_eq!(rt; got, (strides, steps), "strides of {most}");
     }
     Ok(())
 }
 
-// Each stride goes on where the one before ended, and the print is then one step.
-fn rank_strides(rt: &impl Abort, rank: &mut Rank) -> Result<(), Fail> {
-    for (most, made) in [(0, 0), (1, 1), (7, 7), (1024, 1024), (4000, 1970), (5, 0)] {
-        assert_eq!(rt; rank.stride(most), made, "a stride of {most}");
-        assert_eq!(rt; rank.clock(), 0);
+/// The most steps of each stride of a rank, and how many it makes.
+const ONWARD: [(u32, u32); 6] = [(0, 0), (1, 1), (7, 7), (1024, 1024), (4000, 1970), (5, 0)];
+
+// Each stride goes on where the one before ended.
+fn stride_onward(rt: &impl Abort, rank: &mut Rank, rows: &[(u32, u32)]) {
+    for row in rows {
+        let (most, made) = *row;
+        assert_eq!(rt;
+            (rank.stride(most), rank.clock()),
+            (made, 0),
+            "a stride of {most}"
+        );
     }
+}
+
+// The print is then one step.
+fn rank_strides(rt: &impl Abort, rank: &mut Rank) -> Result<(), Fail> {
+    stride_onward(rt, rank, &ONWARD);
     assert_eq!(rt; rank.wants(), Want::Print(1000));
     let mut screen = LastLine { line: None };
     assert_eq!(rt; rank.step(&mut screen)?, Turn::Moved);
@@ -98,7 +125,7 @@ fn rank_strides(rt: &impl Abort, rank: &mut Rank) -> Result<(), Fail> {
 #[test]
 fn strides_lead_where_steps_do(rt: HostRuntime) -> Result<(), Fail> {
     let program = Program::parse(rt.alloc(), COUNTS)?;
-    machine_strides(&rt, rt.alloc(), &program)?;
+    machine_strides(&rt, rt.alloc(), &program, &STRIDES)?;
     let mut rank = start(rt.alloc(), &program, 0, 1)?;
     let outcome = rank_strides(&rt, &mut rank);
     let _ = rank.retire().parts();

@@ -11,8 +11,19 @@ use std::process::Abort;
 use std::test::*;
 use world_model::World;
 
-/// A choice of a rank, and what is answered.
-pub type Move = (u8, Choice, Result<(), NotAllowed>);
+/// A choice, as the tables write it.
+#[derive(Clone, Copy)]
+pub enum Pick {
+    /// The step of its own, the send or the print.
+    Next,
+    /// What this source sent at this place, from 1.
+    Take(u32, u64),
+    /// No message.
+    Miss,
+}
+
+/// What a rank is to do, and what is answered.
+pub type Move = (u8, Pick, Result<(), NotAllowed>);
 
 /// Rank 0 sends 41 to rank 1, which prints one more.
 pub const ONE_MESSAGE: &[u8] =
@@ -80,18 +91,44 @@ let n = n + 1
 end
 ";
 
+/// The choice that is meant.
+fn choice_of(pick: Pick) -> Choice {
+    match pick {
+        Pick::Next => Choice::Next,
+        Pick::Take(source, index) => take(source, index),
+        Pick::Miss => Choice::Miss,
+    }
+}
+
 /// Takes the message at a place, from 1, of what a source sent.
-pub const fn take(source: u32, index: u64) -> Choice
-    ensures { result ≡ Choice.Take source index }
-{
+pub fn take(source: u32, index: u64) -> Choice {
     Choice::Take { source, index }
 }
 
 /// Plays moves, each with its answer.
 pub fn play(rt: &impl Abort, sim: &mut Sim, moves: &[Move]) {
-    for (rank, choice, want) in moves {
-        assert!(rt; *rank < sim.ranks());
-        assert_eq!(rt; sim.act(*rank, *choice), *want, "{rank}: {choice:?}");
+    for one in moves {
+        let (rank, pick, want) = *one;
+        make(rt, sim, rank, choice_of(pick), want);
+    }
+}
+
+/// Makes one choice of a rank, with its answer.
+pub fn make(
+    rt: &impl Abort,
+    sim: &mut Sim,
+    rank: u8,
+    choice: Choice,
+    want: Result<(), NotAllowed>,
+) {
+    assert!(rt; rank < sim.ranks());
+    assert_eq!(rt; sim.act(rank, choice), want, "{rank}: {choice:?}");
+}
+
+/// A rank goes on so many times, where there is nothing to choose.
+pub fn go_on(rt: &impl Abort, sim: &mut Sim, rank: u8, times: u32) {
+    for _ in 0..times {
+        make(rt, sim, rank, Choice::Next, Ok(()));
     }
 }
 
@@ -114,6 +151,9 @@ pub fn world_shown(
     Ok(text?)
 }
 
+/// An event of a world, and its reply.
+pub type Row = (&'static str, &'static str);
+
 /// Compares a world's whole text with the replies that stand beside the
 /// events, and then these lines.
 pub fn compare_world(
@@ -121,21 +161,35 @@ pub fn compare_world(
     alloc: Heap,
     program: &[u8],
     ranks: u8,
-    table: &[(&str, &str)],
+    table: &[Row],
     lines: &str,
 ) -> Result<(), Fail>
     requires { ranks ≤ most_ranks }
 {
-    let mut events = Vec::new(alloc);
-    let mut want = String::new(alloc);
-    for (event, reply) in table {
-        events.extend_from_slice(event.as_bytes())?;
-        events.push(b'\n')?;
-        want.push_str(reply)?;
-        want.push('\n')?;
-    }
-    want.push_str(lines)?;
-    let text = world_shown(alloc, program, ranks, events.as_slice())?;
+    let events = events_of(alloc, table)?;
+    let want = replies_of(alloc, table, lines)?;
+    let text = world_shown(alloc, program, ranks, events.as_bytes())?;
     assert_eq!(rt; text.as_str(), want.as_str(), "a world of {ranks} ranks");
     Ok(())
+}
+
+/// The events of a table, a line each.
+fn events_of(alloc: Heap, table: &[Row]) -> Result<String<Heap>, AllocError> {
+    let mut events = String::new(alloc);
+    for (event, _) in table {
+        events.push_str(event)?;
+        events.push('\n')?;
+    }
+    Ok(events)
+}
+
+/// The replies of a table, a line each, and these lines.
+fn replies_of(alloc: Heap, table: &[Row], lines: &str) -> Result<String<Heap>, AllocError> {
+    let mut replies = String::new(alloc);
+    for (_, reply) in table {
+        replies.push_str(reply)?;
+        replies.push('\n')?;
+    }
+    replies.push_str(lines)?;
+    Ok(replies)
 }

@@ -2,7 +2,10 @@
 ghost use Rattle.std.specs.Prelude.{◌≤◌};
 ghost use Rattle.metered.specs.Limits.{most_ranks};
 
-use crate::scenes::{LONG_MESSAGE, MANY_MESSAGES, ONE_MESSAGE, RING, THREE_MESSAGES, play, take};
+use crate::scenes::Pick::{Miss, Next, Take};
+use crate::scenes::{
+    LONG_MESSAGE, MANY_MESSAGES, Move, ONE_MESSAGE, RING, THREE_MESSAGES, go_on, make, play, take,
+};
 use crash_free::{Choice, NotAllowed, Sim};
 use metered::Heap;
 use rank_language::Program;
@@ -15,67 +18,91 @@ const WANTS_OTHER: Result<(), NotAllowed> = Err(NotAllowed::WantsOther);
 
 const ENDED: Result<(), NotAllowed> = Err(NotAllowed::Ended);
 
-/// Compares the number and the text of a refusal.
-fn compare_refusal(
+/// Moves of two ranks, of which rank 0 sends one message to rank 1.
+const MOVES: [Move; 24] = [
+    (0, Next, Ok(())),
+    (0, Next, Ok(())),
+    (0, Take(1, 1), WANTS_OTHER),
+    (1, Miss, WANTS_OTHER),
+    (1, Next, Ok(())),
+    (1, Next, Ok(())),
+    (1, Take(0, 1), NOT_ELIGIBLE),
+    (0, Next, Ok(())),
+    (0, Next, Ok(())),
+    (0, Next, ENDED),
+    (1, Take(0, 0), NOT_ELIGIBLE),
+    (1, Take(0, 2), NOT_ELIGIBLE),
+    (1, Take(1, 1), NOT_ELIGIBLE),
+    (1, Take(9, 1), NOT_ELIGIBLE),
+    (1, Take(256, 1), NOT_ELIGIBLE),
+    (1, Miss, WANTS_OTHER),
+    (1, Next, WANTS_OTHER),
+    (1, Take(0, 1), Ok(())),
+    (1, Take(0, 1), WANTS_OTHER),
+    (1, Next, Ok(())),
+    (1, Next, Ok(())),
+    (1, Next, ENDED),
+    (1, Miss, ENDED),
+    (1, Take(9, 1), ENDED),
+];
+
+/// Each refusal, with its number and its text.
+const REFUSALS: [(NotAllowed, u8, &str); 4] = [
+    (NotAllowed::WantsOther, 1, "the rank wants something else"),
+    (NotAllowed::NotEligible, 2, "the message may not be taken"),
+    (NotAllowed::Ended, 3, "the rank has ended"),
+    (NotAllowed::Memory, 4, "out of memory"),
+];
+
+/// Compares the number and the text of each refusal.
+fn compare_refusals(
     rt: &impl Abort,
     alloc: Heap,
-    refusal: NotAllowed,
-    number: u8,
-    text: &str,
+    rows: &[(NotAllowed, u8, &str)],
 ) -> Result<(), Fail> {
-    let shown = format!(in alloc; "{refusal}")?;
-    assert_eq!(rt; refusal.number(), number, "the number");
-    assert_eq!(rt; shown.as_str(), text, "the text");
+    for row in rows {
+        let (refusal, number, text) = *row;
+        let shown = format!(in alloc; "{refusal}")?;
+        assert_eq!(rt; (refusal.number(), shown.as_str()), (number, text));
+    }
+    Ok(())
+}
+
+/// Plays moves of two ranks of this program.
+fn play_two(rt: &impl Abort, alloc: Heap, text: &[u8], moves: &[Move]) -> Result<(), Fail> {
+    let program = Program::parse(alloc, text)?;
+    let mut sim = Sim::new(alloc, &program, 2)?;
+    play(rt, &mut sim, moves);
     Ok(())
 }
 
 #[test]
 fn each_refusal(rt: HostRuntime) -> Result<(), Fail> {
-    let program = Program::parse(rt.alloc(), ONE_MESSAGE)?;
-    let mut sim = Sim::new(rt.alloc(), &program, 2)?;
-    play(
-        &rt,
-        &mut sim,
-        &[
-            (0, Choice::Next, Ok(())),
-            (0, Choice::Next, Ok(())),
-            (0, take(1, 1), WANTS_OTHER),
-            (1, Choice::Miss, WANTS_OTHER),
-            (1, Choice::Next, Ok(())),
-            (1, Choice::Next, Ok(())),
-            (1, take(0, 1), NOT_ELIGIBLE),
-            (0, Choice::Next, Ok(())),
-            (0, Choice::Next, Ok(())),
-            (0, Choice::Next, ENDED),
-            (1, take(0, 0), NOT_ELIGIBLE),
-            (1, take(0, 2), NOT_ELIGIBLE),
-            (1, take(1, 1), NOT_ELIGIBLE),
-            (1, take(9, 1), NOT_ELIGIBLE),
-            (1, take(256, 1), NOT_ELIGIBLE),
-            (1, Choice::Miss, WANTS_OTHER),
-            (1, Choice::Next, WANTS_OTHER),
-            (1, take(0, 1), Ok(())),
-            (1, take(0, 1), WANTS_OTHER),
-            (1, Choice::Next, Ok(())),
-            (1, Choice::Next, Ok(())),
-            (1, Choice::Next, ENDED),
-            (1, Choice::Miss, ENDED),
-            (1, take(9, 1), ENDED),
-        ],
-    );
-    for (refusal, number, text) in [
-        (NotAllowed::WantsOther, 1u8, "the rank wants something else"),
-        (NotAllowed::NotEligible, 2, "the message may not be taken"),
-        (NotAllowed::Ended, 3, "the rank has ended"),
-        (NotAllowed::Memory, 4, "out of memory"),
-    ] {
-        compare_refusal(&rt, rt.alloc(), refusal, number, text)?;
-    }
-    Ok(())
+    play_two(&rt, rt.alloc(), ONE_MESSAGE, &MOVES)?;
+    compare_refusals(&rt, rt.alloc(), &REFUSALS)
 }
 
-/// What rank 1 may take of the three, each after those above it; its first
-/// receive is of tag 7 with two ranks, of tag 8 with three.
+/// What rank 1 may take of the three messages of rank 0, by their numbers: of two ranks its first receive is of tag 7.
+const TAKES_OF_TWO: [(u64, Result<(), NotAllowed>); 7] = [
+    (2, NOT_ELIGIBLE),
+    (3, NOT_ELIGIBLE),
+    (1, Ok(())),
+    (1, NOT_ELIGIBLE),
+    (3, NOT_ELIGIBLE),
+    (2, Ok(())),
+    (3, WANTS_OTHER),
+];
+
+/// And of three ranks it is of tag 8.
+const TAKES_OF_THREE: [(u64, Result<(), NotAllowed>); 5] = [
+    (1, NOT_ELIGIBLE),
+    (3, Ok(())),
+    (3, NOT_ELIGIBLE),
+    (2, NOT_ELIGIBLE),
+    (1, Ok(())),
+];
+
+/// What rank 1 may take of the three, each after those above it.
 fn take_three(
     rt: &impl Abort,
     alloc: Heap,
@@ -87,43 +114,49 @@ fn take_three(
 {
     let program = Program::parse(alloc, THREE_MESSAGES)?;
     let mut sim = Sim::new(alloc, &program, ranks)?;
-    play(rt, &mut sim, &[(0, Choice::Next, Ok(())); 5]);
-    play(rt, &mut sim, &[(1, Choice::Next, Ok(())); 2]);
-    for (index, want) in takes {
-        play(rt, &mut sim, &[(1, take(0, *index), *want)]);
+    go_on(rt, &mut sim, 0, 5);
+    go_on(rt, &mut sim, 1, 2);
+    for one in takes {
+        let (index, want) = *one;
+        make(rt, &mut sim, 1, take(0, index), want);
     }
     Ok(())
 }
 
 #[test]
 fn no_message_overtakes(rt: HostRuntime) -> Result<(), Fail> {
-    take_three(
-        &rt,
-        rt.alloc(),
-        2,
-        &[
-            (2, NOT_ELIGIBLE),
-            (3, NOT_ELIGIBLE),
-            (1, Ok(())),
-            (1, NOT_ELIGIBLE),
-            (3, NOT_ELIGIBLE),
-            (2, Ok(())),
-            (3, WANTS_OTHER),
-        ],
-    )?;
-    take_three(
-        &rt,
-        rt.alloc(),
-        3,
-        &[
-            (1, NOT_ELIGIBLE),
-            (3, Ok(())),
-            (3, NOT_ELIGIBLE),
-            (2, NOT_ELIGIBLE),
-            (1, Ok(())),
-        ],
-    )
+    take_three(&rt, rt.alloc(), 2, &TAKES_OF_TWO)?;
+    take_three(&rt, rt.alloc(), 3, &TAKES_OF_THREE)
 }
+
+const NEXT: Choice = Choice::Next;
+
+/// The first message of rank 7.
+const OF_7: Choice = Choice::Take {
+    source: 7,
+    index: 1,
+};
+
+/// Rank 0 begins the ring.
+const FIRST: [(u8, Choice); 3] = [(0, NEXT), (0, NEXT), (0, NEXT)];
+
+/// It takes what comes back, and has ended after one step more.
+const BACK: [(u8, Choice); 6] = [
+    (0, OF_7),
+    (0, NEXT),
+    (0, NEXT),
+    (7, NEXT),
+    (0, NEXT),
+    (1, NEXT),
+];
+
+/// What was not made, since it stood behind the step that is refused.
+const LAST: [Move; 4] = [
+    (1, Next, Ok(())),
+    (1, Next, Ok(())),
+    (1, Next, ENDED),
+    (7, Next, Ok(())),
+];
 
 /// Makes choices at once, and compares where that stopped and why.
 fn compare_run(
@@ -136,72 +169,63 @@ fn compare_run(
     assert_eq!(rt; sim.run(choices), want);
 }
 
+/// Each rank but the first takes from the one before it and sends on.
+fn hand_on(rt: &impl Abort, sim: &mut Sim) {
+    for rank in 1..8u8 {
+        let taken = take(u32::from(rank) - 1, 1);
+        let choices = [(rank, NEXT), (rank, NEXT), (rank, taken), (rank, NEXT)];
+        compare_run(rt, sim, &choices, Ok(()));
+    }
+}
+
 #[test]
 fn eight_ranks_at_once(rt: HostRuntime) -> Result<(), Fail> {
     let program = Program::parse(rt.alloc(), RING)?;
     let mut sim = Sim::new(rt.alloc(), &program, 8)?;
-    let next = Choice::Next;
-    compare_run(&rt, &mut sim, &[(0, next), (0, next), (0, next)], Ok(()));
-    for rank in 1..8u8 {
-        let choices = [
-            (rank, next),
-            (rank, next),
-            (rank, take(u32::from(rank) - 1, 1)),
-            (rank, next),
-        ];
-        compare_run(&rt, &mut sim, &choices, Ok(()));
-    }
-    let end = [
-        (0, take(7, 1)),
-        (0, next),
-        (0, next),
-        (7, next),
-        (0, next),
-        (1, next),
-    ];
-    compare_run(&rt, &mut sim, &end, Err((4, NotAllowed::Ended)));
-    let last = [
-        (1, next, Ok(())),
-        (1, next, Ok(())),
-        (1, next, ENDED),
-        (7, next, Ok(())),
-    ];
-    play(&rt, &mut sim, &last);
+    compare_run(&rt, &mut sim, &FIRST, Ok(()));
+    hand_on(&rt, &mut sim);
+    compare_run(&rt, &mut sim, &BACK, Err((4, NotAllowed::Ended)));
+    play(&rt, &mut sim, &LAST);
     assert!(rt;
-        !sim.are_of_ranks(&[(0, next), (8, next)]),
+        !sim.are_of_ranks(&[(0, NEXT), (8, NEXT)]),
         "there is no rank 8"
     );
     Ok(())
 }
 
-#[test]
-fn long_and_many_messages(rt: HostRuntime) -> Result<(), Fail> {
-    let program = Program::parse(rt.alloc(), LONG_MESSAGE)?;
-    let mut sim = Sim::new(rt.alloc(), &program, 2)?;
-    play(&rt, &mut sim, &[(0, Choice::Next, Ok(())); 4]);
-    play(&rt, &mut sim, &[(1, Choice::Next, Ok(())); 2]);
-    play(&rt, &mut sim, &[(1, take(0, 1), Ok(()))]);
-    play(&rt, &mut sim, &[(1, Choice::Next, Ok(()))]);
-    let program = Program::parse(rt.alloc(), MANY_MESSAGES)?;
-    let mut sim = Sim::new(rt.alloc(), &program, 2)?;
-    play(&rt, &mut sim, &[(0, Choice::Next, Ok(())); 2]);
-    play(&rt, &mut sim, &[(1, Choice::Next, Ok(())); 2]);
-    for _ in 0..300u64 {
-        play(&rt, &mut sim, &[(0, Choice::Next, Ok(())); 6]);
-    }
+/// A message of 256 items is sent and taken.
+fn take_long(rt: &impl Abort, alloc: Heap) -> Result<(), Fail> {
+    let program = Program::parse(alloc, LONG_MESSAGE)?;
+    let mut sim = Sim::new(alloc, &program, 2)?;
+    go_on(rt, &mut sim, 0, 4);
+    go_on(rt, &mut sim, 1, 2);
+    make(rt, &mut sim, 1, take(0, 1), Ok(()));
+    go_on(rt, &mut sim, 1, 1);
+    Ok(())
+}
+
+/// 300 messages wait, and are taken one after the other.
+fn take_many(rt: &impl Abort, alloc: Heap) -> Result<(), Fail> {
+    let program = Program::parse(alloc, MANY_MESSAGES)?;
+    let mut sim = Sim::new(alloc, &program, 2)?;
+    go_on(rt, &mut sim, 0, 1802);
+    go_on(rt, &mut sim, 1, 2);
     for message in 1..301u64 {
-        play(&rt, &mut sim, &[(1, Choice::Next, Ok(())); 2]);
-        play(
-            &rt,
-            &mut sim,
-            &[
-                (1, take(0, message + 1), NOT_ELIGIBLE),
-                (1, take(0, message), Ok(())),
-                (1, Choice::Next, Ok(())),
-                (1, Choice::Next, Ok(())),
-                (1, Choice::Next, Ok(())),
-            ],
-        );
+        take_next(rt, &mut sim, message);
     }
     Ok(())
+}
+
+/// Rank 1 may take the message of this number, and none behind it.
+fn take_next(rt: &impl Abort, sim: &mut Sim, message: u64) {
+    go_on(rt, sim, 1, 2);
+    make(rt, sim, 1, take(0, message.saturating_add(1)), NOT_ELIGIBLE);
+    make(rt, sim, 1, take(0, message), Ok(()));
+    go_on(rt, sim, 1, 3);
+}
+
+#[test]
+fn long_and_many_messages(rt: HostRuntime) -> Result<(), Fail> {
+    take_long(&rt, rt.alloc())?;
+    take_many(&rt, rt.alloc())
 }

@@ -2,6 +2,7 @@
 use events_text::{EventsFault, EventsFaultKind, parse_events, world_text};
 use metered::Heap;
 use std::alloc::AllocError;
+use std::process::Abort;
 use std::test::*;
 use world_model::{Reply, WorldEvent};
 
@@ -24,48 +25,65 @@ fn only_event(alloc: Heap, text: &str) -> Option<WorldEvent> {
     }
 }
 
+/// Texts with the one event that each has.
+const EVENTS: [(&str, WorldEvent); 8] = [
+    ("step 3", WorldEvent::Step { rank: 3 }),
+    ("put 1 2", WorldEvent::Put { source: 1, dest: 2 }),
+    (
+        "arrive 1 2 000000045",
+        WorldEvent::Arrive {
+            source: 1,
+            dest: 2,
+            index: 45,
+        },
+    ),
+    ("  store   3 ", WorldEvent::Store { rank: 3 }),
+    ("\n# step 1\n   \nack 3\n", WorldEvent::Ack { rank: 3 }),
+    ("image 3", WorldEvent::Image { rank: 3 }),
+    ("crash 3", WorldEvent::Crash { rank: 3 }),
+    ("restart 999999999", WorldEvent::Restart { rank: 999999999 }),
+];
+
+/// Looks at the event of each text.
+fn have_events(rt: &impl Abort, alloc: Heap, rows: &[(&str, WorldEvent)]) {
+    for row in rows {
+        let (text, want) = *row;
+        assert_eq!(rt; only_event(alloc, text), Some(want), "at {text}");
+    }
+}
+
+/// Texts with how many events they have, or the line and number of their first fault.
+const TEXTS: [(&str, (usize, usize, u8)); 16] = [
+    ("", (0, 0, 0)),
+    ("\n\n", (0, 0, 0)),
+    ("step 0\nput 0 1\nstep 0", (3, 0, 0)),
+    ("step 0\njump 0\nleap 0", (0, 2, 1)),
+    ("step 0000000000", (0, 1, 1)),
+    ("step", (0, 1, 1)),
+    ("step +1", (0, 1, 1)),
+    ("step 1 2", (0, 1, 1)),
+    ("put 1", (0, 1, 1)),
+    ("arrive 1 2", (0, 1, 1)),
+    ("arrive 1 2 3 4", (0, 1, 1)),
+    ("steps 1", (0, 1, 1)),
+    ("release 0", (0, 1, 1)),
+    ("\n # note", (0, 2, 1)),
+    ("step\t1", (0, 1, 1)),
+    ("step 1\r\n", (0, 1, 1)),
+];
+
+/// Looks at the outcome of each text.
+fn have_outcomes(rt: &impl Abort, alloc: Heap, rows: &[(&str, (usize, usize, u8))]) {
+    for row in rows {
+        let (text, want) = *row;
+        assert_eq!(rt; outcome(alloc, text.as_bytes()), want, "at {text}");
+    }
+}
+
 #[test]
 fn forms(rt: HostRuntime) -> Result<(), Fail> {
-    let rank = 3;
-    for (text, want) in [
-        ("step 3", WorldEvent::Step { rank }),
-        ("put 1 2", WorldEvent::Put { source: 1, dest: 2 }),
-        (
-            "arrive 1 2 000000045",
-            WorldEvent::Arrive {
-                source: 1,
-                dest: 2,
-                index: 45,
-            },
-        ),
-        ("  store   3 ", WorldEvent::Store { rank }),
-        ("\n# step 1\n   \nack 3\n", WorldEvent::Ack { rank }),
-        ("image 3", WorldEvent::Image { rank }),
-        ("crash 3", WorldEvent::Crash { rank }),
-        ("restart 999999999", WorldEvent::Restart { rank: 999999999 }),
-    ] {
-        assert_eq!(rt; only_event(rt.alloc(), text), Some(want), "at {text}");
-    }
-    for (text, want) in [
-        ("", (0, 0, 0)),
-        ("\n\n", (0, 0, 0)),
-        ("step 0\nput 0 1\nstep 0", (3, 0, 0)),
-        ("step 0\njump 0\nleap 0", (0, 2, 1)),
-        ("step 0000000000", (0, 1, 1)),
-        ("step", (0, 1, 1)),
-        ("step +1", (0, 1, 1)),
-        ("step 1 2", (0, 1, 1)),
-        ("put 1", (0, 1, 1)),
-        ("arrive 1 2", (0, 1, 1)),
-        ("arrive 1 2 3 4", (0, 1, 1)),
-        ("steps 1", (0, 1, 1)),
-        ("release 0", (0, 1, 1)),
-        ("\n # note", (0, 2, 1)),
-        ("step\t1", (0, 1, 1)),
-        ("step 1\r\n", (0, 1, 1)),
-    ] {
-        assert_eq!(rt; outcome(rt.alloc(), text.as_bytes()), want, "at {text}");
-    }
+    have_events(&rt, rt.alloc(), &EVENTS);
+    have_outcomes(&rt, rt.alloc(), &TEXTS);
     Ok(())
 }
 
@@ -79,57 +97,87 @@ fn long_text(alloc: Heap, times: u32, line: &str, end: &str) -> Result<Vec<u8, H
     Ok(text)
 }
 
-#[test]
-fn long_texts(rt: HostRuntime) -> Result<(), Fail> {
-    for (line, end, want) in [
-        ("ack 0\n", "", (100000, 0, 0)),
-        ("ack 0\n", "ack 0", (0, 100001, 2)),
-        ("\n", "#", (0, 100001, 2)),
-        ("\n", "ack", (0, 100001, 1)),
-    ] {
-        let text = long_text(rt.alloc(), 100000, line, end)?;
-        assert_eq!(rt; outcome(rt.alloc(), text.as_slice()), want, "with {end}");
+/// A line, what stands behind 100000 of it, and what comes of that.
+const LONG_TEXTS: [(&str, &str, (usize, usize, u8)); 4] = [
+    ("ack 0\n", "", (100000, 0, 0)),
+    ("ack 0\n", "ack 0", (0, 100001, 2)),
+    ("\n", "#", (0, 100001, 2)),
+    ("\n", "ack", (0, 100001, 1)),
+];
+
+/// Looks at what comes of each long text.
+fn have_ends(
+    rt: &impl Abort,
+    alloc: Heap,
+    rows: &[(&str, &str, (usize, usize, u8))],
+) -> Result<(), Fail> {
+    for row in rows {
+        let (line, end, want) = *row;
+        let text = long_text(alloc, 100000, line, end)?;
+        assert_eq!(rt; outcome(alloc, text.as_slice()), want, "with {end}");
     }
     Ok(())
 }
 
 #[test]
+fn long_texts(rt: HostRuntime) -> Result<(), Fail> {
+    have_ends(&rt, rt.alloc(), &LONG_TEXTS)
+}
+
+/// Each reply.
+const REPLIES: [Reply; 17] = [
+    Reply::Moved,
+    Reply::Blocked,
+    Reply::Held,
+    Reply::Ended,
+    Reply::PutData {
+        index: 2,
+        number: 3,
+    },
+    Reply::PutAsk { index: 0, from: 1 },
+    Reply::PutKept {
+        index: 18446744073709551615,
+        upto: 268435455,
+    },
+    Reply::Accepted,
+    Reply::Repeated,
+    Reply::Gap,
+    Reply::Noted,
+    Reply::Stored(12),
+    Reply::Acked,
+    Reply::Imaged,
+    Reply::Crashed,
+    Reply::Restarted(0),
+    Reply::Refused,
+];
+
+/// The text of each of them.
+const OF_REPLIES: &str = "\
+moved
+blocked
+held
+ended
+put 2 data 3
+put 0 ask 1
+put 18446744073709551615 kept 268435455
+accepted
+repeated
+gap
+noted
+stored 12
+acked
+imaged
+crashed
+restarted 0
+refused
+";
+
+#[test]
 fn replies_and_faults(rt: HostRuntime) -> Result<(), Fail> {
-    let replies = [
-        Reply::Moved,
-        Reply::Blocked,
-        Reply::Held,
-        Reply::Ended,
-        Reply::PutData {
-            index: 2,
-            number: 3,
-        },
-        Reply::PutAsk { index: 0, from: 1 },
-        Reply::PutKept {
-            index: 18446744073709551615,
-            upto: 268435455,
-        },
-        Reply::Accepted,
-        Reply::Repeated,
-        Reply::Gap,
-        Reply::Noted,
-        Reply::Stored(12),
-        Reply::Acked,
-        Reply::Imaged,
-        Reply::Crashed,
-        Reply::Restarted(0),
-        Reply::Refused,
-    ];
-    let want =
-        "moved\nblocked\nheld\nended\nput 2 data 3\nput 0 ask 1\nput 18446744073709551615 kept 268435455\naccepted\nrepeated\ngap\nnoted\nstored 12\nacked\nimaged\ncrashed\nrestarted 0\nrefused\n";
-    let text = world_text(rt.alloc(), &replies, 1, &[])?;
-    assert_eq!(rt; text.as_str(), want, "each reply");
-    for (kind, want) in [
-        (EventsFaultKind::BadLine, "BadLine"),
-        (EventsFaultKind::Limit, "Limit"),
-    ] {
-        let text = format!(in rt.alloc(); "{kind}")?;
-        assert_eq!(rt; text.as_str(), want, "the name of a fault");
-    }
+    let text = world_text(rt.alloc(), &REPLIES, 1, &[])?;
+    assert_eq!(rt; text.as_str(), OF_REPLIES, "each reply");
+    let (line, limit) = (EventsFaultKind::BadLine, EventsFaultKind::Limit);
+    let text = format!(in rt.alloc(); "{line} {limit}")?;
+    assert_eq!(rt; text.as_str(), "BadLine Limit");
     Ok(())
 }

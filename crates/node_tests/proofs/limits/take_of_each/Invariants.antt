@@ -1,5 +1,5 @@
 use Rattle.std.proofs.Common.{◌≡◌}
-use Rattle.node_tests.proofs.limits.work_as_the_last.Given as goal
+use Rattle.node_tests.proofs.limits.take_of_each.Given as goal
 
 -- the calls leave which rank it is
 abbrev pub invariant-loop-source : goal.invariant-loop-source
