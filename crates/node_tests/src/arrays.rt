@@ -1,6 +1,6 @@
 //! Arrays and messages of each length that is a limit, or next to one.
 
-use crate::machines::{outcome_at, packet, same};
+use crate::machines::{outcome, packet, same};
 use matching::Packet;
 use metered::Heap;
 use std::alloc::AllocError;
@@ -49,7 +49,7 @@ fn take_whole_messages(rt: &impl Abort, alloc: Heap, lengths: &[i64]) -> Result<
     for length in lengths {
         let text = text_of(alloc, *length)?;
         let want = shown(alloc, *length)?;
-        let got = outcome_at(alloc, text.as_str(), packet_of(alloc, *length)?)?;
+        let got = outcome(alloc, text.as_str(), packet_of(alloc, *length)?)?;
         same(rt, text.as_str(), got.as_str(), want.as_str());
     }
     Ok(())

@@ -1,130 +1,10 @@
-//! Rank 1 of two from call to call, by tables worked out by hand.
-ghost use Rattle.std.specs.Prelude.{◌≡◌};
+//! Ranks from call to call, by tables worked out by hand.
 
-use crate::scenes::{LastLine, Rank, packet, start};
-use metered::Heap;
-use plain_logger::{Event, Kind, LoggerState};
-use rank_language::Program;
-use rank_node::{Arrived, Frame, NodeFault, Turn};
-use std::alloc::AllocError;
-use std::fmt::Write;
-use std::process::Abort;
+use crate::plays::Answer::{Arrived, Counted, Goes, Refused, Stepped, Stored, Was};
+use crate::plays::Call::{Ack, Arrive, Clock, Dark, Next, Refusal, Step, Store};
+use crate::plays::{ACCEPTED, ACKED, Answer, BLOCKED, Call, ENDED, HELD, MOVED, Play, play_all};
+use rank_node::{Arrived as Came, NodeFault};
 use std::test::*;
-
-/// A call, and what it has to answer.
-#[derive(Clone, Copy, Debug)]
-enum Call {
-    Step(Turn),
-    /// The packet of this source and number comes from rank 0.
-    Arrive(u8, u32, Arrived),
-    Store(Result<Option<u32>, NodeFault>),
-    Ack(bool),
-}
-
-/// What stands around the rank.
-#[derive(Drop)]
-struct Scene {
-    screen: LastLine,
-    logger: LoggerState,
-}
-
-fn store(
-    rt: &impl Abort,
-    rank: &mut Rank,
-    logger: &mut LoggerState,
-) -> Result<Option<u32>, NodeFault>
-    requires { rank.old.stable.rank ≡ 1 }
-    ensures { rank.new.stable ≡ rank.old.stable }
-{
-    assert!(rt; logger.ranks() == 2);
-    rank.store_state(logger)
-}
-
-fn make(
-    rt: &impl Abort,
-    alloc: Heap,
-    rank: &mut Rank,
-    scene: &mut Scene,
-    call: Call,
-) -> Result<(), Fail>
-    requires size { rank.old.stable.size ≡ 2 }
-    requires number { rank.old.stable.rank ≡ 1 }
-    ensures { rank.new.stable ≡ rank.old.stable }
-{
-    match call {
-        Call::Step(want) => assert_eq!(rt; rank.step(&mut scene.screen)?, want, "{call:?}"),
-        Call::Arrive(source, number, want) => {
-            assert!(rt; source < 2 && 0 < number && number < 9);
-            let frame = Frame::Data(packet(alloc, source, number)?);
-            let Ok(answer) = rank.arrive(0, frame) else {
-                return Err(Fail::from(NodeFault::Memory));
-            };
-            assert_eq!(rt; answer, want, "{call:?}");
-        }
-        Call::Store(want) => match store(rt, rank, &mut scene.logger) {
-            Err(NodeFault::Memory) => return Err(Fail::from(NodeFault::Memory)),
-            stored => assert_eq!(rt; stored, want, "{call:?}"),
-        },
-        Call::Ack(want) => assert_eq!(rt; rank.ack(), want, "{call:?}"),
-    }
-    Ok(())
-}
-
-fn make_all(
-    rt: &impl Abort,
-    alloc: Heap,
-    rank: &mut Rank,
-    scene: &mut Scene,
-    calls: &[Call],
-) -> Result<(), Fail>
-    requires size { rank.old.stable.size ≡ 2 }
-    requires number { rank.old.stable.rank ≡ 1 }
-{
-    for call in calls {
-        make(rt, alloc, rank, scene, *call)?;
-    }
-    Ok(())
-}
-
-/// Makes the calls on rank 1, and gives what they left around it.
-fn play(
-    rt: &impl Abort,
-    alloc: Heap,
-    text: &[u8],
-    logger: LoggerState,
-    calls: &[Call],
-) -> Result<Scene, Fail> {
-    let program = Program::parse(alloc, text)?;
-    let mut scene = Scene {
-        screen: LastLine { line: None },
-        logger,
-    };
-    let mut rank = start(alloc, &program, 1, 2)?;
-    let outcome = make_all(rt, alloc, &mut rank, &mut scene, calls);
-    let _ = rank.retire().parts();
-    outcome?;
-    Ok(scene)
-}
-
-/// What is left around a rank: its last line, and the rows of the logger.
-fn left(alloc: Heap, scene: Scene) -> Result<String<Heap>, AllocError> {
-    let mut text = format!(in alloc; "{:?}", scene.screen.line)?;
-    for row in scene.logger.into_rows().iter() {
-        write!(text, ";")?;
-        put_row(&mut text, row.as_slice())?;
-    }
-    Ok(text)
-}
-
-/// Each event of a row.
-fn put_row(text: &mut String<Heap>, row: &[Event]) -> Result<(), AllocError> {
-    for event in row {
-        let (kind, sender) = (event.kind(), event.sender());
-        let (sent, received) = (event.sender_clock(), event.receiver_clock());
-        write!(text, " {kind:?} {sender}@{sent} at {received}")?;
-    }
-    Ok(())
-}
 
 const TAKES_AND_PRINTS: &[u8] = b"var x
 if rank == 0
@@ -136,24 +16,24 @@ end
 ";
 
 /// A print waits until its reception is stored and acknowledged.
-const PRINTS: &[Call] = &[
-    Call::Store(Ok(None)),
-    Call::Ack(false),
-    Call::Step(Turn::Moved),
-    Call::Step(Turn::Moved),
-    Call::Step(Turn::Blocked),
-    Call::Arrive(0, 1, Arrived::Accepted),
-    Call::Step(Turn::Moved),
-    Call::Step(Turn::Held),
-    Call::Ack(false),
-    Call::Store(Ok(Some(1))),
-    Call::Step(Turn::Held),
-    Call::Store(Ok(None)),
-    Call::Ack(true),
-    Call::Step(Turn::Moved),
-    Call::Step(Turn::Moved),
-    Call::Step(Turn::Ended),
-    Call::Step(Turn::Ended),
+const PRINTS: &[(Call, Answer)] = &[
+    (Store, Stored(Ok(None))),
+    (Ack, Was(false)),
+    (Step, MOVED),
+    (Step, MOVED),
+    (Step, BLOCKED),
+    (Arrive(0, 0, 1), ACCEPTED),
+    (Step, MOVED),
+    (Step, HELD),
+    (Ack, Was(false)),
+    (Store, Stored(Ok(Some(1)))),
+    (Step, HELD),
+    (Store, Stored(Ok(None))),
+    (Ack, ACKED),
+    (Step, MOVED),
+    (Step, MOVED),
+    (Step, ENDED),
+    (Step, ENDED),
 ];
 
 const TAKES_TWICE_AND_SENDS: &[u8] = b"var x
@@ -164,84 +44,150 @@ print 1 / (x - 20)
 ";
 
 /// A send waits until each reception is.
-const SENDS: &[Call] = &[
-    Call::Arrive(1, 1, Arrived::Foreign),
-    Call::Arrive(0, 2, Arrived::Gap),
-    Call::Arrive(0, 1, Arrived::Accepted),
-    Call::Arrive(0, 1, Arrived::Repeated),
-    Call::Step(Turn::Moved),
-    Call::Step(Turn::Moved),
-    Call::Step(Turn::Blocked),
-    Call::Arrive(0, 2, Arrived::Accepted),
-    Call::Step(Turn::Moved),
-    Call::Store(Ok(Some(1))),
-    Call::Ack(true),
-    Call::Step(Turn::Held),
-    Call::Store(Ok(Some(2))),
-    Call::Step(Turn::Held),
-    Call::Ack(true),
-    Call::Step(Turn::Moved),
-    Call::Step(Turn::Ended),
+const SENDS: &[(Call, Answer)] = &[
+    (Arrive(0, 1, 1), Arrived(Came::Foreign)),
+    (Arrive(0, 0, 2), Arrived(Came::Gap)),
+    (Arrive(0, 0, 1), ACCEPTED),
+    (Arrive(0, 0, 1), Arrived(Came::Repeated)),
+    (Step, MOVED),
+    (Step, MOVED),
+    (Step, BLOCKED),
+    (Arrive(0, 0, 2), ACCEPTED),
+    (Step, MOVED),
+    (Store, Stored(Ok(Some(1)))),
+    (Ack, ACKED),
+    (Step, HELD),
+    (Store, Stored(Ok(Some(2)))),
+    (Step, HELD),
+    (Ack, ACKED),
+    (Step, MOVED),
+    (Step, ENDED),
 ];
 
 /// A logger that has an event of a later clock refuses, and the event stays.
-const IS_REFUSED: &[Call] = &[
-    Call::Arrive(0, 1, Arrived::Accepted),
-    Call::Step(Turn::Moved),
-    Call::Step(Turn::Moved),
-    Call::Step(Turn::Moved),
-    Call::Store(Err(NodeFault::Log)),
-    Call::Ack(false),
-    Call::Step(Turn::Held),
+const IS_REFUSED: &[(Call, Answer)] = &[
+    (Arrive(0, 0, 1), ACCEPTED),
+    (Step, MOVED),
+    (Step, MOVED),
+    (Step, MOVED),
+    (Store, Stored(Err(NodeFault::Log))),
+    (Ack, Was(false)),
+    (Step, HELD),
 ];
 
-/// A logger of two ranks that has a reception of rank 1 from rank 0 with this clock, if there is one.
-fn logger_with(alloc: Heap, later: Option<u32>) -> Result<LoggerState, Fail> {
-    let mut logger = LoggerState::new(alloc, 2)?;
-    if let Some(clock) = later {
-        let event = Event::new(Kind::Reception, 0, 1, clock).ok_or("out of range")?;
-        logger.append(1, event)?;
-    }
-    Ok(logger)
-}
+/// A print that no screen shows is not made.
+const IS_UNSEEN: &[(Call, Answer)] = &[
+    (Step, MOVED),
+    (Dark, Was(true)),
+    (Step, Stepped(Err(NodeFault::Memory))),
+    (Clock, Counted(1)),
+    (Step, Stepped(Err(NodeFault::Memory))),
+    (Clock, Counted(1)),
+    (Refusal, Refused(None)),
+    (Arrive(1, 1, 1), ACCEPTED),
+];
 
-/// A rank's program, the calls on it, the clock of the reception that the logger has already, and what is left around the rank.
-type Play = (&'static [u8], &'static [Call], Option<u32>, &'static str);
+const PROBES_AND_TAKES: &[u8] = b"var x
+probe 0, 7
+iprobe any, 8, x
+recv source, gottag, x
+print x
+";
 
-const PLAYS: [Play; 3] = [
+/// A probe that waits moves once a message matches, and the message stays. One that doesn't wait moves at once. A print
+/// waits until each answer is stored and acknowledged, as for a reception.
+const IS_SHOWN: &[(Call, Answer)] = &[
+    (Step, MOVED),
+    (Step, BLOCKED),
+    (Arrive(2, 2, 1), ACCEPTED),
+    (Step, BLOCKED),
+    (Clock, Counted(0)),
+    (Arrive(0, 0, 1), ACCEPTED),
+    (Step, MOVED),
+    (Clock, Counted(1)),
+    (Step, MOVED),
+    (Clock, Counted(2)),
+    (Step, MOVED),
+    (Step, HELD),
+    (Store, Stored(Ok(Some(1)))),
+    (Store, Stored(Ok(Some(2)))),
+    (Store, Stored(Ok(Some(3)))),
+    (Store, Stored(Ok(None))),
+    (Ack, ACKED),
+    (Step, HELD),
+    (Ack, ACKED),
+    (Step, HELD),
+    (Ack, ACKED),
+    (Ack, Was(false)),
+    (Step, MOVED),
+    (Step, ENDED),
+];
+
+const ASKS_TWICE_AND_SENDS: &[u8] = b"var x
+iprobe any, any, x
+iprobe 0, any, x
+send 0, 0, 10 * x + count
+";
+
+/// What is shown is the first message that matches, and what came before it stays too.
+const IS_MISSED_AND_SHOWN: &[(Call, Answer)] = &[
+    (Step, MOVED),
+    (Step, MOVED),
+    (Arrive(2, 2, 1), ACCEPTED),
+    (Arrive(0, 0, 1), ACCEPTED),
+    (Arrive(0, 0, 2), ACCEPTED),
+    (Step, MOVED),
+    (Step, HELD),
+    (Store, Stored(Ok(Some(1)))),
+    (Ack, ACKED),
+    (Step, HELD),
+    (Store, Stored(Ok(Some(2)))),
+    (Ack, ACKED),
+    (Step, MOVED),
+    (Next(0), Goes(Some((1, 3, 1, Some(11))))),
+    (Step, ENDED),
+];
+
+const PLAYS: [Play; 6] = [
     (
+        1,
         TAKES_AND_PRINTS,
+        None,
         PRINTS,
-        None,
-        "Some((1, 2, 11));; Reception 0@1 at 1",
+        "Some((1, 2, 11)); 1 has 1: Reception 0@1 at 1",
     ),
     (
+        1,
         TAKES_TWICE_AND_SENDS,
-        SENDS,
         None,
-        "None;; Reception 0@1 at 1 Reception 0@2 at 2",
+        SENDS,
+        "None; 1 has 2: Reception 0@1 at 1 Reception 0@2 at 2",
     ),
     (
+        1,
         TAKES_AND_PRINTS,
-        IS_REFUSED,
         Some(9),
-        "None;; Reception 0@1 at 9",
+        IS_REFUSED,
+        "None; 1 has 1: Reception 0@1 at 9",
+    ),
+    (0, b"send 1, 0, 5\nprint 1\n", None, IS_UNSEEN, "None"),
+    (
+        1,
+        PROBES_AND_TAKES,
+        None,
+        IS_SHOWN,
+        "Some((1, 4, 10)); 1 has 3: Hit 0@1 at 1 Miss 0@0 at 2 Reception 0@1 at 3",
+    ),
+    (
+        1,
+        ASKS_TWICE_AND_SENDS,
+        None,
+        IS_MISSED_AND_SHOWN,
+        "None; 1 has 2: Miss 0@0 at 1 Hit 0@1 at 2",
     ),
 ];
-
-/// Plays each of these.
-fn play_all(rt: &impl Abort, alloc: Heap, plays: &[Play]) -> Result<(), Fail> {
-    for row in plays {
-        let (text, calls, later, want) = *row;
-        let logger = logger_with(alloc, later)?;
-        let scene = play(rt, alloc, text, logger, calls)?;
-        let found = left(alloc, scene)?;
-        assert_eq!(rt; found.as_str(), want, "{calls:?}");
-    }
-    Ok(())
-}
 
 #[test]
-fn calls_on_rank_one_of_two(rt: HostRuntime) -> Result<(), Fail> {
+fn calls_by_hand(rt: HostRuntime) -> Result<(), Fail> {
     play_all(&rt, rt.alloc(), &PLAYS)
 }

@@ -17,9 +17,11 @@ mod machines;
 #[cfg(test)]
 mod outgoing;
 #[cfg(test)]
+mod plays;
+#[cfg(test)]
 mod programs;
 #[cfg(test)]
-mod refusals;
+mod retiring;
 #[cfg(test)]
 mod scenes;
 #[cfg(test)]

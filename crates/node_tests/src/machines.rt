@@ -10,17 +10,27 @@ use std::alloc::AllocError;
 use std::process::Abort;
 use std::test::*;
 
-/// A program's text, and what its machine shows.
-pub type Row = (&'static str, &'static str);
+/// How many items a packet has that comes, a program's text, and what its machine shows.
+pub type Row = (u8, &'static str, &'static str);
 
-/// Looks at what each of these programs shows where no message comes.
+/// Looks at what each of these programs shows.
 pub fn shows(rt: &impl Abort, alloc: Heap, rows: &[Row]) -> Result<(), Fail> {
     for row in rows {
-        let (text, want) = *row;
-        let got = outcome(alloc, text, None)?;
+        let (count, text, want) = *row;
+        let got = outcome(alloc, text, packet_of(alloc, count)?)?;
         same(rt, text, got.as_str(), want);
     }
     Ok(())
+}
+
+/// The packet of this many items: none, or -8, or 4 and 5, or 1, 2 and 3.
+fn packet_of(alloc: Heap, count: u8) -> Result<Option<Packet>, Fail> {
+    match count {
+        0 => Ok(None),
+        1 => packet(alloc, &[-8]),
+        2 => packet(alloc, &[4, 5]),
+        _ => packet(alloc, &[1, 2, 3]),
+    }
 }
 
 /// What is found is what is wanted, in this case.
@@ -28,24 +38,23 @@ pub fn same(rt: &impl Abort, case: &str, found: &str, wanted: &str) {
     assert_eq!(rt; found, wanted, "at {case:?}");
 }
 
-/// What rank 1 of 3 prints and sends, and what it wants that is no step of its own, no print, no send and no receive of
-/// the packet.
+/// What rank 1 of 3 prints and sends, what it wants that is no step of its own, no print, no send, no receive of the packet
+/// and no probe that is answered, and at which statement.
 pub fn outcome(alloc: Heap, text: &str, packet: Option<Packet>) -> Result<String<Heap>, Fail> {
     let program = Program::parse(alloc, text.as_bytes())?;
     let mut machine = Machine::new(alloc, &program, 1, 3)?;
     let shown = run(alloc, &mut machine, packet)?;
-    Ok(format!(in alloc; "{shown:?} {:?}", machine.wants())?)
+    let stands = standing(alloc, &machine)?;
+    Ok(format!(in alloc; "{shown:?} {}", stands.as_str())?)
 }
 
-/// The same, and at which statement.
-pub fn outcome_at(alloc: Heap, text: &str, packet: Option<Packet>) -> Result<String<Heap>, Fail> {
-    let program = Program::parse(alloc, text.as_bytes())?;
-    let mut machine = Machine::new(alloc, &program, 1, 3)?;
-    let shown = run(alloc, &mut machine, packet)?;
-    Ok(format!(in alloc; "{shown:?} {:?} at {}", machine.wants(), machine.position())?)
+/// What a machine wants, and at which statement.
+pub fn standing(alloc: Heap, machine: &Machine) -> Result<String<Heap>, AllocError> {
+    format!(in alloc; "{:?} at {}", machine.wants(), machine.position())
 }
 
-/// Runs a machine until it wants something else, for at most 64 steps and acts; the packet is for its first receive.
+/// Runs a machine until it wants something else, for at most 64 steps and acts; the packet is for its first receive, and for
+/// the probes before that.
 pub fn run(
     alloc: Heap,
     machine: &mut Machine,
@@ -70,7 +79,15 @@ pub fn run(
                 Some(packet) if selector.matches(&packet) => machine.give(packet),
                 _ => break,
             },
-            Want::Probe(_) | Want::TryProbe(_) | Want::Halted | Want::Faulted(_) => break,
+            Want::Probe(selector) => match &packet {
+                Some(packet) if selector.matches(packet) => machine.show(packet),
+                _ => break,
+            },
+            Want::TryProbe(selector) => match &packet {
+                Some(packet) if selector.matches(packet) => machine.show(packet),
+                _ => machine.miss(),
+            },
+            Want::Halted | Want::Faulted(_) => break,
         }
     }
     Ok(shown)

@@ -13,28 +13,20 @@ use std::test::*;
 /// A rank with a shelf in memory and no desk.
 pub type Rank<'p> = Running<'p, MemoryShelf, ()>;
 
-/// A screen without memory.
-#[derive(Drop)]
-pub struct NoScreen {}
-
-impl Screen for NoScreen {
-    ghost shows = { λ _ _ _ _ _. ⊥ };
-
-    fn show(&mut self, _rank: u8, _clock: u32, _value: i64) -> Result<Shown, AllocError> {
-        Err(AllocError)
-    }
-}
-
-/// A screen on which the last line stands: rank, clock and value.
+/// A screen on which the last line stands: rank, clock and value. A dark one has no memory.
 #[derive(Drop)]
 pub struct LastLine {
     pub line: Option<(u8, u32, i64)>,
+    pub dark: bool,
 }
 
 impl Screen for LastLine {
     ghost shows = { λ _ _ _ _ _. Unit {0} };
 
     fn show(&mut self, rank: u8, clock: u32, value: i64) -> Result<Shown, AllocError> {
+        if self.dark {
+            return Err(AllocError);
+        }
         self.line = Some((rank, clock, value));
         Ok(Shown::Shown)
     }
@@ -70,5 +62,17 @@ pub fn packet(alloc: Heap, source: u8, number: u32) -> Result<Packet, AllocError
         context: Context::PointToPoint,
         tag: 7,
         payload: vec![in alloc; 10 * i64::from(number); 1]?,
+    })
+}
+
+/// A packet of 256 items, each of them 4, that rank 1 sends with tag 7 by its fifth act.
+pub fn long_packet(alloc: Heap) -> Result<Packet, AllocError> {
+    Ok(Packet {
+        source: 1,
+        clock: 5,
+        number: 1,
+        context: Context::PointToPoint,
+        tag: 7,
+        payload: vec![in alloc; 4i64; 256]?,
     })
 }

@@ -1,9 +1,10 @@
 //! Each rank of each size, as a machine and at work.
 
+use crate::machines::{same, standing};
 use crate::scenes::{LastLine, Rank, start};
 use metered::Heap;
 use rank_language::Program;
-use rank_machine::{Machine, Want};
+use rank_machine::Machine;
 use rank_node::{NodeFault, Turn};
 use std::process::Abort;
 use std::test::*;
@@ -18,10 +19,10 @@ fn begin_machine(
 ) -> Result<(), Fail> {
     assert!(rt; rank < size);
     let machine = Machine::new(alloc, program, rank, size)?;
-    let begun = (machine.rank(), machine.size(), machine.position());
-    let want = Want::Print(10 * i64::from(rank) + i64::from(size));
-    assert_eq!(rt; begun, (rank, size, 0));
-    assert_eq!(rt; machine.wants(), want, "rank {rank} of {size}");
+    let stands = standing(alloc, &machine)?;
+    let want = format!(in alloc; "Print({}) at 0", 10 * u32::from(rank) + u32::from(size))?;
+    assert_eq!(rt; (machine.rank(), machine.size()), (rank, size));
+    same(rt, "its beginning", stands.as_str(), want.as_str());
     Ok(())
 }
 
@@ -44,7 +45,10 @@ fn begin_rank(
 /// What a rank answers to its first step, its clock then, and the line on the screen.
 fn first_act(rank: Rank) -> (Result<Turn, NodeFault>, u32, Option<(u8, u32, i64)>) {
     let mut rank = rank;
-    let mut screen = LastLine { line: None };
+    let mut screen = LastLine {
+        line: None,
+        dark: false,
+    };
     let turn = rank.step(&mut screen);
     let clock = rank.clock();
     let _ = rank.retire().parts();

@@ -1,16 +1,15 @@
 //! A loop that counts, cut into strides.
 
-use crate::scenes::{LastLine, Rank, start};
+use crate::machines::{same, standing};
 use metered::Heap;
 use rank_language::Program;
 use rank_machine::{Machine, Want};
-use rank_node::Turn;
 use std::process::Abort;
 use std::test::*;
 
 /// One step declares the variable, three make each of 1000 rounds, and one more tests for the last time: 3002 steps, and
 /// then the print stands, at the fifth statement.
-const COUNTS: &[u8] = b"var i
+pub const COUNTS: &[u8] = b"var i
 while i < 1000
   let i = i + 1
 end
@@ -39,14 +38,15 @@ fn stride_by_stride(
 ) -> Result<(u32, u32), Fail> {
     let mut machine = Machine::new(alloc, program, 0, 1)?;
     let mut slow = Machine::new(alloc, program, 0, 1)?;
-    let (strides, steps) = stride_on(rt, &mut machine, &mut slow, most);
+    let made = stride_on(rt, &mut machine, &mut slow, most);
+    let stands = standing(alloc, &machine)?;
     let want = if most == 0 {
-        (Want::Internal, 0)
+        "Internal at 0"
     } else {
-        (Want::Print(1000), 4)
+        "Print(1000) at 4"
     };
-    assert_eq!(rt; (machine.wants(), machine.position()), want);
-    Ok((strides, steps))
+    same(rt, "at last", stands.as_str(), want);
+    Ok(made)
 }
 
 // Strides of the one machine and steps of the other, until no stride makes a step.
@@ -55,12 +55,9 @@ fn stride_on(rt: &impl Abort, machine: &mut Machine, slow: &mut Machine, most: u
     let mut steps = 0u32;
     for _ in 0..4000 {
         let made = machine.advance(most);
-        assert_eq!(rt; step_by_step(slow, made), made, "strides of {most}");
-        assert_eq!(rt;
-            (machine.position(), machine.wants()),
-            (slow.position(), slow.wants()),
-            "strides of {most}"
-        );
+        let as_many = step_by_step(slow, made) == made;
+        let as_far = machine.position() == slow.position() && machine.wants() == slow.wants();
+        assert!(rt; as_many && as_far, "strides of {most}");
         if made == 0 {
             break;
         }
@@ -96,38 +93,8 @@ fn machine_strides(
     Ok(())
 }
 
-/// The most steps of each stride of a rank, and how many it makes.
-const ONWARD: [(u32, u32); 6] = [(0, 0), (1, 1), (7, 7), (1024, 1024), (4000, 1970), (5, 0)];
-
-// Each stride goes on where the one before ended.
-fn stride_onward(rt: &impl Abort, rank: &mut Rank, rows: &[(u32, u32)]) {
-    for row in rows {
-        let (most, made) = *row;
-        assert_eq!(rt;
-            (rank.stride(most), rank.clock()),
-            (made, 0),
-            "a stride of {most}"
-        );
-    }
-}
-
-// The print is then one step.
-fn rank_strides(rt: &impl Abort, rank: &mut Rank) -> Result<(), Fail> {
-    stride_onward(rt, rank, &ONWARD);
-    assert_eq!(rt; rank.wants(), Want::Print(1000));
-    let mut screen = LastLine { line: None };
-    assert_eq!(rt; rank.step(&mut screen)?, Turn::Moved);
-    assert_eq!(rt; screen.line, Some((0, 1, 1000)));
-    assert_eq!(rt; rank.stride(1), 0);
-    Ok(())
-}
-
 #[test]
 fn strides_lead_where_steps_do(rt: HostRuntime) -> Result<(), Fail> {
     let program = Program::parse(rt.alloc(), COUNTS)?;
-    machine_strides(&rt, rt.alloc(), &program, &STRIDES)?;
-    let mut rank = start(rt.alloc(), &program, 0, 1)?;
-    let outcome = rank_strides(&rt, &mut rank);
-    let _ = rank.retire().parts();
-    outcome
+    machine_strides(&rt, rt.alloc(), &program, &STRIDES)
 }

@@ -41,6 +41,23 @@ recv any, any, x
 end
 ";
 
+/// Rank 0 sends messages of tags 7, 8 and 7. Rank 1 probes and takes.
+pub const PROBES: &[u8] = b"var x
+if rank == 0
+send 1, 7, 1
+send 1, 8, 2
+send 1, 7, 3
+else
+probe 0, 7
+recv source, gottag, x
+iprobe 0, any, x
+iprobe 0, any, x
+probe any, 7
+recv 0, any, x
+print x + gottag + count
+end
+";
+
 /// Rank 0 sends 10 to rank 1, which sends one more to the last rank. Both print
 /// what they got.
 pub const CHAIN: &[u8] = b"var x

@@ -4,7 +4,8 @@ ghost use Rattle.metered.specs.Limits.{most_ranks};
 
 use crate::scenes::Pick::{Miss, Next, Take};
 use crate::scenes::{
-    LONG_MESSAGE, MANY_MESSAGES, Move, ONE_MESSAGE, RING, THREE_MESSAGES, go_on, make, play, take,
+    LONG_MESSAGE, MANY_MESSAGES, Move, ONE_MESSAGE, PROBES, RING, THREE_MESSAGES, go_on, make,
+    play, take,
 };
 use crash_free::{Choice, NotAllowed, Sim};
 use metered::Heap;
@@ -80,6 +81,50 @@ fn play_two(rt: &impl Abort, alloc: Heap, text: &[u8], moves: &[Move]) -> Result
 fn each_refusal(rt: HostRuntime) -> Result<(), Fail> {
     play_two(&rt, rt.alloc(), ONE_MESSAGE, &MOVES)?;
     compare_refusals(&rt, rt.alloc(), &REFUSALS)
+}
+
+/// A probe is shown what a receive could take, and that may be taken still. One that waits can't miss, and one that doesn't wait
+/// may miss though a message is there.
+const PROBED: [Move; 34] = [
+    (1, Next, Ok(())),
+    (1, Next, Ok(())),
+    (1, Take(0, 1), NOT_ELIGIBLE),
+    (1, Miss, WANTS_OTHER),
+    (0, Next, Ok(())),
+    (0, Next, Ok(())),
+    (0, Next, Ok(())),
+    (0, Next, Ok(())),
+    (0, Next, Ok(())),
+    (1, Miss, WANTS_OTHER),
+    (1, Next, WANTS_OTHER),
+    (1, Take(0, 2), NOT_ELIGIBLE),
+    (1, Take(0, 3), NOT_ELIGIBLE),
+    (1, Take(0, 1), Ok(())),
+    (1, Miss, WANTS_OTHER),
+    (1, Take(0, 3), NOT_ELIGIBLE),
+    (1, Take(0, 1), Ok(())),
+    (1, Next, WANTS_OTHER),
+    (1, Take(0, 1), NOT_ELIGIBLE),
+    (1, Take(0, 3), NOT_ELIGIBLE),
+    (1, Take(1, 1), NOT_ELIGIBLE),
+    (1, Take(0, 2), Ok(())),
+    (1, Next, WANTS_OTHER),
+    (1, Miss, Ok(())),
+    (1, Miss, WANTS_OTHER),
+    (1, Take(0, 1), NOT_ELIGIBLE),
+    (1, Take(0, 2), NOT_ELIGIBLE),
+    (1, Take(0, 3), Ok(())),
+    (1, Take(0, 3), NOT_ELIGIBLE),
+    (1, Take(0, 2), Ok(())),
+    (1, Next, Ok(())),
+    (1, Next, Ok(())),
+    (1, Miss, ENDED),
+    (1, Take(0, 3), ENDED),
+];
+
+#[test]
+fn probes(rt: HostRuntime) -> Result<(), Fail> {
+    play_two(&rt, rt.alloc(), PROBES, &PROBED)
 }
 
 /// What rank 1 may take of the three messages of rank 0, by their numbers: of two ranks its first receive is of tag 7.

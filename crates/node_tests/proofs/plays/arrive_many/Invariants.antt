@@ -1,5 +1,5 @@
 use Rattle.std.proofs.Common.{◌≡◌}
-use Rattle.node_tests.proofs.limits.gave_back.Given as goal
+use Rattle.node_tests.proofs.plays.arrive_many.Given as goal
 
 -- the calls leave which rank it is
 abbrev pub invariant-loop-number : goal.invariant-loop-number

@@ -1,5 +1,5 @@
 use Rattle.std.proofs.Common.{◌≡◌}
-use Rattle.node_tests.proofs.limits.pass_to_two.Given as goal
+use Rattle.node_tests.proofs.plays.make_all.Given as goal
 
 -- the calls leave which rank it is
 abbrev pub invariant-loop-row : goal.invariant-loop-row

@@ -1,6 +1,6 @@
 use Rattle.std.proofs.Common.{◌≡◌}
-use Rattle.node_tests.proofs.refusals.print_unseen.Given as goal
+use Rattle.node_tests.proofs.plays.rounds.Given as goal
 
 -- the calls leave which rank it is
 abbrev pub invariant-loop : goal.invariant-loop
-invariant-loop g l = l.rank.stable ≡ l.initial.rank.stable
+invariant-loop l = l.rank.stable ≡ l.initial.rank.stable

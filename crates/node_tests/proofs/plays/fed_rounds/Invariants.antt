@@ -1,5 +1,5 @@
 use Rattle.std.proofs.Common.{◌≡◌}
-use Rattle.node_tests.proofs.limits.take_300.Given as goal
+use Rattle.node_tests.proofs.plays.fed_rounds.Given as goal
 
 -- the calls leave which rank it is
 abbrev pub invariant-loop-number : goal.invariant-loop-number

@@ -1,5 +1,5 @@
 use Rattle.std.proofs.Common.{◌≡◌}
-use Rattle.node_tests.proofs.limits.work.Given as goal
+use Rattle.node_tests.proofs.plays.work.Given as goal
 
 -- the calls leave which rank it is
 abbrev pub invariant-loop : goal.invariant-loop

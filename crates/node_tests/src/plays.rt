@@ -1,0 +1,399 @@
+//! Ranks of a run of eight from call to call: each call with what it answers.
+ghost use Rattle.std.specs.Prelude.{◌≡◌, ◌<◌};
+
+use crate::outgoing::{Outgoing, next_packet, notes, passes};
+use crate::scenes::{LastLine, Rank, long_packet, packet, start};
+use metered::Heap;
+use plain_logger::{Event, Kind, LoggerState};
+use rank_language::Program;
+use rank_machine::Want;
+use rank_node::{Arrived, AskFrom, Frame, KeptUpto, NodeFault, Turn};
+use std::alloc::AllocError;
+use std::fmt::Write;
+use std::process::Abort;
+use std::test::*;
+
+/// A call on a rank, or many of a kind.
+#[derive(Clone, Copy)]
+pub enum Call {
+    /// One step.
+    Step,
+    /// A stride of at most so many steps.
+    Stride(u32),
+    /// Steps until the rank is blocked or has ended. Where one is held an event is stored and acknowledged.
+    Work,
+    /// Rounds of a loop, each of two steps of its own and an act.
+    Rounds(u32),
+    /// The same, and a packet of rank 1 comes before each.
+    FedRounds(u32),
+    /// From the rank that is first comes the packet of the second one with this number.
+    Arrive(u8, u8, u32),
+    /// So many packets of rank 1 come.
+    ArriveMany(u32),
+    /// A packet of 256 items comes from rank 1.
+    ArriveLong,
+    Store,
+    Ack,
+    /// What goes to this rank next?
+    Next(u8),
+    /// To how many ranks does nothing go?
+    Silent,
+    /// What goes to this rank next is gone.
+    Pass(u8),
+    /// The packets from this number to the 300th go to rank 1, as the program that gives packets back sends them.
+    GiveBack(u32),
+    /// Rank 1 asks for the packets from this number on.
+    Ask(u32),
+    /// Rank 1 keeps what it took up to the packet of this number.
+    Kept(u32),
+    Wants,
+    Refusal,
+    Clock,
+    /// From now on the screen has no memory.
+    Dark,
+}
+
+/// What a call answers.
+#[derive(Clone, Copy, Debug, PartialEq, Eq)]
+pub enum Answer {
+    Stepped(Result<Turn, NodeFault>),
+    /// How many steps moved the rank, and how many were held.
+    Worked(u32, u32),
+    Arrived(Arrived),
+    Stored(Result<Option<u32>, NodeFault>),
+    /// How many there were.
+    Counted(u32),
+    Goes(Outgoing),
+    Was(bool),
+    Wanted(Want),
+    Refused(Option<NodeFault>),
+}
+
+pub const MOVED: Answer = Answer::Stepped(Ok(Turn::Moved));
+
+pub const BLOCKED: Answer = Answer::Stepped(Ok(Turn::Blocked));
+
+pub const HELD: Answer = Answer::Stepped(Ok(Turn::Held));
+
+pub const ENDED: Answer = Answer::Stepped(Ok(Turn::Ended));
+
+pub const ACCEPTED: Answer = Answer::Arrived(Arrived::Accepted);
+
+pub const ACKED: Answer = Answer::Was(true);
+
+/// A rank of eight: its number, its program, the clock of a reception that its logger has already, the calls with what
+/// they answer, and what is left around it: the last line, and each row of the logger with its first events.
+pub type Play = (
+    u8,
+    &'static [u8],
+    Option<u32>,
+    &'static [(Call, Answer)],
+    &'static str,
+);
+
+/// What stands around a rank.
+#[derive(Drop)]
+struct Scene {
+    screen: LastLine,
+    logger: LoggerState,
+}
+
+/// Plays each of these.
+pub fn play_all(rt: &impl Abort, alloc: Heap, plays: &[Play]) -> Result<(), Fail> {
+    for one in plays {
+        let (number, text, later, calls, want) = *one;
+        let scene = play(rt, alloc, number, text, later, calls)?;
+        let found = left(alloc, scene)?;
+        assert_eq!(rt; found.as_str(), want);
+    }
+    Ok(())
+}
+
+// Makes the calls on a rank, and gives what they left around it.
+fn play(
+    rt: &impl Abort,
+    alloc: Heap,
+    number: u8,
+    text: &[u8],
+    later: Option<u32>,
+    calls: &[(Call, Answer)],
+) -> Result<Scene, Fail> {
+    assert!(rt; number < 8);
+    let program = Program::parse(alloc, text)?;
+    let mut scene = scene_with(rt, alloc, number, later)?;
+    let mut rank = start(alloc, &program, number, 8)?;
+    let outcome = make_all(rt, alloc, &mut rank, &mut scene, calls);
+    let _ = rank.retire().parts();
+    outcome?;
+    Ok(scene)
+}
+
+// A screen, and a logger that has a reception of this rank from rank 0 with this clock, if there is one.
+fn scene_with(rt: &impl Abort, alloc: Heap, number: u8, later: Option<u32>) -> Result<Scene, Fail>
+    requires { number < 8 }
+{
+    let mut logger = LoggerState::new(alloc, 8)?;
+    assert!(rt; logger.ranks() == 8);
+    if let Some(clock) = later {
+        let event = Event::new(Kind::Reception, 0, 1, clock).ok_or("out of range")?;
+        logger.append(usize::from(number), event)?;
+    }
+    let screen = LastLine {
+        line: None,
+        dark: false,
+    };
+    Ok(Scene { screen, logger })
+}
+
+// What is left around a rank.
+fn left(alloc: Heap, scene: Scene) -> Result<String<Heap>, AllocError> {
+    let mut text = format!(in alloc; "{:?}", scene.screen.line)?;
+    for (who, row) in scene.logger.into_rows().iter().enumerate() {
+        if !row.is_empty() {
+            write!(text, "; {who} has {}:", row.len())?;
+            put_row(&mut text, row.as_slice())?;
+        }
+    }
+    Ok(text)
+}
+
+// The first seven events of a row.
+fn put_row(text: &mut String<Heap>, row: &[Event]) -> Result<(), AllocError> {
+    for event in row.iter().take(7) {
+        let (kind, sender) = (event.kind(), event.sender());
+        let (sent, received) = (event.sender_clock(), event.receiver_clock());
+        write!(text, " {kind:?} {sender}@{sent} at {received}")?;
+    }
+    Ok(())
+}
+
+fn make_all(
+    rt: &impl Abort,
+    alloc: Heap,
+    rank: &mut Rank,
+    scene: &mut Scene,
+    calls: &[(Call, Answer)],
+) -> Result<(), Fail>
+    requires size { rank.old.stable.size ≡ 8 }
+    requires number { rank.old.stable.rank < 8 }
+{
+    let mut place = 0usize;
+    for row in calls {
+        let (call, want) = *row;
+        let found = make(rt, alloc, rank, scene, call)?;
+        assert_eq!(rt; found, want, "call {place}");
+        place = place.saturating_add(1);
+    }
+    Ok(())
+}
+
+// Makes a call.
+fn make(
+    rt: &impl Abort,
+    alloc: Heap,
+    rank: &mut Rank,
+    scene: &mut Scene,
+    call: Call,
+) -> Result<Answer, Fail>
+    requires size { rank.old.stable.size ≡ 8 }
+    requires number { rank.old.stable.rank < 8 }
+    ensures { rank.new.stable ≡ rank.old.stable }
+{
+    match call {
+        Call::Step => Ok(Answer::Stepped(rank.step(&mut scene.screen))),
+        Call::Stride(most) => Ok(Answer::Counted(rank.stride(most))),
+        Call::Work => work(rt, rank, scene),
+        Call::Rounds(most) => rounds(rank, &mut scene.screen, most),
+        Call::FedRounds(most) => fed_rounds(rt, alloc, rank, &mut scene.screen, most),
+        Call::Arrive(from, source, number) => arrive_one(rt, alloc, rank, from, source, number),
+        Call::ArriveMany(most) => arrive_many(rt, alloc, rank, most),
+        Call::ArriveLong => Ok(arrive(rank, 1, Frame::Data(long_packet(alloc)?))),
+        Call::Store => Ok(Answer::Stored(store(rt, rank, &mut scene.logger))),
+        Call::Ack => Ok(Answer::Was(rank.ack())),
+        Call::Next(dest) => next(rt, rank, dest),
+        Call::Silent => silent(rank),
+        Call::Pass(dest) => pass(rt, rank, dest),
+        Call::GiveBack(first) => give_back(rank, first),
+        Call::Ask(number) => Ok(ask(rt, rank, number)),
+        Call::Kept(number) => Ok(keep(rt, rank, number)),
+        Call::Wants => Ok(Answer::Wanted(rank.wants())),
+        Call::Refusal => Ok(Answer::Refused(rank.refusal())),
+        Call::Clock => Ok(Answer::Counted(rank.clock())),
+        Call::Dark => {
+            scene.screen.dark = true;
+            Ok(Answer::Was(true))
+        }
+    }
+}
+
+// The oldest event that isn't stored goes to the logger.
+fn store(
+    rt: &impl Abort,
+    rank: &mut Rank,
+    logger: &mut LoggerState,
+) -> Result<Option<u32>, NodeFault>
+    requires { rank.old.stable.rank < 8 }
+    ensures { rank.new.stable ≡ rank.old.stable }
+{
+    assert!(rt; logger.ranks() == 8);
+    rank.store_state(logger)
+}
+
+fn work(rt: &impl Abort, rank: &mut Rank, scene: &mut Scene) -> Result<Answer, Fail>
+    requires { rank.old.stable.rank < 8 }
+    ensures { rank.new.stable ≡ rank.old.stable }
+{
+    let mut moved = 0u32;
+    let mut held = 0u32;
+    for _ in 0..4000 {
+        match rank.step(&mut scene.screen)? {
+            Turn::Moved => moved = moved.saturating_add(1),
+            Turn::Held => {
+                store(rt, rank, &mut scene.logger)?.ok_or("nothing to store")?;
+                assert!(rt; rank.ack());
+                held = held.saturating_add(1);
+            }
+            Turn::Blocked | Turn::Ended => break,
+        }
+    }
+    Ok(Answer::Worked(moved, held))
+}
+
+fn rounds(rank: &mut Rank, screen: &mut LastLine, most: u32) -> Result<Answer, Fail>
+    ensures { rank.new.stable ≡ rank.old.stable }
+{
+    let mut made = 0u32;
+    for _ in 0..most {
+        if rank.stride(9) != 2 || rank.step(screen)? != Turn::Moved {
+            break;
+        }
+        made = made.saturating_add(1);
+    }
+    Ok(Answer::Counted(made))
+}
+
+fn fed_rounds(
+    rt: &impl Abort,
+    alloc: Heap,
+    rank: &mut Rank,
+    screen: &mut LastLine,
+    most: u32,
+) -> Result<Answer, Fail>
+    requires size { rank.old.stable.size ≡ 8 }
+    ensures { rank.new.stable ≡ rank.old.stable }
+{
+    let mut made = 0u32;
+    for number in 1..=most {
+        let came = arrive_one(rt, alloc, rank, 1, 1, number)?;
+        if came != ACCEPTED || rounds(rank, screen, 1)? != Answer::Counted(1) {
+            break;
+        }
+        made = made.saturating_add(1);
+    }
+    Ok(Answer::Counted(made))
+}
+
+fn arrive_one(
+    rt: &impl Abort,
+    alloc: Heap,
+    rank: &mut Rank,
+    from: u8,
+    source: u8,
+    number: u32,
+) -> Result<Answer, Fail>
+    requires size { rank.old.stable.size ≡ 8 }
+    ensures { rank.new.stable ≡ rank.old.stable }
+{
+    assert!(rt; from < 8 && source < 8 && 0 < number && number <= 5000);
+    let frame = Frame::Data(packet(alloc, source, number)?);
+    Ok(arrive(rank, from, frame))
+}
+
+fn arrive_many(rt: &impl Abort, alloc: Heap, rank: &mut Rank, most: u32) -> Result<Answer, Fail>
+    requires size { rank.old.stable.size ≡ 8 }
+    ensures { rank.new.stable ≡ rank.old.stable }
+{
+    let mut came = 0u32;
+    for number in 1..=most {
+        if arrive_one(rt, alloc, rank, 1, 1, number)? == ACCEPTED {
+            came = came.saturating_add(1);
+        }
+    }
+    Ok(Answer::Counted(came))
+}
+
+// Where memory ends the frame comes back, and is offered again.
+fn arrive(rank: &mut Rank, from: u8, frame: Frame) -> Answer
+    requires rank { from < rank.old.stable.size }
+    ensures { rank.new.stable ≡ rank.old.stable }
+{
+    match rank.arrive(from, frame) {
+        Ok(answer) => Answer::Arrived(answer),
+        Err((back, _)) => match rank.arrive(from, back) {
+            Ok(answer) => Answer::Arrived(answer),
+            Err(_) => Answer::Was(false),
+        },
+    }
+}
+
+fn next(rt: &impl Abort, rank: &Rank, dest: u8) -> Result<Answer, Fail>
+    requires { rank.now.stable.size ≡ 8 }
+{
+    assert!(rt; dest < 8);
+    Ok(Answer::Goes(next_packet(rank, dest)?))
+}
+
+fn silent(rank: &Rank) -> Result<Answer, Fail>
+    requires { rank.now.stable.size ≡ 8 }
+{
+    let mut count = 0u32;
+    for dest in 0..8 {
+        if rank.outgoing(dest)?.is_none() {
+            count = count.saturating_add(1);
+        }
+    }
+    Ok(Answer::Counted(count))
+}
+
+fn pass(rt: &impl Abort, rank: &mut Rank, dest: u8) -> Result<Answer, Fail>
+    requires { rank.old.stable.size ≡ 8 }
+    ensures { rank.new.stable ≡ rank.old.stable }
+{
+    assert!(rt; dest < 8);
+    Ok(Answer::Was(passes(rank, dest)?))
+}
+
+// Each packet is ten times its number and one more, and was sent by every second act.
+fn give_back(rank: &mut Rank, first: u32) -> Result<Answer, Fail>
+    requires { rank.old.stable.size ≡ 8 }
+    ensures { rank.new.stable ≡ rank.old.stable }
+{
+    let mut gone = 0u32;
+    for number in first..301 {
+        let item = 10 * i64::from(number) + 1;
+        let want = Some((number, number.saturating_mul(2), 1, Some(item)));
+        if next_packet(rank, 1)? != want || !passes(rank, 1)? {
+            break;
+        }
+        gone = gone.saturating_add(1);
+    }
+    Ok(Answer::Counted(gone))
+}
+
+fn ask(rt: &impl Abort, rank: &mut Rank, number: u32) -> Answer
+    requires { rank.old.stable.size ≡ 8 }
+    ensures { rank.new.stable ≡ rank.old.stable }
+{
+    assert!(rt; 0 < number && number < 301);
+    let from = AskFrom::new(number);
+    Answer::Was(notes(rank, 1, Frame::Ask { from }))
+}
+
+fn keep(rt: &impl Abort, rank: &mut Rank, number: u32) -> Answer
+    requires { rank.old.stable.size ≡ 8 }
+    ensures { rank.new.stable ≡ rank.old.stable }
+{
+    assert!(rt; number < 301);
+    let upto = KeptUpto::new(number);
+    Answer::Was(notes(rank, 1, Frame::Kept { upto }))
+}
