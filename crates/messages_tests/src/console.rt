@@ -2,8 +2,10 @@
 //! order.
 ghost use Rattle.std.specs.Prelude.{◌≤◌};
 
+use metered::Heap;
 use ports::{ConsoleState, Line};
 use rank_node::{Screen, Shown};
+use std::alloc::AllocError;
 use std::process::Abort;
 use std::test::*;
 
@@ -26,38 +28,59 @@ fn has(rt: &impl Abort, console: &ConsoleState, want: &[Line]) {
     assert_eq!(rt; console.lines(), want);
 }
 
+/// A line, and what becomes of it: rank, clock and value.
+type Row = ((u8, u32, i64), Shown);
+
+/// Lines of two ranks, and of ranks beyond the table.
+const LINES: [Row; 12] = [
+    ((0, 1, 5), Shown::Shown),
+    ((0, 2, 5), Shown::Shown),
+    ((0, 2, 5), Shown::Repeated),
+    ((0, 1, 5), Shown::Repeated),
+    ((1, 1, 7), Shown::Shown),
+    ((0, 4, -9), Shown::Shown),
+    ((1, 2, 7), Shown::Shown),
+    ((0, 3, 6), Shown::Repeated),
+    ((0, 4, 6), Shown::Repeated),
+    ((9, 0, 5), Shown::Shown),
+    ((9, 0, 5), Shown::Repeated),
+    ((8, 0, 5), Shown::Shown),
+];
+
+/// Those that stand.
+const STANDING: [(u8, u32, i64); 7] = [
+    (0, 1, 5),
+    (0, 2, 5),
+    (1, 1, 7),
+    (0, 4, -9),
+    (1, 2, 7),
+    (9, 0, 5),
+    (8, 0, 5),
+];
+
+/// Shows these lines, one after another.
+fn shows_all(rt: &impl Abort, console: &mut ConsoleState, rows: &[Row]) {
+    for row in rows {
+        let (line, want) = *row;
+        shows(rt, console, line, want);
+    }
+}
+
+/// These lines.
+fn lines_of(alloc: Heap, rows: &[(u8, u32, i64)]) -> Result<Vec<Line, Heap>, AllocError> {
+    let mut lines = Vec::new(alloc);
+    for row in rows {
+        let (rank, clock, value) = *row;
+        lines.push(Line { rank, clock, value })?;
+    }
+    Ok(lines)
+}
+
 #[test]
 fn a_line_is_shown_once(rt: HostRuntime) -> Result<(), Fail> {
     let mut console = ConsoleState::new(rt.alloc(), 2)?;
-    for (rank, clock, value, want) in [
-        (0u8, 1u32, 5i64, Shown::Shown),
-        (0, 2, 5, Shown::Shown),
-        (0, 2, 5, Shown::Repeated),
-        (0, 1, 5, Shown::Repeated),
-        (1, 1, 7, Shown::Shown),
-        (0, 4, -9, Shown::Shown),
-        (1, 2, 7, Shown::Shown),
-        (0, 3, 6, Shown::Repeated),
-        (0, 4, 6, Shown::Repeated),
-        // beyond the table
-        (9, 0, 5, Shown::Shown),
-        (9, 0, 5, Shown::Repeated),
-        (8, 0, 5, Shown::Shown),
-    ] {
-        shows(&rt, &mut console, (rank, clock, value), want);
-    }
-    let mut want = Vec::new(rt.alloc());
-    for (rank, clock, value) in [
-        (0u8, 1u32, 5i64),
-        (0, 2, 5),
-        (1, 1, 7),
-        (0, 4, -9),
-        (1, 2, 7),
-        (9, 0, 5),
-        (8, 0, 5),
-    ] {
-        want.push(Line { rank, clock, value })?;
-    }
+    shows_all(&rt, &mut console, &LINES);
+    let want = lines_of(rt.alloc(), &STANDING)?;
     has(&rt, &console, want.as_slice());
     Ok(())
 }
@@ -75,18 +98,27 @@ fn line(place: u32) -> Line
     }
 }
 
+/// Shows a line for each of 300 places. Then it comes again, and as one that a replay may print late.
+fn shows_300(
+    rt: &impl Abort,
+    alloc: Heap,
+    console: &mut ConsoleState,
+) -> Result<Vec<Line, Heap>, AllocError> {
+    let mut lines = Vec::new(alloc);
+    for place in 0..300u32 {
+        let Line { rank, clock, value } = line(place);
+        shows(rt, console, (rank, clock, value), Shown::Shown);
+        lines.push(line(place))?;
+        shows(rt, console, (rank, clock, value), Shown::Repeated);
+        shows(rt, console, (rank, clock - 1, value), Shown::Repeated);
+    }
+    Ok(lines)
+}
+
 #[test]
 fn three_hundred_lines_of_eight_ranks(rt: HostRuntime) -> Result<(), Fail> {
     let mut console = ConsoleState::new(rt.alloc(), 8)?;
-    let mut want = Vec::new(rt.alloc());
-    for place in 0..300u32 {
-        let Line { rank, clock, value } = line(place);
-        shows(&rt, &mut console, (rank, clock, value), Shown::Shown);
-        want.push(line(place))?;
-        // again, and as one that a replay may print late
-        shows(&rt, &mut console, (rank, clock, value), Shown::Repeated);
-        shows(&rt, &mut console, (rank, clock - 1, value), Shown::Repeated);
-    }
+    let want = shows_300(&rt, rt.alloc(), &mut console)?;
     has(&rt, &console, want.as_slice());
     Ok(())
 }

@@ -37,13 +37,20 @@ fn arrives(rt: &impl Abort, inbox: &mut Inbox, arrival: Packet, want: Accept) ->
     Ok(())
 }
 
-#[test]
-fn only_the_next_number_is_accepted(rt: HostRuntime) -> Result<(), Fail> {
-    let mut inbox = Inbox::new(rt.alloc(), 8)?;
-    for (source, number, want, accepted) in ARRIVALS {
+/// Lets each of these arrive.
+fn arrive_all(
+    rt: &impl Abort,
+    alloc: Heap,
+    inbox: &mut Inbox,
+    rows: &[(u8, u32, Accept, u32)],
+) -> Result<(), Fail>
+    requires { length inbox.old.accepted ≡ 8 }
+{
+    for row in rows {
+        let (source, number, want, accepted) = *row;
         assert!(rt; source < 8 && 0 < number && number < 10);
-        let arrival = packet(rt.alloc(), source, number, Context::PointToPoint, 0, &[7])?;
-        arrives(&rt, &mut inbox, arrival, want)?;
+        let arrival = packet(alloc, source, number, Context::PointToPoint, 0, &[7])?;
+        arrives(rt, inbox, arrival, want)?;
         assert_eq!(rt;
             inbox.accepted(source),
             accepted,
@@ -51,6 +58,12 @@ fn only_the_next_number_is_accepted(rt: HostRuntime) -> Result<(), Fail> {
         );
     }
     Ok(())
+}
+
+#[test]
+fn only_the_next_number_is_accepted(rt: HostRuntime) -> Result<(), Fail> {
+    let mut inbox = Inbox::new(rt.alloc(), 8)?;
+    arrive_all(&rt, rt.alloc(), &mut inbox, &ARRIVALS)
 }
 
 /// What names a packet of this context.

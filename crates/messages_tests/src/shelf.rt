@@ -2,33 +2,54 @@
 
 use crate::fixtures::bytes;
 use checkpoint::{MemoryShelf, Shelf};
+use metered::Heap;
+use std::process::Abort;
 use std::test::*;
+
+/// How many bytes an image has, and the first of them.
+const IMAGES: [(u16, u8); 6] = [(3, 1), (0, 0), (1, 250), (5000, 0), (5000, 9), (4, 200)];
+
+/// Puts an image, which is given then, each time.
+fn keeps(
+    rt: &impl Abort,
+    alloc: Heap,
+    shelf: &mut MemoryShelf,
+    count: u16,
+    first: u8,
+) -> Result<(), Fail> {
+    let image = bytes(alloc, count, first)?;
+    assert!(rt; image.len() == usize::from(count));
+    assert!(rt;
+        shelf.put(bytes(alloc, count, first)?) == Ok(()),
+        "{count} bytes"
+    );
+    for _ in 0..2 {
+        let found = shelf.get().expect(rt, "no device fails");
+        let found = found.expect(rt, "an image was put");
+        assert_eq!(rt; found.as_slice(), image.as_slice(), "{count} bytes");
+    }
+    Ok(())
+}
+
+/// Puts these, one after another.
+fn keeps_each(
+    rt: &impl Abort,
+    alloc: Heap,
+    shelf: &mut MemoryShelf,
+    rows: &[(u16, u8)],
+) -> Result<(), Fail> {
+    for row in rows {
+        let (count, first) = *row;
+        keeps(rt, alloc, shelf, count, first)?;
+    }
+    Ok(())
+}
 
 #[test]
 fn the_last_image_is_given_each_time(rt: HostRuntime) -> Result<(), Fail> {
     let mut shelf = MemoryShelf::new(rt.alloc());
     assert!(rt; matches!(shelf.get(), Ok(None)));
-    for (count, first) in [
-        (3u16, 1u8),
-        (0, 0),
-        (1, 250),
-        (5000, 0),
-        (5000, 9),
-        (4, 200),
-    ] {
-        let image = bytes(rt.alloc(), count, first)?;
-        assert_eq!(rt; image.len(), usize::from(count));
-        assert_eq!(rt;
-            shelf.put(bytes(rt.alloc(), count, first)?),
-            Ok(()),
-            "{count} bytes"
-        );
-        for _ in 0..2 {
-            let found = shelf.get().expect(&rt, "no device fails");
-            let found = found.expect(&rt, "an image was put");
-            assert_eq!(rt; found.as_slice(), image.as_slice(), "{count} bytes");
-        }
-    }
-    assert_eq!(rt; shelf.faults(), 0);
+    keeps_each(&rt, rt.alloc(), &mut shelf, &IMAGES)?;
+    assert!(rt; shelf.faults() == 0);
     Ok(())
 }

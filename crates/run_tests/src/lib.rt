@@ -6,6 +6,8 @@
 #![tactic(auto)]
 
 #[cfg(test)]
+mod faults;
+#[cfg(test)]
 mod limits;
 #[cfg(test)]
 mod lines;
@@ -17,7 +19,5 @@ mod reports;
 mod scenes;
 #[cfg(test)]
 mod told;
-#[cfg(test)]
-mod values;
 #[cfg(test)]
 mod words;

@@ -51,61 +51,45 @@ while i < 2
 end
 ";
 
-// Each round on one line. Rank 1 takes in the round of rank 0's send, rank 0 in the round after rank 1's.
-#[test]
-fn receptions_of_two_ranks(rt: HostRuntime) -> Result<(), Fail> {
-    expect(
-        &rt,
-        PAIR,
-        2,
-        10,
-        concat!(
-            "told 0@1 1@1",
-            " 0@2 1@2",
-            " 0@2 1@3",
-            " 0@2",
-            " 0@3 1@4",
-            " 1@4",
-            " 0@4 1@4",
-            " 0@5 1@5",
-            " 0@5 1@6",
-            " 0@5",
-            " 0@6\n",
-            "row 0: Reception 1@3 at 2 Reception 1@6 at 5\n",
-            "row 1: Reception 0@1 at 1 Reception 0@4 at 4\n",
-            "1@2> 10\n0@3> 20\n1@5> 11\n0@6> 22\n",
-            "ends halted halted\n",
-            "crashes 0, calls 2 2\n",
-        ),
-    )
-}
+/// Each round on one line. Rank 1 takes in the round of rank 0's send, rank 0 in the round after rank 1's.
+const OF_PAIR: &str = concat!(
+    "told 0@1 1@1",
+    " 0@2 1@2",
+    " 0@2 1@3",
+    " 0@2",
+    " 0@3 1@4",
+    " 1@4",
+    " 0@4 1@4",
+    " 0@5 1@5",
+    " 0@5 1@6",
+    " 0@5",
+    " 0@6\n",
+    "row 0: Reception 1@3 at 2 Reception 1@6 at 5\n",
+    "row 1: Reception 0@1 at 1 Reception 0@4 at 4\n",
+    "1@2> 10\n0@3> 20\n1@5> 11\n0@6> 22\n",
+    "ends halted halted\n",
+    "crashes 0, calls 2 2\n",
+);
 
-// Each of 8 ranks sends its number to the next one.
-#[test]
-fn receptions_of_eight_ranks(rt: HostRuntime) -> Result<(), Fail> {
-    expect(
-        &rt,
-        "var x\nsend (rank + 1) % size, rank, rank\nrecv any, any, x\nprint x\n",
-        8,
-        10,
-        concat!(
-            "told 0@1 1@1 2@1 3@1 4@1 5@1 6@1 7@1",
-            " 0@2 1@2 2@2 3@2 4@2 5@2 6@2 7@2",
-            " 0@3 1@3 2@3 3@3 4@3 5@3 6@3 7@3\n",
-            "row 0: Reception 7@1 at 2\n",
-            "row 1: Reception 0@1 at 2\n",
-            "row 2: Reception 1@1 at 2\n",
-            "row 3: Reception 2@1 at 2\n",
-            "row 4: Reception 3@1 at 2\n",
-            "row 5: Reception 4@1 at 2\n",
-            "row 6: Reception 5@1 at 2\n",
-            "row 7: Reception 6@1 at 2\n",
-            "0@3> 7\n1@3> 0\n2@3> 1\n3@3> 2\n4@3> 3\n5@3> 4\n6@3> 5\n7@3> 6\n",
-            "ends halted halted halted halted halted halted halted halted\n",
-            "crashes 0, calls 1 1 1 1 1 1 1 1\n",
-        ),
-    )
-}
+/// Each of 8 ranks sends its number to the next one.
+const ROUND: &str = "var x\nsend (rank + 1) % size, rank, rank\nrecv any, any, x\nprint x\n";
+
+const OF_ROUND: &str = concat!(
+    "told 0@1 1@1 2@1 3@1 4@1 5@1 6@1 7@1",
+    " 0@2 1@2 2@2 3@2 4@2 5@2 6@2 7@2",
+    " 0@3 1@3 2@3 3@3 4@3 5@3 6@3 7@3\n",
+    "row 0: Reception 7@1 at 2\n",
+    "row 1: Reception 0@1 at 2\n",
+    "row 2: Reception 1@1 at 2\n",
+    "row 3: Reception 2@1 at 2\n",
+    "row 4: Reception 3@1 at 2\n",
+    "row 5: Reception 4@1 at 2\n",
+    "row 6: Reception 5@1 at 2\n",
+    "row 7: Reception 6@1 at 2\n",
+    "0@3> 7\n1@3> 0\n2@3> 1\n3@3> 2\n4@3> 3\n5@3> 4\n6@3> 5\n7@3> 6\n",
+    "ends halted halted halted halted halted halted halted halted\n",
+    "crashes 0, calls 1 1 1 1 1 1 1 1\n",
+);
 
 // Two idle turns before a frame don't count with those after it: four more pass before the mark.
 const TWICE: &str = "var x
@@ -157,31 +141,73 @@ print 3
 print 1 / 0
 ";
 
-#[test]
-fn idle_turns(rt: HostRuntime) -> Result<(), Fail> {
-    for (text, idle, want) in [
-        (
-            TWICE,
-            4,
-            "told 0@1 1@1 0@2 1@1 0@3 1@1 1@2 1@2 1@2 1@2\nrow 0:\nrow 1: Reception 0@3 at 1\n0@1> 1\n0@2> 2\nends halted stalled\ncrashes 0, calls 0 1\n",
-        ),
-        (
-            LATE,
-            2,
-            "told 0@1 0@1 0@1 1@1 0@1 0@2 0@3 0@4\nrow 0: Reception 1@1 at 1\nrow 1:\n0@2> 8\n0@3> 9\n0@4> 10\nends halted halted\ncrashes 0, calls 1 0\n",
-        ),
-        (
-            UNWANTED,
-            2,
-            "told 0@1 1@1 0@1 1@2 0@1 1@3 0@1 0@1 0@1\nrow 0:\nrow 1:\n1@1> 1\n1@2> 2\nends stalled halted\ncrashes 0, calls 0 0\n",
-        ),
-        (
-            FAULTS,
-            1,
-            "told 0@1 1@1 0@2 1@1 0@3 1@1 1@1\nrow 0:\nrow 1:\n0@1> 1\n0@2> 2\n0@3> 3\nends fault-2 stalled\ncrashes 0, calls 0 0\n",
-        ),
-    ] {
-        expect(&rt, text, 2, idle, want)?;
+// Rank 1 asks before the message is sent, waits for it, asks again, and takes it: four events, each stored before the print.
+const PROBES: &str = "var x
+if rank
+  iprobe any, any, x
+  probe 0, 4
+  iprobe 0, 4, x
+  recv 0, any, x
+  print x
+else
+  print 1
+  send 1, 4, 30
+end
+";
+
+/// How many ranks there are, after how many idle turns one is marked, the program, and what its run tells and reports.
+type Row = (u8, u32, &'static str, &'static str);
+
+const REPORTS: [Row; 7] = [
+    (2, 10, PAIR, OF_PAIR),
+    (8, 10, ROUND, OF_ROUND),
+    (
+        2,
+        4,
+        TWICE,
+        "told 0@1 1@1 0@2 1@1 0@3 1@1 1@2 1@2 1@2 1@2\nrow 0:\nrow 1: Reception 0@3 at 1\n0@1> 1\n0@2> 2\nends halted stalled\ncrashes 0, calls 0 1\n",
+    ),
+    (
+        2,
+        2,
+        LATE,
+        "told 0@1 0@1 0@1 1@1 0@1 0@2 0@3 0@4\nrow 0: Reception 1@1 at 1\nrow 1:\n0@2> 8\n0@3> 9\n0@4> 10\nends halted halted\ncrashes 0, calls 1 0\n",
+    ),
+    (
+        2,
+        2,
+        UNWANTED,
+        "told 0@1 1@1 0@1 1@2 0@1 1@3 0@1 0@1 0@1\nrow 0:\nrow 1:\n1@1> 1\n1@2> 2\nends stalled halted\ncrashes 0, calls 0 0\n",
+    ),
+    (
+        2,
+        1,
+        FAULTS,
+        "told 0@1 1@1 0@2 1@1 0@3 1@1 1@1\nrow 0:\nrow 1:\n0@1> 1\n0@2> 2\n0@3> 3\nends fault-2 stalled\ncrashes 0, calls 0 0\n",
+    ),
+    (
+        2,
+        10,
+        PROBES,
+        "told 0@1 1@1 0@2 1@2 1@3 1@4 1@5\nrow 0:\nrow 1: Miss 0@0 at 1 Hit 0@2 at 2 Hit 0@2 at 3 Reception 0@2 at 4\n\
+         0@1> 1\n1@5> 30\nends halted halted\ncrashes 0, calls 0 4\n",
+    ),
+];
+
+// Each of these runs tells and reports this.
+fn expect_all<R: Threads + Wait + Sync + Copy + Send + AllocGlobal + Abort>(
+    rt: &R,
+    rows: &[Row],
+) -> Result<(), Fail> {
+    for row in rows {
+        let (ranks, idle, text, want) = *row;
+        assert!(rt; 0 < ranks && ranks <= 8);
+        expect(rt, text, ranks, idle, want)?;
     }
     Ok(())
+}
+
+#[test]
+fn reports(rt: HostRuntime) -> Result<(), Fail> {
+    expect_all(&rt, &REPORTS)
 }

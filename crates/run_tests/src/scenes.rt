@@ -72,6 +72,34 @@ pub fn answer_of<R: Threads + Wait + Sync + Copy + Send + AllocGlobal>(
     Ok(Answer { status, out, err })
 }
 
+// The program called with these words answers this: its status and what it writes to both streams.
+pub fn expect_answer<R: Threads + Wait + Sync + Copy + Send + AllocGlobal + Abort>(
+    rt: &R,
+    words: &str,
+    files: &[(&str, &str)],
+    want: (u8, &str, &str),
+) -> Result<(), Fail> {
+    let answer = answer_of(rt, words, files)?;
+    let found = (answer.status, answer.out(), answer.err());
+    assert_eq!(rt; found, want, "at {words} and {files:?}");
+    Ok(())
+}
+
+/// A run: its options, the program's text, the exit status, and what it writes to standard output.
+pub type Run = (&'static str, &'static str, u8, &'static str);
+
+// Each of these runs ends and writes as its row says, and nothing to standard error.
+pub fn expect_runs<R: Threads + Wait + Sync + Copy + Send + AllocGlobal + Abort>(
+    rt: &R,
+    runs: &[Run],
+) -> Result<(), Fail> {
+    for run in runs {
+        let (options, text, status, out) = *run;
+        expect_run(rt, options, text, status, out)?;
+    }
+    Ok(())
+}
+
 // The program `text` run with these options answers this.
 pub fn expect_run<R: Threads + Wait + Sync + Copy + Send + AllocGlobal + Abort>(
     rt: &R,
@@ -81,9 +109,5 @@ pub fn expect_run<R: Threads + Wait + Sync + Copy + Send + AllocGlobal + Abort>(
     out: &str,
 ) -> Result<(), Fail> {
     let words = format!(in rt.alloc(); "run {options} p")?;
-    let answer = answer_of(rt, words.as_str(), &[("p", text)])?;
-    assert_eq!(rt; answer.out(), out, "at {options}:\n{text}");
-    assert_eq!(rt; answer.err(), "", "at {options}:\n{text}");
-    assert_eq!(rt; answer.status, status, "at {options}:\n{text}");
-    Ok(())
+    expect_answer(rt, words.as_str(), &[("p", text)], (status, out, ""))
 }
