@@ -156,19 +156,26 @@ fn eight_ranks_on_threads(rt: HostRuntime) -> Result<(), Fail> {
     Ok(())
 }
 
-// One rank's appends at these clocks, and what they are answered.
-fn append_all(rt: &impl Abort, logger: &Logger, desk: &mut Desk)
+/// The clock of an event, and what becomes of it.
+type Append = (u32, Result<u32, LogFault>);
+
+/// One rank's appends.
+const APPENDS: [Append; 6] = [
+    (5, Ok(1)),
+    (5, Err(LogFault::Order)),
+    (4, Err(LogFault::Order)),
+    (6, Ok(2)),
+    (268_435_455, Ok(3)),
+    (1, Err(LogFault::Order)),
+];
+
+// Each of these becomes what its row says.
+fn append_all(rt: &impl Abort, logger: &Logger, desk: &mut Desk, rows: &[Append])
     requires { desk.old.table ≡ logger.now.table }
     ensures { IsSameDesk desk.old desk.new }
 {
-    for (clock, want) in [
-        (5, Ok(1)),
-        (5, Err(LogFault::Order)),
-        (4, Err(LogFault::Order)),
-        (6, Ok(2)),
-        (268_435_455, Ok(3)),
-        (1, Err(LogFault::Order)),
-    ] {
+    for row in rows {
+        let (clock, want) = *row;
         let length = logger.append(desk, reception(rt, clock));
         assert_eq!(rt; length, want, "at {clock}");
     }
@@ -181,7 +188,7 @@ fn refuses_out_of_order(rt: HostRuntime) -> Result<(), Fail> {
     let Some(mut desk) = desks.pop() else {
         unreachable!()
     };
-    append_all(&rt, &logger, &mut desk);
+    append_all(&rt, &logger, &mut desk, &APPENDS);
     assert_eq!(rt; (desk.rank(), desk.calls(), desk.reads()), (0, 6, 0));
     desks.push_reserved(desk);
     let ledger = logger.close(alloc, desks)?;
