@@ -4,6 +4,7 @@ ghost use Rattle.rank_text.specs.SeenForms.{choice_of as choice_seen, form_seen,
 ghost use Rattle.rank_text.specs.Tree.{tree_of};
 ghost use Rattle.rank_lines.specs.SeenLines.{forms_seen};
 ghost use Rattle.rank_language.specs.Named.{array_at, buffer_name, choice_named, form_named, named, payload_named, value_named};
+ghost use Rattle.rank_language.specs.Placed.{declare_array, does, receive, send};
 ghost use Rattle.rank_language.specs.Program.{AllPlaced, IsBufferWithin, IsChoiceWithin, IsPayloadWithin, IsPlaced, IsWithin};
 ghost use Rattle.rank_language.specs.Seen.{buffer_of, choice_of, line_of, payload_of, placed_of};
 ghost use Rattle.rank_language.specs.SeenTables.{tables_seen};
@@ -107,6 +108,57 @@ fn name_buffer(tables: Tables<'_>, buffer: &Buffer) -> Name
     }
 }
 
+/// The declaration of the array at a place.
+fn name_array(tables: Tables<'_>, place: usize) -> Form
+    requires { place < length (tables_seen tables).arrays }
+    ensures { form_seen result ≡ form_named (tables_seen tables.entry) (does (declare_array place)) }
+{
+    let array = array_at(tables, place);
+    Form::Array(array.name, array.length as u64)
+}
+
+/// A send with names for its places.
+fn name_send(
+    alloc: Heap,
+    tables: Tables<'_>,
+    destination: &Expression,
+    tag: &Expression,
+    payload: &Payload,
+) -> Result<Form, AllocError>
+    requires destination { IsWithin (length (tables_seen tables).variables) (length (tables_seen tables).arrays) (placed_of destination.now) }
+    requires tag { IsWithin (length (tables_seen tables).variables) (length (tables_seen tables).arrays) (placed_of tag.now) }
+    requires payload { IsPayloadWithin (length (tables_seen tables).variables) (length (tables_seen tables).arrays) (payload_of payload.now) }
+    ensures { IfOk result (λ f. form_seen f
+        ≡ form_named (tables_seen tables.entry) (does (send (placed_of destination.now) (placed_of tag.now) (payload_of payload.now)))) }
+{
+    Ok(Form::Send(
+        name(alloc, tables, destination)?,
+        name(alloc, tables, tag)?,
+        name_payload(alloc, tables, payload)?,
+    ))
+}
+
+/// A receive with names for its places.
+fn name_receive(
+    alloc: Heap,
+    tables: Tables<'_>,
+    source: &Choice,
+    tag: &Choice,
+    buffer: &Buffer,
+) -> Result<Form, AllocError>
+    requires source { IsChoiceWithin (length (tables_seen tables).variables) (length (tables_seen tables).arrays) (choice_of source.now) }
+    requires tag { IsChoiceWithin (length (tables_seen tables).variables) (length (tables_seen tables).arrays) (choice_of tag.now) }
+    requires buffer { IsBufferWithin (length (tables_seen tables).variables) (length (tables_seen tables).arrays) (buffer_of buffer.now) }
+    ensures { IfOk result (λ f. form_seen f
+        ≡ form_named (tables_seen tables.entry) (does (receive (choice_of source.now) (choice_of tag.now) (buffer_of buffer.now)))) }
+{
+    Ok(Form::Recv(
+        name_choice(alloc, tables, source)?,
+        name_choice(alloc, tables, tag)?,
+        name_buffer(tables, buffer),
+    ))
+}
+
 /// The statement with names for its places.
 pub(crate) fn name_form(
     alloc: Heap,
@@ -118,10 +170,7 @@ pub(crate) fn name_form(
 {
     match statement {
         Statement::Declare(place) => Ok(Form::Var(tables.variables[*place])),
-        Statement::DeclareArray(place) => {
-            let array = array_at(tables, *place);
-            Ok(Form::Array(array.name, array.length as u64))
-        }
+        Statement::DeclareArray(place) => Ok(name_array(tables, *place)),
         Statement::Assign(place, value) => Ok(Form::Let(
             tables.variables[*place],
             name(alloc, tables, value)?,
@@ -139,20 +188,12 @@ pub(crate) fn name_form(
             destination,
             tag,
             payload,
-        } => Ok(Form::Send(
-            name(alloc, tables, destination)?,
-            name(alloc, tables, tag)?,
-            name_payload(alloc, tables, payload)?,
-        )),
+        } => name_send(alloc, tables, destination, tag, payload),
         Statement::Receive {
             source,
             tag,
             buffer,
-        } => Ok(Form::Recv(
-            name_choice(alloc, tables, source)?,
-            name_choice(alloc, tables, tag)?,
-            name_buffer(tables, buffer),
-        )),
+        } => name_receive(alloc, tables, source, tag, buffer),
         Statement::Probe { source, tag } => Ok(Form::Probe(
             name_choice(alloc, tables, source)?,
             name_choice(alloc, tables, tag)?,

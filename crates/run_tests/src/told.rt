@@ -67,7 +67,7 @@ pub fn described(alloc: Heap, told: &Told, report: &Report) -> Result<String<Hea
 }
 
 fn print_row(text: &mut String<Heap>, rank: usize, row: &[Event]) -> Result<(), AllocError> {
-    write!(text, "row {rank}:")?;
+    write!(text, "events of {rank}:")?;
     for event in row {
         write!(
             text,
