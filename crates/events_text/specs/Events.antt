@@ -4,7 +4,7 @@ use Rattle.std.specs.Prelude.{Some, None, Result, Ok, Err, if◌then◌else◌}
 use Rattle.std.specs.Str.{bytes_eq}
 use Rattle.metered.specs.Limits.{most_event_lines}
 use Rattle.world_model.specs.declared.event.WorldEvent.{WorldEvent}
-use Rattle.world_model.specs.declared.event.WorldEvent.TheVariants.{Step, Put, Arrive, Store, Ack, Image, Crash, Restart}
+use Rattle.world_model.specs.declared.event.WorldEvent.TheVariants.{Step, Put, Arrive, Store, Ack, Image, Crash, Restart, Release}
 use Rattle.events_text.specs.declared.fault.EventsFaultKind.{EventsFaultKind}
 use Rattle.events_text.specs.declared.fault.EventsFaultKind.TheVariants.{BadLine, Limit}
 use Rattle.events_text.specs.declared.line.Judged as source_judged
@@ -51,7 +51,8 @@ rank_event name r =
     if bytes_eq name (codes "ack") then Some (Ack r) else (
     if bytes_eq name (codes "image") then Some (Image r) else (
     if bytes_eq name (codes "crash") then Some (Crash r) else (
-    if bytes_eq name (codes "restart") then Some (Restart r) else None)))))
+    if bytes_eq name (codes "restart") then Some (Restart r) else (
+    if bytes_eq name (codes "release") then Some (Release r) else None))))))
 
 -- the event of this name, told by these words
 abbrev pub named_event : List ℕ → List (List ℕ) → Option WorldEvent

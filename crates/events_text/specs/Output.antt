@@ -5,7 +5,7 @@ use Rattle.ports.specs.declared.line.Line.{Line}
 use Rattle.world_model.specs.declared.event.WorldEvent.{WorldEvent}
 use Rattle.world_model.specs.declared.reply.Reply.{Reply}
 use Rattle.world_model.specs.declared.reply.Reply.TheVariants.{Moved, Blocked, Held, Ended, PutData, PutAsk, PutKept, Accepted, Repeated, Gap, Noted}
-use Rattle.world_model.specs.declared.reply.Reply.TheVariants.{Stored, Acked, Imaged, Crashed, Restarted, Refused}
+use Rattle.world_model.specs.declared.reply.Reply.TheVariants.{Stored, Acked, Imaged, Crashed, Restarted, Released, Refused}
 use Rattle.world_model.specs.Headline.{lines_of}
 use Rattle.world_model.specs.World.{WorldValue, size}
 use Rattle.world_model.specs.Follows.{FollowsAll}
@@ -28,6 +28,7 @@ reply_text Acked = codes "acked"
 reply_text Imaged = codes "imaged"
 reply_text Crashed = codes "crashed"
 reply_text (Restarted left) = codes "restarted " ++ decimal left
+reply_text (Released clock) = codes "released " ++ decimal clock
 reply_text Refused = codes "refused"
 
 -- the replies in their order, one a line

@@ -83,6 +83,9 @@ fn rank_event(name: &[u8], rank: u32) -> Option<WorldEvent>
     if name == b"restart".as_slice() {
         return Some(WorldEvent::Restart { rank });
     }
+    if name == b"release".as_slice() {
+        return Some(WorldEvent::Release { rank });
+    }
     None
 }
 

@@ -30,6 +30,7 @@ impl fmt::Display for ReplyLine {
             Reply::Imaged => write!(f, "imaged"),
             Reply::Crashed => write!(f, "crashed"),
             Reply::Restarted(left) => write!(f, "restarted {left}"),
+            Reply::Released(clock) => write!(f, "released {clock}"),
             Reply::Refused => write!(f, "refused"),
         }
     }

@@ -7,6 +7,8 @@ mod console;
 #[cfg(test)]
 mod fixtures;
 #[cfg(test)]
+mod held_packets;
+#[cfg(test)]
 mod inbox;
 #[cfg(test)]
 mod packets;

@@ -9,9 +9,12 @@ use payload_log::PayloadLog;
 use std::process::Abort;
 use std::test::*;
 
+/// A call on a log.
 #[derive(Clone, Copy, Debug)]
-enum Step {
+pub enum Step {
     Save,
+    Hold,
+    Free,
     Transmit,
     Ask(u32),
     Prune(u32),
@@ -27,8 +30,28 @@ fn save(rt: &impl Abort, alloc: Heap, log: &mut PayloadLog, dest: usize) -> Resu
     assert!(rt; dest < 8 && number <= 999);
     let item = 1000 * dest as i64 + i64::from(number);
     let payload = packet(alloc, 2, number, Context::PointToPoint, 0, &[item])?;
-    assert!(rt; log.sent(dest) + 1 == payload.number);
+    assert!(rt; log.sent(dest) + 1 == payload.number && log.held(dest) == 0);
     log.save(dest, payload)?;
+    Ok(())
+}
+
+/// Holds the next packet for a destination, whose item says both. Where there
+/// is no memory for it, nothing is changed and the packet comes back for one
+/// more attempt.
+fn hold(rt: &impl Abort, alloc: Heap, log: &mut PayloadLog, dest: usize) -> Result<(), Fail>
+    requires { dest < length log.old }
+    ensures { length log.new ≡ length log.old }
+{
+    let (sent, held) = (log.sent(dest), log.held(dest));
+    assert!(rt; dest < 8 && sent <= 499 && held <= 499);
+    let number = sent + held + 1;
+    let item = 1000 * dest as i64 + i64::from(number);
+    let payload = packet(alloc, 2, number, Context::PointToPoint, 0, &[item])?;
+    assert!(rt; number == payload.number);
+    if let Err(back) = log.hold(dest, payload) {
+        assert!(rt; log.sent(dest) == sent && log.held(dest) == held);
+        log.hold(dest, back)?;
+    }
     Ok(())
 }
 
@@ -45,7 +68,7 @@ fn transmit(rt: &impl Abort, log: &mut PayloadLog, dest: usize)
 type Stands = (u32, u32, Option<i64>);
 
 /// Does this step for a destination.
-fn take_step(
+pub fn take_step(
     rt: &impl Abort,
     alloc: Heap,
     log: &mut PayloadLog,
@@ -57,6 +80,11 @@ fn take_step(
 {
     match step {
         Step::Save => save(rt, alloc, log, dest)?,
+        Step::Hold => hold(rt, alloc, log, dest)?,
+        Step::Free => {
+            assert!(rt; log.held(dest) > 0);
+            log.free(dest);
+        }
         Step::Transmit => transmit(rt, log, dest),
         Step::Ask(from) => {
             assert!(rt; 0 < from && from <= 999);
@@ -71,7 +99,7 @@ fn take_step(
 }
 
 /// The item of the next packet for a destination.
-fn next_item(log: &PayloadLog, dest: usize) -> Option<i64>
+pub fn next_item(log: &PayloadLog, dest: usize) -> Option<i64>
     requires { dest < length log.now }
 {
     let packet = log.next(dest)?;

@@ -61,6 +61,10 @@ greatest_sender = 15
 abbrev pub most_events : ℕ
 most_events = 4096
 
+-- the sends and lines of one rank that wait at its gate
+abbrev pub most_effects : ℕ
+most_effects = 64
+
 -- the frames that a lane between two ranks holds
 abbrev pub most_frames : ℕ
 most_frames = 64

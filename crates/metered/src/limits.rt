@@ -7,7 +7,7 @@ ghost use Rattle.std.specs.Prelude.{◌≡◌};
 ghost use Rattle.metered.specs.Limits.{most_ranks, most_lines, most_line_bytes, most_blocks};
 ghost use Rattle.metered.specs.Limits.{most_variables, most_arrays, most_name_bytes, most_nodes, most_parentheses};
 ghost use Rattle.metered.specs.Limits.{most_items, most_collective_items, greatest_tag, greatest_clock};
-ghost use Rattle.metered.specs.Limits.{greatest_sender, most_events, most_frames, most_script_lines};
+ghost use Rattle.metered.specs.Limits.{greatest_sender, most_events, most_effects, most_frames, most_script_lines};
 ghost use Rattle.metered.specs.Limits.{most_event_lines};
 
 /// The most ranks of a run.
@@ -55,6 +55,9 @@ pub const GREATEST_SENDER: u8 = 15;
 /// The most events of one rank.
 pub const MOST_EVENTS: usize = 4096;
 
+/// The most sends and lines of one rank that wait at its gate.
+pub const MOST_EFFECTS: usize = 64;
+
 /// The most frames that a lane between two ranks holds.
 pub const MOST_FRAMES: usize = 64;
 
@@ -81,6 +84,7 @@ pub fn law_limits()
     ensures clock { GREATEST_CLOCK ≡ greatest_clock }
     ensures sender { GREATEST_SENDER ≡ greatest_sender }
     ensures events { MOST_EVENTS ≡ most_events }
+    ensures effects { MOST_EFFECTS ≡ most_effects }
     ensures frames { MOST_FRAMES ≡ most_frames }
     ensures script_lines { MOST_SCRIPT_LINES ≡ most_script_lines }
     ensures event_lines { MOST_EVENT_LINES ≡ most_event_lines }

@@ -9,6 +9,8 @@ mod arrays;
 #[cfg(test)]
 mod calls;
 #[cfg(test)]
+mod desks;
+#[cfg(test)]
 mod expressions;
 #[cfg(test)]
 mod limits;
@@ -20,6 +22,8 @@ mod outgoing;
 mod plays;
 #[cfg(test)]
 mod programs;
+#[cfg(test)]
+mod replays;
 #[cfg(test)]
 mod retiring;
 #[cfg(test)]

@@ -25,8 +25,8 @@ end
 print x + source
 ";
 
-/// Packets for two ranks wait at once, each with the next number of its pair of ranks. The print is held once for each of
-/// seven receptions.
+/// Packets for two ranks wait at once, each with the next number of its pair of ranks. The print waits for all seven
+/// receptions.
 const AS_THE_LAST: &[(Call, Answer)] = &[
     (Work, Worked(6, 0)),
     (Next(0), Goes(Some((1, 1, 1, Some(10))))),
@@ -50,7 +50,7 @@ const AS_THE_LAST: &[(Call, Answer)] = &[
     (Arrive(4, 4, 1), ACCEPTED),
     (Arrive(5, 5, 1), ACCEPTED),
     (Arrive(6, 6, 1), ACCEPTED),
-    (Work, Worked(29, 7)),
+    (Work, Worked(29, 1)),
 ];
 
 /// Sends 256 items to rank 1, takes as many of it, and prints the sum of the first and the last.
@@ -80,10 +80,11 @@ end
 print n
 ";
 
-/// What was sent goes again from where rank 1 asks, but for what it kept.
+/// Of 65 sends in succession 64 wait, and one passes at once. What was sent goes again from where rank 1 asks, but for what
+/// it kept.
 const GIVING_BACK: &[(Call, Answer)] = &[
     (ArriveMany(300), Counted(300)),
-    (Work, Worked(1504, 300)),
+    (Work, Worked(1504, 297)),
     (GiveBack(1), Counted(300)),
     (Next(1), Goes(None)),
     (Ask(2), Was(true)),
@@ -153,32 +154,50 @@ const STRIDING: &[(Call, Answer)] = &[
 ];
 
 const PLAYS: [Play; 6] = [
-    (
-        7,
-        LAST_OF_EIGHT,
-        None,
-        AS_THE_LAST,
-        "Some((7, 11, 16)); 7 has 7: Reception 0@1 at 4 Reception 1@1 at 5 Reception 2@1 at 6 \
+    Play {
+        number: 7,
+        text: LAST_OF_EIGHT,
+        later: None,
+        calls: AS_THE_LAST,
+        left: "Some((7, 11, 16)); 7 has 7: Reception 0@1 at 4 Reception 1@1 at 5 Reception 2@1 at 6 \
          Reception 3@1 at 7 Reception 4@1 at 8 Reception 5@1 at 9 Reception 6@1 at 10",
-    ),
-    (
-        0,
-        WHOLE_ARRAYS,
-        None,
-        WITH_WHOLE_ARRAYS,
-        "Some((0, 3, 256008)); 0 has 1: Reception 1@5 at 2",
-    ),
-    (
-        0,
-        GIVES_BACK,
-        None,
-        GIVING_BACK,
-        "Some((0, 601, 300)); 0 has 300: Reception 1@1 at 1 Reception 1@2 at 3 Reception 1@3 at 5 \
+    },
+    Play {
+        number: 0,
+        text: WHOLE_ARRAYS,
+        later: None,
+        calls: WITH_WHOLE_ARRAYS,
+        left: "Some((0, 3, 256008)); 0 has 1: Reception 1@5 at 2",
+    },
+    Play {
+        number: 0,
+        text: GIVES_BACK,
+        later: None,
+        calls: GIVING_BACK,
+        left: "Some((0, 601, 300)); 0 has 300: Reception 1@1 at 1 Reception 1@2 at 3 Reception 1@3 at 5 \
          Reception 1@4 at 7 Reception 1@5 at 9 Reception 1@6 at 11 Reception 1@7 at 13",
-    ),
-    (0, TAKES_ON, None, TAKING_ON, "None"),
-    (0, ASKS_ON, None, ASKING_ON, "None"),
-    (0, COUNTS, None, STRIDING, "Some((0, 1, 1000))"),
+    },
+    Play {
+        number: 0,
+        text: TAKES_ON,
+        later: None,
+        calls: TAKING_ON,
+        left: "None",
+    },
+    Play {
+        number: 0,
+        text: ASKS_ON,
+        later: None,
+        calls: ASKING_ON,
+        left: "None",
+    },
+    Play {
+        number: 0,
+        text: COUNTS,
+        later: None,
+        calls: STRIDING,
+        left: "Some((0, 1, 1000))",
+    },
 ];
 
 #[test]

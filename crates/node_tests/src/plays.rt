@@ -20,7 +20,7 @@ pub enum Call {
     Step,
     /// A stride of at most so many steps.
     Stride(u32),
-    /// Steps until the rank is blocked or has ended. Where one is held an event is stored and acknowledged.
+    /// Steps until the rank is blocked or has ended. There, and where one is held, all that waits is settled.
     Work,
     /// Rounds of a loop, each of two steps of its own and an act.
     Rounds(u32),
@@ -34,6 +34,7 @@ pub enum Call {
     ArriveLong,
     Store,
     Ack,
+    Release,
     /// What goes to this rank next?
     Next(u8),
     /// To how many ranks does nothing go?
@@ -49,18 +50,19 @@ pub enum Call {
     Wants,
     Refusal,
     Clock,
-    /// From now on the screen has no memory.
-    Dark,
+    /// From now on the screen refuses each line for want of memory.
+    ScreenRefuses,
 }
 
 /// What a call answers.
 #[derive(Clone, Copy, Debug, PartialEq, Eq)]
 pub enum Answer {
     Stepped(Result<Turn, NodeFault>),
-    /// How many steps moved the rank, and how many were held.
+    /// How many steps moved the rank, and how many sends and lines waited and were released.
     Worked(u32, u32),
     Arrived(Arrived),
     Stored(Result<Option<u32>, NodeFault>),
+    Released(Result<Option<u32>, NodeFault>),
     /// How many there were.
     Counted(u32),
     Goes(Outgoing),
@@ -73,23 +75,26 @@ pub const MOVED: Answer = Answer::Stepped(Ok(Turn::Moved));
 
 pub const BLOCKED: Answer = Answer::Stepped(Ok(Turn::Blocked));
 
-pub const HELD: Answer = Answer::Stepped(Ok(Turn::Held));
-
 pub const ENDED: Answer = Answer::Stepped(Ok(Turn::Ended));
 
 pub const ACCEPTED: Answer = Answer::Arrived(Arrived::Accepted);
 
 pub const ACKED: Answer = Answer::Was(true);
 
-/// A rank of eight: its number, its program, the clock of a reception that its logger has already, the calls with what
-/// they answer, and what is left around it: the last line, and each row of the logger with its first events.
-pub type Play = (
-    u8,
-    &'static [u8],
-    Option<u32>,
-    &'static [(Call, Answer)],
-    &'static str,
-);
+pub const NONE_RELEASED: Answer = Answer::Released(Ok(None));
+
+/// A rank of eight, and what is called on it.
+#[derive(Clone, Copy)]
+pub struct Play {
+    pub number: u8,
+    pub text: &'static [u8],
+    /// The clock of a reception from rank 0 that the logger has already.
+    pub later: Option<u32>,
+    /// The calls, each with what it answers.
+    pub calls: &'static [(Call, Answer)],
+    /// The last line, and each row of the logger with its first events.
+    pub left: &'static str,
+}
 
 /// What stands around a rank.
 #[derive(Drop)]
@@ -101,28 +106,20 @@ struct Scene {
 /// Plays each of these.
 pub fn play_all(rt: &impl Abort, alloc: Heap, plays: &[Play]) -> Result<(), Fail> {
     for one in plays {
-        let (number, text, later, calls, want) = *one;
-        let scene = play(rt, alloc, number, text, later, calls)?;
+        let scene = perform(rt, alloc, *one)?;
         let found = left(alloc, scene)?;
-        assert_eq!(rt; found.as_str(), want);
+        assert_eq!(rt; found.as_str(), one.left);
     }
     Ok(())
 }
 
 // Makes the calls on a rank, and gives what they left around it.
-fn play(
-    rt: &impl Abort,
-    alloc: Heap,
-    number: u8,
-    text: &[u8],
-    later: Option<u32>,
-    calls: &[(Call, Answer)],
-) -> Result<Scene, Fail> {
-    assert!(rt; number < 8);
-    let program = Program::parse(alloc, text)?;
-    let mut scene = scene_with(rt, alloc, number, later)?;
-    let mut rank = start(alloc, &program, number, 8)?;
-    let outcome = make_all(rt, alloc, &mut rank, &mut scene, calls);
+fn perform(rt: &impl Abort, alloc: Heap, one: Play) -> Result<Scene, Fail> {
+    assert!(rt; one.number < 8);
+    let program = Program::parse(alloc, one.text)?;
+    let mut scene = scene_with(rt, alloc, one.number, one.later)?;
+    let mut rank = start(alloc, &program, one.number, 8)?;
+    let outcome = make_all(rt, alloc, &mut rank, &mut scene, one.calls);
     let _ = rank.retire().parts();
     outcome?;
     Ok(scene)
@@ -140,7 +137,7 @@ fn scene_with(rt: &impl Abort, alloc: Heap, number: u8, later: Option<u32>) -> R
     }
     let screen = LastLine {
         line: None,
-        dark: false,
+        refuses: false,
     };
     Ok(Scene { screen, logger })
 }
@@ -210,6 +207,7 @@ fn make(
         Call::ArriveLong => Ok(arrive(rank, 1, Frame::Data(long_packet(alloc)?))),
         Call::Store => Ok(Answer::Stored(store(rt, rank, &mut scene.logger))),
         Call::Ack => Ok(Answer::Was(rank.ack())),
+        Call::Release => Ok(Answer::Released(rank.release(&mut scene.screen))),
         Call::Next(dest) => next(rt, rank, dest),
         Call::Silent => silent(rank),
         Call::Pass(dest) => pass(rt, rank, dest),
@@ -219,8 +217,8 @@ fn make(
         Call::Wants => Ok(Answer::Wanted(rank.wants())),
         Call::Refusal => Ok(Answer::Refused(rank.refusal())),
         Call::Clock => Ok(Answer::Counted(rank.clock())),
-        Call::Dark => {
-            scene.screen.dark = true;
+        Call::ScreenRefuses => {
+            scene.screen.refuses = true;
             Ok(Answer::Was(true))
         }
     }
@@ -244,19 +242,34 @@ fn work(rt: &impl Abort, rank: &mut Rank, scene: &mut Scene) -> Result<Answer, F
     ensures { rank.new.stable ≡ rank.old.stable }
 {
     let mut moved = 0u32;
-    let mut held = 0u32;
+    let mut released = 0u32;
     for _ in 0..4000 {
         match rank.step(&mut scene.screen)? {
             Turn::Moved => moved = moved.saturating_add(1),
-            Turn::Held => {
-                store(rt, rank, &mut scene.logger)?.ok_or("nothing to store")?;
-                assert!(rt; rank.ack());
-                held = held.saturating_add(1);
-            }
+            Turn::Held => released = released.saturating_add(settle(rt, rank, scene)?),
             Turn::Blocked | Turn::Ended => break,
         }
     }
-    Ok(Answer::Worked(moved, held))
+    released = released.saturating_add(settle(rt, rank, scene)?);
+    Ok(Answer::Worked(moved, released))
+}
+
+// All that waits is stored and acknowledged or released, in its order. Answers how many sends and lines were released.
+fn settle(rt: &impl Abort, rank: &mut Rank, scene: &mut Scene) -> Result<u32, Fail>
+    requires { rank.old.stable.rank < 8 }
+    ensures { rank.new.stable ≡ rank.old.stable }
+{
+    let mut released = 0u32;
+    for _ in 0..4000 {
+        if store(rt, rank, &mut scene.logger)?.is_some() || rank.ack() {
+            continue;
+        }
+        if rank.release(&mut scene.screen)?.is_none() {
+            break;
+        }
+        released = released.saturating_add(1);
+    }
+    Ok(released)
 }
 
 fn rounds(rank: &mut Rank, screen: &mut LastLine, most: u32) -> Result<Answer, Fail>

@@ -13,18 +13,18 @@ use std::test::*;
 /// A rank with a shelf in memory and no desk.
 pub type Rank<'p> = Running<'p, MemoryShelf, ()>;
 
-/// A screen on which the last line stands: rank, clock and value. A dark one has no memory.
+/// A screen on which the last line stands: rank, clock and value. One that refuses has no memory.
 #[derive(Drop)]
 pub struct LastLine {
     pub line: Option<(u8, u32, i64)>,
-    pub dark: bool,
+    pub refuses: bool,
 }
 
 impl Screen for LastLine {
     ghost shows = { λ _ _ _ _ _. Unit {0} };
 
     fn show(&mut self, rank: u8, clock: u32, value: i64) -> Result<Shown, AllocError> {
-        if self.dark {
+        if self.refuses {
             return Err(AllocError);
         }
         self.line = Some((rank, clock, value));

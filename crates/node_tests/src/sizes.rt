@@ -47,7 +47,7 @@ fn first_act(rank: Rank) -> (Result<Turn, NodeFault>, u32, Option<(u8, u32, i64)
     let mut rank = rank;
     let mut screen = LastLine {
         line: None,
-        dark: false,
+        refuses: false,
     };
     let turn = rank.step(&mut screen);
     let clock = rank.clock();

@@ -1,16 +1,28 @@
 -- What a sender keeps for one destination (sender-based message logging: Alvisi and Marzullo 1998; payloads kept in
 -- the sender's memory, and dropped once a receiver's checkpoint no longer needs them: MPICH-V2).
-use Rattle.std.specs.Prelude.{◌≡◌, ℕ, ◌+◌, ◌-◌, ◌<◌, ◌≤◌, List, [], ◌∷◌, ◌++◌, length, nat_lt, if◌then◌else◌, drop, min, max}
+use Rattle.std.specs.Prelude.{◌≡◌, ℕ, ◌+◌, ◌-◌, ◌<◌, ◌≤◌, List, [], ◌∷◌, ◌++◌, length, nat_lt, if◌then◌else◌, take, drop, min, max}
 use Rattle.std.specs.Prelude.{slice_index_or, slice_get, Option}
 use Rattle.metered.specs.Limits.{greatest_clock}
 use Rattle.matching.specs.Message.{Message}
 
--- how many packets were let go, how many were saved in all, the number of the next to transmit, and the packets kept
+-- how many packets were let go, how many were saved in all, the number of the next to transmit, the packets kept, and
+-- the packets held, which come after the saved and aren't transmitted yet
 pub record Backlog : Type 0 where
   pub base : ℕ
   pub sent : ℕ
   pub cursor : ℕ
   pub kept : List Message
+  pub held : List Message
+
+-- of packets that stand in one list by number, those up to the last one sent are kept and the others held
+abbrev pub backlog_of : ℕ → ℕ → ℕ → List Message → Backlog
+backlog_of base sent cursor packets = record {
+  base = base;
+  sent = sent;
+  cursor = cursor;
+  kept = take (sent - base) packets;
+  held = drop (sent - base) packets;
+}
 
 -- the message at each place has the next number
 abbrev pub AreNumbered : ℕ → List Message → Type 0
@@ -23,15 +35,33 @@ pub record IsBacklog (b : Backlog) : Type 0 where
   pub above : b.base < b.cursor
   pub below : b.cursor ≤ max b.base b.sent + 1
   pub base : b.base ≤ greatest_clock
-  pub sent : b.sent ≤ greatest_clock
+  pub sent : b.sent + length b.held ≤ greatest_clock
+  pub next : AreNumbered b.sent b.held
 
 -- nothing was saved
 abbrev pub new_backlog : Backlog
-new_backlog = record { base = 0; sent = 0; cursor = 1; kept = [] }
+new_backlog = record { base = 0; sent = 0; cursor = 1; kept = []; held = [] }
+
+-- the number of the packet that is made next: what is held has numbers too
+abbrev pub next_number : Backlog → ℕ
+next_number b = b.sent + length b.held + 1
 
 -- a packet is counted, and kept where its number is above the base
 abbrev pub saved : Backlog → Message → Backlog
-saved b m = record { base = b.base; sent = b.sent + 1; cursor = b.cursor; kept = if nat_lt b.base m.number then b.kept ++ m ∷ [] else b.kept }
+saved b m = record b { sent = b.sent + 1; kept = if nat_lt b.base m.number then b.kept ++ m ∷ [] else b.kept }
+
+-- a packet is held: it goes last, and nothing else changes
+abbrev pub hold : Backlog → Message → Backlog
+hold b m = record b { held = b.held ++ m ∷ [] }
+
+-- the oldest held packet, the first of these, is saved
+abbrev pub freed_of : Backlog → List Message → Backlog
+freed_of b [] = b
+freed_of b (m ∷ ms) = saved (record b { held = ms }) m
+
+-- the oldest held packet is saved, and where none is held nothing changes
+abbrev pub freed : Backlog → Backlog
+freed b = freed_of b b.held
 
 -- the packet at the cursor, if it was sent already
 abbrev pub next_of : Backlog → Option Message
@@ -39,17 +69,17 @@ next_of b = slice_get b.kept (b.cursor - (b.base + 1))
 
 -- the packet at the cursor was transmitted
 abbrev pub passed : Backlog → Backlog
-passed b = record { base = b.base; sent = b.sent; cursor = b.cursor + 1; kept = b.kept }
+passed b = record b { cursor = b.cursor + 1 }
 
 -- a receiver asks for packets again: the cursor goes back to that number, but never to one that isn't kept
 abbrev pub asked : Backlog → ℕ → Backlog
-asked b from = record { base = b.base; sent = b.sent; cursor = max (b.base + 1) (min b.cursor from); kept = b.kept }
+asked b from = record b { cursor = max (b.base + 1) (min b.cursor from) }
 
 -- a receiver no longer needs the packets up to a number: they go, unless they went before
 abbrev pub pruned : Backlog → ℕ → Backlog
 pruned b upto =
     if nat_lt b.base upto
-    then record { base = upto; sent = b.sent; cursor = max b.cursor (upto + 1); kept = drop (upto - b.base) b.kept }
+    then record b { base = upto; cursor = max b.cursor (upto + 1); kept = drop (upto - b.base) b.kept }
     else b
 
 -- of all packets ever saved, as one list by number, the log holds those above the base, and no others; the cursor is above the base

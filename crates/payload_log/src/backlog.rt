@@ -1,5 +1,5 @@
-//! What is kept for one destination.
-ghost use Rattle.std.specs.Prelude.{◌≡◌, ◌+◌, ◌<◌, ◌≤◌, ◌↔◌, IfSome, IsSome, IfErr, OnOk, OnErr, option_copied, drop};
+//! What is kept and held for one destination.
+ghost use Rattle.std.specs.Prelude.{◌≡◌, ◌+◌, ◌-◌, ◌<◌, ◌≤◌, ◌↔◌, IfSome, IsSome, IfErr, OnOk, OnErr, option_copied, slice_get, drop, max, length, []};
 ghost use Rattle.metered.specs.Limits.{greatest_clock};
 
 use matching::Packet;
@@ -7,7 +7,8 @@ use metered::Heap;
 use std::collections::VecDeque;
 use std::marker::Model;
 
-/// The packets kept for one destination, from the one after the base on.
+/// The packets kept for one destination, from the one after the base on, and
+/// behind them those held, from the one after the last one sent on.
 #[derive(Debug, Drop)]
 pub struct Kept {
     base: u32,
@@ -18,17 +19,17 @@ pub struct Kept {
 }
 
 impl Model for Kept {
-    ghost use Rattle.payload_log.specs.Backlog.{Backlog, IsBacklog};
+    ghost use Rattle.payload_log.specs.Backlog.{Backlog, IsBacklog, backlog_of};
 
     ghost Value = { Backlog };
 
-    ghost view = { λ k. record { base = k.base; sent = k.sent; cursor = k.cursor; kept = k.packets.items } };
+    ghost view = { λ k. backlog_of k.base k.sent k.cursor k.packets.items };
 
-    ghost invariant = { λ k. IsBacklog (record { base = k.base; sent = k.sent; cursor = k.cursor; kept = k.packets.items }) };
+    ghost invariant = { λ k. IsBacklog (backlog_of k.base k.sent k.cursor k.packets.items) };
 }
 
 impl Kept {
-    ghost use Rattle.payload_log.specs.Backlog.{IsBacklog, new_backlog, saved, next_of, passed, asked, pruned};
+    ghost use Rattle.payload_log.specs.Backlog.{IsBacklog, new_backlog, next_number, saved, hold, freed, next_of, passed, asked, pruned};
 
     pub fn new(alloc: Heap) -> Self
         ensures { result ≡ new_backlog }
@@ -44,7 +45,8 @@ impl Kept {
     /// Counts the packet, and keeps it where its number is above the base. An
     /// `Err` is want of memory.
     pub fn save(&mut self, packet: Packet) -> Result<(), Packet>
-        requires { packet.number ≡ self.old.sent + 1 }
+        requires next { packet.number ≡ self.old.sent + 1 }
+        requires none_held { self.old.held ≡ [] }
         ensures ok { OnOk result (self.new ≡ saved self.old packet) }
         ensures kept_only { OnErr result (self.old.base < packet.number) }
         ensures back { IfErr result (λ back. back ≡ packet) }
@@ -61,12 +63,66 @@ impl Kept {
         Ok(())
     }
 
-    /// The packet at the cursor.
+    /// Holds the packet back, behind those held already. An `Err` is want of
+    /// memory.
+    pub fn hold(&mut self, packet: Packet) -> Result<(), Packet>
+        requires { packet.number ≡ next_number self.old }
+        ensures ok { OnOk result (self.new ≡ hold self.old packet) }
+        ensures back { IfErr result (λ back. back ≡ packet) }
+        ensures err { OnErr result (self.new ≡ self.old) }
+    {
+        // a packet's number is at most the greatest clock
+        let _number = packet.number;
+        match self.packets.push_back(packet) {
+            Ok(()) => Ok(()),
+            Err(refused) => Err(refused.value),
+        }
+    }
+
+    /// How many packets are held.
+    pub fn held(&self) -> u32
+        ensures { result ≡ length self.now.held }
+    {
+        (self.packets.len() - self.kept() as usize) as u32
+    }
+
+    /// The packet that was held first.
+    pub fn oldest_held(&self) -> Option<&Packet>
+        ensures { option_copied result ≡ slice_get self.now.held 0 }
+    {
+        self.packets.get(self.kept() as usize)
+    }
+
+    /// Saves the packet that was held first, which takes no memory.
+    pub fn free(&mut self)
+        requires { 0 < length self.old.held }
+        ensures value { self.new ≡ freed self.old }
+        ensures counted { self.new.sent ≡ self.old.sent + 1 }
+        ensures fewer { length self.new.held + 1 ≡ length self.old.held }
+    {
+        // what is at most the base was let go while it was held
+        if self.base > self.sent {
+            drop_front(&mut self.packets, 1);
+        }
+        self.sent += 1;
+    }
+
+    /// How many packets are kept: they stand before those held.
+    fn kept(&self) -> u32
+        ensures { result ≡ self.now.sent - self.now.base }
+    {
+        self.sent.saturating_sub(self.base)
+    }
+
+    /// The packet at the cursor, which isn't one of those held.
     pub fn next(&self) -> Option<&Packet>
         ensures value { option_copied result ≡ next_of self.now }
         ensures some { IsSome result ↔ (self.now.cursor ≤ self.now.sent) }
         ensures number { IfSome result (λ p. p.now.number ≡ self.now.cursor) }
     {
+        if self.cursor > self.sent {
+            return None;
+        }
         self.packets.get((self.cursor - self.base - 1) as usize)
     }
 
@@ -88,11 +144,13 @@ impl Kept {
     /// Lets the packets up to a number go.
     pub fn prune(&mut self, upto: u32)
         requires { upto ≤ greatest_clock }
-        ensures { self.new ≡ pruned self.old upto }
+        ensures value { self.new ≡ pruned self.old upto }
+        ensures raised { self.new.base ≡ max self.old.base upto }
     {
         // an old notice may come late, so the base never falls
         if self.base < upto {
-            drop_front(&mut self.packets, (upto - self.base) as usize);
+            let count = self.kept().min(upto - self.base);
+            drop_front(&mut self.packets, count as usize);
             self.base = upto;
             self.cursor = self.cursor.max(upto + 1);
         }
@@ -110,7 +168,8 @@ impl Kept {
         self.base
     }
 
-    /// What is kept is by number, from the base to the last one sent.
+    /// What is kept is by number, from the base to the last one sent, and what
+    /// is held goes on from there.
     pub fn in_order(&self)
         ensures { IsBacklog self.now }
     {

@@ -1,6 +1,6 @@
 //! The payloads that a sender keeps, for each destination.
 ghost use Rattle.std.specs.Prelude.{◌≡◌, ◌+◌, ◌<◌, ◌≤◌, ◌↔◌, IfSome, IsSome, IfErr, IfOk, OnOk, OnErr, length};
-ghost use Rattle.std.specs.Prelude.{replicate, slice_set, option_copied};
+ghost use Rattle.std.specs.Prelude.{replicate, slice_set, slice_get, option_copied, []};
 ghost use Rattle.metered.specs.Limits.{greatest_clock};
 
 use crate::backlog::Kept;
@@ -10,7 +10,7 @@ use std::alloc::AllocError;
 use std::marker::Model;
 
 /// The packets that a sender keeps for each destination, with the number of
-/// the next one to transmit.
+/// the next one to transmit, and those that it holds back.
 #[derive(Debug, Drop)]
 pub struct PayloadLog {
     kept: Vec<Kept, Heap>,
@@ -26,7 +26,7 @@ impl Model for PayloadLog {
 }
 
 impl PayloadLog {
-    ghost use Rattle.payload_log.specs.Backlog.{new_backlog, saved, next_of, passed, asked, pruned, backlog, IsBacklog};
+    ghost use Rattle.payload_log.specs.Backlog.{new_backlog, next_number, saved, hold, freed, next_of, passed, asked, pruned, backlog, IsBacklog};
 
     /// The log of a sender among `size` ranks that sent nothing.
     pub fn new(alloc: Heap, size: usize) -> Result<PayloadLog, AllocError>
@@ -44,6 +44,7 @@ impl PayloadLog {
     pub fn save(&mut self, dest: usize, packet: Packet) -> Result<(), Packet>
         requires there { dest < length self.old }
         requires next { packet.number ≡ (backlog self.old dest).sent + 1 }
+        requires none_held { (backlog self.old dest).held ≡ [] }
         ensures ok { OnOk result (self.new ≡ slice_set self.old dest (saved (backlog self.old dest) packet)) }
 
         ensures kept_only { OnErr result ((backlog self.old dest).base < packet.number) }
@@ -52,6 +53,48 @@ impl PayloadLog {
     {
         let kept = &mut self.kept[dest];
         kept.save(packet)
+    }
+
+    /// Holds the packet back behind those held already: it isn't transmitted
+    /// before it is freed. An `Err` is want of memory.
+    pub fn hold(&mut self, dest: usize, packet: Packet) -> Result<(), Packet>
+        requires there { dest < length self.old }
+        requires next { packet.number ≡ next_number (backlog self.old dest) }
+        ensures ok { OnOk result (self.new ≡ slice_set self.old dest (hold (backlog self.old dest) packet)) }
+        ensures back { IfErr result (λ back. back ≡ packet) }
+        ensures err { OnErr result (self.new ≡ self.old) }
+    {
+        let kept = &mut self.kept[dest];
+        kept.hold(packet)
+    }
+
+    /// How many packets are held for this destination.
+    pub fn held(&self, dest: usize) -> u32
+        requires { dest < length self.now }
+        ensures { result ≡ length (backlog self.now dest).held }
+    {
+        let kept = &self.kept[dest];
+        kept.held()
+    }
+
+    /// The packet that was held first of those held.
+    pub fn oldest_held(&self, dest: usize) -> Option<&Packet>
+        requires { dest < length self.now }
+        ensures { option_copied result ≡ slice_get (backlog self.now dest).held 0 }
+    {
+        let kept = &self.kept[dest];
+        kept.oldest_held()
+    }
+
+    /// Saves the packet that was held first, so that it may be transmitted.
+    /// This takes no memory.
+    pub fn free(&mut self, dest: usize)
+        requires there { dest < length self.old }
+        requires some { 0 < length (backlog self.old dest).held }
+        ensures { self.new ≡ slice_set self.old dest (freed (backlog self.old dest)) }
+    {
+        let kept = &mut self.kept[dest];
+        kept.free();
     }
 
     /// The packet at the cursor, which is the next to transmit.
@@ -116,7 +159,8 @@ impl PayloadLog {
     }
 
     /// What is kept for a destination is by number, from the one after the base
-    /// to the last one sent, and the cursor stands among them or just behind.
+    /// to the last one sent, the cursor stands among them or just behind, and
+    /// what is held goes on from the last one sent.
     pub fn in_order(&self, dest: usize)
         requires { dest < length self.now }
         ensures { IsBacklog (backlog self.now dest) }

@@ -15,45 +15,15 @@ use Rattle.rank_node.specs.Node.{Node, no_due}
 
 -- with this payload log, and all else as it was
 abbrev pub with_log : {S D : Type 0} → Node S D → List Backlog → Node S D
-with_log v log = record {
-  stable = v.stable;
-  machine = v.machine;
-  clock = v.clock;
-  made = v.made;
-  inbox = v.inbox;
-  log = log;
-  pending = v.pending;
-  stored = v.stored;
-  dues = v.dues;
-}
+with_log v log = record v { log = log }
 
 -- with this inbox, and all else as it was
 abbrev pub with_inbox : {S D : Type 0} → Node S D → Mailbox → Node S D
-with_inbox v inbox = record {
-  stable = v.stable;
-  machine = v.machine;
-  clock = v.clock;
-  made = v.made;
-  inbox = inbox;
-  log = v.log;
-  pending = v.pending;
-  stored = v.stored;
-  dues = v.dues;
-}
+with_inbox v inbox = record v { inbox = inbox }
 
 -- with this due to each rank, and all else as it was
 abbrev pub with_dues : {S D : Type 0} → Node S D → List Due → Node S D
-with_dues v dues = record {
-  stable = v.stable;
-  machine = v.machine;
-  clock = v.clock;
-  made = v.made;
-  inbox = v.inbox;
-  log = v.log;
-  pending = v.pending;
-  stored = v.stored;
-  dues = dues;
-}
+with_dues v dues = record v { dues = dues }
 
 -- a packet that the inbox accepts, has or misses one before is answered so
 abbrev pub arrived_as : Accept → Arrived

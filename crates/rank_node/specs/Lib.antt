@@ -1,6 +1,11 @@
 pub mod Fault
 pub mod Stored
+pub mod Waiting
 pub mod Node
 pub mod Steps
 pub mod Storing
+pub mod Releasing
 pub mod Frames
+pub mod Image
+pub mod Replay
+pub mod Desked

@@ -1,19 +1,20 @@
 -- A rank at work as contracts see it (pessimistic message logging with sender-based payloads: Alvisi and Marzullo 1998,
 -- "Message Logging: Pessimistic, Optimistic, Causal, and Optimal").
-use Rattle.std.specs.Prelude.{◌≡◌, ℕ, ◌<◌, ◌≤◌, Bool, true, false, List, [], ◌∷◌, length, None, replicate, All}
-use Rattle.metered.specs.Limits.{most_ranks, greatest_clock, most_events}
+use Rattle.std.specs.Prelude.{◌≡◌, ℕ, ◌+◌, ◌<◌, ◌≤◌, List, [], length, None, replicate, All}
+use Rattle.metered.specs.Limits.{most_ranks, greatest_clock, most_events, most_effects}
 use Rattle.matching.specs.Inbox.{Mailbox}
-use Rattle.payload_log.specs.Backlog.{Backlog, new_backlog}
-use Rattle.plain_logger.specs.Event.{EventValue}
+use Rattle.payload_log.specs.Backlog.{Backlog, backlog, new_backlog}
 use Rattle.rank_language.specs.Program.{ProgramValue}
 use Rattle.rank_machine.specs.States.{first_store}
 use Rattle.rank_machine.specs.Machine.{MachineValue}
 use Rattle.rank_node.specs.declared.due.Due.{Due}
+use Rattle.rank_node.specs.declared.waiting.Waiting.{Waiting}
 use Rattle.rank_node.specs.Stored.{Stored}
+use Rattle.rank_node.specs.Waiting.{effects, sends_to, BeginsWithEvents}
 
 -- What of a rank outlives a crash, and what a crash drops: the machine, the clock of its last act, the number of events
--- that it has made, inbox and payload log, the events that aren't acknowledged with how many of these are stored, and
--- what is due to each rank.
+-- that it has made, inbox and payload log, what waits at the gate with how many of these events are stored, and what is
+-- due to each rank.
 pub record Node (S D : Type 0) : Type 0 where
   pub stable : Stored S D
   pub machine : MachineValue
@@ -21,14 +22,9 @@ pub record Node (S D : Type 0) : Type 0 where
   pub made : ℕ
   pub inbox : Mailbox
   pub log : List Backlog
-  pub pending : List EventValue
+  pub pending : List Waiting
   pub stored : ℕ
   pub dues : List Due
-
--- every event is stored and acknowledged
-abbrev pub is_settled : List EventValue → Bool
-is_settled [] = true
-is_settled (e ∷ es) = false
 
 -- nothing is due
 abbrev pub no_due : Due
@@ -53,7 +49,8 @@ opening program stable = record {
 }
 
 -- There is an inbox count, a backlog and what is due for each rank; the machine is this rank's; clock and number of
--- events are within their limits, the stored events are the first of those pending, and no more was sent than acts made.
+-- events are within their limits. The stored events are the first of what waits, of which few are effects; the payload
+-- log holds a packet for each send that waits; and no more was sent or is held than acts were made.
 pub record IsNode {S D : Type 0} (v : Node S D) : Type 0 where
   pub inbox : length v.inbox.accepted ≡ v.stable.size
   pub log : length v.log ≡ v.stable.size
@@ -64,5 +61,7 @@ pub record IsNode {S D : Type 0} (v : Node S D) : Type 0 where
   pub limit : v.stable.size ≤ most_ranks
   pub clock : v.clock ≤ greatest_clock
   pub made : v.made ≤ most_events
-  pub stored : v.stored ≤ length v.pending
-  pub sent : All (λ (b : Backlog). b.sent ≤ v.clock) v.log
+  pub stored : BeginsWithEvents v.stored v.pending
+  pub effects : effects v.pending ≤ most_effects
+  pub sent : All (λ (b : Backlog). b.sent + length b.held ≤ v.clock) v.log
+  pub held : (d : ℕ) → length (backlog v.log d).held ≡ sends_to d v.pending

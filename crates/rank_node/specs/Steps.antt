@@ -1,5 +1,6 @@
 -- The steps of a rank that runs, and the gate before what others see: no send and no print passes while an event that
--- it may rest on is unstored or unacknowledged (pessimistic logging: Alvisi and Marzullo 1998, section 3).
+-- it may rest on is unstored or unacknowledged (pessimistic logging: Alvisi and Marzullo 1998, section 3). It waits then,
+-- and the rank goes on (output commit: Elnozahy, Alvisi, Wang and Johnson 2002, section 2.4).
 use Rattle.std.specs.Prelude.{◌≡◌, ℕ, ◌+◌, nat_lt, ◌==◌, ℤ, Bool, true, false, if◌then◌else◌, MatchBool}
 use Rattle.std.specs.Prelude.{List, [], ◌∷◌, ◌++◌, Option, Some, None, is_some, option_and_then, slice_get, slice_set, position}
 use Rattle.matching.specs.declared.packet.Context.{Context}
@@ -8,10 +9,10 @@ use Rattle.metered.specs.Limits.{greatest_clock, most_events}
 use Rattle.matching.specs.Message.{Message}
 use Rattle.matching.specs.Matching.{matches}
 use Rattle.matching.specs.Inbox.{without}
-use Rattle.payload_log.specs.Backlog.{backlog, saved}
+use Rattle.payload_log.specs.Backlog.{backlog, saved, hold, next_number}
 use Rattle.plain_logger.specs.declared.kind.Kind.{Kind}
 use Rattle.plain_logger.specs.declared.kind.Kind.TheVariants as kind
-use Rattle.plain_logger.specs.Event.{EventValue, event_of}
+use Rattle.plain_logger.specs.Event.{event_of}
 use Rattle.rank_machine.specs.declared.want.Want.{Want}
 use Rattle.rank_machine.specs.declared.want.Want.TheVariants as want
 use Rattle.rank_machine.specs.Wants.{payload}
@@ -21,7 +22,10 @@ use Rattle.rank_node.specs.declared.turn.Turn.{Turn}
 use Rattle.rank_node.specs.declared.turn.Turn.TheVariants.{Moved, Blocked, Held, Ended}
 use Rattle.rank_node.specs.declared.fault.NodeFault.{NodeFault}
 use Rattle.rank_node.specs.declared.fault.NodeFault.TheVariants as fault
-use Rattle.rank_node.specs.Node.{Node, is_settled}
+use Rattle.rank_node.specs.declared.waiting.Waiting.{Waiting}
+use Rattle.rank_node.specs.declared.waiting.Waiting.TheVariants as waits
+use Rattle.rank_node.specs.Node.{Node}
+use Rattle.rank_node.specs.Waiting.{has_room, is_settled}
 
 -- the packet at an index, with the index
 abbrev pub at_index : List Message → ℕ → Option (ℕ × Message)
@@ -31,14 +35,14 @@ at_index packets index = option_and_then (λ packet. Some (index, packet)) (slic
 abbrev pub found : Selector → List Message → Option (ℕ × Message)
 found selector packets = option_and_then (at_index packets) (position (matches selector) packets)
 
--- a send or a print is held until every event is stored and acknowledged, and a receive or blocking probe is blocked where no packet matches
+-- a send or a print is held where as many effects wait as may, and a receive or blocking probe is blocked where no packet matches
 abbrev pub turn_at : {S D : Type 0} → Node S D → Want → Turn
 turn_at v want.Internal = Moved
-turn_at v (want.Send dest context tag) = if is_settled v.pending then Moved else Held
+turn_at v (want.Send dest context tag) = if has_room v.pending then Moved else Held
 turn_at v (want.Receive selector) = if is_some (position (matches selector) v.inbox.packets) then Moved else Blocked
 turn_at v (want.Probe selector) = if is_some (position (matches selector) v.inbox.packets) then Moved else Blocked
 turn_at v (want.TryProbe selector) = Moved
-turn_at v (want.Print value) = if is_settled v.pending then Moved else Held
+turn_at v (want.Print value) = if has_room v.pending then Moved else Held
 turn_at v want.Halted = Ended
 turn_at v (want.Faulted k) = Ended
 
@@ -57,11 +61,11 @@ event_refusal v = if v.clock == greatest_clock then Some fault.ClockSpent else (
 -- only an act is refused, and only where it isn't held or blocked
 abbrev pub refusal_at : {S D : Type 0} → Node S D → Want → Option NodeFault
 refusal_at v want.Internal = None
-refusal_at v (want.Send dest context tag) = if is_settled v.pending then clock_refusal v else None
+refusal_at v (want.Send dest context tag) = if has_room v.pending then clock_refusal v else None
 refusal_at v (want.Receive selector) = if is_some (position (matches selector) v.inbox.packets) then event_refusal v else None
 refusal_at v (want.Probe selector) = if is_some (position (matches selector) v.inbox.packets) then event_refusal v else None
 refusal_at v (want.TryProbe selector) = event_refusal v
-refusal_at v (want.Print value) = if is_settled v.pending then clock_refusal v else None
+refusal_at v (want.Print value) = if has_room v.pending then clock_refusal v else None
 refusal_at v want.Halted = None
 refusal_at v (want.Faulted k) = None
 
@@ -72,11 +76,11 @@ refusal_of v = refusal_at v (asks v.machine)
 -- whether a step takes memory: an act does, and a step of the machine's own, a held or blocked one and the end don't
 abbrev pub takes_memory_at : {S D : Type 0} → Node S D → Want → Bool
 takes_memory_at v want.Internal = false
-takes_memory_at v (want.Send dest context tag) = is_settled v.pending
+takes_memory_at v (want.Send dest context tag) = has_room v.pending
 takes_memory_at v (want.Receive selector) = is_some (position (matches selector) v.inbox.packets)
 takes_memory_at v (want.Probe selector) = is_some (position (matches selector) v.inbox.packets)
 takes_memory_at v (want.TryProbe selector) = true
-takes_memory_at v (want.Print value) = is_settled v.pending
+takes_memory_at v (want.Print value) = has_room v.pending
 takes_memory_at v want.Halted = false
 takes_memory_at v (want.Faulted k) = false
 
@@ -89,7 +93,7 @@ abbrev pub message_of : {S D : Type 0} → Node S D → ℕ → Context → ℕ 
 message_of v dest context tag = record {
   source = v.stable.rank;
   clock = v.clock + 1;
-  number = (backlog v.log dest).sent + 1;
+  number = next_number (backlog v.log dest);
   context = context;
   tag = tag;
   items = payload (state_of v.machine);
@@ -97,76 +101,67 @@ message_of v dest context tag = record {
 
 -- with this machine, and all else as it was
 abbrev pub with_machine : {S D : Type 0} → Node S D → MachineValue → Node S D
-with_machine v machine = record {
-  stable = v.stable;
-  machine = machine;
-  clock = v.clock;
-  made = v.made;
-  inbox = v.inbox;
-  log = v.log;
-  pending = v.pending;
-  stored = v.stored;
-  dues = v.dues;
-}
+with_machine v machine = record v { machine = machine }
 
--- after a send the clock is the next, and the payload log has the packet
+-- after a send that passes at once the clock is the next, and the payload log has the packet
 abbrev pub after_send : {S D : Type 0} → Node S D → MachineValue → ℕ → Context → ℕ → Node S D
-after_send v machine dest context tag = record {
-  stable = v.stable;
+after_send v machine dest context tag = record v {
   machine = machine;
   clock = v.clock + 1;
-  made = v.made;
-  inbox = v.inbox;
   log = slice_set v.log dest (saved (backlog v.log dest) (message_of v dest context tag));
-  pending = v.pending;
-  stored = v.stored;
-  dues = v.dues;
 }
 
--- after a print the clock is the next
+-- after a print that passes at once the clock is the next
 abbrev pub after_print : {S D : Type 0} → Node S D → MachineValue → Node S D
-after_print v machine = record {
-  stable = v.stable;
+after_print v machine = record v { machine = machine; clock = v.clock + 1 }
+
+-- after a send that waits the payload log holds its packet
+abbrev pub after_hold : {S D : Type 0} → Node S D → MachineValue → ℕ → Context → ℕ → Node S D
+after_hold v machine dest context tag = record v {
   machine = machine;
   clock = v.clock + 1;
-  made = v.made;
-  inbox = v.inbox;
-  log = v.log;
-  pending = v.pending;
-  stored = v.stored;
-  dues = v.dues;
+  log = slice_set v.log dest (hold (backlog v.log dest) (message_of v dest context tag));
+  pending = v.pending ++ waits.Send dest (v.clock + 1) ∷ [];
 }
 
--- the pending events and a new one, which has the next clock and isn't stored
-abbrev pub with_event : {S D : Type 0} → Node S D → Kind → ℕ → ℕ → List EventValue
-with_event v what sender sender_clock = v.pending ++ event_of what sender sender_clock (v.clock + 1) ∷ []
+-- after a print that waits so does its line
+abbrev pub after_wait : {S D : Type 0} → Node S D → MachineValue → ℤ → Node S D
+after_wait v machine value = record v {
+  machine = machine;
+  clock = v.clock + 1;
+  pending = v.pending ++ waits.Line (v.clock + 1) value ∷ [];
+}
 
--- after a reception the packet has left the inbox, and one event more is pending
+-- where nothing waits a send passes at once, and else it waits
+abbrev pub made_send : {S D : Type 0} → Node S D → MachineValue → ℕ → Context → ℕ → Node S D
+made_send v machine dest context tag =
+    if is_settled v.pending then after_send v machine dest context tag else after_hold v machine dest context tag
+
+-- where nothing waits a print passes at once, and else it waits
+abbrev pub made_print : {S D : Type 0} → Node S D → MachineValue → ℤ → Node S D
+made_print v machine value = if is_settled v.pending then after_print v machine else after_wait v machine value
+
+-- what waits and a new event, which has the next clock and isn't stored
+abbrev pub with_event : {S D : Type 0} → Node S D → Kind → ℕ → ℕ → List Waiting
+with_event v what sender sender_clock = v.pending ++ waits.Event (event_of what sender sender_clock (v.clock + 1)) ∷ []
+
+-- after a reception the packet has left the inbox, and one event more waits
 abbrev pub after_reception : {S D : Type 0} → Node S D → MachineValue → ℕ → Message → Node S D
-after_reception v machine index packet = record {
-  stable = v.stable;
+after_reception v machine index packet = record v {
   machine = machine;
   clock = v.clock + 1;
   made = v.made + 1;
   inbox = without v.inbox index;
-  log = v.log;
   pending = with_event v kind.Reception packet.source packet.clock;
-  stored = v.stored;
-  dues = v.dues;
 }
 
--- after a probe the inbox is as it was, and one event more is pending
+-- after a probe the inbox is as it was, and one event more waits
 abbrev pub after_probe : {S D : Type 0} → Node S D → MachineValue → Kind → ℕ → ℕ → Node S D
-after_probe v machine what sender sender_clock = record {
-  stable = v.stable;
+after_probe v machine what sender sender_clock = record v {
   machine = machine;
   clock = v.clock + 1;
   made = v.made + 1;
-  inbox = v.inbox;
-  log = v.log;
   pending = with_event v what sender sender_clock;
-  stored = v.stored;
-  dues = v.dues;
 }
 
 -- a receive takes what was found, and where nothing was nothing changes
@@ -187,11 +182,11 @@ tried v machine (Some f) = after_probe v machine kind.Hit f.1.source f.1.clock
 -- the rank after a step that was not refused, where the machine is then this one
 abbrev pub step_at : {S D : Type 0} → Node S D → Want → MachineValue → Node S D
 step_at v want.Internal machine = with_machine v machine
-step_at v (want.Send dest context tag) machine = if is_settled v.pending then after_send v machine dest context tag else v
+step_at v (want.Send dest context tag) machine = if has_room v.pending then made_send v machine dest context tag else v
 step_at v (want.Receive selector) machine = received v machine (found selector v.inbox.packets)
 step_at v (want.Probe selector) machine = probed v machine (found selector v.inbox.packets)
 step_at v (want.TryProbe selector) machine = tried v machine (found selector v.inbox.packets)
-step_at v (want.Print value) machine = if is_settled v.pending then after_print v machine else v
+step_at v (want.Print value) machine = if has_room v.pending then made_print v machine value else v
 step_at v want.Halted machine = v
 step_at v (want.Faulted k) machine = v
 
@@ -241,11 +236,11 @@ TriesFound (Some f) old new = WasShown f.1 old new
 -- the machine makes just the step that it wants, and none where the step is held or blocked or the program has ended
 abbrev pub MachineStepAt : {S D : Type 0} → Node S D → Want → MachineValue → Type 0
 MachineStepAt v want.Internal machine = GoesOn v.machine machine
-MachineStepAt v (want.Send dest context tag) machine = MatchBool (is_settled v.pending) (DidAct v.machine machine) (machine ≡ v.machine)
+MachineStepAt v (want.Send dest context tag) machine = MatchBool (has_room v.pending) (DidAct v.machine machine) (machine ≡ v.machine)
 MachineStepAt v (want.Receive selector) machine = TakesFound (found selector v.inbox.packets) v.machine machine
 MachineStepAt v (want.Probe selector) machine = IsShownFound (found selector v.inbox.packets) v.machine machine
 MachineStepAt v (want.TryProbe selector) machine = TriesFound (found selector v.inbox.packets) v.machine machine
-MachineStepAt v (want.Print value) machine = MatchBool (is_settled v.pending) (DidAct v.machine machine) (machine ≡ v.machine)
+MachineStepAt v (want.Print value) machine = MatchBool (has_room v.pending) (DidAct v.machine machine) (machine ≡ v.machine)
 MachineStepAt v want.Halted machine = machine ≡ v.machine
 MachineStepAt v (want.Faulted k) machine = machine ≡ v.machine
 
@@ -253,7 +248,7 @@ MachineStepAt v (want.Faulted k) machine = machine ≡ v.machine
 abbrev pub MachineStep : {S D : Type 0} → Node S D → MachineValue → Type 0
 MachineStep v machine = MachineStepAt v (asks v.machine) machine
 
--- a print that passes is shown with the next clock, and nothing else is
+-- a print that passes at once is shown with the next clock, and nothing else is
 abbrev pub ShowsAt : {S D C : Type 0} → (C → ℕ → ℕ → ℤ → C → Type 0) → Node S D → Want → C → C → Type 0
 ShowsAt shows v want.Internal old new = new ≡ old
 ShowsAt shows v (want.Send dest context tag) old new = new ≡ old

@@ -1,43 +1,24 @@
 -- How the events of a rank reach its row at the logger, and leave the rank (Alvisi and Marzullo 1998, section 3).
-use Rattle.std.specs.Prelude.{ℕ, ◌+◌, ◌-◌, drop, slice_get, Option, Some, None, ◌⊎◌}
+use Rattle.std.specs.Prelude.{ℕ, ◌+◌, ◌-◌, drop, slice_get, option_and_then, Option, Some, None, ◌⊎◌}
 use Rattle.plain_logger.specs.Event.{EventValue}
 use Rattle.plain_logger.specs.History.{StateValue, Answers}
 use Rattle.plain_logger.specs.declared.call.Call.TheVariants.{Append}
 use Rattle.plain_logger.specs.declared.call.Reply.{Reply}
 use Rattle.plain_logger.specs.declared.call.Reply.TheVariants.{Full, Order}
 use Rattle.rank_node.specs.Node.{Node}
+use Rattle.rank_node.specs.Waiting.{event_in}
 
--- the oldest event that isn't stored, if there is one
+-- the oldest event that isn't stored, if there is one and no effect stands before it
 abbrev pub next_unstored : {S D : Type 0} → Node S D → Option EventValue
-next_unstored v = slice_get v.pending v.stored
+next_unstored v = option_and_then event_in (slice_get v.pending v.stored)
 
--- one more of the pending events is stored
+-- one more of the events that wait is stored
 abbrev pub after_store : {S D : Type 0} → Node S D → Node S D
-after_store v = record {
-  stable = v.stable;
-  machine = v.machine;
-  clock = v.clock;
-  made = v.made;
-  inbox = v.inbox;
-  log = v.log;
-  pending = v.pending;
-  stored = v.stored + 1;
-  dues = v.dues;
-}
+after_store v = record v { stored = v.stored + 1 }
 
--- the oldest pending event, which is stored, is acknowledged: it leaves the list
+-- the oldest of what waits, which is a stored event, is acknowledged: it leaves the list
 abbrev pub after_ack : {S D : Type 0} → Node S D → Node S D
-after_ack v = record {
-  stable = v.stable;
-  machine = v.machine;
-  clock = v.clock;
-  made = v.made;
-  inbox = v.inbox;
-  log = v.log;
-  pending = drop 1 v.pending;
-  stored = v.stored - 1;
-  dues = v.dues;
-}
+after_ack v = record v { pending = drop 1 v.pending; stored = v.stored - 1 }
 
 -- there is an event, and the logger answered its append so
 abbrev pub Appends : Option EventValue → ℕ → StateValue → Reply → StateValue → Type 0

@@ -57,6 +57,7 @@ impl<'p, S: Shelf, D> Running<'p, S, D> {
     }
 
     // The packet at this index is shown.
+    #[tactic(auto, using(crate::proofs::Held::sends_to_event))]
     fn hit(&mut self, index: usize) -> Result<(), NodeFault>
         requires within { index < length self.old.inbox.packets }
         requires fits { (m : Message) → slice_get self.old.inbox.packets index ≡ Some m → IsShowing (asks self.old.machine) m }
@@ -70,11 +71,11 @@ impl<'p, S: Shelf, D> Running<'p, S, D> {
         ensures refused { IfErr result (λ e. e ≢ NodeFault.Memory → event_refusal self.old ≡ Some e) }
         ensures err { OnErr result (self.new ≡ self.old) }
     {
-        self.has_room()?;
+        self.event_room()?;
         self.inbox.numbers_rise();
         let packet = self.inbox.get(index);
-        self.pending
-            .push_back(naming(Kind::Hit, packet, self.clock + 1))?;
+        let event = naming(Kind::Hit, packet, self.clock + 1);
+        self.pending.push_event(event)?;
         self.machine.show(packet);
         self.clock += 1;
         self.made += 1;
@@ -82,6 +83,7 @@ impl<'p, S: Shelf, D> Running<'p, S, D> {
     }
 
     // No packet is there that could be shown.
+    #[tactic(auto, using(crate::proofs::Held::sends_to_event))]
     fn miss(&mut self) -> Result<(), NodeFault>
         requires { IsTrying (asks self.old.machine) }
         ensures ok { OnOk result (self.new ≡ tried self.old self.new.machine None) }
@@ -92,8 +94,8 @@ impl<'p, S: Shelf, D> Running<'p, S, D> {
         ensures refused { IfErr result (λ e. e ≢ NodeFault.Memory → event_refusal self.old ≡ Some e) }
         ensures err { OnErr result (self.new ≡ self.old) }
     {
-        self.has_room()?;
-        self.pending.push_back(missing(self.clock + 1))?;
+        self.event_room()?;
+        self.pending.push_event(missing(self.clock + 1))?;
         self.machine.miss();
         self.clock += 1;
         self.made += 1;

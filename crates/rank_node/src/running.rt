@@ -4,16 +4,15 @@ ghost use Rattle.rank_machine.specs.Machine.{asks};
 
 use crate::due::Due;
 use crate::fault::NodeFault;
+use crate::pending::Pending;
 use crate::stable::Stable;
 use checkpoint::Shelf;
 use matching::Inbox;
 use metered::Heap;
 use payload_log::PayloadLog;
-use plain_logger::Event;
 use rank_language::Program;
 use rank_machine::{Machine, Want};
 use std::alloc::AllocError;
-use std::collections::VecDeque;
 use std::marker::Model;
 
 /// A rank that runs. It must be spent, as by `retire`.
@@ -26,9 +25,7 @@ pub struct Running<'p, S: Shelf, D> {
     pub(crate) made: usize,
     pub(crate) inbox: Inbox,
     pub(crate) log: PayloadLog,
-    // the events that aren't acknowledged; the first `stored` of them are stored
-    pub(crate) pending: VecDeque<Event, Heap>,
-    pub(crate) stored: usize,
+    pub(crate) pending: Pending,
     pub(crate) dues: Vec<Due, Heap>,
 }
 
@@ -48,8 +45,8 @@ impl<'p, S: Shelf, D> Model for Running<'p, S, D> {
       made = r.made;
       inbox = r.inbox;
       log = r.log;
-      pending = r.pending.items;
-      stored = r.stored;
+      pending = r.pending.waiting;
+      stored = r.pending.stored;
       dues = r.dues.items;
     } };
 
@@ -60,8 +57,8 @@ impl<'p, S: Shelf, D> Model for Running<'p, S, D> {
       made = r.made;
       inbox = r.inbox;
       log = r.log;
-      pending = r.pending.items;
-      stored = r.stored;
+      pending = r.pending.waiting;
+      stored = r.pending.stored;
       dues = r.dues.items;
     }) };
 }
@@ -101,8 +98,7 @@ impl<'p, S: Shelf, D> Running<'p, S, D> {
             made: 0,
             inbox,
             log,
-            pending: VecDeque::new(alloc),
-            stored: 0,
+            pending: Pending::new(alloc),
             dues,
         })
     }
@@ -120,7 +116,6 @@ impl<'p, S: Shelf, D> Running<'p, S, D> {
             inbox: _,
             log: _,
             pending: _,
-            stored: _,
             dues: _,
         } = self;
         stable

@@ -9,7 +9,7 @@ use std::marker::Model;
 ///
 /// There are at most 8 ranks. The value must be spent.
 pub struct Stable<S: Shelf, D> {
-    desk: D,
+    pub(crate) desk: D,
     shelf: S,
     rank: u8,
     size: u8,

@@ -1,6 +1,7 @@
 //! The steps of a rank that runs.
 ghost use Rattle.std.specs.Prelude.{◌≡◌, ◌≢◌, ℕ, ◌+◌, ◌<◌, ◌≤◌, Some, None, true, IfOk, IfErr, OnOk, OnErr, IsErrOf};
 ghost use Rattle.metered.specs.Limits.{greatest_clock, most_events};
+ghost use Rattle.payload_log.specs.Backlog.{backlog, next_number};
 ghost use Rattle.rank_machine.specs.Wants.{IsLegal};
 ghost use Rattle.rank_machine.specs.Machine.{asks};
 
@@ -16,10 +17,10 @@ use plain_logger::Kind;
 use rank_machine::Want;
 
 impl<'p, S: Shelf, D> Running<'p, S, D> {
-    ghost use Rattle.rank_node.specs.Node.{is_settled};
-    ghost use Rattle.rank_node.specs.Steps.{turn_of, turn_at, after_step, step_at};
+    ghost use Rattle.rank_node.specs.Waiting.{has_room, is_settled};
+    ghost use Rattle.rank_node.specs.Steps.{turn_of, turn_at, after_step, step_at, message_of, after_send, after_hold};
     ghost use Rattle.rank_node.specs.Steps.{refusal_of, refusal_at, event_refusal, takes_memory, takes_memory_at};
-    ghost use Rattle.rank_node.specs.Steps.{MachineStep, MachineStepAt, ShowsStep, ShowsAt};
+    ghost use Rattle.rank_node.specs.Steps.{MachineStep, MachineStepAt, DidAct, ShowsStep, ShowsAt};
 
     /// One step of the machine, or none where it is blocked, held or ended. A
     /// print is shown before the machine moves.
@@ -63,7 +64,7 @@ impl<'p, S: Shelf, D> Running<'p, S, D> {
         ensures memory { IsErrOf result NodeFault.Memory → takes_memory_at self.old (Want.Send dest context tag) ≡ true }
         ensures err { OnErr result (self.new ≡ self.old) }
     {
-        if !self.is_settled() {
+        if !self.pending.has_room() {
             return Ok(Turn::Held);
         }
         if self.clock >= GREATEST_CLOCK {
@@ -73,19 +74,74 @@ impl<'p, S: Shelf, D> Running<'p, S, D> {
         let packet = Packet {
             source: self.stable.rank(),
             clock: self.clock + 1,
-            number: self.log.sent(usize::from(dest)) + 1,
+            number: self.next_number(dest),
             context,
             tag,
             payload,
         };
+        if self.pending.is_settled() {
+            self.pass_send(dest, packet)?;
+        } else {
+            self.wait_send(dest, packet)?;
+        }
+        Ok(Turn::Moved)
+    }
+
+    // The number of the next packet to this rank.
+    fn next_number(&self, dest: u8) -> u32
+        requires there { dest < self.now.stable.size }
+        requires clock { self.now.clock < greatest_clock }
+        ensures value { result ≡ next_number (backlog self.now.log dest) }
+        ensures low { 1 ≤ result }
+        ensures high { result ≤ greatest_clock }
+    {
+        self.log.sent(usize::from(dest)) + self.log.held(usize::from(dest)) + 1
+    }
+
+    // The send that stands passes: its packet goes to the payload log.
+    fn pass_send(&mut self, dest: u8, packet: Packet) -> Result<(), NodeFault>
+        requires stands { asks self.old.machine ≡ Want.Send dest packet.context packet.tag }
+        requires there { dest < self.old.stable.size }
+        requires clock { self.old.clock < greatest_clock }
+        requires settled { is_settled self.old.pending ≡ true }
+        requires packet { packet ≡ message_of self.old dest packet.context packet.tag }
+        ensures ok { OnOk result (self.new ≡ after_send self.old self.new.machine dest packet.context packet.tag) }
+        ensures machine { OnOk result (DidAct self.old.machine self.new.machine) }
+        ensures memory { IfErr result (λ e. e ≡ NodeFault.Memory) }
+        ensures err { OnErr result (self.new ≡ self.old) }
+    {
         if self.log.save(usize::from(dest), packet).is_err() {
             return Err(NodeFault::Memory);
         }
         self.machine.did_send();
         self.clock += 1;
-        Ok(Turn::Moved)
+        Ok(())
     }
 
+    // The send that stands waits: the payload log holds its packet.
+    #[tactic(auto, using(crate::proofs::Held::held_send))]
+    fn wait_send(&mut self, dest: u8, packet: Packet) -> Result<(), NodeFault>
+        requires stands { asks self.old.machine ≡ Want.Send dest packet.context packet.tag }
+        requires there { dest < self.old.stable.size }
+        requires clock { self.old.clock < greatest_clock }
+        requires room { has_room self.old.pending ≡ true }
+        requires packet { packet ≡ message_of self.old dest packet.context packet.tag }
+        ensures ok { OnOk result (self.new ≡ after_hold self.old self.new.machine dest packet.context packet.tag) }
+        ensures machine { OnOk result (DidAct self.old.machine self.new.machine) }
+        ensures memory { IfErr result (λ e. e ≡ NodeFault.Memory) }
+        ensures err { OnErr result (self.new ≡ self.old) }
+    {
+        self.pending.push_send(dest, self.clock + 1)?;
+        if self.log.hold(usize::from(dest), packet).is_err() {
+            self.pending.withdraw();
+            return Err(NodeFault::Memory);
+        }
+        self.machine.did_send();
+        self.clock += 1;
+        Ok(())
+    }
+
+    #[tactic(auto, using(crate::proofs::Held::sends_to_event))]
     fn receive(&mut self, selector: &Selector) -> Result<Turn, NodeFault>
         requires { asks self.old.machine ≡ Want.Receive selector.now }
         ensures turn { IfOk result (λ turn. turn ≡ turn_at self.old (Want.Receive selector.now)) }
@@ -101,10 +157,10 @@ impl<'p, S: Shelf, D> Running<'p, S, D> {
         let Some(index) = self.inbox.find(selector) else {
             return Ok(Turn::Blocked);
         };
-        self.has_room()?;
+        self.event_room()?;
         self.inbox.numbers_rise();
         let event = naming(Kind::Reception, self.inbox.get(index), self.clock + 1);
-        self.pending.push_back(event)?;
+        self.pending.push_event(event)?;
         let packet = self.inbox.take(index);
         self.machine.give(packet);
         self.clock += 1;
@@ -112,6 +168,7 @@ impl<'p, S: Shelf, D> Running<'p, S, D> {
         Ok(Turn::Moved)
     }
 
+    #[tactic(auto, using(crate::proofs::Held::sends_to_line))]
     fn print<C: Screen>(&mut self, screen: &mut C, value: i64) -> Result<Turn, NodeFault>
         requires { asks self.old.machine ≡ Want.Print value }
         ensures turn { IfOk result (λ turn. turn ≡ turn_at self.old (Want.Print value)) }
@@ -126,27 +183,24 @@ impl<'p, S: Shelf, D> Running<'p, S, D> {
         ensures err { OnErr result (self.new ≡ self.old) }
         ensures err_screen { OnErr result (screen.new ≡ screen.old) }
     {
-        if !self.is_settled() {
+        if !self.pending.has_room() {
             return Ok(Turn::Held);
         }
         if self.clock >= GREATEST_CLOCK {
             return Err(NodeFault::ClockSpent);
         }
-        screen.show(self.stable.rank(), self.clock + 1, value)?;
+        if self.pending.is_settled() {
+            screen.show(self.stable.rank(), self.clock + 1, value)?;
+        } else {
+            self.pending.push_line(self.clock + 1, value)?;
+        }
         self.machine.did_print();
         self.clock += 1;
         Ok(Turn::Moved)
     }
 
-    // Whether every event is stored and acknowledged.
-    pub(crate) fn is_settled(&self) -> bool
-        ensures { result ≡ is_settled self.now.pending }
-    {
-        self.pending.is_empty()
-    }
-
     // Whether a further event may be made.
-    pub(crate) fn has_room(&self) -> Result<(), NodeFault>
+    pub(crate) fn event_room(&self) -> Result<(), NodeFault>
         ensures ok { OnOk result (event_refusal self.now ≡ None) }
         ensures err { IfErr result (λ e. event_refusal self.now ≡ Some e) }
         ensures clock { OnOk result (self.now.clock < greatest_clock) }

@@ -12,10 +12,11 @@ impl<'p, S: Shelf, D> Running<'p, S, D> {
     ghost use Rattle.rank_node.specs.Storing.{next_unstored, after_store, after_ack, Appends, IsRefused};
 
     /// Appends the oldest unstored event to the rank's row and answers the
-    /// row's new length, or `None` where every event is stored.
+    /// row's new length, or `None` where every event is stored or a send or a
+    /// line stands before it.
     pub fn store_state(&mut self, logger: &mut LoggerState) -> Result<Option<u32>, NodeFault>
         requires { self.old.stable.rank < length logger.old.rows }
-        ensures none { (result ≡ Ok None) ↔ (self.old.stored ≡ length self.old.pending) }
+        ensures none { (result ≡ Ok None) ↔ (next_unstored self.old ≡ None) }
         ensures ok { IfOk result (λ stored. MatchOption stored (self.new ≡ self.old) (λ _. self.new ≡ after_store self.old)) }
         ensures row { IfOk result (λ stored. MatchOption stored (logger.new ≡ logger.old)
             (λ length. Appends (next_unstored self.old) self.old.stable.rank logger.old (Length length) logger.new)) }
@@ -26,12 +27,12 @@ impl<'p, S: Shelf, D> Running<'p, S, D> {
         ensures err { OnErr result (self.new ≡ self.old) }
         ensures stable { self.new.stable ≡ self.old.stable }
     {
-        let Some(event) = self.pending.get(self.stored) else {
+        let Some(event) = self.pending.oldest_unstored() else {
             return Ok(None);
         };
-        match logger.append(usize::from(self.stable.rank()), *event) {
+        match logger.append(usize::from(self.stable.rank()), event) {
             Ok(length) => {
-                self.stored += 1;
+                self.pending.mark_stored();
                 Ok(Some(length))
             }
             Err(LogFault::Full) => Err(NodeFault::Log),
@@ -48,10 +49,6 @@ impl<'p, S: Shelf, D> Running<'p, S, D> {
         ensures none { OnFalse result (self.new ≡ self.old) }
         ensures stable { self.new.stable ≡ self.old.stable }
     {
-        if self.stored == 0 {
-            return false;
-        }
-        self.stored -= 1;
-        self.pending.pop_front().is_some()
+        self.pending.acknowledge()
     }
 }

@@ -7,7 +7,7 @@ pub enum Turn {
     Moved,
     /// A receive or a blocking probe stands, and nothing in the inbox matches.
     Blocked,
-    /// A send or a print stands, and some event isn't stored or acknowledged.
+    /// A send or a print stands, and as many sends and lines wait as may.
     Held,
     /// The program has halted or faulted.
     Ended,

@@ -10,59 +10,105 @@ use std::sync::Wait;
 use std::test::Fail;
 use std::thread::Threads;
 
-/// Words, the program's text, the script's, the exit status, and what stands on standard error.
-type Refusal = (&'static str, &'static str, &'static str, u8, &'static str);
+/// Words that are refused.
+#[derive(Clone, Copy)]
+struct Refusal {
+    words: &'static str,
+    /// The text of the program `p`.
+    program: &'static str,
+    /// The text of the script `s`.
+    script: &'static str,
+    status: u8,
+    /// What stands on standard error.
+    error: &'static str,
+}
 
 const REFUSALS: [Refusal; 12] = [
-    ("run --ranks 1 none", "", "", 2, "cannot read none\n"),
-    (
-        "run --ranks 1 --script none p",
-        "",
-        "",
-        2,
-        "cannot read none\n",
-    ),
-    ("check none", "", "", 2, "cannot read none\n"),
-    ("check large", "", "", 4, "out of memory\n"),
-    ("check p", "end\n", "", 2, "line 1: fault 7 BlockStray\n"),
-    ("run --ranks 1 large", "", "", 4, "out of memory\n"),
-    (
-        "run --ranks 1 --script large p",
-        "",
-        "",
-        4,
-        "out of memory\n",
-    ),
+    Refusal {
+        words: "run --ranks 1 none",
+        program: "",
+        script: "",
+        status: 2,
+        error: "cannot read none\n",
+    },
+    Refusal {
+        words: "run --ranks 1 --script none p",
+        program: "",
+        script: "",
+        status: 2,
+        error: "cannot read none\n",
+    },
+    Refusal {
+        words: "check none",
+        program: "",
+        script: "",
+        status: 2,
+        error: "cannot read none\n",
+    },
+    Refusal {
+        words: "check large",
+        program: "",
+        script: "",
+        status: 4,
+        error: "out of memory\n",
+    },
+    Refusal {
+        words: "check p",
+        program: "end\n",
+        script: "",
+        status: 2,
+        error: "line 1: fault 7 BlockStray\n",
+    },
+    Refusal {
+        words: "run --ranks 1 large",
+        program: "",
+        script: "",
+        status: 4,
+        error: "out of memory\n",
+    },
+    Refusal {
+        words: "run --ranks 1 --script large p",
+        program: "",
+        script: "",
+        status: 4,
+        error: "out of memory\n",
+    },
     // The program is judged before the script is read.
-    (
-        "run --ranks 1 --script none p",
-        "end\n",
-        "",
-        2,
-        "line 1: fault 7 BlockStray\n",
-    ),
-    (
-        "run --ranks 1 --script s p",
-        "",
-        "kill 0 at 1\n",
-        2,
-        "script line 1: fault 1 BadLine\n",
-    ),
-    (
-        "run --ranks 1 --script s p",
-        "",
-        "\n# kill\n #\n",
-        2,
-        "script line 3: fault 1 BadLine\n",
-    ),
-    (
-        "run --ranks 1 --script s p",
-        "",
-        "  \n\n\t",
-        2,
-        "script line 3: fault 1 BadLine\n",
-    ),
-    ("world --ranks 1 p large", "", "", 4, "out of memory\n"),
+    Refusal {
+        words: "run --ranks 1 --script none p",
+        program: "end\n",
+        script: "",
+        status: 2,
+        error: "line 1: fault 7 BlockStray\n",
+    },
+    Refusal {
+        words: "run --ranks 1 --script s p",
+        program: "",
+        script: "kill 0 at 1\n",
+        status: 2,
+        error: "script line 1: fault 1 BadLine\n",
+    },
+    Refusal {
+        words: "run --ranks 1 --script s p",
+        program: "",
+        script: "\n# kill\n #\n",
+        status: 2,
+        error: "script line 3: fault 1 BadLine\n",
+    },
+    Refusal {
+        words: "run --ranks 1 --script s p",
+        program: "",
+        script: "  \n\n\t",
+        status: 2,
+        error: "script line 3: fault 1 BadLine\n",
+    },
+    Refusal {
+        words: "world --ranks 1 p large",
+        program: "",
+        script: "",
+        status: 4,
+        error: "out of memory\n",
+    },
 ];
 
 // Each of these is refused so, and nothing is written to standard output.
@@ -71,8 +117,8 @@ fn are_refused<R: Threads + Wait + Sync + Copy + Send + AllocGlobal + Abort>(
     rows: &[Refusal],
 ) -> Result<(), Fail> {
     for row in rows {
-        let (words, text, script, status, err) = *row;
-        expect_answer(rt, words, &[("p", text), ("s", script)], (status, "", err))?;
+        let files = [("p", row.program), ("s", row.script)];
+        expect_answer(rt, row.words, &files, (row.status, "", row.error))?;
     }
     Ok(())
 }

@@ -16,8 +16,8 @@ use plain_logger::LoggerState;
 use ports::ConsoleState;
 use std::alloc::AllocError;
 
-/// A turn: what the lanes bring, a stride or a step, events, and what goes out.
-#[tactic(auto, using(crate::proofs::PrintLemmas::prints_nothing))]
+/// A turn: what the lanes bring, a stride or a step, what waits at the gate, and what goes out.
+#[tactic(auto, using(crate::proofs::PrintLemmas::prints_nothing, crate::proofs::PrintLemmas::prints_both))]
 pub fn take_turn<H: Hold>(
     rank: &mut Rank<'_>,
     number: u8,
@@ -43,7 +43,7 @@ pub fn take_turn<H: Hold>(
         tally.take();
     }
     let moved = step(rank, number, tally, limits, hold, console)?;
-    if !settle(rank, logger)? {
+    if !settle(rank, logger, console)? {
         tally.finish(End::Unfinished);
     }
     let put = lanes.fill(number, size, rank)?;

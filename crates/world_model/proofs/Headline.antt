@@ -1,125 +1,328 @@
--- What the invariant says, in the words of the headline; and that it holds of a new world.
-use Rattle.std.proofs.Common.{◌≡◌, ℕ, zero, suc, List, [], Some, None, length, replicate, refl, sym, ap, subst, ◌∙◌, arith, slice_get, slice_index}
-use Rattle.std.proofs.lemmas.List.{take_all}
-use Rattle.std.proofs.lemmas.Option.{slice_get_within}
+-- Each event keeps the invariant; the invariant says that the world stands for its run and that nothing needed is gone; and a new world has it.
+use Rattle.std.proofs.Common.{slice_index_or, ◌≡◌, ◌≢◌, ℕ, zero, suc, ◌+◌, ◌≤◌, inl, ⊎_elim, List, [], ◌∷◌, Option, Some, None, length, drop}
+use Rattle.std.proofs.Common.{replicate, refl, sym, ap, subst, ◌∙◌, arith, slice_get, option_and_then}
+use Rattle.world_model.specs.Counts.{RankCounts, Counts}
+use Rattle.world_model.specs.Follows.{RestartFollows, ReleaseFollows, CanNot, Happens, Follows, Fetched, Unchanged}
+use Rattle.rank_node.specs.Waiting.{BeginsWithEvents, event_in, effects, events_in}
+use Rattle.world_model.proofs.Pending.{begins_effect, begins_within, continue_is_run, row_with_pending, as_many_acts}
+use Rattle.world_model.proofs.Others.{effect_there, Stands-putting, Stands-arrive, Stands-store, Stands-ack, Stands-release}
+use Rattle.world_model.proofs.Counts.{Counts-step, Counts-replay, Counts-put, Counts-arrive, Counts-crash, Counts-restart, Counts-ack}
+use Rattle.world_model.proofs.Counts.{Counts-store, Counts-release}
+use Rattle.world_model.proofs.Ranks.{above_whole, settled_behind, ahead, first_image_stands}
+use Rattle.plain_logger.specs.Event.{EventValue}
+use Rattle.plain_logger.specs.History.{above}
+use Rattle.plain_logger.specs.declared.call.Reply.TheVariants.{Events}
+use Rattle.std.proofs.lemmas.Option.{get_or_from_slice_get, slice_get_within}
 use Rattle.checkpoint.specs.declared.memory_shelf.MemoryShelf.{MemoryShelf}
 use Rattle.payload_log.specs.Backlog.{new_backlog}
-use Rattle.rank_language.specs.Program.{ProgramValue}
-use Rattle.rank_language.specs.Program.{tree_of}
+use Rattle.rank_language.specs.Program.{ProgramValue, tree_of}
 use Rattle.rank_language.proofs.Places.{begins_there}
-use Rattle.rank_machine.specs.States.{Inners, here, opening, first_store}
+use Rattle.rank_machine.specs.States.{opening, first_store}
+use Rattle.rank_machine.specs.Machine.{state_of}
 use Rattle.rank_node.specs.Node as node
+use Rattle.rank_node.specs.declared.due.Due.{Due}
 use Rattle.rank_node.specs.declared.frame.Frame.{Frame}
-use Rattle.crash_free.specs.Runs.{history, printed, continue}
+use Rattle.crash_free.specs.Runs.{history, printed, IsRun}
 use Rattle.world_model.specs.Rows.{row}
-use Rattle.world_model.specs.World.{Live, WorldValue, size, start_of, IsLive, IsWire, unstored}
-use Rattle.world_model.specs.Headline.{IsWhere, StandsFor, IsFresh, IsOpened, stable_of, lines_of}
-use Rattle.world_model.specs.Stands.{start_at, LogStands, RankStands, StandsAt, Stands}
-use Rattle.world_model.proofs.Pending.{continue_is_run, row_with_pending, as_many_acts}
+use Rattle.world_model.specs.World.{Live, unpassed, WorldValue, size, start_of, IsLive, IsWire, covered}
+use Rattle.world_model.specs.Headline.{stable_of, lines_of, IsWhere, owed, StandsFor, IsFresh, IsOpened}
+use Rattle.rank_node.specs.declared.waiting.Waiting.{Waiting}
+use Rattle.rank_node.specs.Releasing.{effect_of, next_effect}
+use Rattle.world_model.specs.declared.event.WorldEvent.{WorldEvent}
+use Rattle.world_model.specs.declared.event.WorldEvent.TheVariants.{Step, Put, Arrive, Store, Ack, Image, Crash, Restart, Release}
+use Rattle.world_model.specs.declared.reply.Reply.{Reply}
+use Rattle.world_model.specs.declared.reply.Reply.TheVariants as reply
+use Rattle.checkpoint.specs.Image.{ImageValue}
+use Rattle.rank_node.specs.Image.{first_image, begins_at}
+use Rattle.world_model.specs.Stands.{ImageStands, RankStands, start_at, StandsAt, DueCovered, RankCovers, Stands}
+use Rattle.rank_node.specs.Storing.{next_unstored}
+use Rattle.world_model.proofs.Lists.{replicate_get, replicate_length, drop_none}
+use Rattle.world_model.proofs.Worlds.{Goes}
+use Rattle.world_model.proofs.Crashes.{Stands-crash, Stands-restart}
+use Rattle.world_model.proofs.Turns.{Stands-replay, Stands-step}
+
+-- each event
+goes_on : (w : WorldValue) (event : WorldEvent) (answer : Reply) (w' : WorldValue) → Stands w → Happens w event answer w' → Goes w'
+goes_on w (Step r) answer w' s h = ⊎_elim (λ f. Stands-step w r answer w' s f) (λ f. Stands-replay w r answer w' s f) h
+goes_on w (Put r d) answer w' s h = Stands-putting w r d answer w' s h
+goes_on w (Arrive from r i) answer w' s h = Stands-arrive w from r i answer w' s h
+goes_on w (Store r) answer w' s h = Stands-store w r answer w' s h
+goes_on w (Ack r) answer w' s h = Stands-ack w r answer w' s h
+goes_on w (Image r) answer w' s h = absurd h
+goes_on w (Crash r) answer w' s h = Stands-crash w r answer w' s h
+goes_on w (Restart r) answer w' s h = Stands-restart w r answer w' s h
+goes_on w (Release r) answer w' s h = Stands-release w r answer w' s h
+
+-- no more is stored than waits
+stored_low : (w : WorldValue) (r : ℕ) → Stands w → (v : Live) → IsLive w r v → v.rank.stored ≤ length v.rank.pending
+stored_low w r s v live = begins_within v.rank.stored v.rank.pending (s.run.ranks r v live).stored
+
+-- a fetch after 0 gets the whole row
+fetched_whole : (w : WorldValue) (r : ℕ) (answer : Reply) (w' : WorldValue) → Stands w → (f : RestartFollows w r answer w')
+    → (events : List EventValue) → slice_get w.logger.rows r ≡ Some events → f.events ≡ events
+fetched_whole w r answer w' s f events there =
+    let q : Events f.events ≡ Events (above 0 (slice_index_or w.logger.rows r [])) = f.fetches.replied in
+    let e : f.events ≡ above 0 (slice_index_or w.logger.rows r []) = cc in
+    e ∙ ap (λ z. above 0 z) (get_or_from_slice_get w.logger.rows r events [] there ∙ s.run.rows r events there) ∙ above_whole 0 0 (history w.run r)
+    (omega arith) ∙ sym (s.run.rows r events there)
+
+-- where an effect is released nothing is stored
+none_stored : (w : WorldValue) (r : ℕ) (answer : Reply) (w' : WorldValue) → Stands w → (f : ReleaseFollows w r answer w') → f.before.rank.stored ≡ 0
+none_stored w r answer w' s f =
+    let e = effect_there f.before.rank.pending f.effect f.oldest in
+    begins_effect f.before.rank.stored f.effect (drop 1 f.before.rank.pending) e.1
+    (subst (λ z. BeginsWithEvents f.before.rank.stored z) e.0 (s.run.ranks r f.before f.live).stored)
+
+-- each event keeps the counts
+counts_on : (w : WorldValue) (event : WorldEvent) (answer : Reply) (w' : WorldValue) → Stands w → Happens w event answer w' → Counts w'
+counts_on w (Step r) answer w' s h =
+    ⊎_elim (λ f. Counts-step w r answer w' (stored_low w r s) s.counts f) (λ f. Counts-replay w r answer w' (stored_low w r s) s.counts f) h
+counts_on w (Put r d) answer w' s h = Counts-put w r d answer w' s.counts h
+counts_on w (Arrive from r i) answer w' s h = Counts-arrive w from r i answer w' s.counts h
+counts_on w (Store r) answer w' s h = Counts-store w r answer w' s.counts h
+counts_on w (Ack r) answer w' s h = Counts-ack w r answer w' s.counts h
+counts_on w (Image r) answer w' s h = absurd h
+counts_on w (Crash r) answer w' s h = Counts-crash w r answer w' s.counts h
+counts_on w (Restart r) answer w' s h = Counts-restart w r answer w' s.counts h (fetched_whole w r answer w' s h)
+counts_on w (Release r) answer w' s h = Counts-release w r answer w' s.counts h (none_stored w r answer w' s h)
+
+-- each event that happens keeps the invariant
+happens : (w : WorldValue) (event : WorldEvent) (answer : Reply) (w' : WorldValue) → Stands w → Happens w event answer w' → Stands w'
+happens w event answer w' s h = (let g = goes_on w event answer w' s h in record { run = g.run; covers = g.covers; counts = counts_on w event answer w' s h })
+
+-- each event does
+pub stands_after : (w : WorldValue) (event : WorldEvent) (answer : Reply) (w' : WorldValue) → Stands w → Follows w event answer w' → Stands w'
+stands_after w event reply.Refused w' s f = subst (λ z. Stands z) (sym f.1) s
+stands_after w event reply.Moved w' s f = happens w event reply.Moved w' s f
+stands_after w event reply.Blocked w' s f = happens w event reply.Blocked w' s f
+stands_after w event reply.Held w' s f = happens w event reply.Held w' s f
+stands_after w event reply.Ended w' s f = happens w event reply.Ended w' s f
+stands_after w event (reply.PutData index number) w' s f = happens w event (reply.PutData index number) w' s f
+stands_after w event (reply.PutAsk index from) w' s f = happens w event (reply.PutAsk index from) w' s f
+stands_after w event (reply.PutKept index upto) w' s f = happens w event (reply.PutKept index upto) w' s f
+stands_after w event reply.Accepted w' s f = happens w event reply.Accepted w' s f
+stands_after w event reply.Repeated w' s f = happens w event reply.Repeated w' s f
+stands_after w event reply.Gap w' s f = happens w event reply.Gap w' s f
+stands_after w event reply.Noted w' s f = happens w event reply.Noted w' s f
+stands_after w event (reply.Stored count) w' s f = happens w event (reply.Stored count) w' s f
+stands_after w event reply.Acked w' s f = happens w event reply.Acked w' s f
+stands_after w event reply.Imaged w' s f = happens w event reply.Imaged w' s f
+stands_after w event reply.Crashed w' s f = happens w event reply.Crashed w' s f
+stands_after w event (reply.Restarted count) w' s f = happens w event (reply.Restarted count) w' s f
+stands_after w event (reply.Released clock) w' s f = happens w event (reply.Released clock) w' s f
+
+-- a rank of which nothing waits owes nothing
+nothing_owed : (v : Live) → v.rank.pending ≡ [] → owed v ≡ 0
+nothing_owed v none =
+    let e : unpassed v.rank ≡ [] = ap (λ z. drop v.rank.stored z) none ∙ drop_none v.rank.stored in
+    ap (λ z. length (events_in z) + effects z) e
 
 -- a live rank is where it should be
-where_is : (w : WorldValue) (r : ℕ) (v : Live) → Stands w → IsLive w r v → IsWhere (start_of w) (size w) w.run r v
+where_is : (w : WorldValue) (r : ℕ) (v : Live) → StandsAt (size w) w → IsLive w r v → IsWhere (start_of w) (size w) w.run r v
 where_is w r v s live =
     record {
       acts = k.acts;
-      as_many = as_many_acts (start_of w) w.run r k.acts (unstored v.rank) k.pending;
-      is_run = continue_is_run (start_of w) (size w) w.run r k.acts (unstored v.rank) (slice_get_within w.ranks r (Some v) live) s.is_run k.pending;
-      events = row_with_pending (start_of w) w.run r k.acts (unstored v.rank) k.pending;
-      within = let c = k.clock in omega arith;
-      after = k.after;
-      reached = rw (take_all v.rank.clock (history (continue w.run r k.acts) r) (let c = k.clock in omega arith)) k.reached;
-      inner = k.inner;
-      all_made = λ some. k.clock;
+      as_many = as_many_acts (start_of w) w.run r k.acts (unpassed v.rank) k.pending;
+      is_run = continue_is_run (start_of w) (size w) w.run r k.acts (unpassed v.rank) (slice_get_within w.ranks r (Some v) live) s.is_run k.pending;
+      events = row_with_pending (start_of w) w.run r k.acts (unpassed v.rank) k.pending;
+      within = k.at.within;
+      after = k.at.after;
+      reached = k.at.reached;
+      inner = k.at.inner;
+      all_made = λ some. ⊎_elim (λ (none : v.rank.pending ≡ []). absurd (some (nothing_owed v none))) (λ all. all) k.all_made;
     }
   where
     k : RankStands (start_of w) (size w) w.run r v
     k = s.ranks r v live
 
+-- the invariant says that the world stands for its run
 pub stands_for : (w : WorldValue) → Stands w → StandsFor w w.run
-stands_for w s =
+stands_for w t =
     record {
-      is_run = s.is_run;
-      as_many_rows = s.as_many_rows;
-      rows = s.rows;
-      as_many_wires = s.as_many_wires;
-      wires_to_all = s.wires_to_all;
-      packets = s.packets;
-      lines = s.lines;
-      ranks = λ r v live. where_is w r v s live;
+      is_run = t.run.is_run;
+      as_many_rows = t.run.as_many_rows;
+      rows = t.run.rows;
+      as_many_wires = t.run.as_many_wires;
+      wires_to_all = t.run.wires_to_all;
+      packets = t.run.packets;
+      lines = t.run.lines;
+      ranks = λ r v live. where_is w r v t.run live;
     }
 
-replicate_get : {A : Type 0} (n : ℕ) (x : A) (k : ℕ) (y : A) → slice_get (replicate n x) k ≡ Some y → y ≡ x
-replicate_get zero x k y e = absurd cc
-replicate_get (suc n) x zero y e = cc
-replicate_get (suc n) x (suc k) y e = replicate_get n x k y e
+-- a rank in replay has nothing to store, to acknowledge or to release
+pub nothing_in_replay : (w : WorldValue) (r : ℕ) (v : Live) → Stands w → IsLive w r v → v.left ≢ []
+    → (next_unstored v.rank ≡ None) × (v.rank.stored ≡ 0) × (next_effect v.rank ≡ None)
+nothing_in_replay w r v t live some =
+    let k = t.run.ranks r v live in
+    let e : v.rank.pending ≡ [] = settled_behind (start_at w (size w)) (size w) w.run r v k some in
+    let l : v.rank.stored ≤ length v.rank.pending = begins_within v.rank.stored v.rank.pending k.stored in
+    let z = ap length e in
+    (ap (λ y. option_and_then event_in (slice_get y v.rank.stored)) e, omega (arith, l, z), ap (λ y. option_and_then effect_of (slice_get y 0)) e)
 
-replicate_length : {A : Type 0} (n : ℕ) (x : A) → length (replicate n x) ≡ n
-replicate_length zero x = refl
-replicate_length (suc n) x = ap suc (replicate_length n x)
+-- ---- want of memory
 
--- a rank at its beginning goes with the empty run
-fresh_rank : (program : ProgramValue) (n r : ℕ) (shelf : MemoryShelf)
-    → RankStands (λ q. opening program q n) n [] r (record { rank = node.opening program (stable_of n r shelf); left = [] })
-fresh_rank program n r shelf =
+-- a fetch keeps the invariant
+fetched_stands : (w : WorldValue) (r : ℕ) (w' : WorldValue) → Stands w → Fetched w r w' → Stands w'
+fetched_stands w r w' s f =
+    subst (λ z. Stands z) (sym f.after)
+    (record {
+      run = record {
+        is_run = s.run.is_run;
+        as_many_rows = ap length rows ∙ s.run.as_many_rows;
+        rows = λ q events e. s.run.rows q events (subst (λ z. slice_get z q ≡ Some events) rows e);
+        as_many_wires = s.run.as_many_wires;
+        wires_to_all = s.run.wires_to_all;
+        packets = s.run.packets;
+        lines = s.run.lines;
+        as_many_images = s.run.as_many_images;
+        images = s.run.images;
+        ranks = s.run.ranks;
+      };
+      covers = record { images = s.covers.images; wires = s.covers.wires; ranks = s.covers.ranks };
+      counts =
+          record {
+            rows = λ q events e. s.counts.rows q events
+                (subst (λ z. slice_get z q ≡ Some events) rows e);
+            ranks = λ q v events live e. s.counts.ranks q v events live
+                (subst (λ z. slice_get z q ≡ Some events) rows e);
+          };
+    })
+  where
+    rows : w'.logger.rows ≡ w.logger.rows
+    rows = ap (λ z. z.rows) f.fetches.logged
+
+-- want of memory keeps the invariant
+pub stands_unchanged : (w : WorldValue) (event : WorldEvent) (w' : WorldValue) → Stands w → Unchanged w event w' → Stands w'
+stands_unchanged w (Restart r) w' s u = ⊎_elim (λ e. subst (λ z. Stands z) (sym e) s) (λ f. fetched_stands w r w' s f) u
+stands_unchanged w (Step r) w' s u = subst (λ z. Stands z) (sym u) s
+stands_unchanged w (Put r d) w' s u = subst (λ z. Stands z) (sym u) s
+stands_unchanged w (Arrive q r i) w' s u = subst (λ z. Stands z) (sym u) s
+stands_unchanged w (Store r) w' s u = subst (λ z. Stands z) (sym u) s
+stands_unchanged w (Ack r) w' s u = subst (λ z. Stands z) (sym u) s
+stands_unchanged w (Image r) w' s u = subst (λ z. Stands z) (sym u) s
+stands_unchanged w (Crash r) w' s u = subst (λ z. Stands z) (sym u) s
+stands_unchanged w (Release r) w' s u = subst (λ z. Stands z) (sym u) s
+
+-- ---- what happens is nothing that can't
+
+-- a rank with something to release replays nothing
+release_running : (w : WorldValue) (r : ℕ) (v : Live) → Stands w → IsLive w r v → (x : Waiting) → next_effect v.rank ≡ Some x → v.left ≡ []
+release_running w r v s live x there = ahead (start_at w (size w)) (size w) w.run r v (s.run.ranks r v live) (λ e. (let q : None ≡ Some x = sym (ap (λ y. option_and_then effect_of (slice_get y 0)) e) ∙ there in cc))
+
+-- nothing both happens and can't
+pub happens_can : (w : WorldValue) (event : WorldEvent) (answer : Reply) (w' : WorldValue) → Stands w → Happens w event answer w' → CanNot w event → ⊥
+happens_can w (Step r) answer w' s h c =
+    ⊎_elim (λ f. (c f.before f.live).1 f.allowed) (λ f. (let q : f.event ∷ f.rest ≡ [] = sym f.replaying ∙ (c f.before f.live).0 in cc)) h
+happens_can w (Put r d) answer w' s f c =
+    let l = slice_get_within f.of_s d f.frames f.wire in
+    let e = s.run.wires_to_all r f.of_s f.wires in
+    let q : Some f.frame ≡ None = sym f.next ∙ c f.before f.live (omega (arith, l, e)) in
+    cc
+happens_can w (Arrive from r i) answer w' s f c = c f.before f.frames f.frame f.live f.wire f.there
+happens_can w (Store r) answer w' s f c = (let q : Some f.event ≡ None = sym f.oldest ∙ c f.before f.live in cc)
+happens_can w (Ack r) answer w' s f c = f.some (c f.before f.live)
+happens_can w (Image r) answer w' s h c = absurd h
+happens_can w (Crash r) answer w' s f c = c f.before f.live
+happens_can w (Restart r) answer w' s f c = c f.down
+happens_can w (Release r) answer w' s f c = (let q : Some f.effect ≡ None = sym f.oldest ∙ c f.before f.live (release_running w r f.before s f.live f.effect f.oldest) in cc)
+
+-- ---- a new world
+
+-- a machine at the beginning is in the opening state
+opened : (program : ProgramValue) (n r : ℕ) → state_of (first_image program r n).machine ≡ opening program r n
+opened program n r = ap (λ z. record { store = first_store program r n; rest = z; fault = None }) (begins_there (tree_of program))
+
+-- the beginning of the program goes with no run
+fresh_image : (w : WorldValue) (n r : ℕ) → ImageStands (start_at w n) n [] r (first_image w.program r n)
+fresh_image w n r = first_image_stands (start_at w n) n [] r w.program refl (opened w.program n r)
+
+-- so does a rank at its beginning
+fresh_rank : (w : WorldValue) (n r : ℕ) (shelf : MemoryShelf)
+    → RankStands (start_at w n) n [] r (record { rank = node.opening w.program (stable_of n r shelf); left = [] })
+fresh_rank w n r shelf =
     record {
       number = refl;
       size = refl;
-      nothing_left = refl;
       acts = [];
       pending = tt;
-      stored = omega arith;
-      clock = refl;
-      made = refl;
-      few = omega arith;
-      after = opening program r n;
-      reached = refl;
-      inner =
-          subst (λ z. Inners (opening program r n) (record { store = first_store program r n; rest = z; fault = None })) (sym (begins_there (tree_of program))) here;
-      counted = replicate_length n 0;
-      logged = replicate_length n new_backlog;
-      log = λ d b e. subst (λ z. LogStands r [] z) (sym (replicate_get n new_backlog d b e)) (record { sent = refl; kept = λ k p f. absurd cc });
-      inbox = record {
-        real = λ k p e. absurd cc;
-        untaken = λ k p e. absurd cc;
-        accepted = λ k p e. absurd cc;
-        each = λ s j one l t. let z = none_accepted n s in absurd (omega (arith, z));
-        rising = λ k l p q lt e f. absurd cc;
-        taken_accepted = λ s j t. absurd cc;
-        within = λ s. let z = none_accepted n s in omega (arith, z);
-      };
+      stored = tt;
+      all_made = inl refl;
+      left = refl;
+      logs = (fresh_image w n r).logs;
+      at = (fresh_image w n r).at;
     }
-  where
-    none_accepted : (n s : ℕ) → slice_index (replicate n 0) s ≡ 0
-    none_accepted zero s = refl
-    none_accepted (suc n) zero = refl
-    none_accepted (suc n) (suc s) = none_accepted n s
 
--- a new world stands for the empty run
+-- without images nothing is covered
+none_covered : (n d s : ℕ) → covered (replicate n None) d s ≡ 0
+none_covered zero d s = refl
+none_covered (suc n) zero s = refl
+none_covered (suc n) (suc d) s = none_covered n d s
+
+-- a new world has the invariant
 pub stands_fresh : (program : ProgramValue) (n : ℕ) (w : WorldValue) → IsFresh program n w → Stands w
 stands_fresh program n w f =
-    subst (λ z. StandsAt z w) (sym f.as_many)
-    (record {
-      is_run = rw f.run tt;
-      as_many_rows = ap length f.rows ∙ replicate_length n [];
-      rows = λ r x e. replicate_get n [] r x (subst (λ z. slice_get z r ≡ Some x) f.rows e) ∙ sym (ap (λ z. row z r) f.run);
-      as_many_wires = ap length f.wires ∙ replicate_length n (replicate n []);
-      wires_to_all = λ s x e. ap length (of_wires s x e) ∙ replicate_length n [];
-      packets = λ s d k frames g at e. absurd (nothing_put s d k frames g at e);
-      lines = λ r. ap (λ z. lines_of r z) f.lines ∙ sym (ap (λ z. printed z r) f.run);
-      ranks = λ r v live. rank_is r v (f.ranks r (Some v) live);
-    })
+    record {
+      run = subst (λ k. StandsAt k w) (sym f.as_many) at;
+      covers = record {
+        images = λ s i e. absurd (no_image s i e);
+        wires = λ q s k frames g there e. absurd (nothing_put q s k frames g there e);
+        ranks = λ r v live. rank_covers r v (f.ranks r (Some v) live);
+      };
+      counts = record {
+        rows = λ r events e. (let l = ap length (empty r events e) in omega (arith, l));
+        ranks = λ r v events live e. rank_counts r v events (f.ranks r (Some v) live) (empty r events e);
+      };
+    }
   where
     of_wires : (s : ℕ) (x : List (List Frame)) → slice_get w.wires s ≡ Some x → x ≡ replicate n []
     of_wires s x e = replicate_get n (replicate n []) s x (subst (λ z. slice_get z s ≡ Some x) f.wires e)
 
     nothing_put : (s d k : ℕ) (frames : List Frame) (g : Frame) → IsWire w s d frames → slice_get frames k ≡ Some g → ⊥
-    nothing_put s d k frames g at e =
-        let none : frames ≡ [] = replicate_get n [] d frames (subst (λ z. slice_get z d ≡ Some frames) (of_wires s at.0 at.1) at.2) in
+    nothing_put s d k frames g there e =
+        let none : frames ≡ [] = replicate_get n [] d frames (subst (λ z. slice_get z d ≡ Some frames) (of_wires s there.0 there.1) there.2) in
         let bad : slice_get [] k ≡ Some g = subst (λ z. slice_get z k ≡ Some g) none e in
         cc
 
+    of_images : (r : ℕ) (o : Option ImageValue) → slice_get w.images r ≡ Some o → o ≡ None
+    of_images r o e = replicate_get n None r o (subst (λ z. slice_get z r ≡ Some o) f.images e)
+
+    no_image : (r : ℕ) (i : ImageValue) → slice_get w.images r ≡ Some (Some i) → ⊥
+    no_image r i e = (let q : Some i ≡ None = of_images r (Some i) e in cc)
+
     rank_is : (r : ℕ) (v : Live) → IsOpened program n r (Some v) → RankStands (start_at w n) n w.run r v
     rank_is r v h =
-        subst (λ z. RankStands (λ q. opening z q n) n w.run r v) (sym f.same_program)
-        (subst (λ z. RankStands (λ q. opening program q n) n z r v) (sym f.run)
-        (subst (λ z. RankStands (λ q. opening program q n) n [] r z) (sym h.0) (fresh_rank program n r v.rank.stable.shelf)))
+        subst (λ z. RankStands (start_at w n) n z r v) (sym f.run)
+        (subst (λ z. RankStands (start_at w n) n [] r z) (sym
+        (subst (λ p. v ≡ record { rank = node.opening p (stable_of n r v.rank.stable.shelf); left = [] }) (sym f.same_program) h.0))
+        (fresh_rank w n r v.rank.stable.shelf))
+
+    empty : (r : ℕ) (events : List EventValue) → slice_get w.logger.rows r ≡ Some events → events ≡ []
+    empty r events e = replicate_get n [] r events (subst (λ z. slice_get z r ≡ Some events) f.rows e)
+
+    rank_counts : (r : ℕ) (v : Live) (events : List EventValue) → IsOpened program n r (Some v) → events ≡ [] → RankCounts v events
+    rank_counts r v events h none =
+        subst (λ z. RankCounts z events) (sym h.0) (let l = ap length none in record { made = (let z : 0 ≡ length events + 0 = omega (arith, l) in z); few = omega arith })
+
+    rank_covers : (r : ℕ) (v : Live) → IsOpened program n r (Some v) → RankCovers w.images r v
+    rank_covers r v h =
+        subst (λ z. RankCovers w.images r z) (sym h.0)
+        (record {
+          bases = λ d b e. subst (λ z. z.base ≤ covered w.images d r) (sym (replicate_get n new_backlog d b e)) (omega arith);
+          dues = λ d due e. subst (λ (z : Due). DueCovered w.images r d z.kept) (sym (replicate_get n node.no_due d due e)) tt;
+          since = λ s. (let z = ap (λ y. covered y r s) f.images ∙ none_covered n r s in omega (arith, z));
+        })
+
+    at : StandsAt n w
+    at = record {
+      is_run = subst (λ z. IsRun (start_at w n) n z) (sym f.run) tt;
+      as_many_rows = ap length f.rows ∙ replicate_length n [];
+      rows = λ r events e. replicate_get n [] r events (subst (λ z. slice_get z r ≡ Some events) f.rows e) ∙ sym (ap (λ z. row z r) f.run);
+      as_many_wires = ap length f.wires ∙ replicate_length n (replicate n []);
+      wires_to_all = λ s x e. ap length (of_wires s x e) ∙ replicate_length n [];
+      packets = λ s d k frames g there e. absurd (nothing_put s d k frames g there e);
+      lines = λ r. ap (λ z. lines_of r z) f.lines ∙ sym (ap (λ z. printed z r) f.run);
+      as_many_images = ap length f.images ∙ replicate_length n None;
+      images = λ r o e. subst (λ z. ImageStands (start_at w n) n z r (begins_at w.program r n o)) (sym f.run)
+          (subst (λ z. ImageStands (start_at w n) n [] r (begins_at w.program r n z)) (sym (of_images r o e)) (fresh_image w n r));
+      ranks = λ r v live. rank_is r v (f.ranks r (Some v) live);
+    }

@@ -1,112 +1,179 @@
--- What a rank has made and not stored: acts of other ranks keep it, an act more goes to its end, and with it the run
--- goes on as a run.
-use Rattle.std.proofs.Common.{◌≡◌, ℕ, suc, ◌+◌, ◌<◌, List, [], ◌∷◌, ◌++◌, Some, length, refl, sym, ap, subst, ◌∙◌, append_assoc, ◌⊎◌, inl, inr}
+-- What a rank has made that hasn't passed: acts of other ranks keep it, an act more goes to its end, and with it the run
+-- goes on as a run. What waits may send, so the run that goes on sends more.
+use Rattle.std.proofs.Common.{◌≡◌, ℕ, zero, suc, ◌+◌, ◌-◌, ◌<◌, ◌≤◌, List, [], ◌∷◌, ◌++◌, Some, None, length, drop, refl, sym, ap, subst, ◌∙◌}
+use Rattle.std.proofs.Common.{append_assoc, arith, slice_get}
 use Rattle.std.proofs.lemmas.List.{append-nil}
-use Rattle.std.proofs.lemmas.Bool.{cases_eq}
 use Rattle.plain_logger.specs.Event.{EventValue}
 use Rattle.rank_machine.specs.States.{State}
 use Rattle.rank_machine.specs.Wants.{wants, payload}
-use Rattle.rank_machine.specs.Acts.{Act, Message, sends, takes, hits, misses, prints}
-use Rattle.crash_free.specs.Runs.{Passed, history, sent, at_place, looked_up, MayMake, IsRun, continue}
-use Rattle.crash_free.specs.Grows.{Extends}
-use Rattle.crash_free.proofs.Lists.{sent-own, sent-other}
-use Rattle.crash_free.proofs.Going.{looked_up_longer, MayMake-longer, Extends-both}
-use Rattle.world_model.specs.Rows.{row, event_at}
-use Rattle.world_model.specs.Stands.{Pending}
-use Rattle.world_model.proofs.Rows.{row_one_more, event_sends_none}
+use Rattle.rank_machine.specs.Acts.{Act, sends, takes, hits, misses, prints}
+use Rattle.crash_free.specs.Runs.{Passed, history, sent, send_at, looked_up, MayMake, IsRun, continue}
+use Rattle.crash_free.specs.Grows.{Grows, Extends}
+use Rattle.crash_free.proofs.Lists.{send_at-append}
+use Rattle.crash_free.proofs.Going.{looked_up_longer, MayMake-longer, Extends-both, sent_grows}
+use Rattle.world_model.specs.Rows.{row}
+use Rattle.world_model.proofs.Rows.{IsEffect, row_one_more, row_of_effect}
+use Rattle.rank_node.specs.declared.waiting.Waiting.{Waiting}
+use Rattle.rank_node.specs.Waiting.{events_in, effects, event_in, BeginsWithEvents}
+use Rattle.rank_node.specs.declared.waiting.Waiting.TheVariants as waits
+use Rattle.world_model.specs.Stands.{IsFor, Pending, sends_of}
+
+-- an act is still what waits, where its rank has the same acts and its message is found still
+IsFor-same : (C C' : List Passed) (r : ℕ) (a : Act) (x : Waiting) → history C' r ≡ history C r → looked_up (λ s. sent C' s r) a ≡ looked_up (λ s. sent C s r) a
+    → IsFor C r a x → IsFor C' r a x
+IsFor-same C C' r a (waits.Event e) h l f = rw (h, l) f
+IsFor-same C C' r (sends d c t i) (waits.Send dest clock) h l f = (f.0, rw h f.1)
+IsFor-same C C' r (takes s j) (waits.Send dest clock) h l f = absurd f
+IsFor-same C C' r (hits s j) (waits.Send dest clock) h l f = absurd f
+IsFor-same C C' r misses (waits.Send dest clock) h l f = absurd f
+IsFor-same C C' r (prints v) (waits.Send dest clock) h l f = absurd f
+IsFor-same C C' r (prints v) (waits.Line clock value) h l f = (f.0, rw h f.1)
+IsFor-same C C' r (sends d c t i) (waits.Line clock value) h l f = absurd f
+IsFor-same C C' r (takes s j) (waits.Line clock value) h l f = absurd f
+IsFor-same C C' r (hits s j) (waits.Line clock value) h l f = absurd f
+IsFor-same C C' r misses (waits.Line clock value) h l f = absurd f
 
 -- acts of other ranks keep what a rank has pending
-pub Pending-extended : (start : ℕ → State) (C C' : List Passed) (r : ℕ) (acts : List Act) (events : List EventValue)
-    → Extends r C C' → Pending start C r acts events → Pending start C' r acts events × Extends r (continue C r acts) (continue C' r acts)
+pub Pending-extended : (start : ℕ → State) (C C' : List Passed) (r : ℕ) (acts : List Act) (xs : List Waiting)
+    → Extends r C C' → Pending start C r acts xs → Pending start C' r acts xs × Extends r (continue C r acts) (continue C' r acts)
 Pending-extended start C C' r [] [] e p = (tt, e)
-Pending-extended start C C' r [] (x ∷ events) e p = absurd p
+Pending-extended start C C' r [] (x ∷ xs) e p = absurd p
 Pending-extended start C C' r (a ∷ acts) [] e p = absurd p
-Pending-extended start C C' r (a ∷ acts) (x ∷ events) e p =
+Pending-extended start C C' r (a ∷ acts) (x ∷ xs) e p =
     let both = Extends-both r C C' a (wants p.0.stands) (payload p.0.stands) p.0.makes e in
-    let rest = Pending-extended start (record { rank = r; act = a } ∷ C) (record { rank = r; act = a } ∷ C') r acts events both p.2 in
+    let rest = Pending-extended start (record { rank = r; act = a } ∷ C) (record { rank = r; act = a } ∷ C') r acts xs both p.2 in
     let l : looked_up (λ s. sent C' s r) a ≡ looked_up (λ s. sent C s r) a =
     looked_up_longer (wants p.0.stands) (payload p.0.stands) (λ s. sent C s r) (λ s. sent C' s r) a p.0.makes e.grows in (
       (
         rw e.same (MayMake-longer (start r) (λ s. sent C s r) (λ s. sent C' s r) (history C r) a e.grows p.0),
-        rw (e.same, l) p.1,
+        IsFor-same C C' r a x e.same l p.1,
         rest.0,
       ),
       rest.1,
     )
 
--- one more act that isn't stored
-pub Pending-push : (start : ℕ → State) (C : List Passed) (r : ℕ) (acts : List Act) (events : List EventValue) (a : Act) (x : EventValue)
-    → Pending start C r acts events
+-- one more act that waits
+pub Pending-push : (start : ℕ → State) (C : List Passed) (r : ℕ) (acts : List Act) (xs : List Waiting) (a : Act) (x : Waiting)
+    → Pending start C r acts xs
     → MayMake (start r) (λ s. sent (continue C r acts) s r) (history (continue C r acts) r) a
-    → event_at (length (history (continue C r acts) r) + 1) a (looked_up (λ s. sent (continue C r acts) s r) a) ≡ Some x
-    → Pending start C r (acts ++ a ∷ []) (events ++ x ∷ [])
+    → IsFor (continue C r acts) r a x
+    → Pending start C r (acts ++ a ∷ []) (xs ++ x ∷ [])
 Pending-push start C r [] [] a x p c e = (c, e, tt)
-Pending-push start C r [] (y ∷ events) a x p c e = absurd p
+Pending-push start C r [] (y ∷ xs) a x p c e = absurd p
 Pending-push start C r (b ∷ acts) [] a x p c e = absurd p
-Pending-push start C r (b ∷ acts) (y ∷ events) a x p c e =
-    (p.0, p.1, Pending-push start (record { rank = r; act = b } ∷ C) r acts events a x p.2 c e)
+Pending-push start C r (b ∷ acts) (y ∷ xs) a x p c e =
+    (p.0, p.1, Pending-push start (record { rank = r; act = b } ∷ C) r acts xs a x p.2 c e)
 
 -- the run with what is pending is a run
-pub continue_is_run : (start : ℕ → State) (n : ℕ) (C : List Passed) (r : ℕ) (acts : List Act) (events : List EventValue)
-    → r < n → IsRun start n C → Pending start C r acts events → IsRun start n (continue C r acts)
-continue_is_run start n C r [] events l i p = i
+pub continue_is_run : (start : ℕ → State) (n : ℕ) (C : List Passed) (r : ℕ) (acts : List Act) (xs : List Waiting)
+    → r < n → IsRun start n C → Pending start C r acts xs → IsRun start n (continue C r acts)
+continue_is_run start n C r [] xs l i p = i
 continue_is_run start n C r (a ∷ acts) [] l i p = absurd p
-continue_is_run start n C r (a ∷ acts) (x ∷ events) l i p =
-    continue_is_run start n (record { rank = r; act = a } ∷ C) r acts events l (i, l, p.0) p.2
+continue_is_run start n C r (a ∷ acts) (x ∷ xs) l i p =
+    continue_is_run start n (record { rank = r; act = a } ∷ C) r acts xs l (i, l, p.0) p.2
 
--- the row grows by what is pending
-pub row_with_pending : (start : ℕ → State) (C : List Passed) (r : ℕ) (acts : List Act) (events : List EventValue)
-    → Pending start C r acts events → row (continue C r acts) r ≡ row C r ++ events
+-- what waits and is no event is of an effect
+pub effect_for : (C : List Passed) (r : ℕ) (a : Act) (x : Waiting) → event_in x ≡ None → IsFor C r a x → IsEffect a
+effect_for C r a (waits.Event e) n f = absurd cc
+effect_for C r (sends d c t i) (waits.Send dest clock) n f = tt
+effect_for C r (takes s j) (waits.Send dest clock) n f = absurd f
+effect_for C r (hits s j) (waits.Send dest clock) n f = absurd f
+effect_for C r misses (waits.Send dest clock) n f = absurd f
+effect_for C r (prints v) (waits.Send dest clock) n f = absurd f
+effect_for C r (prints v) (waits.Line clock value) n f = tt
+effect_for C r (sends d c t i) (waits.Line clock value) n f = absurd f
+effect_for C r (takes s j) (waits.Line clock value) n f = absurd f
+effect_for C r (hits s j) (waits.Line clock value) n f = absurd f
+effect_for C r misses (waits.Line clock value) n f = absurd f
+
+-- the row grows by the events among what is pending
+pub row_with_pending : (start : ℕ → State) (C : List Passed) (r : ℕ) (acts : List Act) (xs : List Waiting)
+    → Pending start C r acts xs → row (continue C r acts) r ≡ row C r ++ events_in xs
 row_with_pending start C r [] [] p = sym (append-nil _)
-row_with_pending start C r [] (x ∷ events) p = absurd p
+row_with_pending start C r [] (x ∷ xs) p = absurd p
 row_with_pending start C r (a ∷ acts) [] p = absurd p
-row_with_pending start C r (a ∷ acts) (x ∷ events) p =
-    row_with_pending start (record { rank = r; act = a } ∷ C) r acts events p.2
-    ∙ ap (λ z. z ++ events) (row_one_more C r a x p.1)
-    ∙ append_assoc (row C r) (x ∷ []) events
+row_with_pending start C r (a ∷ acts) (waits.Event e ∷ xs) p =
+    row_with_pending start (record { rank = r; act = a } ∷ C) r acts xs p.2
+    ∙ ap (λ z. z ++ events_in xs) (row_one_more C r a e p.1)
+    ∙ append_assoc (row C r) (e ∷ []) (events_in xs)
+row_with_pending start C r (a ∷ acts) (waits.Send d c ∷ xs) p =
+    row_with_pending start (record { rank = r; act = a } ∷ C) r acts xs p.2
+    ∙ ap (λ z. z ++ events_in xs) (row_of_effect C r r a (effect_for C r a (waits.Send d c) refl p.1))
+row_with_pending start C r (a ∷ acts) (waits.Line c v ∷ xs) p =
+    row_with_pending start (record { rank = r; act = a } ∷ C) r acts xs p.2
+    ∙ ap (λ z. z ++ events_in xs) (row_of_effect C r r a (effect_for C r a (waits.Line c v) refl p.1))
 
--- each pending act has one event
-pub as_many_acts : (start : ℕ → State) (C : List Passed) (r : ℕ) (acts : List Act) (events : List EventValue) → Pending start C r acts events
-    → length acts ≡ length events
+-- each pending act waits
+pub as_many_acts : (start : ℕ → State) (C : List Passed) (r : ℕ) (acts : List Act) (xs : List Waiting) → Pending start C r acts xs
+    → length acts ≡ length (events_in xs) + effects xs
 as_many_acts start C r [] [] p = refl
-as_many_acts start C r [] (x ∷ events) p = absurd p
+as_many_acts start C r [] (x ∷ xs) p = absurd p
 as_many_acts start C r (a ∷ acts) [] p = absurd p
-as_many_acts start C r (a ∷ acts) (x ∷ events) p = ap suc (as_many_acts start (record { rank = r; act = a } ∷ C) r acts events p.2)
+as_many_acts start C r (a ∷ acts) (waits.Event e ∷ xs) p = (let z = as_many_acts start (record { rank = r; act = a } ∷ C) r acts xs p.2 in omega (arith, z))
+as_many_acts start C r (a ∷ acts) (waits.Send d c ∷ xs) p = (let z = as_many_acts start (record { rank = r; act = a } ∷ C) r acts xs p.2 in omega (arith, z))
+as_many_acts start C r (a ∷ acts) (waits.Line c v ∷ xs) p = (let z = as_many_acts start (record { rank = r; act = a } ∷ C) r acts xs p.2 in omega (arith, z))
 
--- where no event is pending no act is
-pub none_pending : (start : ℕ → State) (C : List Passed) (r : ℕ) (acts : List Act) (events : List EventValue) → Pending start C r acts events
-    → events ≡ [] → acts ≡ []
-none_pending start C r [] events p e = refl
+-- where nothing waits no act is pending
+pub none_pending : (start : ℕ → State) (C : List Passed) (r : ℕ) (acts : List Act) (xs : List Waiting) → Pending start C r acts xs → xs ≡ [] → acts ≡ []
+none_pending start C r [] xs p e = refl
 none_pending start C r (a ∷ acts) [] p e = absurd p
-none_pending start C r (a ∷ acts) (x ∷ events) p e = absurd cc
+none_pending start C r (a ∷ acts) (x ∷ xs) p e = absurd cc
 
--- an event sends nothing
-pub sent_by_event : (C : List Passed) (r s d : ℕ) (a : Act) (x : EventValue) → event_at (length (history C r) + 1) a (looked_up (λ q. sent C q r) a) ≡ Some x
-    → sent (record { rank = r; act = a } ∷ C) s d ≡ sent C s d
-sent_by_event C r s d a x e = go (cases_eq r s)
-  where
-    own : sent (record { rank = r; act = a } ∷ C) r d ≡ sent C r d
-    own =
-        sent-own C r d a
-        ∙ ap (λ z. sent C r d ++ z) (event_sends_none _ d _ a (looked_up (λ q. sent C q r) a) x e)
-        ∙ append-nil (sent C r d)
+-- a run that goes on sends more
+pub sent_continued : (C : List Passed) (r : ℕ) (acts : List Act) (s d : ℕ) → Grows (sent C s d) (sent (continue C r acts) s d)
+sent_continued C r [] s d = ([], sym (append-nil _))
+sent_continued C r (a ∷ acts) s d =
+    let one = sent_grows C (record { rank = r; act = a }) s d in
+    let more = sent_continued (record { rank = r; act = a } ∷ C) r acts s d in
+    (one.0 ++ more.0, more.1 ∙ ap (λ z. z ++ more.0) one.1 ∙ append_assoc (sent C s d) one.0 more.0)
 
-    go : (r ≡ s) ⊎ (r ≡ s → ⊥) → sent (record { rank = r; act = a } ∷ C) s d ≡ sent C s d
-    go (inl q) = subst (λ z. sent (record { rank = r; act = a } ∷ C) z d ≡ sent C z d) q own
-    go (inr ne) = sent-other C (record { rank = r; act = a }) s d ne
+-- what acts and one more send
+pub sends_of-push : (k d : ℕ) (acts : List Act) (a : Act) → sends_of k d (acts ++ a ∷ []) ≡ sends_of k d acts ++ send_at (k + length acts + 1) d a []
+sends_of-push k d [] a = (let e : k + 1 ≡ k + 0 + 1 = omega arith in ap (λ z. send_at z d a []) e)
+sends_of-push k d (b ∷ acts) a =
+    ap (λ z. send_at (k + 1) d b z) (sends_of-push (k + 1) d acts a)
+    ∙ send_at-append (k + 1) d b (sends_of (k + 1) d acts) (send_at (k + 1 + length acts + 1) d a [])
+    ∙ (let e : k + 1 + length acts + 1 ≡ k + suc (length acts) + 1 = omega arith in ap (λ z. send_at (k + 1) d b (sends_of (k + 1) d acts) ++ send_at z d a []) e)
 
--- what is pending sends nothing
-pub sent_with_pending : (start : ℕ → State) (C : List Passed) (r : ℕ) (acts : List Act) (events : List EventValue) (s d : ℕ)
-    → Pending start C r acts events → sent (continue C r acts) s d ≡ sent C s d
-sent_with_pending start C r [] events s d p = refl
-sent_with_pending start C r (a ∷ acts) [] s d p = absurd p
-sent_with_pending start C r (a ∷ acts) (x ∷ events) s d p =
-    sent_with_pending start (record { rank = r; act = a } ∷ C) r acts events s d p.2 ∙ sent_by_event C r s d a x p.1
+-- ---- the events that stand first
 
--- the same messages are found in the same lists
-pub looked_up-same : (f g : ℕ → List Message) (a : Act) → ((q : ℕ) → f q ≡ g q) → looked_up f a ≡ looked_up g a
-looked_up-same f g (sends d context t items) e = refl
-looked_up-same f g (takes s j) e = ap (λ z. at_place z j) (e s)
-looked_up-same f g (hits s j) e = ap (λ z. at_place z j) (e s)
-looked_up-same f g misses e = refl
-looked_up-same f g (prints v) e = refl
+-- what goes last changes nothing
+pub begins_push : (k : ℕ) (xs : List Waiting) (y : Waiting) → BeginsWithEvents k xs → BeginsWithEvents k (xs ++ y ∷ [])
+begins_push zero xs y b = tt
+begins_push (suc k) [] y b = absurd b
+begins_push (suc k) (waits.Event e ∷ xs) y b = begins_push k xs y b
+begins_push (suc k) (waits.Send d c ∷ xs) y b = absurd b
+begins_push (suc k) (waits.Line c v ∷ xs) y b = absurd b
+
+-- the event right behind them is one of them then
+pub begins_more : (k : ℕ) (xs : List Waiting) (e : EventValue) → BeginsWithEvents k xs → slice_get xs k ≡ Some (waits.Event e) → BeginsWithEvents (k + 1) xs
+begins_more zero [] e b f = absurd cc
+begins_more zero (x ∷ xs) e b f = (let q : x ≡ waits.Event e = cc in subst (λ z. BeginsWithEvents 1 (z ∷ xs)) (sym q) tt)
+begins_more (suc k) [] e b f = absurd b
+begins_more (suc k) (waits.Event x ∷ xs) e b f = (let z : suc (k + 1) ≡ suc k + 1 = omega arith in subst (λ y. BeginsWithEvents y (waits.Event x ∷ xs)) z (begins_more k xs e b f))
+begins_more (suc k) (waits.Send d c ∷ xs) e b f = absurd b
+begins_more (suc k) (waits.Line c v ∷ xs) e b f = absurd b
+
+-- the first of them goes
+pub begins_less : (k : ℕ) (xs : List Waiting) → BeginsWithEvents k xs → BeginsWithEvents (k - 1) (drop 1 xs)
+begins_less zero xs b = tt
+begins_less (suc k) [] b = absurd b
+begins_less (suc k) (waits.Event e ∷ []) b = subst (λ z. BeginsWithEvents z []) (let z : k ≡ suc k - 1 = omega arith in z) b
+begins_less (suc k) (waits.Event e ∷ (y ∷ xs)) b = subst (λ z. BeginsWithEvents z (y ∷ xs)) (let z : k ≡ suc k - 1 = omega arith in z) b
+begins_less (suc k) (waits.Send d c ∷ xs) b = absurd b
+begins_less (suc k) (waits.Line c v ∷ xs) b = absurd b
+
+-- so many are there
+pub begins_within : (k : ℕ) (xs : List Waiting) → BeginsWithEvents k xs → k ≤ length xs
+begins_within zero xs b = omega arith
+begins_within (suc k) [] b = absurd b
+begins_within (suc k) (waits.Event e ∷ xs) b = (let z = begins_within k xs b in omega (arith, z))
+begins_within (suc k) (waits.Send d c ∷ xs) b = absurd b
+begins_within (suc k) (waits.Line c v ∷ xs) b = absurd b
+
+-- where an effect stands first nothing is stored
+pub begins_effect : (k : ℕ) (x : Waiting) (xs : List Waiting) → event_in x ≡ None → BeginsWithEvents k (x ∷ xs) → k ≡ 0
+begins_effect zero x xs n b = refl
+begins_effect (suc k) (waits.Event e) xs n b = absurd cc
+begins_effect (suc k) (waits.Send d c) xs n b = absurd b
+begins_effect (suc k) (waits.Line c v) xs n b = absurd b

@@ -1,12 +1,16 @@
 -- Events one after another.
-use Rattle.std.proofs.Common.{◌≡◌, List, [], ◌∷◌, ◌++◌, Result, Ok, Err, IfOk, OnErr, refl, sym, subst}
+use Rattle.std.proofs.Common.{◌≡◌, ℕ, ◌<◌, inl, List, [], ◌∷◌, ◌++◌, length, take, get_or, Result, Ok, Err, IfOk, OnErr, refl, sym, subst, slice_get}
+use Rattle.std.proofs.lemmas.Option.{slice_get-get_or}
 use Rattle.std.specs.declared.alloc.AllocError.{AllocError}
-use Rattle.world_model.specs.Stands.{Stands}
-use Rattle.world_model.proofs.Events.{stands_after}
+use Rattle.rank_language.specs.Program.{ProgramValue}
+use Rattle.world_model.specs.Onward.{IsWorld}
+use Rattle.world_model.proofs.Headline.{stands_after, stands_unchanged, stands_fresh, stands_for}
+use Rattle.world_model.proofs.Onward.{fresh_onward, onward_after, onward_unchanged}
 use Rattle.world_model.specs.World.{WorldValue}
-use Rattle.world_model.specs.Headline.{StandsFor}
-use Rattle.world_model.specs.Follows.{Follows, FollowsAll}
+use Rattle.world_model.specs.Headline.{StandsFor, IsFresh}
+use Rattle.world_model.specs.Follows.{Follows, FollowsAll, Unchanged, StoppedAt}
 use Rattle.world_model.specs.declared.event.WorldEvent.{WorldEvent}
+use Rattle.world_model.specs.declared.event.WorldEvent.TheVariants.{Step, Put, Arrive, Store, Ack, Image, Crash, Restart, Release}
 use Rattle.world_model.specs.declared.reply.Reply.{Reply}
 
 -- one more event after others
@@ -18,8 +22,41 @@ follows_push w mid w' (e ∷ events) [] event answer all f s = absurd all
 follows_push w mid w' (e ∷ events) (a ∷ answers) event answer all f s =
     (all.0, all.1, all.2, follows_push all.0 mid w' events answers event answer all.3 f s)
 
--- after an event, or where memory ended, the world stands for its run
-pub kept : (w w' : WorldValue) (event : WorldEvent) (answer : Result Reply AllocError) → Stands w
-    → IfOk answer (λ reply. Follows w event reply w') → OnErr answer (w' ≡ w) → Stands w'
-kept w w' event (Ok answer) s f e = stands_after w event answer w' s f
-kept w w' event (Err refused) s f e = subst (λ z. Stands z) (sym e) s
+-- a new world is one
+pub world_fresh : (program : ProgramValue) (n : ℕ) (w : WorldValue) → IsFresh program n w → IsWorld w
+world_fresh program n w f = record { stands = stands_fresh program n w f; onward = fresh_onward program n w f }
+
+-- a world stands for its run
+pub world_stands : (w : WorldValue) → IsWorld w → StandsFor w w.run
+world_stands w i = stands_for w i.stands
+
+-- after an event, or where memory ended, a world is one still
+pub kept : (w w' : WorldValue) (event : WorldEvent) (answer : Result Reply AllocError) → IsWorld w
+    → IfOk answer (λ reply. Follows w event reply w') → OnErr answer (Unchanged w event w') → IsWorld w'
+kept w w' event (Ok answer) i f e =
+    record { stands = stands_after w event answer w' i.stands f; onward = onward_after w event answer w' f i.stands i.onward }
+kept w w' event (Err refused) i f u =
+    record { stands = stands_unchanged w event w' i.stands u; onward = onward_unchanged w event w' u i.onward }
+
+-- a world that is as it was is unchanged
+unchanged_same : (w : WorldValue) (event : WorldEvent) → Unchanged w event w
+unchanged_same w (Step r) = refl
+unchanged_same w (Put s d) = refl
+unchanged_same w (Arrive s d i) = refl
+unchanged_same w (Store r) = refl
+unchanged_same w (Ack r) = refl
+unchanged_same w (Image r) = refl
+unchanged_same w (Crash r) = refl
+unchanged_same w (Restart r) = inl refl
+unchanged_same w (Release r) = refl
+
+-- memory ends at the next event of a list
+pub stops : (w mid w' : WorldValue) (events : List WorldEvent) (replies : List Reply) (k : ℕ) (d : WorldEvent) → k < length events
+    → FollowsAll w (take k events) replies mid → Unchanged mid (get_or events k d) w' → StoppedAt w events k w'
+stops w mid w' events replies k d l followed unchanged =
+    record { replies = replies; middle = mid; followed = followed; event = get_or events k d; next = slice_get-get_or events k d l; unchanged = unchanged }
+
+-- or before it
+pub stops_before : (w mid : WorldValue) (events : List WorldEvent) (replies : List Reply) (k : ℕ) (d : WorldEvent) → k < length events
+    → FollowsAll w (take k events) replies mid → StoppedAt w events k mid
+stops_before w mid events replies k d l followed = stops w mid mid events replies k d l followed (unchanged_same mid (get_or events k d))

@@ -1,310 +1,348 @@
--- A step keeps what the world stands for. What the machine wants decides what the step is: going on, a send or a print
--- that passes at once, a reception, a hit or a miss whose event is pending, or nothing.
-use Rattle.std.proofs.Common.{◌≡◌, ℕ, ℤ, ◌+◌, ◌<◌, ⊎_elim, Bool, true, false, List, [], ◌∷◌, ◌++◌, Option, Some, None, length, refl, sym, ap, subst}
-use Rattle.std.proofs.Common.{◌∙◌, arith, slice_get, slice_set, nat_lt, ◌==◌, if◌then◌else◌, MatchBool, is_some, IsSomeAnd, position, option_and_then}
-use Rattle.std.proofs.lemmas.Bool.{eq-eqb, ne_eqb, lt-leb, ltb-true}
-use Rattle.std.proofs.lemmas.List.{length-set, append-nil}
-use Rattle.std.proofs.lemmas.Option.{get_or_from_slice_get}
-use Rattle.metered.specs.Limits.{greatest_clock, most_events}
-use Rattle.matching.specs.declared.packet.Context.{Context}
-use Rattle.matching.specs.declared.selector.Selector.{Selector}
-use Rattle.matching.specs.Message as packet
-use Rattle.matching.specs.Matching.{matches}
-use Rattle.matching.specs.Inbox.{without}
-use Rattle.payload_log.specs.Backlog.{Backlog, backlog, saved, new_backlog}
-use Rattle.plain_logger.specs.Event.{EventValue, event_of}
-use Rattle.plain_logger.specs.declared.kind.Kind.TheVariants as kind
+-- The steps of a rank that replays nothing: an event is always a new act, and a send or a print is new or made again.
+use Rattle.std.proofs.Common.{◌≡◌, ℕ, ℤ, zero, suc, ◌+◌, ◌<◌, ◌≤◌, ◌⊎◌, inl, inr, ⊎_elim, Bool, true, false, ◌==◌, ◌||◌, ◌&&◌, not, nat_lt}
+use Rattle.std.proofs.Common.{if◌then◌else◌, List, [], ◌∷◌, ◌++◌, Option, Some, None, length, take, drop, refl, sym, ap, subst, ◌∙◌, arith}
+use Rattle.std.proofs.Common.{slice_get, slice_set}
+use Rattle.std.proofs.lemmas.Bool.{cases_lt, le-ltb, le-leb, lt-leb, eq-eqb, ne_eqb, cases_eq}
+use Rattle.std.proofs.lemmas.List.{append-nil, length_push, drop-append-le}
+use Rattle.plain_logger.specs.Event.{EventValue}
+use Rattle.matching.specs.Inbox.{Mailbox}
+use Rattle.payload_log.specs.Backlog.{Backlog, backlog, hold, new_backlog}
+use Rattle.ports.specs.declared.line.Line.{Line}
+use Rattle.ports.specs.Console.{is_new, after_line}
 use Rattle.rank_machine.specs.declared.want.Want.{Want}
 use Rattle.rank_machine.specs.declared.want.Want.TheVariants as want
+use Rattle.rank_machine.specs.States.{State}
 use Rattle.rank_machine.specs.Wants.{wants, payload}
-use Rattle.rank_machine.specs.Acts.{Act, Makes, Runs, sends, takes, hits, misses, prints, carried, next}
-use Rattle.rank_machine.specs.Machine.{MachineValue, state_of, asks, IsReceiving, IsShowing, IsTrying}
-use Rattle.rank_machine.proofs.Making.{asks_or, makes_sent, makes_printed, makes_taken, makes_hit, makes_missed}
-use Rattle.rank_node.specs.declared.turn.Turn.TheVariants.{Moved, Held}
-use Rattle.rank_node.specs.declared.fault.NodeFault.TheVariants.{ClockSpent, Log}
-use Rattle.rank_node.specs.Node.{is_settled}
-use Rattle.rank_node.specs.Steps.{turn_at, step_at, refusal_at, event_refusal, MachineStepAt, DidAct, Took, WasShown, Missed, TakesFound, IsShownFound, TriesFound}
-use Rattle.rank_node.specs.Steps.{received, probed, tried, at_index, message_of, after_send, after_print, after_reception, after_probe, with_machine}
-use Rattle.ports.specs.declared.line.Line.{Line}
-use Rattle.ports.specs.Console.{after_line}
-use Rattle.crash_free.specs.Runs.{Passed, cons_if, history, sent, printed, sends_from, probes, IsEligible, IsFree, continue}
-use Rattle.crash_free.proofs.Lists.{sends_from-push}
-use Rattle.crash_free.proofs.Going.{free_silent}
-use Rattle.world_model.specs.World.{Live, WorldValue, IsLive}
+use Rattle.rank_machine.specs.Acts.{Act, Message, sends, takes, hits, misses, prints, Fits, Makes, Runs, next}
+use Rattle.rank_machine.specs.Machine.{MachineValue, state_of, asks}
+use Rattle.crash_free.specs.Runs.{Passed, History, history, sent, sends_from, send_at, prints_from, print_at, printed, cons_if, looked_up, IsFree}
+use Rattle.crash_free.specs.Runs.{MayMake, IsRun, continue}
+use Rattle.crash_free.proofs.Lists.{history-own}
+use Rattle.crash_free.proofs.Going.{looked_up_longer, MayMake-longer, continue-push, count_continued}
+use Rattle.world_model.specs.Rows.{event_at, events_from, cons_some}
+use Rattle.world_model.specs.World.{Rank, Live, unpassed}
 use Rattle.world_model.specs.Headline.{lines_of}
-use Rattle.world_model.specs.Follows.{lines_after, effect_at, passed_at}
-use Rattle.world_model.specs.Stands.{start_at, LogStands, RankStands, StandsAt}
-use Rattle.world_model.proofs.Rows.{IsEffect, row_of_effect, effect_finds}
+use Rattle.world_model.specs.Follows.{passed_at}
+use Rattle.world_model.specs.Stands.{InboxStands, LogStands, LogsStand, IsFor, Pending, sends_of, RankStands}
+use Rattle.rank_node.specs.declared.waiting.Waiting.{Waiting}
+use Rattle.rank_node.specs.Waiting.{effects, BeginsWithEvents}
+use Rattle.rank_node.specs.declared.waiting.Waiting.TheVariants as waits
+use Rattle.rank_node.specs.Steps.{message_of, after_hold, after_wait}
+use Rattle.matching.specs.declared.packet.Context.{Context}
+use Rattle.matching.specs.Message as packet
+use Rattle.world_model.proofs.Rows.{IsEffect, event_sends_none, effect_takes_none}
+use Rattle.world_model.proofs.Inboxes.{InboxStands-noted}
 use Rattle.world_model.proofs.Places.{replaced_keeps}
-use Rattle.world_model.proofs.Inboxes.{Found, found_at, matches_if_named, found_is_eligible, InboxStands-noted, InboxStands-taken}
-use Rattle.world_model.proofs.Logs.{LogStands-saved}
-use Rattle.world_model.proofs.Ranks.{after_effect, RankStands-moved, RankStands-effect, RankStands-event, RankStands-settled}
-use Rattle.world_model.proofs.Lines.{lines_after_print, printed_same}
-use Rattle.world_model.proofs.Worlds.{changed, Stands-rank, Stands-passed}
+use Rattle.std.proofs.lemmas.Option.{get_or_from_slice_get}
+use Rattle.world_model.proofs.Pending.{Pending-push, sent_continued, sends_of-push, begins_push, begins_within}
+use Rattle.world_model.proofs.Lists.{take_append, take_whole, drop_beyond, drop_own}
+use Rattle.world_model.proofs.In.{StandsIn-later, StandsIn-next, next_act, run_reaches}
+use Rattle.world_model.proofs.Ranks.{at_run, left_run, RankStands-settled}
+use Rattle.world_model.proofs.Logs.{LogStands-held}
+use Rattle.world_model.proofs.Fits.{stopped, wanted}
 
--- what a state wants that its machine asks for
-wanted : (m : MachineValue) (w : Want) → asks m ≡ w → (w ≡ want.Internal → ⊥) → wants (state_of m) ≡ w
-wanted m w e ne =
-    ⊎_elim (λ (internal : asks m ≡ want.Internal). absurd (ne (sym e ∙ internal))) (λ (same : asks m ≡ wants (state_of m)). sym same ∙ e) (asks_or m)
+-- ---- a want whose act is an event
 
--- an act that wasn't made before goes on the run
-first_pass : (C : List Passed) (r c : ℕ) (a : Act) → c ≡ length (history C r) → passed_at C r (c + 1) (Some a) ≡ record { rank = r; act = a } ∷ C
-first_pass C r c a all = ap (λ b. if b then C else record { rank = r; act = a } ∷ C) (lt-leb (c + 1) (length (history C r)) (omega (arith, all)))
+-- the act of this want is an event
+abbrev pub IsEventWant : Want → Type 0
+IsEventWant (want.Receive w) = Unit {0}
+IsEventWant (want.Probe w) = Unit {0}
+IsEventWant (want.TryProbe w) = Unit {0}
+IsEventWant _ = ⊥
 
-settled_none : (pending : List EventValue) → is_settled pending ≡ true → pending ≡ []
-settled_none [] e = refl
-settled_none (x ∷ xs) e = absurd cc
+-- an act that fits it has one
+event_of_fit : (c : ℕ) (w : Want) (items : List ℤ) (a : Act) (o : Option Message) → IsEventWant w → Fits w items a o → event_at c a o ≡ None → ⊥
+event_of_fit c (want.Receive w) items (takes s j) (Some m) i f e = cc
+event_of_fit c (want.Probe w) items (hits s j) (Some m) i f e = cc
+event_of_fit c (want.TryProbe w) items (hits s j) (Some m) i f e = cc
+event_of_fit c (want.TryProbe w) items misses None i f e = cc
+event_of_fit c (want.Receive w) items (takes s j) None i f e = f
+event_of_fit c (want.Receive w) items (sends d t y z) o i f e = f
+event_of_fit c (want.Receive w) items (hits s j) o i f e = f
+event_of_fit c (want.Receive w) items misses o i f e = f
+event_of_fit c (want.Receive w) items (prints v) o i f e = f
+event_of_fit c (want.Probe w) items (hits s j) None i f e = f
+event_of_fit c (want.Probe w) items (sends d t y z) o i f e = f
+event_of_fit c (want.Probe w) items (takes s j) o i f e = f
+event_of_fit c (want.Probe w) items misses o i f e = f
+event_of_fit c (want.Probe w) items (prints v) o i f e = f
+event_of_fit c (want.TryProbe w) items (hits s j) None i f e = f
+event_of_fit c (want.TryProbe w) items misses (Some m) i f e = f
+event_of_fit c (want.TryProbe w) items (sends d t y z) o i f e = f
+event_of_fit c (want.TryProbe w) items (takes s j) o i f e = f
+event_of_fit c (want.TryProbe w) items (prints v) o i f e = f
+event_of_fit c want.Internal items a o i f e = i
+event_of_fit c (want.Send d x t) items a o i f e = i
+event_of_fit c (want.Print v) items a o i f e = i
+event_of_fit c want.Halted items a o i f e = i
+event_of_fit c (want.Faulted k) items a o i f e = i
 
--- the messages to a destination after a send
-after_sends : (C : List Passed) (r c d' d : ℕ) (context : Context) (t : ℕ) (items : List ℤ) → c ≡ length (history C r)
-    → sends_from 0 d (history C r ++ (sends d' context t items, None) ∷ []) ≡ sends_from 0 d (history C r) ++ cons_if (d' == d) (record { clock = c + 1; context = context; tag = t; items = items }) []
-after_sends C r c d' d context t items all =
-    sends_from-push 0 d (history C r) (sends d' context t items, None)
-    ∙ (let z : 0 + length (history C r) ≡ c = omega (arith, all) in rw z refl)
+-- it is no step of the machine's own
+no_internal : (w : Want) → IsEventWant w → w ≡ want.Internal → ⊥
+no_internal w i e = subst (λ z. IsEventWant z) e i
 
-few_made : (b c : Bool) → (if b then Some ClockSpent else (if c then None else Some Log)) ≡ None → c ≡ true
-few_made true c e = absurd cc
-few_made false true e = refl
-few_made false false e = absurd cc
+-- A rank with nothing left to replay that stands at a receive or a probe has made all its acts in the run, and those that it owes.
+pub caught_up : (start : ℕ → State) (n : ℕ) (C : List Passed) (r : ℕ) (v : Live) (w : Want) → IsRun start n C → (s : RankStands start n C r v) → v.left ≡ []
+    → asks v.rank.machine ≡ w → IsEventWant w → v.rank.clock ≡ length (history (continue C r s.acts) r)
+caught_up start n C r v w run s left is event =
+    ⊎_elim (λ (settled : v.rank.pending ≡ []). go (RankStands-settled start n C r v s settled) (cases_lt v.rank.clock (length (history C r))))
+    (λ all. all) s.all_made
+  where
+    go : s.acts ≡ [] → (v.rank.clock < length (history C r)) ⊎ (length (history C r) ≤ v.rank.clock) → v.rank.clock ≡ length (history (continue C r s.acts) r)
+    go none (inr l) = (let i = (at_run start n C r v s none).within in let q : v.rank.clock ≡ length (history C r) = omega (arith, l, i) in q ∙ ap (λ z. length (history (continue C r z) r)) (sym none))
+    go none (inl l) =
+        let z = run_reaches start n C r run in
+        let x = next_act (start r) n r (λ q. sent C q r) (history C r) v.rank.clock v.rank.machine v.rank.inbox v.rank.log z.0 z.1 l (stopped v.rank.machine w is (no_internal w event)) (at_run start n C r v s none) in
+        let q : [] ≡ cons_some (event_at (v.rank.clock + 1) x.act x.message) (events_from (v.rank.clock + 1) x.rest) = sym left ∙ left_run start n C r v s none ∙ ap (λ y. events_from v.rank.clock y) x.is_next in
+        absurd (event_of_fit (v.rank.clock + 1) w (payload (state_of v.rank.machine)) x.act x.message event
+        (subst (λ y. Fits y (payload (state_of v.rank.machine)) x.act x.message) (wanted v.rank.machine w is (no_internal w event)) x.makes) (nothing _ _ q))
+      where
+        nothing : (o : Option EventValue) (es : List EventValue) → [] ≡ cons_some o es → o ≡ None
+        nothing None es e = refl
+        nothing (Some y) es e = absurd cc
 
-module _ (n : ℕ) (w : WorldValue) (r : ℕ) (v : Live) (m : MachineValue) (s : StandsAt n w) (live : IsLive w r v) (lt : r < n) where
-  k : RankStands (start_at w n) n w.run r v
-  k = s.ranks r v live
+-- ---- a new act that waits
 
-  -- nothing changes
-  Stands-still : StandsAt n (changed w r v w.logger w.lines w.run)
-  Stands-still = Stands-rank n w r v s k
+-- the rank after an act that waits
+abbrev pub after_act : Rank → MachineValue → ℕ → Mailbox → List Backlog → Waiting → Rank
+after_act v m made inbox log x = record {
+  stable = v.stable;
+  machine = m;
+  clock = v.clock + 1;
+  made = made;
+  inbox = inbox;
+  log = log;
+  pending = v.pending ++ x ∷ [];
+  stored = v.stored;
+  dues = v.dues;
+}
 
-  effect : (a : Act) (log : List Backlog) (lines : List Line)
-      → v.rank.pending ≡ []
-      → Makes (state_of v.rank.machine) a None
-      → IsEffect a
-      → state_of m ≡ next (state_of v.rank.machine) a None
-      → length log ≡ n
-      → ((d : ℕ) (b : Backlog) → slice_get log d ≡ Some b → LogStands r (sends_from 0 d (history w.run r ++ (a, None) ∷ [])) b)
-      → ((q : ℕ) → lines_of q lines ≡ printed (record { rank = r; act = a } ∷ w.run) q)
-      → StandsAt n (changed w r (record { rank = after_effect v.rank m log; left = v.left }) w.logger lines (record { rank = r; act = a } ∷ w.run))
-  effect a log lines settled makes is_effect state logged logs shown =
-      Stands-passed n w r a (record { rank = after_effect v.rank m log; left = v.left }) w.logger lines s lt
+-- what the first acts of a run are, where there are no more
+pub beyond : (c : ℕ) (h : History) → length h ≤ c → take c h ≡ h
+beyond zero [] l = refl
+beyond (suc c) [] l = refl
+beyond zero (x ∷ h) l = absurd (omega arith)
+beyond (suc c) (x ∷ h) l = ap (λ z. x ∷ z) (beyond c h (omega arith))
+
+module _ (start : ℕ → State) (n : ℕ) (C : List Passed) (r : ℕ) (v : Live) (s : RankStands start n C r v) (a : Act) (o : Option Message) (m : MachineValue)
+    (left : v.left ≡ []) (clock : v.rank.clock ≡ length (history (continue C r s.acts) r))
+    (makes : Makes (state_of v.rank.machine) a o) (found : looked_up (λ q. sent C q r) a ≡ o)
+    (free : IsFree (wants (state_of v.rank.machine)) a (λ q. sent C q r) (history (continue C r s.acts) r)) where
+  same : take v.rank.clock (history (continue C r s.acts) r ++ (a, o) ∷ []) ≡ take v.rank.clock (history (continue C r s.acts) r)
+  same = take_append v.rank.clock (history (continue C r s.acts) r) ((a, o) ∷ []) s.at.within
+
+  whole : take v.rank.clock (history (continue C r s.acts) r) ≡ history (continue C r s.acts) r
+  whole = subst (λ z. take z (history (continue C r s.acts) r) ≡ history (continue C r s.acts) r) (sym clock) (take_whole (history (continue C r s.acts) r))
+
+  -- what the rank holds for itself it can't take yet, and that it has more of it hinders nothing
+  pub found_there : looked_up (λ q. sent (continue C r s.acts) q r) a ≡ o
+  found_there =
+      looked_up_longer (wants (state_of v.rank.machine)) (payload (state_of v.rank.machine)) (λ q. sent C q r) (λ q. sent (continue C r s.acts) q r) a
+      (subst (λ z. Makes (state_of v.rank.machine) a z) (sym found) makes) (λ q. sent_continued C r s.acts q r) ∙ found
+
+  can : MayMake (start r) (λ q. sent (continue C r s.acts) q r) (history (continue C r s.acts) r) a
+  can =
+      MayMake-longer (start r) (λ q. sent C q r) (λ q. sent (continue C r s.acts) q r) (history (continue C r s.acts) r) a (λ q. sent_continued C r s.acts q r)
       (record {
-        after = k.after;
+        after = s.at.after;
         stands = state_of v.rank.machine;
-        reached = subst (λ z. Runs (start_at w n r) (history (continue w.run r z) r) k.after) none k.reached;
-        inner = k.inner;
-        makes = rw (effect_finds (λ q. sent w.run q r) a is_effect) makes;
-        free = free_effect a is_effect;
+        reached = subst
+            (λ z. Runs (start r) z s.at.after) whole s.at.reached;
+        inner = s.at.inner;
+        makes = rw found makes;
+        free = free;
       })
-      (RankStands-effect (start_at w n) n w.run r v k a log m settled makes is_effect state logged logs)
-      s.as_many_rows
-      (λ q x e. s.rows q x e ∙ sym (row_of_effect w.run r q a is_effect))
-      shown
+
+  more : history (continue C r (s.acts ++ a ∷ [])) r ≡ history (continue C r s.acts) r ++ (a, o) ∷ []
+  more =
+      ap (λ E. history E r) (continue-push C r s.acts a) ∙ history-own (continue C r s.acts) r a ∙ ap
+      (λ z. history (continue C r s.acts) r ++ (a, z) ∷ []) found_there
+
+  -- its acts are those of the run and those that wait
+  pub counts : v.rank.clock ≡ length (history C r) + length s.acts
+  counts = clock ∙ count_continued C r s.acts
+
+  first : (c : ℕ) → length (history C r) ≤ c → take c (history C r) ≡ history C r
+  first c l = beyond c (history C r) l
+
+  pub before_it : take v.rank.clock (history C r) ≡ take (v.rank.clock + 1) (history C r)
+  before_it = first v.rank.clock (let z = counts in omega (arith, z)) ∙ sym (first (v.rank.clock + 1) (let z = counts in omega (arith, z)))
+
+  pub sends_more : (d : ℕ)
+      → sends_of (length (history C r)) d (s.acts ++ a ∷ []) ≡ sends_of (length (history C r)) d s.acts ++ send_at (v.rank.clock + 1) d a []
+  sends_more d =
+      sends_of-push (length (history C r)) d s.acts a
+      ∙ (let z : length (history C r) + length s.acts + 1 ≡ v.rank.clock + 1 = (let y = counts in omega (arith, y)) in ap (λ k. sends_of (length (history C r)) d s.acts ++ send_at k d a []) z)
+
+  pub RankStands-waits : (x : Waiting) (made : ℕ) (inbox : Mailbox) (log : List Backlog)
+      → IsFor (continue C r s.acts) r a x
+      → state_of m ≡ next (state_of v.rank.machine) a o
+      → length inbox.accepted ≡ n
+      → InboxStands inbox (λ q. sent C q r) (take v.rank.clock (history (continue C r s.acts) r) ++ (a, o) ∷ [])
+      → length log ≡ n
+      → LogsStand r (history C r) (v.rank.clock + 1) (s.acts ++ a ∷ []) log
+      → RankStands start n C r (record { rank = after_act v.rank m made inbox log x; left = [] })
+  RankStands-waits x made inbox log is_for state counted box logged logs =
+      record {
+        number = s.number;
+        size = s.size;
+        acts = s.acts ++ a ∷ [];
+        pending =
+            subst (λ z. Pending start C r (s.acts ++ a ∷ []) z)
+            (sym (drop-append-le v.rank.stored v.rank.pending (x ∷ []) (begins_within v.rank.stored v.rank.pending s.stored)))
+            (Pending-push start C r s.acts (unpassed v.rank) a x s.pending can is_for);
+        stored = begins_push v.rank.stored v.rank.pending x s.stored;
+        all_made = inr (rw (more, length_push (history (continue C r s.acts) r) (a, o)) (ap (λ z. z + 1) clock));
+        left =
+            rw more (sym (ap (λ z. events_from (v.rank.clock + 1) z)
+            (drop_beyond (v.rank.clock + 1) ((history (continue C r s.acts) r) ++ (a, o) ∷ [])
+            (rw (length_push (history (continue C r s.acts) r) (a, o)) (omega (arith, clock))))));
+        logs = logs;
+        at =
+            rw more (StandsIn-next (start r) n r (λ q. sent C q r)
+            ((history (continue C r s.acts) r) ++ (a, o) ∷ []) v.rank.clock v.rank.machine m v.rank.inbox inbox v.rank.log log a o []
+            (subst (λ z. drop z ((history (continue C r s.acts) r) ++ (a, o) ∷ []) ≡ (a, o) ∷ []) (sym clock)
+            (drop_own (history (continue C r s.acts) r) ((a, o) ∷ [])))
+            makes state counted (rw same box) logged
+            (StandsIn-later (start r) n r (λ q. sent C q r) (history (continue C r s.acts) r) ((history (continue C r s.acts) r) ++ (a, o) ∷ [])
+            ((a, o) ∷ []) v.rank.clock v.rank.machine v.rank.inbox v.rank.log refl s.at));
+      }
+
+  -- a send that isn't one leaves the log
+  same_logs : ((d : ℕ) → send_at (v.rank.clock + 1) d a [] ≡ []) → LogsStand r (history C r) (v.rank.clock + 1) (s.acts ++ a ∷ []) v.rank.log
+  same_logs none d b e =
+      subst (λ z. LogStands r (sends_from 0 d z) (sends_of (length (history C r)) d (s.acts ++ a ∷ [])) b) before_it
+      (subst (λ z. LogStands r (sends_from 0 d (take v.rank.clock (history C r))) z b)
+      (sym (sends_more d ∙ ap (λ z. sends_of (length (history C r)) d s.acts ++ z) (none d) ∙ append-nil _)) (s.logs d b e))
+
+  -- a new event
+  pub RankStands-event : (x : EventValue) (inbox : Mailbox)
+      → event_at (v.rank.clock + 1) a o ≡ Some x
+      → state_of m ≡ next (state_of v.rank.machine) a o
+      → length inbox.accepted ≡ n
+      → InboxStands inbox (λ q. sent C q r) (take v.rank.clock (history (continue C r s.acts) r) ++ (a, o) ∷ [])
+      → RankStands start n C r (record { rank = after_act v.rank m (v.rank.made + 1) inbox v.rank.log (waits.Event x); left = [] })
+  RankStands-event x inbox event state counted box =
+      RankStands-waits (waits.Event x) (v.rank.made + 1) inbox v.rank.log event_there
+      state counted box s.at.logged (same_logs (λ d. event_sends_none (v.rank.clock + 1) d _ a o x event))
     where
-      none : k.acts ≡ []
-      none = RankStands-settled (start_at w n) n w.run r v k settled
+      event_there : event_at (length (history (continue C r s.acts) r) + 1) a (looked_up (λ q. sent (continue C r s.acts) q r) a) ≡ Some x
+      event_there = ap (λ z. event_at (length (history (continue C r s.acts) r) + 1) a z) found_there ∙ ap (λ z. event_at (z + 1) a o) (sym clock) ∙ event
 
-      free_effect : (a : Act) → IsEffect a → IsFree (wants (state_of v.rank.machine)) a (λ q. sent w.run q r) (history w.run r)
-      free_effect (sends d c t items) e = free_silent (wants (state_of v.rank.machine)) (sends d c t items) (λ q. sent w.run q r) (history w.run r) tt
-      free_effect (prints x) e = free_silent (wants (state_of v.rank.machine)) (prints x) (λ q. sent w.run q r) (history w.run r) tt
-      free_effect (takes q j) e = absurd e
-      free_effect (hits q j) e = absurd e
-      free_effect misses e = absurd e
+  effect_inbox : IsEffect a → InboxStands v.rank.inbox (λ q. sent C q r) (take v.rank.clock (history (continue C r s.acts) r) ++ (a, o) ∷ [])
+  effect_inbox e =
+      InboxStands-noted v.rank.inbox (λ q. sent C q r) (take v.rank.clock (history (continue C r s.acts) r)) (a, o)
+      (λ q j. effect_takes_none a q j e) s.at.inbox
 
-  none_of : v.rank.pending ≡ [] → k.acts ≡ []
-  none_of settled = RankStands-settled (start_at w n) n w.run r v k settled
+  -- a line that waits
+  pub RankStands-line : (x : ℤ) → a ≡ prints x → state_of m ≡ next (state_of v.rank.machine) a o
+      → RankStands start n C r (record { rank = after_wait v.rank m x; left = [] })
+  RankStands-line x is state =
+      RankStands-waits (waits.Line (v.rank.clock + 1) x) v.rank.made v.rank.inbox v.rank.log
+      (subst (λ z. IsFor (continue C r s.acts) r z (waits.Line (v.rank.clock + 1) x)) (sym is) (refl, ap (λ z. z + 1) clock))
+      state s.at.counted (effect_inbox (subst (λ z. IsEffect z) (sym is) tt)) s.at.logged
+      (same_logs (λ d. ap (λ z. send_at (v.rank.clock + 1) d z []) is))
 
-  clock_of : v.rank.pending ≡ [] → v.rank.clock ≡ length (history w.run r)
-  clock_of settled = k.clock ∙ ap (λ z. length (history (continue w.run r z) r)) (none_of settled)
-
-  log_of : v.rank.pending ≡ [] → (d : ℕ) (b : Backlog) → slice_get v.rank.log d ≡ Some b → LogStands r (sends_from 0 d (history w.run r)) b
-  log_of settled d b e = subst (λ z. LogStands r (sends_from 0 d (history (continue w.run r z) r)) b) (none_of settled) (k.log d b e)
-
-  -- a send passes
-  sending : (d : ℕ) (c : Context) (t : ℕ) → asks v.rank.machine ≡ want.Send d c t → DidAct v.rank.machine m → v.rank.pending ≡ []
-      → StandsAt n (changed w r (record { rank = after_send v.rank m d c t; left = v.left }) w.logger w.lines
-      (passed_at w.run r (v.rank.clock + 1) (Some (sends d c t (payload (state_of v.rank.machine))))))
-  sending d c t e did settled =
-      subst (λ z. StandsAt n (changed w r (record { rank = after_send v.rank m d c t; left = v.left }) w.logger w.lines z))
-      (sym (first_pass w.run r v.rank.clock a (clock_of settled)))
-      (effect a (slice_set v.rank.log d (saved (backlog v.rank.log d) p)) w.lines settled makes tt (did.state a None makes)
-      (length-set v.rank.log d (saved (backlog v.rank.log d) p) ∙ k.logged)
-      (replaced_keeps (λ e b. LogStands r (sends_from 0 e (history w.run r ++ (a, None) ∷ [])) b) v.rank.log d (saved (backlog v.rank.log d) p) others own)
-      (λ q. s.lines q ∙ sym (printed_same w.run r q a refl)))
+  -- a send that waits
+  pub RankStands-hold : (d : ℕ) (context : Context) (t : ℕ) → a ≡ sends d context t (payload (state_of v.rank.machine))
+      → state_of m ≡ next (state_of v.rank.machine) a o
+      → length (slice_set v.rank.log d (hold (backlog v.rank.log d) (message_of v.rank d context t))) ≡ n
+      → RankStands start n C r (record { rank = after_hold v.rank m d context t; left = [] })
+  RankStands-hold d context t is state logged =
+      RankStands-waits (waits.Send d (v.rank.clock + 1)) v.rank.made v.rank.inbox (slice_set v.rank.log d (hold (backlog v.rank.log d) p))
+      (subst (λ z. IsFor (continue C r s.acts) r z (waits.Send d (v.rank.clock + 1))) (sym is) (refl, ap (λ z. z + 1) clock))
+      state s.at.counted (effect_inbox (subst (λ z. IsEffect z) (sym is) tt)) logged
+      (replaced_keeps (λ e b. LogStands r (sends_from 0 e (take (v.rank.clock + 1) (history C r)))
+      (sends_of (length (history C r)) e (s.acts ++ a ∷ [])) b) v.rank.log d (hold (backlog v.rank.log d) p) others own)
     where
-      items : List ℤ
-      items = payload (state_of v.rank.machine)
-
-      a : Act
-      a = sends d c t items
-
       p : packet.Message
-      p = message_of v.rank d c t
+      p = message_of v.rank d context t
 
-      makes : Makes (state_of v.rank.machine) a None
-      makes = makes_sent v.rank.machine d c t e
+      messages : (e : ℕ)
+          → sends_of (length (history C r)) e (s.acts ++ a ∷ []) ≡ sends_of (length (history C r)) e s.acts ++ cons_if (d == e) (record { clock = v.rank.clock + 1; context = context; tag = t; items = payload (state_of v.rank.machine) }) []
+      messages e = sends_more e ∙ ap (λ z. sends_of (length (history C r)) e s.acts ++ send_at (v.rank.clock + 1) e z []) is
 
-      messages : (e : ℕ) → sends_from 0 e (history w.run r ++ (a, None) ∷ []) ≡ sends_from 0 e (history w.run r) ++ cons_if (d == e) (carried p) []
-      messages e = after_sends w.run r v.rank.clock d e c t items (clock_of settled)
-
-      others : (e : ℕ) (b : Backlog) → (e ≡ d → ⊥) → slice_get v.rank.log e ≡ Some b → LogStands r (sends_from 0 e (history w.run r ++ (a, None) ∷ [])) b
+      others : (e : ℕ) (b : Backlog) → (e ≡ d → ⊥) → slice_get v.rank.log e ≡ Some b
+          → LogStands r (sends_from 0 e (take (v.rank.clock + 1) (history C r))) (sends_of (length (history C r)) e (s.acts ++ a ∷ [])) b
       others e b ne at =
-          subst (λ z. LogStands r z b) (sym (messages e ∙ ap (λ z. sends_from 0 e (history w.run r) ++ cons_if z (carried p) []) (ne_eqb d e (λ z. ne (sym z))) ∙ append-nil _))
-          (log_of settled e b at)
+          subst (λ z. LogStands r (sends_from 0 e z) (sends_of (length (history C r)) e (s.acts ++ a ∷ [])) b) before_it
+          (subst (λ z. LogStands r (sends_from 0 e (take v.rank.clock (history C r))) z b)
+          (sym (messages e ∙ ap (λ z. sends_of (length (history C r)) e s.acts ++ cons_if z
+          (record { clock = v.rank.clock + 1; context = context; tag = t; items = payload (state_of v.rank.machine) }) [])
+          (ne_eqb d e (λ z. ne (sym z))) ∙ append-nil _))
+          (s.logs e b at))
 
-      own : (b : Backlog) → slice_get v.rank.log d ≡ Some b → LogStands r (sends_from 0 d (history w.run r ++ (a, None) ∷ [])) (saved (backlog v.rank.log d) p)
+      own : (b : Backlog) → slice_get v.rank.log d ≡ Some b
+          → LogStands r (sends_from 0 d (take (v.rank.clock + 1) (history C r))) (sends_of (length (history C r)) d (s.acts ++ a ∷ [])) (hold (backlog v.rank.log d) p)
       own b at =
-          let is : backlog v.rank.log d ≡ b = get_or_from_slice_get v.rank.log d b new_backlog at in
-          subst (λ z. LogStands r z (saved (backlog v.rank.log d) p)) (sym (messages d ∙ ap (λ z. sends_from 0 d (history w.run r) ++ cons_if z (carried p) []) (eq-eqb d d refl)))
-          (LogStands-saved r (sends_from 0 d (history w.run r)) (backlog v.rank.log d) p k.number refl
-          (subst (λ z. LogStands r (sends_from 0 d (history w.run r)) z) (sym is) (log_of settled d b at)))
+          let had : backlog v.rank.log d ≡ b = get_or_from_slice_get v.rank.log d b new_backlog at in
+          subst (λ z. LogStands r (sends_from 0 d z) (sends_of (length (history C r)) d (s.acts ++ a ∷ [])) (hold (backlog v.rank.log d) p)) before_it
+          (subst (λ z. LogStands r (sends_from 0 d (take v.rank.clock (history C r))) z (hold (backlog v.rank.log d) p))
+          (sym (messages d ∙ ap (λ z. sends_of (length (history C r)) d s.acts ++ cons_if z
+          (record { clock = v.rank.clock + 1; context = context; tag = t; items = payload (state_of v.rank.machine) }) []) (eq-eqb d d refl)))
+          (LogStands-held r (sends_from 0 d (take v.rank.clock (history C r))) (sends_of (length (history C r)) d s.acts) (backlog v.rank.log d) p s.number refl
+          (subst (λ z. LogStands r (sends_from 0 d (take v.rank.clock (history C r))) (sends_of (length (history C r)) d s.acts) z) (sym had) (s.logs d b at))))
 
-  -- a print passes
-  printing : (x : ℤ) → asks v.rank.machine ≡ want.Print x → DidAct v.rank.machine m → v.rank.pending ≡ []
-      → StandsAt n (changed w r (record { rank = after_print v.rank m; left = v.left }) w.logger (after_line w.lines r (v.rank.clock + 1) x)
-      (passed_at w.run r (v.rank.clock + 1) (Some (prints x))))
-  printing x e did settled =
-      subst (λ z. StandsAt n (changed w r (record { rank = after_print v.rank m; left = v.left }) w.logger (after_line w.lines r (v.rank.clock + 1) x) z))
-      (sym (first_pass w.run r v.rank.clock (prints x) (clock_of settled)))
-      (effect (prints x) v.rank.log (after_line w.lines r (v.rank.clock + 1) x) settled makes tt (did.state (prints x) None makes)
-      k.logged
-      (λ d b at. subst (λ z. LogStands r z b) (sym (sends_from-push 0 d (history w.run r) (prints x, None) ∙ append-nil _)) (log_of settled d b at))
-      (lines_after_print w.lines w.run r v.rank.clock x (clock_of settled) s.lines))
-    where
-      makes : Makes (state_of v.rank.machine) (prints x) None
-      makes = makes_printed v.rank.machine x e
+-- ---- a send or a print that is made again passes no second time
 
-  -- a reception takes the packet that was found
-  receiving : (selector : Selector) → asks v.rank.machine ≡ want.Receive selector → (i : ℕ) (p : packet.Message)
-      → position (matches selector) v.rank.inbox.packets ≡ Some i → slice_get v.rank.inbox.packets i ≡ Some p
-      → event_refusal v.rank ≡ None → Took p v.rank.machine m
-      → StandsAt n (changed w r (record { rank = after_reception v.rank m i p; left = v.left }) w.logger w.lines w.run)
-  receiving selector e i p first at allowed took =
-      Stands-rank n w r (record { rank = after_reception v.rank m i p; left = v.left }) s
-      (RankStands-event (start_at w n) n w.run r v k (takes p.source p.number) (Some (carried p)) (event_of kind.Reception p.source p.clock (v.rank.clock + 1))
-      (without v.rank.inbox i) m
-      (makes_taken v.rank.machine p p.number (subst (λ z. IsReceiving z p) (sym e) matching))
-      (k.inbox.real i p at)
-      (subst (λ z. IsFree z (takes p.source p.number) (λ q. sent w.run q r) (history (continue w.run r k.acts) r)) (sym wants_it)
-      (found_is_eligible selector v.rank.inbox (λ q. sent w.run q r) (history (continue w.run r k.acts) r) i p k.inbox here))
-      refl
-      (ltb-true v.rank.made most_events (few_made (v.rank.clock == greatest_clock) (nat_lt v.rank.made most_events) allowed))
-      (took.state p.number)
-      k.counted
-      (InboxStands-taken v.rank.inbox (λ q. sent w.run q r) (history (continue w.run r k.acts) r) i p (Some (carried p)) at k.inbox))
-    where
-      here : Found selector v.rank.inbox.packets i p
-      here = found_at selector v.rank.inbox.packets i p first at
+-- an act that is in the run passes no second time
+pub passed_again : (C : List Passed) (r c : ℕ) (o : Option Act) → c < length (history C r) → passed_at C r (c + 1) o ≡ C
+passed_again C r c None l = refl
+passed_again C r c (Some a) l = ap (λ b. if b then C else record { rank = r; act = a } ∷ C) (le-leb (c + 1) (length (history C r)) (omega arith))
 
-      matching : matches selector p ≡ true
-      matching = matches_if_named selector p here.matching
+-- the next act passes
+pub passed_first : (C : List Passed) (r c : ℕ) (a : Act) → c ≡ length (history C r) → passed_at C r (c + 1) (Some a) ≡ record { rank = r; act = a } ∷ C
+passed_first C r c a all = ap (λ b. if b then C else record { rank = r; act = a } ∷ C) (lt-leb (c + 1) (length (history C r)) (omega (arith, all)))
 
-      wants_it : wants (state_of v.rank.machine) ≡ want.Receive selector
-      wants_it = wanted v.rank.machine (want.Receive selector) e (λ z. cc)
+-- what was printed is among the lines
+print_there : (k c : ℕ) (h : History) (x : ℤ) (o : Option Message) → slice_get h c ≡ Some (prints x, o)
+    → (i : ℕ) × (slice_get (prints_from k h) i ≡ Some (k + c + 1, x))
+print_there k c [] x o e = absurd cc
+print_there k zero (y ∷ h) x o e =
+    let q : y ≡ (prints x, o) = cc in
+    let p : prints_from k (y ∷ h) ≡ (k + 1, x) ∷ prints_from (k + 1) h = ap (λ z. print_at (k + 1) z.0 (prints_from (k + 1) h)) q in
+    (0, ap (λ z. slice_get z 0) p ∙ (let z : k + 1 ≡ k + 0 + 1 = omega arith in ap (λ y. Some (y, x)) z))
+print_there k (suc c) (y ∷ h) x o e =
+    let i = print_there (k + 1) c h x o e in
+    let z : k + 1 + c + 1 ≡ k + suc c + 1 = omega arith in
+    after y.0 i.0 (i.1 ∙ ap (λ j. Some (j, x)) z)
+  where
+    after : (a : Act) (i : ℕ) → slice_get (prints_from (k + 1) h) i ≡ Some (k + suc c + 1, x)
+        → (j : ℕ) × (slice_get (print_at (k + 1) a (prints_from (k + 1) h)) j ≡ Some (k + suc c + 1, x))
+    after (prints v) i f = (suc i, f)
+    after (sends d t y z) i f = (i, f)
+    after (takes s j) i f = (i, f)
+    after (hits s j) i f = (i, f)
+    after misses i f = (i, f)
 
-  -- a receive finds a packet or is blocked
-  finding : (selector : Selector) → asks v.rank.machine ≡ want.Receive selector → (o : Option ℕ) → position (matches selector) v.rank.inbox.packets ≡ o
-      → (if is_some o then event_refusal v.rank else None) ≡ None
-      → TakesFound (option_and_then (at_index v.rank.inbox.packets) o) v.rank.machine m
-      → StandsAt n (changed w r (record { rank = received v.rank m (option_and_then (at_index v.rank.inbox.packets) o); left = v.left }) w.logger w.lines w.run)
-  finding selector e None at allowed steps = Stands-still
-  finding selector e (Some i) at allowed steps = go (slice_get v.rank.inbox.packets i) refl steps
-    where
-      go : (o : Option packet.Message) → slice_get v.rank.inbox.packets i ≡ o
-          → TakesFound (option_and_then (λ p. Some (i, p)) o) v.rank.machine m
-          → StandsAt n (changed w r (record { rank = received v.rank m (option_and_then (λ p. Some (i, p)) o); left = v.left }) w.logger w.lines w.run)
-      go None f t = Stands-still
-      go (Some p) f t = receiving selector e i p at f allowed t
+-- a line with a clock that the list has for the rank isn't new
+line_again : (r c i : ℕ) (x : ℤ) (lines : List Line) → slice_get (lines_of r lines) i ≡ Some (c, x) → is_new lines r c ≡ false
+line_again r c i x [] e = absurd cc
+line_again r c i x (y ∷ lines) e = go (cases_eq y.rank r) (λ j f. line_again r c j x lines f)
+  where
+    or_false : (b : Bool) → (b && false) ≡ false
+    or_false true = refl
+    or_false false = refl
 
-  -- a probe is shown the packet that was found, which stays in the inbox
-  showing : (x : Want) (selector : Selector) → asks v.rank.machine ≡ x → wants (state_of v.rank.machine) ≡ x → probes x ≡ Some selector
-      → ((q : packet.Message) → matches selector q ≡ true → IsShowing x q) → (i : ℕ) (p : packet.Message)
-      → position (matches selector) v.rank.inbox.packets ≡ Some i → slice_get v.rank.inbox.packets i ≡ Some p
-      → event_refusal v.rank ≡ None → WasShown p v.rank.machine m
-      → StandsAt n (changed w r (record { rank = after_probe v.rank m kind.Hit p.source p.clock; left = v.left }) w.logger w.lines w.run)
-  showing x selector e wants_it probe shows i p first at allowed shown =
-      Stands-rank n w r (record { rank = after_probe v.rank m kind.Hit p.source p.clock; left = v.left }) s
-      (RankStands-event (start_at w n) n w.run r v k (hits p.source p.number) (Some (carried p)) (event_of kind.Hit p.source p.clock (v.rank.clock + 1))
-      v.rank.inbox m
-      (makes_hit v.rank.machine p p.number (subst (λ z. IsShowing z p) (sym e) (shows p (matches_if_named selector p here.matching))))
-      (k.inbox.real i p at)
-      (subst (λ z. IsFree z (hits p.source p.number) (λ q. sent w.run q r) (history (continue w.run r k.acts) r)) (sym wants_it) free)
-      refl
-      (ltb-true v.rank.made most_events (few_made (v.rank.clock == greatest_clock) (nat_lt v.rank.made most_events) allowed))
-      (shown.state p.number)
-      k.counted
-      (InboxStands-noted v.rank.inbox (λ q. sent w.run q r) (history (continue w.run r k.acts) r) (hits p.source p.number, Some (carried p)) (λ q j. refl) k.inbox))
-    where
-      here : Found selector v.rank.inbox.packets i p
-      here = found_at selector v.rank.inbox.packets i p first at
+    first : (j : ℕ) → slice_get ((y.clock, y.value) ∷ lines_of r lines) j ≡ Some (c, x)
+        → ((j : ℕ) → slice_get (lines_of r lines) j ≡ Some (c, x) → is_new lines r c ≡ false) → y.rank ≡ r → is_new (y ∷ lines) r c ≡ false
+    first zero f rest q =
+        let both : ◌≡◌ {A = ℕ × ℤ} (y.clock, y.value) (c, x) = cc in
+        let ec : y.clock ≡ c = ap (λ z. z.0) both in
+        rw (eq-eqb y.rank r q, le-ltb y.clock c (omega (arith, ec))) refl
+    first (suc j) f rest q = rw (rest j f) (or_false (not (y.rank == r) || nat_lt y.clock c))
 
-      free : IsFree x (hits p.source p.number) (λ q. sent w.run q r) (history (continue w.run r k.acts) r)
-      free =
-          subst (λ o. IsSomeAnd o (λ selector. IsEligible (λ q. sent w.run q r) (history (continue w.run r k.acts) r) p.source p.number selector)) (sym probe)
-          (found_is_eligible selector v.rank.inbox (λ q. sent w.run q r) (history (continue w.run r k.acts) r) i p k.inbox here)
+    go : (y.rank ≡ r) ⊎ (y.rank ≡ r → ⊥) → ((j : ℕ) → slice_get (lines_of r lines) j ≡ Some (c, x) → is_new lines r c ≡ false) → is_new (y ∷ lines) r c ≡ false
+    go (inl q) rest = first i (subst (λ b. slice_get (cons_if b (y.clock, y.value) (lines_of r lines)) i ≡ Some (c, x)) (eq-eqb y.rank r q) e) rest q
+    go (inr ne) rest =
+        rw (rest i (subst (λ b. slice_get (cons_if b (y.clock, y.value) (lines_of r lines)) i ≡ Some (c, x)) (ne_eqb y.rank r ne) e))
+        (or_false (not (y.rank == r) || nat_lt y.clock c))
 
-  -- a blocking probe finds a packet or is blocked
-  probing : (selector : Selector) → asks v.rank.machine ≡ want.Probe selector → (o : Option ℕ) → position (matches selector) v.rank.inbox.packets ≡ o
-      → (if is_some o then event_refusal v.rank else None) ≡ None
-      → IsShownFound (option_and_then (at_index v.rank.inbox.packets) o) v.rank.machine m
-      → StandsAt n (changed w r (record { rank = probed v.rank m (option_and_then (at_index v.rank.inbox.packets) o); left = v.left }) w.logger w.lines w.run)
-  probing selector e None at allowed steps = Stands-still
-  probing selector e (Some i) at allowed steps = go (slice_get v.rank.inbox.packets i) refl steps
-    where
-      go : (o : Option packet.Message) → slice_get v.rank.inbox.packets i ≡ o
-          → IsShownFound (option_and_then (λ p. Some (i, p)) o) v.rank.machine m
-          → StandsAt n (changed w r (record { rank = probed v.rank m (option_and_then (λ p. Some (i, p)) o); left = v.left }) w.logger w.lines w.run)
-      go None f t = Stands-still
-      go (Some p) f t = showing (want.Probe selector) selector e (wanted v.rank.machine (want.Probe selector) e (λ z. cc)) refl (λ q h. h) i p at f allowed t
-
-  -- a probe that doesn't wait misses
-  missing : (selector : Selector) → asks v.rank.machine ≡ want.TryProbe selector → event_refusal v.rank ≡ None → Missed v.rank.machine m
-      → StandsAt n (changed w r (record { rank = after_probe v.rank m kind.Miss 0 0; left = v.left }) w.logger w.lines w.run)
-  missing selector e allowed missed =
-      Stands-rank n w r (record { rank = after_probe v.rank m kind.Miss 0 0; left = v.left }) s
-      (RankStands-event (start_at w n) n w.run r v k misses None (event_of kind.Miss 0 0 (v.rank.clock + 1)) v.rank.inbox m
-      (makes_missed v.rank.machine (subst IsTrying (sym e) tt))
-      refl
-      (free_silent (wants (state_of v.rank.machine)) misses (λ q. sent w.run q r) (history (continue w.run r k.acts) r) tt)
-      refl
-      (ltb-true v.rank.made most_events (few_made (v.rank.clock == greatest_clock) (nat_lt v.rank.made most_events) allowed))
-      missed.state
-      k.counted
-      (InboxStands-noted v.rank.inbox (λ q. sent w.run q r) (history (continue w.run r k.acts) r) (misses, None) (λ q j. refl) k.inbox))
-
-  -- a probe that doesn't wait finds a packet or misses
-  trying : (selector : Selector) → asks v.rank.machine ≡ want.TryProbe selector → (o : Option ℕ) → position (matches selector) v.rank.inbox.packets ≡ o
-      → event_refusal v.rank ≡ None
-      → TriesFound (option_and_then (at_index v.rank.inbox.packets) o) v.rank.machine m
-      → StandsAt n (changed w r (record { rank = tried v.rank m (option_and_then (at_index v.rank.inbox.packets) o); left = v.left }) w.logger w.lines w.run)
-  trying selector e None at allowed steps = missing selector e allowed steps
-  trying selector e (Some i) at allowed steps = go (slice_get v.rank.inbox.packets i) refl steps
-    where
-      go : (o : Option packet.Message) → slice_get v.rank.inbox.packets i ≡ o
-          → TriesFound (option_and_then (λ p. Some (i, p)) o) v.rank.machine m
-          → StandsAt n (changed w r (record { rank = tried v.rank m (option_and_then (λ p. Some (i, p)) o); left = v.left }) w.logger w.lines w.run)
-      go None f t = missing selector e allowed t
-      go (Some p) f t = showing (want.TryProbe selector) selector e (wanted v.rank.machine (want.TryProbe selector) e (λ z. cc)) refl (λ q h. h) i p at f allowed t
-
-  -- a step of a rank that isn't refused
-  pub stepping : (x : Want) → asks v.rank.machine ≡ x → refusal_at v.rank x ≡ None → MachineStepAt v.rank x m
-      → StandsAt n (changed w r (record { rank = step_at v.rank x m; left = v.left }) w.logger (lines_after w.lines r v.rank x (turn_at v.rank x)) (passed_at w.run r (v.rank.clock + 1) (effect_at v.rank x (turn_at v.rank x))))
-  stepping want.Internal e allowed steps =
-      Stands-rank n w r (record { rank = with_machine v.rank m; left = v.left }) s (RankStands-moved (start_at w n) n w.run r v m steps.state k)
-  stepping (want.Send d c t) e allowed steps = go (is_settled v.rank.pending) refl steps
-    where
-      go : (b : Bool) → is_settled v.rank.pending ≡ b → MatchBool b (DidAct v.rank.machine m) (m ≡ v.rank.machine)
-          → StandsAt n (changed w r (record { rank = if b then after_send v.rank m d c t else v.rank; left = v.left }) w.logger
-          (lines_after w.lines r v.rank (want.Send d c t) (if b then Moved else Held)) (passed_at w.run r (v.rank.clock + 1) (effect_at v.rank (want.Send d c t) (if b then Moved else Held))))
-      go true settled did = sending d c t e did (settled_none v.rank.pending settled)
-      go false settled same = Stands-still
-  stepping (want.Receive selector) e allowed steps = finding selector e (position (matches selector) v.rank.inbox.packets) refl allowed steps
-  stepping (want.Probe selector) e allowed steps = probing selector e (position (matches selector) v.rank.inbox.packets) refl allowed steps
-  stepping (want.TryProbe selector) e allowed steps = trying selector e (position (matches selector) v.rank.inbox.packets) refl allowed steps
-  stepping (want.Print x) e allowed steps = go (is_settled v.rank.pending) refl steps
-    where
-      go : (b : Bool) → is_settled v.rank.pending ≡ b → MatchBool b (DidAct v.rank.machine m) (m ≡ v.rank.machine)
-          → StandsAt n (changed w r (record { rank = if b then after_print v.rank m else v.rank; left = v.left }) w.logger
-          (lines_after w.lines r v.rank (want.Print x) (if b then Moved else Held)) (passed_at w.run r (v.rank.clock + 1) (effect_at v.rank (want.Print x) (if b then Moved else Held))))
-      go true settled did = printing x e did (settled_none v.rank.pending settled)
-      go false settled same = Stands-still
-  stepping want.Halted e allowed steps = Stands-still
-  stepping (want.Faulted f) e allowed steps = Stands-still
+-- a print that is in the run is shown no second time
+pub print_again : (C : List Passed) (r c : ℕ) (lines : List Line) (x : ℤ) (o : Option Message) → lines_of r lines ≡ printed C r
+    → slice_get (history C r) c ≡ Some (prints x, o) → after_line lines r (c + 1) x ≡ lines
+print_again C r c lines x o had there =
+    let i = print_there 0 c (history C r) x o there in
+    let z : 0 + c + 1 ≡ c + 1 = omega arith in
+    ap (λ b. if b then lines ++ record { rank = r; clock = c + 1; value = x } ∷ [] else lines)
+    (line_again r (c + 1) i.0 x lines (subst (λ y. slice_get y i.0 ≡ Some (c + 1, x)) (sym had) (i.1 ∙ ap (λ j. Some (j, x)) z)))

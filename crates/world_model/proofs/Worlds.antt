@@ -1,5 +1,6 @@
--- A world keeps what it stands for, where one of its ranks changes, where a frame is put, and where an act passes.
-use Rattle.std.proofs.Common.{◌≡◌, ℕ, ◌<◌, ◌⊎◌, inl, inr, ⊎_elim, List, [], ◌∷◌, ◌++◌, Option, Some, length, sym, ap, subst, ◌∙◌, slice_get, slice_set}
+-- A world keeps what it stands for, where a rank changes, crashes or starts again, where a frame is put, or an act passes.
+use Rattle.std.proofs.Common.{◌≡◌, ℕ, ◌<◌, ◌⊎◌, inl, inr, ⊎_elim, List, [], ◌∷◌, ◌++◌, Option, Some, length, sym, ap, subst, ◌∙◌, slice_get}
+use Rattle.std.proofs.Common.{slice_set}
 use Rattle.std.proofs.lemmas.List.{length-set}
 use Rattle.plain_logger.specs.Event.{EventValue}
 use Rattle.plain_logger.specs.History.{StateValue}
@@ -12,42 +13,49 @@ use Rattle.crash_free.specs.Runs.{Passed, history, sent, printed, MayMake}
 use Rattle.crash_free.proofs.Lists.{at_place-append, push_cases}
 use Rattle.crash_free.proofs.Going.{sent_grows, Extends-by_other}
 use Rattle.world_model.specs.Rows.{row}
-use Rattle.world_model.specs.World.{Live, WorldValue, IsWire}
+use Rattle.world_model.specs.World.{Live, WorldValue, size, IsWire}
 use Rattle.world_model.specs.Headline.{IsReal, lines_of}
-use Rattle.world_model.specs.Stands.{start_at, RankStands, StandsAt}
 use Rattle.world_model.proofs.Places.{slice_set-get}
-use Rattle.world_model.proofs.Ranks.{RankStands-extended}
+use Rattle.checkpoint.specs.Image.{ImageValue}
+use Rattle.rank_node.specs.Image.{begins_at}
+use Rattle.world_model.specs.Stands.{start_at, RankStands, StandsAt, Covers}
+use Rattle.world_model.proofs.Ranks.{ImageStands-later, RankStands-extended}
 
--- the world with this rank, logger, lines and run
-abbrev pub changed : WorldValue → ℕ → Live → StateValue → List Line → List Passed → WorldValue
-changed w r v logger lines C = record { program = w.program; ranks = slice_set w.ranks r (Some v); logger = logger; wires = w.wires; lines = lines; run = C }
+-- what an event keeps but for the count of events: what goes with the run, and what senders may drop
+pub record Goes (w : WorldValue) : Type 0 where
+  pub run : StandsAt (size w) w
+  pub covers : Covers w
 
-some_same : {A : Type 0} (x y : A) → ◌≡◌ {A = Option A} (Some x) (Some y) → x ≡ y
-some_same x y e = cc
+-- the world with this for a rank, and these images, logger, lines and run
+abbrev pub changed : WorldValue → ℕ → Option Live → List (Option ImageValue) → StateValue → List Line → List Passed → WorldValue
+changed w r x images logger lines C = record w { ranks = slice_set w.ranks r x; images = images; logger = logger; lines = lines; run = C }
 
-replaced : (n : ℕ) (start : ℕ → State) (C : List Passed) (ranks : List (Option Live)) (r : ℕ) (v : Live)
+-- each rank goes with the run, where the one that changed does
+replaced : (n : ℕ) (start : ℕ → State) (C : List Passed) (ranks : List (Option Live)) (r : ℕ) (x : Option Live)
     → ((q : ℕ) (u : Live) → (q ≡ r → ⊥) → slice_get ranks q ≡ Some (Some u) → RankStands start n C q u)
-    → RankStands start n C r v
-    → (q : ℕ) (u : Live) → slice_get (slice_set ranks r (Some v)) q ≡ Some (Some u) → RankStands start n C q u
-replaced n start C ranks r v others k q u e = go (slice_set-get ranks r q (Some u) (Some v) e)
+    → ((v : Live) → x ≡ Some v → RankStands start n C r v)
+    → (q : ℕ) (u : Live) → slice_get (slice_set ranks r x) q ≡ Some (Some u) → RankStands start n C q u
+replaced n start C ranks r x others k q u e = go (slice_set-get ranks r q (Some u) x e)
   where
-    go : ((q ≡ r) × (Some u ≡ Some v)) ⊎ ((q ≡ r → ⊥) × (slice_get ranks q ≡ Some (Some u))) → RankStands start n C q u
+    go : ((q ≡ r) × (Some u ≡ x)) ⊎ ((q ≡ r → ⊥) × (slice_get ranks q ≡ Some (Some u))) → RankStands start n C q u
     go (inr h) = others q u h.0 h.1
-    go (inl h) = rw (h.0, some_same u v h.1) k
+    go (inl h) = rw (h.0) (k u (sym h.1))
 
--- a rank changes, and the run stays
-pub Stands-rank : (n : ℕ) (w : WorldValue) (r : ℕ) (v : Live) → StandsAt n w → RankStands (start_at w n) n w.run r v
-    → StandsAt n (changed w r v w.logger w.lines w.run)
-Stands-rank n w r v s k =
+-- a rank changes, crashes or starts again
+pub Stands-rank : (n : ℕ) (w : WorldValue) (r : ℕ) (x : Option Live) (logger : StateValue) → StandsAt n w → logger.rows ≡ w.logger.rows
+    → ((v : Live) → x ≡ Some v → RankStands (start_at w n) n w.run r v) → StandsAt n (changed w r x w.images logger w.lines w.run)
+Stands-rank n w r x logger s rows k =
     record {
       is_run = s.is_run;
-      as_many_rows = s.as_many_rows;
-      rows = s.rows;
+      as_many_rows = ap length rows ∙ s.as_many_rows;
+      rows = λ q events e. s.rows q events (subst (λ z. slice_get z q ≡ Some events) rows e);
       as_many_wires = s.as_many_wires;
       wires_to_all = s.wires_to_all;
       packets = s.packets;
       lines = s.lines;
-      ranks = replaced n (start_at w n) w.run w.ranks r v (λ q u ne e. s.ranks q u e) k;
+      as_many_images = s.as_many_images;
+      images = s.images;
+      ranks = replaced n (start_at w n) w.run w.ranks r x (λ q u ne e. s.ranks q u e) k;
     }
 
 -- a packet that was real stays so
@@ -66,7 +74,7 @@ pub Stands-passed : (n : ℕ) (w : WorldValue) (r : ℕ) (a : Act) (v : Live) (l
     → length logger.rows ≡ n
     → ((q : ℕ) (x : List EventValue) → slice_get logger.rows q ≡ Some x → x ≡ row (record { rank = r; act = a } ∷ w.run) q)
     → ((q : ℕ) → lines_of q lines ≡ printed (record { rank = r; act = a } ∷ w.run) q)
-    → StandsAt n (changed w r v logger lines (record { rank = r; act = a } ∷ w.run))
+    → StandsAt n (changed w r (Some v) w.images logger lines (record { rank = r; act = a } ∷ w.run))
 Stands-passed n w r a v logger lines s lt can k as_many rows_are lines_are =
     record {
       is_run = (s.is_run, lt, can);
@@ -76,22 +84,17 @@ Stands-passed n w r a v logger lines s lt can k as_many rows_are lines_are =
       wires_to_all = s.wires_to_all;
       packets = λ q d j frames f at e. IsReal-longer w.run (record { rank = r; act = a }) q d f (s.packets q d j frames f at e);
       lines = lines_are;
-      ranks = replaced n (start_at w n) (record { rank = r; act = a } ∷ w.run) w.ranks r v
+      as_many_images = s.as_many_images;
+      images = λ q o e. ImageStands-later (start_at w n) n w.run (record { rank = r; act = a }) q (begins_at w.program q n o) (s.images q o e);
+      ranks = replaced n (start_at w n) (record { rank = r; act = a } ∷ w.run) w.ranks r (Some v)
           (λ q u ne e. RankStands-extended (start_at w n) n w.run (record { rank = r; act = a } ∷ w.run) q u
           (Extends-by_other q w.run (record { rank = r; act = a }) (λ z. ne (sym z))) (s.ranks q u e))
-          k;
+          (λ u e. (let q : v ≡ u = cc in subst (λ z. RankStands (start_at w n) n (record { rank = r; act = a } ∷ w.run) r z) q k));
     }
 
 -- the world with this frame last on a wire
 abbrev pub put_on : WorldValue → ℕ → Live → ℕ → List (List Frame) → List Frame → Frame → WorldValue
-put_on w r v d of_r frames f = record {
-  program = w.program;
-  ranks = slice_set w.ranks r (Some v);
-  logger = w.logger;
-  wires = slice_set w.wires r (slice_set of_r d (frames ++ f ∷ []));
-  lines = w.lines;
-  run = w.run;
-}
+put_on w r v d of_r frames f = record w { ranks = slice_set w.ranks r (Some v); wires = slice_set w.wires r (slice_set of_r d (frames ++ f ∷ [])) }
 
 -- a frame is put
 pub Stands-put : (n : ℕ) (w : WorldValue) (r : ℕ) (v : Live) (d : ℕ) (of_r : List (List Frame)) (frames : List Frame) (f : Frame)
@@ -107,7 +110,9 @@ Stands-put n w r v d of_r frames f s k at_r at_d real =
       wires_to_all = λ q x e. as_many q x (slice_set-get w.wires r q x (slice_set of_r d (frames ++ f ∷ [])) e);
       packets = λ q e j fs g at there. packets q e j fs g at there (slice_set-get w.wires r q at.0 (slice_set of_r d (frames ++ f ∷ [])) at.1);
       lines = s.lines;
-      ranks = replaced n (start_at w n) w.run w.ranks r v (λ q u ne e. s.ranks q u e) k;
+      as_many_images = s.as_many_images;
+      images = s.images;
+      ranks = replaced n (start_at w n) w.run w.ranks r (Some v) (λ q u ne e. s.ranks q u e) (λ u e. (let q : v ≡ u = cc in subst (λ z. RankStands (start_at w n) n w.run r z) q k));
     }
   where
     as_many : (q : ℕ) (x : List (List Frame)) → ((q ≡ r) × (x ≡ slice_set of_r d (frames ++ f ∷ []))) ⊎ ((q ≡ r → ⊥) × (slice_get w.wires q ≡ Some x))

@@ -1,9 +1,15 @@
--- What each event does to a world: it is one call on the rank that it names, and the reply is that call's answer.
-use Rattle.std.specs.Prelude.{◌≡◌, ◌≢◌, ℕ, ℤ, false, ◌+◌, ◌<◌, nat_le, List, [], ◌∷◌, ◌++◌, length, Option, Some, None, slice_get, slice_set, if◌then◌else◌}
+-- What each event does to a world: it is one call on the rank that it names, and the reply is that call's answer. A rank
+-- that replays answers some calls otherwise than one that runs; a rank that is down only starts again.
+use Rattle.std.specs.Prelude.{◌≡◌, ◌≢◌, ℕ, ℤ, Bool, false, ◌+◌, ◌<◌, ◌⊎◌, nat_le, List, [], ◌∷◌, ◌++◌, length, take, Option, Some, None, Ok, option_map}
+use Rattle.std.specs.Prelude.{slice_get, slice_set, if◌then◌else◌}
+use Rattle.checkpoint.specs.Image.{ImageValue}
+use Rattle.checkpoint.specs.declared.memory_shelf.MemoryShelf.{MemoryShelf}
+use Rattle.matching.specs.Message as packet
+use Rattle.payload_log.specs.Backlog.{backlog}
 use Rattle.plain_logger.specs.Event.{EventValue}
 use Rattle.plain_logger.specs.History.{Answers}
-use Rattle.plain_logger.specs.declared.call.Call.TheVariants.{Append}
-use Rattle.plain_logger.specs.declared.call.Reply.TheVariants.{Length}
+use Rattle.plain_logger.specs.declared.call.Call.TheVariants.{Append, Fetch}
+use Rattle.plain_logger.specs.declared.call.Reply.TheVariants.{Length, Events}
 use Rattle.rank_machine.specs.declared.want.Want.{Want}
 use Rattle.rank_machine.specs.declared.want.Want.TheVariants as want
 use Rattle.rank_machine.specs.Wants.{payload}
@@ -15,42 +21,42 @@ use Rattle.rank_node.specs.declared.turn.Arrived.{Arrived}
 use Rattle.rank_node.specs.declared.turn.Arrived.TheVariants as arrived
 use Rattle.rank_node.specs.declared.frame.Frame.{Frame}
 use Rattle.rank_node.specs.declared.frame.Frame.TheVariants as frame
+use Rattle.rank_node.specs.declared.waiting.Waiting.{Waiting}
+use Rattle.rank_node.specs.declared.waiting.Waiting.TheVariants as waits
+use Rattle.rank_node.specs.Waiting.{is_settled, effect_clock}
 use Rattle.rank_node.specs.Steps.{turn_of, refusal_of, takes_memory, MachineStep, after_step}
 use Rattle.rank_node.specs.Frames.{outgoing_of, after_passed, arrival_of, after_frame}
 use Rattle.rank_node.specs.Storing.{next_unstored, after_store, after_ack}
+use Rattle.rank_node.specs.Releasing.{next_effect, after_release}
+use Rattle.rank_node.specs.Replay.{restarted, left_of, replay_turn_of, replay_takes_memory, after_replay, left_after, ReplayStep}
 use Rattle.ports.specs.declared.line.Line.{Line}
 use Rattle.ports.specs.Console.{after_line}
 use Rattle.crash_free.specs.Runs.{Passed, history, continue}
 use Rattle.world_model.specs.declared.event.WorldEvent.{WorldEvent}
-use Rattle.world_model.specs.declared.event.WorldEvent.TheVariants.{Step, Put, Arrive, Store, Ack, Image, Crash, Restart}
+use Rattle.world_model.specs.declared.event.WorldEvent.TheVariants.{Step, Put, Arrive, Store, Ack, Image, Crash, Restart, Release}
 use Rattle.world_model.specs.declared.reply.Reply.{Reply}
 use Rattle.world_model.specs.declared.reply.Reply.TheVariants as reply
 use Rattle.world_model.specs.Rows.{Noted}
-use Rattle.world_model.specs.World.{Rank, Live, WorldValue, size, IsLive, IsWire, unstored}
-use Rattle.world_model.specs.Headline.{StandsFor}
+use Rattle.world_model.specs.World.{Rank, Live, WorldValue, size, IsLive, IsDown, IsWire, BeginsAt}
+use Rattle.world_model.specs.Headline.{StandsFor, stable_of}
 
--- the world with this value in the place of a rank's
-abbrev pub with_rank : WorldValue → ℕ → Rank → WorldValue
-with_rank w r v = record {
-  program = w.program;
-  ranks = slice_set w.ranks r (Some (record { rank = v; left = [] }));
-  logger = w.logger;
-  wires = w.wires;
-  lines = w.lines;
-  run = w.run;
-}
-
--- The event can't happen: no such rank is live, or its call is refused by name, or there is nothing to put, to arrive,
--- to store or to acknowledge. No rank takes an image, crashes or starts again yet.
+-- The event can't happen: a rank that it names isn't there; the rank that makes the call is down, or for a restart isn't;
+-- there is nothing to put, to arrive, to store, to acknowledge or to release; or its step is refused by name. A rank in
+-- replay has nothing to store, to acknowledge or to release, and its step is never refused. No rank takes an image yet.
 abbrev pub CanNot : WorldValue → WorldEvent → Type 0
 CanNot w (Step r) = (v : Live) → IsLive w r v → (v.left ≡ []) × (refusal_of v.rank ≢ None)
 CanNot w (Put s d) = (v : Live) → IsLive w s v → d < size w → outgoing_of v.rank d ≡ None
 CanNot w (Arrive s d i) = (v : Live) (frames : List Frame) (f : Frame) → IsLive w d v → IsWire w s d frames → slice_get frames i ≢ Some f
-CanNot w (Store r) = (v : Live) → IsLive w r v → unstored v.rank ≡ []
+CanNot w (Store r) = (v : Live) → IsLive w r v → next_unstored v.rank ≡ None
 CanNot w (Ack r) = (v : Live) → IsLive w r v → v.rank.stored ≡ 0
 CanNot w (Image r) = Unit {0}
-CanNot w (Crash r) = Unit {0}
-CanNot w (Restart r) = Unit {0}
+CanNot w (Crash r) = (v : Live) → IsLive w r v → ⊥
+CanNot w (Restart r) = IsDown w r → ⊥
+CanNot w (Release r) = (v : Live) → IsLive w r v → v.left ≡ [] → next_effect v.rank ≡ None
+
+-- the world with this rank, which is live or down, and all else as it was
+abbrev pub with_rank : WorldValue → ℕ → Option Live → WorldValue
+with_rank w r x = record w { ranks = slice_set w.ranks r x }
 
 -- the reply to a step
 abbrev pub stepped : Turn → Reply
@@ -59,17 +65,21 @@ stepped turn.Blocked = reply.Blocked
 stepped turn.Held = reply.Held
 stepped turn.Ended = reply.Ended
 
--- the act, where the turn made it
-abbrev pub where_moved : Turn → Act → Option Act
-where_moved turn.Moved act = Some act
-where_moved turn.Blocked act = None
-where_moved turn.Held act = None
-where_moved turn.Ended act = None
+-- the act that passes, where the turn made it
+abbrev pub where_moved : Turn → Option Act → Option Act
+where_moved turn.Moved passes = passes
+where_moved turn.Blocked passes = None
+where_moved turn.Held passes = None
+where_moved turn.Ended passes = None
 
--- a send and a print pass as soon as they are made; a reception, a hit and a miss pass when they are stored
+-- a send or a print passes as soon as it is made where nothing waits; else it passes when it is released
+abbrev pub at_once : Rank → Act → Option Act
+at_once v act = if is_settled v.pending then Some act else None
+
+-- what passes with a step: a send or a print at once; a reception, a hit and a miss pass when they are stored
 abbrev pub effect_at : Rank → Want → Turn → Option Act
-effect_at v (want.Send dest context tag) t = where_moved t (sends dest context tag (payload (state_of v.machine)))
-effect_at v (want.Print value) t = where_moved t (prints value)
+effect_at v (want.Send dest context tag) t = where_moved t (at_once v (sends dest context tag (payload (state_of v.machine))))
+effect_at v (want.Print value) t = where_moved t (at_once v (prints value))
 effect_at v want.Internal t = None
 effect_at v (want.Receive selector) t = None
 effect_at v (want.Probe selector) t = None
@@ -82,16 +92,16 @@ abbrev pub passed_at : List Passed → ℕ → ℕ → Option Act → List Passe
 passed_at C r clock None = C
 passed_at C r clock (Some act) = if nat_le clock (length (history C r)) then C else record { rank = r; act = act } ∷ C
 
--- the lines after a print, where the turn made it
-abbrev pub shown_where_moved : List Line → ℕ → ℕ → ℤ → Turn → List Line
-shown_where_moved lines r clock value turn.Moved = after_line lines r clock value
-shown_where_moved lines r clock value turn.Blocked = lines
-shown_where_moved lines r clock value turn.Held = lines
-shown_where_moved lines r clock value turn.Ended = lines
+-- the lines after a print, where the turn made it: it is shown at once where nothing waits
+abbrev pub shown_where_moved : List Line → ℕ → Rank → ℤ → Turn → List Line
+shown_where_moved lines r v value turn.Moved = if is_settled v.pending then after_line lines r (v.clock + 1) value else lines
+shown_where_moved lines r v value turn.Blocked = lines
+shown_where_moved lines r v value turn.Held = lines
+shown_where_moved lines r v value turn.Ended = lines
 
--- a print is shown with its clock
+-- a print that passes at once is shown with its clock
 abbrev pub lines_after : List Line → ℕ → Rank → Want → Turn → List Line
-lines_after lines r v (want.Print value) t = shown_where_moved lines r (v.clock + 1) value t
+lines_after lines r v (want.Print value) t = shown_where_moved lines r v value t
 lines_after lines r v want.Internal t = lines
 lines_after lines r v (want.Send dest context tag) t = lines
 lines_after lines r v (want.Receive selector) t = lines
@@ -100,7 +110,17 @@ lines_after lines r v (want.TryProbe selector) t = lines
 lines_after lines r v want.Halted t = lines
 lines_after lines r v (want.Faulted fault) t = lines
 
--- A step: the machine makes the step that it wants, unless it is blocked or held or has ended.
+-- the world after a step of a rank to this value with these events left, by what it wanted and did; a send or a print that
+-- the rank makes again passes no second time, and is shown no second time
+abbrev pub after_turn : WorldValue → ℕ → Live → Turn → Rank → List EventValue → WorldValue
+after_turn w r before t rank left = record w {
+  ranks = slice_set w.ranks r (Some (record { rank = rank; left = left }));
+  lines = lines_after w.lines r before.rank (asks before.rank.machine) t;
+  run = passed_at w.run r (before.rank.clock + 1) (effect_at before.rank (asks before.rank.machine) t);
+}
+
+-- A step of a rank that replays nothing: the machine makes the step that it wants, unless it is blocked or held or has
+-- ended.
 pub record StepFollows (w : WorldValue) (r : ℕ) (answer : Reply) (w' : WorldValue) : Type 0 where
   pub before : Live
   pub live : IsLive w r before
@@ -109,14 +129,21 @@ pub record StepFollows (w : WorldValue) (r : ℕ) (answer : Reply) (w' : WorldVa
   pub machine : MachineValue
   pub steps : MachineStep before.rank machine
   pub answered : answer ≡ stepped (turn_of before.rank)
-  pub after : w' ≡ record {
-    program = w.program;
-    ranks = slice_set w.ranks r (Some (record { rank = after_step before.rank machine; left = [] }));
-    logger = w.logger;
-    wires = w.wires;
-    lines = lines_after w.lines r before.rank (asks before.rank.machine) (turn_of before.rank);
-    run = passed_at w.run r (before.rank.clock + 1) (effect_at before.rank (asks before.rank.machine) (turn_of before.rank));
-  }
+  pub after : w' ≡ after_turn w r before (turn_of before.rank) (after_step before.rank machine) []
+
+-- A step of a rank that replays: a reception or a hit is of the packet that the next event names, and a miss misses.
+pub record ReplayFollows (w : WorldValue) (r : ℕ) (answer : Reply) (w' : WorldValue) : Type 0 where
+  pub before : Live
+  pub live : IsLive w r before
+  pub event : EventValue
+  pub rest : List EventValue
+  pub replaying : before.left ≡ event ∷ rest
+  pub turn : Turn
+  pub turned : replay_turn_of before.rank event ≡ Ok turn
+  pub machine : MachineValue
+  pub steps : ReplayStep before.rank event machine
+  pub answered : answer ≡ stepped turn
+  pub after : w' ≡ after_turn w r before turn (after_replay before.rank event machine) (left_after (asks before.rank.machine) turn event rest)
 
 -- the reply to a frame that was put, by its index
 abbrev pub put_as : ℕ → Frame → Reply
@@ -135,13 +162,9 @@ pub record PutFollows (w : WorldValue) (s d : ℕ) (answer : Reply) (w' : WorldV
   pub frames : List Frame
   pub wire : slice_get of_s d ≡ Some frames
   pub answered : answer ≡ put_as (length frames) frame
-  pub after : w' ≡ record {
-    program = w.program;
+  pub after : w' ≡ record w {
     ranks = slice_set w.ranks s (Some (record { rank = after_passed before.rank d; left = before.left }));
-    logger = w.logger;
     wires = slice_set w.wires s (slice_set of_s d (frames ++ frame ∷ []));
-    lines = w.lines;
-    run = w.run;
   }
 
 -- the reply to a frame that arrived; no frame on a wire is foreign
@@ -161,14 +184,7 @@ pub record ArriveFollows (w : WorldValue) (s d i : ℕ) (answer : Reply) (w' : W
   pub frame : Frame
   pub there : slice_get frames i ≡ Some frame
   pub answered : arrived_as (arrival_of before.rank s frame) ≡ Some answer
-  pub after : w' ≡ record {
-    program = w.program;
-    ranks = slice_set w.ranks d (Some (record { rank = after_frame before.rank s frame; left = before.left }));
-    logger = w.logger;
-    wires = w.wires;
-    lines = w.lines;
-    run = w.run;
-  }
+  pub after : w' ≡ with_rank w d (Some (record { rank = after_frame before.rank s frame; left = before.left }))
 
 -- The oldest unstored event is stored: it goes last in the rank's row, and its act passes.
 pub record StoreFollows (w : WorldValue) (r : ℕ) (answer : Reply) (w' : WorldValue) : Type 0 where
@@ -181,12 +197,9 @@ pub record StoreFollows (w : WorldValue) (r : ℕ) (answer : Reply) (w' : WorldV
   pub appends : Answers w.logger r (Append event) (Length count) w'.logger
   pub acts : List Act
   pub noted : Noted w.run r acts event
-  pub after : w' ≡ record {
-    program = w.program;
+  pub after : w' ≡ record w {
     ranks = slice_set w.ranks r (Some (record { rank = after_store before.rank; left = before.left }));
     logger = w'.logger;
-    wires = w.wires;
-    lines = w.lines;
     run = continue w.run r acts;
   }
 
@@ -196,25 +209,79 @@ pub record AckFollows (w : WorldValue) (r : ℕ) (answer : Reply) (w' : WorldVal
   pub live : IsLive w r before
   pub some : before.rank.stored ≢ 0
   pub answered : answer ≡ reply.Acked
-  pub after : w' ≡ record {
-    program = w.program;
-    ranks = slice_set w.ranks r (Some (record { rank = after_ack before.rank; left = before.left }));
-    logger = w.logger;
-    wires = w.wires;
-    lines = w.lines;
-    run = w.run;
+  pub after : w' ≡ with_rank w r (Some (record { rank = after_ack before.rank; left = before.left }))
+
+-- The rank crashes: what is stable alone outlives it.
+pub record CrashFollows (w : WorldValue) (r : ℕ) (answer : Reply) (w' : WorldValue) : Type 0 where
+  pub before : Live
+  pub live : IsLive w r before
+  pub answered : answer ≡ reply.Crashed
+  pub after : w' ≡ with_rank w r None
+
+-- The rank starts again: it fetches its row, and begins at its image, or at the beginning of the program, with the events
+-- above that to replay.
+pub record RestartFollows (w : WorldValue) (r : ℕ) (answer : Reply) (w' : WorldValue) : Type 0 where
+  pub down : IsDown w r
+  pub events : List EventValue
+  pub fetches : Answers w.logger r (Fetch 0) (Events events) w'.logger
+  pub image : ImageValue
+  pub begins : BeginsAt w r image
+  pub shelf : MemoryShelf
+  pub answered : answer ≡ reply.Restarted (length (left_of image events))
+  pub after : w' ≡ record w {
+    ranks = slice_set w.ranks r (Some (record { rank = restarted (stable_of (size w) r shelf) image (length events); left = left_of image events }));
+    logger = w'.logger;
+  }
+
+-- the oldest held packet for a rank
+abbrev pub oldest_held : Rank → ℕ → Option packet.Message
+oldest_held v dest = slice_get (backlog v.log dest).held 0
+
+-- the send of a packet
+abbrev pub send_of : ℕ → packet.Message → Act
+send_of dest p = sends dest p.context p.tag p.items
+
+-- the act of an effect: a send of the packet that the payload log holds longest for its destination, or a print
+abbrev pub released_act : Rank → Waiting → Option Act
+released_act v (waits.Send dest clock) = option_map (send_of dest) (oldest_held v dest)
+released_act v (waits.Line clock value) = Some (prints value)
+released_act v (waits.Event e) = None
+
+-- a line that is released is shown with its clock
+abbrev pub lines_released : List Line → ℕ → Waiting → List Line
+lines_released lines r (waits.Line clock value) = after_line lines r clock value
+lines_released lines r (waits.Send dest clock) = lines
+lines_released lines r (waits.Event e) = lines
+
+-- The oldest effect of what waits is released: its line is shown, or its packet goes to those that may be transmitted, and
+-- its act passes.
+pub record ReleaseFollows (w : WorldValue) (r : ℕ) (answer : Reply) (w' : WorldValue) : Type 0 where
+  pub before : Live
+  pub live : IsLive w r before
+  pub effect : Waiting
+  pub oldest : next_effect before.rank ≡ Some effect
+  pub clock : ℕ
+  pub of_it : effect_clock effect ≡ Some clock
+  pub answered : answer ≡ reply.Released clock
+  pub act : Act
+  pub passes : released_act before.rank effect ≡ Some act
+  pub after : w' ≡ record w {
+    ranks = slice_set w.ranks r (Some (record { rank = after_release before.rank effect; left = before.left }));
+    lines = lines_released w.lines r effect;
+    run = passed_at w.run r clock (Some act);
   }
 
 -- what an event that isn't refused does
 abbrev pub Happens : WorldValue → WorldEvent → Reply → WorldValue → Type 0
-Happens w (Step r) answer w' = StepFollows w r answer w'
+Happens w (Step r) answer w' = StepFollows w r answer w' ⊎ ReplayFollows w r answer w'
 Happens w (Put s d) answer w' = PutFollows w s d answer w'
 Happens w (Arrive s d i) answer w' = ArriveFollows w s d i answer w'
 Happens w (Store r) answer w' = StoreFollows w r answer w'
 Happens w (Ack r) answer w' = AckFollows w r answer w'
 Happens w (Image r) answer w' = ⊥
-Happens w (Crash r) answer w' = ⊥
-Happens w (Restart r) answer w' = ⊥
+Happens w (Crash r) answer w' = CrashFollows w r answer w'
+Happens w (Restart r) answer w' = RestartFollows w r answer w'
+Happens w (Release r) answer w' = ReleaseFollows w r answer w'
 
 -- What an event does: it is refused and leaves all as it was, exactly where it can't happen; else it happens.
 abbrev pub Follows : WorldValue → WorldEvent → Reply → WorldValue → Type 0
@@ -235,18 +302,44 @@ Follows w event reply.Acked w' = Happens w event reply.Acked w'
 Follows w event reply.Imaged w' = Happens w event reply.Imaged w'
 Follows w event reply.Crashed w' = Happens w event reply.Crashed w'
 Follows w event (reply.Restarted count) w' = Happens w event (reply.Restarted count) w'
+Follows w event (reply.Released clock) w' = Happens w event (reply.Released clock) w'
 
--- The event takes no memory: a step that is the machine's own, or is blocked or held, or comes after the end, and each
--- acknowledgement. An event that can't happen takes none either.
+-- a restart's fetch was answered, and then memory was refused: the call stays in the logger's history
+pub record Fetched (w : WorldValue) (r : ℕ) (w' : WorldValue) : Type 0 where
+  pub down : IsDown w r
+  pub events : List EventValue
+  pub fetches : Answers w.logger r (Fetch 0) (Events events) w'.logger
+  pub after : w' ≡ record w { logger = w'.logger }
+
+-- what want of memory leaves: all as it was, but for a fetch that was answered
+abbrev pub Unchanged : WorldValue → WorldEvent → WorldValue → Type 0
+Unchanged w (Step r) w' = w' ≡ w
+Unchanged w (Put s d) w' = w' ≡ w
+Unchanged w (Arrive s d i) w' = w' ≡ w
+Unchanged w (Store r) w' = w' ≡ w
+Unchanged w (Ack r) w' = w' ≡ w
+Unchanged w (Image r) w' = w' ≡ w
+Unchanged w (Crash r) w' = w' ≡ w
+Unchanged w (Restart r) w' = (w' ≡ w) ⊎ Fetched w r w'
+Unchanged w (Release r) w' = w' ≡ w
+
+-- whether the step of a live rank takes memory, by what is left to replay
+abbrev pub step_takes_memory : Rank → List EventValue → Bool
+step_takes_memory v [] = takes_memory v
+step_takes_memory v (e ∷ rest) = replay_takes_memory v
+
+-- The event takes no memory: a step that is the machine's own, or is blocked or held, or comes after the end, or replays a
+-- reception, a hit or a miss; each acknowledgement; and each crash. An event that can't happen takes none either.
 abbrev pub TakesNoMemory : WorldValue → WorldEvent → Type 0
-TakesNoMemory w (Step r) = (v : Live) → IsLive w r v → takes_memory v.rank ≡ false
+TakesNoMemory w (Step r) = (v : Live) → IsLive w r v → step_takes_memory v.rank v.left ≡ false
 TakesNoMemory w (Put s d) = CanNot w (Put s d)
 TakesNoMemory w (Arrive s d i) = CanNot w (Arrive s d i)
 TakesNoMemory w (Store r) = CanNot w (Store r)
 TakesNoMemory w (Ack r) = Unit {0}
 TakesNoMemory w (Image r) = CanNot w (Image r)
-TakesNoMemory w (Crash r) = CanNot w (Crash r)
+TakesNoMemory w (Crash r) = Unit {0}
 TakesNoMemory w (Restart r) = CanNot w (Restart r)
+TakesNoMemory w (Release r) = CanNot w (Release r)
 
 -- what a list of events does, one after another; after each the world stands for its run
 abbrev pub FollowsAll : WorldValue → List WorldEvent → List Reply → WorldValue → Type 0
@@ -255,3 +348,12 @@ FollowsAll w (event ∷ events) (answer ∷ answers) w' =
     (mid : WorldValue) × Follows w event answer mid × StandsFor mid mid.run × FollowsAll mid events answers w'
 FollowsAll w [] (answer ∷ answers) w' = ⊥
 FollowsAll w (event ∷ events) [] w' = ⊥
+
+-- Memory ended after so many events of a list: these happened, and the next left the world unchanged.
+pub record StoppedAt (w : WorldValue) (events : List WorldEvent) (done : ℕ) (w' : WorldValue) : Type 0 where
+  pub replies : List Reply
+  pub middle : WorldValue
+  pub followed : FollowsAll w (take done events) replies middle
+  pub event : WorldEvent
+  pub next : slice_get events done ≡ Some event
+  pub unchanged : Unchanged middle event w'

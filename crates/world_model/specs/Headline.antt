@@ -1,5 +1,5 @@
 -- The world stands for a crash-free run. This is what the contracts of the world promise after each event.
-use Rattle.std.specs.Prelude.{◌≡◌, ◌≢◌, ℕ, ℤ, ◌≤◌, ◌==◌, List, [], ◌∷◌, ◌++◌, length, take, Option, Some, None, slice_get, replicate}
+use Rattle.std.specs.Prelude.{◌≡◌, ◌≢◌, ℕ, ◌+◌, ℤ, ◌≤◌, ◌==◌, List, [], ◌∷◌, ◌++◌, length, take, Option, Some, None, slice_get, replicate}
 use Rattle.rank_language.specs.Program.{ProgramValue}
 use Rattle.rank_machine.specs.States.{State, Inners}
 use Rattle.rank_machine.specs.Acts.{Act, Runs, carried}
@@ -15,7 +15,7 @@ use Rattle.checkpoint.specs.declared.memory_shelf.MemoryShelf.{MemoryShelf}
 use Rattle.checkpoint.specs.Shelf.{image_bytes}
 use Rattle.crash_free.specs.Runs.{Passed, at_place, cons_if, history, sent, printed, IsRun, continue}
 use Rattle.world_model.specs.Rows.{row, expand, IsRow}
-use Rattle.world_model.specs.World.{Live, WorldValue, size, start_of, IsLive, IsWire, unstored}
+use Rattle.world_model.specs.World.{Live, WorldValue, size, start_of, IsLive, IsWire, unstored, unreleased}
 
 -- the lines of a rank, each with its clock
 abbrev pub lines_of : ℕ → List Line → List (ℕ × ℤ)
@@ -28,13 +28,14 @@ IsReal C s d (frame.Data p) = (p.source ≡ s) × (at_place (sent C s d) p.numbe
 IsReal C s d (frame.Ask from) = Unit {0}
 IsReal C s d (frame.Kept upto) = Unit {0}
 
--- how many acts a rank has made that aren't in the run yet: its events that aren't stored
+-- how many acts a rank has made that aren't in the run yet: its events that aren't stored, and its effects that aren't
+-- released
 abbrev pub owed : Live → ℕ
-owed v = length (expand (unstored v.rank))
+owed v = length (expand (unstored v.rank)) + unreleased v.rank
 
--- Where a live rank is: some run continues the run by the acts alone that the rank owes, which are those of its unstored
--- events, and its machine is, by inner steps, at the state after its first acts there, as many as its clock says. Where
--- it owes something, these are all its acts there.
+-- Where a live rank is: some run continues the run by the acts alone that the rank owes, of which the events are its
+-- unstored ones, and its machine is, by inner steps, at the state after its first acts there, as many as its clock says.
+-- Where it owes something, these are all its acts there.
 pub record IsWhere (start : ℕ → State) (n : ℕ) (C : List Passed) (r : ℕ) (v : Live) : Type 0 where
   pub acts : List Act
   pub as_many : length acts ≡ owed v
@@ -69,11 +70,13 @@ IsOpened program n r None = ⊥
 IsOpened program n r (Some v) =
     (v ≡ record { rank = opening program (stable_of n r v.rank.stable.shelf); left = [] }) × (image_bytes v.rank.stable.shelf.image ≡ None)
 
--- A world that is new: all its ranks are at the beginning of the program, and nothing is stored, put, shown or passed.
+-- A world that is new: all its ranks are at the beginning of the program, and no image is taken and nothing stored, put,
+-- shown or passed.
 pub record IsFresh (program : ProgramValue) (n : ℕ) (w : WorldValue) : Type 0 where
   pub same_program : w.program ≡ program
   pub as_many : size w ≡ n
   pub ranks : (r : ℕ) (x : Option Live) → slice_get w.ranks r ≡ Some x → IsOpened program n r x
+  pub images : w.images ≡ replicate n None
   pub rows : w.logger.rows ≡ empty_rows n
   pub history : w.logger.history ≡ []
   pub wires : w.wires ≡ replicate n (replicate n [])

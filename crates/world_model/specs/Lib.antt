@@ -2,8 +2,11 @@ pub mod Rows
 pub mod World
 pub mod Headline
 pub mod Follows
+pub mod Counts
 pub mod Stands
+pub mod Onward
 pub mod RunIndex
 pub mod Seats
+pub mod Seat
 pub mod Wires
 pub mod Example

@@ -21,4 +21,6 @@ pub enum WorldEvent {
     Crash { rank: u32 },
     /// The rank starts again from its image and its stored events.
     Restart { rank: u32 },
+    /// The oldest send or line of the rank that waits is released.
+    Release { rank: u32 },
 }

@@ -8,6 +8,7 @@ mod reply;
 mod run;
 mod seat;
 mod seats;
+mod state;
 mod wire;
 mod wires;
 mod world;

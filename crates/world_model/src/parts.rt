@@ -9,7 +9,12 @@ ghost use Rattle.world_model.specs.Headline.{IsFresh};
 mod acking;
 mod applying;
 mod arriving;
+mod crashing;
+mod passing;
 mod putting;
+mod releasing;
+mod replaying;
+mod restarting;
 mod stepping;
 mod storing;
 
@@ -24,9 +29,12 @@ use std::alloc::AllocError;
 use std::marker::Model;
 
 /// A world's ranks, event logger, wires, console and run. It must be spent.
+///
+/// No rank takes an image yet, and contracts see none.
 pub struct Parts<'p> {
     alloc: Heap,
     program: &'p Program,
+    ranks: u8,
     seats: Seats<'p>,
     logger: LoggerState,
     wires: Wires,
@@ -35,7 +43,7 @@ pub struct Parts<'p> {
 }
 
 impl<'p> Model for Parts<'p> {
-    ghost use Rattle.std.specs.Prelude.{◌≡◌, ◌≤◌, length};
+    ghost use Rattle.std.specs.Prelude.{◌≡◌, ◌≤◌, None, length, replicate};
     ghost use Rattle.metered.specs.Limits.{most_ranks};
     ghost use Rattle.std.specs.Coded.{codes};
     ghost use Rattle.rank_language.specs.Coding.{placed_code};
@@ -45,9 +53,9 @@ impl<'p> Model for Parts<'p> {
 
     ghost coded = { Prim.hlevel (codes, placed_code) };
 
-    ghost view = { λ w. record { program = w.program.now; ranks = w.seats; logger = w.logger; wires = w.wires; lines = w.console; run = w.run.acts } };
+    ghost view = { λ w. record { program = w.program.now; ranks = w.seats; images = replicate w.ranks None; logger = w.logger; wires = w.wires; lines = w.console; run = w.run.acts } };
 
-    ghost invariant = { λ w. (length w.seats ≤ most_ranks) × (w.run.ranks ≡ length w.seats) };
+    ghost invariant = { λ w. (w.ranks ≤ most_ranks) × (length w.seats ≡ w.ranks) × (w.run.ranks ≡ w.ranks) };
 }
 
 impl<'p> Parts<'p> {
@@ -65,6 +73,7 @@ impl<'p> Parts<'p> {
         Ok(Parts {
             alloc,
             program,
+            ranks,
             seats,
             logger,
             wires,
@@ -78,6 +87,7 @@ impl<'p> Parts<'p> {
         let Parts {
             alloc: _,
             program: _,
+            ranks: _,
             seats,
             logger: _,
             wires: _,
@@ -91,7 +101,7 @@ impl<'p> Parts<'p> {
     pub fn ranks(&self) -> u8
         ensures { result ≡ length self.now.ranks }
     {
-        self.seats.len() as u8
+        self.ranks
     }
 
     /// The console's lines, in order.
@@ -106,7 +116,7 @@ impl<'p> Parts<'p> {
         ensures { MatchOption result (length self.now.ranks ≤ number) (λ rank. (rank ≡ number) × (rank < length self.now.ranks)) }
     {
         match u8::try_from(number) {
-            Ok(rank) if usize::from(rank) < self.seats.len() => Some(rank),
+            Ok(rank) if rank < self.ranks => Some(rank),
             _ => None,
         }
     }

@@ -7,7 +7,7 @@ pub enum Reply {
     Moved,
     /// A receive or a blocking probe stands, and nothing in the inbox matches.
     Blocked,
-    /// A send or a print stands, and some event isn't stored or acknowledged.
+    /// A send or a print stands, and as many sends and lines wait as may.
     Held,
     /// The program has halted or faulted.
     Ended,
@@ -35,6 +35,8 @@ pub enum Reply {
     Crashed,
     /// The rank is up, with this many events to replay.
     Restarted(u32),
+    /// The send or line of this clock was released.
+    Released(u32),
     /// The event can't happen, and nothing changed.
     Refused,
 }

@@ -1,13 +1,13 @@
 //! The ranks of a world, in the order of their numbers.
-ghost use Rattle.std.specs.Prelude.{◌≡◌, ◌<◌, ◌≤◌, ℕ, [], length, slice_get, slice_set, Option, Some, IsSome, IfOk, OnOk, OnErr};
-ghost use Rattle.metered.specs.Limits.{most_ranks};
+ghost use Rattle.std.specs.Prelude.{◌≡◌, ◌≢◌, ◌<◌, ◌≤◌, ℕ, [], length, slice_get, Option, Some, None, IsSomeAnd, IfSome, IfNone, IfOk};
 ghost use Rattle.std.specs.Bool.{OnTrue, OnFalse};
-ghost use Rattle.rank_node.specs.Frames.{outgoing_of, after_passed, arrival_of, after_frame};
-ghost use Rattle.rank_node.specs.Storing.{after_ack};
+ghost use Rattle.metered.specs.Limits.{most_ranks};
 ghost use Rattle.world_model.specs.Headline.{IsOpened};
 ghost use Rattle.world_model.specs.World.{Live};
-ghost use Rattle.world_model.specs.Seats.{at_work, AtRank, with_value};
+ghost use Rattle.world_model.specs.Seats.{at_work, AtRank, IsNotAtWork, IsNotInReplay};
 
+mod framing;
+mod living;
 mod stepping;
 mod storing;
 
@@ -15,7 +15,7 @@ use crate::seat::Seat;
 use checkpoint::MemoryShelf;
 use metered::Heap;
 use rank_language::Program;
-use rank_node::{Arrived, Frame, Running};
+use rank_node::Running;
 use std::alloc::AllocError;
 use std::marker::Model;
 
@@ -82,56 +82,30 @@ impl<'p> Seats<'p> {
         self.seats.len()
     }
 
-    /// A rank at work.
-    pub fn running(&self, rank: u8) -> &Running<'p, MemoryShelf, ()>
+    /// Whether a rank is down.
+    pub fn is_down(&self, rank: u8) -> bool
         requires { rank < length self.now }
-        ensures { slice_get self.now rank ≡ Some (at_work result.now) }
+        ensures yes { OnTrue result (slice_get self.now rank ≡ Some None) }
+        ensures no { OnFalse result (AtRank self.now rank (λ v. Unit {0})) }
     {
-        &self.seats[usize::from(rank)].running
+        self.seats[usize::from(rank)].is_down()
     }
 
-    /// Each rank is live.
-    pub fn is_live(&self, rank: u8)
+    /// Whether a rank replays.
+    pub fn is_replaying(&self, rank: u8) -> bool
         requires { rank < length self.now }
-        ensures { AtRank self.now rank (λ v. Unit {0}) }
+        ensures yes { OnTrue result (AtRank self.now rank (λ v. v.left ≢ [])) }
+        ensures no { OnFalse result (IsSomeAnd (slice_get self.now rank) IsNotInReplay) }
     {
-        let _running = &self.seats[usize::from(rank)].running;
+        self.seats[usize::from(rank)].is_replaying()
     }
 
-    /// What was outgoing from a rank to another has gone.
-    #[tactic(auto)]
-    pub fn passed(&mut self, rank: u8, dest: u8)
-        requires rank { rank < length self.old }
-        requires due { AtRank self.old rank (λ v. (dest < v.rank.stable.size) × IsSome (outgoing_of v.rank dest)) }
-        ensures { AtRank self.old rank (λ v. self.new ≡ with_value self.old rank v (after_passed v.rank dest)) }
+    /// A rank, where it is at work.
+    pub fn running(&self, rank: u8) -> Option<&Running<'p, MemoryShelf, ()>>
+        requires { rank < length self.now }
+        ensures some { IfSome result (λ running. slice_get self.now rank ≡ Some (at_work running.now)) }
+        ensures none { IfNone result (IsSomeAnd (slice_get self.now rank) IsNotAtWork) }
     {
-        self.seats[usize::from(rank)].running.passed(dest);
-    }
-
-    /// A frame from one rank arrives at another. An `Err` is want of memory.
-    #[tactic(auto, using(crate::proofs::Places::set_same))]
-    pub fn arrive(&mut self, rank: u8, from: u8, frame: Frame) -> Result<Arrived, AllocError>
-        requires rank { rank < length self.old }
-        requires from { AtRank self.old rank (λ v. from < v.rank.stable.size) }
-        ensures answer { IfOk result (λ answer. AtRank self.old rank (λ v. answer ≡ arrival_of v.rank from frame)) }
-        ensures ok { OnOk result (AtRank self.old rank (λ v. self.new ≡ with_value self.old rank v (after_frame v.rank from frame))) }
-        ensures err { OnErr result (self.new ≡ self.old) }
-    {
-        let seat = &mut self.seats[usize::from(rank)];
-        let Ok(arrived) = seat.running.arrive(from, frame) else {
-            return Err(AllocError);
-        };
-        Ok(arrived)
-    }
-
-    /// The oldest stored event of a rank is acknowledged.
-    #[tactic(auto, using(crate::proofs::Places::set_same))]
-    pub fn ack(&mut self, rank: u8) -> bool
-        requires { rank < length self.old }
-        ensures acked { OnTrue result (AtRank self.old rank (λ v. (0 < v.rank.stored) × (self.new ≡ with_value self.old rank v (after_ack v.rank)))) }
-        ensures none { OnFalse result (AtRank self.old rank (λ v. v.rank.stored ≡ 0)) }
-        ensures stays { OnFalse result (self.new ≡ self.old) }
-    {
-        self.seats[usize::from(rank)].running.ack()
+        self.seats[usize::from(rank)].running()
     }
 }

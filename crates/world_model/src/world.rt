@@ -1,10 +1,9 @@
 //! A world, which stands for a crash-free run.
-ghost use Rattle.std.specs.Prelude.{◌≡◌, ◌<◌, ◌≤◌, [], List, length, take, IfOk, IfErr, OnErr};
+ghost use Rattle.std.specs.Prelude.{◌≡◌, ◌<◌, ◌≤◌, [], length, IfOk, IfErr, OnErr};
 ghost use Rattle.metered.specs.Limits.{most_ranks};
-ghost use Rattle.world_model.specs.declared.reply.Reply.{Reply};
 ghost use Rattle.world_model.specs.Headline.{IsFresh, StandsFor};
 ghost use Rattle.world_model.specs.World.{size};
-ghost use Rattle.world_model.specs.Follows.{CanNot, Follows, FollowsAll, TakesNoMemory};
+ghost use Rattle.world_model.specs.Follows.{CanNot, Follows, FollowsAll, StoppedAt, TakesNoMemory, Unchanged};
 
 use crate::event::WorldEvent;
 use crate::parts::Parts;
@@ -31,7 +30,7 @@ impl<'p> Model for World<'p> {
     ghost use Rattle.std.specs.Coded.{codes};
     ghost use Rattle.rank_language.specs.Coding.{placed_code};
     ghost use Rattle.world_model.specs.World.{WorldValue};
-    ghost use Rattle.world_model.specs.Stands.{Stands};
+    ghost use Rattle.world_model.specs.Onward.{IsWorld};
 
     ghost Value = { WorldValue };
 
@@ -39,13 +38,13 @@ impl<'p> Model for World<'p> {
 
     ghost view = { λ w. w.parts };
 
-    ghost invariant = { λ w. Stands w.parts };
+    ghost invariant = { λ w. IsWorld w.parts };
 }
 
 impl<'p> World<'p> {
     /// A new world of a program and at most `MOST_RANKS` ranks of
     /// `metered::limits`.
-    #[tactic(auto, using(crate::proofs::Headline::stands_for, crate::proofs::Headline::stands_fresh))]
+    #[tactic(auto, using(crate::proofs::Sequences::world_stands, crate::proofs::Sequences::world_fresh))]
     pub fn new(alloc: Heap, program: &'p Program, ranks: u8) -> Result<World<'p>, AllocError>
         requires { ranks ≤ most_ranks }
         ensures fresh { IfOk result (λ world. IsFresh program.entry.now ranks world) }
@@ -76,29 +75,33 @@ impl<'p> World<'p> {
     }
 
     /// One event. An `Err` is want of memory, and comes only where the event
-    /// isn't refused and takes memory: an acknowledgement takes none, nor does
-    /// a step that is the machine's own, blocked or held, or after its end.
-    #[tactic(auto, using(crate::proofs::Headline::stands_for, crate::proofs::Sequences::kept))]
+    /// isn't refused and takes memory: an acknowledgement and a crash take
+    /// none, nor does a step that is the machine's own, is blocked or held,
+    /// comes after the end, or replays a reception, a hit or a miss. The world
+    /// is then as it was, but that a restart's fetch may stay in the logger's
+    /// history.
+    #[tactic(auto, using(crate::proofs::Sequences::world_stands, crate::proofs::Sequences::kept))]
     pub fn apply(&mut self, event: WorldEvent) -> Result<Reply, AllocError>
         ensures follows { IfOk result (λ reply. Follows self.old event reply self.new) }
         ensures stands { StandsFor self.new self.new.run }
 
-        ensures err { OnErr result (self.new ≡ self.old) }
+        ensures err { OnErr result (Unchanged self.old event self.new) }
         ensures possible { OnErr result (CanNot self.old event → ⊥) }
         ensures frugal { OnErr result (TakesNoMemory self.old event → ⊥) }
     {
         self.parts.apply(event)
     }
 
-    /// A list of events, one after another. Where memory ends, the world is as
-    /// it was after the first `done` of them.
-    #[tactic(auto, using(crate::proofs::Headline::stands_for, crate::proofs::Sequences::follows_push))]
+    /// A list of events, one after another. Where memory ends, the first
+    /// `done` of them have happened, and the next left the world as `apply`
+    /// leaves it.
+    #[tactic(auto, using(crate::proofs::Sequences::world_stands, crate::proofs::Sequences::follows_push, crate::proofs::Sequences::stops))]
     pub fn run(&mut self, alloc: Heap, events: &[WorldEvent]) -> Result<Vec<Reply, Heap>, Stopped>
         ensures follows { IfOk result (λ replies. FollowsAll self.old events.now replies.items self.new) }
         ensures stands { StandsFor self.new self.new.run }
 
         ensures done { IfErr result (λ stopped. stopped.done < length events.now) }
-        ensures stopped { IfErr result (λ stopped. (replies : List Reply) × FollowsAll self.old (take stopped.done events.now) replies self.new) }
+        ensures stopped { IfErr result (λ stopped. StoppedAt self.old events.now stopped.done self.new) }
     {
         let _parts = &self.parts;
         let mut replies = Vec::new(alloc);

@@ -6,10 +6,14 @@
 #![tactic(auto)]
 
 #[cfg(test)]
+mod crashes;
+#[cfg(test)]
 mod scenes;
 #[cfg(test)]
 mod simulations;
 #[cfg(test)]
 mod texts;
+#[cfg(test)]
+mod waiting;
 #[cfg(test)]
 mod worlds;

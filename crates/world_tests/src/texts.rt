@@ -26,7 +26,7 @@ fn only_event(alloc: Heap, text: &str) -> Option<WorldEvent> {
 }
 
 /// Texts with the one event that each has.
-const EVENTS: [(&str, WorldEvent); 8] = [
+const EVENTS: [(&str, WorldEvent); 9] = [
     ("step 3", WorldEvent::Step { rank: 3 }),
     ("put 1 2", WorldEvent::Put { source: 1, dest: 2 }),
     (
@@ -42,6 +42,7 @@ const EVENTS: [(&str, WorldEvent); 8] = [
     ("image 3", WorldEvent::Image { rank: 3 }),
     ("crash 3", WorldEvent::Crash { rank: 3 }),
     ("restart 999999999", WorldEvent::Restart { rank: 999999999 }),
+    ("release 3", WorldEvent::Release { rank: 3 }),
 ];
 
 /// Looks at the event of each text.
@@ -53,7 +54,7 @@ fn have_events(rt: &impl Abort, alloc: Heap, rows: &[(&str, WorldEvent)]) {
 }
 
 /// Texts with how many events they have, or the line and number of their first fault.
-const TEXTS: [(&str, (usize, usize, u8)); 16] = [
+const TEXTS: [(&str, (usize, usize, u8)); 17] = [
     ("", (0, 0, 0)),
     ("\n\n", (0, 0, 0)),
     ("step 0\nput 0 1\nstep 0", (3, 0, 0)),
@@ -66,7 +67,8 @@ const TEXTS: [(&str, (usize, usize, u8)); 16] = [
     ("arrive 1 2", (0, 1, 1)),
     ("arrive 1 2 3 4", (0, 1, 1)),
     ("steps 1", (0, 1, 1)),
-    ("release 0", (0, 1, 1)),
+    ("release", (0, 1, 1)),
+    ("release 0 1", (0, 1, 1)),
     ("\n # note", (0, 2, 1)),
     ("step\t1", (0, 1, 1)),
     ("step 1\r\n", (0, 1, 1)),
@@ -125,7 +127,7 @@ fn long_texts(rt: HostRuntime) -> Result<(), Fail> {
 }
 
 /// Each reply.
-const REPLIES: [Reply; 17] = [
+const REPLIES: [Reply; 18] = [
     Reply::Moved,
     Reply::Blocked,
     Reply::Held,
@@ -148,6 +150,7 @@ const REPLIES: [Reply; 17] = [
     Reply::Imaged,
     Reply::Crashed,
     Reply::Restarted(0),
+    Reply::Released(268435455),
     Reply::Refused,
 ];
 
@@ -169,6 +172,7 @@ acked
 imaged
 crashed
 restarted 0
+released 268435455
 refused
 ";
 

@@ -7,13 +7,18 @@ use crate::reply::Reply;
 impl<'p> Parts<'p> {
     ghost use Rattle.world_model.specs.declared.event.WorldEvent.TheVariants.{Ack};
     ghost use Rattle.world_model.specs.Follows.{Follows};
+    ghost use Rattle.world_model.specs.Stands.{Stands};
 
     /// The rank's oldest stored event is acknowledged.
-    #[tactic(auto, using(crate::proofs::Doing::ack_nowhere, crate::proofs::Doing::ack_none, crate::proofs::Doing::ack_some))]
+    #[tactic(auto, using(crate::proofs::DoingStores::ack_nowhere, crate::proofs::DoingStores::ack_idle, crate::proofs::DoingStores::ack_none, crate::proofs::DoingStores::ack_some, crate::proofs::Doing::works_at))]
     pub fn ack(&mut self, rank: u32) -> Reply
+        requires { Stands self.old }
         ensures { Follows self.old (Ack rank) result self.new }
     {
         let Some(rank) = self.rank_of(rank) else {
+            return Reply::Refused;
+        };
+        let Some(_running) = self.seats.running(rank) else {
             return Reply::Refused;
         };
         if !self.seats.ack(rank) {

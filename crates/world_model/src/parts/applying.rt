@@ -7,14 +7,14 @@ use crate::reply::Reply;
 use std::alloc::AllocError;
 
 impl<'p> Parts<'p> {
-    ghost use Rattle.world_model.specs.Follows.{CanNot, Follows, TakesNoMemory};
+    ghost use Rattle.world_model.specs.Follows.{CanNot, Follows, TakesNoMemory, Unchanged};
     ghost use Rattle.world_model.specs.Stands.{Stands};
 
     /// One event.
     pub fn apply(&mut self, event: WorldEvent) -> Result<Reply, AllocError>
         requires { Stands self.old }
         ensures follows { IfOk result (λ reply. Follows self.old event reply self.new) }
-        ensures err { OnErr result (self.new ≡ self.old) }
+        ensures err { OnErr result (Unchanged self.old event self.new) }
         ensures possible { OnErr result (CanNot self.old event → ⊥) }
         ensures frugal { OnErr result (TakesNoMemory self.old event → ⊥) }
     {
@@ -29,8 +29,9 @@ impl<'p> Parts<'p> {
             WorldEvent::Store { rank } => self.store(rank),
             WorldEvent::Ack { rank } => Ok(self.ack(rank)),
             WorldEvent::Image { .. } => Ok(Reply::Refused),
-            WorldEvent::Crash { .. } => Ok(Reply::Refused),
-            WorldEvent::Restart { .. } => Ok(Reply::Refused),
+            WorldEvent::Crash { rank } => Ok(self.crash(rank)),
+            WorldEvent::Restart { rank } => self.restart(rank),
+            WorldEvent::Release { rank } => self.release(rank),
         }
     }
 }

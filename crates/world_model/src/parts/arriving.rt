@@ -15,7 +15,7 @@ impl<'p> Parts<'p> {
 
     /// The frame of this index on the wire from the source arrives at the
     /// destination.
-    #[tactic(auto, using(crate::proofs::Doing::arrive_from_nowhere, crate::proofs::Doing::arrive_nowhere, crate::proofs::Doing::arrive_none, crate::proofs::Doing::arrive_some, crate::proofs::Doing::arrive_size, crate::proofs::Doing::arrive_not_foreign, crate::proofs::Doing::has_wire, crate::proofs::Doing::arrive_possible))]
+    #[tactic(auto, using(crate::proofs::DoingFrames::arrive_from_nowhere, crate::proofs::DoingFrames::arrive_nowhere, crate::proofs::DoingFrames::arrive_none, crate::proofs::DoingFrames::arrive_some, crate::proofs::DoingFrames::arrive_down, crate::proofs::DoingFrames::live_size, crate::proofs::DoingFrames::arrive_not_foreign, crate::proofs::DoingFrames::has_wire, crate::proofs::DoingFrames::arrive_possible))]
     pub fn arrive(&mut self, source: u32, dest: u32, index: u64) -> Result<Reply, AllocError>
         requires { Stands self.old }
         ensures follows { IfOk result (λ reply. Follows self.old (Arrive source dest index) reply self.new) }
@@ -28,10 +28,12 @@ impl<'p> Parts<'p> {
         let Some(dest) = self.rank_of(dest) else {
             return Ok(Reply::Refused);
         };
+        if self.seats.is_down(dest) {
+            return Ok(Reply::Refused);
+        }
         let Some(frame) = self.wires.wire(source, dest).get(index as usize) else {
             return Ok(Reply::Refused);
         };
-        self.seats.is_live(dest);
         let frame = copy(self.alloc, frame)?;
         let arrived = self.seats.arrive(dest, source, frame)?;
         Ok(arrived_as(arrived))

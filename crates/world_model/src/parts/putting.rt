@@ -13,7 +13,7 @@ impl<'p> Parts<'p> {
     ghost use Rattle.world_model.specs.Stands.{Stands};
 
     /// What goes next from the source is put on the wire to the destination.
-    #[tactic(auto, using(crate::proofs::Doing::put_from_nowhere, crate::proofs::Doing::put_to_nowhere, crate::proofs::Doing::put_none, crate::proofs::Doing::put_some, crate::proofs::Doing::put_due, crate::proofs::Doing::has_wire, crate::proofs::Doing::live_size, crate::proofs::Doing::put_possible, crate::proofs::Doing::packet_some, crate::proofs::Doing::frame_some))]
+    #[tactic(auto, using(crate::proofs::DoingFrames::put_from_nowhere, crate::proofs::DoingFrames::put_to_nowhere, crate::proofs::DoingFrames::put_down, crate::proofs::DoingFrames::put_none, crate::proofs::DoingFrames::put_some, crate::proofs::DoingFrames::put_due, crate::proofs::DoingFrames::has_wire, crate::proofs::DoingFrames::live_size, crate::proofs::DoingFrames::put_possible, crate::proofs::DoingFrames::put_packet, crate::proofs::DoingFrames::put_next))]
     pub fn put(&mut self, source: u32, dest: u32) -> Result<Reply, AllocError>
         requires { Stands self.old }
         ensures follows { IfOk result (λ reply. Follows self.old (Put source dest) reply self.new) }
@@ -26,10 +26,10 @@ impl<'p> Parts<'p> {
         let Some(dest) = self.rank_of(dest) else {
             return Ok(Reply::Refused);
         };
-        let Ok(next) = self.seats.running(source).outgoing(dest) else {
-            return Err(AllocError);
-        };
-        let Some(frame) = next else {
+        if self.seats.is_down(source) {
+            return Ok(Reply::Refused);
+        }
+        let Some(frame) = self.seats.outgoing(source, dest)? else {
             return Ok(Reply::Refused);
         };
         let reply = put_as(self.wires.wire(source, dest).len(), &frame);

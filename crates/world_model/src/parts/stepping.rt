@@ -1,5 +1,5 @@
-//! Steps of the ranks.
-ghost use Rattle.std.specs.Prelude.{◌≡◌, ◌<◌, ◌+◌, true, drop, length, option_map, slice_get, Some, IfOk, OnOk, OnErr, MatchBool};
+//! Steps of the ranks at work.
+ghost use Rattle.std.specs.Prelude.{◌≡◌, ◌<◌, true, length, option_map, slice_get, IsSomeAnd, IfOk, OnErr};
 ghost use Rattle.crash_free.specs.Seen.{act_of};
 ghost use Rattle.rank_machine.specs.Machine.{asks};
 ghost use Rattle.rank_node.specs.Steps.{turn_of, takes_memory};
@@ -8,20 +8,19 @@ ghost use Rattle.world_model.specs.Follows.{effect_at, stepped};
 use crate::parts::Parts;
 use crate::reply::Reply;
 use checkpoint::MemoryShelf;
-use crash_free::{Act, Passed};
+use crash_free::Act;
 use rank_machine::Want;
 use rank_node::{Running, Turn};
 use std::alloc::AllocError;
 
 impl<'p> Parts<'p> {
     ghost use Rattle.world_model.specs.declared.event.WorldEvent.TheVariants.{Step};
-    ghost use Rattle.world_model.specs.Follows.{CanNot, Follows, TakesNoMemory, passed_at};
-    ghost use Rattle.world_model.specs.Seats.{AtRank, with_run};
+    ghost use Rattle.world_model.specs.Follows.{CanNot, Follows, TakesNoMemory};
+    ghost use Rattle.world_model.specs.Seats.{IsNotInReplay};
     ghost use Rattle.world_model.specs.Stands.{Stands};
 
-    /// The rank makes one step. What the step lets others see goes on the run
-    /// first, and is taken back where memory ends after that.
-    #[tactic(auto, using(crate::proofs::Doing::step_nowhere, crate::proofs::Doing::step_refused, crate::proofs::Doing::step_some, crate::proofs::Doing::step_allowed, crate::proofs::Doing::step_possible, crate::proofs::Doing::step_takes))]
+    /// The rank makes one step.
+    #[tactic(auto, using(crate::proofs::DoingSteps::step_nowhere))]
     pub fn step(&mut self, rank: u32) -> Result<Reply, AllocError>
         requires { Stands self.old }
         ensures follows { IfOk result (λ reply. Follows self.old (Step rank) reply self.new) }
@@ -32,46 +31,45 @@ impl<'p> Parts<'p> {
         let Some(rank) = self.rank_of(rank) else {
             return Ok(Reply::Refused);
         };
-        if self.seats.running(rank).refusal().is_some() {
+        if self.seats.is_replaying(rank) {
+            return self.replay(rank);
+        }
+        self.advance(rank)
+    }
+
+    /// A rank that doesn't replay makes one step. What the step lets others
+    /// see at once goes on the run first, and is taken back where memory ends
+    /// after that.
+    #[tactic(auto, using(crate::proofs::DoingSteps::step_down, crate::proofs::DoingSteps::step_refused, crate::proofs::DoingSteps::step_some, crate::proofs::DoingSteps::step_allowed, crate::proofs::DoingSteps::step_possible, crate::proofs::DoingSteps::step_takes, crate::proofs::DoingSteps::pass_takes, crate::proofs::DoingSteps::takes_at, crate::proofs::DoingSteps::work_takes, crate::proofs::Doing::works_at))]
+    fn advance(&mut self, rank: u8) -> Result<Reply, AllocError>
+        requires stands { Stands self.old }
+        requires rank { rank < length self.old.ranks }
+        requires runs { IsSomeAnd (slice_get self.old.ranks rank) IsNotInReplay }
+        ensures follows { IfOk result (λ reply. Follows self.old (Step rank) reply self.new) }
+        ensures err { OnErr result (self.new ≡ self.old) }
+        ensures possible { OnErr result (CanNot self.old (Step rank) → ⊥) }
+        ensures frugal { OnErr result (TakesNoMemory self.old (Step rank) → ⊥) }
+    {
+        let Some(running) = self.seats.running(rank) else {
+            return Ok(Reply::Refused);
+        };
+        if running.refusal().is_some() {
             return Ok(Reply::Refused);
         }
-        let passed = self.pass(rank)?;
+        let clock = running.clock() as usize + 1;
+        let act = effect_of(running)?;
+        let passed = self.pass(rank, clock, act)?;
         let Ok(turn) = self.seats.step(rank, &mut self.console) else {
-            if passed {
-                self.run.take_back();
-            }
+            self.take_back(passed);
             return Err(AllocError);
         };
         Ok(stepped(turn))
-    }
-
-    /// Adds to the run the act that passes in the rank's next step, if one
-    /// does, and answers whether it did.
-    #[tactic(auto, using(crate::proofs::Doing::takes_at))]
-    fn pass(&mut self, rank: u8) -> Result<bool, AllocError>
-        requires { rank < length self.old.ranks }
-        ensures run { OnOk result (AtRank self.old.ranks rank (λ v. self.new.run ≡ passed_at self.old.run rank (v.rank.clock + 1) (effect_at v.rank (asks v.rank.machine) (turn_of v.rank)))) }
-        ensures back { IfOk result (λ passed. MatchBool passed (drop 1 self.new.run ≡ self.old.run) (self.new.run ≡ self.old.run)) }
-        ensures rest { self.new ≡ with_run self.old self.new.run }
-        ensures err { OnErr result (self.new ≡ self.old) }
-        ensures memory { OnErr result (AtRank self.old.ranks rank (λ v. takes_memory v.rank ≡ true)) }
-    {
-        let running = self.seats.running(rank);
-        let clock = running.clock() as usize;
-        let Some(act) = effect_of(running)? else {
-            return Ok(false);
-        };
-        if self.run.count(rank) > clock {
-            return Ok(false);
-        }
-        self.run.push(Passed { rank, act })?;
-        Ok(true)
     }
 }
 
 /// The act of a rank's next step, where others can see it at once: a send or
 /// a print.
-#[tactic(auto, using(crate::proofs::Doing::unmoved, crate::proofs::Doing::send_takes))]
+#[tactic(auto, using(crate::proofs::DoingSteps::unmoved, crate::proofs::DoingSteps::waits_behind, crate::proofs::DoingSteps::send_takes))]
 fn effect_of(running: &Running<'_, MemoryShelf, ()>) -> Result<Option<Act>, AllocError>
     ensures effect { IfOk result (λ act. option_map act_of act ≡ effect_at running.now (asks running.now.machine) (turn_of running.now)) }
     ensures memory { OnErr result (takes_memory running.now ≡ true) }
@@ -79,6 +77,9 @@ fn effect_of(running: &Running<'_, MemoryShelf, ()>) -> Result<Option<Act>, Allo
     let Turn::Moved = running.turn() else {
         return Ok(None);
     };
+    if !running.is_settled() {
+        return Ok(None);
+    }
     match running.wants() {
         Want::Send { dest, context, tag } => Ok(Some(Act::Sends {
             dest,
@@ -97,7 +98,7 @@ fn effect_of(running: &Running<'_, MemoryShelf, ()>) -> Result<Option<Act>, Allo
 }
 
 /// The reply to a step.
-fn stepped(turn: Turn) -> Reply
+pub(crate) fn stepped(turn: Turn) -> Reply
     ensures { result ≡ stepped turn }
 {
     match turn {

@@ -20,7 +20,7 @@ impl<'p> Parts<'p> {
 
     /// The rank's oldest unstored event is stored. Its act goes on the run
     /// first, and is taken back where memory ends after that.
-    #[tactic(auto, using(crate::proofs::Doing::store_nowhere, crate::proofs::Doing::store_none, crate::proofs::Doing::store_some, crate::proofs::Doing::store_row, crate::proofs::Doing::store_accepted, crate::proofs::Doing::store_oldest, crate::proofs::Doing::store_possible))]
+    #[tactic(auto, using(crate::proofs::DoingStores::store_nowhere, crate::proofs::DoingStores::store_idle, crate::proofs::Doing::works_at, crate::proofs::DoingStores::store_none, crate::proofs::DoingStores::store_some, crate::proofs::DoingStores::store_row, crate::proofs::DoingStores::store_accepted, crate::proofs::DoingStores::store_oldest, crate::proofs::DoingStores::store_possible))]
     pub fn store(&mut self, rank: u32) -> Result<Reply, AllocError>
         requires { Stands self.old }
         ensures follows { IfOk result (λ reply. Follows self.old (Store rank) reply self.new) }
@@ -30,7 +30,10 @@ impl<'p> Parts<'p> {
         let Some(rank) = self.rank_of(rank) else {
             return Ok(Reply::Refused);
         };
-        let Some(event) = self.seats.running(rank).oldest_unstored() else {
+        let Some(running) = self.seats.running(rank) else {
+            return Ok(Reply::Refused);
+        };
+        let Some(event) = running.oldest_unstored() else {
             return Ok(Reply::Refused);
         };
         let act = self.act_of(rank, event);
@@ -43,7 +46,7 @@ impl<'p> Parts<'p> {
     }
 
     /// The act that the rank's oldest unstored event stands for.
-    #[tactic(auto, using(crate::proofs::Doing::miss_stands, crate::proofs::Doing::hit_stands, crate::proofs::Doing::reception_stands))]
+    #[tactic(auto, using(crate::proofs::DoingStores::miss_stands, crate::proofs::DoingStores::hit_stands, crate::proofs::DoingStores::reception_stands))]
     fn act_of(&self, rank: u8, event: Event) -> Act
         requires stands { Stands self.now }
         requires oldest { AtRank self.now.ranks rank (λ v. next_unstored v.rank ≡ Some event) }
@@ -63,7 +66,7 @@ impl<'p> Parts<'p> {
     }
 
     /// The place of the message that the rank's oldest unstored event names.
-    #[tactic(auto, using(crate::proofs::Doing::names_a_rank, crate::proofs::Doing::names_a_message, crate::proofs::Doing::at_below))]
+    #[tactic(auto, using(crate::proofs::DoingStores::names_a_rank, crate::proofs::DoingStores::names_a_message, crate::proofs::Doing::at_below))]
     fn place_of(&self, rank: u8, event: Event) -> u64
         requires stands { Stands self.now }
         requires oldest { AtRank self.now.ranks rank (λ v. next_unstored v.rank ≡ Some event) }

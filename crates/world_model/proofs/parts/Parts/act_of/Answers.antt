@@ -1,5 +1,5 @@
 use Rattle.std.proofs.Common.{sym, ◌∙◌}
-use Rattle.world_model.proofs.Doing.{miss_stands}
+use Rattle.world_model.proofs.DoingStores.{miss_stands}
 use Rattle.world_model.proofs.parts.Parts.act_of.Goals as goal
 
 -- src/parts/storing.rt

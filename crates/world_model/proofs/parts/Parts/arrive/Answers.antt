@@ -3,7 +3,8 @@ use Rattle.rank_node.specs.Frames.{arrival_of, after_frame}
 use Rattle.world_model.specs.World.{Live}
 use Rattle.world_model.specs.Wires.{HasWire, wire_of}
 use Rattle.world_model.specs.Seats.{AtRank, with_value}
-use Rattle.world_model.proofs.Doing.{has_wire, arrive_not_foreign, arrive_named, arrive_named_possible, on_err}
+use Rattle.world_model.proofs.Doing.{on_err}
+use Rattle.world_model.proofs.DoingFrames.{has_wire, arrive_not_foreign, arrive_named, arrive_named_possible}
 use Rattle.world_model.proofs.parts.Parts.arrive.Goals as goal
 
 -- the wire is there
@@ -47,7 +48,7 @@ returns-clause-follows c =
     (subst (λ z. AtRank z.ranks c.in-Some-rank_of.dest (λ (v : Live). c.in_ok-arrived.arrived ≡ arrival_of v.rank c.in-Some.source c.in_ok-frame.frame)) c.self.view_is c.in_ok-arrived.ensures.answer)
     (subst (λ z. AtRank z.ranks c.in-Some-rank_of.dest (λ (v : Live). c.arrive.new.self ≡ with_value z.ranks c.in-Some-rank_of.dest v (after_frame v.rank c.in-Some.source c.in_ok-frame.frame))) c.self.view_is c.in_ok-arrived.ensures.ok)
     c.arrived_as.ensures
-    (ap (λ z. z.program) c.self.view_is) (ap (λ z. z.logger) c.self.view_is) (ap (λ z. z.wires) c.self.view_is) (ap (λ z. z.lines) c.self.view_is) (ap (λ z. z.run) c.self.view_is)
+    (ap (λ z. z.program) c.self.view_is) (ap (λ z. z.images) c.self.view_is) (ap (λ z. z.logger) c.self.view_is) (ap (λ z. z.wires) c.self.view_is) (ap (λ z. z.lines) c.self.view_is) (ap (λ z. z.run) c.self.view_is)
 
 -- src/parts/arriving.rt
 pub returns-in_err-frame-clause-possible : goal.returns-in_err-frame-clause-possible
@@ -57,7 +58,7 @@ returns-in_err-frame-clause-possible c =
     (has_wire c.args.self.now c.in-Some.source c.in-Some-rank_of.dest c.requires c.in-Some.ensures.1 c.in-Some-rank_of.ensures.1)
     (subst (λ z. slice_get (wire_of z.wires c.in-Some.source c.in-Some-rank_of.dest) c.args.index ≡ Some c.in-Some-get.frame.now) c.self.view_is
     (subst (λ z. slice_get z c.args.index ≡ Some c.in-Some-get.frame.now) c.wire.ensures c.in-Some-get.ensures))
-    (subst (λ z. AtRank z.ranks c.in-Some-rank_of.dest (λ (v : Live). Unit {0})) c.self.view_is c.is_live.ensures))
+    (subst (λ z. AtRank z.ranks c.in-Some-rank_of.dest (λ (v : Live). Unit {0})) c.self.view_is c.if-is_down.ensures.no))
 
 -- src/parts/arriving.rt
 pub returns-in_err-arrived-clause-possible : goal.returns-in_err-arrived-clause-possible
@@ -67,4 +68,4 @@ returns-in_err-arrived-clause-possible c =
     (has_wire c.args.self.now c.in-Some.source c.in-Some-rank_of.dest c.requires c.in-Some.ensures.1 c.in-Some-rank_of.ensures.1)
     (subst (λ z. slice_get (wire_of z.wires c.in-Some.source c.in-Some-rank_of.dest) c.args.index ≡ Some c.in-Some-get.frame.now) c.self.view_is
     (subst (λ z. slice_get z c.args.index ≡ Some c.in-Some-get.frame.now) c.wire.ensures c.in-Some-get.ensures))
-    (subst (λ z. AtRank z.ranks c.in-Some-rank_of.dest (λ (v : Live). Unit {0})) c.self.view_is c.is_live.ensures))
+    (subst (λ z. AtRank z.ranks c.in-Some-rank_of.dest (λ (v : Live). Unit {0})) c.self.view_is c.if-is_down.ensures.no))

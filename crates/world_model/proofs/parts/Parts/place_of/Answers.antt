@@ -1,6 +1,6 @@
 use Rattle.std.proofs.Common.{◌≡◌, ◌<◌, ℕ, Some, sym, subst, ap, ◌∙◌, length}
 use Rattle.world_model.specs.RunIndex.{clock_at}
-use Rattle.world_model.proofs.Doing.{names_a_rank, names_a_message}
+use Rattle.world_model.proofs.DoingStores.{names_a_rank, names_a_message}
 use Rattle.world_model.proofs.parts.Parts.place_of.Goals as goal
 
 -- src/parts/storing.rt
@@ -8,7 +8,7 @@ pub place_of-requires-clause-source : goal.place_of-requires-clause-source
 place_of-requires-clause-source c =
     subst (λ z. z < c.self.inside.run.ranks) (sym c.sender.ensures)
     (names_a_rank c.args.self.now c.args.rank c.self.inside.run.ranks c.args.event c.requires.stands c.requires.oldest c.requires.named
-    (c.self.invariant.1 ∙ ap (λ z. length z.ranks) c.self.view_is))
+    (c.self.invariant.2 ∙ sym c.self.invariant.1 ∙ ap (λ z. length z.ranks) c.self.view_is))
 
 -- src/parts/storing.rt
 pub unreachable-requires : goal.unreachable-requires

@@ -1,5 +1,4 @@
-use Rattle.world_model.proofs.Headline.{stands_for}
-use Rattle.world_model.proofs.Sequences.{kept}
+use Rattle.world_model.proofs.Sequences.{kept, world_stands}
 use Rattle.world_model.proofs.world.World.apply.Goals as goal
 
 -- src/world.rt
@@ -8,4 +7,4 @@ invariant_of-self c = kept _ _ c.args.event c.apply.result c.self.invariant c.ap
 
 -- src/world.rt
 pub returns-clause-stands : goal.returns-clause-stands
-returns-clause-stands c = stands_for _ (kept _ _ c.args.event c.apply.result c.self.invariant c.apply.ensures.follows c.apply.ensures.err)
+returns-clause-stands c = world_stands _ (kept _ _ c.args.event c.apply.result c.self.invariant c.apply.ensures.follows c.apply.ensures.err)

@@ -1,14 +1,14 @@
 use Rattle.std.proofs.Common.{subst}
 use Rattle.world_model.specs.Headline.{StandsFor}
-use Rattle.world_model.proofs.Headline.{stands_for, stands_fresh}
+use Rattle.world_model.proofs.Sequences.{world_fresh, world_stands}
 use Rattle.world_model.proofs.world.World.new.Goals as goal
 
 -- src/world.rt
 pub invariant_of-result : goal.invariant_of-result
-invariant_of-result c = stands_fresh _ c.args.ranks c.in_ok-parts.parts c.in_ok-parts.ensures
+invariant_of-result c = world_fresh _ c.args.ranks c.in_ok-parts.parts c.in_ok-parts.ensures
 
 -- src/world.rt
 pub returns-clause-stands : goal.returns-clause-stands
 returns-clause-stands c =
     subst (λ C. StandsFor c.in_ok-parts.parts C) c.in_ok-parts.ensures.run
-    (stands_for c.in_ok-parts.parts (stands_fresh _ c.args.ranks c.in_ok-parts.parts c.in_ok-parts.ensures))
+    (world_stands c.in_ok-parts.parts (world_fresh _ c.args.ranks c.in_ok-parts.parts c.in_ok-parts.ensures))

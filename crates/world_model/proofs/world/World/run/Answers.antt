@@ -5,7 +5,8 @@ use Rattle.world_model.specs.Headline.{StandsFor}
 use Rattle.world_model.specs.Follows.{Follows, FollowsAll}
 use Rattle.world_model.specs.declared.event.WorldEvent.{WorldEvent}
 use Rattle.world_model.specs.declared.reply.Reply.{Reply}
-use Rattle.world_model.proofs.Sequences.{follows_push}
+use Rattle.world_model.specs.declared.event.WorldEvent.TheVariants.{Step}
+use Rattle.world_model.proofs.Sequences.{follows_push, stops_before}
 use Rattle.world_model.proofs.world.World.run.Goals as goal
 
 -- one more event of the list
@@ -23,3 +24,8 @@ loop-done-preserved c = record {
       c.loop-done.invariant.ran c.in-Ok-apply.ensures.follows c.in-Ok-apply.ensures.stands));
   stands = c.in-Ok-apply.ensures.stands;
 }
+
+-- src/world.rt
+pub returns-in_default-clause-stopped : goal.returns-in_default-clause-stopped
+returns-in_default-clause-stopped c =
+    stops_before _ c.loop-done.self c.args.events.now c.loop-done.replies.items c.loop-done.done (Step 0) c.loop-done-test.true c.loop-done.invariant.ran

@@ -1,0 +1,113 @@
+-- What waits at the gate, as it grows at its end and shrinks at its front: how many effects there are, how many sends to a
+-- rank, and that the first of it are events.
+use Rattle.std.proofs.Common.{◌≡◌, ℕ, zero, suc, ◌+◌, ◌-◌, ◌<◌, ◌≤◌, Bool, true, false, ◌==◌, if◌then◌else◌, List, [], ◌∷◌, ◌++◌, length, drop, slice_get, option_and_then, refl, subst, arith}
+use Rattle.std.specs.Prelude.{IsSome}
+use Rattle.rank_node.specs.declared.waiting.Waiting.{Waiting}
+use Rattle.rank_node.specs.declared.waiting.Waiting.TheVariants.{Event, Send, Line}
+use Rattle.rank_node.specs.Waiting.{effects, sends_to, event_in, BeginsWithEvents}
+use Rattle.rank_node.specs.Releasing.{effect_of}
+
+-- ---- how many effects wait
+
+-- what goes last counts too
+pub effects_push : (xs : List Waiting) (y : Waiting) → effects (xs ++ y ∷ []) ≡ effects xs + effects (y ∷ [])
+effects_push [] y = (let z : effects (y ∷ []) ≡ 0 + effects (y ∷ []) = omega arith in z)
+effects_push (Event e ∷ xs) y = effects_push xs y
+effects_push (Send d c ∷ xs) y = (let z = effects_push xs y in let q : suc (effects (xs ++ y ∷ [])) ≡ suc (effects xs) + effects (y ∷ []) = omega (arith, z) in q)
+effects_push (Line c v ∷ xs) y = (let z = effects_push xs y in let q : suc (effects (xs ++ y ∷ [])) ≡ suc (effects xs) + effects (y ∷ []) = omega (arith, z) in q)
+
+-- where an effect stands first there is one more than behind it
+pub effects_release : (xs : List Waiting) → IsSome (option_and_then effect_of (slice_get xs 0)) → effects xs ≡ effects (drop 1 xs) + 1
+effects_release [] some = absurd cc
+effects_release (Event e ∷ xs) some = absurd cc
+effects_release (Send d c ∷ xs) some = (let z : suc (effects xs) ≡ effects xs + 1 = omega arith in z)
+effects_release (Line c v ∷ xs) some = (let z : suc (effects xs) ≡ effects xs + 1 = omega arith in z)
+
+-- ---- how many sends to a rank wait
+
+-- what goes last counts too
+pub sends_to_push : (d : ℕ) (xs : List Waiting) (y : Waiting) → sends_to d (xs ++ y ∷ []) ≡ sends_to d xs + sends_to d (y ∷ [])
+sends_to_push d [] y = (let z : sends_to d (y ∷ []) ≡ 0 + sends_to d (y ∷ []) = omega arith in z)
+sends_to_push d (Event e ∷ xs) y = sends_to_push d xs y
+sends_to_push d (Send e c ∷ xs) y = go (e == d) (sends_to_push d xs y)
+  where
+    go : (b : Bool) → sends_to d (xs ++ y ∷ []) ≡ sends_to d xs + sends_to d (y ∷ []) → (if b then suc (sends_to d (xs ++ y ∷ [])) else sends_to d (xs ++ y ∷ [])) ≡ (if b then suc (sends_to d xs) else sends_to d xs) + sends_to d (y ∷ [])
+    go true z = omega (arith, z)
+    go false z = z
+sends_to_push d (Line c v ∷ xs) y = sends_to_push d xs y
+
+-- ---- the events that stand first
+
+-- what goes last changes nothing
+pub begins_push : (k : ℕ) (xs : List Waiting) (y : Waiting) → BeginsWithEvents k xs → BeginsWithEvents k (xs ++ y ∷ [])
+begins_push zero xs y b = tt
+begins_push (suc k) [] y b = absurd b
+begins_push (suc k) (Event e ∷ xs) y b = begins_push k xs y b
+begins_push (suc k) (Send d c ∷ xs) y b = absurd b
+begins_push (suc k) (Line c v ∷ xs) y b = absurd b
+
+-- so many are there
+pub begins_within : (k : ℕ) (xs : List Waiting) → BeginsWithEvents k xs → k ≤ length xs
+begins_within zero xs b = omega arith
+begins_within (suc k) [] b = absurd b
+begins_within (suc k) (Event e ∷ xs) b = (let z = begins_within k xs b in omega (arith, z))
+begins_within (suc k) (Send d c ∷ xs) b = absurd b
+begins_within (suc k) (Line c v ∷ xs) b = absurd b
+
+-- the last goes, where it isn't among them
+pub begins_withdraw : (k : ℕ) (xs : List Waiting) (y : Waiting) → BeginsWithEvents k (xs ++ y ∷ []) → k < length (xs ++ y ∷ []) → BeginsWithEvents k xs
+begins_withdraw zero xs y b l = tt
+begins_withdraw (suc k) [] y b l = absurd (omega (arith, l))
+begins_withdraw (suc k) (Event e ∷ xs) y b l = begins_withdraw k xs y b (omega (arith, l))
+begins_withdraw (suc k) (Send d c ∷ xs) y b l = absurd b
+begins_withdraw (suc k) (Line c v ∷ xs) y b l = absurd b
+
+-- the event right behind them is one of them then
+pub begins_more : (k : ℕ) (xs : List Waiting) → BeginsWithEvents k xs → IsSome (option_and_then event_in (slice_get xs k)) → BeginsWithEvents (k + 1) xs
+begins_more zero [] b f = absurd cc
+begins_more zero (Event e ∷ xs) b f = tt
+begins_more zero (Send d c ∷ xs) b f = absurd cc
+begins_more zero (Line c v ∷ xs) b f = absurd cc
+begins_more (suc k) [] b f = absurd b
+begins_more (suc k) (Event x ∷ xs) b f = (let z : suc (k + 1) ≡ suc k + 1 = omega arith in subst (λ y. BeginsWithEvents y (Event x ∷ xs)) z (begins_more k xs b f))
+begins_more (suc k) (Send d c ∷ xs) b f = absurd b
+begins_more (suc k) (Line c v ∷ xs) b f = absurd b
+
+-- there is one more behind them, where there is an event right behind them
+pub unstored_within : (k : ℕ) (xs : List Waiting) → IsSome (option_and_then event_in (slice_get xs k)) → k < length xs
+unstored_within k [] f = absurd cc
+unstored_within zero (x ∷ xs) f = omega arith
+unstored_within (suc k) (x ∷ xs) f = (let z = unstored_within k xs f in omega (arith, z))
+
+-- the first of them goes
+pub begins_less : (k : ℕ) (xs : List Waiting) → BeginsWithEvents k xs → BeginsWithEvents (k - 1) (drop 1 xs)
+begins_less zero xs b = tt
+begins_less (suc k) [] b = absurd b
+begins_less (suc k) (Event e ∷ []) b = subst (λ z. BeginsWithEvents z []) (let z : k ≡ suc k - 1 = omega arith in z) b
+begins_less (suc k) (Event e ∷ (y ∷ xs)) b = subst (λ z. BeginsWithEvents z (y ∷ xs)) (let z : k ≡ suc k - 1 = omega arith in z) b
+begins_less (suc k) (Send d c ∷ xs) b = absurd b
+begins_less (suc k) (Line c v ∷ xs) b = absurd b
+
+-- where there is one of them an event stands first, so that as many effects stand behind it
+pub effects_acked : (k : ℕ) (xs : List Waiting) → 0 < k → BeginsWithEvents k xs → effects (drop 1 xs) ≡ effects xs
+effects_acked zero xs l b = absurd (omega (arith, l))
+effects_acked (suc k) [] l b = absurd b
+effects_acked (suc k) (Event e ∷ xs) l b = refl
+effects_acked (suc k) (Send d c ∷ xs) l b = absurd b
+effects_acked (suc k) (Line c v ∷ xs) l b = absurd b
+
+-- and as many sends to each rank
+pub sends_to_acked : (d k : ℕ) (xs : List Waiting) → 0 < k → BeginsWithEvents k xs → sends_to d (drop 1 xs) ≡ sends_to d xs
+sends_to_acked d zero xs l b = absurd (omega (arith, l))
+sends_to_acked d (suc k) [] l b = absurd b
+sends_to_acked d (suc k) (Event e ∷ xs) l b = refl
+sends_to_acked d (suc k) (Send e c ∷ xs) l b = absurd b
+sends_to_acked d (suc k) (Line c v ∷ xs) l b = absurd b
+
+-- where an effect stands first there is none of them
+pub begins_release : (k : ℕ) (xs : List Waiting) → IsSome (option_and_then effect_of (slice_get xs 0)) → BeginsWithEvents k xs → BeginsWithEvents k (drop 1 xs)
+begins_release zero xs f b = tt
+begins_release (suc k) [] f b = absurd b
+begins_release (suc k) (Event e ∷ xs) f b = absurd cc
+begins_release (suc k) (Send d c ∷ xs) f b = absurd b
+begins_release (suc k) (Line c v ∷ xs) f b = absurd b

@@ -1,0 +1,114 @@
+-- For each rank as many packets are held as sends to it wait: so it stays where an event, a line or a send comes to wait,
+-- and where a send is released.
+use Rattle.std.proofs.Common.{◌≡◌, ℕ, zero, suc, ◌+◌, ◌<◌, ◌≤◌, ◌⊎◌, inl, inr, if◌then◌else◌, ℤ, List, [], ◌∷◌, ◌++◌, length, drop, Some, slice_get, option_and_then, refl, sym, ap, subst, ◌∙◌, arith, slice_set}
+use Rattle.std.proofs.lemmas.Bool.{cases_eq, eq-eqb, ne_eqb}
+use Rattle.std.proofs.lemmas.List.{get_or-set_same, get_or-set_other, length_push}
+use Rattle.std.proofs.lemmas.List.Elements.{All-get_or, All-set, All-weaker}
+use Rattle.std.specs.Prelude.{All}
+use Rattle.matching.specs.Message as packet
+use Rattle.plain_logger.specs.Event.{EventValue}
+use Rattle.payload_log.specs.Backlog.{Backlog, backlog, new_backlog, hold, freed, freed_of}
+use Rattle.rank_node.specs.declared.waiting.Waiting.{Waiting}
+use Rattle.rank_node.specs.declared.waiting.Waiting.TheVariants.{Event, Send, Line}
+use Rattle.rank_node.specs.Waiting.{sends_to}
+use Rattle.rank_node.specs.Releasing.{effect_of}
+use Rattle.rank_node.proofs.Gates.{sends_to_push}
+
+-- for each rank as many packets are held as sends to it wait
+abbrev pub Held : List Backlog → List Waiting → Type 0
+Held log xs = (d : ℕ) → length (backlog log d).held ≡ sends_to d xs
+
+-- ---- what comes to wait
+
+-- an event sends nothing
+pub sends_to_event : (d : ℕ) (xs : List Waiting) (e : EventValue) → sends_to d (xs ++ Event e ∷ []) ≡ sends_to d xs
+sends_to_event d xs e = (let z = sends_to_push d xs (Event e) in omega (arith, z))
+
+-- and so does a line
+pub sends_to_line : (d : ℕ) (xs : List Waiting) (clock : ℕ) (value : ℤ) → sends_to d (xs ++ Line clock value ∷ []) ≡ sends_to d xs
+sends_to_line d xs clock value = (let z = sends_to_push d xs (Line clock value) in omega (arith, z))
+
+-- a send waits, and its packet is held
+pub held_send : (log : List Backlog) (xs : List Waiting) (dest clock : ℕ) (p : packet.Message) → dest < length log
+    → Held log xs → Held (slice_set log dest (hold (backlog log dest) p)) (xs ++ Send dest clock ∷ [])
+held_send log xs dest clock p below h d = go (cases_eq d dest)
+  where
+    go : (d ≡ dest) ⊎ (d ≡ dest → ⊥) → length (backlog (slice_set log dest (hold (backlog log dest) p)) d).held ≡ sends_to d (xs ++ Send dest clock ∷ [])
+    go (inl e) =
+        subst (λ z. length (backlog (slice_set log dest (hold (backlog log dest) p)) z).held ≡ sends_to z (xs ++ Send dest clock ∷ [])) (sym e)
+        (ap (λ z. length z.held) (get_or-set_same log dest (hold (backlog log dest) p) new_backlog below)
+        ∙ length_push (backlog log dest).held p ∙ ap (λ z. z + 1) (h dest)
+        ∙ sym (sends_to_push dest xs (Send dest clock) ∙ ap (λ b. sends_to dest xs + (if b then 1 else 0)) (eq-eqb dest dest refl)))
+    go (inr ne) =
+        ap (λ z. length z.held) (get_or-set_other log dest d (hold (backlog log dest) p) new_backlog ne) ∙ h d
+        ∙ sym (sends_to_push d xs (Send dest clock) ∙ ap (λ b. sends_to d xs + (if b then 1 else 0)) (ne_eqb dest d (λ z. ne (sym z))) ∙ (let z : sends_to d xs + 0 ≡ sends_to d xs = omega arith in z))
+
+-- ---- what is released
+
+-- the oldest of what waits is this send
+pub first_send : (xs : List Waiting) (dest clock : ℕ) → Some (Send dest clock) ≡ option_and_then effect_of (slice_get xs 0) → xs ≡ Send dest clock ∷ drop 1 xs
+first_send [] dest clock e = absurd cc
+first_send (Event x ∷ xs) dest clock e = absurd cc
+first_send (Send d c ∷ xs) dest clock e = cc
+first_send (Line c v ∷ xs) dest clock e = absurd cc
+
+-- where a send waits first a packet is held for its rank
+pub held_some : (log : List Backlog) (xs : List Waiting) (dest clock : ℕ) → Held log xs → xs ≡ Send dest clock ∷ drop 1 xs → 0 < length (backlog log dest).held
+held_some log xs dest clock h e =
+    (let a = h dest ∙ ap (sends_to dest) e ∙ ap (λ b. if b then suc (sends_to dest (drop 1 xs)) else sends_to dest (drop 1 xs)) (eq-eqb dest dest refl) in omega (arith, a))
+
+-- a rank for which a packet is held is one of the ranks
+pub held_within : (log : List Backlog) (dest : ℕ) → 0 < length (backlog log dest).held → dest < length log
+held_within [] dest l = absurd (omega (arith, l))
+held_within (b ∷ log) zero l = omega arith
+held_within (b ∷ log) (suc dest) l = (let z = held_within log dest l in omega (arith, z))
+
+freed_less : (b : Backlog) (n : ℕ) → length b.held ≡ suc n → length (freed b).held ≡ n
+freed_less b n e = go b.held e
+  where
+    go : (ms : List packet.Message) → length ms ≡ suc n → length (freed_of b ms).held ≡ n
+    go [] f = absurd (omega (arith, f))
+    go (m ∷ ms) f = (let z : length ms ≡ n = omega (arith, f) in z)
+
+-- the first send is released, and its packet is held no more
+pub held_release : (log : List Backlog) (xs : List Waiting) (dest clock : ℕ) → dest < length log → Held log xs → xs ≡ Send dest clock ∷ drop 1 xs
+    → Held (slice_set log dest (freed (backlog log dest))) (drop 1 xs)
+held_release log xs dest clock below h s d = go (cases_eq d dest)
+  where
+    rest : List Waiting
+    rest = drop 1 xs
+
+    go : (d ≡ dest) ⊎ (d ≡ dest → ⊥) → length (backlog (slice_set log dest (freed (backlog log dest))) d).held ≡ sends_to d rest
+    go (inl e) =
+        subst (λ z. length (backlog (slice_set log dest (freed (backlog log dest))) z).held ≡ sends_to z rest) (sym e)
+        (ap (λ z. length z.held) (get_or-set_same log dest (freed (backlog log dest)) new_backlog below)
+        ∙ freed_less (backlog log dest) (sends_to dest rest) (h dest ∙ ap (sends_to dest) s ∙ ap (λ b. if b then suc (sends_to dest rest) else sends_to dest rest) (eq-eqb dest dest refl)))
+    go (inr ne) =
+        ap (λ z. length z.held) (get_or-set_other log dest d (freed (backlog log dest)) new_backlog ne) ∙ h d ∙ ap (sends_to d) s
+        ∙ ap (λ b. if b then suc (sends_to d rest) else sends_to d rest) (ne_eqb dest d (λ z. ne (sym z)))
+
+-- what was sent and is held together stays as much
+pub freed_sent : (b : Backlog) (c : ℕ) → b.sent + length b.held ≤ c → (freed b).sent + length (freed b).held ≤ c
+freed_sent b c l = go b.held l
+  where
+    go : (ms : List packet.Message) → b.sent + length ms ≤ c → (freed_of b ms).sent + length (freed_of b ms).held ≤ c
+    go [] f = l
+    go (m ∷ ms) f = (let z : b.sent + 1 + length ms ≤ c = omega (arith, f) in z)
+
+-- ---- what was sent and is held is no more than acts were made
+
+-- a packet more is held after an act more
+pub sent_held : (log : List Backlog) (dest c : ℕ) (p : packet.Message) → dest < length log → All (λ (b : Backlog). b.sent + length b.held ≤ c) log
+    → All (λ (b : Backlog). b.sent + length b.held ≤ c + 1) (slice_set log dest (hold (backlog log dest) p))
+sent_held log dest c p below all =
+    let one = All-get_or (λ (b : Backlog). b.sent + length b.held ≤ c) log dest new_backlog below all in
+    let push = length_push (backlog log dest).held p in
+    All-set (λ (b : Backlog). b.sent + length b.held ≤ c + 1) log dest (hold (backlog log dest) p) (omega (arith, one, push))
+    (All-weaker (λ (b : Backlog). b.sent + length b.held ≤ c) (λ (b : Backlog). b.sent + length b.held ≤ c + 1) (λ b l. omega (arith, l)) log all)
+
+-- a packet is sent that was held
+pub sent_freed : (log : List Backlog) (dest c : ℕ) → dest < length log → All (λ (b : Backlog). b.sent + length b.held ≤ c) log
+    → All (λ (b : Backlog). b.sent + length b.held ≤ c) (slice_set log dest (freed (backlog log dest)))
+sent_freed log dest c below all =
+    let one = All-get_or (λ (b : Backlog). b.sent + length b.held ≤ c) log dest new_backlog below all in
+    All-set (λ (b : Backlog). b.sent + length b.held ≤ c) log dest (freed (backlog log dest)) (freed_sent (backlog log dest) c one) all

@@ -1,0 +1,7 @@
+-- What is kept of a row is what comes after the clock.
+use Rattle.std.proofs.Common.{rules}
+use Rattle.std.proofs.lemmas.Fn.{filter_same}
+use Rattle.rank_node.proofs.restarting.later.Goals as goal
+
+pub returns-clause-events : goal.returns-clause-events
+returns-clause-events c = filter_same _ _ _ (λ x b f' k. search rules) _ _ c.retain.ensures.filtered

@@ -1,0 +1,112 @@
+-- What a crash and a restart come to.
+use Rattle.std.proofs.Common.{◌≡◌, ◌≢◌, ℕ, ◌+◌, ◌<◌, ◌≤◌, ◌⊎◌, inl, inr, List, [], ◌∷◌, Option, Some, None, length, refl, sym}
+use Rattle.std.proofs.Common.{ap, subst, ◌∙◌, arith, slice_get, slice_set, slice_index_or, replicate}
+use Rattle.std.proofs.lemmas.Option.{slice_get_within, slice_get-get_or}
+use Rattle.metered.specs.Limits.{most_events}
+use Rattle.checkpoint.specs.Image.{ImageValue}
+use Rattle.plain_logger.specs.Event.{EventValue}
+use Rattle.plain_logger.specs.History.{Answers, StateValue, above}
+use Rattle.plain_logger.specs.declared.call.Call.TheVariants.{Fetch}
+use Rattle.plain_logger.specs.declared.call.Reply.TheVariants.{Events}
+use Rattle.rank_node.specs.Image.{begins_at}
+use Rattle.rank_node.specs.Replay.{left_of}
+use Rattle.crash_free.specs.Runs.{history}
+use Rattle.world_model.specs.Rows.{row}
+use Rattle.world_model.specs.World.{Rank, Live, WorldValue, size, IsLive, IsDown}
+use Rattle.world_model.specs.Seats.{AtRank, IsRestarted}
+use Rattle.world_model.specs.Follows.{CanNot, Follows, Fetched, Unchanged, TakesNoMemory}
+use Rattle.world_model.specs.Stands.{Stands}
+use Rattle.world_model.specs.declared.event.WorldEvent.TheVariants.{Crash, Restart}
+use Rattle.world_model.specs.declared.reply.Reply.TheVariants as reply
+use Rattle.world_model.proofs.Doing.{none_live, live_at, not_down, same_world}
+use Rattle.world_model.proofs.Lists.{replicate_there}
+use Rattle.world_model.proofs.Ranks.{above_whole}
+
+-- no rank is there to crash
+pub crash_nowhere : (w : WorldValue) (r : ℕ) → size w ≤ r → Follows w (Crash r) reply.Refused w
+crash_nowhere w r past = (λ v live. none_live w r v past live, refl)
+
+-- a rank that is down can't crash
+pub crash_down : (w : WorldValue) (r : ℕ) → slice_get w.ranks r ≡ Some None → Follows w (Crash r) reply.Refused w
+crash_down w r down = (λ v live. not_down w r v down live, refl)
+
+-- a rank crashes
+pub crash_some : (w w' : WorldValue) (r : ℕ) → AtRank w.ranks r (λ v. Unit {0}) → w'.ranks ≡ slice_set w.ranks r None
+    → w'.program ≡ w.program → w'.images ≡ w.images → w'.logger ≡ w.logger → w'.wires ≡ w.wires → w'.lines ≡ w.lines → w'.run ≡ w.run
+    → Follows w (Crash r) reply.Crashed w'
+crash_some w w' r h ranks program images logger wires lines run =
+    let v = live_at w.ranks r _ h in
+    record { before = v.0; live = v.1; answered = refl; after = same_world w' _ program ranks images logger wires lines run }
+
+-- ---- a restart
+
+-- no rank is there to start again
+pub restart_nowhere : (w : WorldValue) (r : ℕ) → size w ≤ r → Follows w (Restart r) reply.Refused w
+restart_nowhere w r past = (λ down. (let l = slice_get_within w.ranks r None down in omega (arith, l, past)), refl)
+
+-- a rank that is live can't start again
+pub restart_live : (w : WorldValue) (r : ℕ) → AtRank w.ranks r (λ v. Unit {0}) → Follows w (Restart r) reply.Refused w
+restart_live w r h = (λ down. (let v = live_at w.ranks r _ h in not_down w r v.0 down v.1), refl)
+
+-- its row is at the logger
+pub restart_row : (w : WorldValue) (r : ℕ) → Stands w → r < length w.ranks → r < length w.logger.rows
+restart_row w r s l = let e = s.run.as_many_rows in omega (arith, e, l)
+
+-- and has no more events than there may be
+pub restart_few : (w : WorldValue) (r : ℕ) (events : List EventValue) (logger : StateValue) → Stands w → r < length w.ranks
+    → Answers w.logger r (Fetch 0) (Events events) logger → length events ≤ most_events
+restart_few w r events logger s l fetched =
+    let q : Events events ≡ Events (above 0 (slice_index_or w.logger.rows r [])) = fetched.replied in
+    let e : events ≡ above 0 (slice_index_or w.logger.rows r []) = cc in
+    let there = slice_get-get_or w.logger.rows r [] (restart_row w r s l) in
+    let is : slice_index_or w.logger.rows r [] ≡ row w.run r = s.run.rows r (slice_index_or w.logger.rows r []) there in
+    let whole : above 0 (slice_index_or w.logger.rows r []) ≡ slice_index_or w.logger.rows r [] =
+    ap (λ z. above 0 z) is ∙ above_whole 0 0 (history w.run r) (omega arith) ∙ sym is in
+    subst (λ z. length z ≤ most_events) (sym (e ∙ whole)) (s.counts.rows r (slice_index_or w.logger.rows r []) there)
+
+-- a rank starts again
+pub restart_some : (w w' : WorldValue) (r count : ℕ) (events : List EventValue)
+    → slice_get w.ranks r ≡ Some None → slice_get w.images r ≡ Some None
+    → Answers w.logger r (Fetch 0) (Events events) w'.logger
+    → count ≡ length (left_of (begins_at w.program r (size w) None) events)
+    → (x : Option Live) × IsRestarted w.program (size w) r events x × (w'.ranks ≡ slice_set w.ranks r x)
+    → w'.program ≡ w.program → w'.images ≡ w.images → w'.wires ≡ w.wires → w'.lines ≡ w.lines → w'.run ≡ w.run
+    → Follows w (Restart r) (reply.Restarted count) w'
+restart_some w w' r count events down none fetches counts up program images wires lines run =
+    record {
+      down = down;
+      events = events;
+      fetches = fetches;
+      image = begins_at w.program r (size w) None;
+      begins = (None, none, refl);
+      shelf = up.1.shelf;
+      answered = ap reply.Restarted counts;
+      after = same_world w' _ program (up.2 ∙ ap (λ z. slice_set w.ranks r z) up.1.after) images refl wires lines run;
+    }
+
+-- the same, of a rank whose number the event names, where no rank has an image
+pub restart_named : (w w' : WorldValue) (r named n count : ℕ) (events : List EventValue) → r ≡ named → r < length w.ranks → length w.ranks ≡ n
+    → replicate n None ≡ w.images
+    → slice_get w.ranks r ≡ Some None
+    → Answers w.logger r (Fetch 0) (Events events) w'.logger
+    → count ≡ length (left_of (begins_at w.program r (size w) None) events)
+    → (x : Option Live) × IsRestarted w.program (size w) r events x × (w'.ranks ≡ slice_set w.ranks r x)
+    → w'.program ≡ w.program → w'.images ≡ w.images → w'.wires ≡ w.wires → w'.lines ≡ w.lines → w'.run ≡ w.run
+    → Follows w (Restart named) (reply.Restarted count) w'
+restart_named w w' r named n count events same below all none down fetches counts up program images wires lines run =
+    subst (λ z. Follows w (Restart z) (reply.Restarted count) w') same
+    (restart_some w w' r count events down
+    (subst (λ z. slice_get z r ≡ Some None) none (replicate_there n None r (omega (arith, below, all))))
+    fetches counts up program images wires lines run)
+
+-- where memory ends a restart could happen; the fetch may have been answered
+pub restart_possible : (w : WorldValue) (r : ℕ) → slice_get w.ranks r ≡ Some None → CanNot w (Restart r) → ⊥
+restart_possible w r down cannot = cannot down
+
+-- memory ended after the fetch
+pub restart_fetched : (w w' : WorldValue) (r : ℕ) (events : List EventValue) → slice_get w.ranks r ≡ Some None
+    → Answers w.logger r (Fetch 0) (Events events) w'.logger
+    → w'.program ≡ w.program → w'.ranks ≡ w.ranks → w'.images ≡ w.images → w'.wires ≡ w.wires → w'.lines ≡ w.lines → w'.run ≡ w.run
+    → Unchanged w (Restart r) w'
+restart_fetched w w' r events down fetches program ranks images wires lines run =
+    inr (record { down = down; events = events; fetches = fetches; after = same_world w' _ program ranks images refl wires lines run })

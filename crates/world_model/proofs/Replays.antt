@@ -1,0 +1,484 @@
+-- A rank that replays is never refused, and each of its steps keeps it with the run.
+use Rattle.std.proofs.Common.{◌≡◌, ℕ, ℤ, ◌+◌, ◌<◌, ◌≤◌, ◌⊎◌, inl, inr, ⊎_elim, true, false, ◌==◌, if◌then◌else◌, List, [], ◌∷◌, ◌++◌, Option, Some}
+use Rattle.std.proofs.Common.{None, Ok, Err, length, take, drop, refl, sym, ap, subst, ◌∙◌, arith, slice_get, slice_set, position, option_and_then}
+use Rattle.std.proofs.lemmas.Bool.{cases_lt, lt-ltb, eq-eqb, ne_eqb, eqb-true, and_parts}
+use Rattle.std.proofs.lemmas.List.{append-nil, length-set}
+use Rattle.std.proofs.lemmas.Option.{get_or_from_slice_get}
+use Rattle.std.proofs.lemmas.List.Quantifiers.{position-Some}
+use Rattle.matching.specs.declared.packet.Context.{Context}
+use Rattle.matching.specs.declared.selector.Selector.{Selector}
+use Rattle.matching.specs.Message as packet
+use Rattle.matching.specs.Matching.{matches, is_named}
+use Rattle.matching.specs.Inbox.{Mailbox, without}
+use Rattle.payload_log.specs.Backlog.{Backlog, backlog, saved, new_backlog}
+use Rattle.plain_logger.specs.Event.{EventValue, event_of}
+use Rattle.plain_logger.specs.declared.kind.Kind.{Kind}
+use Rattle.plain_logger.specs.declared.kind.Kind.TheVariants as kind
+use Rattle.rank_machine.specs.declared.want.Want.{Want}
+use Rattle.rank_machine.specs.declared.want.Want.TheVariants as want
+use Rattle.rank_machine.specs.States.{State, inner}
+use Rattle.rank_machine.specs.Wants.{payload}
+use Rattle.rank_machine.specs.Acts.{Act, Message, sends, takes, hits, misses, prints, carried, Fits, Makes, Matches, next}
+use Rattle.rank_machine.specs.Machine.{MachineValue, state_of, asks}
+use Rattle.rank_node.specs.declared.fault.NodeFault.TheVariants as fault
+use Rattle.rank_node.specs.declared.turn.Turn.{Turn}
+use Rattle.rank_node.specs.declared.turn.Turn.TheVariants.{Moved, Blocked}
+use Rattle.rank_node.specs.Steps.{at_index, message_of, WasShown, TakesFound, IsShownFound}
+use Rattle.crash_free.specs.Runs.{Passed, History, at_place, history, sent, sends_from, send_at, cons_if, looked_up, takes_it, IsRun}
+use Rattle.crash_free.proofs.Lists.{sends_from-push}
+use Rattle.crash_free.proofs.Clocks.{one_clock}
+use Rattle.world_model.specs.Rows.{event_at, events_from, cons_some}
+use Rattle.world_model.specs.World.{Rank, Live}
+use Rattle.world_model.specs.Stands.{InboxStands, LogStands, LogsStand, StandsIn, RankStands}
+use Rattle.world_model.proofs.Inboxes.{matches_if_named, InboxStands-noted, InboxStands-taken}
+use Rattle.world_model.proofs.Places.{replaced_keeps}
+use Rattle.rank_node.specs.Replay.{named, is_now, is_before, replay_turn_at, replayed_at, ReplayStepAt, left_after, taken_named, shown_named}
+use Rattle.rank_node.specs.Replay.{named_turn, receive_turn, probe_turn, try_turn, tried_named, TriesNamed}
+use Rattle.world_model.proofs.Lists.{next_of_drop, drop_beyond, take_length}
+use Rattle.world_model.proofs.Logs.{LogStands-saved}
+use Rattle.world_model.proofs.In.{StandsIn-moved, NextAct, next_act, run_reaches}
+use Rattle.world_model.proofs.Ranks.{at_run, left_run, logs_run, settled_behind, RankStands-settled, RankStands-same_clock, after_again}
+use Rattle.world_model.proofs.Ranks.{RankStands-again}
+use Rattle.world_model.proofs.Fits.{fits_send, fits_print, FitsTakes, fits_receive, FitsHits, fits_probe, fits_try, fits_ended, wanted, stopped}
+use Rattle.world_model.proofs.Fits.{history_looks_up, first_event_late}
+
+-- ---- the payload log after a send
+
+-- what the first c acts sent, and a send as the next
+sends_next : (h : History) (c d' d : ℕ) (context : Context) (t : ℕ) (items : List ℤ) (o : Option Message) → c ≤ length h
+    → sends_from 0 d (take c h ++ (sends d' context t items, o) ∷ []) ≡ sends_from 0 d (take c h) ++ cons_if (d' == d) (record { clock = c + 1; context = context; tag = t; items = items }) []
+sends_next h c d' d context t items o l =
+    sends_from-push 0 d (take c h) (sends d' context t items, o)
+    ∙ (let z : 0 + length (take c h) ≡ c = (let e = take_length c h l in omega (arith, e)) in ap (λ y. sends_from 0 d (take c h) ++ cons_if (d' == d) (record { clock = y + 1; context = context; tag = t; items = items }) []) z)
+
+-- a send that is made again is saved
+pub logs_saved : (r : ℕ) (h : History) (v : Rank) (d : ℕ) (context : Context) (t : ℕ)
+    → v.stable.rank ≡ r → v.clock ≤ length h → LogsStand r h v.clock [] v.log
+    → (e : ℕ) (b : Backlog) → slice_get (slice_set v.log d (saved (backlog v.log d) (message_of v d context t))) e ≡ Some b
+    → LogStands r (sends_from 0 e (take v.clock h ++ (sends d context t (payload (state_of v.machine)), None) ∷ [])) [] b
+logs_saved r h v d context t number within s =
+    replaced_keeps (λ e b. LogStands r (sends_from 0 e (take v.clock h ++ (a, None) ∷ [])) [] b) v.log d (saved (backlog v.log d) p) others own
+  where
+    p : packet.Message
+    p = message_of v d context t
+
+    a : Act
+    a = sends d context t (payload (state_of v.machine))
+
+    messages : (e : ℕ) → sends_from 0 e (take v.clock h ++ (a, None) ∷ []) ≡ sends_from 0 e (take v.clock h) ++ cons_if (d == e) (carried p) []
+    messages e = sends_next h v.clock d e context t (payload (state_of v.machine)) None within
+
+    others : (e : ℕ) (b : Backlog) → (e ≡ d → ⊥) → slice_get v.log e ≡ Some b → LogStands r (sends_from 0 e (take v.clock h ++ (a, None) ∷ [])) [] b
+    others e b ne at =
+        subst (λ z. LogStands r z [] b) (sym (messages e ∙ ap (λ z. sends_from 0 e (take v.clock h) ++ cons_if z (carried p) [])
+        (ne_eqb d e (λ z. ne (sym z))) ∙ append-nil _))
+        (s e b at)
+
+    own : (b : Backlog) → slice_get v.log d ≡ Some b → LogStands r (sends_from 0 d (take v.clock h ++ (a, None) ∷ [])) [] (saved (backlog v.log d) p)
+    own b at =
+        let is : backlog v.log d ≡ b = get_or_from_slice_get v.log d b new_backlog at in
+        let had : LogStands r (sends_from 0 d (take v.clock h)) [] (backlog v.log d) = subst (λ z. LogStands r (sends_from 0 d (take v.clock h)) [] z) (sym is) (s d b at) in
+        let none = ap length had.held in
+        subst (λ z. LogStands r z [] (saved (backlog v.log d) p))
+        (sym (messages d ∙ ap (λ z. sends_from 0 d (take v.clock h) ++ cons_if z (carried p) []) (eq-eqb d d refl)))
+        (LogStands-saved r (sends_from 0 d (take v.clock h)) [] (backlog v.log d) p number (let z : p.number ≡ (backlog v.log d).sent + 1 = omega (arith, none) in z) had.sent had.kept had.held)
+
+-- an act that sends nothing leaves the log
+abbrev pub SendsNone : Act → Type 0
+SendsNone a = (c d : ℕ) → send_at c d a [] ≡ []
+
+-- another act leaves the payload log
+pub logs_quiet : (r : ℕ) (h : History) (v : Rank) (a : Act) (o : Option Message) → SendsNone a
+    → LogsStand r h v.clock [] v.log
+    → (e : ℕ) (b : Backlog) → slice_get v.log e ≡ Some b → LogStands r (sends_from 0 e (take v.clock h ++ (a, o) ∷ [])) [] b
+logs_quiet r h v a o none s e b at =
+    subst (λ z. LogStands r z [] b) (sym (sends_from-push 0 e (take v.clock h) (a, o) ∙ ap (λ z. sends_from 0 e (take v.clock h) ++ z) (none _ e)
+    ∙ append-nil _)) (s e b at)
+
+-- ---- the packet that an event names
+
+-- what an event names
+named_parts : (source clock : ℕ) (p : packet.Message) → is_named source clock p ≡ true → (p.source ≡ source) × (p.clock ≡ clock)
+named_parts source clock p e = (let x = and_parts (p.source == source) (p.clock == clock) e in (eqb-true p.source source x.0, eqb-true p.clock clock x.1))
+
+-- in an inbox that stands, the packet of this source and clock is the message of that clock, with its place
+pub record IsOf (s j : ℕ) (m : Message) (p : packet.Message) : Type 0 where
+  pub source : p.source ≡ s
+  pub number : p.number ≡ j
+  pub message : carried p ≡ m
+
+-- a source and a clock name one message
+pub one_message : (C : List Passed) (r : ℕ) (box : Mailbox) (acts : History) (i s j : ℕ) (m : Message) (p : packet.Message)
+    → InboxStands box (λ q. sent C q r) acts → slice_get box.packets i ≡ Some p → p.source ≡ s → p.clock ≡ m.clock → at_place (sent C s r) j ≡ Some m
+    → IsOf s j m p
+one_message C r box acts i s j m p stands at source clock there =
+    let real : at_place (sent C s r) p.number ≡ Some (carried p) = subst (λ z. at_place (sent C z r) p.number ≡ Some (carried p)) source (stands.real i p at) in
+    let same : p.number ≡ j = one_clock 0 r (history C s) p.number j (carried p) m real there clock in
+    let both : Some (carried p) ≡ Some m = sym real ∙ ap (λ z. at_place (sent C s r) z) same ∙ there in
+    record { source = source; number = same; message = cc }
+
+-- ---- the steps
+
+module _ (start : ℕ → State) (n : ℕ) (C : List Passed) (r : ℕ) (v : Live) (run : IsRun start n C) (s : RankStands start n C r v) (e : EventValue) (rest : List EventValue) (left : v.left ≡ e ∷ rest) where
+  -- a rank with something left to replay has nothing pending
+  pub settled : v.rank.pending ≡ []
+  settled = settled_behind start n C r v s (λ z. (let q : e ∷ rest ≡ [] = sym left ∙ z in cc))
+
+  pub none : s.acts ≡ []
+  none = RankStands-settled start n C r v s settled
+
+  pub logs : LogsStand r (history C r) v.rank.clock [] v.rank.log
+  logs = logs_run start n C r v s none
+
+  pub at : StandsIn (start r) n r (λ q. sent C q r) (history C r) v.rank.clock v.rank.machine v.rank.inbox v.rank.log
+  at = at_run start n C r v s none
+
+  was : e ∷ rest ≡ events_from v.rank.clock (drop v.rank.clock (history C r))
+  was = sym left ∙ left_run start n C r v s none
+
+  pub behind : v.rank.clock < length (history C r)
+  behind = go (cases_lt v.rank.clock (length (history C r)))
+    where
+      go : (v.rank.clock < length (history C r)) ⊎ (length (history C r) ≤ v.rank.clock) → v.rank.clock < length (history C r)
+      go (inl l) = l
+      go (inr l) = absurd (let q : e ∷ rest ≡ [] = was ∙ ap (λ y. events_from v.rank.clock y) (drop_beyond v.rank.clock (history C r) l) in cc)
+
+  -- the next act is the run's
+  pub next_is : inner (state_of v.rank.machine) ≡ None → NextAct (history C r) v.rank.clock v.rank.machine
+  next_is stop = (let z = run_reaches start n C r run in next_act (start r) n r (λ q. sent C q r) (history C r) v.rank.clock v.rank.machine v.rank.inbox v.rank.log z.0 z.1 behind stop at)
+
+  left_is : (x : NextAct (history C r) v.rank.clock v.rank.machine)
+      → e ∷ rest ≡ cons_some (event_at (v.rank.clock + 1) x.act x.message) (events_from (v.rank.clock + 1) x.rest)
+  left_is x = was ∙ ap (λ z. events_from v.rank.clock z) x.is_next
+
+  -- what a step comes to: it isn't refused, and the rank goes with the run
+  pub record Goes (w : Want) : Type 0 where
+    pub turn : Turn
+    pub turned : replay_turn_at v.rank e w ≡ Ok turn
+    pub stands : (m : MachineValue) → ReplayStepAt v.rank e w m
+        → RankStands start n C r (record { rank = replayed_at v.rank e w m; left = left_after w turn e rest })
+
+  stays : RankStands start n C r (record { rank = v.rank; left = e ∷ rest })
+  stays = subst (λ z. RankStands start n C r (record { rank = v.rank; left = z })) left s
+
+  -- an effect comes before the next event
+  before : (x : NextAct (history C r) v.rank.clock v.rank.machine) → event_at (v.rank.clock + 1) x.act x.message ≡ None
+      → (e ∷ rest ≡ events_from (v.rank.clock + 1) x.rest) × (is_before v.rank e ≡ true)
+  before x quiet =
+      let q : e ∷ rest ≡ events_from (v.rank.clock + 1) x.rest = left_is x ∙ ap (λ z. cons_some z (events_from (v.rank.clock + 1) x.rest)) quiet in
+      (q, lt-ltb (v.rank.clock + 1) e.receiver_clock (first_event_late (v.rank.clock + 1) x.rest e rest q))
+
+  -- an event is the next
+  now : (x : NextAct (history C r) v.rank.clock v.rank.machine) (y : EventValue) → event_at (v.rank.clock + 1) x.act x.message ≡ Some y
+      → (e ≡ y) × (rest ≡ events_from (v.rank.clock + 1) x.rest)
+  now x y is =
+      let q : e ∷ rest ≡ y ∷ events_from (v.rank.clock + 1) x.rest = left_is x ∙ ap (λ z. cons_some z (events_from (v.rank.clock + 1) x.rest)) is in
+      (cc, cc)
+
+  -- the message of the next act is in the run
+  looked : (x : NextAct (history C r) v.rank.clock v.rank.machine) → looked_up (λ q. sent C q r) x.act ≡ x.message
+  looked x = (let y = history_looks_up start n C r run v.rank.clock (x.act, x.message) (next_of_drop v.rank.clock (history C r) (x.act, x.message) x.rest x.is_next).there in y.3)
+
+  -- a rank that makes the run's next act
+  goes_on : (x : NextAct (history C r) v.rank.clock v.rank.machine) (m : MachineValue) (inbox : Mailbox) (log : List Backlog) (a : Act) (o : Option Message) (l : List EventValue)
+      → x.act ≡ a → x.message ≡ o → state_of m ≡ next (state_of v.rank.machine) a o
+      → length inbox.accepted ≡ n → InboxStands inbox (λ q. sent C q r) (take v.rank.clock (history C r) ++ (a, o) ∷ [])
+      → length log ≡ n → ((d : ℕ) (b : Backlog) → slice_get log d ≡ Some b → LogStands r (sends_from 0 d (take v.rank.clock (history C r) ++ (a, o) ∷ [])) [] b)
+      → l ≡ events_from (v.rank.clock + 1) x.rest
+      → RankStands start n C r (record { rank = after_again v.rank m inbox log; left = l })
+  goes_on x m inbox log a o l ea eo state counted box logged new_logs el =
+      RankStands-again start n C r v s m inbox log a o x.rest l settled
+      (x.is_next ∙ ap (λ z. (z, x.message) ∷ x.rest) ea ∙ ap (λ z. (a, z) ∷ x.rest) eo)
+      (subst (λ z. Makes (state_of v.rank.machine) a z) eo (subst (λ z. Makes (state_of v.rank.machine) z x.message) ea x.makes))
+      state counted box logged new_logs el
+
+  quietly : (a : Act) (o : Option Message) → ((q j : ℕ) → takes_it q j a ≡ false)
+      → InboxStands v.rank.inbox (λ q. sent C q r) (take v.rank.clock (history C r) ++ (a, o) ∷ [])
+  quietly a o f = InboxStands-noted v.rank.inbox (λ q. sent C q r) (take v.rank.clock (history C r)) (a, o) f at.inbox
+
+  sending : (d : ℕ) (c : Context) (t : ℕ) → asks v.rank.machine ≡ want.Send d c t → Goes (want.Send d c t)
+  sending d c t is =
+      let x = next_is (stopped v.rank.machine (want.Send d c t) is (λ z. cc)) in
+      let f = fits_send d c t (payload (state_of v.rank.machine)) x.act x.message (subst (λ z. Fits z (payload (state_of v.rank.machine)) x.act x.message) (wanted v.rank.machine (want.Send d c t) is (λ z. cc)) x.makes) in
+      let b = before x (ap (λ z. event_at (v.rank.clock + 1) z x.message) f.0) in
+      record {
+        turn = Moved;
+        turned = ap (λ z. if z then Ok Moved else Err fault.Replay) b.1;
+        stands =
+            λ m did. goes_on x m v.rank.inbox (slice_set v.rank.log d (saved (backlog v.rank.log d) (message_of v.rank d c t)))
+            (sends d c t (payload (state_of v.rank.machine))) None (e ∷ rest) f.0 f.1
+            (did.state (sends d c t (payload (state_of v.rank.machine))) None
+            (subst (λ z. Makes (state_of v.rank.machine) (sends d c t (payload (state_of v.rank.machine))) z) f.1
+            (subst (λ z. Makes (state_of v.rank.machine) z x.message) f.0 x.makes)))
+            at.counted (quietly (sends d c t (payload (state_of v.rank.machine))) None (λ q j. refl))
+            (length-set v.rank.log d _ ∙ at.logged)
+            (logs_saved r (history C r) v.rank d c t s.number at.within logs) b.0;
+      }
+
+  printing : (z : ℤ) → asks v.rank.machine ≡ want.Print z → Goes (want.Print z)
+  printing z is =
+      let x = next_is (stopped v.rank.machine (want.Print z) is (λ y. cc)) in
+      let f = fits_print z (payload (state_of v.rank.machine)) x.act x.message (subst (λ y. Fits y (payload (state_of v.rank.machine)) x.act x.message) (wanted v.rank.machine (want.Print z) is (λ y. cc)) x.makes) in
+      let b = before x (ap (λ y. event_at (v.rank.clock + 1) y x.message) f.0) in
+      record {
+        turn = Moved;
+        turned = ap (λ y. if y then Ok Moved else Err fault.Replay) b.1;
+        stands = λ m did. goes_on x m v.rank.inbox v.rank.log (prints z) None (e ∷ rest) f.0 f.1
+            (did.state (prints z) None (subst (λ y. Makes (state_of v.rank.machine) (prints z) y) f.1
+            (subst (λ y. Makes (state_of v.rank.machine) y x.message) f.0 x.makes)))
+            at.counted (quietly (prints z) None (λ q j. refl)) at.logged
+            (logs_quiet r (history C r) v.rank (prints z) None (λ c d. refl) logs) b.0;
+      }
+
+  missing : (selector : Selector) → asks v.rank.machine ≡ want.TryProbe selector → (x : NextAct (history C r) v.rank.clock v.rank.machine)
+      → x.act ≡ misses → x.message ≡ None → Goes (want.TryProbe selector)
+  missing selector is x ea eo =
+      let y = now x (event_of kind.Miss 0 0 (v.rank.clock + 1)) (ap (λ z. event_at (v.rank.clock + 1) z x.message) ea) in
+      go y.0 y.1
+    where
+      go : e ≡ event_of kind.Miss 0 0 (v.rank.clock + 1) → rest ≡ events_from (v.rank.clock + 1) x.rest → Goes (want.TryProbe selector)
+      go ee er = record {
+        turn = Moved;
+        turned =
+            ap (λ z. replay_turn_at v.rank z (want.TryProbe selector)) ee ∙ ap (λ b. if b then Ok Moved else Err fault.Replay)
+            (eq-eqb (v.rank.clock + 1) (v.rank.clock + 1) refl);
+        stands =
+            subst (λ z. (m : MachineValue) → ReplayStepAt v.rank z (want.TryProbe selector) m → RankStands start n C r
+            (record { rank = replayed_at v.rank z (want.TryProbe selector) m; left = rest })) (sym ee)
+            (λ m did. goes_on x m v.rank.inbox v.rank.log misses None rest ea eo
+            did.state
+            at.counted (quietly misses None (λ q j. refl)) at.logged
+            (logs_quiet r (history C r) v.rank misses None (λ c d. refl) logs) er);
+      }
+
+  -- the packet that the event names, if it is there
+  named_is : (i : ℕ) (p : packet.Message) → named v.rank e ≡ Some (i, p)
+      → (slice_get v.rank.inbox.packets i ≡ Some p) × (p.source ≡ e.sender) × (p.clock ≡ e.sender_clock)
+  named_is i p is = go (position (is_named e.sender e.sender_clock) v.rank.inbox.packets) refl is
+    where
+      at_it : (k : ℕ) (o : Option packet.Message) → slice_get v.rank.inbox.packets k ≡ o
+          → position (is_named e.sender e.sender_clock) v.rank.inbox.packets ≡ Some k
+          → option_and_then {U = ℕ × packet.Message} (λ q. Some (k, q)) o ≡ Some (i, p)
+          → (slice_get v.rank.inbox.packets i ≡ Some p) × (p.source ≡ e.sender) × (p.clock ≡ e.sender_clock)
+      at_it k None f g h = absurd cc
+      at_it k (Some q) f g h =
+          let both : ◌≡◌ {A = ℕ × packet.Message} (k, q) (i, p) = cc in
+          let ek : k ≡ i = ap (λ z. z.0) both in
+          let eq : q ≡ p = ap (λ z. z.1) both in
+          let there : slice_get v.rank.inbox.packets k ≡ Some p = f ∙ ap Some eq in
+          let first = position-Some (is_named e.sender e.sender_clock) v.rank.inbox.packets k p g in
+          let parts = named_parts e.sender e.sender_clock p (subst (λ z. is_named e.sender e.sender_clock z ≡ true) (get_or_from_slice_get v.rank.inbox.packets k p p there) first.1) in
+          (subst (λ z. slice_get v.rank.inbox.packets z ≡ Some p) ek there, parts.0, parts.1)
+
+      go : (o : Option ℕ) → position (is_named e.sender e.sender_clock) v.rank.inbox.packets ≡ o
+          → option_and_then (at_index v.rank.inbox.packets) o ≡ Some (i, p)
+          → (slice_get v.rank.inbox.packets i ≡ Some p) × (p.source ≡ e.sender) × (p.clock ≡ e.sender_clock)
+      go None f h = absurd cc
+      go (Some k) f h = at_it k (slice_get v.rank.inbox.packets k) refl f h
+
+  is_now_true : (k : Kind) (source clock : ℕ) → e ≡ event_of k source clock (v.rank.clock + 1) → is_now v.rank e ≡ true
+  is_now_true k source clock ee = ap (λ z. is_now v.rank z) ee ∙ eq-eqb (v.rank.clock + 1) (v.rank.clock + 1) refl
+
+  -- the packet of the next act, where it is there
+  packet_is : (i source place : ℕ) (m : Message) (p : packet.Message) → named v.rank e ≡ Some (i, p) → (k : Kind)
+      → e ≡ event_of k source m.clock (v.rank.clock + 1) → at_place (sent C source r) place ≡ Some m
+      → (slice_get v.rank.inbox.packets i ≡ Some p) × IsOf source place m p
+  packet_is i source place m p f k ee there =
+      let x = named_is i p f in (
+        x.0,
+        one_message C r v.rank.inbox (take v.rank.clock (history C r)) i source place m p at.inbox x.0 (x.1 ∙ ap (λ z. z.sender) ee)
+            (x.2 ∙ ap (λ z. z.sender_clock) ee) there,
+      )
+
+  names_it : (selector : Selector) (source place : ℕ) (m : Message) (p : packet.Message) → IsOf source place m p → Matches selector source m
+      → matches selector p ≡ true
+  names_it selector source place m p is fits =
+      matches_if_named selector p (subst (λ z. Matches selector z (carried p)) (sym is.source) (subst (λ z. Matches selector source z) (sym is.message) fits))
+
+  receiving : (selector : Selector) → asks v.rank.machine ≡ want.Receive selector → Goes (want.Receive selector)
+  receiving selector is =
+      act (fits_receive selector (payload (state_of v.rank.machine)) x.act x.message
+      (subst (λ z. Fits z (payload (state_of v.rank.machine)) x.act x.message) (wanted v.rank.machine (want.Receive selector) is (λ z. cc)) x.makes))
+    where
+      x : NextAct (history C r) v.rank.clock v.rank.machine
+      x = next_is (stopped v.rank.machine (want.Receive selector) is (λ z. cc))
+
+      act : FitsTakes selector x.act x.message → Goes (want.Receive selector)
+      act f = go y.0 y.1 (named v.rank e) refl
+        where
+          there : at_place (sent C f.source r) f.place ≡ Some f.message
+          there = sym (ap (λ a. looked_up (λ q. sent C q r) a) f.act) ∙ looked x ∙ f.found
+
+          y : (e ≡ event_of kind.Reception f.source f.message.clock (v.rank.clock + 1)) × (rest ≡ events_from (v.rank.clock + 1) x.rest)
+          y =
+              now x (event_of kind.Reception f.source f.message.clock (v.rank.clock + 1))
+              (ap (λ z. event_at (v.rank.clock + 1) z x.message) f.act ∙ ap (λ z. event_at (v.rank.clock + 1) (takes f.source f.place) z) f.found)
+
+          turned_by : (o : Option (ℕ × packet.Message)) → e ≡ event_of kind.Reception f.source f.message.clock (v.rank.clock + 1) → named v.rank e ≡ o
+              → replay_turn_at v.rank e (want.Receive selector) ≡ named_turn selector o
+          turned_by o ee eo =
+              ap (λ b. if b then receive_turn selector (named v.rank e) e.kind else Err fault.Replay) (is_now_true kind.Reception f.source f.message.clock ee)
+              ∙ ap (λ k. receive_turn selector (named v.rank e) k) (ap (λ z. z.kind) ee) ∙ ap (λ z. named_turn selector z) eo
+
+          go : e ≡ event_of kind.Reception f.source f.message.clock (v.rank.clock + 1) → rest ≡ events_from (v.rank.clock + 1) x.rest
+              → (o : Option (ℕ × packet.Message)) → named v.rank e ≡ o → Goes (want.Receive selector)
+          go ee er None eo = record {
+            turn = Blocked;
+            turned = turned_by None ee eo;
+            stands =
+                subst (λ z. (m : MachineValue) → TakesFound z v.rank.machine m → RankStands start n C r
+                (record { rank = taken_named v.rank m z; left = e ∷ rest })) (sym eo) (λ m did. stays);
+          }
+          go ee er (Some g) eo =
+              let k = packet_is g.0 f.source f.place f.message g.1 eo kind.Reception ee there in
+              record {
+                turn = Moved;
+                turned =
+                    turned_by (Some g) ee eo ∙ ap (λ b. if b then Ok Moved else Err fault.Replay)
+                    (names_it selector f.source f.place f.message g.1 k.1 f.matching);
+                stands =
+                    subst (λ z. (m : MachineValue) → TakesFound z v.rank.machine m → RankStands start n C r
+                    (record { rank = taken_named v.rank m z; left = rest })) (sym eo)
+                    (λ m did. goes_on x m (without v.rank.inbox g.0) v.rank.log (takes g.1.source g.1.number) (Some (carried g.1)) rest
+                    (f.act ∙ ap (λ z. takes z f.place) (sym k.1.source) ∙ ap (λ z. takes g.1.source z) (sym k.1.number))
+                    (f.found ∙ ap Some (sym k.1.message))
+                    (did.state g.1.number)
+                    at.counted
+                    (InboxStands-taken v.rank.inbox (λ q. sent C q r) (take v.rank.clock (history C r)) g.0 g.1 (Some (carried g.1)) k.0 at.inbox)
+                    at.logged
+                    (logs_quiet r (history C r) v.rank (takes g.1.source g.1.number) (Some (carried g.1)) (λ c d. refl) logs) er);
+              }
+
+  -- a hit is shown the packet that the event names
+  shown_goes : (x : NextAct (history C r) v.rank.clock v.rank.machine) (selector : Selector) (f : FitsHits selector x.act x.message) (m : MachineValue) (g : ℕ × packet.Message)
+      → rest ≡ events_from (v.rank.clock + 1) x.rest → IsOf f.source f.place f.message g.1 → WasShown g.1 v.rank.machine m
+      → RankStands start n C r (record { rank = shown_named v.rank m (Some g); left = rest })
+  shown_goes x selector f m g er k did =
+      goes_on x m v.rank.inbox v.rank.log (hits g.1.source g.1.number) (Some (carried g.1)) rest
+      (f.act ∙ ap (λ z. hits z f.place) (sym k.source) ∙ ap (λ z. hits g.1.source z) (sym k.number))
+      (f.found ∙ ap Some (sym k.message))
+      (did.state g.1.number)
+      at.counted (quietly (hits g.1.source g.1.number) (Some (carried g.1)) (λ q j. refl)) at.logged
+      (logs_quiet r (history C r) v.rank (hits g.1.source g.1.number) (Some (carried g.1)) (λ c d. refl) logs) er
+
+  hit_now : (x : NextAct (history C r) v.rank.clock v.rank.machine) (selector : Selector) (f : FitsHits selector x.act x.message)
+      → (e ≡ event_of kind.Hit f.source f.message.clock (v.rank.clock + 1)) × (rest ≡ events_from (v.rank.clock + 1) x.rest)
+  hit_now x selector f =
+      now x (event_of kind.Hit f.source f.message.clock (v.rank.clock + 1))
+      (ap (λ z. event_at (v.rank.clock + 1) z x.message) f.act ∙ ap (λ z. event_at (v.rank.clock + 1) (hits f.source f.place) z) f.found)
+
+  hit_there : (x : NextAct (history C r) v.rank.clock v.rank.machine) (selector : Selector) (f : FitsHits selector x.act x.message)
+      → at_place (sent C f.source r) f.place ≡ Some f.message
+  hit_there x selector f = sym (ap (λ a. looked_up (λ q. sent C q r) a) f.act) ∙ looked x ∙ f.found
+
+  probing : (selector : Selector) → asks v.rank.machine ≡ want.Probe selector → Goes (want.Probe selector)
+  probing selector is =
+      act (fits_probe selector (payload (state_of v.rank.machine)) x.act x.message
+      (subst (λ z. Fits z (payload (state_of v.rank.machine)) x.act x.message) (wanted v.rank.machine (want.Probe selector) is (λ z. cc)) x.makes))
+    where
+      x : NextAct (history C r) v.rank.clock v.rank.machine
+      x = next_is (stopped v.rank.machine (want.Probe selector) is (λ z. cc))
+
+      act : FitsHits selector x.act x.message → Goes (want.Probe selector)
+      act f = go (hit_now x selector f).0 (hit_now x selector f).1 (named v.rank e) refl
+        where
+          turned_by : (o : Option (ℕ × packet.Message)) → e ≡ event_of kind.Hit f.source f.message.clock (v.rank.clock + 1) → named v.rank e ≡ o
+              → replay_turn_at v.rank e (want.Probe selector) ≡ named_turn selector o
+          turned_by o ee eo =
+              ap (λ b. if b then probe_turn selector (named v.rank e) e.kind else Err fault.Replay) (is_now_true kind.Hit f.source f.message.clock ee)
+              ∙ ap (λ k. probe_turn selector (named v.rank e) k) (ap (λ z. z.kind) ee) ∙ ap (λ z. named_turn selector z) eo
+
+          go : e ≡ event_of kind.Hit f.source f.message.clock (v.rank.clock + 1) → rest ≡ events_from (v.rank.clock + 1) x.rest
+              → (o : Option (ℕ × packet.Message)) → named v.rank e ≡ o → Goes (want.Probe selector)
+          go ee er None eo = record {
+            turn = Blocked;
+            turned = turned_by None ee eo;
+            stands =
+                subst (λ z. (m : MachineValue) → IsShownFound z v.rank.machine m → RankStands start n C r
+                (record { rank = shown_named v.rank m z; left = e ∷ rest })) (sym eo) (λ m did. stays);
+          }
+          go ee er (Some g) eo =
+              let k = packet_is g.0 f.source f.place f.message g.1 eo kind.Hit ee (hit_there x selector f) in
+              record {
+                turn = Moved;
+                turned =
+                    turned_by (Some g) ee eo ∙ ap (λ b. if b then Ok Moved else Err fault.Replay)
+                    (names_it selector f.source f.place f.message g.1 k.1 f.matching);
+                stands =
+                    subst (λ z. (m : MachineValue) → IsShownFound z v.rank.machine m → RankStands start n C r
+                    (record { rank = shown_named v.rank m z; left = rest })) (sym eo)
+                    (λ m did. shown_goes x selector f m g er k.1 did);
+              }
+
+  trying : (selector : Selector) → asks v.rank.machine ≡ want.TryProbe selector → Goes (want.TryProbe selector)
+  trying selector is =
+      ⊎_elim (λ f. act f) (λ f. missing selector is x f.0 f.1)
+      (fits_try selector (payload (state_of v.rank.machine)) x.act x.message
+      (subst (λ z. Fits z (payload (state_of v.rank.machine)) x.act x.message) (wanted v.rank.machine (want.TryProbe selector) is (λ z. cc)) x.makes))
+    where
+      x : NextAct (history C r) v.rank.clock v.rank.machine
+      x = next_is (stopped v.rank.machine (want.TryProbe selector) is (λ z. cc))
+
+      act : FitsHits selector x.act x.message → Goes (want.TryProbe selector)
+      act f = go (hit_now x selector f).0 (hit_now x selector f).1 (named v.rank e) refl
+        where
+          turned_by : (o : Option (ℕ × packet.Message)) → e ≡ event_of kind.Hit f.source f.message.clock (v.rank.clock + 1) → named v.rank e ≡ o
+              → replay_turn_at v.rank e (want.TryProbe selector) ≡ named_turn selector o
+          turned_by o ee eo =
+              ap (λ b. if b then try_turn selector (named v.rank e) e.kind else Err fault.Replay) (is_now_true kind.Hit f.source f.message.clock ee)
+              ∙ ap (λ k. try_turn selector (named v.rank e) k) (ap (λ z. z.kind) ee) ∙ ap (λ z. named_turn selector z) eo
+
+          kinds : e ≡ event_of kind.Hit f.source f.message.clock (v.rank.clock + 1) → e.kind ≡ kind.Hit
+          kinds ee = ap (λ z. z.kind) ee
+
+          go : e ≡ event_of kind.Hit f.source f.message.clock (v.rank.clock + 1) → rest ≡ events_from (v.rank.clock + 1) x.rest
+              → (o : Option (ℕ × packet.Message)) → named v.rank e ≡ o → Goes (want.TryProbe selector)
+          go ee er None eo = record {
+            turn = Blocked;
+            turned = turned_by None ee eo;
+            stands =
+                subst (λ k. (m : MachineValue) → TriesNamed (named v.rank e) k v.rank.machine m → RankStands start n C r
+                (record { rank = tried_named v.rank m (named v.rank e) k; left = e ∷ rest })) (sym (kinds ee))
+                (subst (λ z. (m : MachineValue) → IsShownFound z v.rank.machine m → RankStands start n C r
+                (record { rank = shown_named v.rank m z; left = e ∷ rest })) (sym eo) (λ m did. stays));
+          }
+          go ee er (Some g) eo =
+              let k = packet_is g.0 f.source f.place f.message g.1 eo kind.Hit ee (hit_there x selector f) in
+              record {
+                turn = Moved;
+                turned =
+                    turned_by (Some g) ee eo ∙ ap (λ b. if b then Ok Moved else Err fault.Replay)
+                    (names_it selector f.source f.place f.message g.1 k.1 f.matching);
+                stands =
+                    subst (λ y. (m : MachineValue) → TriesNamed (named v.rank e) y v.rank.machine m → RankStands start n C r
+                    (record { rank = tried_named v.rank m (named v.rank e) y; left = rest })) (sym (kinds ee))
+                    (subst (λ z. (m : MachineValue) → IsShownFound z v.rank.machine m → RankStands start n C r
+                    (record { rank = shown_named v.rank m z; left = rest })) (sym eo)
+                    (λ m did. shown_goes x selector f m g er k.1 did));
+              }
+
+  going : Goes want.Internal
+  going = record {
+    turn = Moved;
+    turned = refl;
+    stands = λ m did.
+        RankStands-same_clock start n C r (record { rank = v.rank; left = e ∷ rest }) stays v.rank.stable m v.rank.inbox v.rank.log v.rank.dues s.number s.size stays.logs
+        (StandsIn-moved (start r) n r (λ q. sent C q r) _ v.rank.clock v.rank.machine m v.rank.inbox v.rank.log did.state stays.at);
+  }
+
+  -- each step of a rank in replay is one that it may make: it is never refused, and keeps the rank with the run
+  pub replays : (w : Want) → asks v.rank.machine ≡ w → Goes w
+  replays want.Internal is = going
+  replays (want.Send d c t) is = sending d c t is
+  replays (want.Receive selector) is = receiving selector is
+  replays (want.Probe selector) is = probing selector is
+  replays (want.TryProbe selector) is = trying selector is
+  replays (want.Print z) is = printing z is
+  replays want.Halted is =
+      let x = next_is (stopped v.rank.machine want.Halted is (λ z. cc)) in
+      absurd (fits_ended want.Halted (payload (state_of v.rank.machine)) x.act x.message (inl refl)
+      (subst (λ z. Fits z (payload (state_of v.rank.machine)) x.act x.message) (wanted v.rank.machine want.Halted is (λ z. cc)) x.makes))
+  replays (want.Faulted k) is =
+      let x = next_is (stopped v.rank.machine (want.Faulted k) is (λ z. cc)) in
+      absurd (fits_ended (want.Faulted k) (payload (state_of v.rank.machine)) x.act x.message (inr (k, refl))
+      (subst (λ z. Fits z (payload (state_of v.rank.machine)) x.act x.message) (wanted v.rank.machine (want.Faulted k) is (λ z. cc)) x.makes))

@@ -1,0 +1,62 @@
+//! Steps of a rank.
+ghost use Rattle.std.specs.Prelude.{◌≡◌, ◌≢◌, [], true, None, IfOk, OnOk, OnErr};
+ghost use Rattle.world_model.specs.Seats.{IfLive, IsFitting, IsReplayed, IsStep};
+
+use crate::seat::Seat;
+use crate::state::State;
+use ports::ConsoleState;
+use rank_node::Turn;
+use std::alloc::AllocError;
+
+impl<'p> Seat<'p> {
+    ghost use Rattle.rank_node.specs.Steps.{turn_of, refusal_of, takes_memory};
+    ghost use Rattle.rank_node.specs.Replay.{replay_takes_memory, ShowsReplay};
+    ghost use Rattle.ports.specs.Console.{after_line};
+
+    /// The rank, which is at work and whose step isn't refused by name, makes
+    /// one step. An `Err` is want of memory.
+    #[tactic(auto, using(crate::proofs::Showing::step_is))]
+    pub fn step(&mut self, console: &mut ConsoleState) -> Result<Turn, AllocError>
+        requires work { IfLive self.old (λ v. v.left ≡ []) }
+        requires allowed { IfLive self.old (λ v. refusal_of v.rank ≡ None) }
+        ensures turn { IfOk result (λ turn. IfLive self.old (λ v. turn ≡ turn_of v.rank)) }
+        ensures ok { OnOk result (IfLive self.old (λ v. IsStep v self.new console.old console.new)) }
+        ensures err { OnErr result (self.new ≡ self.old) }
+        ensures memory { OnErr result (IfLive self.old (λ v. takes_memory v.rank ≡ true)) }
+        ensures err_console { OnErr result (console.new ≡ console.old) }
+    {
+        let step = match &mut self.state {
+            State::Running(running) => running.step(console),
+            State::Replaying(_) | State::Down(_) | State::Empty => unreachable!(),
+        };
+        let Ok(turn) = step else {
+            return Err(AllocError);
+        };
+        Ok(turn)
+    }
+
+    /// The rank, which replays and isn't refused, makes one step of its
+    /// replay, and runs on where nothing is left then. An `Err` is want of
+    /// memory.
+    #[tactic(auto, using(crate::proofs::Settling::replayed_is))]
+    pub fn replay(&mut self, console: &mut ConsoleState) -> Result<Turn, AllocError>
+        requires replays { IfLive self.old (λ v. v.left ≢ []) }
+        requires fits { IfLive self.old IsFitting }
+        ensures ok { IfOk result (λ turn. IfLive self.old (λ v. IsReplayed v turn self.new)) }
+        ensures shown { OnOk result (IfLive self.old (λ v. ShowsReplay (λ old rank clock value new. new ≡ after_line old rank clock value) v.rank console.old console.new)) }
+        ensures err { OnErr result (self.new ≡ self.old) }
+        ensures memory { OnErr result (IfLive self.old (λ v. replay_takes_memory v.rank ≡ true)) }
+        ensures err_console { OnErr result (console.new ≡ console.old) }
+    {
+        let step = match &mut self.state {
+            State::Replaying(replaying) => replaying.step(console),
+            State::Running(_) | State::Down(_) | State::Empty => unreachable!(),
+        };
+        let Ok(turn) = step else {
+            return Err(AllocError);
+        };
+        let state = self.state.take().settle();
+        self.state.put(state);
+        Ok(turn)
+    }
+}

@@ -1,0 +1,43 @@
+//! Frames that the ranks of a world put and take in.
+ghost use Rattle.std.specs.Prelude.{◌≡◌, ◌<◌, length, IfOk, OnOk, OnErr, IsSome};
+ghost use Rattle.rank_node.specs.Frames.{outgoing_of, after_passed, arrival_of, after_frame, IsPacket};
+ghost use Rattle.world_model.specs.Seats.{AtRank, with_value};
+
+use crate::seats::Seats;
+use rank_node::{Arrived, Frame};
+use std::alloc::AllocError;
+
+impl<'p> Seats<'p> {
+    /// What goes next from a rank to another. An `Err` is want of memory.
+    pub fn outgoing(&self, rank: u8, dest: u8) -> Result<Option<Frame>, AllocError>
+        requires rank { rank < length self.now }
+        requires dest { AtRank self.now rank (λ v. dest < v.rank.stable.size) }
+        ensures ok { IfOk result (λ frame. AtRank self.now rank (λ v. frame ≡ outgoing_of v.rank dest)) }
+        ensures packet_only { OnErr result (AtRank self.now rank (λ v. IsPacket (outgoing_of v.rank dest))) }
+    {
+        self.seats[usize::from(rank)].outgoing(dest)
+    }
+
+    /// What was outgoing from a rank to another has gone.
+    #[tactic(auto)]
+    pub fn passed(&mut self, rank: u8, dest: u8)
+        requires rank { rank < length self.old }
+        requires due { AtRank self.old rank (λ v. (dest < v.rank.stable.size) × IsSome (outgoing_of v.rank dest)) }
+        ensures { AtRank self.old rank (λ v. self.new ≡ with_value self.old rank v (after_passed v.rank dest)) }
+    {
+        self.seats[usize::from(rank)].passed(dest);
+    }
+
+    /// A frame from one rank arrives at another. An `Err` is want of memory.
+    #[tactic(auto, using(crate::proofs::Places::set_same))]
+    pub fn arrive(&mut self, rank: u8, from: u8, frame: Frame) -> Result<Arrived, AllocError>
+        requires rank { rank < length self.old }
+        requires from { AtRank self.old rank (λ v. from < v.rank.stable.size) }
+        ensures answer { IfOk result (λ answer. AtRank self.old rank (λ v. answer ≡ arrival_of v.rank from frame)) }
+        ensures ok { OnOk result (AtRank self.old rank (λ v. self.new ≡ with_value self.old rank v (after_frame v.rank from frame))) }
+        ensures err { OnErr result (self.new ≡ self.old) }
+    {
+        let arrived = self.seats[usize::from(rank)].arrive(from, frame)?;
+        Ok(arrived)
+    }
+}
