@@ -15,6 +15,16 @@ print x
 end
 ";
 
+/// Rank 0 sends, and rank 1 asks whether there is a message and prints the answer.
+const ONE_PROBE: &[u8] = b"var f
+if rank == 0
+send 1, 0, 9
+else
+iprobe any, any, f
+print f
+end
+";
+
 /// A probe that doesn't wait, and two lines.
 const TWO_LINES: &[u8] = b"var f
 iprobe any, any, f
@@ -190,6 +200,57 @@ const OF_LINES: [Row; 21] = [
     ("step 0", "ended"),
 ];
 
+/// A crash between a miss that is stored and its line. The replay misses again, though a message has come meanwhile.
+const BEFORE_ITS_LINE: [Row; 17] = [
+    ("step 1", "moved"),
+    ("step 1", "moved"),
+    ("step 1", "moved"),
+    ("store 1", "stored 1"),
+    ("crash 1", "crashed"),
+    ("step 0", "moved"),
+    ("step 0", "moved"),
+    ("step 0", "moved"),
+    ("put 0 1", "put 0 data 1"),
+    ("restart 1", "restarted 1"),
+    ("arrive 0 1 0", "accepted"),
+    ("step 1", "moved"),
+    ("step 1", "moved"),
+    ("step 1", "moved"),
+    ("step 1", "moved"),
+    ("step 1", "moved"),
+    ("step 1", "ended"),
+];
+
+/// An ask of a life that ended in another crash arrives late: what it brings is dropped.
+const OF_AN_OLD_ASK: [Row; 26] = [
+    ("step 0", "moved"),
+    ("step 0", "moved"),
+    ("step 0", "moved"),
+    ("put 0 1", "put 0 data 1"),
+    ("arrive 0 1 0", "accepted"),
+    ("step 1", "moved"),
+    ("step 1", "moved"),
+    ("step 1", "moved"),
+    ("store 1", "stored 1"),
+    ("crash 1", "crashed"),
+    ("restart 1", "restarted 1"),
+    ("put 1 0", "put 0 ask 1"),
+    ("crash 1", "crashed"),
+    ("restart 1", "restarted 1"),
+    ("put 1 0", "put 1 ask 1"),
+    ("arrive 1 0 1", "noted"),
+    ("put 0 1", "put 1 data 1"),
+    ("arrive 0 1 1", "accepted"),
+    ("step 1", "moved"),
+    ("step 1", "moved"),
+    ("step 1", "moved"),
+    ("ack 1", "refused"),
+    ("arrive 1 0 0", "noted"),
+    ("put 0 1", "put 2 data 1"),
+    ("arrive 0 1 2", "repeated"),
+    ("step 1", "moved"),
+];
+
 #[test]
 fn ranks_start_again(rt: HostRuntime) -> Result<(), Fail> {
     let alloc = rt.alloc();
@@ -197,5 +258,7 @@ fn ranks_start_again(rt: HostRuntime) -> Result<(), Fail> {
     compare_world(&rt, alloc, ONE_MESSAGE, 2, &OF_A_SENDER, "1> 42\n")?;
     compare_world(&rt, alloc, TWO_MESSAGES, 2, &IN_A_REPLAY, "1> 20\n1> 10\n")?;
     compare_world(&rt, alloc, TWO_MESSAGES, 2, &OF_ALL, "1> 20\n1> 10\n")?;
+    compare_world(&rt, alloc, ONE_PROBE, 2, &BEFORE_ITS_LINE, "1> 0\n")?;
+    compare_world(&rt, alloc, ONE_MESSAGE, 2, &OF_AN_OLD_ASK, "1> 42\n")?;
     compare_world(&rt, alloc, TWO_LINES, 1, &OF_LINES, "0> 5\n0> 6\n")
 }
