@@ -1,0 +1,10 @@
+pub mod Fields
+pub mod Packets
+pub mod Machines
+pub mod Whole
+pub mod Loop
+pub mod Arrays
+pub mod Written
+pub mod Rows
+pub mod Saving
+pub mod Saved

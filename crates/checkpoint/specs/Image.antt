@@ -1,8 +1,11 @@
 -- The image of a rank, as those that take one and begin at one see it (uncoordinated checkpoints: Elnozahy, Alvisi,
 -- Wang and Johnson 2002, "A Survey of Rollback-Recovery Protocols in Message-Passing Systems", section 2).
-use Rattle.std.specs.Prelude.{ℕ, ◌+◌, List, []}
+use Rattle.std.specs.Prelude.{ℕ, ◌+◌, Bool, ◌&&◌, List, [], length, map, ℤ, nat_le, ◌==◌, Option}
 use Rattle.matching.specs.Inbox.{Mailbox}
 use Rattle.payload_log.specs.Backlog.{Backlog}
+use Rattle.rank_language.specs.Program.{ProgramValue}
+use Rattle.rank_machine.specs.declared.fault.MachineFault.{MachineFault}
+use Rattle.rank_machine.specs.declared.status.Status.{Status}
 use Rattle.rank_machine.specs.Machine.{MachineValue}
 
 -- what an image says: the machine, the clock of the last act, the inbox with what was accepted, and the payload log;
@@ -16,3 +19,61 @@ pub record ImageValue : Type 0 where
 -- what is kept for a destination, to be transmitted from its beginning; nothing is held in an image
 abbrev pub rewound : Backlog → Backlog
 rewound b = record b { cursor = b.base + 1; held = [] }
+
+-- the image as it is read again: of cursors it says nothing
+abbrev pub at_rest : ImageValue → ImageValue
+at_rest i = record { machine = i.machine; clock = i.clock; inbox = i.inbox; log = map rewound i.log }
+
+-- Where a machine stands: its position, the acts done in the collective there, the fault that an act left, the values
+-- gathered there, and how many collectives it has finished.
+pub record Standing : Type 0 where
+  pub position : ℕ
+  pub done : ℕ
+  pub fault : Option MachineFault
+  pub gathered : List ℤ
+  pub finished : ℕ
+
+-- The language has no collectives yet, so that nothing is ever done in one, gathered or finished.
+abbrev pub standing_of : MachineValue → Standing
+standing_of m = record { position = m.position; done = 0; fault = m.fault; gathered = []; finished = 0 }
+
+-- the most acts that a machine can have done in the collective at its position
+abbrev pub most_done : MachineValue → ℕ
+most_done m = 0
+
+-- how many values it has gathered there after so many acts
+abbrev pub gathers : MachineValue → ℕ → ℕ
+gathers m done = 0
+
+-- the most collectives that a machine can have finished
+abbrev pub most_finished : ℕ
+most_finished = 0
+
+-- a machine can stand so in the collective at its position
+abbrev pub is_underway : Standing → MachineValue → Bool
+is_underway s m = nat_le s.done (most_done m) && (length s.gathered == gathers m s.done)
+
+-- source, tag and number of items of the last message
+abbrev pub status_of : MachineValue → Status
+status_of m = record { source = m.store.source; tag = m.store.tag; count = m.store.count }
+
+-- the length of each array
+abbrev pub lengths_of : ProgramValue → List ℕ
+lengths_of p = map (λ a. a.1) p.arrays
+
+-- the machine that stands so
+abbrev pub machine_of : ProgramValue → ℕ → ℕ → Standing → Status → List ℤ → List (List ℤ) → MachineValue
+machine_of p rank size standing status variables arrays = record {
+  program = p;
+  position = standing.position;
+  store = record {
+    rank = rank;
+    size = size;
+    variables = variables;
+    arrays = arrays;
+    source = status.source;
+    tag = status.tag;
+    count = status.count;
+  };
+  fault = standing.fault;
+}

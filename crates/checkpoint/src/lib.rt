@@ -1,8 +1,21 @@
-//! Checkpoints of a rank: the shelf on which its image outlives a crash.
+//! Checkpoints of a rank: its image as bytes, and the shelf on which the image
+//! outlives a crash.
 #![tactic(auto)]
 
+mod fault;
+mod image;
+mod laws;
 mod memory_shelf;
+mod read_inbox;
+mod read_log;
+mod read_machine;
+mod reading;
 mod shelf;
+mod write_image;
+mod writing;
 
+pub use fault::ImageFault;
+pub use image::{Image, decode, encode, encode_parts};
+pub use laws::images;
 pub use memory_shelf::MemoryShelf;
 pub use shelf::{Shelf, ShelfFault};

@@ -285,6 +285,20 @@ packet_matches xs i w p first slot =
     let all = position-Some (passes w) xs i None first in
     ap (passes w) (sym (get_or_from_slice_get xs i (Some p) None slot)) ∙ all.1
 
+-- and its source is a rank, as its slot is that of a message of one
+pub source_there : (now : SimValue) (program : ProgramValue) (machines : List MachineValue) (lanes : List (List Slot)) (C : List Passed)
+    (r source index s i : ℕ) (m : MachineValue) (v : Want) (w : Selector) (p : packet.Message)
+    → Sought now program machines lanes C r v → Found machines lanes r w source index s i → slice_get machines r ≡ Some m
+    → slice_get (lane lanes s r) i ≡ Some (Some p) → p.source < m.store.size
+source_there now program machines lanes C r source index s i m v w p known found there slot =
+    let q = found_there program machines lanes C r s i w known.kept (slice_get_within machines r m there) found.there found.first in
+    let same : p ≡ q.0 = some_same (some_same (sym slot ∙ q.1)) in
+    let size = (known.kept.ranks r m there).size in
+    rw (same, q.2, size) found.there
+  where
+    some_same : {A : Type 0} {x y : A} → Some x ≡ Some y → x ≡ y
+    some_same e = cc
+
 -- a machine that asks to receive may be given it
 pub may_give : (m : MachineValue) (w : Selector) (p : packet.Message) → Asks m (want.Receive w) → matches w p ≡ true → IsReceiving (asks m) p
 may_give m w p a names = rw a.asked names

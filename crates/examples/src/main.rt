@@ -11,7 +11,7 @@ use std::sync::Wait;
 use std::thread::Threads;
 
 /// The words of each run, after the program's name.
-const RUNS: [&str; 50] = [
+const RUNS: [&str; 52] = [
     "run --ranks 2 answer.rank",
     "run --ranks 4 ring.rank",
     "run --ranks 2 ping_pong.rank",
@@ -58,6 +58,8 @@ const RUNS: [&str; 50] = [
     "world --ranks 2 probe.rank probe.events",
     "world --ranks 2 answer.rank crash.events",
     "world --ranks 2 probing.rank crash_after_miss.events",
+    "world --ranks 2 overtaking.rank image.events",
+    "world --ranks 2 overtaking.rank old_ask.events",
     "world --ranks 2 answer.rank cannot.events",
     "world --ranks 2 answer.rank bad_line.events",
     "world --ranks 2 answer.rank none.events",

@@ -1,6 +1,8 @@
 -- The inbox as contracts see it (reception in the order of sending, without gap or repetition: Alvisi and
 -- Marzullo 1998; order of messages: MPI 1.1, section 3.5).
-use Rattle.std.specs.Prelude.{◌≡◌, ℕ, ◌+◌, ◌<◌, ◌≤◌, List, [], ◌∷◌, ◌++◌, length, ◌==◌, nat_le, if◌then◌else◌, slice_index, slice_set, remove, All, AllPairs}
+use Rattle.std.specs.Prelude.{◌≡◌, ℕ, ◌+◌, ◌<◌, ◌≤◌, Bool, ◌&&◌, ◌||◌, not, List, [], ◌∷◌, ◌++◌, length, ◌==◌, nat_le, nat_lt, if◌then◌else◌, slice_index, slice_set, remove}
+use Rattle.std.specs.Prelude.{All, AllPairs}
+use Rattle.std.specs.List.{list_all}
 use Rattle.metered.specs.Limits.{greatest_clock}
 use Rattle.matching.specs.Message.{Message}
 use Rattle.matching.specs.declared.inbox.Accept.{Accept}
@@ -52,3 +54,17 @@ pub record IsMailbox (box : Mailbox) : Type 0 where
   pub each : All (WasAccepted box.accepted) box.packets
   pub rising : AllPairs RisesTo box.packets
   pub counts : All (λ n. n ≤ greatest_clock) box.accepted
+
+-- a packet of this source has a lower number
+abbrev pub is_below : ℕ → ℕ → Message → Bool
+is_below source number m = not (m.source == source) || nat_lt m.number number
+
+-- a packet with this source and number can stand behind those of the inbox: it was accepted, and those of its source
+-- have lower numbers
+abbrev pub may_follow : Mailbox → ℕ → ℕ → Bool
+may_follow box source number =
+    (nat_le 1 number && nat_le number (accepted_from box source)) && list_all (is_below source number) box.packets
+
+-- the inbox with this packet last; it was counted before
+abbrev pub with_last : Mailbox → Message → Mailbox
+with_last box m = record { packets = box.packets ++ m ∷ []; accepted = box.accepted }

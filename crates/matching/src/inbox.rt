@@ -1,9 +1,12 @@
 //! The inbox of a rank.
-ghost use Rattle.std.specs.Prelude.{◌≡◌, ℕ, ◌+◌, ◌<◌, ◌≤◌, [], length, replicate, remove, slice_get, position};
-ghost use Rattle.std.specs.Prelude.{Some, true, IfOk, IfErr, IfSome, OnOk, OnErr};
+ghost use Rattle.std.specs.Prelude.{◌≡◌, ℕ, ◌+◌, ◌*◌, ◌<◌, ◌≤◌, [], length, replicate, remove, slice_get, position};
+ghost use Rattle.std.specs.Prelude.{Some, true, IfOk, IfErr, IfSome, OnOk, OnErr, All, AllPairs};
+ghost use Rattle.std.specs.Bool.{OnTrue};
+ghost use Rattle.std.specs.List.{list_all};
 ghost use Rattle.metered.specs.Limits.{greatest_clock};
 ghost use Rattle.matching.specs.Message.{Message};
 ghost use Rattle.matching.specs.Matching.{matches, is_named};
+ghost use Rattle.matching.specs.Inbox.{RisesTo, is_below};
 
 use crate::packet::Packet;
 use crate::selector::Selector;
@@ -41,7 +44,7 @@ impl Model for Inbox {
 }
 
 impl Inbox {
-    ghost use Rattle.matching.specs.Inbox.{accepted_from, answer_to, after_arrival, without, IsMailbox};
+    ghost use Rattle.matching.specs.Inbox.{accepted_from, answer_to, after_arrival, may_follow, with_last, without, IsMailbox};
 
     /// The empty inbox of a rank among `size` ranks.
     pub fn new(alloc: Heap, size: usize) -> Result<Inbox, AllocError>
@@ -51,6 +54,41 @@ impl Inbox {
             packets: Vec::new(alloc),
             accepted: vec![in alloc; 0; size]?,
         })
+    }
+
+    /// An inbox without packets, after these numbers of packets were accepted,
+    /// a number for each source.
+    pub fn after(alloc: Heap, accepted: Vec<u32, Heap>) -> Inbox
+        requires { All (λ n. n ≤ greatest_clock) accepted.items }
+        ensures { result ≡ record { packets = []; accepted = accepted.items } }
+    {
+        Inbox {
+            packets: Vec::new(alloc),
+            accepted,
+        }
+    }
+
+    /// Whether a packet of this source and number can stand behind those that
+    /// are there: it was accepted, and those of its source have lower numbers.
+    pub fn may_follow(&self, source: u8, number: u32) -> bool
+        requires { source < length self.now.accepted }
+        ensures value { result ≡ may_follow self.now source number }
+        ensures low { OnTrue result (1 ≤ number) }
+        ensures high { OnTrue result (number ≤ greatest_clock) }
+    {
+        1 <= number && number <= self.accepted(source) && all_below(&self.packets, source, number)
+    }
+
+    /// Puts a packet that was accepted before behind the others.
+    #[tactic(auto, using(crate::proofs::Following::follows))]
+    pub fn put_back(&mut self, packet: Packet) -> Result<(), AllocError>
+        requires source { packet.source < length self.old.accepted }
+        requires follows { may_follow self.old packet.source packet.number ≡ true }
+        ensures ok { OnOk result (self.new ≡ with_last self.old packet) }
+        ensures err { OnErr result (self.new ≡ self.old) }
+    {
+        self.packets.push(packet)?;
+        Ok(())
     }
 
     /// Takes in a packet that is the next of its source, and drops any other.
@@ -131,6 +169,29 @@ impl Inbox {
         self.accepted[usize::from(source)]
     }
 
+    /// The packets in the order of their acceptance.
+    pub fn packets(&self) -> &[Packet]
+        ensures { result.now ≡ self.now.packets }
+    {
+        &self.packets
+    }
+
+    /// For each source how many of its packets were accepted.
+    pub fn counts(&self) -> &[u32]
+        ensures counts { result.now ≡ self.now.accepted }
+        ensures high { All (λ n. n ≤ greatest_clock) result.now }
+    {
+        &self.accepted
+    }
+
+    /// There are no more packets than numbers for them: those of one source
+    /// have numbers of their own.
+    pub fn few_packets(&self)
+        ensures { length self.now.packets ≤ length self.now.accepted * (greatest_clock + 1) }
+    {
+        let _packets = &self.packets;
+    }
+
     /// Of one source the numbers rise along the inbox, and none is above the
     /// number accepted.
     pub fn numbers_rise(&self)
@@ -138,4 +199,19 @@ impl Inbox {
     {
         let _packets = &self.packets;
     }
+}
+
+// Whether the packets of this source have lower numbers. The last of them has
+// the highest, so none before it is looked at.
+fn all_below(packets: &[Packet], source: u8, number: u32) -> bool
+    requires { AllPairs RisesTo packets.now }
+    ensures { result ≡ list_all (is_below source number) packets.now }
+{
+    for behind in 0..packets.len() {
+        let packet = &packets[packets.len() - 1 - behind];
+        if packet.source == source {
+            return packet.number < number;
+        }
+    }
+    true
 }

@@ -9,6 +9,8 @@ mod fixtures;
 #[cfg(test)]
 mod held_packets;
 #[cfg(test)]
+mod images;
+#[cfg(test)]
 mod inbox;
 #[cfg(test)]
 mod packets;

@@ -13,6 +13,8 @@ mod desks;
 #[cfg(test)]
 mod expressions;
 #[cfg(test)]
+mod images;
+#[cfg(test)]
 mod limits;
 #[cfg(test)]
 mod machines;

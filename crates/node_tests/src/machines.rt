@@ -1,8 +1,9 @@
 //! One machine from its beginning to what stops it.
-ghost use Rattle.std.specs.Prelude.{◌≤◌, length};
+ghost use Rattle.std.specs.Prelude.{◌≡◌, ◌<◌, ◌≤◌, true, length};
 ghost use Rattle.metered.specs.Limits.{most_items};
+ghost use Rattle.matching.specs.Matching.{matches};
 
-use matching::{Context, Packet};
+use matching::{Context, Packet, Selector};
 use metered::Heap;
 use rank_language::Program;
 use rank_machine::{Machine, Want};
@@ -76,21 +77,29 @@ pub fn run(
                 machine.did_send();
             }
             Want::Receive(selector) => match packet.take() {
-                Some(packet) if selector.matches(&packet) => machine.give(packet),
+                Some(packet) if comes(machine, &selector, &packet) => machine.give(packet),
                 _ => break,
             },
             Want::Probe(selector) => match &packet {
-                Some(packet) if selector.matches(packet) => machine.show(packet),
+                Some(packet) if comes(machine, &selector, packet) => machine.show(packet),
                 _ => break,
             },
             Want::TryProbe(selector) => match &packet {
-                Some(packet) if selector.matches(packet) => machine.show(packet),
+                Some(packet) if comes(machine, &selector, packet) => machine.show(packet),
                 _ => machine.miss(),
             },
             Want::Halted | Want::Faulted(_) => break,
         }
     }
     Ok(shown)
+}
+
+// Whether the packet is one of a rank of the machine's run, and one that the selector names.
+fn comes(machine: &Machine, selector: &Selector, packet: &Packet) -> bool
+    ensures source { result ≡ true → packet.now.source < machine.now.store.size }
+    ensures named { result ≡ true → matches selector.now packet.now ≡ true }
+{
+    packet.source < machine.size() && selector.matches(packet)
 }
 
 /// A packet of rank 2 with tag 5.

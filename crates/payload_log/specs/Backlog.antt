@@ -92,3 +92,7 @@ pub record Keeps (b : Backlog) (all : List Message) : Type 0 where
 -- what is kept for a destination
 abbrev pub backlog : List Backlog → ℕ → Backlog
 backlog bs dest = slice_index_or bs dest new_backlog
+
+-- what is kept for a destination, to be transmitted from its beginning; nothing is held
+abbrev pub from_beginning : ℕ → ℕ → List Message → Backlog
+from_beginning base sent kept = record { base = base; sent = sent; cursor = base + 1; kept = kept; held = [] }

@@ -29,7 +29,7 @@ impl Model for Kept {
 }
 
 impl Kept {
-    ghost use Rattle.payload_log.specs.Backlog.{IsBacklog, new_backlog, next_number, saved, hold, freed, next_of, passed, asked, pruned};
+    ghost use Rattle.payload_log.specs.Backlog.{IsBacklog, from_beginning, new_backlog, next_number, saved, hold, freed, next_of, passed, asked, pruned};
 
     pub fn new(alloc: Heap) -> Self
         ensures { result ≡ new_backlog }
@@ -39,6 +39,20 @@ impl Kept {
             sent: 0,
             cursor: 1,
             packets: VecDeque::new(alloc),
+        }
+    }
+
+    /// These packets of those that were sent, to be transmitted from the first
+    /// on; none is held.
+    pub fn of(base: u32, sent: u32, packets: VecDeque<Packet, Heap>) -> Self
+        requires { IsBacklog (from_beginning base sent packets.items) }
+        ensures { result ≡ from_beginning base sent packets.items }
+    {
+        Kept {
+            base,
+            sent,
+            cursor: base + 1,
+            packets,
         }
     }
 
@@ -105,6 +119,24 @@ impl Kept {
             drop_front(&mut self.packets, 1);
         }
         self.sent += 1;
+    }
+
+    /// How many packets are kept.
+    pub fn len(&self) -> usize
+        ensures { result ≡ length self.now.kept }
+    {
+        self.sent.saturating_sub(self.base) as usize
+    }
+
+    /// The packet at this place among those that are kept.
+    pub fn get(&self, place: usize) -> Option<&Packet>
+        ensures { option_copied result ≡ slice_get self.now.kept place }
+    {
+        if place < self.len() {
+            self.packets.get(place)
+        } else {
+            None
+        }
     }
 
     /// How many packets are kept: they stand before those held.

@@ -5,5 +5,6 @@ mod backlog;
 mod laws;
 mod payload_log;
 
+pub use backlog::Kept;
 pub use laws::keeps;
 pub use payload_log::PayloadLog;

@@ -39,6 +39,20 @@ impl PayloadLog {
         Ok(PayloadLog { kept })
     }
 
+    /// The log of what is kept for each destination.
+    pub fn of(kept: Vec<Kept, Heap>) -> PayloadLog
+        ensures { result ≡ kept.items }
+    {
+        PayloadLog { kept }
+    }
+
+    /// What is kept for each destination.
+    pub fn destinations(&self) -> &[Kept]
+        ensures { result.now ≡ self.now }
+    {
+        &self.kept
+    }
+
     /// Counts the packet, and keeps it where its number is above the base. An
     /// `Err` is want of memory.
     pub fn save(&mut self, dest: usize, packet: Packet) -> Result<(), Packet>

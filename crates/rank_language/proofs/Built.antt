@@ -1,6 +1,7 @@
 -- The statements found from the last one on are the program of the whole text's statements: they are resolved by the
 -- tables that the statements leave, their targets are those of their tree, and their places are in the tables.
-use Rattle.std.proofs.Common.{◌≡◌, ℕ, List, [], length, map, Some, ap, ◌∙◌, sym, subst, arith}
+use Rattle.std.proofs.Common.{◌≡◌, ℕ, ◌≤◌, List, [], length, map, Some, ap, ◌∙◌, sym, subst, arith}
+use Rattle.metered.specs.Limits.{most_variables, most_arrays}
 use Rattle.rank_text.specs.Forms.{Form}
 use Rattle.rank_lines.specs.declared.scope.Array.{Array}
 use Rattle.rank_lines.specs.Scope.{Scope, Opened, nothing_yet, after_all, IsWhole}
@@ -17,6 +18,7 @@ use Rattle.rank_language.specs.Named.{forms_of, form_named, declared_by}
 use Rattle.rank_language.proofs.Resolving.{AreLines, are_lines}
 use Rattle.rank_language.proofs.Spread.{targeted_lines}
 use Rattle.rank_language.proofs.Whole.{resolvable, sized, balanced}
+use Rattle.rank_language.proofs.Few.{few_tables}
 use Rattle.rank_print.specs.Canonical.{all_canonical}
 use Rattle.rank_print.proofs.Settled.{all_leave, stays_whole}
 use Rattle.rank_language.proofs.Canonical.{all_same}
@@ -71,12 +73,15 @@ built_with fs p w v a r =
     let of_forms : IsOfForms fs p = record { variables = v; arrays = a; statements = r.steps; targets = shaped } in
     let same = same_forms fs p w v a r.steps in
     let few = w.few in
+    let tables = few_tables fs w in
     let count = r.count in
     record {
       stands = record {
         shaped = shaped;
         placed = subst (λ n. AllPlaced n (length p.arrays) p.statements) (ap length (sym v)) (subst (λ n. AllPlaced (length end.variables) n p.statements) (ap length (sym a)) r.within);
         few = omega arith;
+        few_variables = subst (λ xs. length xs ≤ most_variables) (sym v) tables.variables;
+        few_arrays = subst (λ xs. length xs ≤ most_arrays) (sym a) tables.arrays;
         sized = subst AllSized (sym a) (sized fs w);
         whole = subst IsWhole (sym same) (stays_whole fs w);
         program = subst (λ gs. IsOfForms gs p) (sym same) (canonical_too fs p of_forms);

@@ -8,6 +8,7 @@ pub mod Spread
 pub mod Options
 pub mod Resolving
 pub mod Whole
+pub mod Few
 pub mod Built
 pub mod Declared
 pub mod OneProgram

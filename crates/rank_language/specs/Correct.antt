@@ -1,6 +1,6 @@
 -- Which program a text has (the rank-program text: forms, meaning of one step, next positions).
 use Rattle.std.specs.Prelude.{◌≡◌, ℕ, ◌≤◌, List, Some, length, map}
-use Rattle.metered.specs.Limits.{most_lines}
+use Rattle.metered.specs.Limits.{most_lines, most_variables, most_arrays}
 use Rattle.rank_text.specs.Forms.{Form}
 use Rattle.rank_lines.specs.Faults.{IsText}
 use Rattle.rank_lines.specs.Scope.{nothing_yet, after_all, IsWhole}
@@ -18,12 +18,15 @@ pub record IsOfForms (forms : List Form) (p : ProgramValue) : Type 0 where
   pub statements : all_resolved (after_all nothing_yet forms) forms ≡ Some (map step_of p.statements)
   pub targets : p.statements ≡ lines_at 0 (tree_of p)
 
--- What holds of every program: its lines are those of its tree, their places are in its tables, there are no more than a
--- text may have, no array has more items than it may or none, and with names for its places it is the program of a whole text's statements.
+-- What holds of every program: its lines are those of its tree, their places are in its tables, there are no more lines, variables
+-- and arrays than a text may have, no array has more items than it may or none, and with names for its places it is the program of a
+-- whole text's statements.
 pub record IsProgram (p : ProgramValue) : Type 0 where
   pub shaped : p.statements ≡ lines_at 0 (tree_of p)
   pub placed : AllPlaced (length p.variables) (length p.arrays) p.statements
   pub few : length p.statements ≤ most_lines
+  pub few_variables : length p.variables ≤ most_variables
+  pub few_arrays : length p.arrays ≤ most_arrays
   pub sized : AllSized p.arrays
   pub whole : IsWhole (forms_of p)
   pub program : IsOfForms (forms_of p) p

@@ -1,5 +1,5 @@
 //! Programs: statements in order, each with where it leads to.
-ghost use Rattle.metered.specs.Limits.{most_lines};
+ghost use Rattle.metered.specs.Limits.{most_lines, most_variables, most_arrays};
 ghost use Rattle.rank_text.specs.Forms.{Form};
 ghost use Rattle.rank_lines.specs.declared.fault.ParseFault.TheVariants.{Fault, Memory};
 ghost use Rattle.rank_lines.specs.declared.fault.ProgramFault.{ProgramFault};
@@ -123,6 +123,16 @@ impl Program {
         ensures sized { AllSized self.now.arrays }
     {
         &self.arrays
+    }
+
+    /// It has no more statements, variables and arrays than a text may declare
+    /// (`metered::limits`).
+    pub fn is_within_limits(&self)
+        ensures lines { length self.now.statements ≤ most_lines }
+        ensures variables { length self.now.variables ≤ most_variables }
+        ensures arrays { length self.now.arrays ≤ most_arrays }
+    {
+        let _statements = &self.statements;
     }
 
     /// The statement at a position.

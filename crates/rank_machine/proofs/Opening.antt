@@ -11,4 +11,4 @@ use Rattle.rank_machine.proofs.Lengths.{zeros_lengths}
 pub begins : (p : ProgramValue) (s : Store) (rank size : ℕ) → s ≡ first_store p rank size → rank < size →
     (let m : MachineValue = record { program = p; position = 0; store = s; fault = None } in IsMachine m)
 begins p s rank size e l =
-    rw e (record { position = omega arith; variables = length-replicate (length p.variables) (pos 0); arrays = length-map p.arrays (λ a. replicate a.1 (pos 0)); lengths = zeros_lengths p.arrays; rank = l })
+    rw e (record { position = omega arith; variables = length-replicate (length p.variables) (pos 0); arrays = length-map p.arrays (λ a. replicate a.1 (pos 0)); lengths = zeros_lengths p.arrays; rank = l; fault = tt; source = omega arith; tag = omega arith; count = omega arith })

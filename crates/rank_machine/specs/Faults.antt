@@ -1,5 +1,5 @@
 -- The numbers by which outputs name the faults of a rank at work (docs/LANGUAGE.md, "Faults at work").
-use Rattle.std.specs.Prelude.{ℕ}
+use Rattle.std.specs.Prelude.{ℕ, Option, Some, None}
 use Rattle.rank_machine.specs.declared.fault.MachineFault.{MachineFault}
 use Rattle.rank_machine.specs.declared.fault.MachineFault.TheVariants.{Overflow, ZeroDivide, Index, BadRank, BadTag, TooLong, CollectiveMismatch}
 
@@ -12,3 +12,14 @@ number_of BadRank = 4
 number_of BadTag = 5
 number_of TooLong = 6
 number_of CollectiveMismatch = 7
+
+-- an act can leave only two faults; the others are faults of an evaluation, which is no step
+abbrev pub IsLeft : Option MachineFault → Type 0
+IsLeft None = Unit {0}
+IsLeft (Some Overflow) = ⊥
+IsLeft (Some ZeroDivide) = ⊥
+IsLeft (Some Index) = ⊥
+IsLeft (Some BadRank) = ⊥
+IsLeft (Some BadTag) = ⊥
+IsLeft (Some TooLong) = Unit {0}
+IsLeft (Some CollectiveMismatch) = Unit {0}

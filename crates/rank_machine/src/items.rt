@@ -41,8 +41,26 @@ impl Items {
         })
     }
 
+    /// These items, 1 to `MOST_ITEMS` of `metered::limits`.
+    pub fn of(items: Vec<i64, Heap>) -> Items
+        requires least { 1 ≤ length items.items }
+        requires most { length items.items ≤ most_items }
+        ensures { result ≡ items.items }
+    {
+        Items { items }
+    }
+
+    /// The items in order.
+    pub fn as_slice(&self) -> &[i64]
+        ensures { result.now ≡ self.now }
+    {
+        &self.items
+    }
+
     pub fn len(&self) -> usize
-        ensures { result ≡ length self.now }
+        ensures count { result ≡ length self.now }
+        ensures least { 1 ≤ result }
+        ensures most { result ≤ most_items }
     {
         self.items.len()
     }

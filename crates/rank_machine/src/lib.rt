@@ -6,11 +6,15 @@ mod items;
 pub mod laws;
 mod machine;
 mod operate;
+mod parts;
 mod status;
 mod store;
 mod want;
 mod wanted;
 
 pub use fault::MachineFault;
+pub use items::Items;
 pub use machine::Machine;
+pub use parts::Parts;
+pub use status::Status;
 pub use want::Want;

@@ -1,17 +1,22 @@
 -- What a send that is made again keeps: nothing waits, so nothing is held, and its packet is counted like any other.
-use Rattle.std.specs.Prelude.{◌≡◌, ℕ, zero, suc, ◌+◌, ◌<◌, ◌≢◌, List, [], ◌∷◌, length, slice_set, slice_index_or, drop}
+use Rattle.std.specs.Prelude.{◌≡◌, ℕ, zero, suc, true, ◌+◌, ◌<◌, ◌≢◌, List, [], ◌∷◌, length, slice_set, slice_index_or, drop}
 use Rattle.std.proofs.Common.{refl, ap, ◌∙◌, arith}
 use Rattle.std.proofs.lemmas.List.{nil_from_length}
 use Rattle.payload_log.specs.Backlog.{Backlog, backlog}
 use Rattle.std.proofs.Math.Numerals.{add-one}
 use Rattle.plain_logger.specs.Event.{EventValue}
 use Rattle.rank_node.specs.declared.waiting.Waiting.{Waiting}
-use Rattle.rank_node.specs.Waiting.{sends_to}
+use Rattle.rank_node.specs.Waiting.{sends_to, is_settled}
 
 -- where nothing waits, the payload log holds nothing
 pub none_held : (log : List Backlog) (waiting : List Waiting) → ((d : ℕ) → length (backlog log d).held ≡ sends_to d waiting) → waiting ≡ []
     → (d : ℕ) → (backlog log d).held ≡ []
 none_held log waiting held settled d = nil_from_length (backlog log d).held (held d ∙ ap (sends_to d) settled)
+
+-- what is settled has nothing in it
+pub settled_nil : (waiting : List Waiting) → is_settled waiting ≡ true → waiting ≡ []
+settled_nil [] settled = refl
+settled_nil (x ∷ xs) settled = absurd cc
 
 -- a backlog that holds what stood at its place before leaves what is held for each destination
 pub held_stays : (log : List Backlog) (dest : ℕ) (b : Backlog) → b.held ≡ (backlog log dest).held → (d : ℕ) → (backlog (slice_set log dest b) d).held ≡ (backlog log d).held

@@ -1,6 +1,6 @@
 -- What stands first of what waits, where it is an effect.
-use Rattle.std.proofs.Common.{◌≡◌, ◌≢◌, ℕ, ◌<◌, List, [], ◌∷◌, Option, Some, None, length, ◌∙◌, sym, arith, slice_get}
-use Rattle.payload_log.specs.Backlog.{Backlog, backlog}
+use Rattle.std.proofs.Common.{◌≡◌, ◌≢◌, ◌<◌, List, [], ◌∷◌, Some, None, length, arith, slice_get}
+use Rattle.payload_log.specs.Backlog.{backlog}
 use Rattle.rank_node.specs.declared.waiting.Waiting.{Waiting}
 use Rattle.rank_node.specs.declared.waiting.Waiting.TheVariants.{Event, Send, Line}
 use Rattle.rank_node.specs.Node.{Node}

@@ -1,7 +1,9 @@
 -- What a receive takes and a probe is shown is what was found: the first packet that the selector names is found at its
 -- index, and the machine was given or shown just that one.
-use Rattle.std.specs.Prelude.{◌≡◌, ℕ, List, Option, Some, slice_get, option_and_then, position}
+use Rattle.std.specs.Prelude.{◌≡◌, ℕ, ◌<◌, List, length, Option, Some, slice_get, slice_index_or, option_and_then, position}
 use Rattle.std.proofs.Common.{ap, sym, subst, ◌∙◌}
+use Rattle.std.proofs.lemmas.Option.{slice_get-get_or, slice_get_within}
+use Rattle.matching.specs.Inbox.{Mailbox, IsMailbox}
 use Rattle.matching.specs.declared.selector.Selector.{Selector}
 use Rattle.matching.specs.Message.{Message}
 use Rattle.matching.specs.Matching.{matches}
@@ -34,3 +36,11 @@ was_shown ms i m old new there state position stays =
     let at : Some (i, m) ≡ at_index ms i = sym (ap (option_and_then (λ packet. Some (i, packet))) there) in
     let shown : WasShown m old new = record { state = state; position = position; stays = stays } in
     subst P at (shown, shown)
+
+-- a packet that lies in the inbox was sent by one of the ranks
+pub accepted_source : (box : Mailbox) (i : ℕ) (m : Message) → IsMailbox box → slice_get box.packets i ≡ Some m → m.source < length box.accepted
+accepted_source box i m is there =
+    let within = slice_get_within box.packets i m there in
+    let same : Some m ≡ Some (slice_index_or box.packets i m) = sym there ∙ slice_get-get_or box.packets i m within in
+    let own : slice_index_or box.packets i m ≡ m = cc in
+    subst (λ (x : Message). x.source < length box.accepted) own (is.each i m within).source

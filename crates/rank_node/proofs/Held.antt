@@ -1,16 +1,14 @@
 -- For each rank as many packets are held as sends to it wait: so it stays where an event, a line or a send comes to wait,
 -- and where a send is released.
-use Rattle.std.proofs.Common.{◌≡◌, ℕ, zero, suc, ◌+◌, ◌<◌, ◌≤◌, ◌⊎◌, inl, inr, if◌then◌else◌, ℤ, List, [], ◌∷◌, ◌++◌, length, drop, Some, slice_get, option_and_then, refl, sym, ap, subst, ◌∙◌, arith, slice_set}
+use Rattle.std.proofs.Common.{◌≡◌, ℕ, zero, suc, ◌+◌, ◌<◌, ◌⊎◌, inl, inr, if◌then◌else◌, ℤ, List, [], ◌∷◌, ◌++◌, length, drop, Some, slice_get, option_and_then, refl, sym, ap, subst, ◌∙◌, arith, slice_set}
 use Rattle.std.proofs.lemmas.Bool.{cases_eq, eq-eqb, ne_eqb}
 use Rattle.std.proofs.lemmas.List.{get_or-set_same, get_or-set_other, length_push}
-use Rattle.std.proofs.lemmas.List.Elements.{All-get_or, All-set, All-weaker}
-use Rattle.std.specs.Prelude.{All}
 use Rattle.matching.specs.Message as packet
 use Rattle.plain_logger.specs.Event.{EventValue}
 use Rattle.payload_log.specs.Backlog.{Backlog, backlog, new_backlog, hold, freed, freed_of}
 use Rattle.rank_node.specs.declared.waiting.Waiting.{Waiting}
 use Rattle.rank_node.specs.declared.waiting.Waiting.TheVariants.{Event, Send, Line}
-use Rattle.rank_node.specs.Waiting.{sends_to}
+use Rattle.rank_node.specs.Waiting.{Gate, sends_to}
 use Rattle.rank_node.specs.Releasing.{effect_of}
 use Rattle.rank_node.proofs.Gates.{sends_to_push}
 
@@ -27,6 +25,13 @@ sends_to_event d xs e = (let z = sends_to_push d xs (Event e) in omega (arith, z
 -- and so does a line
 pub sends_to_line : (d : ℕ) (xs : List Waiting) (clock : ℕ) (value : ℤ) → sends_to d (xs ++ Line clock value ∷ []) ≡ sends_to d xs
 sends_to_line d xs clock value = (let z = sends_to_push d xs (Line clock value) in omega (arith, z))
+
+-- so as many packets are held as sends wait, as before
+pub held_event : (log : List Backlog) (old new : Gate) (e : EventValue) → new ≡ record { waiting = old.waiting ++ Event e ∷ []; stored = old.stored } → Held log old.waiting → Held log new.waiting
+held_event log old new e more h d = h d ∙ sym (ap (λ (g : Gate). sends_to d g.waiting) more ∙ sends_to_event d old.waiting e)
+
+pub held_line : (log : List Backlog) (old new : Gate) (clock : ℕ) (value : ℤ) → new ≡ record { waiting = old.waiting ++ Line clock value ∷ []; stored = old.stored } → Held log old.waiting → Held log new.waiting
+held_line log old new clock value more h d = h d ∙ sym (ap (λ (g : Gate). sends_to d g.waiting) more ∙ sends_to_line d old.waiting clock value)
 
 -- a send waits, and its packet is held
 pub held_send : (log : List Backlog) (xs : List Waiting) (dest clock : ℕ) (p : packet.Message) → dest < length log
@@ -86,29 +91,3 @@ held_release log xs dest clock below h s d = go (cases_eq d dest)
     go (inr ne) =
         ap (λ z. length z.held) (get_or-set_other log dest d (freed (backlog log dest)) new_backlog ne) ∙ h d ∙ ap (sends_to d) s
         ∙ ap (λ b. if b then suc (sends_to d rest) else sends_to d rest) (ne_eqb dest d (λ z. ne (sym z)))
-
--- what was sent and is held together stays as much
-pub freed_sent : (b : Backlog) (c : ℕ) → b.sent + length b.held ≤ c → (freed b).sent + length (freed b).held ≤ c
-freed_sent b c l = go b.held l
-  where
-    go : (ms : List packet.Message) → b.sent + length ms ≤ c → (freed_of b ms).sent + length (freed_of b ms).held ≤ c
-    go [] f = l
-    go (m ∷ ms) f = (let z : b.sent + 1 + length ms ≤ c = omega (arith, f) in z)
-
--- ---- what was sent and is held is no more than acts were made
-
--- a packet more is held after an act more
-pub sent_held : (log : List Backlog) (dest c : ℕ) (p : packet.Message) → dest < length log → All (λ (b : Backlog). b.sent + length b.held ≤ c) log
-    → All (λ (b : Backlog). b.sent + length b.held ≤ c + 1) (slice_set log dest (hold (backlog log dest) p))
-sent_held log dest c p below all =
-    let one = All-get_or (λ (b : Backlog). b.sent + length b.held ≤ c) log dest new_backlog below all in
-    let push = length_push (backlog log dest).held p in
-    All-set (λ (b : Backlog). b.sent + length b.held ≤ c + 1) log dest (hold (backlog log dest) p) (omega (arith, one, push))
-    (All-weaker (λ (b : Backlog). b.sent + length b.held ≤ c) (λ (b : Backlog). b.sent + length b.held ≤ c + 1) (λ b l. omega (arith, l)) log all)
-
--- a packet is sent that was held
-pub sent_freed : (log : List Backlog) (dest c : ℕ) → dest < length log → All (λ (b : Backlog). b.sent + length b.held ≤ c) log
-    → All (λ (b : Backlog). b.sent + length b.held ≤ c) (slice_set log dest (freed (backlog log dest)))
-sent_freed log dest c below all =
-    let one = All-get_or (λ (b : Backlog). b.sent + length b.held ≤ c) log dest new_backlog below all in
-    All-set (λ (b : Backlog). b.sent + length b.held ≤ c) log dest (freed (backlog log dest)) (freed_sent (backlog log dest) c one) all

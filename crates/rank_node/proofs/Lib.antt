@@ -2,6 +2,8 @@ pub mod Again
 pub mod Found
 pub mod Gates
 pub mod Held
+pub mod Images
 pub mod Rows
+pub mod Sent
 pub mod Settled
 pub mod Effects

@@ -1,5 +1,5 @@
 -- What waits at the gate neither grows nor shrinks where a frame arrives or goes out.
-use Rattle.std.specs.Prelude.{◌≡◌, ℕ, ◌==◌, Bool, true, false, if◌then◌else◌, List, Option, Some, None}
+use Rattle.std.specs.Prelude.{◌≡◌, ℕ, ◌==◌, Bool, true, false, if◌then◌else◌, Option, Some, None}
 use Rattle.std.proofs.Common.{refl}
 use Rattle.matching.specs.Inbox.{after_arrival}
 use Rattle.rank_node.specs.declared.frame.Frame.{Frame}

@@ -1,9 +1,10 @@
 -- A rank at work as contracts see it (pessimistic message logging with sender-based payloads: Alvisi and Marzullo 1998,
 -- "Message Logging: Pessimistic, Optimistic, Causal, and Optimal").
-use Rattle.std.specs.Prelude.{◌≡◌, ℕ, ◌+◌, ◌<◌, ◌≤◌, List, [], length, None, replicate, All}
+use Rattle.std.specs.Prelude.{◌≡◌, ℕ, ◌<◌, ◌≤◌, List, [], length, None, replicate, All}
 use Rattle.metered.specs.Limits.{most_ranks, greatest_clock, most_events, most_effects}
 use Rattle.matching.specs.Inbox.{Mailbox}
 use Rattle.payload_log.specs.Backlog.{Backlog, backlog, new_backlog}
+use Rattle.payload_log.specs.Sender.{IsSentBy}
 use Rattle.rank_language.specs.Program.{ProgramValue}
 use Rattle.rank_machine.specs.States.{first_store}
 use Rattle.rank_machine.specs.Machine.{MachineValue}
@@ -50,7 +51,8 @@ opening program stable = record {
 
 -- There is an inbox count, a backlog and what is due for each rank; the machine is this rank's; clock and number of
 -- events are within their limits. The stored events are the first of what waits, of which few are effects; the payload
--- log holds a packet for each send that waits; and no more was sent or is held than acts were made.
+-- log holds a packet for each send that waits; and what it keeps and holds was sent by acts of this rank, the earlier packet
+-- by an earlier act.
 pub record IsNode {S D : Type 0} (v : Node S D) : Type 0 where
   pub inbox : length v.inbox.accepted ≡ v.stable.size
   pub log : length v.log ≡ v.stable.size
@@ -63,5 +65,5 @@ pub record IsNode {S D : Type 0} (v : Node S D) : Type 0 where
   pub made : v.made ≤ most_events
   pub stored : BeginsWithEvents v.stored v.pending
   pub effects : effects v.pending ≤ most_effects
-  pub sent : All (λ (b : Backlog). b.sent + length b.held ≤ v.clock) v.log
+  pub sent : All (IsSentBy v.stable.rank v.clock) v.log
   pub held : (d : ℕ) → length (backlog v.log d).held ≡ sends_to d v.pending

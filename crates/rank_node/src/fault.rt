@@ -1,8 +1,9 @@
 //! Why a call on a rank is refused.
 ghost use Rattle.std.specs.Prelude.{◌≡◌};
-ghost use Rattle.rank_node.specs.Fault.{fault_number};
+ghost use Rattle.rank_node.specs.Fault.{fault_number, of_image, of_shelf};
 ghost use Rattle.rank_node.specs.declared.fault.NodeFault.TheVariants.{Memory};
 
+use checkpoint::{ImageFault, ShelfFault};
 use std::alloc::{AllocError, AllocFailed};
 
 /// Why a call on a rank is refused.
@@ -54,5 +55,31 @@ impl From<AllocError> for NodeFault {
 
     fn from(_e: AllocError) -> NodeFault {
         NodeFault::Memory
+    }
+}
+
+impl From<ShelfFault> for NodeFault {
+    ghost from_gives = { λ fault e. e ≡ of_shelf fault };
+
+    fn from(fault: ShelfFault) -> NodeFault {
+        match fault {
+            ShelfFault::Device => NodeFault::Shelf,
+            ShelfFault::Memory => NodeFault::Memory,
+        }
+    }
+}
+
+impl From<ImageFault> for NodeFault {
+    ghost from_gives = { λ fault e. e ≡ of_image fault };
+
+    fn from(fault: ImageFault) -> NodeFault {
+        match fault {
+            ImageFault::Version
+            | ImageFault::Short
+            | ImageFault::Long
+            | ImageFault::Field
+            | ImageFault::WrongProgram => NodeFault::Image,
+            ImageFault::Memory => NodeFault::Memory,
+        }
     }
 }

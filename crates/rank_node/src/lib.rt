@@ -9,6 +9,7 @@ mod events;
 mod fault;
 mod frame;
 mod frames;
+mod imaging;
 mod outlook;
 mod pending;
 mod probing;

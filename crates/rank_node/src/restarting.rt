@@ -1,17 +1,20 @@
 //! How a rank starts again.
-ghost use Rattle.std.specs.Prelude.{◌≡◌, ◌≤◌, length, map, None, IfOk, IfErr};
-ghost use Rattle.metered.specs.Limits.{most_events};
+ghost use Rattle.std.specs.Prelude.{◌≡◌, ◌<◌, ◌≤◌, ◌⊎◌, length, map, IfOk, IfErr, OnOk, IsErrOf};
+ghost use Rattle.metered.specs.Limits.{most_events, most_ranks};
 ghost use Rattle.plain_logger.specs.History.{above};
-ghost use Rattle.rank_node.specs.Image.{begins_at};
-ghost use Rattle.rank_node.specs.Replay.{ask_after, left_of, restarted};
+ghost use Rattle.checkpoint.specs.Savable.{IsSavable};
+ghost use Rattle.checkpoint.specs.Shelf.{Grew, image_bytes};
+ghost use Rattle.rank_node.specs.Fault.{MayRefuseRestart};
+ghost use Rattle.rank_node.specs.Image.{BeginsAgain, KeepsImage, Reads, begins_at, image_on, with_shelf};
+ghost use Rattle.rank_node.specs.Replay.{ask_after};
 
 use crate::down::Down;
 use crate::due::Due;
 use crate::fault::NodeFault;
 use crate::frame::AskFrom;
 use crate::replaying::Replaying;
-use crate::running::Running;
-use checkpoint::Shelf;
+use crate::running::{Running, first_image};
+use checkpoint::{Image, Shelf, decode};
 use matching::Inbox;
 use metered::Heap;
 use plain_logger::Event;
@@ -19,38 +22,91 @@ use rank_language::Program;
 use std::alloc::AllocError;
 
 impl<S: Shelf, D> Down<S, D> {
-    /// The rank starts again at the beginning of its program, and replays this
+    /// The rank starts again at the image on its shelf, or at the beginning of
+    /// its program where there is none, and replays what is above that of this
     /// row, which is the whole of its own at the logger. It asks every rank,
-    /// itself too, for what it hasn't accepted. An `Err` is want of memory,
-    /// and gives the rank back.
+    /// itself too, for what it hasn't accepted.
+    ///
+    /// An `Err` gives the rank back: the shelf's device failed, its bytes are
+    /// no image of this rank of the program, or there was no memory.
     pub fn restart<'p>(
-        self,
+        mut self,
         alloc: Heap,
         program: &'p Program,
         row: Vec<Event, Heap>,
     ) -> Result<Replaying<'p, S, D>, (Down<S, D>, NodeFault)>
         requires { length row.items ≤ most_events }
-        ensures node { IfOk result (λ rank. rank.node ≡ restarted self (begins_at program.entry.now self.rank self.size None) (length row.items)) }
-        ensures left { IfOk result (λ rank. rank.left ≡ left_of (begins_at program.entry.now self.rank self.size None) row.items) }
-        ensures err { IfErr result (λ refused. refused ≡ (self, NodeFault.Memory)) }
+        ensures ok { IfOk result (λ rank. BeginsAgain S.last program.entry.now row.items self rank) }
+        ensures reads { OnOk result (Reads program.entry.now self.rank self.size (S.last self.shelf)) }
+
+        ensures back { IfErr result (λ refused. KeepsImage S.last self refused.0) }
+        ensures refused { IfErr result (λ refused. MayRefuseRestart refused.1) }
+        ensures device { IfErr result (λ refused. refused.1 ≡ NodeFault.Shelf → Grew (S.failures self.shelf) (S.failures refused.0.shelf)) }
+        ensures unreadable { IfErr result (λ refused. refused.1 ≡ NodeFault.Image → Reads program.entry.now self.rank self.size (S.last self.shelf) → ⊥) }
     {
+        let image = match self.last_image(alloc, program) {
+            Ok(image) => image,
+            Err(fault) => return Err((self, fault)),
+        };
+        let Ok(dues) = asks(alloc, &image.inbox, self.stable.size()) else {
+            return Err((self, NodeFault::Memory));
+        };
+        let Down { stable } = self;
         let made = row.len();
-        let mut running = match Running::start(alloc, program, self.retire()) {
-            Ok(running) => running,
-            Err((stable, fault)) => return Err((Down::of(stable), fault)),
-        };
-        let Ok(dues) = asks(alloc, &running.inbox, running.stable.size()) else {
-            return Err((running.crash(), NodeFault::Memory));
-        };
-        running.dues = dues;
-        running.made = made;
-        let events = later(row, running.clock());
+        let events = later(row, image.clock);
         Ok(Replaying {
-            running,
+            running: Running::at(stable, alloc, image, made, dues),
             events,
             next: 0,
         })
     }
+
+    // Where the rank begins again: at the image on its shelf, or at the beginning of its program where there is none.
+    fn last_image<'p>(&mut self, alloc: Heap, program: &'p Program) -> Result<Image<'p>, NodeFault>
+        ensures begins { IfOk result (λ image. image ≡ begins_at program.entry.now self.old.rank self.old.size
+            (image_on program.entry.now self.old.rank self.old.size (S.last self.old.shelf))) }
+        ensures savable { IfOk result (λ image. IsSavable image) }
+        ensures own { IfOk result (λ image. image.machine.store.rank ≡ self.old.rank) }
+        ensures ranks { IfOk result (λ image. image.machine.store.size ≡ self.old.size) }
+        ensures reads { OnOk result (Reads program.entry.now self.old.rank self.old.size (S.last self.old.shelf)) }
+        ensures same { self.new ≡ with_shelf self.old self.new.shelf }
+        ensures kept { S.last self.new.shelf ≡ S.last self.old.shelf }
+
+        ensures refused { IfErr result MayRefuseRestart }
+        ensures device { IsErrOf result NodeFault.Shelf → Grew (S.failures self.old.shelf) (S.failures self.new.shelf) }
+        ensures unreadable { IsErrOf result NodeFault.Image → Reads program.entry.now self.old.rank self.old.size (S.last self.old.shelf) → ⊥ }
+    {
+        let rank = self.stable.rank();
+        let size = self.stable.size();
+        let bytes = self.stable.get()?;
+        image_of_bytes(alloc, program, rank, size, bytes)
+    }
+}
+
+// The image that these bytes are, or the beginning of the program where there are none.
+fn image_of_bytes<'p>(
+    alloc: Heap,
+    program: &'p Program,
+    rank: u8,
+    size: u8,
+    bytes: Option<Vec<u8, Heap>>,
+) -> Result<Image<'p>, NodeFault>
+    requires rank { rank < size }
+    requires size { size ≤ most_ranks }
+    ensures begins { IfOk result (λ image. image ≡ begins_at program.entry.now rank size (image_on program.entry.now rank size (image_bytes bytes))) }
+    ensures savable { IfOk result (λ image. IsSavable image) }
+    ensures own { IfOk result (λ image. image.machine.store.rank ≡ rank) }
+    ensures ranks { IfOk result (λ image. image.machine.store.size ≡ size) }
+    ensures reads { OnOk result (Reads program.entry.now rank size (image_bytes bytes)) }
+
+    ensures refused { IfErr result (λ e. (e ≡ NodeFault.Image) ⊎ (e ≡ NodeFault.Memory)) }
+    ensures unreadable { IsErrOf result NodeFault.Image → Reads program.entry.now rank size (image_bytes bytes) → ⊥ }
+{
+    let image = match bytes {
+        None => first_image(alloc, program, rank, size)?,
+        Some(bytes) => decode(alloc, program, rank, size, &bytes)?,
+    };
+    Ok(image)
 }
 
 // An ask to each rank for what comes after the last that was accepted.

@@ -1,12 +1,15 @@
 //! A rank that runs.
-ghost use Rattle.std.specs.Prelude.{◌≡◌, replicate, IfOk, IfErr, None};
+ghost use Rattle.std.specs.Prelude.{◌≡◌, ◌<◌, ◌≤◌, length, replicate, IfOk, IfErr, None};
+ghost use Rattle.metered.specs.Limits.{most_events, most_ranks};
 ghost use Rattle.rank_machine.specs.Machine.{asks};
+ghost use Rattle.checkpoint.specs.Savable.{IsSavable};
+ghost use Rattle.rank_node.specs.Image.{first_image};
 
 use crate::due::Due;
 use crate::fault::NodeFault;
 use crate::pending::Pending;
 use crate::stable::Stable;
-use checkpoint::Shelf;
+use checkpoint::{Image, Shelf};
 use matching::Inbox;
 use metered::Heap;
 use payload_log::PayloadLog;
@@ -65,6 +68,7 @@ impl<'p, S: Shelf, D> Model for Running<'p, S, D> {
 
 impl<'p, S: Shelf, D> Running<'p, S, D> {
     ghost use Rattle.rank_node.specs.Node.{opening};
+    ghost use Rattle.rank_node.specs.Image.{at_image};
 
     /// A rank at the beginning of its program. An `Err` is want of memory, and
     /// gives back what was given.
@@ -78,29 +82,48 @@ impl<'p, S: Shelf, D> Running<'p, S, D> {
     {
         let rank = stable.rank();
         let size = stable.size();
-        let Ok(machine) = Machine::new(alloc, program, rank, size) else {
-            return Err((stable, NodeFault::Memory));
-        };
-        let Ok(inbox) = Inbox::new(alloc, usize::from(size)) else {
-            return Err((stable, NodeFault::Memory));
-        };
-        let Ok(log) = PayloadLog::new(alloc, usize::from(size)) else {
+        let Ok(image) = first_image(alloc, program, rank, size) else {
             return Err((stable, NodeFault::Memory));
         };
         let Ok(dues) = no_dues(alloc, usize::from(size)) else {
             return Err((stable, NodeFault::Memory));
         };
-        Ok(Running {
+        Ok(Running::at(stable, alloc, image, 0, dues))
+    }
+
+    // The rank that stands at an image and has made so many events, with what is due to each rank.
+    #[tactic(auto, using(crate::proofs::Images::savable_held))]
+    pub(crate) fn at(
+        stable: Stable<S, D>,
+        alloc: Heap,
+        image: Image<'p>,
+        made: usize,
+        dues: Vec<Due, Heap>,
+    ) -> Running<'p, S, D>
+        requires savable { IsSavable image }
+        requires rank { image.machine.store.rank ≡ stable.rank }
+        requires size { image.machine.store.size ≡ stable.size }
+        requires made { made ≤ most_events }
+        requires dues { length dues.items ≡ stable.size }
+        ensures { result ≡ at_image stable image.entry made dues.items }
+    {
+        let Image {
+            machine,
+            clock,
+            inbox,
+            log,
+        } = image;
+        Running {
             stable,
             alloc,
             machine,
-            clock: 0,
-            made: 0,
+            clock,
+            made,
             inbox,
             log,
             pending: Pending::new(alloc),
             dues,
-        })
+        }
     }
 
     /// The rank stops for good.
@@ -134,6 +157,27 @@ impl<'p, S: Shelf, D> Running<'p, S, D> {
     {
         self.clock
     }
+}
+
+// The beginning of a program, as an image of the rank. An `Err` is want of memory.
+#[tactic(auto, using(crate::proofs::Images::first_savable))]
+pub(crate) fn first_image<'p>(
+    alloc: Heap,
+    program: &'p Program,
+    rank: u8,
+    size: u8,
+) -> Result<Image<'p>, AllocError>
+    requires rank { rank < size }
+    requires size { size ≤ most_ranks }
+    ensures first { IfOk result (λ image. image ≡ first_image program.entry.now rank size) }
+    ensures savable { IfOk result (λ image. IsSavable image) }
+{
+    Ok(Image {
+        machine: Machine::new(alloc, program, rank, size)?,
+        clock: 0,
+        inbox: Inbox::new(alloc, usize::from(size))?,
+        log: PayloadLog::new(alloc, usize::from(size))?,
+    })
 }
 
 // Nothing is due to this many ranks.

@@ -1,8 +1,10 @@
 //! What of a rank outlives a crash.
-ghost use Rattle.std.specs.Prelude.{◌≡◌, ◌<◌, ◌≤◌};
+ghost use Rattle.std.specs.Prelude.{◌≡◌, ◌<◌, ◌≤◌, Some, IfOk, IsErrOf, OnOk, OnErr};
 ghost use Rattle.metered.specs.Limits.{most_ranks};
+ghost use Rattle.checkpoint.specs.Shelf.{Grew, image_bytes};
 
-use checkpoint::Shelf;
+use checkpoint::{Shelf, ShelfFault};
+use metered::Heap;
 use std::marker::Model;
 
 /// A rank's desk at the logger, its shelf, and which of how many ranks it is.
@@ -28,6 +30,8 @@ impl<S: Shelf, D> Model for Stable<S, D> {
 }
 
 impl<S: Shelf, D> Stable<S, D> {
+    ghost use Rattle.rank_node.specs.Image.{with_shelf};
+
     /// What outlives the crashes of this rank.
     pub fn new(desk: D, shelf: S, rank: u8, size: u8) -> Self
         requires rank { rank < size }
@@ -67,5 +71,26 @@ impl<S: Shelf, D> Stable<S, D> {
         ensures within { result ≤ most_ranks }
     {
         self.size
+    }
+
+    // Puts an image on the shelf, in the place of the last one.
+    pub(crate) fn put(&mut self, image: Vec<u8, Heap>) -> Result<(), ShelfFault>
+        ensures ok { OnOk result (S.last self.new.shelf ≡ Some image.items) }
+        ensures err { OnErr result (S.last self.new.shelf ≡ S.last self.old.shelf) }
+        ensures memory { IsErrOf result ShelfFault.Memory → self.new ≡ self.old }
+        ensures device { IsErrOf result ShelfFault.Device → Grew (S.failures self.old.shelf) (S.failures self.new.shelf) }
+        ensures same { self.new ≡ with_shelf self.old self.new.shelf }
+    {
+        self.shelf.put(image)
+    }
+
+    // The last image on the shelf, in memory of its own.
+    pub(crate) fn get(&mut self) -> Result<Option<Vec<u8, Heap>>, ShelfFault>
+        ensures ok { IfOk result (λ image. image_bytes image ≡ S.last self.old.shelf) }
+        ensures stays { S.last self.new.shelf ≡ S.last self.old.shelf }
+        ensures device { IsErrOf result ShelfFault.Device → Grew (S.failures self.old.shelf) (S.failures self.new.shelf) }
+        ensures same { self.new ≡ with_shelf self.old self.new.shelf }
+    {
+        self.shelf.get()
     }
 }

@@ -4,6 +4,7 @@
 //! which limits it runs.
 #![tactic(auto)]
 
+mod help;
 mod job;
 mod no_job;
 mod syntax;

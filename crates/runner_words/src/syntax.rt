@@ -1,4 +1,5 @@
 //! The forms of the words.
+use crate::help;
 use clap::{Arg, ArgAction, Command, value_parser};
 use metered::limits::MOST_RANKS;
 use std::alloc::{AllocError, Global};
@@ -7,6 +8,8 @@ use std::alloc::{AllocError, Global};
 pub fn syntax<'a>(alloc: Global) -> Result<Command<'a>, AllocError> {
     Command::new(alloc, "ftmpi")
         .about("Runs one rank program on several ranks that exchange messages")
+        .version("0.1.0")
+        .after_help(help::PROGRAM)
         .subcommand_required(true)
         .subcommand(check(alloc)?)?
         .subcommand(run(alloc)?)?
@@ -16,6 +19,7 @@ pub fn syntax<'a>(alloc: Global) -> Result<Command<'a>, AllocError> {
 fn check<'a>(alloc: Global) -> Result<Command<'a>, AllocError> {
     Command::new(alloc, "check")
         .about("Prints a program's canonical text, or its first fault")
+        .after_help(help::CHECK)
         .arg(program(alloc))
 }
 
@@ -24,6 +28,7 @@ fn run<'a>(alloc: Global) -> Result<Command<'a>, AllocError> {
         .about(
             "Runs a program and prints its lines, how each rank ended, and the calls of the logger",
         )
+        .after_help(help::RUN)
         .arg(ranks(alloc))?
         .arg(script(alloc))?
         .arg(limit(
@@ -44,6 +49,7 @@ fn run<'a>(alloc: Global) -> Result<Command<'a>, AllocError> {
 fn world<'a>(alloc: Global) -> Result<Command<'a>, AllocError> {
     Command::new(alloc, "world")
         .about("Applies events to the ranks of a program and prints each reply, and then the lines")
+        .after_help(help::WORLD)
         .arg(ranks(alloc))?
         .arg(program(alloc))?
         .arg(events(alloc))

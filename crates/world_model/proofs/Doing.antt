@@ -1,6 +1,7 @@
 -- What the calls on a world's parts come to, as events: what holds of the rank that an event names.
-use Rattle.std.proofs.Common.{◌≡◌, ◌≢◌, ℕ, ◌<◌, ◌≤◌, List, [], ◌∷◌, Option, Some, None, length, refl, sym, ap, subst, ◌∙◌, arith, slice_get}
-use Rattle.std.proofs.Common.{IsSomeAnd, Result, Ok, Err, OnErr}
+use Rattle.std.proofs.Common.{◌≡◌, ◌≢◌, ℕ, ◌<◌, ◌≤◌, List, [], Option, Some, None, length, refl, sym, ap, subst, ◌∙◌, arith, slice_get}
+use Rattle.std.proofs.Common.{IsSomeAnd, Result, Ok, Err, OnOk, OnErr, Bool, true, false}
+use Rattle.std.specs.Bool.{OnTrue, OnFalse}
 use Rattle.std.proofs.lemmas.Option.{slice_get_within}
 use Rattle.checkpoint.specs.Image.{ImageValue}
 use Rattle.plain_logger.specs.History.{StateValue}
@@ -83,3 +84,18 @@ at_below ranks r P h = let x = live_at ranks r P h in slice_get_within ranks r (
 pub on_err : {A E : Type 0} (r : Result A E) (P : Type 0) → P → OnErr r P
 on_err (Ok x) P p = tt
 on_err (Err e) P p = p
+
+-- from a clause about `true` another follows
+pub on_true : {P Q : Type 0} (b : Bool) → (P → Q) → OnTrue b P → OnTrue b Q
+on_true true f h = f h
+on_true false f h = tt
+
+-- and from one about `false`
+pub on_false : {P Q : Type 0} (b : Bool) → (P → Q) → OnFalse b P → OnFalse b Q
+on_false true f h = tt
+on_false false f h = f h
+
+-- and from one about an `Ok`
+pub on_ok : {A E P Q : Type 0} (r : Result A E) → (P → Q) → OnOk r P → OnOk r Q
+on_ok (Ok x) f h = f h
+on_ok (Err e) f h = tt

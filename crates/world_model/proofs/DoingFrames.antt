@@ -1,5 +1,5 @@
 -- What a put and an arrival come to.
-use Rattle.std.proofs.Common.{◌≡◌, ◌≢◌, ℕ, ◌<◌, ◌≤◌, List, [], ◌∷◌, Option, Some, None, length, refl, sym}
+use Rattle.std.proofs.Common.{◌≡◌, ◌≢◌, ℕ, ◌<◌, ◌≤◌, List, [], Option, Some, None, length, refl, sym}
 use Rattle.std.proofs.Common.{ap, subst, ◌∙◌, arith, slice_get, slice_index_or, IsSome, if◌then◌else◌, IsSomeAnd}
 use Rattle.std.proofs.lemmas.Option.{slice_get_within, slice_get-get_or}
 use Rattle.std.proofs.lemmas.Bool.{eq-eqb}
@@ -13,7 +13,7 @@ use Rattle.rank_node.specs.declared.turn.Arrived.{Arrived}
 use Rattle.rank_node.specs.declared.turn.Arrived.TheVariants as arrived
 use Rattle.rank_node.specs.Frames.{outgoing_of, after_passed, arrival_of, after_frame, IsPacket}
 use Rattle.crash_free.specs.Runs.{Passed}
-use Rattle.world_model.specs.World.{Rank, Live, WorldValue, size, IsLive, IsDown, IsWire}
+use Rattle.world_model.specs.World.{Rank, Live, WorldValue, size, IsDown, IsWire}
 use Rattle.world_model.specs.Wires.{HasWire, wire_of, with_frame}
 use Rattle.world_model.specs.Headline.{IsReal}
 use Rattle.world_model.specs.Seats.{AtRank, with_value}
@@ -22,7 +22,7 @@ use Rattle.world_model.specs.Stands.{Stands}
 use Rattle.world_model.specs.declared.event.WorldEvent.TheVariants.{Put, Arrive}
 use Rattle.world_model.specs.declared.reply.Reply.{Reply}
 use Rattle.world_model.specs.declared.reply.Reply.TheVariants as reply
-use Rattle.world_model.proofs.Doing.{none_live, one_live, not_down, live_at, same_world}
+use Rattle.world_model.proofs.Doing.{none_live, not_down, live_at, same_world}
 
 -- putting
 pub put_from_nowhere : (w : WorldValue) (s d : ℕ) → size w ≤ s → Follows w (Put s d) reply.Refused w

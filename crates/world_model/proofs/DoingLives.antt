@@ -1,6 +1,6 @@
 -- What a crash and a restart come to.
-use Rattle.std.proofs.Common.{◌≡◌, ◌≢◌, ℕ, ◌+◌, ◌<◌, ◌≤◌, ◌⊎◌, inl, inr, List, [], ◌∷◌, Option, Some, None, length, refl, sym}
-use Rattle.std.proofs.Common.{ap, subst, ◌∙◌, arith, slice_get, slice_set, slice_index_or, replicate}
+use Rattle.std.proofs.Common.{◌≡◌, ℕ, ◌<◌, ◌≤◌, inr, List, [], Option, Some, None, length, refl, sym}
+use Rattle.std.proofs.Common.{ap, subst, ◌∙◌, arith, slice_get, slice_set, slice_index_or, IsSomeAnd}
 use Rattle.std.proofs.lemmas.Option.{slice_get_within, slice_get-get_or}
 use Rattle.metered.specs.Limits.{most_events}
 use Rattle.checkpoint.specs.Image.{ImageValue}
@@ -12,14 +12,13 @@ use Rattle.rank_node.specs.Image.{begins_at}
 use Rattle.rank_node.specs.Replay.{left_of}
 use Rattle.crash_free.specs.Runs.{history}
 use Rattle.world_model.specs.Rows.{row}
-use Rattle.world_model.specs.World.{Rank, Live, WorldValue, size, IsLive, IsDown}
+use Rattle.world_model.specs.World.{Live, WorldValue, size}
 use Rattle.world_model.specs.Seats.{AtRank, IsRestarted}
-use Rattle.world_model.specs.Follows.{CanNot, Follows, Fetched, Unchanged, TakesNoMemory}
+use Rattle.world_model.specs.Follows.{CanNot, Follows, Unchanged}
 use Rattle.world_model.specs.Stands.{Stands}
 use Rattle.world_model.specs.declared.event.WorldEvent.TheVariants.{Crash, Restart}
 use Rattle.world_model.specs.declared.reply.Reply.TheVariants as reply
 use Rattle.world_model.proofs.Doing.{none_live, live_at, not_down, same_world}
-use Rattle.world_model.proofs.Lists.{replicate_there}
 use Rattle.world_model.proofs.Ranks.{above_whole}
 
 -- no rank is there to crash
@@ -64,40 +63,51 @@ restart_few w r events logger s l fetched =
     ap (λ z. above 0 z) is ∙ above_whole 0 0 (history w.run r) (omega arith) ∙ sym is in
     subst (λ z. length z ≤ most_events) (sym (e ∙ whole)) (s.counts.rows r (slice_index_or w.logger.rows r []) there)
 
+-- what holds of what stands at a place, and that it stands there
+some_there : {A : Type 0} (o : Option A) (P : A → Type 0) → IsSomeAnd o P → (x : A) × (o ≡ Some x) × P x
+some_there None P h = absurd h
+some_there (Some x) P h = (x, refl, h)
+
 -- a rank starts again
 pub restart_some : (w w' : WorldValue) (r count : ℕ) (events : List EventValue)
-    → slice_get w.ranks r ≡ Some None → slice_get w.images r ≡ Some None
+    → slice_get w.ranks r ≡ Some None
     → Answers w.logger r (Fetch 0) (Events events) w'.logger
-    → count ≡ length (left_of (begins_at w.program r (size w) None) events)
-    → (x : Option Live) × IsRestarted w.program (size w) r events x × (w'.ranks ≡ slice_set w.ranks r x)
+    → IsSomeAnd (slice_get w.images r) (λ image. count ≡ length (left_of (begins_at w.program r (size w) image) events))
+    → IsSomeAnd (slice_get w.images r) (λ image. (x : Option Live) × IsRestarted w.program (size w) r image events x × (w'.ranks ≡ slice_set w.ranks r x))
     → w'.program ≡ w.program → w'.images ≡ w.images → w'.wires ≡ w.wires → w'.lines ≡ w.lines → w'.run ≡ w.run
     → Follows w (Restart r) (reply.Restarted count) w'
-restart_some w w' r count events down none fetches counts up program images wires lines run =
-    record {
+restart_some w w' r count events down fetches counts up program images wires lines run = follows
+  where
+    there : (image : Option ImageValue) × (slice_get w.images r ≡ Some image)
+        × ((x : Option Live) × IsRestarted w.program (size w) r image events x × (w'.ranks ≡ slice_set w.ranks r x))
+    there = some_there (slice_get w.images r) _ up
+
+    counted : count ≡ length (left_of (begins_at w.program r (size w) there.0) events)
+    counted = subst (λ z. IsSomeAnd z (λ image. count ≡ length (left_of (begins_at w.program r (size w) image) events))) there.1 counts
+
+    follows : Follows w (Restart r) (reply.Restarted count) w'
+    follows = record {
       down = down;
       events = events;
       fetches = fetches;
-      image = begins_at w.program r (size w) None;
-      begins = (None, none, refl);
-      shelf = up.1.shelf;
-      answered = ap reply.Restarted counts;
-      after = same_world w' _ program (up.2 ∙ ap (λ z. slice_set w.ranks r z) up.1.after) images refl wires lines run;
+      image = begins_at w.program r (size w) there.0;
+      begins = (there.0, there.1, refl);
+      shelf = there.2.1.shelf;
+      answered = ap reply.Restarted counted;
+      after = same_world w' _ program (there.2.2 ∙ ap (λ z. slice_set w.ranks r z) there.2.1.after) images refl wires lines run;
     }
 
--- the same, of a rank whose number the event names, where no rank has an image
-pub restart_named : (w w' : WorldValue) (r named n count : ℕ) (events : List EventValue) → r ≡ named → r < length w.ranks → length w.ranks ≡ n
-    → replicate n None ≡ w.images
+-- the same, of a rank whose number the event names
+pub restart_named : (w w' : WorldValue) (r named count : ℕ) (events : List EventValue) → r ≡ named
     → slice_get w.ranks r ≡ Some None
     → Answers w.logger r (Fetch 0) (Events events) w'.logger
-    → count ≡ length (left_of (begins_at w.program r (size w) None) events)
-    → (x : Option Live) × IsRestarted w.program (size w) r events x × (w'.ranks ≡ slice_set w.ranks r x)
+    → IsSomeAnd (slice_get w.images r) (λ image. count ≡ length (left_of (begins_at w.program r (size w) image) events))
+    → IsSomeAnd (slice_get w.images r) (λ image. (x : Option Live) × IsRestarted w.program (size w) r image events x × (w'.ranks ≡ slice_set w.ranks r x))
     → w'.program ≡ w.program → w'.images ≡ w.images → w'.wires ≡ w.wires → w'.lines ≡ w.lines → w'.run ≡ w.run
     → Follows w (Restart named) (reply.Restarted count) w'
-restart_named w w' r named n count events same below all none down fetches counts up program images wires lines run =
+restart_named w w' r named count events same down fetches counts up program images wires lines run =
     subst (λ z. Follows w (Restart z) (reply.Restarted count) w') same
-    (restart_some w w' r count events down
-    (subst (λ z. slice_get z r ≡ Some None) none (replicate_there n None r (omega (arith, below, all))))
-    fetches counts up program images wires lines run)
+    (restart_some w w' r count events down fetches counts up program images wires lines run)
 
 -- where memory ends a restart could happen; the fetch may have been answered
 pub restart_possible : (w : WorldValue) (r : ℕ) → slice_get w.ranks r ≡ Some None → CanNot w (Restart r) → ⊥

@@ -1,14 +1,12 @@
 -- What a release comes to.
-use Rattle.std.proofs.Common.{◌≡◌, ◌≢◌, ℕ, ◌+◌, ◌<◌, ◌≤◌, List, [], ◌∷◌, Option, Some, None, length, refl, sym}
-use Rattle.std.proofs.Common.{ap, subst, ◌∙◌, arith, slice_get, slice_set, IsSome, IsSomeAnd, option_and_then, option_map}
-use Rattle.matching.specs.Message as packet
-use Rattle.ports.specs.declared.line.Line.{Line}
+use Rattle.std.proofs.Common.{◌≡◌, ℕ, ◌≤◌, List, [], Option, Some, None, refl, sym}
+use Rattle.std.proofs.Common.{ap, subst, ◌∙◌, slice_get, IsSome, IsSomeAnd, option_and_then}
 use Rattle.rank_machine.specs.Acts.{Act}
 use Rattle.rank_node.specs.declared.waiting.Waiting.{Waiting}
 use Rattle.rank_node.specs.declared.waiting.Waiting.TheVariants as waits
 use Rattle.rank_node.specs.Waiting.{effect_clock}
-use Rattle.rank_node.specs.Releasing.{effect_of, next_effect, after_release, released, ShowsEffect}
-use Rattle.world_model.specs.World.{Rank, Live, WorldValue, size, IsLive}
+use Rattle.rank_node.specs.Releasing.{effect_of, next_effect, released, ShowsEffect}
+use Rattle.world_model.specs.World.{Rank, Live, WorldValue, size}
 use Rattle.world_model.specs.Seats.{at_work, AtRank, with_value, IsNotAtWork}
 use Rattle.world_model.specs.Follows.{CanNot, Follows, passed_at, lines_released, released_act}
 use Rattle.world_model.specs.Stands.{Stands}

@@ -1,6 +1,6 @@
 -- What a step comes to, of a rank at work and of one that replays.
-use Rattle.std.proofs.Common.{◌≡◌, ◌≢◌, ℕ, ℤ, ◌+◌, ◌<◌, ◌≤◌, ◌⊎◌, inl, inr, Bool, true, false, List, [], ◌∷◌, Option, Some, None, Ok, Err, length, refl, sym}
-use Rattle.std.proofs.Common.{ap, subst, ◌∙◌, arith, slice_get, slice_set, is_some, IsSome, IsSomeAnd, if◌then◌else◌}
+use Rattle.std.proofs.Common.{◌≡◌, ◌≢◌, ℕ, ℤ, ◌+◌, ◌<◌, ◌≤◌, inl, inr, Bool, true, false, List, [], ◌∷◌, Option, Some, None, Ok, Err, length, refl, sym}
+use Rattle.std.proofs.Common.{ap, subst, ◌∙◌, slice_get, slice_set, is_some, IsSome, IsSomeAnd, if◌then◌else◌}
 use Rattle.matching.specs.declared.packet.Context.{Context}
 use Rattle.plain_logger.specs.Event.{EventValue}
 use Rattle.ports.specs.declared.line.Line.{Line}
@@ -17,8 +17,8 @@ use Rattle.rank_node.specs.declared.turn.Turn.TheVariants as turn
 use Rattle.rank_node.specs.Waiting.{is_settled, has_room}
 use Rattle.rank_node.specs.Steps.{turn_of, turn_at, refusal_of, takes_memory, takes_memory_at}
 use Rattle.rank_node.specs.Replay.{replay_turn_at, replay_takes_memory, is_before, ShowsReplayAt, ShowsReplay}
-use Rattle.crash_free.specs.Runs.{Passed, history}
-use Rattle.world_model.specs.World.{Rank, Live, WorldValue, size, IsLive}
+use Rattle.crash_free.specs.Runs.{history}
+use Rattle.world_model.specs.World.{Rank, Live, WorldValue, size}
 use Rattle.world_model.specs.Seats.{at_work, AtRank, IsFitting, IsReplayed, IsStep, IsNotAtWork, IsNotInReplay}
 use Rattle.world_model.specs.Follows.{CanNot, Happens, Follows, StepFollows, ReplayFollows, TakesNoMemory, lines_after, shown_where_moved, effect_at, where_moved, at_once}
 use Rattle.world_model.specs.Follows.{passed_at, stepped, step_takes_memory}

@@ -1,5 +1,5 @@
 -- What a store and an acknowledgement come to.
-use Rattle.std.proofs.Common.{◌≡◌, ◌≢◌, ℕ, zero, suc, ◌+◌, ◌<◌, ◌≤◌, List, [], ◌∷◌, Option, Some, None, length, refl, sym}
+use Rattle.std.proofs.Common.{◌≡◌, ◌≢◌, ℕ, ◌+◌, ◌<◌, ◌≤◌, [], ◌∷◌, Option, Some, None, length, refl, sym}
 use Rattle.std.proofs.Common.{ap, subst, ◌∙◌, arith, slice_get, IsSomeAnd, option_map}
 use Rattle.std.proofs.lemmas.Option.{slice_get_within}
 use Rattle.plain_logger.specs.Event.{EventValue, event_of}
@@ -12,7 +12,7 @@ use Rattle.rank_node.specs.Storing.{next_unstored, after_store, after_ack, Appen
 use Rattle.crash_free.specs.Runs.{at_place, history, sent, looked_up}
 use Rattle.world_model.specs.Rows.{event_at}
 use Rattle.world_model.specs.RunIndex.{clock_at}
-use Rattle.world_model.specs.World.{Rank, Live, WorldValue, size, IsLive}
+use Rattle.world_model.specs.World.{Rank, Live, WorldValue, size}
 use Rattle.world_model.specs.Seats.{at_work, AtRank, with_value, IsAccepted, IsNotAtWork}
 use Rattle.world_model.specs.Follows.{CanNot, Follows}
 use Rattle.world_model.specs.Stands.{start_at, Stands}

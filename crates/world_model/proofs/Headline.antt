@@ -39,6 +39,7 @@ use Rattle.rank_node.specs.Storing.{next_unstored}
 use Rattle.world_model.proofs.Lists.{replicate_get, replicate_length, drop_none}
 use Rattle.world_model.proofs.Worlds.{Goes}
 use Rattle.world_model.proofs.Crashes.{Stands-crash, Stands-restart}
+use Rattle.world_model.proofs.Imaging.{Stands-image, Counts-image}
 use Rattle.world_model.proofs.Turns.{Stands-replay, Stands-step}
 
 -- each event
@@ -48,7 +49,7 @@ goes_on w (Put r d) answer w' s h = Stands-putting w r d answer w' s h
 goes_on w (Arrive from r i) answer w' s h = Stands-arrive w from r i answer w' s h
 goes_on w (Store r) answer w' s h = Stands-store w r answer w' s h
 goes_on w (Ack r) answer w' s h = Stands-ack w r answer w' s h
-goes_on w (Image r) answer w' s h = absurd h
+goes_on w (Image r) answer w' s h = Stands-image w r answer w' s h
 goes_on w (Crash r) answer w' s h = Stands-crash w r answer w' s h
 goes_on w (Restart r) answer w' s h = Stands-restart w r answer w' s h
 goes_on w (Release r) answer w' s h = Stands-release w r answer w' s h
@@ -81,7 +82,7 @@ counts_on w (Put r d) answer w' s h = Counts-put w r d answer w' s.counts h
 counts_on w (Arrive from r i) answer w' s h = Counts-arrive w from r i answer w' s.counts h
 counts_on w (Store r) answer w' s h = Counts-store w r answer w' s.counts h
 counts_on w (Ack r) answer w' s h = Counts-ack w r answer w' s.counts h
-counts_on w (Image r) answer w' s h = absurd h
+counts_on w (Image r) answer w' s h = Counts-image w r answer w' s.counts h
 counts_on w (Crash r) answer w' s h = Counts-crash w r answer w' s.counts h
 counts_on w (Restart r) answer w' s h = Counts-restart w r answer w' s.counts h (fetched_whole w r answer w' s h)
 counts_on w (Release r) answer w' s h = Counts-release w r answer w' s.counts h (none_stored w r answer w' s h)
@@ -118,7 +119,7 @@ nothing_owed v none =
     ap (λ z. length (events_in z) + effects z) e
 
 -- a live rank is where it should be
-where_is : (w : WorldValue) (r : ℕ) (v : Live) → StandsAt (size w) w → IsLive w r v → IsWhere (start_of w) (size w) w.run r v
+pub where_is : (w : WorldValue) (r : ℕ) (v : Live) → StandsAt (size w) w → IsLive w r v → IsWhere (start_of w) (size w) w.run r v
 where_is w r v s live =
     record {
       acts = k.acts;
@@ -134,6 +135,12 @@ where_is w r v s live =
   where
     k : RankStands (start_of w) (size w) w.run r v
     k = s.ranks r v live
+
+-- it has made the acts of the run and those that the invariant names
+pub where_acts : (w : WorldValue) (r : ℕ) (v : Live) (s : StandsAt (size w) w) (live : IsLive w r v)
+    → (where_is w r v s live).acts ≡ (s.ranks r v live).acts
+unfolding where_is
+where_acts w r v s live = refl
 
 -- the invariant says that the world stands for its run
 pub stands_for : (w : WorldValue) → Stands w → StandsFor w w.run
@@ -221,7 +228,7 @@ happens_can w (Put r d) answer w' s f c =
 happens_can w (Arrive from r i) answer w' s f c = c f.before f.frames f.frame f.live f.wire f.there
 happens_can w (Store r) answer w' s f c = (let q : Some f.event ≡ None = sym f.oldest ∙ c f.before f.live in cc)
 happens_can w (Ack r) answer w' s f c = f.some (c f.before f.live)
-happens_can w (Image r) answer w' s h c = absurd h
+happens_can w (Image r) answer w' s f c = c f.before f.live f.running f.settled
 happens_can w (Crash r) answer w' s f c = c f.before f.live
 happens_can w (Restart r) answer w' s f c = c f.down
 happens_can w (Release r) answer w' s f c = (let q : Some f.effect ≡ None = sym f.oldest ∙ c f.before f.live (release_running w r f.before s f.live f.effect f.oldest) in cc)

@@ -17,6 +17,7 @@ use Rattle.world_model.proofs.OnwardRanks.{Onward-crash, Onward-ack}
 use Rattle.world_model.proofs.OnwardFrames.{Onward-arrive, Onward-put}
 use Rattle.world_model.proofs.OnwardPasses.{above_new, Onward-restart, Onward-store, Onward-release}
 use Rattle.world_model.proofs.OnwardSteps.{Onward-step, Onward-replay}
+use Rattle.world_model.proofs.OnwardImages.{Onward-image}
 
 -- ---- each event
 
@@ -28,7 +29,7 @@ onward_happens w (Put s d) answer w' h t t' k = Onward-put w s d answer w' t' h 
 onward_happens w (Arrive s d i) answer w' h t t' k = Onward-arrive w s d i answer w' t' h k
 onward_happens w (Store r) answer w' h t t' k = Onward-store w r answer w' t t' h k
 onward_happens w (Ack r) answer w' h t t' k = Onward-ack w r answer w' t' h k
-onward_happens w (Image r) answer w' h t t' k = absurd h
+onward_happens w (Image r) answer w' h t t' k = Onward-image w r answer w' t' h k
 onward_happens w (Crash r) answer w' h t t' k = Onward-crash w r answer w' t' h k
 onward_happens w (Restart r) answer w' h t t' k = Onward-restart w r answer w' t t' h k
 onward_happens w (Release r) answer w' h t t' k = Onward-release w r answer w' t t' h k

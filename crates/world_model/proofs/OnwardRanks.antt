@@ -31,7 +31,7 @@ settled_behind_run start n C r v s b =
     s.all_made
 
 -- the same in a world
-settled_in : (w : WorldValue) (r : ℕ) (v : Live) → Stands w → IsLive w r v → Behind w.run r v → v.rank.pending ≡ []
+pub settled_in : (w : WorldValue) (r : ℕ) (v : Live) → Stands w → IsLive w r v → Behind w.run r v → v.rank.pending ≡ []
 settled_in w r v t live b = settled_behind_run (start_at w (size w)) (size w) w.run r v (t.run.ranks r v live) b
 
 -- ---- a change of one rank
@@ -66,7 +66,7 @@ pub record GetsOn (w w' : WorldValue) (r : ℕ) (v y : Live) : Type 0 where
   pub asks : (s from : ℕ) → (due_to v.rank s).ask ≡ Some from → ((due_to y.rank s).ask ≡ Some from) ⊎ OnWire w' r s (frame.Ask from)
 
 -- a rank whose new value owes nothing more can get on as before
-rank_gets_on : (w w' : WorldValue) (r : ℕ) (v y : Live) → size w' ≡ size w → WiresGrow w w' → (Behind w'.run r y → y.rank.pending ≡ [])
+pub rank_gets_on : (w w' : WorldValue) (r : ℕ) (v y : Live) → size w' ≡ size w → WiresGrow w w' → (Behind w'.run r y → y.rank.pending ≡ [])
     → GetsOn w w' r v y → RankOnward w r v → RankOnward w' r y
 rank_gets_on w w' r v y sizes wires settled g o =
     record {

@@ -5,9 +5,11 @@ use Rattle.std.specs.declared.alloc.AllocError.{AllocError}
 use Rattle.rank_language.specs.Program.{ProgramValue}
 use Rattle.world_model.specs.Onward.{IsWorld}
 use Rattle.world_model.proofs.Headline.{stands_after, stands_unchanged, stands_fresh, stands_for}
+use Rattle.world_model.proofs.Retained.{nothing_gone}
 use Rattle.world_model.proofs.Onward.{fresh_onward, onward_after, onward_unchanged}
 use Rattle.world_model.specs.World.{WorldValue}
 use Rattle.world_model.specs.Headline.{StandsFor, IsFresh}
+use Rattle.world_model.specs.Retained.{NothingGone}
 use Rattle.world_model.specs.Follows.{Follows, FollowsAll, Unchanged, StoppedAt}
 use Rattle.world_model.specs.declared.event.WorldEvent.{WorldEvent}
 use Rattle.world_model.specs.declared.event.WorldEvent.TheVariants.{Step, Put, Arrive, Store, Ack, Image, Crash, Restart, Release}
@@ -15,12 +17,13 @@ use Rattle.world_model.specs.declared.reply.Reply.{Reply}
 
 -- one more event after others
 pub follows_push : (w mid w' : WorldValue) (events : List WorldEvent) (replies : List Reply) (event : WorldEvent) (answer : Reply)
-    → FollowsAll w events replies mid → Follows mid event answer w' → StandsFor w' w'.run → FollowsAll w (events ++ event ∷ []) (replies ++ answer ∷ []) w'
-follows_push w mid w' [] [] event answer all f s = (w', subst (λ z. Follows z event answer w') all f, s, refl)
-follows_push w mid w' [] (a ∷ answers) event answer all f s = absurd all
-follows_push w mid w' (e ∷ events) [] event answer all f s = absurd all
-follows_push w mid w' (e ∷ events) (a ∷ answers) event answer all f s =
-    (all.0, all.1, all.2, follows_push all.0 mid w' events answers event answer all.3 f s)
+    → FollowsAll w events replies mid → Follows mid event answer w' → StandsFor w' w'.run → NothingGone w' w'.run
+    → FollowsAll w (events ++ event ∷ []) (replies ++ answer ∷ []) w'
+follows_push w mid w' [] [] event answer all f s g = (w', subst (λ z. Follows z event answer w') all f, s, g, refl)
+follows_push w mid w' [] (a ∷ answers) event answer all f s g = absurd all
+follows_push w mid w' (e ∷ events) [] event answer all f s g = absurd all
+follows_push w mid w' (e ∷ events) (a ∷ answers) event answer all f s g =
+    (all.0, all.1, all.2, all.3, follows_push all.0 mid w' events answers event answer all.4 f s g)
 
 -- a new world is one
 pub world_fresh : (program : ProgramValue) (n : ℕ) (w : WorldValue) → IsFresh program n w → IsWorld w
@@ -29,6 +32,10 @@ world_fresh program n w f = record { stands = stands_fresh program n w f; onward
 -- a world stands for its run
 pub world_stands : (w : WorldValue) → IsWorld w → StandsFor w w.run
 world_stands w i = stands_for w i.stands
+
+-- and nothing that is needed is gone
+pub world_retains : (w : WorldValue) → IsWorld w → NothingGone w w.run
+world_retains w i = nothing_gone w i.stands
 
 -- after an event, or where memory ended, a world is one still
 pub kept : (w w' : WorldValue) (event : WorldEvent) (answer : Result Reply AllocError) → IsWorld w

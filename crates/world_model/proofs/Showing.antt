@@ -1,13 +1,10 @@
 -- What the console has after a step, a replayed step and a release.
-use Rattle.std.proofs.Common.{◌≡◌, ℕ, ℤ, ◌+◌, Bool, true, false, if◌then◌else◌, MatchBool, List, [], ◌∷◌, Option, Some, None, Ok, refl, sym, ap, subst}
-use Rattle.std.proofs.Common.{◌∙◌}
-use Rattle.plain_logger.specs.Event.{EventValue}
+use Rattle.std.proofs.Common.{◌≡◌, ℕ, ℤ, ◌+◌, Bool, true, false, if◌then◌else◌, MatchBool, List, [], ◌∷◌, Some, refl, ap}
 use Rattle.ports.specs.declared.line.Line.{Line}
 use Rattle.ports.specs.Console.{after_line}
 use Rattle.rank_machine.specs.declared.want.Want.{Want}
 use Rattle.rank_machine.specs.declared.want.Want.TheVariants as want
 use Rattle.rank_machine.specs.Machine.{asks}
-use Rattle.rank_node.specs.declared.turn.Turn.{Turn}
 use Rattle.rank_node.specs.declared.turn.Turn.TheVariants.{Moved, Held}
 use Rattle.rank_node.specs.declared.waiting.Waiting.{Waiting}
 use Rattle.rank_node.specs.declared.waiting.Waiting.TheVariants as waits

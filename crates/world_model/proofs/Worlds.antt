@@ -31,7 +31,7 @@ abbrev pub changed : WorldValue → ℕ → Option Live → List (Option ImageVa
 changed w r x images logger lines C = record w { ranks = slice_set w.ranks r x; images = images; logger = logger; lines = lines; run = C }
 
 -- each rank goes with the run, where the one that changed does
-replaced : (n : ℕ) (start : ℕ → State) (C : List Passed) (ranks : List (Option Live)) (r : ℕ) (x : Option Live)
+pub replaced : (n : ℕ) (start : ℕ → State) (C : List Passed) (ranks : List (Option Live)) (r : ℕ) (x : Option Live)
     → ((q : ℕ) (u : Live) → (q ≡ r → ⊥) → slice_get ranks q ≡ Some (Some u) → RankStands start n C q u)
     → ((v : Live) → x ≡ Some v → RankStands start n C r v)
     → (q : ℕ) (u : Live) → slice_get (slice_set ranks r x) q ≡ Some (Some u) → RankStands start n C q u

@@ -1,4 +1,5 @@
--- A run that computes: rank 0 of two sends 41 with tag 7, and rank 1 takes it from whomever and prints one more.
+-- A run that computes: rank 0 of two sends 41 with tag 7, and rank 1 takes it from whomever and prints one more; and when the
+-- message is needed still.
 --
 --   var x
 --   if rank == 0
@@ -8,7 +9,10 @@
 --     print x + 1
 --   end
 use Rattle.std.specs.Prelude.{◌≡◌, ℕ, ℤ, pos, zero, suc, ◌<◌, List, [], ◌∷◌, Option, Some, None}
-use Rattle.std.proofs.Common.{refl, lit<, arith}
+use Rattle.std.proofs.Common.{refl, lit<, arith, inl, inr, ⊎_elim}
+use Rattle.checkpoint.specs.Image.{ImageValue}
+use Rattle.matching.specs.Inbox.{accepted_from}
+use Rattle.payload_log.specs.Backlog.{Backlog, new_backlog}
 use Rattle.plain_logger.specs.Event.{event_of}
 use Rattle.plain_logger.specs.declared.kind.Kind.TheVariants as kind
 use Rattle.matching.specs.declared.packet.Context.TheVariants.{PointToPoint}
@@ -21,6 +25,8 @@ use Rattle.rank_machine.specs.States.{State, opening, first_store, Inners, here,
 use Rattle.rank_machine.specs.Acts.{Message, sends, takes, hits, misses, prints, with_status, written}
 use Rattle.crash_free.specs.Runs.{Passed, at_place, sent, printed, IsRun, IsEligible, MayMake}
 use Rattle.world_model.specs.Rows.{row}
+use Rattle.world_model.specs.World.{WorldValue}
+use Rattle.world_model.specs.Retained.{Needed, Retains}
 
 abbrev printing : Block
 printing = plain (print (operation Add (variable 0) (number (pos 1)))) done
@@ -120,3 +126,47 @@ C_is_run = (
     free = tt;
   },
 )
+
+-- ---- what is needed of this run
+
+-- a world of this run in which both ranks are down, rank 0 has no image, and rank 1 perhaps this
+abbrev down : Option ImageValue → WorldValue
+down image = record {
+  program = program;
+  ranks = None ∷ None ∷ [];
+  images = None ∷ image ∷ [];
+  logger = record { rows = [] ∷ row C 1 ∷ []; history = [] };
+  wires = ([] ∷ [] ∷ []) ∷ ([] ∷ [] ∷ []) ∷ [];
+  lines = record { rank = 1; clock = 2; value = pos 42 } ∷ [];
+  run = C;
+}
+
+-- the message is needed where rank 1 has no image, though it took the message: it begins at the beginning again
+needed : Needed (down None) C 0 1 1 message
+needed = record { to = lit< tt; there = refl; above = lit< tt }
+
+-- it isn't where an image of rank 1 has accepted it
+not_needed : (i : ImageValue) → accepted_from i.inbox 0 ≡ 1 → Needed (down (Some i)) C 0 1 1 message → ⊥
+not_needed i accepted n = (let a = n.above in omega (arith, accepted, a))
+
+-- what rank 0 has kept for rank 1 once it sent the message
+abbrev kept : Backlog
+kept = record {
+  base = 0;
+  sent = 1;
+  cursor = 1;
+  kept = record { source = 0; clock = 1; number = 1; context = PointToPoint; tag = 7; items = pos 41 ∷ [] } ∷ [];
+  held = [];
+}
+
+-- so it retains the message
+retained : Retains 1 (new_backlog ∷ kept ∷ []) 0 1 1 message
+retained = inr (record { packet = _; index = 0; there = refl; source = refl; number = refl; content = refl })
+
+-- rank 0 retains it before it makes the send again, with nothing kept
+retained_before : Retains 0 (new_backlog ∷ new_backlog ∷ []) 0 1 1 message
+retained_before = inl (lit< tt)
+
+-- it doesn't once it has made the send and has nothing kept
+not_retained : Retains 1 (new_backlog ∷ new_backlog ∷ []) 0 1 1 message → ⊥
+not_retained x = ⊎_elim (λ l. omega (arith, l)) (λ k. (let e = k.there in cc)) x

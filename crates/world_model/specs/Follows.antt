@@ -28,6 +28,7 @@ use Rattle.rank_node.specs.Steps.{turn_of, refusal_of, takes_memory, MachineStep
 use Rattle.rank_node.specs.Frames.{outgoing_of, after_passed, arrival_of, after_frame}
 use Rattle.rank_node.specs.Storing.{next_unstored, after_store, after_ack}
 use Rattle.rank_node.specs.Releasing.{next_effect, after_release}
+use Rattle.rank_node.specs.Image.{image_of, after_image}
 use Rattle.rank_node.specs.Replay.{restarted, left_of, replay_turn_of, replay_takes_memory, after_replay, left_after, ReplayStep}
 use Rattle.ports.specs.declared.line.Line.{Line}
 use Rattle.ports.specs.Console.{after_line}
@@ -39,17 +40,18 @@ use Rattle.world_model.specs.declared.reply.Reply.TheVariants as reply
 use Rattle.world_model.specs.Rows.{Noted}
 use Rattle.world_model.specs.World.{Rank, Live, WorldValue, size, IsLive, IsDown, IsWire, BeginsAt}
 use Rattle.world_model.specs.Headline.{StandsFor, stable_of}
+use Rattle.world_model.specs.Retained.{NothingGone}
 
 -- The event can't happen: a rank that it names isn't there; the rank that makes the call is down, or for a restart isn't;
 -- there is nothing to put, to arrive, to store, to acknowledge or to release; or its step is refused by name. A rank in
--- replay has nothing to store, to acknowledge or to release, and its step is never refused. No rank takes an image yet.
+-- replay has nothing to store, to acknowledge or to release, takes no image, and its step is never refused.
 abbrev pub CanNot : WorldValue → WorldEvent → Type 0
 CanNot w (Step r) = (v : Live) → IsLive w r v → (v.left ≡ []) × (refusal_of v.rank ≢ None)
 CanNot w (Put s d) = (v : Live) → IsLive w s v → d < size w → outgoing_of v.rank d ≡ None
 CanNot w (Arrive s d i) = (v : Live) (frames : List Frame) (f : Frame) → IsLive w d v → IsWire w s d frames → slice_get frames i ≢ Some f
 CanNot w (Store r) = (v : Live) → IsLive w r v → next_unstored v.rank ≡ None
 CanNot w (Ack r) = (v : Live) → IsLive w r v → v.rank.stored ≡ 0
-CanNot w (Image r) = Unit {0}
+CanNot w (Image r) = (v : Live) → IsLive w r v → v.left ≡ [] → v.rank.pending ≢ []
 CanNot w (Crash r) = (v : Live) → IsLive w r v → ⊥
 CanNot w (Restart r) = IsDown w r → ⊥
 CanNot w (Release r) = (v : Live) → IsLive w r v → v.left ≡ [] → next_effect v.rank ≡ None
@@ -211,6 +213,19 @@ pub record AckFollows (w : WorldValue) (r : ℕ) (answer : Reply) (w' : WorldVal
   pub answered : answer ≡ reply.Acked
   pub after : w' ≡ with_rank w r (Some (record { rank = after_ack before.rank; left = before.left }))
 
+-- The rank takes an image of itself, in the place of an older one, and word of it is due to those whose messages it has.
+pub record ImageFollows (w : WorldValue) (r : ℕ) (answer : Reply) (w' : WorldValue) : Type 0 where
+  pub before : Live
+  pub live : IsLive w r before
+  pub running : before.left ≡ []
+  pub settled : before.rank.pending ≡ []
+  pub shelf : MemoryShelf
+  pub answered : answer ≡ reply.Imaged
+  pub after : w' ≡ record w {
+    ranks = slice_set w.ranks r (Some (record { rank = after_image before.rank (stable_of (size w) r shelf); left = [] }));
+    images = slice_set w.images r (Some (image_of before.rank));
+  }
+
 -- The rank crashes: what is stable alone outlives it.
 pub record CrashFollows (w : WorldValue) (r : ℕ) (answer : Reply) (w' : WorldValue) : Type 0 where
   pub before : Live
@@ -278,7 +293,7 @@ Happens w (Put s d) answer w' = PutFollows w s d answer w'
 Happens w (Arrive s d i) answer w' = ArriveFollows w s d i answer w'
 Happens w (Store r) answer w' = StoreFollows w r answer w'
 Happens w (Ack r) answer w' = AckFollows w r answer w'
-Happens w (Image r) answer w' = ⊥
+Happens w (Image r) answer w' = ImageFollows w r answer w'
 Happens w (Crash r) answer w' = CrashFollows w r answer w'
 Happens w (Restart r) answer w' = RestartFollows w r answer w'
 Happens w (Release r) answer w' = ReleaseFollows w r answer w'
@@ -341,11 +356,11 @@ TakesNoMemory w (Crash r) = Unit {0}
 TakesNoMemory w (Restart r) = CanNot w (Restart r)
 TakesNoMemory w (Release r) = CanNot w (Release r)
 
--- what a list of events does, one after another; after each the world stands for its run
+-- What a list of events does, one after another; after each the world stands for its run, and nothing needed is gone.
 abbrev pub FollowsAll : WorldValue → List WorldEvent → List Reply → WorldValue → Type 0
 FollowsAll w [] [] w' = w' ≡ w
 FollowsAll w (event ∷ events) (answer ∷ answers) w' =
-    (mid : WorldValue) × Follows w event answer mid × StandsFor mid mid.run × FollowsAll mid events answers w'
+    (mid : WorldValue) × Follows w event answer mid × StandsFor mid mid.run × NothingGone mid mid.run × FollowsAll mid events answers w'
 FollowsAll w [] (answer ∷ answers) w' = ⊥
 FollowsAll w (event ∷ events) [] w' = ⊥
 

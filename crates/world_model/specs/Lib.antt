@@ -1,6 +1,7 @@
 pub mod Rows
 pub mod World
 pub mod Headline
+pub mod Retained
 pub mod Follows
 pub mod Counts
 pub mod Stands

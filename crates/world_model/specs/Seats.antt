@@ -1,5 +1,6 @@
 -- The ranks of a world, by their numbers, and what the calls on one come to.
-use Rattle.std.specs.Prelude.{◌≡◌, ◌≢◌, ℕ, List, [], ◌∷◌, length, Option, Some, None, IsSomeAnd, slice_get, slice_set, Ok}
+use Rattle.std.specs.Prelude.{◌≡◌, ◌≢◌, ℕ, List, [], ◌∷◌, length, map, Option, Some, None, IsSomeAnd, slice_get, slice_set, Ok}
+use Rattle.checkpoint.specs.Image.{ImageValue}
 use Rattle.checkpoint.specs.declared.memory_shelf.MemoryShelf.{MemoryShelf}
 use Rattle.plain_logger.specs.Event.{EventValue}
 use Rattle.plain_logger.specs.History.{StateValue, reply_of}
@@ -8,14 +9,61 @@ use Rattle.plain_logger.specs.declared.call.Reply.TheVariants.{Length}
 use Rattle.rank_language.specs.Program.{ProgramValue}
 use Rattle.rank_machine.specs.Machine.{MachineValue, asks}
 use Rattle.rank_node.specs.declared.turn.Turn.{Turn}
-use Rattle.rank_node.specs.Image.{begins_at}
+use Rattle.rank_node.specs.Image.{begins_at, image_of, after_image, with_shelf}
 use Rattle.rank_node.specs.Replay.{Replay, restarted, left_of, replay_turn_of, after_replay, left_after, ReplayStep}
 use Rattle.rank_node.specs.Steps.{turn_of, MachineStep, after_step}
 use Rattle.crash_free.specs.Runs.{Passed}
 use Rattle.ports.specs.declared.line.Line.{Line}
 use Rattle.world_model.specs.World.{Rank, Live, WorldValue}
-use Rattle.world_model.specs.Headline.{stable_of}
+use Rattle.world_model.specs.Headline.{stable_of, IsOpened}
 use Rattle.world_model.specs.Follows.{lines_after}
+
+-- The seat of a rank: the program, which rank of how many it is, its value where it is live, and the image on its shelf,
+-- where there is one.
+pub record SeatValue : Type 0 where
+  pub program : ProgramValue
+  pub rank : ℕ
+  pub size : ℕ
+  pub live : Option Live
+  pub image : Option ImageValue
+
+-- the seats of a program's ranks, in the order of their numbers
+pub record SeatsValue : Type 0 where
+  pub program : ProgramValue
+  pub ranks : List (Option Live)
+  pub images : List (Option ImageValue)
+
+-- the seat is of this rank of so many of the program
+pub record IsSeat (program : ProgramValue) (n r : ℕ) (s : SeatValue) : Type 0 where
+  pub same_program : s.program ≡ program
+  pub rank : s.rank ≡ r
+  pub size : s.size ≡ n
+
+-- each seat is of the rank whose number it has
+abbrev pub AreSeats : ProgramValue → ℕ → List SeatValue → Type 0
+AreSeats program n seats = (r : ℕ) (s : SeatValue) → slice_get seats r ≡ Some s → IsSeat program n r s
+
+-- the ranks of seats
+abbrev pub lives : List SeatValue → List (Option Live)
+lives seats = map (λ s. s.live) seats
+
+-- the images of seats
+abbrev pub images : List SeatValue → List (Option ImageValue)
+images seats = map (λ s. s.image) seats
+
+-- the seat with this rank, which is live or down, and all else as it was
+abbrev pub with_live : SeatValue → Option Live → SeatValue
+with_live s x = record s { live = x }
+
+-- the seat with this rank and this image, and all else as it was
+abbrev pub with_both : SeatValue → Option Live → Option ImageValue → SeatValue
+with_both s x image = record s { live = x; image = image }
+
+-- The seat of a new rank: it is at the beginning of the program, and has no image.
+pub record IsNew (program : ProgramValue) (n r : ℕ) (s : SeatValue) : Type 0 where
+  pub seat : IsSeat program n r s
+  pub opened : IsOpened program n r s.live
+  pub image : s.image ≡ None
 
 -- a rank at work, with nothing left to replay
 abbrev pub at_work : Rank → Option Live
@@ -72,13 +120,19 @@ pub record IsReplayed (v : Live) (turn : Turn) (x : Option Live) : Type 0 where
   pub steps : ReplayStep v.rank event machine
   pub after : x ≡ Some (record { rank = after_replay v.rank event machine; left = left_after (asks v.rank.machine) turn event rest })
 
--- the rank r of n started again at the beginning of the program, with these events in its row
-pub record IsRestarted (program : ProgramValue) (n r : ℕ) (row : List EventValue) (x : Option Live) : Type 0 where
+-- the rank r of n started again at this image, or at the beginning of the program, with these events in its row
+pub record IsRestarted (program : ProgramValue) (n r : ℕ) (image : Option ImageValue) (row : List EventValue) (x : Option Live) : Type 0 where
   pub shelf : MemoryShelf
   pub after : x ≡ Some (record {
-    rank = restarted (stable_of n r shelf) (begins_at program r n None) (length row);
-    left = left_of (begins_at program r n None) row;
+    rank = restarted (stable_of n r shelf) (begins_at program r n image) (length row);
+    left = left_of (begins_at program r n image) row;
   })
+
+-- The rank took an image of itself.
+pub record IsImaged (v : Live) (x : Option Live) (image : Option ImageValue) : Type 0 where
+  pub shelf : MemoryShelf
+  pub after : x ≡ with_rank_value v (after_image v.rank (with_shelf v.rank.stable shelf))
+  pub taken : image ≡ Some (image_of v.rank)
 
 -- there is an event, and the logger accepts it
 abbrev pub IsAccepted : StateValue → ℕ → Option EventValue → Type 0

@@ -1,5 +1,5 @@
 -- The invariant of a world: how its ranks, inboxes, payload logs and images go with the run, and what senders may drop.
--- That the world stands for its run follows from it.
+-- That the world stands for its run, and that nothing needed is gone, follow from it.
 use Rattle.std.specs.Prelude.{◌≡◌, ℕ, ◌+◌, ◌<◌, ◌≤◌, ◌⊎◌, true, false, List, [], ◌∷◌, length, take, drop, Option, Some, None, slice_get}
 use Rattle.plain_logger.specs.Event.{EventValue}
 use Rattle.matching.specs.Message as packet

@@ -10,6 +10,7 @@ mod acking;
 mod applying;
 mod arriving;
 mod crashing;
+mod imaging;
 mod passing;
 mod putting;
 mod releasing;
@@ -29,11 +30,8 @@ use std::alloc::AllocError;
 use std::marker::Model;
 
 /// A world's ranks, event logger, wires, console and run. It must be spent.
-///
-/// No rank takes an image yet, and contracts see none.
 pub struct Parts<'p> {
     alloc: Heap,
-    program: &'p Program,
     ranks: u8,
     seats: Seats<'p>,
     logger: LoggerState,
@@ -43,7 +41,7 @@ pub struct Parts<'p> {
 }
 
 impl<'p> Model for Parts<'p> {
-    ghost use Rattle.std.specs.Prelude.{◌≡◌, ◌≤◌, None, length, replicate};
+    ghost use Rattle.std.specs.Prelude.{◌≡◌, ◌≤◌, length};
     ghost use Rattle.metered.specs.Limits.{most_ranks};
     ghost use Rattle.std.specs.Coded.{codes};
     ghost use Rattle.rank_language.specs.Coding.{placed_code};
@@ -53,9 +51,9 @@ impl<'p> Model for Parts<'p> {
 
     ghost coded = { Prim.hlevel (codes, placed_code) };
 
-    ghost view = { λ w. record { program = w.program.now; ranks = w.seats; images = replicate w.ranks None; logger = w.logger; wires = w.wires; lines = w.console; run = w.run.acts } };
+    ghost view = { λ w. record { program = w.seats.program; ranks = w.seats.ranks; images = w.seats.images; logger = w.logger; wires = w.wires; lines = w.console; run = w.run.acts } };
 
-    ghost invariant = { λ w. (w.ranks ≤ most_ranks) × (length w.seats ≡ w.ranks) × (w.run.ranks ≡ w.ranks) };
+    ghost invariant = { λ w. (w.ranks ≤ most_ranks) × (length w.seats.ranks ≡ w.ranks) × (w.run.ranks ≡ w.ranks) };
 }
 
 impl<'p> Parts<'p> {
@@ -72,7 +70,6 @@ impl<'p> Parts<'p> {
         let seats = Seats::start(alloc, program, ranks)?;
         Ok(Parts {
             alloc,
-            program,
             ranks,
             seats,
             logger,
@@ -86,7 +83,6 @@ impl<'p> Parts<'p> {
     pub fn end(self) {
         let Parts {
             alloc: _,
-            program: _,
             ranks: _,
             seats,
             logger: _,

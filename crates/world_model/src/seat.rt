@@ -2,9 +2,10 @@
 ghost use Rattle.std.specs.Prelude.{◌≡◌, ◌≢◌, ◌<◌, ◌≤◌, [], None, Some, is_none, IfOk, IfSome, IfNone};
 ghost use Rattle.std.specs.Bool.{OnTrue, OnFalse};
 ghost use Rattle.metered.specs.Limits.{most_ranks};
-ghost use Rattle.world_model.specs.Seats.{at_work, IfLive, IsNotAtWork, IsNotInReplay};
+ghost use Rattle.world_model.specs.Seats.{at_work, IfLive, IsNew, IsNotAtWork, IsNotInReplay};
 
 mod calling;
+mod imaging;
 mod living;
 mod stepping;
 
@@ -19,31 +20,40 @@ use std::marker::Model;
 /// The place of a rank, which the rank keeps through its lives. It must be
 /// spent.
 ///
-/// Contracts see the rank, None where it is down. A rank that replays has
-/// something left to replay.
+/// Contracts see the program and which rank of how many it is, the rank's
+/// value, None where it is down, and the image on its shelf, None where that is
+/// empty: what a shelf holds reads. A rank that replays has something left to
+/// replay.
 pub struct Seat<'p> {
+    program: &'p Program,
+    rank: u8,
+    size: u8,
     state: State<'p>,
 }
 
 impl<'p> Model for Seat<'p> {
-    ghost use Rattle.std.specs.Prelude.{Option};
     ghost use Rattle.std.specs.Coded.{codes};
     ghost use Rattle.rank_language.specs.Coding.{placed_code};
-    ghost use Rattle.world_model.specs.World.{Live};
-    ghost use Rattle.world_model.specs.Seat.{live_of, IsKept};
+    ghost use Rattle.rank_node.specs.Image.{image_on};
+    ghost use Rattle.world_model.specs.Seats.{SeatValue};
+    ghost use Rattle.world_model.specs.Seat.{bytes_of, live_of, IsKept};
 
-    ghost Value = { Option Live };
+    ghost Value = { SeatValue };
 
     ghost coded = { Prim.hlevel (codes, placed_code) };
 
-    ghost view = { λ s. live_of s.state };
+    ghost view = { λ s. record {
+      program = s.program.now;
+      rank = s.rank;
+      size = s.size;
+      live = live_of s.state;
+      image = image_on s.program.now s.rank s.size (bytes_of s.state);
+    } };
 
-    ghost invariant = { λ s. IsKept s.state };
+    ghost invariant = { λ s. IsKept s.program.now s.rank s.size s.state };
 }
 
 impl<'p> Seat<'p> {
-    ghost use Rattle.world_model.specs.Headline.{IsOpened};
-
     /// A rank at the beginning of the program.
     pub fn start(
         alloc: Heap,
@@ -53,11 +63,14 @@ impl<'p> Seat<'p> {
     ) -> Result<Seat<'p>, AllocError>
         requires rank { rank < size }
         requires size { size ≤ most_ranks }
-        ensures { IfOk result (λ seat. IsOpened program.entry.now size rank seat) }
+        ensures { IfOk result (λ seat. IsNew program.entry.now size rank seat) }
     {
         let stable = Stable::new((), MemoryShelf::new(alloc), rank, size);
         match Running::start(alloc, program, stable) {
             Ok(running) => Ok(Seat {
+                program,
+                rank,
+                size,
                 state: State::Running(running),
             }),
             Err((stable, _)) => {
@@ -69,13 +82,18 @@ impl<'p> Seat<'p> {
 
     /// Ends the rank.
     pub fn end(self) {
-        let Seat { state } = self;
+        let Seat {
+            program: _,
+            rank: _,
+            size: _,
+            state,
+        } = self;
         state.end();
     }
 
     /// Whether the rank is down.
     pub fn is_down(&self) -> bool
-        ensures { result ≡ is_none self.now }
+        ensures { result ≡ is_none self.now.live }
     {
         match &self.state {
             State::Running(_) | State::Replaying(_) => false,
@@ -85,8 +103,8 @@ impl<'p> Seat<'p> {
 
     /// Whether the rank replays.
     pub fn is_replaying(&self) -> bool
-        ensures yes { OnTrue result (IfLive self.now (λ v. v.left ≢ [])) }
-        ensures no { OnFalse result (IsNotInReplay self.now) }
+        ensures yes { OnTrue result (IfLive self.now.live (λ v. v.left ≢ [])) }
+        ensures no { OnFalse result (IsNotInReplay self.now.live) }
     {
         match &self.state {
             State::Replaying(_) => true,
@@ -96,8 +114,8 @@ impl<'p> Seat<'p> {
 
     /// The rank, where it is at work.
     pub fn running(&self) -> Option<&Running<'p, MemoryShelf, ()>>
-        ensures some { IfSome result (λ running. self.now ≡ at_work running.now) }
-        ensures none { IfNone result (IsNotAtWork self.now) }
+        ensures some { IfSome result (λ running. self.now.live ≡ at_work running.now) }
+        ensures none { IfNone result (IsNotAtWork self.now.live) }
     {
         match &self.state {
             State::Running(running) => Some(running),

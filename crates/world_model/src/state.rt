@@ -1,16 +1,17 @@
 //! The states of a rank of a world.
-ghost use Rattle.std.specs.Prelude.{◌≡◌, ◌≢◌, ◌<◌, ◌≤◌, None, [], length, IfOk, IfErr};
-ghost use Rattle.metered.specs.Limits.{most_events, most_ranks};
-ghost use Rattle.rank_node.specs.Image.{begins_at};
+ghost use Rattle.std.specs.Prelude.{◌≡◌, ◌≤◌, ℕ, None, length, IfOk, IfErr};
+ghost use Rattle.metered.specs.Limits.{most_events};
+ghost use Rattle.rank_language.specs.Program.{ProgramValue};
+ghost use Rattle.rank_node.specs.Image.{begins_at, image_on};
 ghost use Rattle.rank_node.specs.Replay.{left_of};
 ghost use Rattle.world_model.specs.Seats.{in_replay, IsRestarted};
-ghost use Rattle.world_model.specs.Seat.{live_of, IsKept};
+ghost use Rattle.world_model.specs.Seat.{bytes_of, live_of, shelf_of, HasLeft, IsOf, IsStanding};
 
 use checkpoint::MemoryShelf;
 use metered::Heap;
 use plain_logger::Event;
 use rank_language::Program;
-use rank_node::{Down, Replaying, Running, Stable};
+use rank_node::{Down, NodeFault, Replaying, Running};
 use std::mem;
 
 /// What stands at a seat. It must be spent.
@@ -54,10 +55,13 @@ impl<'p> State<'p> {
         mem::replace(self, State::Empty)
     }
 
-    /// The rank crashes, where it is live. This takes no memory.
+    /// The rank crashes, where it is live: its shelf stays. This takes no
+    /// memory.
     pub fn crash(self) -> State<'p>
         ensures down { live_of result ≡ None }
-        ensures kept { IsKept self.entry → IsKept result }
+        ensures bytes { bytes_of result ≡ bytes_of self.entry }
+        ensures standing { (program : ProgramValue) (r n : ℕ) → IsStanding program r n self.entry → IsStanding program r n result }
+        ensures left { HasLeft result }
     {
         match self {
             State::Running(running) => State::Down(running.crash()),
@@ -69,9 +73,10 @@ impl<'p> State<'p> {
 
     /// A rank that replays runs on, where nothing is left to replay.
     pub fn settle(self) -> State<'p>
-        requires { self ≢ State.Empty }
         ensures live { live_of result ≡ live_of self.entry }
-        ensures kept { IsKept result }
+        ensures bytes { bytes_of result ≡ bytes_of self.entry }
+        ensures standing { (program : ProgramValue) (r n : ℕ) → IsStanding program r n self.entry → IsStanding program r n result }
+        ensures left { HasLeft result }
     {
         match self {
             State::Replaying(replaying) => settled(replaying),
@@ -79,40 +84,40 @@ impl<'p> State<'p> {
         }
     }
 
-    /// The rank, which is down, starts again at the beginning of the program,
-    /// and this is how many events of its row are left to replay. An `Err` is
-    /// want of memory.
+    /// The rank, which is down, starts again at its image, or at the beginning
+    /// of the program, and this is how many events of its row are left to
+    /// replay.
     pub fn restart(
         self,
         alloc: Heap,
         program: &'p Program,
-        rank: u8,
-        size: u8,
         row: Vec<Event, Heap>,
-    ) -> Result<(State<'p>, u32), State<'p>>
+    ) -> Result<(State<'p>, u32), (State<'p>, NodeFault)>
         requires down { live_of self ≡ None }
-        requires kept { IsKept self }
-        requires rank { rank < size }
-        requires size { size ≤ most_ranks }
         requires row { length row.items ≤ most_events }
-        ensures count { IfOk result (λ up. up.1 ≡ length (left_of (begins_at program.entry.now rank size None) row.items)) }
-        ensures ok { IfOk result (λ up. IsRestarted program.entry.now size rank row.items (live_of up.0)) }
-        ensures ok_kept { IfOk result (λ up. IsKept up.0) }
-        ensures err { IfErr result (λ state. (live_of state ≡ None) × IsKept state) }
+        ensures count { IfOk result (λ up. (r n : ℕ) → IsStanding program.entry.now r n self.entry →
+            up.1 ≡ length (left_of (begins_at program.entry.now r n (image_on program.entry.now r n (bytes_of self.entry))) row.items)) }
+        ensures ok { IfOk result (λ up. (r n : ℕ) → IsStanding program.entry.now r n self.entry →
+            IsRestarted program.entry.now n r (image_on program.entry.now r n (bytes_of self.entry)) row.items (live_of up.0)) }
+        ensures bytes { IfOk result (λ up. bytes_of up.0 ≡ bytes_of self.entry) }
+        ensures standing { IfOk result (λ up. (r n : ℕ) → IsStanding program.entry.now r n self.entry → IsStanding program.entry.now r n up.0) }
+        ensures left { IfOk result (λ up. HasLeft up.0) }
+
+        ensures err { IfErr result (λ refused. live_of refused.0 ≡ None) }
+        ensures err_bytes { IfErr result (λ refused. bytes_of refused.0 ≡ bytes_of self.entry) }
+        ensures err_standing { IfErr result (λ refused. (r n : ℕ) → IsStanding program.entry.now r n self.entry → IsStanding program.entry.now r n refused.0) }
+        ensures err_left { IfErr result (λ refused. HasLeft refused.0) }
+        ensures refused { IfErr result (λ refused. (r n : ℕ) → IsStanding program.entry.now r n self.entry → refused.1 ≡ NodeFault.Memory) }
     {
         match self {
-            State::Down(down) => {
-                let (desk, shelf) = down.retire().parts();
-                let down = Down::of(Stable::new(desk, shelf, rank, size));
-                match down.restart(alloc, program, row) {
-                    Ok(replaying) => {
-                        let left = replaying.left();
-                        Ok((settled(replaying), left))
-                    }
-                    Err((down, _)) => Err(State::Down(down)),
+            State::Down(down) => match down.restart(alloc, program, row) {
+                Ok(replaying) => {
+                    let left = replaying.left();
+                    Ok((settled(replaying), left))
                 }
-            }
-            other => Err(other),
+                Err((down, fault)) => Err((State::Down(down), fault)),
+            },
+            other => Err((other, NodeFault::Memory)),
         }
     }
 }
@@ -121,7 +126,9 @@ impl<'p> State<'p> {
 #[tactic(auto, using(crate::proofs::Settling::settled_live, crate::proofs::Settling::is_not_settled))]
 fn settled<'p>(replaying: Replaying<'p, MemoryShelf, ()>) -> State<'p>
     ensures live { live_of result ≡ in_replay replaying.entry }
-    ensures kept { IsKept result }
+    ensures bytes { bytes_of result ≡ shelf_of replaying.entry.node.stable }
+    ensures standing { (program : ProgramValue) (r n : ℕ) → IsOf program r n replaying.entry.node → IsStanding program r n result }
+    ensures left { HasLeft result }
 {
     match replaying.settle() {
         Ok(running) => State::Running(running),

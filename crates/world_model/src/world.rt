@@ -2,6 +2,7 @@
 ghost use Rattle.std.specs.Prelude.{◌≡◌, ◌<◌, ◌≤◌, [], length, IfOk, IfErr, OnErr};
 ghost use Rattle.metered.specs.Limits.{most_ranks};
 ghost use Rattle.world_model.specs.Headline.{IsFresh, StandsFor};
+ghost use Rattle.world_model.specs.Retained.{NothingGone};
 ghost use Rattle.world_model.specs.World.{size};
 ghost use Rattle.world_model.specs.Follows.{CanNot, Follows, FollowsAll, StoppedAt, TakesNoMemory, Unchanged};
 
@@ -44,11 +45,12 @@ impl<'p> Model for World<'p> {
 impl<'p> World<'p> {
     /// A new world of a program and at most `MOST_RANKS` ranks of
     /// `metered::limits`.
-    #[tactic(auto, using(crate::proofs::Sequences::world_stands, crate::proofs::Sequences::world_fresh))]
+    #[tactic(auto, using(crate::proofs::Sequences::world_stands, crate::proofs::Sequences::world_retains, crate::proofs::Sequences::world_fresh))]
     pub fn new(alloc: Heap, program: &'p Program, ranks: u8) -> Result<World<'p>, AllocError>
         requires { ranks ≤ most_ranks }
         ensures fresh { IfOk result (λ world. IsFresh program.entry.now ranks world) }
         ensures stands { IfOk result (λ world. StandsFor world []) }
+        ensures nothing_gone { IfOk result (λ world. NothingGone world []) }
     {
         let parts = Parts::new(alloc, program, ranks)?;
         Ok(World { parts })
@@ -80,10 +82,11 @@ impl<'p> World<'p> {
     /// comes after the end, or replays a reception, a hit or a miss. The world
     /// is then as it was, but that a restart's fetch may stay in the logger's
     /// history.
-    #[tactic(auto, using(crate::proofs::Sequences::world_stands, crate::proofs::Sequences::kept))]
+    #[tactic(auto, using(crate::proofs::Sequences::world_stands, crate::proofs::Sequences::world_retains, crate::proofs::Sequences::kept))]
     pub fn apply(&mut self, event: WorldEvent) -> Result<Reply, AllocError>
         ensures follows { IfOk result (λ reply. Follows self.old event reply self.new) }
         ensures stands { StandsFor self.new self.new.run }
+        ensures nothing_gone { NothingGone self.new self.new.run }
 
         ensures err { OnErr result (Unchanged self.old event self.new) }
         ensures possible { OnErr result (CanNot self.old event → ⊥) }
@@ -95,10 +98,11 @@ impl<'p> World<'p> {
     /// A list of events, one after another. Where memory ends, the first
     /// `done` of them have happened, and the next left the world as `apply`
     /// leaves it.
-    #[tactic(auto, using(crate::proofs::Sequences::world_stands, crate::proofs::Sequences::follows_push, crate::proofs::Sequences::stops))]
+    #[tactic(auto, using(crate::proofs::Sequences::world_stands, crate::proofs::Sequences::world_retains, crate::proofs::Sequences::follows_push, crate::proofs::Sequences::stops))]
     pub fn run(&mut self, alloc: Heap, events: &[WorldEvent]) -> Result<Vec<Reply, Heap>, Stopped>
         ensures follows { IfOk result (λ replies. FollowsAll self.old events.now replies.items self.new) }
         ensures stands { StandsFor self.new self.new.run }
+        ensures nothing_gone { NothingGone self.new self.new.run }
 
         ensures done { IfErr result (λ stopped. stopped.done < length events.now) }
         ensures stopped { IfErr result (λ stopped. StoppedAt self.old events.now stopped.done self.new) }

@@ -8,6 +8,8 @@
 #[cfg(test)]
 mod crashes;
 #[cfg(test)]
+mod images;
+#[cfg(test)]
 mod scenes;
 #[cfg(test)]
 mod simulations;

@@ -65,7 +65,7 @@ const OF_CHAIN: [Row; 60] = [
     ("arrive 0 3 0", "refused"),
     ("store 3", "refused"),
     ("ack 256", "refused"),
-    ("image 0", "refused"),
+    ("image 0", "imaged"),
     ("crash 3", "refused"),
     ("restart 2", "refused"),
     ("release 3", "refused"),

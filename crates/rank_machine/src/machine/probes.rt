@@ -1,5 +1,5 @@
 //! The probes of a machine: what they show, and that they show nothing.
-ghost use Rattle.std.specs.Prelude.{◌≡◌, ℕ, Some, None};
+ghost use Rattle.std.specs.Prelude.{◌≡◌, ◌<◌, ℕ, Some, None};
 ghost use Rattle.rank_machine.specs.Acts.{next, hits, misses, carried};
 ghost use Rattle.rank_machine.specs.Machine.{state_of, asks, next_of, IsShowing, IsTrying, KeepsRank};
 
@@ -10,7 +10,8 @@ use rank_language::Statement;
 impl Machine<'_> {
     /// The probe that it wants is shown the packet, which stays where it is.
     pub fn show(&mut self, packet: &Packet)
-        requires { IsShowing (asks self.old) packet.now }
+        requires showing { IsShowing (asks self.old) packet.now }
+        requires source { packet.now.source < self.old.store.size }
         ensures state { (place : ℕ) → state_of self.new ≡ next (state_of self.old) (hits packet.now.source place) (Some (carried packet.now)) }
         ensures position { self.new.position ≡ next_of self.old }
         ensures stays { KeepsRank self.old self.new }

@@ -1,9 +1,14 @@
-//! Which rank a machine is, of how many, and where it stands.
+//! Which rank a machine is, of how many, where it stands, and what it has stored.
 ghost use Rattle.std.specs.Prelude.{◌≡◌, ◌<◌};
+ghost use Rattle.rank_machine.specs.Machine.{IsMachine};
 
+use crate::fault::MachineFault;
+use crate::items::Items;
 use crate::machine::Machine;
+use crate::status::Status;
+use rank_language::Program;
 
-impl Machine<'_> {
+impl<'p> Machine<'p> {
     /// The number of this rank, below the size.
     pub fn rank(&self) -> u8
         ensures rank { result ≡ self.now.store.rank }
@@ -24,5 +29,49 @@ impl Machine<'_> {
         ensures { result ≡ self.now.position }
     {
         self.position
+    }
+
+    /// The program that it runs.
+    pub fn program(&self) -> &'p Program
+        ensures { result.now ≡ self.now.program }
+    {
+        self.program
+    }
+
+    /// The fault that an act left, if one did.
+    pub fn fault(&self) -> Option<MachineFault>
+        ensures { result ≡ self.now.fault }
+    {
+        self.fault
+    }
+
+    /// Source, tag and number of items of the last message.
+    pub fn status(&self) -> Status
+        ensures source { result.source ≡ self.now.store.source }
+        ensures tag { result.tag ≡ self.now.store.tag }
+        ensures count { result.count ≡ self.now.store.count }
+    {
+        self.store.status()
+    }
+
+    /// The values of its variables, in the order of declaration.
+    pub fn variables(&self) -> &[i64]
+        ensures { result.now ≡ self.now.store.variables }
+    {
+        self.store.variables()
+    }
+
+    /// Its arrays, in the order of declaration.
+    pub fn arrays(&self) -> &[Items]
+        ensures { result.now ≡ self.now.store.arrays }
+    {
+        self.store.arrays()
+    }
+
+    /// Position, status and fault are within their limits, and its arrays are as long as its program says.
+    pub fn is_whole(&self)
+        ensures { IsMachine self.now }
+    {
+        let _position = self.position;
     }
 }

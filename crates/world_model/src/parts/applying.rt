@@ -28,7 +28,7 @@ impl<'p> Parts<'p> {
             } => self.arrive(source, dest, index),
             WorldEvent::Store { rank } => self.store(rank),
             WorldEvent::Ack { rank } => Ok(self.ack(rank)),
-            WorldEvent::Image { .. } => Ok(Reply::Refused),
+            WorldEvent::Image { rank } => self.image(rank),
             WorldEvent::Crash { rank } => Ok(self.crash(rank)),
             WorldEvent::Restart { rank } => self.restart(rank),
             WorldEvent::Release { rank } => self.release(rank),

@@ -10,8 +10,9 @@ impl<'p> Parts<'p> {
     ghost use Rattle.world_model.specs.Follows.{CanNot, Follows, Unchanged};
     ghost use Rattle.world_model.specs.Stands.{Stands};
 
-    /// The rank starts again: it fetches its row, and replays it. Where memory
-    /// ends after the fetch, that stays in the logger's history.
+    /// The rank starts again at its image: it fetches its row, and replays what
+    /// is above that. Where memory ends after the fetch, that stays in the
+    /// logger's history.
     #[tactic(auto, using(crate::proofs::DoingLives::restart_nowhere, crate::proofs::DoingLives::restart_live, crate::proofs::DoingLives::restart_row, crate::proofs::DoingLives::restart_few, crate::proofs::DoingLives::restart_some, crate::proofs::DoingLives::restart_possible, crate::proofs::DoingLives::restart_fetched))]
     pub fn restart(&mut self, rank: u32) -> Result<Reply, AllocError>
         requires { Stands self.old }
@@ -28,7 +29,7 @@ impl<'p> Parts<'p> {
         let Ok(row) = self.logger.fetch(self.alloc, usize::from(rank), 0) else {
             return Err(AllocError);
         };
-        let left = self.seats.restart(self.alloc, self.program, rank, row)?;
+        let left = self.seats.restart(self.alloc, rank, row)?;
         Ok(Reply::Restarted(left))
     }
 }

@@ -3,7 +3,7 @@ ghost use Rattle.std.specs.Prelude.{◌≡◌, ◌<◌, [], Some, length, option
 ghost use Rattle.ports.specs.Console.{after_line};
 ghost use Rattle.std.specs.Bool.{OnTrue, OnFalse};
 ghost use Rattle.rank_node.specs.Frames.{outgoing_of, after_passed, arrival_of, after_frame, IsPacket};
-ghost use Rattle.world_model.specs.Seats.{IfLive, with_rank_value};
+ghost use Rattle.world_model.specs.Seats.{IfLive, with_live, with_rank_value};
 
 use crate::seat::Seat;
 use crate::state::State;
@@ -22,9 +22,9 @@ impl<'p> Seat<'p> {
 
     /// What goes next from the rank to another. An `Err` is want of memory.
     pub fn outgoing(&self, dest: u8) -> Result<Option<Frame>, AllocError>
-        requires { IfLive self.now (λ v. dest < v.rank.stable.size) }
-        ensures ok { IfOk result (λ frame. IfLive self.now (λ v. frame ≡ outgoing_of v.rank dest)) }
-        ensures packet_only { OnErr result (IfLive self.now (λ v. IsPacket (outgoing_of v.rank dest))) }
+        requires { IfLive self.now.live (λ v. dest < v.rank.stable.size) }
+        ensures ok { IfOk result (λ frame. IfLive self.now.live (λ v. frame ≡ outgoing_of v.rank dest)) }
+        ensures packet_only { OnErr result (IfLive self.now.live (λ v. IsPacket (outgoing_of v.rank dest))) }
     {
         let next = match &self.state {
             State::Running(running) => running.outgoing(dest),
@@ -39,8 +39,9 @@ impl<'p> Seat<'p> {
 
     /// What was outgoing to another rank has gone.
     pub fn passed(&mut self, dest: u8)
-        requires { IfLive self.old (λ v. (dest < v.rank.stable.size) × IsSome (outgoing_of v.rank dest)) }
-        ensures { IfLive self.old (λ v. self.new ≡ with_rank_value v (after_passed v.rank dest)) }
+        requires { IfLive self.old.live (λ v. (dest < v.rank.stable.size) × IsSome (outgoing_of v.rank dest)) }
+        ensures passed { IfLive self.old.live (λ v. self.new.live ≡ with_rank_value v (after_passed v.rank dest)) }
+        ensures others { self.new ≡ with_live self.old self.new.live }
     {
         match &mut self.state {
             State::Running(running) => running.passed(dest),
@@ -51,9 +52,10 @@ impl<'p> Seat<'p> {
 
     /// A frame from another rank arrives. An `Err` is want of memory.
     pub fn arrive(&mut self, from: u8, frame: Frame) -> Result<Arrived, AllocError>
-        requires { IfLive self.old (λ v. from < v.rank.stable.size) }
-        ensures answer { IfOk result (λ answer. IfLive self.old (λ v. answer ≡ arrival_of v.rank from frame)) }
-        ensures ok { OnOk result (IfLive self.old (λ v. self.new ≡ with_rank_value v (after_frame v.rank from frame))) }
+        requires { IfLive self.old.live (λ v. from < v.rank.stable.size) }
+        ensures answer { IfOk result (λ answer. IfLive self.old.live (λ v. answer ≡ arrival_of v.rank from frame)) }
+        ensures ok { OnOk result (IfLive self.old.live (λ v. self.new.live ≡ with_rank_value v (after_frame v.rank from frame))) }
+        ensures others { self.new ≡ with_live self.old self.new.live }
         ensures err { OnErr result (self.new ≡ self.old) }
     {
         let arrival = match &mut self.state {
@@ -69,9 +71,10 @@ impl<'p> Seat<'p> {
 
     /// The oldest stored event is acknowledged, where the rank is at work.
     pub fn ack(&mut self) -> bool
-        requires { IfLive self.old (λ v. v.left ≡ []) }
-        ensures acked { OnTrue result (IfLive self.old (λ v. (0 < v.rank.stored) × (self.new ≡ with_rank_value v (after_ack v.rank)))) }
-        ensures none { OnFalse result (IfLive self.old (λ v. v.rank.stored ≡ 0)) }
+        requires { IfLive self.old.live (λ v. v.left ≡ []) }
+        ensures acked { OnTrue result (IfLive self.old.live (λ v. (0 < v.rank.stored) × (self.new.live ≡ with_rank_value v (after_ack v.rank)))) }
+        ensures others { self.new ≡ with_live self.old self.new.live }
+        ensures none { OnFalse result (IfLive self.old.live (λ v. v.rank.stored ≡ 0)) }
         ensures stays { OnFalse result (self.new ≡ self.old) }
     {
         match &mut self.state {
@@ -83,11 +86,12 @@ impl<'p> Seat<'p> {
     /// The oldest unstored event of the rank, which the logger accepts, is
     /// stored, and this is its row's new length. An `Err` is want of memory.
     pub fn store(&mut self, logger: &mut LoggerState) -> Result<u32, AllocError>
-        requires work { IfLive self.old (λ v. v.left ≡ []) }
-        requires row { IfLive self.old (λ v. v.rank.stable.rank < length logger.old.rows) }
-        requires accepted { IfLive self.old (λ v. IsAccepted logger.old v.rank.stable.rank (next_unstored v.rank)) }
-        ensures row { IfOk result (λ count. IfLive self.old (λ v. Appends (next_unstored v.rank) v.rank.stable.rank logger.old (Length count) logger.new)) }
-        ensures ok { OnOk result (IfLive self.old (λ v. self.new ≡ with_rank_value v (after_store v.rank))) }
+        requires work { IfLive self.old.live (λ v. v.left ≡ []) }
+        requires row { IfLive self.old.live (λ v. v.rank.stable.rank < length logger.old.rows) }
+        requires accepted { IfLive self.old.live (λ v. IsAccepted logger.old v.rank.stable.rank (next_unstored v.rank)) }
+        ensures row { IfOk result (λ count. IfLive self.old.live (λ v. Appends (next_unstored v.rank) v.rank.stable.rank logger.old (Length count) logger.new)) }
+        ensures ok { OnOk result (IfLive self.old.live (λ v. self.new.live ≡ with_rank_value v (after_store v.rank))) }
+        ensures others { self.new ≡ with_live self.old self.new.live }
         ensures err { OnErr result (self.new ≡ self.old) }
         ensures err_logger { OnErr result (logger.new ≡ logger.old) }
     {
@@ -105,11 +109,12 @@ impl<'p> Seat<'p> {
     /// The oldest effect of the rank is released, and this is its clock. An
     /// `Err` is want of memory.
     pub fn release(&mut self, console: &mut ConsoleState) -> Result<u32, AllocError>
-        requires work { IfLive self.old (λ v. v.left ≡ []) }
-        requires effect { IfLive self.old (λ v. IsSome (next_effect v.rank)) }
-        ensures clock { IfOk result (λ clock. IfLive self.old (λ v. option_and_then effect_clock (next_effect v.rank) ≡ Some clock)) }
-        ensures ok { OnOk result (IfLive self.old (λ v. self.new ≡ with_rank_value v (released v.rank (next_effect v.rank)))) }
-        ensures shown { OnOk result (IfLive self.old (λ v. ShowsEffect (λ old rank clock value new. new ≡ after_line old rank clock value) v.rank (next_effect v.rank) console.old console.new)) }
+        requires work { IfLive self.old.live (λ v. v.left ≡ []) }
+        requires effect { IfLive self.old.live (λ v. IsSome (next_effect v.rank)) }
+        ensures clock { IfOk result (λ clock. IfLive self.old.live (λ v. option_and_then effect_clock (next_effect v.rank) ≡ Some clock)) }
+        ensures ok { OnOk result (IfLive self.old.live (λ v. self.new.live ≡ with_rank_value v (released v.rank (next_effect v.rank)))) }
+        ensures others { self.new ≡ with_live self.old self.new.live }
+        ensures shown { OnOk result (IfLive self.old.live (λ v. ShowsEffect (λ old rank clock value new. new ≡ after_line old rank clock value) v.rank (next_effect v.rank) console.old console.new)) }
         ensures err { OnErr result (self.new ≡ self.old) }
         ensures err_console { OnErr result (console.new ≡ console.old) }
     {

@@ -1,6 +1,6 @@
 //! Steps of a rank.
 ghost use Rattle.std.specs.Prelude.{◌≡◌, ◌≢◌, [], true, None, IfOk, OnOk, OnErr};
-ghost use Rattle.world_model.specs.Seats.{IfLive, IsFitting, IsReplayed, IsStep};
+ghost use Rattle.world_model.specs.Seats.{with_live, IfLive, IsFitting, IsReplayed, IsStep};
 
 use crate::seat::Seat;
 use crate::state::State;
@@ -17,12 +17,13 @@ impl<'p> Seat<'p> {
     /// one step. An `Err` is want of memory.
     #[tactic(auto, using(crate::proofs::Showing::step_is))]
     pub fn step(&mut self, console: &mut ConsoleState) -> Result<Turn, AllocError>
-        requires work { IfLive self.old (λ v. v.left ≡ []) }
-        requires allowed { IfLive self.old (λ v. refusal_of v.rank ≡ None) }
-        ensures turn { IfOk result (λ turn. IfLive self.old (λ v. turn ≡ turn_of v.rank)) }
-        ensures ok { OnOk result (IfLive self.old (λ v. IsStep v self.new console.old console.new)) }
+        requires work { IfLive self.old.live (λ v. v.left ≡ []) }
+        requires allowed { IfLive self.old.live (λ v. refusal_of v.rank ≡ None) }
+        ensures turn { IfOk result (λ turn. IfLive self.old.live (λ v. turn ≡ turn_of v.rank)) }
+        ensures ok { OnOk result (IfLive self.old.live (λ v. IsStep v self.new.live console.old console.new)) }
+        ensures others { self.new ≡ with_live self.old self.new.live }
         ensures err { OnErr result (self.new ≡ self.old) }
-        ensures memory { OnErr result (IfLive self.old (λ v. takes_memory v.rank ≡ true)) }
+        ensures memory { OnErr result (IfLive self.old.live (λ v. takes_memory v.rank ≡ true)) }
         ensures err_console { OnErr result (console.new ≡ console.old) }
     {
         let step = match &mut self.state {
@@ -40,12 +41,13 @@ impl<'p> Seat<'p> {
     /// memory.
     #[tactic(auto, using(crate::proofs::Settling::replayed_is))]
     pub fn replay(&mut self, console: &mut ConsoleState) -> Result<Turn, AllocError>
-        requires replays { IfLive self.old (λ v. v.left ≢ []) }
-        requires fits { IfLive self.old IsFitting }
-        ensures ok { IfOk result (λ turn. IfLive self.old (λ v. IsReplayed v turn self.new)) }
-        ensures shown { OnOk result (IfLive self.old (λ v. ShowsReplay (λ old rank clock value new. new ≡ after_line old rank clock value) v.rank console.old console.new)) }
+        requires replays { IfLive self.old.live (λ v. v.left ≢ []) }
+        requires fits { IfLive self.old.live IsFitting }
+        ensures ok { IfOk result (λ turn. IfLive self.old.live (λ v. IsReplayed v turn self.new.live)) }
+        ensures shown { OnOk result (IfLive self.old.live (λ v. ShowsReplay (λ old rank clock value new. new ≡ after_line old rank clock value) v.rank console.old console.new)) }
+        ensures others { self.new ≡ with_live self.old self.new.live }
         ensures err { OnErr result (self.new ≡ self.old) }
-        ensures memory { OnErr result (IfLive self.old (λ v. replay_takes_memory v.rank ≡ true)) }
+        ensures memory { OnErr result (IfLive self.old.live (λ v. replay_takes_memory v.rank ≡ true)) }
         ensures err_console { OnErr result (console.new ≡ console.old) }
     {
         let step = match &mut self.state {

@@ -10,10 +10,10 @@ use std::alloc::AllocError;
 impl<'p> Seats<'p> {
     /// What goes next from a rank to another. An `Err` is want of memory.
     pub fn outgoing(&self, rank: u8, dest: u8) -> Result<Option<Frame>, AllocError>
-        requires rank { rank < length self.now }
-        requires dest { AtRank self.now rank (λ v. dest < v.rank.stable.size) }
-        ensures ok { IfOk result (λ frame. AtRank self.now rank (λ v. frame ≡ outgoing_of v.rank dest)) }
-        ensures packet_only { OnErr result (AtRank self.now rank (λ v. IsPacket (outgoing_of v.rank dest))) }
+        requires rank { rank < length self.now.ranks }
+        requires dest { AtRank self.now.ranks rank (λ v. dest < v.rank.stable.size) }
+        ensures ok { IfOk result (λ frame. AtRank self.now.ranks rank (λ v. frame ≡ outgoing_of v.rank dest)) }
+        ensures packet_only { OnErr result (AtRank self.now.ranks rank (λ v. IsPacket (outgoing_of v.rank dest))) }
     {
         self.seats[usize::from(rank)].outgoing(dest)
     }
@@ -21,9 +21,11 @@ impl<'p> Seats<'p> {
     /// What was outgoing from a rank to another has gone.
     #[tactic(auto)]
     pub fn passed(&mut self, rank: u8, dest: u8)
-        requires rank { rank < length self.old }
-        requires due { AtRank self.old rank (λ v. (dest < v.rank.stable.size) × IsSome (outgoing_of v.rank dest)) }
-        ensures { AtRank self.old rank (λ v. self.new ≡ with_value self.old rank v (after_passed v.rank dest)) }
+        requires rank { rank < length self.old.ranks }
+        requires due { AtRank self.old.ranks rank (λ v. (dest < v.rank.stable.size) × IsSome (outgoing_of v.rank dest)) }
+        ensures passed { AtRank self.old.ranks rank (λ v. self.new.ranks ≡ with_value self.old.ranks rank v (after_passed v.rank dest)) }
+        ensures program { self.new.program ≡ self.old.program }
+        ensures images { self.new.images ≡ self.old.images }
     {
         self.seats[usize::from(rank)].passed(dest);
     }
@@ -31,10 +33,12 @@ impl<'p> Seats<'p> {
     /// A frame from one rank arrives at another. An `Err` is want of memory.
     #[tactic(auto, using(crate::proofs::Places::set_same))]
     pub fn arrive(&mut self, rank: u8, from: u8, frame: Frame) -> Result<Arrived, AllocError>
-        requires rank { rank < length self.old }
-        requires from { AtRank self.old rank (λ v. from < v.rank.stable.size) }
-        ensures answer { IfOk result (λ answer. AtRank self.old rank (λ v. answer ≡ arrival_of v.rank from frame)) }
-        ensures ok { OnOk result (AtRank self.old rank (λ v. self.new ≡ with_value self.old rank v (after_frame v.rank from frame))) }
+        requires rank { rank < length self.old.ranks }
+        requires from { AtRank self.old.ranks rank (λ v. from < v.rank.stable.size) }
+        ensures answer { IfOk result (λ answer. AtRank self.old.ranks rank (λ v. answer ≡ arrival_of v.rank from frame)) }
+        ensures ok { OnOk result (AtRank self.old.ranks rank (λ v. self.new.ranks ≡ with_value self.old.ranks rank v (after_frame v.rank from frame))) }
+        ensures program { self.new.program ≡ self.old.program }
+        ensures images { self.new.images ≡ self.old.images }
         ensures err { OnErr result (self.new ≡ self.old) }
     {
         let arrived = self.seats[usize::from(rank)].arrive(from, frame)?;

@@ -17,13 +17,15 @@ impl<'p> Seats<'p> {
     /// one step. An `Err` is want of memory.
     #[tactic(auto, using(crate::proofs::Places::set_same))]
     pub fn step(&mut self, rank: u8, console: &mut ConsoleState) -> Result<Turn, AllocError>
-        requires rank { rank < length self.old }
-        requires work { AtRank self.old rank (λ v. v.left ≡ []) }
-        requires allowed { AtRank self.old rank (λ v. refusal_of v.rank ≡ None) }
-        ensures turn { IfOk result (λ turn. AtRank self.old rank (λ v. turn ≡ turn_of v.rank)) }
-        ensures ok { OnOk result (AtRank self.old rank (λ v. (x : Option Live) × IsStep v x console.old console.new × (self.new ≡ slice_set self.old rank x))) }
+        requires rank { rank < length self.old.ranks }
+        requires work { AtRank self.old.ranks rank (λ v. v.left ≡ []) }
+        requires allowed { AtRank self.old.ranks rank (λ v. refusal_of v.rank ≡ None) }
+        ensures turn { IfOk result (λ turn. AtRank self.old.ranks rank (λ v. turn ≡ turn_of v.rank)) }
+        ensures ok { OnOk result (AtRank self.old.ranks rank (λ v. (x : Option Live) × IsStep v x console.old console.new × (self.new.ranks ≡ slice_set self.old.ranks rank x))) }
+        ensures program { self.new.program ≡ self.old.program }
+        ensures images { self.new.images ≡ self.old.images }
         ensures err { OnErr result (self.new ≡ self.old) }
-        ensures memory { OnErr result (AtRank self.old rank (λ v. takes_memory v.rank ≡ true)) }
+        ensures memory { OnErr result (AtRank self.old.ranks rank (λ v. takes_memory v.rank ≡ true)) }
         ensures err_console { OnErr result (console.new ≡ console.old) }
     {
         let turn = self.seats[usize::from(rank)].step(console)?;
@@ -34,13 +36,15 @@ impl<'p> Seats<'p> {
     /// An `Err` is want of memory.
     #[tactic(auto, using(crate::proofs::Places::set_same))]
     pub fn replay(&mut self, rank: u8, console: &mut ConsoleState) -> Result<Turn, AllocError>
-        requires rank { rank < length self.old }
-        requires replays { AtRank self.old rank (λ v. v.left ≢ []) }
-        requires fits { AtRank self.old rank IsFitting }
-        ensures ok { IfOk result (λ turn. AtRank self.old rank (λ v. (x : Option Live) × IsReplayed v turn x × (self.new ≡ slice_set self.old rank x))) }
-        ensures shown { OnOk result (AtRank self.old rank (λ v. ShowsReplay (λ old rank clock value new. new ≡ after_line old rank clock value) v.rank console.old console.new)) }
+        requires rank { rank < length self.old.ranks }
+        requires replays { AtRank self.old.ranks rank (λ v. v.left ≢ []) }
+        requires fits { AtRank self.old.ranks rank IsFitting }
+        ensures ok { IfOk result (λ turn. AtRank self.old.ranks rank (λ v. (x : Option Live) × IsReplayed v turn x × (self.new.ranks ≡ slice_set self.old.ranks rank x))) }
+        ensures shown { OnOk result (AtRank self.old.ranks rank (λ v. ShowsReplay (λ old rank clock value new. new ≡ after_line old rank clock value) v.rank console.old console.new)) }
+        ensures program { self.new.program ≡ self.old.program }
+        ensures images { self.new.images ≡ self.old.images }
         ensures err { OnErr result (self.new ≡ self.old) }
-        ensures memory { OnErr result (AtRank self.old rank (λ v. replay_takes_memory v.rank ≡ true)) }
+        ensures memory { OnErr result (AtRank self.old.ranks rank (λ v. replay_takes_memory v.rank ≡ true)) }
         ensures err_console { OnErr result (console.new ≡ console.old) }
     {
         let turn = self.seats[usize::from(rank)].replay(console)?;

@@ -21,12 +21,14 @@ impl<'p> Seats<'p> {
     /// memory.
     #[tactic(auto, using(crate::proofs::Places::set_same))]
     pub fn store(&mut self, rank: u8, logger: &mut LoggerState) -> Result<u32, AllocError>
-        requires rank { rank < length self.old }
-        requires work { AtRank self.old rank (λ v. v.left ≡ []) }
-        requires row { AtRank self.old rank (λ v. (v.rank.stable.rank ≡ rank) × (rank < length logger.old.rows)) }
-        requires accepted { AtRank self.old rank (λ v. IsAccepted logger.old rank (next_unstored v.rank)) }
-        ensures row { IfOk result (λ count. AtRank self.old rank (λ v. Appends (next_unstored v.rank) rank logger.old (Length count) logger.new)) }
-        ensures ok { OnOk result (AtRank self.old rank (λ v. self.new ≡ with_value self.old rank v (after_store v.rank))) }
+        requires rank { rank < length self.old.ranks }
+        requires work { AtRank self.old.ranks rank (λ v. v.left ≡ []) }
+        requires row { AtRank self.old.ranks rank (λ v. (v.rank.stable.rank ≡ rank) × (rank < length logger.old.rows)) }
+        requires accepted { AtRank self.old.ranks rank (λ v. IsAccepted logger.old rank (next_unstored v.rank)) }
+        ensures row { IfOk result (λ count. AtRank self.old.ranks rank (λ v. Appends (next_unstored v.rank) rank logger.old (Length count) logger.new)) }
+        ensures ok { OnOk result (AtRank self.old.ranks rank (λ v. self.new.ranks ≡ with_value self.old.ranks rank v (after_store v.rank))) }
+        ensures program { self.new.program ≡ self.old.program }
+        ensures images { self.new.images ≡ self.old.images }
         ensures err { OnErr result (self.new ≡ self.old) }
         ensures err_logger { OnErr result (logger.new ≡ logger.old) }
     {
@@ -37,10 +39,12 @@ impl<'p> Seats<'p> {
     /// The oldest stored event of a rank at work is acknowledged.
     #[tactic(auto, using(crate::proofs::Places::set_same))]
     pub fn ack(&mut self, rank: u8) -> bool
-        requires rank { rank < length self.old }
-        requires work { AtRank self.old rank (λ v. v.left ≡ []) }
-        ensures acked { OnTrue result (AtRank self.old rank (λ v. (0 < v.rank.stored) × (self.new ≡ with_value self.old rank v (after_ack v.rank)))) }
-        ensures none { OnFalse result (AtRank self.old rank (λ v. v.rank.stored ≡ 0)) }
+        requires rank { rank < length self.old.ranks }
+        requires work { AtRank self.old.ranks rank (λ v. v.left ≡ []) }
+        ensures acked { OnTrue result (AtRank self.old.ranks rank (λ v. (0 < v.rank.stored) × (self.new.ranks ≡ with_value self.old.ranks rank v (after_ack v.rank)))) }
+        ensures none { OnFalse result (AtRank self.old.ranks rank (λ v. v.rank.stored ≡ 0)) }
+        ensures program { self.new.program ≡ self.old.program }
+        ensures images { self.new.images ≡ self.old.images }
         ensures stays { OnFalse result (self.new ≡ self.old) }
     {
         self.seats[usize::from(rank)].ack()
@@ -50,12 +54,14 @@ impl<'p> Seats<'p> {
     /// An `Err` is want of memory.
     #[tactic(auto, using(crate::proofs::Places::set_same))]
     pub fn release(&mut self, rank: u8, console: &mut ConsoleState) -> Result<u32, AllocError>
-        requires rank { rank < length self.old }
-        requires work { AtRank self.old rank (λ v. v.left ≡ []) }
-        requires effect { AtRank self.old rank (λ v. IsSome (next_effect v.rank)) }
-        ensures clock { IfOk result (λ clock. AtRank self.old rank (λ v. option_and_then effect_clock (next_effect v.rank) ≡ Some clock)) }
-        ensures ok { OnOk result (AtRank self.old rank (λ v. self.new ≡ with_value self.old rank v (released v.rank (next_effect v.rank)))) }
-        ensures shown { OnOk result (AtRank self.old rank (λ v. ShowsEffect (λ old rank clock value new. new ≡ after_line old rank clock value) v.rank (next_effect v.rank) console.old console.new)) }
+        requires rank { rank < length self.old.ranks }
+        requires work { AtRank self.old.ranks rank (λ v. v.left ≡ []) }
+        requires effect { AtRank self.old.ranks rank (λ v. IsSome (next_effect v.rank)) }
+        ensures clock { IfOk result (λ clock. AtRank self.old.ranks rank (λ v. option_and_then effect_clock (next_effect v.rank) ≡ Some clock)) }
+        ensures ok { OnOk result (AtRank self.old.ranks rank (λ v. self.new.ranks ≡ with_value self.old.ranks rank v (released v.rank (next_effect v.rank)))) }
+        ensures shown { OnOk result (AtRank self.old.ranks rank (λ v. ShowsEffect (λ old rank clock value new. new ≡ after_line old rank clock value) v.rank (next_effect v.rank) console.old console.new)) }
+        ensures program { self.new.program ≡ self.old.program }
+        ensures images { self.new.images ≡ self.old.images }
         ensures err { OnErr result (self.new ≡ self.old) }
         ensures err_console { OnErr result (console.new ≡ console.old) }
     {

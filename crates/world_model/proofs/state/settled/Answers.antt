@@ -1,16 +1,23 @@
-use Rattle.std.proofs.Common.{◌≡◌, List, [], Some, ap, sym, ◌∙◌}
-use Rattle.plain_logger.specs.Event.{EventValue}
-use Rattle.world_model.specs.World.{Rank, Live}
-use Rattle.world_model.specs.Seats.{at_work}
-use Rattle.world_model.proofs.Settling.{is_settled}
+use Rattle.std.proofs.Common.{sym, ap, subst}
+use Rattle.world_model.specs.Seat.{shelf_of, IsOf}
+use Rattle.world_model.specs.World.{Rank}
+use Rattle.world_model.proofs.Settling.{is_settled, settled_live}
 use Rattle.world_model.proofs.state.settled.Goals as goal
-
--- a live rank with these events left
-abbrev live : Rank → List EventValue → Live
-live v left = record { rank = v; left = left }
 
 -- src/state.rt
 pub returns-in-Ok-clause-live : goal.returns-in-Ok-clause-live
 returns-in-Ok-clause-live c =
-    let s = is_settled c.args.replaying.left c.settle.result c.args.replaying.node c.args.replaying c.settle.ensures.done c.settle.ensures.more c.in-Ok.running c.in-Ok.is in
-    ap (λ v. Some (live v [])) s.1 ∙ ap (λ left. Some (live c.args.replaying.node left)) (sym s.0)
+    settled_live c.args.replaying c.settle.result c.settle.ensures.done c.settle.ensures.more c.in-Ok.running c.in-Ok.is
+
+-- src/state.rt
+pub returns-in-Ok-clause-bytes : goal.returns-in-Ok-clause-bytes
+returns-in-Ok-clause-bytes c =
+    ap (λ (v : Rank). shelf_of v.stable)
+    (is_settled c.args.replaying.left c.settle.result c.args.replaying.node c.args.replaying c.settle.ensures.done c.settle.ensures.more c.in-Ok.running c.in-Ok.is).1
+
+-- src/state.rt
+pub returns-in-Ok-clause-standing : goal.returns-in-Ok-clause-standing
+returns-in-Ok-clause-standing c = λ program r n of_node.
+    subst (λ v. IsOf program r n v)
+    (sym (is_settled c.args.replaying.left c.settle.result c.args.replaying.node c.args.replaying c.settle.ensures.done c.settle.ensures.more c.in-Ok.running c.in-Ok.is).1)
+    of_node

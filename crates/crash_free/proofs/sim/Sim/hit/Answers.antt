@@ -3,7 +3,7 @@ use Rattle.std.specs.Prelude.{reverse}
 use Rattle.rank_machine.specs.Acts.{hits}
 use Rattle.crash_free.specs.Sim.{SimValue}
 use Rattle.crash_free.proofs.Choosing.{found_machine, run_push}
-use Rattle.crash_free.proofs.Finding.{Sought, Found, probes_there, refuses_take, refuses_memory, slot_there, packet_matches, may_show, done_hit}
+use Rattle.crash_free.proofs.Finding.{Sought, Found, probes_there, refuses_take, refuses_memory, slot_there, packet_matches, source_there, may_show, done_hit}
 use Rattle.crash_free.proofs.sim.Sim.hit.Goals as goal
 
 pub returns-in_default-clause-refused : goal.returns-in_default-clause-refused
@@ -70,8 +70,12 @@ show-requires c =
     } in
     let at = found_machine c.args.self.now s.program.now s.machines.items run c.from.result c.args.rank c.index_mut-machine.result.now
     p.want c.self.view_is c.from.ensures c.requires.there p.asks c.index_mut-machine.ensures.value in
-    may_show c.index_mut-machine.result.now p.want c.look-packet.result.now at.1
-    (p.shows c.look-packet.result.now (packet_matches _ c.in-Some.place c.args.selector.now c.look-packet.result.now found.first c.look-packet.ensures))
+    record {
+      showing = may_show c.index_mut-machine.result.now p.want c.look-packet.result.now at.1
+          (p.shows c.look-packet.result.now (packet_matches _ c.in-Some.place c.args.selector.now c.look-packet.result.now found.first c.look-packet.ensures));
+      source = source_there c.args.self.now s.program.now s.machines.items s.mail run c.args.rank c.args.source c.args.index c.in-Some.source c.in-Some.place
+          c.index_mut-machine.result.now p.want c.args.selector.now c.look-packet.result.now known found at.0 c.look-packet.ensures;
+    }
 
 pub invariant_of-self-2 : goal.invariant_of-self-2
 invariant_of-self-2 c =

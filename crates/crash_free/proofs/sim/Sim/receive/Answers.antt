@@ -4,7 +4,7 @@ use Rattle.rank_machine.specs.declared.want.Want.TheVariants.{Receive}
 use Rattle.rank_machine.specs.Acts.{takes}
 use Rattle.crash_free.specs.Sim.{SimValue}
 use Rattle.crash_free.proofs.Choosing.{found_machine, run_push}
-use Rattle.crash_free.proofs.Finding.{Sought, Found, receiving, refuses_take, refuses_memory, slot_there, packet_matches, may_give, done_take}
+use Rattle.crash_free.proofs.Finding.{Sought, Found, receiving, refuses_take, refuses_memory, slot_there, packet_matches, source_there, may_give, done_take}
 use Rattle.crash_free.proofs.sim.Sim.receive.Goals as goal
 
 pub returns-in_default-clause-refused : goal.returns-in_default-clause-refused
@@ -68,8 +68,12 @@ give-requires c =
     } in
     let at = found_machine c.args.self.now s.program.now s.machines.items run c.from.result c.args.rank c.index_mut-machine.result.now
     (Receive c.args.selector.now) c.self.view_is c.from.ensures c.requires.there c.requires.asks c.index_mut-machine.ensures.value in
-    may_give c.index_mut-machine.result.now c.args.selector.now c.take-packet.result at.1
-    (packet_matches _ c.in-Some.place c.args.selector.now c.take-packet.result found.first c.take-packet.ensures.packet)
+    record {
+      receiving = may_give c.index_mut-machine.result.now c.args.selector.now c.take-packet.result at.1
+          (packet_matches _ c.in-Some.place c.args.selector.now c.take-packet.result found.first c.take-packet.ensures.packet);
+      source = source_there c.args.self.now s.program.now s.machines.items s.mail run c.args.rank c.args.source c.args.index c.in-Some.source c.in-Some.place
+          c.index_mut-machine.result.now (Receive c.args.selector.now) c.args.selector.now c.take-packet.result known found at.0 c.take-packet.ensures.packet;
+    }
 
 pub invariant_of-self-2 : goal.invariant_of-self-2
 invariant_of-self-2 c =

@@ -46,9 +46,9 @@ returns-clause-follows c =
     arrive_named c.args.self.now _ c.in-Some.source c.in-Some-rank_of.dest c.args.index c.args.source c.args.dest c.in_ok-frame.frame c.in_ok-arrived.arrived c.arrived_as.result
     c.in-Some.ensures.0 c.in-Some-rank_of.ensures.0 (has_then c) (there_then c)
     (subst (λ z. AtRank z.ranks c.in-Some-rank_of.dest (λ (v : Live). c.in_ok-arrived.arrived ≡ arrival_of v.rank c.in-Some.source c.in_ok-frame.frame)) c.self.view_is c.in_ok-arrived.ensures.answer)
-    (subst (λ z. AtRank z.ranks c.in-Some-rank_of.dest (λ (v : Live). c.arrive.new.self ≡ with_value z.ranks c.in-Some-rank_of.dest v (after_frame v.rank c.in-Some.source c.in_ok-frame.frame))) c.self.view_is c.in_ok-arrived.ensures.ok)
+    (subst (λ z. AtRank z.ranks c.in-Some-rank_of.dest (λ (v : Live). c.arrive.new.self.ranks ≡ with_value z.ranks c.in-Some-rank_of.dest v (after_frame v.rank c.in-Some.source c.in_ok-frame.frame))) c.self.view_is c.in_ok-arrived.ensures.ok)
     c.arrived_as.ensures
-    (ap (λ z. z.program) c.self.view_is) (ap (λ z. z.images) c.self.view_is) (ap (λ z. z.logger) c.self.view_is) (ap (λ z. z.wires) c.self.view_is) (ap (λ z. z.lines) c.self.view_is) (ap (λ z. z.run) c.self.view_is)
+    (c.arrive.ensures.program ∙ ap (λ z. z.program) c.self.view_is) (c.arrive.ensures.images ∙ ap (λ z. z.images) c.self.view_is) (ap (λ z. z.logger) c.self.view_is) (ap (λ z. z.wires) c.self.view_is) (ap (λ z. z.lines) c.self.view_is) (ap (λ z. z.run) c.self.view_is)
 
 -- src/parts/arriving.rt
 pub returns-in_err-frame-clause-possible : goal.returns-in_err-frame-clause-possible

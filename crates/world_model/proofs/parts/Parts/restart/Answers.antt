@@ -1,4 +1,4 @@
-use Rattle.std.proofs.Common.{◌≡◌, length, Option, Some, None, sym, ap, subst, ◌∙◌, slice_get, slice_set}
+use Rattle.std.proofs.Common.{◌≡◌, length, Option, Some, None, ap, subst, ◌∙◌, slice_get, slice_set, IsSomeAnd}
 use Rattle.plain_logger.specs.History.{Answers}
 use Rattle.plain_logger.specs.declared.call.Call.TheVariants.{Fetch}
 use Rattle.plain_logger.specs.declared.call.Reply.TheVariants.{Events}
@@ -12,12 +12,15 @@ use Rattle.world_model.proofs.parts.Parts.restart.Goals as goal
 -- src/parts/restarting.rt
 pub returns-clause-follows : goal.returns-clause-follows
 returns-clause-follows c =
-    restart_named c.args.self.now _ c.in-Some.rank c.args.rank c.self.inside.ranks c.in_ok-left.left c.in-Ok.row.items
-    c.in-Some.ensures.0 c.in-Some.ensures.1 (sym (ap (λ z. length z.ranks) c.self.view_is) ∙ c.self.invariant.1)
-    (ap (λ z. z.images) c.self.view_is)
+    restart_named c.args.self.now _ c.in-Some.rank c.args.rank c.in_ok-left.left c.in-Ok.row.items c.in-Some.ensures.0
     (subst (λ z. slice_get z.ranks c.in-Some.rank ≡ Some None) c.self.view_is c.if-not-is_down.ensures.yes)
     (subst (λ z. Answers z.logger c.in-Some.rank (Fetch 0) (Events c.in-Ok.row.items) c.fetch.new.self) c.self.view_is
     (subst (λ r. Answers c.self.inside.logger r (Fetch 0) (Events c.in-Ok.row.items) c.fetch.new.self) c.from.ensures c.in-Ok.ensures.ok))
-    (subst (λ z. c.in_ok-left.left ≡ length (left_of (begins_at z.program c.in-Some.rank (length z.ranks) None) c.in-Ok.row.items)) c.self.view_is c.in_ok-left.ensures.count)
-    (subst (λ z. (x : Option Live) × IsRestarted z.program (length z.ranks) c.in-Some.rank c.in-Ok.row.items x × (c.restart.new.self ≡ slice_set z.ranks c.in-Some.rank x)) c.self.view_is c.in_ok-left.ensures.ok)
-    (ap (λ z. z.program) c.self.view_is) (ap (λ z. z.images) c.self.view_is) (ap (λ z. z.wires) c.self.view_is) (ap (λ z. z.lines) c.self.view_is) (ap (λ z. z.run) c.self.view_is)
+    (subst (λ z. IsSomeAnd (slice_get z.images c.in-Some.rank) (λ image.
+    c.in_ok-left.left ≡ length (left_of (begins_at z.program c.in-Some.rank (length z.ranks) image) c.in-Ok.row.items)))
+    c.self.view_is c.in_ok-left.ensures.count)
+    (subst (λ z. IsSomeAnd (slice_get z.images c.in-Some.rank) (λ image. (x : Option Live)
+    × IsRestarted z.program (length z.ranks) c.in-Some.rank image c.in-Ok.row.items x × (c.restart.new.self.ranks ≡ slice_set z.ranks c.in-Some.rank x)))
+    c.self.view_is c.in_ok-left.ensures.ok)
+    (c.restart.ensures.program ∙ ap (λ z. z.program) c.self.view_is) (c.restart.ensures.images ∙ ap (λ z. z.images) c.self.view_is)
+    (ap (λ z. z.wires) c.self.view_is) (ap (λ z. z.lines) c.self.view_is) (ap (λ z. z.run) c.self.view_is)

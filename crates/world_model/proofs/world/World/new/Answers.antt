@@ -1,6 +1,7 @@
 use Rattle.std.proofs.Common.{subst}
 use Rattle.world_model.specs.Headline.{StandsFor}
-use Rattle.world_model.proofs.Sequences.{world_fresh, world_stands}
+use Rattle.world_model.specs.Retained.{NothingGone}
+use Rattle.world_model.proofs.Sequences.{world_fresh, world_stands, world_retains}
 use Rattle.world_model.proofs.world.World.new.Goals as goal
 
 -- src/world.rt
@@ -12,3 +13,9 @@ pub returns-clause-stands : goal.returns-clause-stands
 returns-clause-stands c =
     subst (λ C. StandsFor c.in_ok-parts.parts C) c.in_ok-parts.ensures.run
     (world_stands c.in_ok-parts.parts (world_fresh _ c.args.ranks c.in_ok-parts.parts c.in_ok-parts.ensures))
+
+-- src/world.rt
+pub returns-clause-nothing_gone : goal.returns-clause-nothing_gone
+returns-clause-nothing_gone c =
+    subst (λ C. NothingGone c.in_ok-parts.parts C) c.in_ok-parts.ensures.run
+    (world_retains c.in_ok-parts.parts (world_fresh _ c.args.ranks c.in_ok-parts.parts c.in_ok-parts.ensures))

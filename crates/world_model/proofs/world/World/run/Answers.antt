@@ -2,6 +2,7 @@ use Rattle.std.proofs.Common.{ℕ, ◌+◌, ◌<◌, List, [], ◌∷◌, ◌++�
 use Rattle.std.proofs.lemmas.List.{take_more}
 use Rattle.world_model.specs.World.{WorldValue}
 use Rattle.world_model.specs.Headline.{StandsFor}
+use Rattle.world_model.specs.Retained.{NothingGone}
 use Rattle.world_model.specs.Follows.{Follows, FollowsAll}
 use Rattle.world_model.specs.declared.event.WorldEvent.{WorldEvent}
 use Rattle.world_model.specs.declared.reply.Reply.{Reply}
@@ -11,9 +12,9 @@ use Rattle.world_model.proofs.world.World.run.Goals as goal
 
 -- one more event of the list
 go_on : (w v w' : WorldValue) (events : List WorldEvent) (replies : List Reply) (k : ℕ) (d : WorldEvent) (answer : Reply) → k < length events
-    → FollowsAll w (take k events) replies v → Follows v (get_or events k d) answer w' → StandsFor w' w'.run
+    → FollowsAll w (take k events) replies v → Follows v (get_or events k d) answer w' → StandsFor w' w'.run → NothingGone w' w'.run
     → FollowsAll w (take (k + 1) events) (replies ++ answer ∷ []) w'
-go_on w v w' events replies k d answer l f g s = rw (take_more events k d l) (follows_push w v w' (take k events) replies (get_or events k d) answer f g s)
+go_on w v w' events replies k d answer l f g s n = rw (take_more events k d l) (follows_push w v w' (take k events) replies (get_or events k d) answer f g s n)
 
 -- src/world.rt
 pub loop-done-preserved : goal.loop-done-preserved
@@ -21,8 +22,9 @@ loop-done-preserved c = record {
   ran = rw c.push_reserved.ensures.items
       (rw c.in-Ok.ensures.items
       (go_on _ c.loop-done.self c.apply.new.self c.args.events.now c.loop-done.replies.items c.loop-done.done _ c.in-Ok-apply.reply (omega arith)
-      c.loop-done.invariant.ran c.in-Ok-apply.ensures.follows c.in-Ok-apply.ensures.stands));
+      c.loop-done.invariant.ran c.in-Ok-apply.ensures.follows c.in-Ok-apply.ensures.stands c.in-Ok-apply.ensures.nothing_gone));
   stands = c.in-Ok-apply.ensures.stands;
+  nothing_gone = c.in-Ok-apply.ensures.nothing_gone;
 }
 
 -- src/world.rt

@@ -1,10 +1,12 @@
 use Rattle.std.proofs.Common.{take}
 use Rattle.world_model.specs.Follows.{FollowsAll}
 use Rattle.world_model.specs.Headline.{StandsFor}
+use Rattle.world_model.specs.Retained.{NothingGone}
 use Rattle.world_model.proofs.world.World.run.Given as goal
 
 abbrev pub invariant-loop-done : goal.invariant-loop-done
 invariant-loop-done l = record {
   ran : FollowsAll l.fn.self (take l.done l.events) l.replies.items l.self;
   stands : StandsFor l.self l.self.run;
+  nothing_gone : NothingGone l.self l.self.run;
 }

@@ -1,0 +1,27 @@
+use Rattle.std.proofs.Common.{All, sym, ap, subst, ◌∙◌, rules, arith}
+use Rattle.std.proofs.lemmas.Grind.{common_steps}
+use Rattle.checkpoint.specs.Image.{ImageValue, at_rest}
+use Rattle.checkpoint.specs.Spelling.{spelling}
+use Rattle.checkpoint.specs.Legal.{IsTable, IsStored}
+use Rattle.checkpoint.specs.Reading.{reading}
+use Rattle.checkpoint.proofs.Whole.{spelled_is_read, spelled_at_rest}
+use Rattle.checkpoint.proofs.Saving.{machine_is, image_is}
+use Rattle.checkpoint.proofs.image.encode_parts.Goals as goal
+
+pub returns-clause-spelled : goal.returns-clause-spelled
+unfolding spelling
+returns-clause-spelled c = first_of (search rules, grind (arith, common_steps))
+
+pub returns-clause-reads : goal.returns-clause-reads
+returns-clause-reads c =
+    let m = c.args.machine.now in
+    let i : ImageValue = record { machine = m; clock = c.args.clock; inbox = c.args.inbox.now; log = c.args.log.now } in
+    let whole = c.within_program.ensures in
+    let written = c.in_ok-put_machine.ensures in
+    let table = subst IsTable c.program-program.ensures c.within_table.ensures in
+    let saved = machine_is m whole.machine whole.lines whole.few c.requires.ranks written.variables written.arrays in
+    let stored = subst (All IsStored) c.destinations.ensures c.in_ok-put_lanes.ensures.stored in
+    let is = image_is i c.requires whole.machine table saved c.numbers_rise.ensures c.few_packets.ensures c.in_ok-put_inbox.ensures.packets
+    stored in
+    ap (reading m.program m.store.rank m.store.size) (returns-clause-spelled c ∙ sym (spelled_at_rest i))
+    ∙ spelled_is_read m.program m.store.rank m.store.size (at_rest i) is

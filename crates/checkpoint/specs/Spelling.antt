@@ -1,0 +1,95 @@
+-- The bytes of an image (docs/FORMATS.md, "Images"): all numbers big-endian, one field after the other.
+use Rattle.std.specs.Prelude.{ℕ, ◌<◌, ◌^◌, List, ◌++◌, length, ℤ, Option, Some, None}
+use Rattle.std.specs.List.{flat_map}
+use Rattle.std.specs.Int.{w64, cast_unsigned}
+use Rattle.byteorder.specs.Endian.{big_bytes}
+use Rattle.matching.specs.declared.packet.Context.{Context}
+use Rattle.matching.specs.declared.packet.Context.TheVariants.{PointToPoint, Collective}
+use Rattle.matching.specs.Message.{Message}
+use Rattle.payload_log.specs.Backlog.{Backlog}
+use Rattle.rank_language.specs.Program.{ProgramValue}
+use Rattle.rank_machine.specs.declared.fault.MachineFault.{MachineFault}
+use Rattle.rank_machine.specs.Faults.{number_of}
+use Rattle.rank_machine.specs.Machine.{MachineValue}
+use Rattle.matching.specs.Inbox.{Mailbox}
+use Rattle.rank_machine.specs.declared.status.Status.{Status}
+use Rattle.checkpoint.specs.Image.{ImageValue, Standing, standing_of, status_of}
+
+-- a number that so many bytes can spell
+abbrev pub FitsBytes : ℕ → ℕ → Type 0
+FitsBytes n x = x < 256 ^ n
+
+-- the number of this format, with which every image begins
+abbrev pub format : ℕ
+format = 1
+
+-- a value takes 8 bytes, in two's complement
+unfoldable pub value : ℤ → List ℕ
+value z = big_bytes 8 (cast_unsigned w64 z)
+
+abbrev pub values : List ℤ → List ℕ
+values zs = flat_map value zs
+
+-- the number of a context
+abbrev pub context_number : Context → ℕ
+context_number PointToPoint = 0
+context_number Collective = 1
+
+-- what stands of a packet after its envelope's numbers
+unfoldable pub tail : Message → List ℕ
+tail m = big_bytes 1 (context_number m.context) ++ (big_bytes 2 m.tag ++ (big_bytes 2 (length m.items) ++ values m.items))
+
+-- a packet of the inbox
+unfoldable pub packet : Message → List ℕ
+packet m = big_bytes 1 m.source ++ (big_bytes 4 m.clock ++ (big_bytes 4 m.number ++ tail m))
+
+-- a packet that is kept; its source and number follow from where it stands
+unfoldable pub kept : Message → List ℕ
+kept m = big_bytes 4 m.clock ++ tail m
+
+-- what is kept for a destination; the cursor isn't in it
+unfoldable pub lane : Backlog → List ℕ
+lane b = big_bytes 4 b.sent ++ (big_bytes 4 b.base ++ flat_map kept b.kept)
+
+-- the format, the rank and the number of ranks
+unfoldable pub origin : ℕ → ℕ → List ℕ
+origin rank size = big_bytes 1 format ++ (big_bytes 1 rank ++ big_bytes 1 size)
+
+-- the length of each array
+abbrev pub lengths : List (List ℕ × ℕ) → List ℕ
+lengths arrays = flat_map (λ a. big_bytes 2 a.1) arrays
+
+-- the program's numbers, by which an image of another program is told apart
+unfoldable pub table : ProgramValue → List ℕ
+table p =
+    big_bytes 2 (length p.statements) ++ (big_bytes 1 (length p.variables) ++ (big_bytes 1 (length p.arrays)
+    ++ lengths p.arrays))
+
+-- the number of the fault that an act left, 0 for none
+abbrev pub fault_number : Option MachineFault → ℕ
+fault_number None = 0
+fault_number (Some k) = number_of k
+
+-- where the machine stands
+unfoldable pub standing : Standing → List ℕ
+standing s =
+    big_bytes 2 s.position ++ (big_bytes 1 s.done ++ (big_bytes 1 (fault_number s.fault) ++ (big_bytes 1 (length s.gathered)
+    ++ (values s.gathered ++ big_bytes 4 s.finished))))
+
+-- source, tag and number of items of the last message
+unfoldable pub status : Status → List ℕ
+status s = big_bytes 1 s.source ++ (big_bytes 2 s.tag ++ big_bytes 2 s.count)
+
+unfoldable pub machine : MachineValue → List ℕ
+machine m =
+    standing (standing_of m) ++ (status (status_of m) ++ (values m.store.variables ++ flat_map values m.store.arrays))
+
+-- the inbox: what was accepted of each rank, and the packets in their order
+unfoldable pub inbox : Mailbox → List ℕ
+inbox b = flat_map (big_bytes 4) b.accepted ++ (big_bytes 4 (length b.packets) ++ flat_map packet b.packets)
+
+-- the bytes of an image
+unfoldable pub spelling : ImageValue → List ℕ
+spelling i =
+    origin i.machine.store.rank i.machine.store.size
+    ++ (table i.machine.program ++ (machine i.machine ++ (big_bytes 4 i.clock ++ (inbox i.inbox ++ flat_map lane i.log))))

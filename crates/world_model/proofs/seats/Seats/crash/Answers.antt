@@ -1,0 +1,18 @@
+use Rattle.std.proofs.Common.{ap, ◌∙◌, slice_set}
+use Rattle.world_model.specs.Seats.{SeatValue}
+use Rattle.world_model.proofs.Lives.{IsTaken, taken, ranks_then, same_images}
+use Rattle.world_model.proofs.seats.Seats.crash.Goals as goal
+
+-- the seat is the rank's
+seat : (c : goal.After-self-1) → IsTaken c.args.self.now c.self.inside.seats.items c.from.result c.args.rank c.index_mut.result.now
+seat c = taken c.args.self.now _ c.self.inside.seats.items c.from.result c.args.rank c.index_mut.result.now c.self.view_is c.from.ensures c.requires c.index_mut.ensures.value
+
+-- src/seats/living.rt
+pub returns-clause-down : goal.returns-clause-down
+returns-clause-down c =
+    ranks_then c.crash.new.self (seat c) ∙ ap (λ (z : SeatValue). slice_set c.args.self.now.ranks c.args.rank z.live) c.crash.ensures
+
+-- src/seats/living.rt
+pub returns-clause-images : goal.returns-clause-images
+returns-clause-images c =
+    same_images _ _ _ c.crash.new.self (seat c).there (ap (λ (z : SeatValue). z.image) c.crash.ensures) ∙ (seat c).all_images

@@ -1,0 +1,23 @@
+use Rattle.rank_node.specs.Releasing.{next_effect, released}
+use Rattle.world_model.specs.World.{Live}
+use Rattle.world_model.proofs.Lives.{IsTaken, taken, of_seat, with_rank_then, images_stay}
+use Rattle.world_model.proofs.seats.Seats.release.Goals as goal
+
+-- the seat is the rank's
+seat : (c : goal.In_ok-clock) → IsTaken c.args.self.now c.self.inside.seats.items c.from.result c.args.rank c.index_mut.result.now
+seat c = taken c.args.self.now _ c.self.inside.seats.items c.from.result c.args.rank c.index_mut.result.now c.self.view_is c.from.ensures c.requires.rank c.index_mut.ensures.value
+
+-- src/seats/storing.rt
+pub returns-clause-ok : goal.returns-clause-ok
+returns-clause-ok c =
+    with_rank_then c.release.new.self (λ (v : Live). released v.rank (next_effect v.rank)) (seat c) c.in_ok-clock.ensures.ok
+
+-- src/seats/storing.rt
+pub returns-clause-shown : goal.returns-clause-shown
+returns-clause-shown c =
+    of_seat _ (seat c) c.in_ok-clock.ensures.shown
+
+-- src/seats/storing.rt
+pub returns-clause-images : goal.returns-clause-images
+returns-clause-images c =
+    images_stay c.release.new.self (seat c) c.release.ensures.others
