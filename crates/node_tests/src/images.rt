@@ -1,11 +1,13 @@
 //! Images of a rank at work: what each call on its shelf leaves, where a device fails too.
-ghost use Rattle.std.specs.Prelude.{◌≡◌, ◌<◌, ◌≤◌, length};
+ghost use Rattle.std.specs.Prelude.{◌≡◌, ◌<◌, ◌≤◌, length, IfOk};
+ghost use Rattle.std.specs.Bool.{OnTrue};
 ghost use Rattle.metered.specs.Limits.{most_events};
-ghost use Rattle.checkpoint.specs.Shelf.{image_bytes};
+ghost use Rattle.checkpoint.specs.Shelf.{Grew, image_bytes};
 
 use crate::scenes::LastLine;
 use checkpoint::{MemoryShelf, Shelf, ShelfFault};
 use metered::Heap;
+use metered::limits::MOST_EVENTS;
 use plain_logger::{Event, LoggerState};
 use rank_language::Program;
 use rank_node::{Down, NodeFault, Running, Stable};
@@ -36,14 +38,25 @@ impl FailingShelf {
     /// Counts a call, and answers whether the device fails in it.
     fn fails(&mut self) -> bool
         ensures image { self.new.image ≡ self.old.image }
+        ensures counted { OnTrue result (Grew self.old.faults self.new.faults) }
     {
         self.calls = self.calls.saturating_add(1);
         if self.calls != self.fails_at {
             return false;
         }
-        self.faults = self.faults.saturating_add(1);
+        self.faults = one_more(self.faults);
         true
     }
+}
+
+// A count that stops at the greatest u64.
+fn one_more(count: u64) -> u64
+    ensures { Grew count result }
+{
+    if count == u64::MAX {
+        return count;
+    }
+    count + 1
 }
 
 impl Shelf for FailingShelf {
@@ -99,9 +112,8 @@ const MISSES: &[u8] = b"var x\niprobe any, any, x\nprint 5\niprobe any, any, x\n
 fn begins(rank: &mut Shelved, screen: &mut LastLine) -> Result<(), Fail>
     ensures { rank.new.stable ≡ rank.old.stable }
 {
-    for _ in 0..2 {
-        rank.step(screen)?;
-    }
+    rank.step(screen)?;
+    rank.step(screen)?;
     Ok(())
 }
 
@@ -158,6 +170,16 @@ fn starts_again(
     Ok((None, left, clock, shelf.faults()))
 }
 
+/// The row of the only rank.
+fn row_of(rt: &impl Abort, alloc: Heap, logger: &mut LoggerState) -> Result<Vec<Event, Heap>, Fail>
+    ensures { IfOk result (λ row. length row.items ≤ most_events) }
+{
+    assert!(rt; logger.ranks() == 8);
+    let row = logger.fetch(alloc, 0, 0)?;
+    assert!(rt; row.len() <= MOST_EVENTS);
+    Ok(row)
+}
+
 /// Starts again, and once more where that is refused.
 fn starts_at_last(
     rt: &impl Abort,
@@ -166,18 +188,23 @@ fn starts_at_last(
     down: Down<FailingShelf, ()>,
     logger: &mut LoggerState,
 ) -> Result<Start, Fail> {
-    assert!(rt; logger.ranks() == 8);
-    let Ok(row) = logger.fetch(alloc, 0, 0) else {
-        let _ = down.retire().parts();
-        return Err(Fail::from("no memory"));
+    let row = match row_of(rt, alloc, logger) {
+        Ok(row) => row,
+        Err(fail) => {
+            let _ = down.retire().parts();
+            return Err(fail);
+        }
     };
     let (down, fault) = match starts_again(alloc, program, down, row) {
         Ok(start) => return Ok(start),
         Err(refused) => refused,
     };
-    let Ok(row) = logger.fetch(alloc, 0, 0) else {
-        let _ = down.retire().parts();
-        return Err(Fail::from("no memory"));
+    let row = match row_of(rt, alloc, logger) {
+        Ok(row) => row,
+        Err(fail) => {
+            let _ = down.retire().parts();
+            return Err(fail);
+        }
     };
     match starts_again(alloc, program, down, row) {
         Ok((_, left, clock, faults)) => Ok((Some(fault), left, clock, faults)),
