@@ -1,5 +1,6 @@
 pub mod Fields
 pub mod Packets
+pub mod Underway
 pub mod Machines
 pub mod Whole
 pub mod Loop

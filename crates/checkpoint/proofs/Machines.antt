@@ -13,16 +13,18 @@ use Rattle.rank_machine.specs.declared.fault.MachineFault.{MachineFault}
 use Rattle.rank_machine.specs.declared.fault.MachineFault.TheVariants.{Overflow, ZeroDivide, Index, BadRank, BadTag, TooLong}
 use Rattle.rank_machine.specs.declared.fault.MachineFault.TheVariants.{CollectiveMismatch}
 use Rattle.rank_machine.specs.Faults.{IsLeft}
+use Rattle.rank_machine.specs.Collectives.{greatest_ordinal}
 use Rattle.rank_machine.specs.Machine.{MachineValue}
 use Rattle.checkpoint.specs.declared.fault.ImageFault.TheVariants.{Version, Field, WrongProgram}
 use Rattle.rank_machine.specs.declared.status.Status.{Status}
-use Rattle.checkpoint.specs.Image.{Standing, machine_of, standing_of, status_of, lengths_of, is_underway, most_finished}
+use Rattle.checkpoint.specs.Image.{Standing, machine_of, standing_of, status_of, lengths_of, is_underway}
 use Rattle.checkpoint.specs.Spelling.{FitsBytes, values, origin, lengths, table, fault_number, standing, status, machine}
 use Rattle.checkpoint.specs.Legal.{AreArrays, IsTable, IsStanding, IsStatus, IsSaved}
 use Rattle.checkpoint.specs.Reading.{◌>>=◌, field, where_passed, origin_at, lengths_at, table_at, fault_of, fault_at, standing_at}
 use Rattle.checkpoint.specs.Reading.{status_at, arrays_at, machine_at}
 use Rattle.checkpoint.proofs.Fields.{IsBytes, Takes, takes_then, IsReader, IsPassed, step, again_then, again_last, ok_is, number}
 use Rattle.checkpoint.proofs.Fields.{field_reader, many_reader, values_reader, seen_as}
+use Rattle.checkpoint.proofs.Underway.{underway, passes}
 
 -- ---- the header
 
@@ -206,7 +208,7 @@ standing_reader statements = record {
       let s2 = step fault_reader s1.rest _ (x, rest) s1.took.fits s1.on in
       let s3 = step (number 1) s2.rest _ (x, rest) s2.took.fits s2.on in
       let s4 = step (values_reader s3.item) s3.rest _ (x, rest) s3.took.fits s3.on in
-      let s5 = step (field_reader 4 Field (λ x. nat_le x most_finished)) s4.rest _ (x, rest) s4.took.fits s4.on in
+      let s5 = step (field_reader 4 Field (λ x. nat_le x greatest_ordinal)) s4.rest _ (x, rest) s4.took.fits s4.on in
       let made : Standing = record { position = s0.item; done = s1.item; fault = s2.item; gathered = s4.item; finished = s5.item } in
       let same = ok_is (made, s5.rest) (x, rest) s5.on in
       let count : Takes s2.rest (big_bytes 1 (length s4.item)) s3.rest = subst (λ (n : ℕ). Takes s2.rest (big_bytes 1 n) s3.rest)
@@ -242,7 +244,7 @@ standing_reader statements = record {
       is.fault
       (again_then (number 1) (length x.gathered) (values x.gathered ++ big_bytes 4 x.finished) rest _ _ is.gathered
       (again_then (values_reader (length x.gathered)) x.gathered (big_bytes 4 x.finished) rest _ _ is.values
-      (again_last (field_reader 4 Field (λ x. nat_le x most_finished)) x.finished rest _ _
+      (again_last (field_reader 4 Field (λ x. nat_le x greatest_ordinal)) x.finished rest _ _
       (record { fits = omega (arith, is.finished); passed = le-leb _ _ is.finished }) refl)))));
 }
 
@@ -251,24 +253,6 @@ pub arrays_reader : (lengths : List ℕ) → IsReader (arrays_at lengths) (flat_
 arrays_reader lengths = many_reader (λ before. values_reader (slice_index lengths (length before))) (length lengths)
 
 -- ---- the machine
-
--- a machine that is made stands where it was said
-made_standing : (position : ℕ) (fault : Option MachineFault) (done finished : ℕ) (gathered : List ℤ) → done ≡ 0 → finished ≡ 0
-    → gathered ≡ [] →
-    (let a : Standing = record { position = position; done = 0; fault = fault; gathered = []; finished = 0 } in
-    let b : Standing = record { position = position; done = done; fault = fault; gathered = gathered; finished = finished } in a ≡ b)
-made_standing position fault done finished gathered e f g = rw (e, f, g) refl
-
--- where no collective stands, the machine says how it stands
-stands : (p : ProgramValue) (rank size : ℕ) (s : Standing) (x : Status) (variables : List ℤ) (arrays : List (List ℤ))
-    → IsStanding (length p.statements) s → is_underway s (machine_of p rank size s x variables arrays) ≡ true →
-    standing_of (machine_of p rank size s x variables arrays) ≡ s
-stands p rank size s x variables arrays is e =
-    let parts = and_parts _ _ e in
-    let done : s.done ≤ 0 = leb-true _ _ parts.0 in
-    let none : length s.gathered ≡ 0 = eqb-true _ _ parts.1 in
-    made_standing s.position s.fault s.done s.finished s.gathered (omega (arith, done)) (omega (arith, is.finished))
-    (nil_from_length s.gathered none)
 
 -- where nothing is a fault, the test was passed
 passed : {A : Type 0} (b : Bool) (x y : A) → where_passed b Field x ≡ Ok y → (b ≡ true) × (x ≡ y)
@@ -282,36 +266,18 @@ unfolding machine_at machine
 machine_again m rest is =
     again_then (standing_reader (length m.program.statements)) (standing_of m)
     (status (status_of m) ++ (values m.store.variables ++ flat_map values m.store.arrays)) rest _ _
-    (record {
-      position = is.position;
-      word = is.word;
-      done = omega arith;
-      fault = is.fault;
-      gathered = omega arith;
-      values = record { count = refl; each = tt };
-      finished = omega arith;
-    })
+    is.standing
     (again_then (status_reader m.store.size) (status_of m) (values m.store.variables ++ flat_map values m.store.arrays) rest _ _
-    (record { source = is.source; byte = is.byte; tag = is.tag; count = is.count })
+    is.status
     (again_then (values_reader (length m.program.variables)) m.store.variables (flat_map values m.store.arrays) rest _ _ is.variables
-    (again_last (arrays_reader (lengths_of m.program)) m.store.arrays rest _ _ is.arrays refl)))
+    (again_last (arrays_reader (lengths_of m.program)) m.store.arrays rest _ _ is.arrays
+    (ap (λ (b : Bool). where_passed b Field (m, rest)) (passes m is.stage)))))
 
 -- a legal machine by its own program, rank and number of ranks
 saved_itself : (p : ProgramValue) (rank size : ℕ) (m : MachineValue) → IsSaved p rank size m → IsSaved m.program m.store.rank m.store.size m
-saved_itself p rank size m is = rw (is.program, is.own, is.ranks) (record {
-  program = refl;
-  own = refl;
-  ranks = refl;
-  position = is.position;
-  word = is.word;
-  fault = is.fault;
-  source = is.source;
-  byte = is.byte;
-  tag = is.tag;
-  count = is.count;
-  variables = is.variables;
-  arrays = is.arrays;
-})
+saved_itself p rank size m is =
+    subst (λ (q : ProgramValue). IsSaved q m.store.rank m.store.size m) (sym is.program)
+    (subst (λ (r : ℕ). IsSaved p r m.store.size m) (sym is.own) (subst (λ (n : ℕ). IsSaved p rank n m) (sym is.ranks) is))
 
 -- the reader of a machine
 pub machine_reader : (p : ProgramValue) (rank size : ℕ) → IsReader (machine_at p rank size) machine (IsSaved p rank size)
@@ -324,27 +290,20 @@ machine_reader p rank size = record {
       let s3 = step (arrays_reader (lengths_of p)) s2.rest _ (m, rest) s2.took.fits s2.on in
       let made = machine_of p rank size s0.item s1.item s2.item s3.item in
       let pair : MachineValue × List ℕ = (made, s3.rest) in
-      let g = passed (is_underway s0.item made) pair (m, rest) s3.on in
-      let st : standing_of made ≡ s0.item = stands p rank size s0.item s1.item s2.item s3.item s0.is g.0 in
-      let t0 : Takes bytes (standing (standing_of made)) s0.rest = subst (λ (s : Standing). Takes bytes (standing s) s0.rest) (sym st)
-      s0.took in
+      let g = passed (is_underway made) pair (m, rest) s3.on in
       let t23 = takes_then s1.rest (values s2.item) s2.rest (flat_map values s3.item) s3.rest s2.took s3.took in
       let t13 = takes_then s0.rest (status s1.item) s1.rest (values s2.item ++ flat_map values s3.item) s3.rest s1.took t23 in
       let t03 = takes_then bytes (standing (standing_of made)) s0.rest (status s1.item ++ (values s2.item ++ flat_map values s3.item))
-      s3.rest t0 t13 in
+      s3.rest s0.took t13 in
       let is : IsSaved p rank size made = record {
         program = refl;
         own = refl;
         ranks = refl;
-        position = s0.is.position;
-        word = s0.is.word;
-        fault = s0.is.fault;
-        source = s1.is.source;
-        byte = s1.is.byte;
-        tag = s1.is.tag;
-        count = s1.is.count;
+        standing = s0.is;
+        status = s1.is;
         variables = s2.is;
         arrays = s3.is;
+        stage = underway made g.0;
       } in
       subst (λ (x : MachineValue × List ℕ). Takes bytes (machine x.0) x.1 × IsSaved p rank size x.0) g.1 (t03, is);
   again = λ m rest is. rw (← is.program, ← is.own, ← is.ranks) (machine_again m rest (saved_itself p rank size m is));

@@ -17,13 +17,14 @@ use Rattle.payload_log.specs.Sender.{WasBefore, IsSentBy}
 use Rattle.rank_language.specs.Block.{size}
 use Rattle.rank_language.specs.Program.{ProgramValue, tree_of, AllSized}
 use Rattle.rank_machine.specs.Machine.{MachineValue, IsMachine}
-use Rattle.checkpoint.specs.Image.{ImageValue, lengths_of, rewound, at_rest}
+use Rattle.checkpoint.specs.Image.{ImageValue, call_of, lengths_of, rewound, at_rest}
 use Rattle.checkpoint.specs.Savable.{IsSavable}
 use Rattle.checkpoint.specs.Spelling.{FitsBytes}
 use Rattle.checkpoint.specs.Reading.{last_clock}
 use Rattle.checkpoint.specs.Legal.{AllAfter, AreValues, IsTail, IsPacket, IsStored, IsNextPacket, IsNextKept, IsLane, IsTable, IsSaved}
 use Rattle.checkpoint.specs.Legal.{IsSavedInbox, IsImage}
 use Rattle.checkpoint.proofs.Loop.{last_clock-push}
+use Rattle.checkpoint.proofs.Underway.{few_done, few_gathered}
 use Rattle.checkpoint.proofs.Rows.{all_rest, pairs_rest, pairs_first, all_front, pairs_front, pairs_seam, row_of}
 
 -- ---- packets
@@ -212,28 +213,38 @@ array_row lengths before (zs ∷ arrays) same each =
 -- a machine is legal
 pub machine_is : (m : MachineValue) → IsMachine m → size (tree_of m.program) ≡ length m.program.statements
     → length m.program.statements ≤ most_lines
-    → m.store.size ≤ most_ranks → All (FitsSigned w64) m.store.variables → All (All (FitsSigned w64)) m.store.arrays
-    → IsSaved m.program m.store.rank m.store.size m
-machine_is m is lines few ranks variables arrays =
-    let at = is.position in
-    let source = is.source in
-    let counts = ap (length {A = ℕ}) is.lengths in
+    → m.store.size ≤ most_ranks → All (FitsSigned w64) m.store.gathered → All (FitsSigned w64) m.store.variables
+    → All (All (FitsSigned w64)) m.store.arrays → IsSaved m.program m.store.rank m.store.size m
+machine_is m is lines few ranks gathered variables arrays =
+    let limits = is.limits in
+    let at = limits.position in
+    let source = limits.source in
+    let counts = ap (length {A = ℕ}) limits.lengths in
     record {
       program = refl;
       own = refl;
       ranks = refl;
-      position = omega (arith, at, lines);
-      word = omega (arith, at, lines, few);
-      fault = is.fault;
-      source = is.source;
-      byte = omega (arith, source, ranks);
-      tag = is.tag;
-      count = is.count;
-      variables = values_are m.store.variables (length m.program.variables) is.variables variables;
+      standing = record {
+        position = omega (arith, at, lines);
+        word = omega (arith, at, lines, few);
+        done = few_done m.store (call_of m) is.stage ranks;
+        fault = limits.fault;
+        gathered = few_gathered m.store (call_of m) is.stage ranks;
+        values = values_are m.store.gathered (length m.store.gathered) refl gathered;
+        finished = limits.finished;
+      };
+      status = record {
+        source = limits.source;
+        byte = omega (arith, source, ranks);
+        tag = limits.tag;
+        count = limits.count;
+      };
+      variables = values_are m.store.variables (length m.program.variables) limits.variables variables;
       arrays = record {
         count = sym (length-map m.store.arrays (length {A = ℤ})) ∙ counts;
-        each = array_row (lengths_of m.program) [] m.store.arrays is.lengths arrays;
+        each = array_row (lengths_of m.program) [] m.store.arrays limits.lengths arrays;
       };
+      stage = is.stage;
     }
 
 -- ---- the whole image
@@ -246,7 +257,7 @@ pub image_is : (i : ImageValue) → IsSavable i → IsMachine i.machine → IsTa
     → IsImage i.machine.program i.machine.store.rank i.machine.store.size (at_rest i)
 image_is i savable is table saved mailbox many packets stored =
     let few = savable.ranks in
-    let rank = is.rank in
+    let rank = is.limits.rank in
     record {
       table = table;
       own = omega (arith, rank, few);

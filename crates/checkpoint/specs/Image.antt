@@ -1,12 +1,13 @@
 -- The image of a rank, as those that take one and begin at one see it (uncoordinated checkpoints: Elnozahy, Alvisi,
 -- Wang and Johnson 2002, "A Survey of Rollback-Recovery Protocols in Message-Passing Systems", section 2).
-use Rattle.std.specs.Prelude.{ℕ, ◌+◌, Bool, ◌&&◌, List, [], length, map, ℤ, nat_le, ◌==◌, Option}
+use Rattle.std.specs.Prelude.{ℕ, ◌+◌, Bool, ◌&&◌, List, [], length, map, ℤ, nat_lt, ◌==◌, Option}
 use Rattle.matching.specs.Inbox.{Mailbox}
 use Rattle.payload_log.specs.Backlog.{Backlog}
 use Rattle.rank_language.specs.Program.{ProgramValue}
 use Rattle.rank_machine.specs.declared.fault.MachineFault.{MachineFault}
 use Rattle.rank_machine.specs.declared.status.Status.{Status}
-use Rattle.rank_machine.specs.Machine.{MachineValue}
+use Rattle.rank_machine.specs.Collectives.{Call}
+use Rattle.rank_machine.specs.Machine.{MachineValue, line_at, call_at, stages, gathers}
 
 -- what an image says: the machine, the clock of the last act, the inbox with what was accepted, and the payload log;
 -- nothing waits in it, and it has no cursors but those right after the base
@@ -33,25 +34,24 @@ pub record Standing : Type 0 where
   pub gathered : List ℤ
   pub finished : ℕ
 
--- The language has no collectives yet, so that nothing is ever done in one, gathered or finished.
+-- where it stands
 abbrev pub standing_of : MachineValue → Standing
-standing_of m = record { position = m.position; done = 0; fault = m.fault; gathered = []; finished = 0 }
+standing_of m = record {
+  position = m.position;
+  done = m.store.done;
+  fault = m.fault;
+  gathered = m.store.gathered;
+  finished = m.store.finished;
+}
 
--- the most acts that a machine can have done in the collective at its position
-abbrev pub most_done : MachineValue → ℕ
-most_done m = 0
+-- the collective at a machine's position, as it is called there; none at another line, and none where its call faults
+abbrev pub call_of : MachineValue → Option Call
+call_of m = call_at m.store (line_at m)
 
--- how many values it has gathered there after so many acts
-abbrev pub gathers : MachineValue → ℕ → ℕ
-gathers m done = 0
-
--- the most collectives that a machine can have finished
-abbrev pub most_finished : ℕ
-most_finished = 0
-
--- a machine can stand so in the collective at its position
-abbrev pub is_underway : Standing → MachineValue → Bool
-is_underway s m = nat_le s.done (most_done m) && (length s.gathered == gathers m s.done)
+-- a machine can have done so much of the collective at its position, and gathered so many values there
+abbrev pub is_underway : MachineValue → Bool
+is_underway m =
+    nat_lt m.store.done (stages m.store (call_of m)) && (length m.store.gathered == gathers m.store (call_of m))
 
 -- source, tag and number of items of the last message
 abbrev pub status_of : MachineValue → Status
@@ -74,6 +74,9 @@ machine_of p rank size standing status variables arrays = record {
     source = status.source;
     tag = status.tag;
     count = status.count;
+    finished = standing.finished;
+    done = standing.done;
+    gathered = standing.gathered;
   };
   fault = standing.fault;
 }

@@ -9,10 +9,11 @@ use Rattle.matching.specs.Inbox.{Mailbox, may_follow}
 use Rattle.payload_log.specs.Backlog.{Backlog, IsBacklog}
 use Rattle.rank_language.specs.Program.{ProgramValue}
 use Rattle.rank_machine.specs.Faults.{IsLeft}
-use Rattle.rank_machine.specs.Machine.{MachineValue}
+use Rattle.rank_machine.specs.Collectives.{greatest_ordinal}
+use Rattle.rank_machine.specs.Machine.{MachineValue, HasStage}
 use Rattle.rank_machine.specs.declared.status.Status.{Status}
 use Rattle.checkpoint.specs.Spelling.{FitsBytes}
-use Rattle.checkpoint.specs.Image.{ImageValue, Standing, lengths_of, most_finished}
+use Rattle.checkpoint.specs.Image.{ImageValue, Standing, standing_of, call_of, status_of, lengths_of}
 use Rattle.checkpoint.specs.Reading.{last_clock}
 
 -- each item is legal behind those before it
@@ -90,7 +91,7 @@ pub record IsStanding (statements : ℕ) (s : Standing) : Type 0 where
   pub fault : IsLeft s.fault
   pub gathered : FitsBytes 1 (length s.gathered)
   pub values : AreValues (length s.gathered) s.gathered
-  pub finished : s.finished ≤ most_finished
+  pub finished : s.finished ≤ greatest_ordinal
 
 -- what the last message can have been
 pub record IsStatus (size : ℕ) (s : Status) : Type 0 where
@@ -108,15 +109,11 @@ pub record IsSaved (p : ProgramValue) (rank size : ℕ) (m : MachineValue) : Typ
   pub program : m.program ≡ p
   pub own : m.store.rank ≡ rank
   pub ranks : m.store.size ≡ size
-  pub position : m.position ≤ length p.statements
-  pub word : FitsBytes 2 m.position
-  pub fault : IsLeft m.fault
-  pub source : m.store.source < size
-  pub byte : FitsBytes 1 m.store.source
-  pub tag : m.store.tag ≤ limits.greatest_tag
-  pub count : m.store.count ≤ limits.most_items
+  pub standing : IsStanding (length p.statements) (standing_of m)
+  pub status : IsStatus size (status_of m)
   pub variables : AreValues (length p.variables) m.store.variables
   pub arrays : AreArrays (lengths_of p) m.store.arrays
+  pub stage : HasStage m.store (call_of m)
 
 -- an inbox among so many ranks
 pub record IsSavedInbox (size : ℕ) (b : Mailbox) : Type 0 where

@@ -14,13 +14,14 @@ use Rattle.rank_language.specs.Program.{ProgramValue}
 use Rattle.rank_machine.specs.declared.fault.MachineFault.{MachineFault}
 use Rattle.rank_machine.specs.declared.fault.MachineFault.TheVariants.{TooLong, CollectiveMismatch}
 use Rattle.rank_machine.specs.Faults.{number_of}
+use Rattle.rank_machine.specs.Collectives.{greatest_ordinal}
 use Rattle.rank_machine.specs.Machine.{MachineValue}
 use Rattle.checkpoint.specs.declared.fault.ImageFault.{ImageFault}
 use Rattle.checkpoint.specs.declared.fault.ImageFault.TheVariants.{Version, Short, Long, Field, WrongProgram, Memory}
 use Rattle.matching.specs.Inbox.{Mailbox, may_follow}
 use Rattle.rank_machine.specs.declared.status.Status.{Status}
 use Rattle.checkpoint.specs.Spelling.{format}
-use Rattle.checkpoint.specs.Image.{ImageValue, Standing, machine_of, lengths_of, is_underway, most_finished}
+use Rattle.checkpoint.specs.Image.{ImageValue, Standing, machine_of, lengths_of, is_underway}
 
 -- what is read, and the bytes behind it; or the first fault
 abbrev pub Read : Type 0 → Type 0
@@ -183,7 +184,7 @@ standing_at statements bytes = do
   fault ← fault_at done.1
   count ← number_at 1 fault.1
   gathered ← values_at count.0 count.1
-  finished ← field 4 Field (λ x. nat_le x most_finished) gathered.1
+  finished ← field 4 Field (λ x. nat_le x greatest_ordinal) gathered.1
   Ok (
     record {
       position = position.0;
@@ -207,18 +208,19 @@ status_at size bytes = do
 abbrev pub arrays_at : List ℕ → List ℕ → Read (List (List ℤ))
 arrays_at lengths bytes = many_at (λ before. values_at (slice_index lengths (length before))) (length lengths) [] bytes
 
--- the machine of these, where they can be the collective's at its position
-abbrev pub where_underway : MachineValue → Standing → List ℕ → Read MachineValue
-where_underway m standing rest = where_passed (is_underway standing m) Field (m, rest)
+-- this machine, where it can have done and gathered so much of the collective at its position
+abbrev pub where_underway : MachineValue → List ℕ → Read MachineValue
+where_underway m rest = where_passed (is_underway m) Field (m, rest)
 
--- a machine of this program, rank and number of ranks
+-- A machine of this program, rank and number of ranks. What is done and gathered of a collective is looked at behind the last item:
+-- its root may read any of them.
 unfoldable pub machine_at : ProgramValue → ℕ → ℕ → List ℕ → Read MachineValue
 machine_at p rank size bytes = do
   standing ← standing_at (length p.statements) bytes
   status ← status_at size standing.1
   variables ← values_at (length p.variables) status.1
   arrays ← arrays_at (lengths_of p) variables.1
-  where_underway (machine_of p rank size standing.0 status.0 variables.0 arrays.0) standing.0 arrays.1
+  where_underway (machine_of p rank size standing.0 status.0 variables.0 arrays.0) arrays.1
 
 -- an image of this program, rank and number of ranks, and what follows it
 unfoldable pub image_at : ProgramValue → ℕ → ℕ → List ℕ → Read ImageValue

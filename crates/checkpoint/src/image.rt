@@ -79,6 +79,7 @@ pub fn encode_parts(
     let program = machine.program();
     within_table(program);
     within_program(machine);
+    few_parts(machine);
     inbox.numbers_rise();
     inbox.few_packets();
 
@@ -111,6 +112,15 @@ fn within_program(machine: &Machine<'_>)
     let program = machine.program();
     program.is_within_limits();
     let _statements = program.len();
+}
+
+// A byte holds what is done of a collective, and how many values are gathered.
+fn few_parts(machine: &Machine<'_>)
+    requires { machine.now.store.size ≤ most_ranks }
+    ensures done { FitsBytes 1 machine.now.store.done }
+    ensures gathered { FitsBytes 1 (length machine.now.store.gathered) }
+{
+    machine.is_whole();
 }
 
 // An image, and the bytes behind it.

@@ -1,20 +1,21 @@
 //! Reads the header and the machine of an image.
-ghost use Rattle.std.specs.Prelude.{◌≡◌, ◌≤◌, ◌<◌, ◌==◌, length, map, IfOk};
+ghost use Rattle.std.specs.Prelude.{◌≡◌, ◌≤◌, ◌<◌, ◌==◌, nat_le, length, map, IfOk};
 ghost use Rattle.metered.specs.Limits.{greatest_tag, most_items};
 ghost use Rattle.rank_lines.specs.SeenLines.{arrays_seen};
 ghost use Rattle.rank_language.specs.Program.{AllSized};
 ghost use Rattle.rank_machine.specs.Faults.{IsLeft};
-ghost use Rattle.checkpoint.specs.declared.fault.ImageFault.TheVariants.{WrongProgram};
-ghost use Rattle.checkpoint.specs.Reading.{Gives, field, origin_at, lengths_at, table_at};
+ghost use Rattle.rank_machine.specs.Collectives.{greatest_ordinal};
+ghost use Rattle.checkpoint.specs.declared.fault.ImageFault.TheVariants.{WrongProgram, Field};
+ghost use Rattle.checkpoint.specs.Reading.{Gives, field, where_passed, origin_at, lengths_at, table_at};
 ghost use Rattle.checkpoint.specs.Reading.{fault_at, standing_at, status_at, arrays_at, machine_at};
 ghost use Rattle.checkpoint.specs.Seen.{standing_seen};
 
 use crate::fault::ImageFault;
 use crate::reading::{u8_at, u16_at, u32_at, values_of};
 use metered::Heap;
-use metered::limits::{GREATEST_TAG, MOST_ITEMS};
+use metered::limits::{GREATEST_CLOCK, GREATEST_TAG, MOST_ITEMS};
 use rank_language::{Array, Program};
-use rank_machine::{Items, Machine, MachineFault, Parts, Status};
+use rank_machine::{Gathered, Items, Machine, MachineFault, Parts, Status};
 
 /// The number of this format, with which every image begins.
 pub const FORMAT: u8 = 1;
@@ -124,6 +125,7 @@ fn standing_of(
     ensures read { Gives (λ x. (standing_seen x.0, x.1.now)) result (standing_at statements bytes.now) }
     ensures within { IfOk result (λ x. x.0.position ≤ statements) }
     ensures left { IfOk result (λ x. IsLeft x.0.fault) }
+    ensures finished { IfOk result (λ x. x.0.finished ≤ greatest_ordinal) }
 {
     let (position, rest) = u16_at(bytes)?;
     if usize::from(position) > statements {
@@ -134,8 +136,7 @@ fn standing_of(
     let (count, rest) = u8_at(rest)?;
     let (gathered, rest) = values_of(alloc, usize::from(count), rest)?;
     let (finished, rest) = u32_at(rest)?;
-    // no collective can be finished
-    if finished > 0 {
+    if finished > GREATEST_CLOCK {
         return Err(ImageFault::Field);
     }
     let standing = Standing {
@@ -191,7 +192,24 @@ fn arrays_of<'b>(
     Ok((found, rest))
 }
 
-/// The machine of this rank.
+// The values gathered, with room for as many as ranks. More can't have been gathered.
+fn gathered_of(alloc: Heap, size: u8, values: &[i64]) -> Result<Gathered, ImageFault>
+    ensures { Gives (λ g. g) result
+        (where_passed (nat_le (length values.now) size) Field (record { room = size; values = values.now })) }
+{
+    let room = usize::from(size);
+    if values.len() > room {
+        return Err(ImageFault::Field);
+    }
+    let mut gathered = Gathered::new(alloc, room)?;
+    for value in values {
+        gathered.push(*value);
+    }
+    Ok(gathered)
+}
+
+/// The machine of this rank. What is done and gathered is looked at behind the last item, which the root of a collective
+/// may read.
 #[tactic(auto, unfolding(crate::specs::Reading::machine_at))]
 pub fn machine_of<'p, 'b>(
     alloc: Heap,
@@ -207,16 +225,19 @@ pub fn machine_of<'p, 'b>(
     let (status, rest) = status_of(size, rest)?;
     let (variables, rest) = values_of(alloc, program.variable_count(), rest)?;
     let (arrays, rest) = arrays_of(alloc, program.arrays(), rest)?;
-    // no collective can stand at the position
-    if standing.done != 0 || standing.gathered.len() != 0 {
-        return Err(ImageFault::Field);
-    }
+    let gathered = gathered_of(alloc, size, &standing.gathered)?;
     let parts = Parts {
         position: usize::from(standing.position),
         fault: standing.fault,
         status,
+        finished: standing.finished,
+        done: u16::from(standing.done),
+        gathered,
         variables,
         arrays,
     };
-    Ok((Machine::restored(program, rank, size, parts), rest))
+    match Machine::restored(program, rank, size, parts) {
+        None => Err(ImageFault::Field),
+        Some(machine) => Ok((machine, rest)),
+    }
 }

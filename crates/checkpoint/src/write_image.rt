@@ -156,17 +156,21 @@ fn fault_byte(fault: Option<MachineFault>) -> u8
     }
 }
 
-// No collective is under way, and none was finished.
+// The parts of a collective are few, and so are the values gathered, so that a byte holds each number.
 #[tactic(auto, unfolding(crate::specs::Spelling::standing))]
 fn put_standing(out: &mut Vec<u8, Heap>, m: &Machine<'_>) -> Result<(), AllocError>
-    requires { FitsBytes 2 m.now.position }
-    ensures { OnOk result (out.new.items ≡ out.old.items ++ standing (standing_of m.now)) }
+    requires position { FitsBytes 2 m.now.position }
+    requires done { FitsBytes 1 m.now.store.done }
+    requires gathered { FitsBytes 1 (length m.now.store.gathered) }
+    ensures spelled { OnOk result (out.new.items ≡ out.old.items ++ standing (standing_of m.now)) }
+    ensures range { OnOk result (All (FitsSigned w64) m.now.store.gathered) }
 {
     put_u16(out, m.position() as u16)?;
-    put_u8(out, 0)?;
+    put_u8(out, m.done() as u8)?;
     put_u8(out, fault_byte(m.fault()))?;
-    put_u8(out, 0)?;
-    put_u32(out, 0)
+    put_u8(out, m.gathered().len() as u8)?;
+    put_values(out, m.gathered())?;
+    put_u32(out, m.finished())
 }
 
 #[tactic(auto, unfolding(crate::specs::Spelling::status))]
@@ -198,8 +202,11 @@ fn put_arrays(out: &mut Vec<u8, Heap>, arrays: &[Items]) -> Result<(), AllocErro
 
 #[tactic(auto, unfolding(crate::specs::Spelling::machine))]
 pub fn put_machine(out: &mut Vec<u8, Heap>, m: &Machine<'_>) -> Result<(), AllocError>
-    requires { FitsBytes 2 m.now.position }
+    requires position { FitsBytes 2 m.now.position }
+    requires done { FitsBytes 1 m.now.store.done }
+    requires gathered { FitsBytes 1 (length m.now.store.gathered) }
     ensures spelled { OnOk result (out.new.items ≡ out.old.items ++ machine m.now) }
+    ensures gathered { OnOk result (All (FitsSigned w64) m.now.store.gathered) }
     ensures variables { OnOk result (All (FitsSigned w64) m.now.store.variables) }
     ensures arrays { OnOk result (All (All (FitsSigned w64)) m.now.store.arrays) }
 {

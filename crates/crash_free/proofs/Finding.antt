@@ -1,22 +1,24 @@
 -- Receptions and hits: what is found in the slots of a pair of ranks may be taken or hit, and where nothing is found nothing may.
 -- A receive and the two probes have this in common: each looks for what its selector names, and makes one kind of act of it.
 use Rattle.std.proofs.Common.{◌≡◌, ◌≢◌, ℕ, ℤ, zero, suc, ◌+◌, ◌<◌, ◌≤◌, List, [], ◌∷◌, Option, Some, None, length, refl, sym, ap, ◌∙◌, subst, arith}
-use Rattle.std.proofs.Common.{slice_get, ◌⊎◌, inl, inr, true}
+use Rattle.std.proofs.Common.{slice_get, ◌⊎◌, inl, inr, true, Ok, Err}
 use Rattle.std.specs.Prelude.{position, IsSomeAnd, IsSome}
 use Rattle.std.proofs.lemmas.Option.{slice_get_within, get_or_from_slice_get}
 use Rattle.matching.specs.declared.selector.Selector.{Selector}
 use Rattle.matching.specs.Message as packet
 use Rattle.matching.specs.Matching.{matches}
 use Rattle.rank_language.specs.Program.{ProgramValue}
-use Rattle.rank_language.specs.Placed.{Buffer, declare, declare_array, assign, assign_item, send, receive, probe, try_probe, print}
+use Rattle.rank_language.specs.Placed.{Buffer, declare, declare_array, assign, assign_item, send, receive, probe, try_probe, print, Collective, collect}
 use Rattle.rank_language.specs.Block.{Block, done, plain, if_only, if_else, loop}
 use Rattle.rank_machine.specs.declared.fault.MachineFault.{MachineFault}
 use Rattle.rank_machine.specs.declared.want.Want.{Want}
 use Rattle.rank_machine.specs.declared.want.Want.TheVariants as want
+use Rattle.rank_machine.specs.Values.{Valued}
+use Rattle.rank_machine.specs.Collectives.{Call, called}
 use Rattle.rank_machine.specs.States.{State}
 use Rattle.rank_machine.specs.Wants.{wants, payload}
 use Rattle.rank_machine.specs.Acts.{Act, Message, carried, sends, takes, hits, misses, prints, Matches, Fits, Makes}
-use Rattle.rank_machine.specs.Acts.{after_receive, after_probe, after_try_probe, after_first, unless_faulted, next}
+use Rattle.rank_machine.specs.Acts.{after_receive, after_probe, after_try_probe, collected, after_collect, after_first, unless_faulted, next}
 use Rattle.rank_machine.specs.Machine.{MachineValue, state_of, asks, IsReceiving, IsShowing, KeepsRank}
 use Rattle.crash_free.specs.declared.choice.Choice.{Choice}
 use Rattle.crash_free.specs.declared.choice.Choice.TheVariants as choice
@@ -60,6 +62,21 @@ try_clock a f r (hits s j) m c = refl
 try_clock a f r misses m c = refl
 try_clock a f r (prints v) m c = refl
 
+-- of a packet of a collective
+collected_clock : (a : State) (x : Collective) (r : Block) (m : Message) (c : ℕ) (v : Valued Call)
+    → collected a x r (record m { clock = c }) v ≡ collected a x r m v
+collected_clock a x r m c (Ok call) = refl
+collected_clock a x r m c (Err k) = refl
+
+-- of a collective
+collect_clock : (a : State) (x : Collective) (r : Block) (act : Act) (m : Message) (c : ℕ)
+    → after_collect a x r act (Some (record m { clock = c })) ≡ after_collect a x r act (Some m)
+collect_clock a x r (sends d y t items) m c = refl
+collect_clock a x r (takes s j) m c = collected_clock a x r m c (called a.store x)
+collect_clock a x r (hits s j) m c = refl
+collect_clock a x r misses m c = refl
+collect_clock a x r (prints v) m c = refl
+
 -- of each statement
 first_clock : (a : State) (b : Block) (act : Act) (m : Message) (c : ℕ) → after_first a b act (Some (record m { clock = c })) ≡ after_first a b act (Some m)
 first_clock a done act m c = refl
@@ -72,6 +89,7 @@ first_clock a (plain (receive x t b) r) act m c = receive_clock a b r act m c
 first_clock a (plain (probe x t) r) act m c = probe_clock a r act m c
 first_clock a (plain (try_probe x t f) r) act m c = try_clock a f r act m c
 first_clock a (plain (print e) r) act m c = refl
+first_clock a (plain (collect x) r) act m c = collect_clock a x r act m c
 first_clock a (if_only e y r) act m c = refl
 first_clock a (if_else e y o r) act m c = refl
 first_clock a (loop e y r) act m c = refl

@@ -9,3 +9,15 @@ pub mod Keeping
 pub mod Choosing
 pub mod Finding
 pub mod Refusing
+pub mod OtherSteps
+pub mod Sound
+pub mod Acting
+pub mod Senders
+pub mod Finishing
+pub mod Counting
+pub mod Collecting
+pub mod BarrierLaw
+pub mod BroadcastLaw
+pub mod ReduceLaw
+pub mod Order
+pub mod Agreeing

@@ -1,4 +1,5 @@
 pub mod Runs
+pub mod Laws
 pub mod Grows
 pub mod Seen
 pub mod Sim

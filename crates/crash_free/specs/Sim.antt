@@ -1,5 +1,5 @@
 -- A run that is made act by act: which choices it allows, and what each does.
-use Rattle.std.specs.Prelude.{◌≡◌, ℕ, ℤ, nat_lt, Bool, List, [], ◌∷◌, Option, Some, IsSomeAnd, length, slice_get, slice_set, take}
+use Rattle.std.specs.Prelude.{◌≡◌, ℕ, ℤ, ◌<◌, ◌≤◌, nat_lt, Bool, List, [], ◌∷◌, Option, Some, IsSomeAnd, length, slice_get, slice_set, take}
 use Rattle.std.specs.List.{list_all}
 use Rattle.rank_language.specs.Program.{ProgramValue}
 use Rattle.rank_machine.specs.declared.fault.MachineFault.{MachineFault}
@@ -14,6 +14,7 @@ use Rattle.crash_free.specs.declared.choice.Choice.TheVariants as choice
 use Rattle.crash_free.specs.declared.not_allowed.NotAllowed.{NotAllowed}
 use Rattle.crash_free.specs.declared.not_allowed.NotAllowed.TheVariants as refusal
 use Rattle.crash_free.specs.Runs.{Passed, history, sent, looked_up, IsFree, IsRun}
+use Rattle.crash_free.specs.Laws.{HasFinished, CollectiveLaws}
 
 -- the ranks of a program with where each stands, and the run so far, newest act first
 pub record SimValue : Type 0 where
@@ -31,6 +32,12 @@ pub record Simulates (s : SimValue) : Type 0 where
   pub is_run : IsRun (start_of s.program (length s.machines)) (length s.machines) s.run
   pub ranks : (r : ℕ) (m : MachineValue) → slice_get s.machines r ≡ Some m
       → (after : State) × Runs (start_of s.program (length s.machines) r) (history s.run r) after × Inners after (state_of m)
+
+-- The collective laws hold of the run, and each collective that a machine counts was finished in it.
+pub record CollectivesAgree (s : SimValue) : Type 0 where
+  pub laws : CollectiveLaws (start_of s.program (length s.machines)) (length s.machines) s.run
+  pub counts : (r : ℕ) (m : MachineValue) (k : ℕ) → slice_get s.machines r ≡ Some m → 0 < k → k ≤ m.store.finished
+      → HasFinished (start_of s.program (length s.machines) r) (history s.run r) k
 
 -- a machine at the beginning of this program, the one of rank r of n
 pub record Begins (program : ProgramValue) (n r : ℕ) (m : MachineValue) : Type 0 where
@@ -81,7 +88,7 @@ meant m c = meaning (asks m) (payload (state_of m)) c
 abbrev pub inbound_of : List Passed → ℕ → ℕ → List Message
 inbound_of C r source = sent C source r
 
--- the position after an act: where the line leads, unless a message was too long
+-- the position after an act: where the line leads, unless a message was a fault
 abbrev pub position_after_act : MachineValue → Act → Option MachineFault → ℕ
 position_after_act m (takes source place) fault = received_at m fault
 position_after_act m (sends dest context tag items) fault = next_of m

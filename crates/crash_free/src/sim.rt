@@ -2,7 +2,7 @@
 ghost use Rattle.std.specs.Prelude.{◌≡◌, ◌≢◌, ◌<◌, ◌≤◌, [], Err, IfOk, IfErr, OnOk, OnErr, IsTrue, length};
 ghost use Rattle.metered.specs.Limits.{most_ranks};
 ghost use Rattle.rank_machine.specs.Wants.{IsLegal};
-ghost use Rattle.crash_free.specs.Sim.{Simulates, Allows, Refuses, AllowsAll, StopsAt, are_of_ranks, AreBegun};
+ghost use Rattle.crash_free.specs.Sim.{Simulates, CollectivesAgree, Allows, Refuses, AllowsAll, StopsAt, are_of_ranks, AreBegun};
 ghost use Rattle.crash_free.specs.Wanted.{AsksAt};
 
 mod acts;
@@ -22,7 +22,8 @@ use std::marker::Model;
 /// The ranks of a program, and a run of them that choices make longer.
 ///
 /// Contracts see where each rank stands, and the run, newest act first. The
-/// run is one of the program, and each rank stands where its acts lead.
+/// run is one of the program, each rank stands where its acts lead, and what
+/// ranks did by collectives agrees.
 #[derive(Drop)]
 pub struct Sim<'p> {
     alloc: Heap,
@@ -60,6 +61,7 @@ impl<'p> Sim<'p> {
         ensures begins { IfOk result (λ sim. AreBegun program.entry.now ranks sim.machines) }
         ensures run { IfOk result (λ sim. sim.run ≡ []) }
         ensures stands { IfOk result (λ sim. Simulates sim) }
+        ensures collectives { IfOk result (λ sim. CollectivesAgree sim) }
     {
         Ok(Sim {
             alloc,
@@ -74,6 +76,7 @@ impl<'p> Sim<'p> {
     pub fn ranks(&self) -> u8
         ensures value { result ≡ length self.now.machines }
         ensures stands { Simulates self.now }
+        ensures collectives { CollectivesAgree self.now }
     {
         self.machines.len() as u8
     }
@@ -90,6 +93,7 @@ impl<'p> Sim<'p> {
         ensures exact { (why : NotAllowed) → why ≢ NotAllowed.Memory → Refuses self.old rank choice why → result ≡ Err why }
         ensures err { OnErr result (self.new ≡ self.old) }
         ensures stands { Simulates self.new }
+        ensures collectives { CollectivesAgree self.new }
         ensures ranks { length self.new.machines ≡ length self.old.machines }
     {
         let outcome = self.choose(rank, choice);
@@ -141,6 +145,7 @@ impl<'p> Sim<'p> {
         ensures ok { OnOk result (AllowsAll self.old choices.now self.new) }
         ensures stopped { IfErr result (λ e. StopsAt self.old choices.now e.0 e.1 self.new) }
         ensures stands { Simulates self.new }
+        ensures collectives { CollectivesAgree self.new }
         ensures ranks { length self.new.machines ≡ length self.old.machines }
     {
         let _ = &self.machines;

@@ -11,7 +11,7 @@ use std::sync::Wait;
 use std::thread::Threads;
 
 /// The words of each run, after the program's name.
-const RUNS: [&str; 52] = [
+const RUNS: [&str; 60] = [
     "run --ranks 2 answer.rank",
     "run --ranks 4 ring.rank",
     "run --ranks 2 ping_pong.rank",
@@ -37,6 +37,12 @@ const RUNS: [&str; 52] = [
     "run --ranks 2 poll.rank",
     "run --ranks 1 probe_status.rank",
     "run --ranks 2 --idle 100 probe_stalled.rank",
+    "run --ranks 3 reduce_min.rank",
+    "run --ranks 3 fold_overflow.rank",
+    "run --ranks 3 collectives.rank",
+    "run --ranks 4 dot_product.rank",
+    "run --ranks 3 table.rank",
+    "run --ranks 3 relaxation.rank",
     "run --ranks 1 fault_not_text.rank",
     "run --ranks 1 fault_not_a_statement.rank",
     "run --ranks 1 fault_bad_form.rank",
@@ -60,6 +66,8 @@ const RUNS: [&str; 52] = [
     "world --ranks 2 probing.rank crash_after_miss.events",
     "world --ranks 2 overtaking.rank image.events",
     "world --ranks 2 overtaking.rank old_ask.events",
+    "world --ranks 1 one_barrier.rank one_barrier.events",
+    "world --ranks 3 reduce_min.rank reduce.events",
     "world --ranks 2 answer.rank cannot.events",
     "world --ranks 2 answer.rank bad_line.events",
     "world --ranks 2 answer.rank none.events",

@@ -1,7 +1,7 @@
 //! The runs of the texts of docs/LANGUAGE.md, in its order.
 
 /// The words of each run, after the program's name.
-pub const RUNS: [&str; 71] = [
+pub const RUNS: [&str; 82] = [
     "run --ranks 1 manual_var.rank",
     "run --ranks 1 manual_array.rank",
     "run --ranks 1 manual_let.rank",
@@ -14,6 +14,10 @@ pub const RUNS: [&str; 71] = [
     "run --ranks 2 manual_item.rank",
     "run --ranks 2 manual_probe.rank",
     "run --ranks 2 manual_iprobe.rank",
+    "run --ranks 2 manual_barrier.rank",
+    "run --ranks 3 manual_bcast.rank",
+    "run --ranks 3 manual_reduce.rank",
+    "run --ranks 2 manual_mismatch.rank",
     "run --ranks 2 manual_print.rank",
     "run --ranks 1 manual_values.rank",
     "run --ranks 1 manual_self.rank",
@@ -34,8 +38,11 @@ pub const RUNS: [&str; 71] = [
     "run --ranks 1 manual_index_below.rank",
     "run --ranks 1 manual_rank.rank",
     "run --ranks 1 manual_source.rank",
+    "run --ranks 1 manual_root.rank",
+    "run --ranks 1 manual_reduce_root.rank",
     "run --ranks 1 manual_tag.rank",
     "run --ranks 1 manual_too_long.rank",
+    "run --ranks 2 manual_wide.rank",
     "run --ranks 1 manual_not_text.rank",
     "run --ranks 1 manual_no_word.rank",
     "run --ranks 1 manual_no_operand.rank",
@@ -43,6 +50,9 @@ pub const RUNS: [&str; 71] = [
     "run --ranks 1 manual_length.rank",
     "run --ranks 1 manual_into_item.rank",
     "run --ranks 1 manual_no_flag.rank",
+    "run --ranks 1 manual_barrier_alone.rank",
+    "run --ranks 1 manual_any_root.rank",
+    "run --ranks 1 manual_no_reduction.rank",
     "run --ranks 1 manual_reserved.rank",
     "run --ranks 1 manual_undeclared.rank",
     "run --ranks 1 manual_later.rank",
@@ -50,6 +60,7 @@ pub const RUNS: [&str; 71] = [
     "run --ranks 1 manual_array_value.rank",
     "run --ranks 1 manual_array_set.rank",
     "run --ranks 1 manual_flag.rank",
+    "run --ranks 1 manual_result.rank",
     "run --ranks 1 manual_payload.rank",
     "run --ranks 1 manual_twice.rank",
     "run --ranks 1 manual_both_sorts.rank",

@@ -72,7 +72,7 @@ fn tokens_of_lines(rt: HostRuntime) -> Result<(), Fail> {
 }
 
 /// Lines with a statement, and last those that nest deep.
-const STATEMENTS: [Row; 37] = [
+const STATEMENTS: [Row; 43] = [
     ("var  x", "var x\n"),
     ("array a [ 007 ]", "array a[7]\n"),
     ("let x = y", "let x = y\n"),
@@ -107,13 +107,22 @@ const STATEMENTS: [Row; 37] = [
     ("print -a[0]", "print -a[0]\n"),
     ("print (1<2)==(3>=4)", "print (1 < 2) == (3 >= 4)\n"),
     ("print gottag+count", "print gottag + count\n"),
+    ("barrier", "barrier\n"),
+    ("bcast 0,x", "bcast 0, x\n"),
+    ("bcast x+1 , a", "bcast x + 1, a\n"),
+    ("reduce sum,0,x,x", "reduce sum, 0, x, x\n"),
+    ("reduce max , -1,(x),y", "reduce max, -1, x, y\n"),
+    (
+        "reduce min,size-1,a[0]*2,x",
+        "reduce min, size - 1, a[0] * 2, x\n",
+    ),
     ("print {4092|(}1{4092|)}", "print 1\n"),
     ("print {2728|a[}1{2728|]}", "print {2728|a[}1{2728|]}\n"),
     ("print {2700|-}1", "print -{2699|(-}1{2699|)}\n"),
 ];
 
 /// Lines whose tokens are of no form.
-const NO_STATEMENT: [Row; 57] = [
+const NO_STATEMENT: [Row; 78] = [
     ("", "no form"),
     ("x", "no form"),
     ("var 1", "no form"),
@@ -149,7 +158,17 @@ const NO_STATEMENT: [Row; 57] = [
     ("print 1 2", "no form"),
     ("print (1", "no form"),
     ("print 1)", "no form"),
-    ("barrier", "no form"),
+    ("barrier 0", "no form"),
+    ("barrier,", "no form"),
+    ("bcast", "no form"),
+    ("bcast 0", "no form"),
+    ("bcast 0, 1", "no form"),
+    ("bcast any, x", "no form"),
+    ("bcast 0 x", "no form"),
+    ("bcast 0, a[0]", "no form"),
+    ("bcast 0, (x)", "no form"),
+    ("bcast 0, x, y", "no form"),
+    ("bcast x", "no form"),
     ("probe", "no form"),
     ("probe any", "no form"),
     ("probe any,", "no form"),
@@ -170,7 +189,18 @@ const NO_STATEMENT: [Row; 57] = [
     ("iprobe any, any, f f", "no form"),
     ("iprobe 0, 0, f, f", "no form"),
     ("iprobe any + 1, 0, f", "no form"),
+    ("reduce", "no form"),
     ("reduce sum, 0, x", "no form"),
+    ("reduce 0, 1, x", "no form"),
+    ("reduce any, 0, 1, x", "no form"),
+    ("reduce sum 0, 1, x", "no form"),
+    ("reduce sum, any, 1, x", "no form"),
+    ("reduce sum, 0, any, x", "no form"),
+    ("reduce sum, 0, 1, 2", "no form"),
+    ("reduce sum, 0, 1, a[0]", "no form"),
+    ("reduce sum, 0, 1, x, y", "no form"),
+    ("reduce + , 0, 1, x", "no form"),
+    ("reduce x, 0, 1, x", "no form"),
 ];
 
 #[test]

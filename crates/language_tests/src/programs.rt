@@ -115,6 +115,25 @@ const PROBES: [Row; 7] = [
     ),
 ];
 
+/// Collectives, into a variable and into an array.
+const COLLECTIVES: [Row; 6] = [
+    ("var x", "Declare(0) 1 1"),
+    ("array a[2]", "DeclareArray(0) 2 2"),
+    ("barrier", "Collect(Barrier) 3 3"),
+    (
+        "bcast x + 1, a",
+        "Collect(Broadcast { root: Operation(Add, Variable(0), Number(1)), buffer: Array(0) }) 4 4",
+    ),
+    (
+        "bcast 0, x",
+        "Collect(Broadcast { root: Number(0), buffer: Variable(0) }) 5 5",
+    ),
+    (
+        "reduce max, x, a[1], x",
+        "Collect(Reduce { reduction: Max, root: Variable(0), value: Item(0, Number(1)), place: 0 }) 6 6",
+    ),
+];
+
 /// The lines of a program's text.
 fn text_of(alloc: Heap, rows: &[Row]) -> Result<String<Heap>, AllocError> {
     let mut text = String::new(alloc);
@@ -153,5 +172,6 @@ fn statements(rt: HostRuntime) -> Result<(), Fail> {
     has_statements(&rt, rt.alloc(), &NESTED, "15 2")?;
     has_statements(&rt, rt.alloc(), &LOOPS, "12 1")?;
     has_statements(&rt, rt.alloc(), &ARRAYS, "9 2 a[3] bb[256]")?;
-    has_statements(&rt, rt.alloc(), &PROBES, "7 2 a[2]")
+    has_statements(&rt, rt.alloc(), &PROBES, "7 2 a[2]")?;
+    has_statements(&rt, rt.alloc(), &COLLECTIVES, "6 1 a[2]")
 }

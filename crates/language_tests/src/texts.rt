@@ -8,7 +8,7 @@ use std::process::Abort;
 use std::test::*;
 
 /// Texts without a fault.
-const TEXTS: [Row; 12] = [
+const TEXTS: [Row; 13] = [
     ("", ""),
     ("\n \n  # note\n", ""),
     ("print 1", "print 1\n"),
@@ -18,6 +18,10 @@ const TEXTS: [Row; 12] = [
     (
         "var f\nvar x\nwhile f==0\niprobe any,x,f\nend\nprobe source,gottag",
         "var f\nvar x\nwhile f == 0\n  iprobe any, x, f\nend\nprobe source, gottag\n",
+    ),
+    (
+        "var x\narray a[2]\nif x\nbcast x-1,a\nelse\nbarrier\nend\nreduce min,(0),x,x",
+        "var x\narray a[2]\nif x\n  bcast x - 1, a\nelse\n  barrier\nend\nreduce min, 0, x, x\n",
     ),
     (
         "array a[007]\nlet a [ 00 ]=a[-1]",
@@ -57,7 +61,7 @@ fn canonical_texts(rt: HostRuntime) -> Result<(), Fail> {
 }
 
 /// The first fault of each text: bytes, statement words, forms, names and open blocks.
-const EARLY_FAULTS: [Row; 58] = [
+const EARLY_FAULTS: [Row; 67] = [
     ("print 1\r\n", "line 1: fault 1 NotText"),
     ("# \t", "line 1: fault 1 NotText"),
     ("print 1\n#\u{7f}", "line 2: fault 1 NotText"),
@@ -72,7 +76,9 @@ const EARLY_FAULTS: [Row; 58] = [
     ("print 12abc", "line 1: fault 3 BadForm"),
     ("let x 1", "line 1: fault 3 BadForm"),
     ("end 1", "line 1: fault 3 BadForm"),
-    ("barrier", "line 1: fault 3 BadForm"),
+    ("barrier 0", "line 1: fault 3 BadForm"),
+    ("var x\nbcast any, x", "line 2: fault 3 BadForm"),
+    ("var x\nreduce 0, 1, x", "line 2: fault 3 BadForm"),
     ("array a", "line 1: fault 3 BadForm"),
     ("var x\nlet x + 1 = 2", "line 2: fault 3 BadForm"),
     ("array a[1]\nrecv 0, 0, a[0]", "line 2: fault 3 BadForm"),
@@ -105,6 +111,19 @@ const EARLY_FAULTS: [Row; 58] = [
     (
         "array f[1]\niprobe any, any, f",
         "line 2: fault 4 Undeclared",
+    ),
+    ("bcast 0, y", "line 1: fault 4 Undeclared"),
+    ("var x\nbcast y, x", "line 2: fault 4 Undeclared"),
+    ("var x\nreduce sum, y, 1, x", "line 2: fault 4 Undeclared"),
+    ("var x\nreduce sum, 0, y, x", "line 2: fault 4 Undeclared"),
+    ("reduce sum, 0, 1, y", "line 1: fault 4 Undeclared"),
+    (
+        "array a[1]\nreduce sum, 0, 1, a",
+        "line 2: fault 4 Undeclared",
+    ),
+    (
+        "var x\narray a[1]\nreduce sum, 0, a, x",
+        "line 3: fault 4 Undeclared",
     ),
     ("array a[1]\nlet a = 1", "line 2: fault 4 Undeclared"),
     ("array a[1]\nlet a[b] = 1", "line 2: fault 4 Undeclared"),

@@ -1,13 +1,15 @@
-//! The console of one thread: each line is shown once, and all stand in their
-//! order.
+//! The console of one thread, and that of a run: each line is shown once, and
+//! all stand in their order.
 ghost use Rattle.std.specs.Prelude.{◌≤◌};
 
 use metered::Heap;
-use ports::{ConsoleState, Line};
+use ports::{Console, ConsoleState, Line};
 use rank_node::{Screen, Shown};
 use std::alloc::AllocError;
 use std::process::Abort;
+use std::sync::Wait;
 use std::test::*;
+use std::thread;
 
 /// Shows a line; this is to become of it.
 fn shows(
@@ -120,5 +122,58 @@ fn three_hundred_lines_of_eight_ranks(rt: HostRuntime) -> Result<(), Fail> {
     let mut console = ConsoleState::new(rt.alloc(), 8)?;
     let want = shows_300(&rt, rt.alloc(), &mut console)?;
     has(&rt, &console, want.as_slice());
+    Ok(())
+}
+
+#[test]
+fn a_line_is_shown_once_behind_the_lock(rt: HostRuntime) -> Result<(), Fail> {
+    let console = Console::new(rt.alloc(), 2)?;
+    for row in &LINES {
+        let (line, want) = *row;
+        shows(&rt, &mut console.lock(&rt), line, want);
+    }
+    let want = lines_of(rt.alloc(), &STANDING)?;
+    has(&rt, &console.into_state(), want.as_slice());
+    Ok(())
+}
+
+/// What a rank prints at this clock.
+fn value_at(clock: u32) -> i64 {
+    7 * i64::from(clock)
+}
+
+/// Shows 300 lines of a rank, and each once more.
+fn shows_300_of(rt: &(impl Wait + Abort), console: &Console, rank: u8) {
+    for clock in 0..300u32 {
+        let line = (rank, clock, value_at(clock));
+        shows(rt, &mut console.lock(rt), line, Shown::Shown);
+        shows(rt, &mut console.lock(rt), line, Shown::Repeated);
+    }
+}
+
+/// A rank's 300 lines stand in their order.
+fn has_300_of(rt: &impl Abort, console: &ConsoleState, rank: u8) {
+    let mut clock = 0u32;
+    for line in console.lines() {
+        if line.rank == rank {
+            assert_eq!(rt; (line.clock, line.value), (clock, value_at(clock)));
+            clock = clock.saturating_add(1);
+        }
+    }
+    assert_eq!(rt; clock, 300);
+}
+
+#[test]
+fn two_ranks_show_their_lines_at_once(rt: HostRuntime) -> Result<(), Fail> {
+    let console = Console::new(rt.alloc(), 2)?;
+    thread::join(
+        &rt,
+        || shows_300_of(&rt, &console, 0),
+        || shows_300_of(&rt, &console, 1),
+    );
+    let console = console.into_state();
+    assert_eq!(rt; console.lines().len(), 600);
+    has_300_of(&rt, &console, 0);
+    has_300_of(&rt, &console, 1);
     Ok(())
 }

@@ -1,4 +1,4 @@
-//! Images: their bytes, the fault of each field, and sizes at the limits.
+//! Images: their bytes, and the fault of each field.
 ghost use Rattle.std.specs.Prelude.{◌<◌, ◌≤◌};
 ghost use Rattle.metered.specs.Limits.{most_ranks};
 
@@ -38,7 +38,7 @@ const BUSY: [u8; 173] = [
 const BUSY_PROGRAM: &[u8] = b"var x\narray a[2]\nsend 1, 7, 41\nprint x\n";
 
 /// A byte at a place of the image, and the fault that it makes.
-type Change = (usize, u8, ImageFault);
+pub type Change = (usize, u8, ImageFault);
 
 const OF_PRINTED: [Change; 18] = [
     (0, 2, ImageFault::Version),
@@ -80,7 +80,7 @@ const OF_BUSY: [Change; 49] = [
     (12, 5, ImageFault::Field),
     (12, 8, ImageFault::Field),
     (13, 1, ImageFault::Field),
-    (17, 1, ImageFault::Field),
+    (14, 16, ImageFault::Field),
     // the last message
     (18, 2, ImageFault::Field),
     (19, 128, ImageFault::Field),
@@ -124,7 +124,7 @@ const OF_BUSY: [Change; 49] = [
 ];
 
 /// An image of rank 0 is read, and written as it was read.
-fn reads(
+pub fn reads(
     rt: &impl Abort,
     alloc: Heap,
     program: &Program,
@@ -177,7 +177,7 @@ fn an_image_says_what_its_bytes_say(rt: HostRuntime) -> Result<(), Fail> {
 }
 
 /// Makes each change by itself.
-fn fails_each(
+pub fn fails_each(
     rt: &impl Abort,
     alloc: Heap,
     program: &Program,
@@ -217,7 +217,7 @@ fn each_field_has_its_fault(rt: HostRuntime) -> Result<(), Fail> {
 }
 
 /// Each shorter beginning is short.
-fn beginnings_are_short(
+pub fn beginnings_are_short(
     rt: &impl Abort,
     alloc: Heap,
     program: &Program,
@@ -235,9 +235,9 @@ fn beginnings_are_short(
 }
 
 /// Where a byte is another, the bytes are refused, or are the spelling of what is read. Answers how many are read.
-fn changed(
-    alloc: Heap,
+pub fn changed(
     rt: &impl Abort,
+    alloc: Heap,
     program: &Program,
     size: u8,
     image: &[u8],
@@ -266,142 +266,9 @@ fn each_beginning_is_short_and_each_change_is_refused_or_read(rt: HostRuntime) -
     let alloc = rt.alloc();
     let printing = Program::parse(alloc, PRINTING)?;
     beginnings_are_short(&rt, alloc, &printing, 1, &PRINTED)?;
-    assert!(rt; changed(alloc, &rt, &printing, 1, &PRINTED)? > 41);
+    assert!(rt; changed(&rt, alloc, &printing, 1, &PRINTED)? > 41);
     let busy = Program::parse(alloc, BUSY_PROGRAM)?;
     beginnings_are_short(&rt, alloc, &busy, 2, &BUSY)?;
-    assert!(rt; changed(alloc, &rt, &busy, 2, &BUSY)? > 173);
-    Ok(())
-}
-
-/// 64 variables and 16 arrays of 256 items.
-fn wide_program(alloc: Heap) -> Result<String<Heap>, Fail> {
-    let mut text = String::new(alloc);
-    for name in 0..64u32 {
-        writeln!(text, "var v{name}")?;
-    }
-    for name in 0..16u32 {
-        writeln!(text, "array a{name}[256]")?;
-    }
-    Ok(text)
-}
-
-/// Puts a number, the greatest byte first.
-fn put(out: &mut Vec<u8, Heap>, width: usize, number: u64) -> Result<(), Fail>
-    requires { width ≤ 8 }
-{
-    let bytes = number.to_be_bytes();
-    for byte in &bytes[8 - width..] {
-        out.push(*byte)?;
-    }
-    Ok(())
-}
-
-/// So many values from the ends of the range.
-fn put_values(out: &mut Vec<u8, Heap>, count: u64) -> Result<(), Fail> {
-    for far in 0..count {
-        put(
-            out,
-            8,
-            if far % 2 == 0 {
-                9223372036854775807 - far % 1000
-            } else {
-                9223372036854775808 + far % 1000
-            },
-        )?;
-    }
-    Ok(())
-}
-
-/// Context, tag and items of a packet.
-fn put_tail(out: &mut Vec<u8, Heap>, context: u64, tag: u64, count: u64) -> Result<(), Fail> {
-    put(out, 1, context)?;
-    put(out, 2, tag)?;
-    put(out, 2, count)?;
-    put_values(out, count)
-}
-
-/// What was accepted of each of eight ranks, and 400 packets, 50 of each: the first eight are as long as packets are.
-fn put_inbox(out: &mut Vec<u8, Heap>) -> Result<(), Fail> {
-    for _ in 0..8u32 {
-        put(out, 4, 268435455)?;
-    }
-    put(out, 4, 400)?;
-    for packet in 0..400u64 {
-        put(out, 1, packet % 8)?;
-        put(out, 4, 268435455 - packet)?;
-        put(out, 4, 268435405 + packet / 8)?;
-        if packet < 4 {
-            put_tail(out, 0, 32767, 256)?;
-        } else if packet < 8 {
-            put_tail(out, 1, 0, 259)?;
-        } else {
-            put_tail(out, 0, packet, 1)?;
-        }
-    }
-    Ok(())
-}
-
-/// What is kept for each of eight ranks: 300 packets, or none where more was let go than was sent.
-fn put_log(out: &mut Vec<u8, Heap>) -> Result<(), Fail> {
-    for dest in 0..8u64 {
-        put(out, 4, 268435455)?;
-        if dest == 5 {
-            put(out, 4, 268435455)?;
-            continue;
-        }
-        put(out, 4, 268435155)?;
-        for packet in 1..301u64 {
-            put(out, 4, 268435155 + packet)?;
-            put_tail(out, 0, 7, 1)?;
-        }
-    }
-    Ok(())
-}
-
-/// The image of rank 3 of eight at the end of the wide program.
-fn wide_image(alloc: Heap) -> Result<Vec<u8, Heap>, Fail> {
-    let mut out = Vec::new(alloc);
-    put(&mut out, 1, 1)?;
-    put(&mut out, 1, 3)?;
-    put(&mut out, 1, 8)?;
-    put(&mut out, 2, 80)?;
-    put(&mut out, 1, 64)?;
-    put(&mut out, 1, 16)?;
-    for _ in 0..16u32 {
-        put(&mut out, 2, 256)?;
-    }
-    put(&mut out, 2, 80)?;
-    // nothing is done in a collective; the fault that an act left
-    put(&mut out, 1, 0)?;
-    put(&mut out, 1, 7)?;
-    put(&mut out, 1, 0)?;
-    put(&mut out, 4, 0)?;
-    put(&mut out, 1, 7)?;
-    put(&mut out, 2, 32767)?;
-    put(&mut out, 2, 256)?;
-    put_values(&mut out, 64)?;
-    put_values(&mut out, 4096)?;
-    put(&mut out, 4, 268435455)?;
-    put_inbox(&mut out)?;
-    put_log(&mut out)?;
-    Ok(out)
-}
-
-#[test]
-fn an_image_of_the_greatest_sizes_is_read_and_written(rt: HostRuntime) -> Result<(), Fail> {
-    let alloc = rt.alloc();
-    let text = wide_program(alloc)?;
-    let program = Program::parse(alloc, text.as_bytes())?;
-    let bytes = wide_image(alloc)?;
-    let image = decode(alloc, &program, 3, 8, &bytes)?;
-    assert_eq!(rt;
-        (
-            image.machine.variables().len(),
-            image.machine.arrays().len()
-        ),
-        (64, 16)
-    );
-    assert_eq!(rt; image.inbox.packets().len(), 400);
-    assert_eq!(rt; encode(alloc, &image)?.as_slice(), bytes.as_slice());
+    assert!(rt; changed(&rt, alloc, &busy, 2, &BUSY)? > 173);
     Ok(())
 }

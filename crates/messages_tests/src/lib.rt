@@ -3,6 +3,8 @@
 #![tactic(auto)]
 
 #[cfg(test)]
+mod collective_images;
+#[cfg(test)]
 mod console;
 #[cfg(test)]
 mod fixtures;
@@ -13,8 +15,12 @@ mod images;
 #[cfg(test)]
 mod inbox;
 #[cfg(test)]
+mod lanes;
+#[cfg(test)]
 mod packets;
 #[cfg(test)]
 mod payload_logs;
 #[cfg(test)]
 mod shelf;
+#[cfg(test)]
+mod wide_images;

@@ -9,6 +9,8 @@ mod arrays;
 #[cfg(test)]
 mod calls;
 #[cfg(test)]
+mod collectives;
+#[cfg(test)]
 mod desks;
 #[cfg(test)]
 mod expressions;

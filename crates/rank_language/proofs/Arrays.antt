@@ -6,7 +6,8 @@ use Rattle.std.specs.List.{position_from}
 use Rattle.std.specs.Str.{bytes_eq}
 use Rattle.std.proofs.lemmas.Slice.Eq.{bytes_eq-Decides}
 use Rattle.std.proofs.lemmas.Iterator.Adapters.{position_from-zero}
-use Rattle.rank_text.specs.Forms.{Form, var_form, array_form, let_form, item_form, if_form, else_form, end_form, while_form, send_form, recv_form, probe_form, try_probe_form, print_form}
+use Rattle.rank_text.specs.Forms.{Form, var_form, array_form, let_form, item_form, if_form, else_form, end_form, while_form}
+use Rattle.rank_text.specs.Forms.{send_form, recv_form, probe_form, try_probe_form, print_form, barrier_form, bcast_form, reduce_form}
 use Rattle.rank_lines.specs.Scope.{Scope, nothing_yet, is_name_in, is_variable, is_array, after, after_all, MayStand, AllMayStand, IsWhole}
 use Rattle.rank_language.specs.Resolved.{place_in, array_place}
 use Rattle.rank_language.specs.Named.{array_at}
@@ -43,6 +44,9 @@ added (recv_form c t x) = []
 added (probe_form c t) = []
 added (try_probe_form c t x) = []
 added (print_form e) = []
+added barrier_form = []
+added (bcast_form r x) = []
+added (reduce_form o r e x) = []
 
 -- they go last
 after_arrays : (s : Scope) (f : Form) → (after s f).arrays ≡ s.arrays ++ added f
@@ -59,6 +63,9 @@ after_arrays s (recv_form c t x) = sym (append-nil s.arrays)
 after_arrays s (probe_form c t) = sym (append-nil s.arrays)
 after_arrays s (try_probe_form c t x) = sym (append-nil s.arrays)
 after_arrays s (print_form e) = sym (append-nil s.arrays)
+after_arrays s barrier_form = sym (append-nil s.arrays)
+after_arrays s (bcast_form r x) = sym (append-nil s.arrays)
+after_arrays s (reduce_form o r e x) = sym (append-nil s.arrays)
 
 -- the arrays behind statements begin with those in front
 arrays_go_on : (s : Scope) (fs : List Form) → (bs : List (List ℕ × ℕ)) × ((after_all s fs).arrays ≡ s.arrays ++ bs)
@@ -103,6 +110,9 @@ stands_there s (recv_form c t x) fs h = tt
 stands_there s (probe_form c t) fs h = tt
 stands_there s (try_probe_form c t x) fs h = tt
 stands_there s (print_form e) fs h = tt
+stands_there s barrier_form fs h = tt
+stands_there s (bcast_form r x) fs h = tt
+stands_there s (reduce_form o r e x) fs h = tt
 
 stand_from : (s : Scope) (fs : List Form) → AllMayStand s fs → AllArraysStand (after_all s fs) fs
 stand_from s [] h = tt

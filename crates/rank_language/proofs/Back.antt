@@ -10,7 +10,10 @@ use Rattle.rank_text.specs.Tree as text
 use Rattle.rank_text.specs.Forms as line
 use Rattle.rank_text.specs.Forms.{Form, ◌>>=◌}
 use Rattle.rank_lines.specs.Scope.{Scope}
-use Rattle.rank_language.specs.Placed.{Placed, number, variable, item, reading, negation, operation, Choice, any, value, Payload, one, all_of, Buffer, into_variable, into_array, declare, declare_array, assign, assign_item, send, receive, probe, try_probe, print, Step, does, tests, repeats, otherwise, closes}
+use Rattle.rank_language.specs.Placed.{Placed, number, variable, item, reading, negation, operation, Choice, any, value}
+use Rattle.rank_language.specs.Placed.{Payload, one, all_of, Buffer, into_variable, into_array}
+use Rattle.rank_language.specs.Placed.{declare, declare_array, assign, assign_item, send, receive, probe, try_probe, print}
+use Rattle.rank_language.specs.Placed.{barrier, broadcast, reduce, collect, Step, does, tests, repeats, otherwise, closes}
 use Rattle.rank_language.specs.Resolved.{place_in, variable_place, array_place, resolved, choice_resolved, payload_resolved, buffer_resolved, form_resolved, all_resolved}
 use Rattle.rank_language.specs.Named.{variable_name, array_at, named, choice_named, value_named, payload_named, buffer_name, form_named}
 use Rattle.rank_language.proofs.Options.{mapped, gone_on, either_from}
@@ -126,6 +129,9 @@ ArrayStands s (line.recv_form c g x) = Unit {0}
 ArrayStands s (line.probe_form c g) = Unit {0}
 ArrayStands s (line.try_probe_form c g x) = Unit {0}
 ArrayStands s (line.print_form e) = Unit {0}
+ArrayStands s line.barrier_form = Unit {0}
+ArrayStands s (line.bcast_form r x) = Unit {0}
+ArrayStands s (line.reduce_form o r e x) = Unit {0}
 
 -- each that statements declare does
 abbrev pub AllArraysStand : Scope → List Form → Type 0
@@ -187,6 +193,24 @@ form_back s (line.try_probe_form r g x) t l h =
 form_back s (line.print_form e) t l h =
     let (a, g, q) = mapped (λ v. does (print v)) (resolved s e) t h in
     subst (λ z. form_named s z ≡ line.print_form e) q (ap line.print_form (tree_back s e a g))
+form_back s line.barrier_form t l h =
+    let q : does (collect barrier) ≡ t = cc in subst (λ z. form_named s z ≡ line.barrier_form) q refl
+form_back s (line.bcast_form r x) t l h =
+    let (root, a, i) = gone_on _ (resolved s r) t h in
+    let (buffer, b, j) = gone_on _ (buffer_resolved s x) t i in
+    let q : does (collect (broadcast root buffer)) ≡ t = cc in
+    let same = ap (λ z. line.bcast_form z (buffer_name s buffer)) (tree_back s r root a) ∙ ap (line.bcast_form r) (buffer_back s x buffer b) in
+    subst (λ z. form_named s z ≡ line.bcast_form r x) q same
+form_back s (line.reduce_form o r e x) t l h =
+    let (root, a, i) = gone_on _ (resolved s r) t h in
+    let (v, b, j) = gone_on _ (resolved s e) t i in
+    let (p, c, k) = gone_on _ (variable_place s x) t j in
+    let q : does (collect (reduce o root v p)) ≡ t = cc in
+    let same =
+    ap (λ z. line.reduce_form o z (named s v) (variable_name s p)) (tree_back s r root a)
+    ∙ ap (λ z. line.reduce_form o r z (variable_name s p)) (tree_back s e v b)
+    ∙ ap (line.reduce_form o r e) (name_back s.variables x p c) in
+    subst (λ z. form_named s z ≡ line.reduce_form o r e x) q same
 
 -- statements are got back
 pub forms_back : (s : Scope) (fs : List Form) (ts : List Step) → AllArraysStand s fs → all_resolved s fs ≡ Some ts → map (form_named s) ts ≡ all_canonical fs

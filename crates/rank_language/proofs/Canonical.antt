@@ -1,7 +1,8 @@
 -- A text's statements with each variable that is sent written as a lone name become the same statements by place.
 use Rattle.std.proofs.Common.{◌≡◌, ℕ, List, [], ◌∷◌, Option, Some, None, option_map, refl, ◌∙◌}
 use Rattle.rank_text.specs.Tree.{Tree, number, variable, item, reading, negation, operation}
-use Rattle.rank_text.specs.Forms.{Payload, lone, one, Form, var_form, array_form, let_form, item_form, if_form, else_form, end_form, while_form, send_form, recv_form, probe_form, try_probe_form, print_form}
+use Rattle.rank_text.specs.Forms.{Payload, lone, one, Form, var_form, array_form, let_form, item_form, if_form, else_form, end_form, while_form}
+use Rattle.rank_text.specs.Forms.{send_form, recv_form, probe_form, try_probe_form, print_form, barrier_form, bcast_form, reduce_form}
 use Rattle.rank_lines.specs.Scope.{Scope}
 use Rattle.rank_print.specs.Canonical.{canonical_payload, canonical, all_canonical}
 use Rattle.rank_language.specs.Placed as placed
@@ -48,6 +49,9 @@ form_same s (recv_form c g x) t h = h
 form_same s (probe_form c g) t h = h
 form_same s (try_probe_form c g x) t h = h
 form_same s (print_form e) t h = h
+form_same s barrier_form t h = h
+form_same s (bcast_form r x) t h = h
+form_same s (reduce_form o r e x) t h = h
 
 -- statements become the same
 pub all_same : (s : Scope) (fs : List Form) (ts : List Step) → all_resolved s fs ≡ Some ts → all_resolved s (all_canonical fs) ≡ Some ts

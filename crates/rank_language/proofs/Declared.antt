@@ -3,7 +3,9 @@
 use Rattle.std.proofs.Common.{◌≡◌, ℕ, List, map, Bool, true, false, ◌&&◌, ◌||◌, Option, Some, None, option_map, ◌↔◌, refl, ap, ◌∙◌, sym}
 use Rattle.std.specs.Option.{is_some}
 use Rattle.rank_text.specs.Tree.{Tree, number, variable, item, reading, negation, operation}
-use Rattle.rank_text.specs.Forms.{Choice, any, value, Payload, lone, one, Form, var_form, array_form, let_form, item_form, if_form, else_form, end_form, while_form, send_form, recv_form, probe_form, try_probe_form, print_form, ◌>>=◌}
+use Rattle.rank_text.specs.Forms.{Choice, any, value, Payload, lone, one}
+use Rattle.rank_text.specs.Forms.{Form, var_form, array_form, let_form, item_form, if_form, else_form, end_form, while_form, ◌>>=◌}
+use Rattle.rank_text.specs.Forms.{send_form, recv_form, probe_form, try_probe_form, print_form, barrier_form, bcast_form, reduce_form}
 use Rattle.rank_lines.specs.Scope.{Scope, is_name_in, is_variable, is_array, is_declared, all_declared, choice_declared, payload_declared, declared_in, after}
 use Rattle.rank_language.specs.Resolved.{place_in, variable_place, array_place, either_place, resolved, choice_resolved, payload_resolved, buffer_resolved, form_resolved}
 use Rattle.rank_language.proofs.Names.{place_of_named, place_of_other}
@@ -127,6 +129,16 @@ form_some s (try_probe_form c t x) =
     ∙ ap (λ z. is_some (choice_resolved s c) && is_some (choice_resolved s t) && z) (placed_some s.variables x)
     ∙ three_some _ (choice_resolved s c) (choice_resolved s t) (variable_place s x)
 form_some s (print_form e) = tree_some s e ∙ mapped_some _ (resolved s e)
+form_some s barrier_form = refl
+form_some s (bcast_form r x) =
+    ap (λ z. z && is_declared s x) (tree_some s r)
+    ∙ ap (λ z. is_some (resolved s r) && z) (declared_some _ _ s x)
+    ∙ two_some _ (resolved s r) (buffer_resolved s x)
+form_some s (reduce_form o r e x) =
+    ap (λ z. z && all_declared s e && is_variable s x) (tree_some s r)
+    ∙ ap (λ z. is_some (resolved s r) && z && is_variable s x) (tree_some s e)
+    ∙ ap (λ z. is_some (resolved s r) && is_some (resolved s e) && z) (placed_some s.variables x)
+    ∙ three_some _ (resolved s r) (resolved s e) (variable_place s x)
 
 -- an option without a value, by the test that says whether it has one
 none_where : {A : Type 0} (o : Option A) (b : Bool) → b ≡ is_some o → (o ≡ None) ↔ (b ≡ false)

@@ -3,7 +3,8 @@
 use Rattle.metered.specs.Limits.{most_variables, most_arrays}
 use Rattle.std.proofs.Common.{◌≡◌, ℕ, ◌+◌, ◌≤◌, List, [], ◌∷◌, ◌++◌, length, false, arith, length-append}
 use Rattle.std.proofs.lemmas.Bool.Decides.{nat_tests}
-use Rattle.rank_text.specs.Forms.{Form, var_form, array_form, let_form, item_form, if_form, else_form, end_form, while_form, send_form, recv_form, probe_form, try_probe_form, print_form}
+use Rattle.rank_text.specs.Forms.{Form, var_form, array_form, let_form, item_form, if_form, else_form, end_form, while_form}
+use Rattle.rank_text.specs.Forms.{send_form, recv_form, probe_form, try_probe_form, print_form, barrier_form, bcast_form, reduce_form}
 use Rattle.rank_lines.specs.Scope.{Scope, nothing_yet, is_past_table, after, after_all, AllMayStand, IsWhole}
 
 -- The tables are no longer than they may be.
@@ -38,6 +39,9 @@ after_few s (recv_form c t x) q h = h
 after_few s (probe_form c t) q h = h
 after_few s (try_probe_form c t x) q h = h
 after_few s (print_form e) q h = h
+after_few s barrier_form q h = h
+after_few s (bcast_form r x) q h = h
+after_few s (reduce_form o r e x) q h = h
 
 -- and so behind statements
 few_from : (s : Scope) (fs : List Form) → AllMayStand s fs → IsFew s → IsFew (after_all s fs)

@@ -124,6 +124,7 @@ kept_line n (made.Receive s t b) h = refl
 kept_line n (made.Probe s t) h = refl
 kept_line n (made.TryProbe s t p) h = refl
 kept_line n (made.Print e) h = refl
+kept_line n (made.Collect c) h = refl
 
 -- behind a `while`, the `end` that is written over leads back to it
 pub led : (n target i : ℕ) (form : Form) (e : Written) (xs : List Statement) (d : Statement) → form ≡ source_form.While e →

@@ -6,8 +6,10 @@ use Rattle.std.specs.Global.{Global}
 use Rattle.rank_print.specs.Canonical.{IsCanonicalPayload, IsCanonical, AllCanonical, program_text}
 use Rattle.rank_print.proofs.PrintedText.{reads_back}
 use Rattle.rank_lines.specs.Scope.{Scope}
-use Rattle.rank_language.specs.Placed.{Placed, number, variable, item, reading, negation, operation, Payload, one, all_of, declare, declare_array, assign, assign_item, send, receive, probe, try_probe, print, Step, does, tests, repeats, otherwise, closes}
-use Rattle.rank_language.specs.Named.{value_named, payload_named, form_named, declared_by, forms_of}
+use Rattle.rank_language.specs.Placed.{Placed, number, variable, item, reading, negation, operation, Payload, one, all_of}
+use Rattle.rank_language.specs.Placed.{declare, declare_array, assign, assign_item, send, receive, probe, try_probe, print}
+use Rattle.rank_language.specs.Placed.{Collective, barrier, broadcast, reduce, collect, Step, does, tests, repeats, otherwise, closes}
+use Rattle.rank_language.specs.Named.{value_named, payload_named, collective_named, form_named, declared_by, forms_of}
 use Rattle.rank_language.specs.Shape.{step_of}
 use Rattle.rank_language.specs.Program.{ProgramValue}
 use Rattle.rank_language.specs.Correct.{IsProgram, IsProgramOf}
@@ -26,6 +28,12 @@ payload_canonical : (s : Scope) (p : Payload) → IsCanonicalPayload (payload_na
 payload_canonical s (one e) = value_canonical s e
 payload_canonical s (all_of p) = tt
 
+-- a collective
+collective_canonical : (s : Scope) (c : Collective) → IsCanonical (collective_named s c)
+collective_canonical s barrier = tt
+collective_canonical s (broadcast root b) = tt
+collective_canonical s (reduce o root e p) = tt
+
 -- a statement
 form_canonical : (s : Scope) (t : Step) → IsCanonical (form_named s t)
 form_canonical s (does (declare p)) = tt
@@ -37,6 +45,7 @@ form_canonical s (does (receive c t b)) = tt
 form_canonical s (does (probe c t)) = tt
 form_canonical s (does (try_probe c t p)) = tt
 form_canonical s (does (print e)) = tt
+form_canonical s (does (collect c)) = collective_canonical s c
 form_canonical s (tests e) = tt
 form_canonical s (repeats e) = tt
 form_canonical s otherwise = tt

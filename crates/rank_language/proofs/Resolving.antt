@@ -8,7 +8,10 @@ use Rattle.rank_text.specs.Tree as text
 use Rattle.rank_text.specs.Forms as line
 use Rattle.rank_text.specs.Forms.{Form, ◌>>=◌}
 use Rattle.rank_lines.specs.Scope.{Scope}
-use Rattle.rank_language.specs.Placed.{Placed, number, variable, item, reading, negation, operation, Choice, any, value, Payload, one, all_of, Buffer, into_variable, into_array, declare, declare_array, assign, assign_item, send, receive, probe, try_probe, print, Step, does, tests, repeats, otherwise, closes}
+use Rattle.rank_language.specs.Placed.{Placed, number, variable, item, reading, negation, operation, Choice, any, value}
+use Rattle.rank_language.specs.Placed.{Payload, one, all_of, Buffer, into_variable, into_array}
+use Rattle.rank_language.specs.Placed.{declare, declare_array, assign, assign_item, send, receive, probe, try_probe, print}
+use Rattle.rank_language.specs.Placed.{barrier, broadcast, reduce, collect, Step, does, tests, repeats, otherwise, closes}
 use Rattle.rank_language.specs.Block.{Line}
 use Rattle.rank_language.specs.Shape.{step_of}
 use Rattle.rank_language.specs.Program.{IsWithin, IsChoiceWithin, IsPayloadWithin, IsBufferWithin, IsPlaced, AllPlaced}
@@ -140,6 +143,22 @@ becomes s (line.try_probe_form r g x) t h =
 becomes s (line.print_form e) t h =
     let (a, g, q) = mapped (λ v. does (print v)) (resolved s e) t h in
     subst (Becomes s (line.print_form e)) q (record { kind = refl; within = λ n. resolved_within s e a g })
+becomes s line.barrier_form t h =
+    let q : does (collect barrier) ≡ t = cc in subst (Becomes s line.barrier_form) q (record { kind = refl; within = λ n. tt })
+becomes s (line.bcast_form r x) t h =
+    let (root, a, i) = gone_on _ (resolved s r) t h in
+    let (buffer, b, j) = gone_on _ (buffer_resolved s x) t i in
+    let q : does (collect (broadcast root buffer)) ≡ t = cc in
+    subst (Becomes s (line.bcast_form r x)) q (record { kind = refl; within = λ n. (resolved_within s r root a, buffer_within s x buffer b) })
+becomes s (line.reduce_form o r e x) t h =
+    let (root, a, i) = gone_on _ (resolved s r) t h in
+    let (v, b, j) = gone_on _ (resolved s e) t i in
+    let (p, c, k) = gone_on _ (variable_place s x) t j in
+    let q : does (collect (reduce o root v p)) ≡ t = cc in
+    subst (Becomes s (line.reduce_form o r e x)) q (record {
+      kind = refl;
+      within = λ n. (resolved_within s r root a, resolved_within s e v b, place_below s.variables x p c);
+    })
 
 -- a line without its target is the statement
 step_of_line : (target : ℕ) (t : Step) → step_of (line_to target t) ≡ t

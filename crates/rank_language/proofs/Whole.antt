@@ -6,7 +6,9 @@ use Rattle.std.specs.Str.{bytes_eq}
 use Rattle.std.proofs.lemmas.Slice.Eq.{bytes_eq-Decides}
 use Rattle.std.proofs.lemmas.Bool.Decides.{nat_tests}
 use Rattle.rank_text.specs.Tree.{Tree, number, variable, item, reading, negation, operation}
-use Rattle.rank_text.specs.Forms.{Choice, any, value, Payload, lone, one, Form, var_form, array_form, let_form, item_form, if_form, else_form, end_form, while_form, send_form, recv_form, probe_form, try_probe_form, print_form}
+use Rattle.rank_text.specs.Forms.{Choice, any, value, Payload, lone, one}
+use Rattle.rank_text.specs.Forms.{Form, var_form, array_form, let_form, item_form, if_form, else_form, end_form, while_form}
+use Rattle.rank_text.specs.Forms.{send_form, recv_form, probe_form, try_probe_form, print_form, barrier_form, bcast_form, reduce_form}
 use Rattle.rank_lines.specs.Scope.{Scope, nothing_yet, is_name_in, is_variable, is_array, is_declared, all_declared, choice_declared, payload_declared, declared_in, is_stray, is_past_table, after, after_all, AllMayStand, IsWhole}
 use Rattle.rank_language.specs.Placed.{Step}
 use Rattle.rank_language.specs.Program.{AllSized}
@@ -85,6 +87,15 @@ form_grows s t g (try_probe_form r e x) h =
     let (a, b) = both (choice_declared s r) (choice_declared s e) ab in
     joined (choice_declared t r && choice_declared t e) (is_variable t x) (joined (choice_declared t r) (choice_declared t e) (choice_grows s t g r a) (choice_grows s t g e b)) (g.variables x c)
 form_grows s t g (print_form e) h = tree_grows s t g e h
+form_grows s t g barrier_form h = refl
+form_grows s t g (bcast_form r x) h =
+    let (a, b) = both (all_declared s r) (is_declared s x) h in
+    joined (all_declared t r) (is_declared t x) (tree_grows s t g r a) (declared_grows s t g x b)
+form_grows s t g (reduce_form o r e x) h =
+    let (ab, c) = both (all_declared s r && all_declared s e) (is_variable s x) h in
+    let (a, b) = both (all_declared s r) (all_declared s e) ab in
+    let parts = joined (all_declared t r) (all_declared t e) (tree_grows s t g r a) (tree_grows s t g e b) in
+    joined (all_declared t r && all_declared t e) (is_variable t x) parts (g.variables x c)
 
 -- a name that stands in a table stands in a longer one
 named_longer : (xs ys : List (List ℕ)) (x : List ℕ) → is_name_in xs x ≡ true → is_name_in (xs ++ ys) x ≡ true
@@ -125,6 +136,9 @@ after_grows s (recv_form c t x) = record { variables = λ y h. h; arrays = λ y 
 after_grows s (probe_form c t) = record { variables = λ y h. h; arrays = λ y h. h }
 after_grows s (try_probe_form c t x) = record { variables = λ y h. h; arrays = λ y h. h }
 after_grows s (print_form e) = record { variables = λ y h. h; arrays = λ y h. h }
+after_grows s barrier_form = record { variables = λ y h. h; arrays = λ y h. h }
+after_grows s (bcast_form r x) = record { variables = λ y h. h; arrays = λ y h. h }
+after_grows s (reduce_form o r e x) = record { variables = λ y h. h; arrays = λ y h. h }
 
 -- the tables behind statements have what those in front have
 all_grows : (s : Scope) (fs : List Form) → Grows s (after_all s fs)
@@ -146,6 +160,9 @@ declares_after s (recv_form c t x) = refl
 declares_after s (probe_form c t) = refl
 declares_after s (try_probe_form c t x) = refl
 declares_after s (print_form e) = refl
+declares_after s barrier_form = refl
+declares_after s (bcast_form r x) = refl
+declares_after s (reduce_form o r e x) = refl
 
 -- what is in the tables stays there
 declares_grows : (s t : Scope) → Grows s t → (f : Form) → declares_in s f ≡ true → declares_in t f ≡ true
@@ -162,6 +179,9 @@ declares_grows s t g (recv_form c e x) h = refl
 declares_grows s t g (probe_form c e) h = refl
 declares_grows s t g (try_probe_form c e x) h = refl
 declares_grows s t g (print_form e) h = refl
+declares_grows s t g barrier_form h = refl
+declares_grows s t g (bcast_form r x) h = refl
+declares_grows s t g (reduce_form o r e x) h = refl
 
 -- statements that may stand are resolvable by the tables behind them
 resolvable_from : (s : Scope) (fs : List Form) → AllMayStand s fs → AllResolvable (after_all s fs) fs
@@ -209,6 +229,9 @@ after_sized s (recv_form c t x) q h = h
 after_sized s (probe_form c t) q h = h
 after_sized s (try_probe_form c t x) q h = h
 after_sized s (print_form e) q h = h
+after_sized s barrier_form q h = h
+after_sized s (bcast_form r x) q h = h
+after_sized s (reduce_form o r e x) q h = h
 
 -- the arrays behind statements that may stand have their sizes
 sized_from : (s : Scope) (fs : List Form) → AllMayStand s fs → AllSized s.arrays → AllSized (after_all s fs).arrays
@@ -234,6 +257,9 @@ blocks_behind s (recv_form c t x) = refl
 blocks_behind s (probe_form c t) = refl
 blocks_behind s (try_probe_form c t x) = refl
 blocks_behind s (print_form e) = refl
+blocks_behind s barrier_form = refl
+blocks_behind s (bcast_form r x) = refl
+blocks_behind s (reduce_form o r e x) = refl
 
 -- a statement that may stand finds its block
 not_stray : (s : Scope) (f : Form) → is_stray s f ≡ false → strays (kind_of f) s.blocks ≡ false
@@ -250,6 +276,9 @@ not_stray s (recv_form c t x) h = refl
 not_stray s (probe_form c t) h = refl
 not_stray s (try_probe_form c t x) h = refl
 not_stray s (print_form e) h = refl
+not_stray s barrier_form h = refl
+not_stray s (bcast_form r x) h = refl
+not_stray s (reduce_form o r e x) h = refl
 
 -- statements that may stand are balanced
 balanced_from : (s t : Scope) (fs : List Form) (ss : List Step) → AllMayStand s fs → (after_all s fs).blocks ≡ [] → all_resolved t fs ≡ Some ss → Balanced s.blocks ss

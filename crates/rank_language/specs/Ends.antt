@@ -2,7 +2,8 @@
 -- statements, the position behind the line that closes its present part (the rank-program text, next positions). An `end` is
 -- met before the statement that it closes, so it goes on like that of an `if` until a `while` that is met leads it back.
 use Rattle.std.specs.Prelude.{ℕ, zero, suc, ◌+◌, ◌-◌, List, [], ◌∷◌, Option, Some, option_map}
-use Rattle.rank_text.specs.Forms.{Form, var_form, array_form, let_form, item_form, if_form, else_form, end_form, while_form, send_form, recv_form, probe_form, try_probe_form, print_form, ◌>>=◌}
+use Rattle.rank_text.specs.Forms.{Form, var_form, array_form, let_form, item_form, if_form, else_form, end_form, while_form, ◌>>=◌}
+use Rattle.rank_text.specs.Forms.{send_form, recv_form, probe_form, try_probe_form, print_form, barrier_form, bcast_form, reduce_form}
 use Rattle.rank_lines.specs.Scope.{Scope}
 use Rattle.rank_language.specs.Placed.{Step, does, tests, repeats, otherwise, closes}
 use Rattle.rank_language.specs.Block.{Line, simple_line, if_line, else_line, end_line, while_line, back_line}
@@ -41,6 +42,9 @@ kind_of (recv_form s t x) = is_plain
 kind_of (probe_form s t) = is_plain
 kind_of (try_probe_form s t x) = is_plain
 kind_of (print_form e) = is_plain
+kind_of barrier_form = is_plain
+kind_of (bcast_form r x) = is_plain
+kind_of (reduce_form o r e x) = is_plain
 
 -- the target of a statement behind which blocks with these ends are open: an `if`, an `else` and a `while` lead to the nearest
 abbrev pub target_of : Kind → List ℕ → ℕ

@@ -3,7 +3,10 @@ use Rattle.std.specs.Prelude.{ℕ, List, [], map, slice_index_or, unsigned_abs}
 use Rattle.rank_text.specs.Tree as text
 use Rattle.rank_text.specs.Forms as line
 use Rattle.rank_lines.specs.Scope.{Scope}
-use Rattle.rank_language.specs.Placed.{Placed, number, variable, item, reading, negation, operation, Choice, any, value, Payload, one, all_of, Buffer, into_variable, into_array, declare, declare_array, assign, assign_item, send, receive, probe, try_probe, print, Step, does, tests, repeats, otherwise, closes}
+use Rattle.rank_language.specs.Placed.{Placed, number, variable, item, reading, negation, operation, Choice, any, value}
+use Rattle.rank_language.specs.Placed.{Payload, one, all_of, Buffer, into_variable, into_array}
+use Rattle.rank_language.specs.Placed.{declare, declare_array, assign, assign_item, send, receive, probe, try_probe, print}
+use Rattle.rank_language.specs.Placed.{Collective, barrier, broadcast, reduce, collect, Step, does, tests, repeats, otherwise, closes}
 use Rattle.rank_language.specs.Shape.{step_of}
 use Rattle.rank_language.specs.Program.{ProgramValue}
 
@@ -48,6 +51,12 @@ abbrev pub buffer_name : Scope → Buffer → List ℕ
 buffer_name s (into_variable p) = variable_name s p
 buffer_name s (into_array p) = (array_at s p).0
 
+-- a collective with names for its places
+abbrev pub collective_named : Scope → Collective → line.Form
+collective_named s barrier = line.barrier_form
+collective_named s (broadcast root b) = line.bcast_form (named s root) (buffer_name s b)
+collective_named s (reduce o root e p) = line.reduce_form o (named s root) (named s e) (variable_name s p)
+
 -- a statement with names for its places
 abbrev pub form_named : Scope → Step → line.Form
 form_named s (does (declare p)) = line.var_form (variable_name s p)
@@ -59,6 +68,7 @@ form_named s (does (receive c t b)) = line.recv_form (choice_named s c) (choice_
 form_named s (does (probe c t)) = line.probe_form (choice_named s c) (choice_named s t)
 form_named s (does (try_probe c t p)) = line.try_probe_form (choice_named s c) (choice_named s t) (variable_name s p)
 form_named s (does (print e)) = line.print_form (named s e)
+form_named s (does (collect c)) = collective_named s c
 form_named s (tests e) = line.if_form (named s e)
 form_named s (repeats e) = line.while_form (named s e)
 form_named s otherwise = line.else_form

@@ -2,6 +2,7 @@
 use Rattle.std.specs.Prelude.{ℕ, ℤ}
 use Rattle.rank_text.specs.declared.token.Operator.{Operator}
 use Rattle.rank_text.specs.declared.token.Reading.{Reading}
+use Rattle.rank_text.specs.declared.token.Reduction.{Reduction}
 
 -- an expression, whose variables and arrays are given by their places in the order of declaration
 pub data Placed : Type 0 where
@@ -27,6 +28,13 @@ pub data Buffer : Type 0 where
   into_variable : (place : ℕ) → Buffer
   into_array : (place : ℕ) → Buffer
 
+-- a statement that all ranks make together: a barrier, a broadcast from a root into a buffer, or the reduction of a value of
+-- each rank into a variable of the root
+pub data Collective : Type 0 where
+  barrier : Collective
+  broadcast : (root : Placed) (buffer : Buffer) → Collective
+  reduce : (reduction : Reduction) (root value : Placed) (place : ℕ) → Collective
+
 -- a statement without parts
 pub data Simple : Type 0 where
   declare : (place : ℕ) → Simple
@@ -38,6 +46,7 @@ pub data Simple : Type 0 where
   probe : (source tag : Choice) → Simple
   try_probe : (source tag : Choice) (flag : ℕ) → Simple
   print : (e : Placed) → Simple
+  collect : (c : Collective) → Simple
 
 -- a line's statement by itself, without where it leads; an `end` doesn't say what it closes
 pub data Step : Type 0 where

@@ -4,7 +4,7 @@ use Rattle.metered.specs.Limits.{most_items}
 use Rattle.rank_lines.specs.declared.scope.Array.{Array}
 use Rattle.rank_lines.specs.SeenLines.{arrays_seen}
 use Rattle.rank_language.specs.declared.statement.Statement.{Statement}
-use Rattle.rank_language.specs.Placed.{Placed, number, variable, item, reading, negation, operation, Choice, any, value, Payload, one, all_of, Buffer, into_variable, into_array, declare, declare_array, assign, assign_item, send, receive, probe, try_probe, print}
+use Rattle.rank_language.specs.Placed.{Placed, number, variable, item, reading, negation, operation, Choice, any, value, Payload, one, all_of, Buffer, into_variable, into_array, declare, declare_array, assign, assign_item, send, receive, probe, try_probe, print, Collective, barrier, broadcast, reduce, collect}
 use Rattle.rank_language.specs.Block.{Block, Line, simple_line, if_line, else_line, end_line, while_line, back_line}
 use Rattle.rank_language.specs.Shape.{step_of, tree_of_steps}
 use Rattle.rank_language.specs.Seen.{line_of}
@@ -43,6 +43,12 @@ abbrev pub IsBufferWithin : ℕ → ℕ → Buffer → Type 0
 IsBufferWithin v a (into_variable p) = p < v
 IsBufferWithin v a (into_array p) = p < a
 
+-- each place in a collective is
+abbrev pub IsCollectiveWithin : ℕ → ℕ → Collective → Type 0
+IsCollectiveWithin v a barrier = Unit {0}
+IsCollectiveWithin v a (broadcast root b) = IsWithin v a root × IsBufferWithin v a b
+IsCollectiveWithin v a (reduce reduction root e p) = IsWithin v a root × IsWithin v a e × (p < v)
+
 -- each place in a line is below the number of variables, or of arrays
 abbrev pub IsPlaced : ℕ → ℕ → Line → Type 0
 IsPlaced v a (simple_line (declare p)) = p < v
@@ -54,6 +60,7 @@ IsPlaced v a (simple_line (receive s t b)) = IsChoiceWithin v a s × IsChoiceWit
 IsPlaced v a (simple_line (probe s t)) = IsChoiceWithin v a s × IsChoiceWithin v a t
 IsPlaced v a (simple_line (try_probe s t p)) = IsChoiceWithin v a s × IsChoiceWithin v a t × (p < v)
 IsPlaced v a (simple_line (print e)) = IsWithin v a e
+IsPlaced v a (simple_line (collect c)) = IsCollectiveWithin v a c
 IsPlaced v a (if_line e q) = IsWithin v a e
 IsPlaced v a (else_line q) = Unit {0}
 IsPlaced v a end_line = Unit {0}

@@ -1,6 +1,7 @@
 -- Statements whose names are declared and whose numbers fit, by the tables of the whole text.
 use Rattle.std.specs.Prelude.{◌≡◌, List, [], ◌∷◌, Bool, true, false}
-use Rattle.rank_text.specs.Forms.{Form, var_form, array_form, let_form, item_form, if_form, else_form, end_form, while_form, send_form, recv_form, probe_form, try_probe_form, print_form}
+use Rattle.rank_text.specs.Forms.{Form, var_form, array_form, let_form, item_form, if_form, else_form, end_form, while_form}
+use Rattle.rank_text.specs.Forms.{send_form, recv_form, probe_form, try_probe_form, print_form, barrier_form, bcast_form, reduce_form}
 use Rattle.rank_lines.specs.Scope.{Scope, declared_in, has_great_number, is_variable, is_array}
 
 -- what the statement declares is in the table
@@ -18,6 +19,9 @@ declares_in s (recv_form c t x) = true
 declares_in s (probe_form c t) = true
 declares_in s (try_probe_form c t x) = true
 declares_in s (print_form e) = true
+declares_in s barrier_form = true
+declares_in s (bcast_form r x) = true
+declares_in s (reduce_form o r e x) = true
 
 -- A statement that becomes one of a program.
 pub record IsResolvable (s : Scope) (f : Form) : Type 0 where

@@ -5,7 +5,10 @@ use Rattle.rank_text.specs.Tree as text
 use Rattle.rank_text.specs.Forms as line
 use Rattle.rank_text.specs.Forms.{◌>>=◌}
 use Rattle.rank_lines.specs.Scope.{Scope}
-use Rattle.rank_language.specs.Placed.{Placed, number, variable, item, reading, negation, operation, Choice, any, value, Payload, one, all_of, Buffer, into_variable, into_array, declare, declare_array, assign, assign_item, send, receive, probe, try_probe, print, Step, does, tests, repeats, otherwise, closes}
+use Rattle.rank_language.specs.Placed.{Placed, number, variable, item, reading, negation, operation, Choice, any, value}
+use Rattle.rank_language.specs.Placed.{Payload, one, all_of, Buffer, into_variable, into_array}
+use Rattle.rank_language.specs.Placed.{declare, declare_array, assign, assign_item, send, receive, probe, try_probe, print}
+use Rattle.rank_language.specs.Placed.{barrier, broadcast, reduce, collect, Step, does, tests, repeats, otherwise, closes}
 
 -- the place of a name among names: the first at which it stands
 abbrev pub place_in : List (List ℕ) → List ℕ → Option ℕ
@@ -90,6 +93,16 @@ form_resolved s (line.try_probe_form c t x) = do
   flag ← variable_place s x
   Some (does (try_probe source tag flag))
 form_resolved s (line.print_form e) = option_map (λ v. does (print v)) (resolved s e)
+form_resolved s line.barrier_form = Some (does (collect barrier))
+form_resolved s (line.bcast_form r x) = do
+  root ← resolved s r
+  buffer ← buffer_resolved s x
+  Some (does (collect (broadcast root buffer)))
+form_resolved s (line.reduce_form o r e x) = do
+  root ← resolved s r
+  v ← resolved s e
+  p ← variable_place s x
+  Some (does (collect (reduce o root v p)))
 
 -- statements with places for their names, in the same order
 abbrev pub all_resolved : Scope → List line.Form → Option (List Step)

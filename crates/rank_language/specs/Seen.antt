@@ -6,8 +6,9 @@ use Rattle.rank_language.specs.declared.expression.Expression.TheVariants as mad
 use Rattle.rank_language.specs.declared.statement.Choice as source_choice
 use Rattle.rank_language.specs.declared.statement.Payload as source_payload
 use Rattle.rank_language.specs.declared.statement.Buffer as source_buffer
+use Rattle.rank_language.specs.declared.statement.Collective as source_collective
 use Rattle.rank_language.specs.declared.statement.Statement as source_statement
-use Rattle.rank_language.specs.Placed.{Placed, number, variable, item, reading, negation, operation, Choice, any, value, Payload, one, all_of, Buffer, into_variable, into_array, declare, declare_array, assign, assign_item, send, receive, probe, try_probe, print}
+use Rattle.rank_language.specs.Placed.{Placed, number, variable, item, reading, negation, operation, Choice, any, value, Payload, one, all_of, Buffer, into_variable, into_array, declare, declare_array, assign, assign_item, send, receive, probe, try_probe, print, Collective, barrier, broadcast, reduce, collect}
 use Rattle.rank_language.specs.Block.{Line, simple_line, if_line, else_line, end_line, while_line, back_line}
 
 -- an expression without where it lies
@@ -34,6 +35,12 @@ abbrev pub buffer_of : source_buffer.Buffer → Buffer
 buffer_of (source_buffer.TheVariants.Variable p) = into_variable p
 buffer_of (source_buffer.TheVariants.Array p) = into_array p
 
+-- a collective without where its expressions lie
+abbrev pub collective_of : source_collective.Collective → Collective
+collective_of source_collective.TheVariants.Barrier = barrier
+collective_of (source_collective.TheVariants.Broadcast e b) = broadcast (placed_of e) (buffer_of b)
+collective_of (source_collective.TheVariants.Reduce f e v p) = reduce f (placed_of e) (placed_of v) p
+
 -- a statement as a line
 abbrev pub line_of : source_statement.Statement → Line
 line_of (source_statement.TheVariants.Declare p) = simple_line (declare p)
@@ -50,6 +57,7 @@ line_of (source_statement.TheVariants.Receive s t b) = simple_line (receive (cho
 line_of (source_statement.TheVariants.Probe s t) = simple_line (probe (choice_of s) (choice_of t))
 line_of (source_statement.TheVariants.TryProbe s t p) = simple_line (try_probe (choice_of s) (choice_of t) p)
 line_of (source_statement.TheVariants.Print e) = simple_line (print (placed_of e))
+line_of (source_statement.TheVariants.Collect c) = simple_line (collect (collective_of c))
 
 -- the line of a statement that was found
 abbrev pub line_in : Option (Bor source_statement.Statement) → Option Line

@@ -35,6 +35,7 @@ fn target(form: &Form, position: usize, ends: &mut Vec<usize, Heap>) -> Result<u
         Form::Var(_) | Form::Array(..) | Form::Let(..) | Form::LetItem(..) => Ok(0),
         Form::Send(..) | Form::Recv(..) => Ok(0),
         Form::Probe(..) | Form::TryProbe(..) | Form::Print(_) => Ok(0),
+        Form::Barrier | Form::Bcast(..) | Form::Reduce(..) => Ok(0),
     }
 }
 

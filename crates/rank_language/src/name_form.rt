@@ -3,16 +3,18 @@ ghost use Rattle.std.specs.Prelude.{◌≡◌, ◌<◌, IfOk, length, map};
 ghost use Rattle.rank_text.specs.SeenForms.{choice_of as choice_seen, form_seen, payload_seen};
 ghost use Rattle.rank_text.specs.Tree.{tree_of};
 ghost use Rattle.rank_lines.specs.SeenLines.{forms_seen};
-ghost use Rattle.rank_language.specs.Named.{array_at, buffer_name, choice_named, form_named, named, payload_named, value_named};
+ghost use Rattle.rank_language.specs.Named.{array_at, buffer_name, choice_named, collective_named, form_named};
+ghost use Rattle.rank_language.specs.Named.{named, payload_named, value_named};
 ghost use Rattle.rank_language.specs.Placed.{declare_array, does, receive, send};
-ghost use Rattle.rank_language.specs.Program.{AllPlaced, IsBufferWithin, IsChoiceWithin, IsPayloadWithin, IsPlaced, IsWithin};
-ghost use Rattle.rank_language.specs.Seen.{buffer_of, choice_of, line_of, payload_of, placed_of};
+ghost use Rattle.rank_language.specs.Program.{AllPlaced, IsPlaced, IsWithin};
+ghost use Rattle.rank_language.specs.Program.{IsBufferWithin, IsChoiceWithin, IsCollectiveWithin, IsPayloadWithin};
+ghost use Rattle.rank_language.specs.Seen.{buffer_of, choice_of, collective_of, line_of, payload_of, placed_of};
 ghost use Rattle.rank_language.specs.SeenTables.{tables_seen};
 ghost use Rattle.rank_language.specs.Shape.{step_of};
 
 use crate::expression::Expression;
 use crate::resolve::Tables;
-use crate::statement::{Buffer, Choice, Payload, Statement};
+use crate::statement::{Buffer, Choice, Collective, Payload, Statement};
 use metered::Heap;
 use rank_lines::Array;
 use rank_text::{Form, Name, Written, form};
@@ -159,6 +161,35 @@ fn name_receive(
     ))
 }
 
+/// The collective with names for its places.
+fn name_collective(
+    alloc: Heap,
+    tables: Tables<'_>,
+    collective: &Collective,
+) -> Result<Form, AllocError>
+    requires { IsCollectiveWithin (length (tables_seen tables).variables) (length (tables_seen tables).arrays) (collective_of collective.now) }
+    ensures { IfOk result (λ f. form_seen f ≡ collective_named (tables_seen tables.entry) (collective_of collective.now)) }
+{
+    match collective {
+        Collective::Barrier => Ok(Form::Barrier),
+        Collective::Broadcast { root, buffer } => Ok(Form::Bcast(
+            name(alloc, tables, root)?,
+            name_buffer(tables, buffer),
+        )),
+        Collective::Reduce {
+            reduction,
+            root,
+            value,
+            place,
+        } => Ok(Form::Reduce(
+            *reduction,
+            name(alloc, tables, root)?,
+            name(alloc, tables, value)?,
+            tables.variables[*place],
+        )),
+    }
+}
+
 /// The statement with names for its places.
 pub(crate) fn name_form(
     alloc: Heap,
@@ -204,6 +235,7 @@ pub(crate) fn name_form(
             tables.variables[*flag],
         )),
         Statement::Print(value) => Ok(Form::Print(name(alloc, tables, value)?)),
+        Statement::Collect(collective) => name_collective(alloc, tables, collective),
     }
 }
 

@@ -1,19 +1,21 @@
 //! Places for the names of a statement.
 ghost use Rattle.std.specs.Prelude.{◌≡◌, Some, IfOk, true, false, option_map};
 ghost use Rattle.rank_text.specs.SeenForms.{choice_of as choice_seen, form_seen, payload_seen};
-ghost use Rattle.rank_text.specs.Forms.{lone};
+ghost use Rattle.rank_text.specs.Forms.{bcast_form, lone, reduce_form};
+ghost use Rattle.rank_text.specs.Tree.{tree_of};
 ghost use Rattle.rank_lines.specs.Scope.{is_declared, choice_declared, choice_is_great, payload_declared, payload_is_great};
 ghost use Rattle.rank_language.specs.Resolvable.{IsResolvable};
 ghost use Rattle.rank_language.specs.Resolved.{buffer_resolved, choice_resolved, form_resolved, payload_resolved};
 ghost use Rattle.rank_language.specs.Ends.{line_to};
-ghost use Rattle.rank_language.specs.Seen.{buffer_of, choice_of, line_of, payload_of};
+ghost use Rattle.rank_language.specs.Placed.{collect, does};
+ghost use Rattle.rank_language.specs.Seen.{buffer_of, choice_of, collective_of, line_of, payload_of};
 ghost use Rattle.rank_language.specs.SeenTables.{tables_seen};
 
 use crate::expression::Expression;
 use crate::resolve::{Declared, Tables, resolve};
-use crate::statement::{Buffer, Choice, Payload, Statement};
+use crate::statement::{Buffer, Choice, Collective, Payload, Statement};
 use metered::Heap;
-use rank_text::{Form, Name, form};
+use rank_text::{Form, Name, Reduction, Written, form};
 use std::alloc::AllocError;
 
 /// The source or the tag with places for its names.
@@ -70,6 +72,44 @@ pub(crate) fn resolve_payload(
     }
 }
 
+/// The broadcast with places for its names.
+fn resolve_broadcast(
+    alloc: Heap,
+    tables: Tables<'_>,
+    root: &Written,
+    buffer: Name,
+) -> Result<Collective, AllocError>
+    requires resolvable { IsResolvable (tables_seen tables) (bcast_form (tree_of root.now) buffer) }
+    ensures { IfOk result (λ c. form_resolved (tables_seen tables.entry) (bcast_form (tree_of root.now) buffer)
+        ≡ Some (does (collect (collective_of c)))) }
+{
+    Ok(Collective::Broadcast {
+        root: resolve(alloc, tables, root)?,
+        buffer: resolve_buffer(tables, buffer),
+    })
+}
+
+/// The reduction with places for its names.
+fn resolve_reduction(
+    alloc: Heap,
+    tables: Tables<'_>,
+    reduction: Reduction,
+    root: &Written,
+    value: &Written,
+    name: Name,
+) -> Result<Collective, AllocError>
+    requires resolvable { IsResolvable (tables_seen tables) (reduce_form reduction (tree_of root.now) (tree_of value.now) name) }
+    ensures { IfOk result (λ c. form_resolved (tables_seen tables.entry) (reduce_form reduction (tree_of root.now) (tree_of value.now) name)
+        ≡ Some (does (collect (collective_of c)))) }
+{
+    Ok(Collective::Reduce {
+        reduction,
+        root: resolve(alloc, tables, root)?,
+        value: resolve(alloc, tables, value)?,
+        place: tables.variable(name),
+    })
+}
+
 /// The statement with places for its names, which leads to a target.
 pub(crate) fn resolve_form(
     alloc: Heap,
@@ -117,5 +157,12 @@ pub(crate) fn resolve_form(
             flag: tables.variable(*flag),
         }),
         Form::Print(value) => Ok(Statement::Print(resolve(alloc, tables, value)?)),
+        Form::Barrier => Ok(Statement::Collect(Collective::Barrier)),
+        Form::Bcast(root, buffer) => Ok(Statement::Collect(resolve_broadcast(
+            alloc, tables, root, *buffer,
+        )?)),
+        Form::Reduce(reduction, root, value, name) => Ok(Statement::Collect(resolve_reduction(
+            alloc, tables, *reduction, root, value, *name,
+        )?)),
     }
 }

@@ -4,6 +4,7 @@ ghost use Rattle.rank_language.specs.Block.{next_position};
 ghost use Rattle.rank_language.specs.Seen.{line_of};
 
 use crate::expression::Expression;
+use rank_text::Reduction;
 
 /// The source or the tag that a receive or a probe asks for.
 #[derive(Debug, Drop)]
@@ -28,6 +29,24 @@ pub enum Buffer {
     Variable(usize),
     /// An array, by its place in the order of declaration; the items go to its beginning.
     Array(usize),
+}
+
+/// A statement that all ranks make together (MPI 1.1, sections 4.3, 4.4 and 4.9.1).
+#[derive(Debug, Drop)]
+pub enum Collective {
+    Barrier,
+    /// The root's items of the buffer go to the buffers of all ranks.
+    Broadcast {
+        root: Expression,
+        buffer: Buffer,
+    },
+    /// The values of all ranks, taken together, go into the variable `place` of the root.
+    Reduce {
+        reduction: Reduction,
+        root: Expression,
+        value: Expression,
+        place: usize,
+    },
 }
 
 /// A statement of a program, which has a position of its own.
@@ -73,6 +92,7 @@ pub enum Statement {
         flag: usize,
     },
     Print(Expression),
+    Collect(Collective),
 }
 
 impl Statement {
@@ -92,6 +112,7 @@ impl Statement {
             Statement::Send { .. } | Statement::Receive { .. } => position + 1,
             Statement::Probe { .. } | Statement::TryProbe { .. } => position + 1,
             Statement::Print(_) | Statement::EndIf => position + 1,
+            Statement::Collect(_) => position + 1,
         }
     }
 }

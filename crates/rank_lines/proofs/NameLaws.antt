@@ -17,7 +17,7 @@ use Rattle.rank_text.specs.Lexes.{is_greater, is_equal, is_not_equal, is_less_eq
 use Rattle.rank_text.specs.Lexes.{is_end, is_space, is_word, is_number, is_symbol}
 use Rattle.rank_text.specs.Forms.{Form, var_form, array_form, IsForm, is_var, is_array, is_let, is_let_item}
 use Rattle.rank_text.specs.Forms.{is_if, is_else, is_end as is_end_form, is_while, is_send, is_recv, is_probe, is_try_probe}
-use Rattle.rank_text.specs.Forms.{is_print}
+use Rattle.rank_text.specs.Forms.{is_print, is_barrier, is_bcast, is_reduce}
 use Rattle.rank_lines.specs.Scope.{Scope, is_past_table, IsNamed}
 
 -- the token is no name
@@ -129,3 +129,6 @@ form_named s (is_recv c e) h q = tt
 form_named s (is_probe c e) h q = tt
 form_named s (is_try_probe c e) h q = tt
 form_named s (is_print d) h q = tt
+form_named s is_barrier h q = tt
+form_named s (is_bcast d) h q = tt
+form_named s (is_reduce d e) h q = tt

@@ -5,6 +5,7 @@ use Rattle.rank_text.specs.Tree.{Tree, number}
 use Rattle.rank_text.specs.Forms.{Choice, any, value, Payload, lone, one}
 use Rattle.rank_text.specs.Forms.{Form, var_form, array_form, let_form, item_form, if_form, else_form, end_form, while_form}
 use Rattle.rank_text.specs.Forms.{send_form, recv_form, probe_form, try_probe_form, print_form}
+use Rattle.rank_text.specs.Forms.{barrier_form, bcast_form, reduce_form}
 
 -- an argument: the name of a variable, of an array or of either, an expression, a source or tag, or a payload
 pub data Argument : Type 0 where
@@ -30,6 +31,9 @@ arguments_of (recv_form c g x) = choice c ∷ choice g ∷ either_name x ∷ []
 arguments_of (probe_form c g) = choice c ∷ choice g ∷ []
 arguments_of (try_probe_form c g x) = choice c ∷ choice g ∷ variable_name x ∷ []
 arguments_of (print_form e) = expression e ∷ []
+arguments_of barrier_form = []
+arguments_of (bcast_form e x) = expression e ∷ either_name x ∷ []
+arguments_of (reduce_form r d e x) = expression d ∷ expression e ∷ variable_name x ∷ []
 
 -- each argument passes the test, and what came before them does
 abbrev pub each_after : Bool → (Argument → Bool) → List Argument → Bool

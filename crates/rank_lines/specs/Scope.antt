@@ -10,6 +10,7 @@ use Rattle.rank_text.specs.Tree.{Tree, number, variable, item, reading, negation
 use Rattle.rank_text.specs.Forms.{Choice, any, value, Payload, lone, one}
 use Rattle.rank_text.specs.Forms.{Form, var_form, array_form, let_form, item_form, if_form, else_form, end_form, while_form}
 use Rattle.rank_text.specs.Forms.{send_form, recv_form, probe_form, try_probe_form, print_form}
+use Rattle.rank_text.specs.Forms.{barrier_form, bcast_form, reduce_form}
 use Rattle.metered.specs.Limits.{most_lines, most_variables, most_arrays, most_items, most_blocks, most_name_bytes}
 use Rattle.metered.specs.Limits.{most_nodes, most_parentheses}
 use Rattle.rank_lines.specs.Arguments.{Argument, variable_name, array_name, either_name, expression, choice, payload}
@@ -95,6 +96,9 @@ is_twice s (recv_form c g x) = false
 is_twice s (probe_form c g) = false
 is_twice s (try_probe_form c g x) = false
 is_twice s (print_form e) = false
+is_twice s barrier_form = false
+is_twice s (bcast_form e x) = false
+is_twice s (reduce_form r d e x) = false
 
 -- no block is open
 abbrev pub is_empty : List Opened → Bool
@@ -123,6 +127,9 @@ is_stray s (recv_form c g x) = false
 is_stray s (probe_form c g) = false
 is_stray s (try_probe_form c g x) = false
 is_stray s (print_form e) = false
+is_stray s barrier_form = false
+is_stray s (bcast_form e x) = false
+is_stray s (reduce_form r d e x) = false
 
 -- each number, name, read-only word, indexing and operation is one node
 abbrev pub nodes : Tree → ℕ
@@ -187,6 +194,9 @@ is_past_table s (recv_form c g x) = false
 is_past_table s (probe_form c g) = false
 is_past_table s (try_probe_form c g x) = false
 is_past_table s (print_form e) = false
+is_past_table s barrier_form = false
+is_past_table s (bcast_form e x) = false
+is_past_table s (reduce_form r d e x) = false
 
 -- a limit is passed
 abbrev pub is_over : Scope → List Token → Form → Bool
@@ -238,6 +248,9 @@ after s (recv_form c g x) = s
 after s (probe_form c g) = s
 after s (try_probe_form c g x) = s
 after s (print_form e) = s
+after s barrier_form = s
+after s (bcast_form e x) = s
+after s (reduce_form r d e x) = s
 
 -- what statements leave, one after another
 abbrev pub after_all : Scope → List Form → Scope
@@ -259,6 +272,9 @@ IsNamed (recv_form c g x) = Unit {0}
 IsNamed (probe_form c g) = Unit {0}
 IsNamed (try_probe_form c g x) = Unit {0}
 IsNamed (print_form e) = Unit {0}
+IsNamed barrier_form = Unit {0}
+IsNamed (bcast_form e x) = Unit {0}
+IsNamed (reduce_form r d e x) = Unit {0}
 
 -- A statement may stand after lines that leave the scope s.
 pub record MayStand (s : Scope) (f : Form) : Type 0 where

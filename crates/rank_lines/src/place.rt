@@ -19,6 +19,7 @@ pub(crate) fn is_twice(scope: &Scope, form: &Form) -> bool
         Form::If(_) | Form::Else | Form::End | Form::While(_) => false,
         Form::Send(..) | Form::Recv(..) => false,
         Form::Probe(..) | Form::TryProbe(..) | Form::Print(_) => false,
+        Form::Barrier | Form::Bcast(..) | Form::Reduce(..) => false,
     }
 }
 
@@ -58,6 +59,7 @@ pub(crate) fn is_stray(scope: &Scope, form: &Form) -> bool
         Form::Let(..) | Form::LetItem(..) | Form::If(_) | Form::While(_) => false,
         Form::Send(..) | Form::Recv(..) => false,
         Form::Probe(..) | Form::TryProbe(..) | Form::Print(_) => false,
+        Form::Barrier | Form::Bcast(..) | Form::Reduce(..) => false,
     }
 }
 
@@ -88,5 +90,6 @@ pub(crate) fn is_past_table(scope: &Scope, form: &Form) -> bool
         Form::Let(..) | Form::LetItem(..) | Form::Else | Form::End => false,
         Form::Send(..) | Form::Recv(..) => false,
         Form::Probe(..) | Form::TryProbe(..) | Form::Print(_) => false,
+        Form::Barrier | Form::Bcast(..) | Form::Reduce(..) => false,
     }
 }

@@ -148,6 +148,7 @@ impl Scope {
             Form::Let(..) | Form::LetItem(..) => Ok(()),
             Form::Send(..) | Form::Recv(..) => Ok(()),
             Form::Probe(..) | Form::TryProbe(..) | Form::Print(_) => Ok(()),
+            Form::Barrier | Form::Bcast(..) | Form::Reduce(..) => Ok(()),
         }
     }
 }

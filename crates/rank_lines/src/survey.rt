@@ -93,7 +93,7 @@ impl Survey {
         ensures great { OnOk result (self.new.great ≡ has_great_number (form_seen form.now)) }
     {
         match form {
-            Form::Var(_) | Form::Else | Form::End => Ok(()),
+            Form::Var(_) | Form::Else | Form::End | Form::Barrier => Ok(()),
             Form::Array(_, length) => {
                 self.great = *length > GREATEST;
                 Ok(())
@@ -130,6 +130,17 @@ impl Survey {
                 Ok(())
             }
             Form::Print(value) => self.expression(alloc, scope, value),
+            Form::Bcast(root, buffer) => {
+                self.expression(alloc, scope, root)?;
+                self.either(scope, buffer);
+                Ok(())
+            }
+            Form::Reduce(_, root, value, variable) => {
+                self.expression(alloc, scope, root)?;
+                self.expression(alloc, scope, value)?;
+                self.variable(scope, variable);
+                Ok(())
+            }
         }
     }
 

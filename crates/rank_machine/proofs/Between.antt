@@ -1,28 +1,29 @@
--- A message that a machine may be given or shown is one between two ranks, as each selector that a state wants names just such:
--- so its tag and its number of items are within their limits.
+-- A message that a machine may be shown is one between two ranks, as each probe that a state wants names just such: so its tag
+-- and its number of items are within their limits. And so is one that a receive takes.
 use Rattle.std.proofs.Common.{◌≡◌, ◌≤◌, length, Ok, Err, Option, Some, None, IfOk, refl, subst, ◌∙◌}
 use Rattle.metered.specs.Limits as limits
 use Rattle.matching.specs.declared.packet.Context.TheVariants.{PointToPoint}
 use Rattle.matching.specs.declared.selector.Selector.{Selector}
 use Rattle.matching.specs.Message as packet
 use Rattle.matching.specs.Message.{IsMessage, most_items, greatest_tag}
-use Rattle.rank_language.specs.Placed.{Choice, declare, declare_array, assign, assign_item, send, receive, probe, try_probe, print}
+use Rattle.rank_language.specs.Placed.{Choice, declare, declare_array, assign, assign_item, send, receive, probe, try_probe, print, Collective, collect}
 use Rattle.rank_language.specs.Block.{Block, done, plain, if_only, if_else, loop}
 use Rattle.rank_machine.specs.declared.fault.MachineFault.{MachineFault}
 use Rattle.rank_machine.specs.declared.want.Want.{Want}
 use Rattle.rank_machine.specs.declared.want.Want.TheVariants as want
-use Rattle.rank_machine.specs.Values.{Store, Valued, ◌>>=◌, value}
+use Rattle.rank_machine.specs.Values.{Store, Valued, ◌>>=◌, value, rank_in}
+use Rattle.rank_machine.specs.Collectives.{Call, called, Part, gives, gets, ends, part_of, ended}
 use Rattle.rank_machine.specs.States.{item_value}
-use Rattle.rank_machine.specs.Wants.{rank_in, tag_in, items_of, choice_value, where_named, selector_of, or_fault, want_of, wants}
+use Rattle.rank_machine.specs.Wants.{tag_in, items_of, choice_value, where_named, selector_of, part_want, collective_want, or_fault, want_of, wants}
 use Rattle.rank_machine.specs.Machine.{MachineValue, state_of, line_at, asks, IsShowing}
 use Rattle.rank_machine.proofs.Going.{asks_only}
 use Rattle.rank_machine.proofs.Making.{named}
 
--- what is wanted names just messages between two ranks, where it names any
+-- a probe that is wanted names just messages between two ranks
 abbrev IsBetween : Want → Type 0
 IsBetween want.Internal = Unit {0}
 IsBetween (want.Send d c t) = Unit {0}
-IsBetween (want.Receive w) = w.context ≡ PointToPoint
+IsBetween (want.Receive w) = Unit {0}
 IsBetween (want.Probe w) = w.context ≡ PointToPoint
 IsBetween (want.TryProbe w) = w.context ≡ PointToPoint
 IsBetween (want.Print z) = Unit {0}
@@ -50,6 +51,15 @@ unasked : {A : Type 0} (v : Valued A) (f : A → Valued Want) → ((x : A) → I
 unasked (Ok x) f h = h x
 unasked (Err k) f h = tt
 
+-- a collective makes no probe
+part_between : (s : Store) (c : Collective) (call : Call) (p : Part) → IsBetween (or_fault (part_want s c call p))
+part_between s c call (gives d) = tt
+part_between s c call (gets q) = tt
+part_between s c call ends = unasked (ended s c call) _ (λ s'. tt)
+
+collective_between : (s : Store) (c : Collective) → IsBetween (or_fault (collective_want s c))
+collective_between s c = unasked (called s c) _ (λ call. part_between s c call (part_of s call))
+
 wants_between : (s : Store) (b : Block) (k : Option MachineFault) → IsBetween (want_of s b k)
 wants_between s b (Some k) = tt
 wants_between s done None = tt
@@ -59,10 +69,11 @@ wants_between s (plain (assign p e) r) None = unasked (value s e) _ (λ z. tt)
 wants_between s (plain (assign_item p i e) r) None = unasked (item_value s p i e) _ (λ x. tt)
 wants_between s (plain (send d t p) r) None =
     unasked (value s d) _ (λ x. unasked (value s t) _ (λ y. unasked (items_of s p) _ (λ items. unasked (rank_in s.size x) _ (λ dest. unasked (tag_in y) _ (λ tag. tt)))))
-wants_between s (plain (receive c t b) r) None = asked_by (selector_of s c t) want.Receive (selects s c t) (λ w h. h)
+wants_between s (plain (receive c t b) r) None = asked_by (selector_of s c t) want.Receive (selects s c t) (λ w h. tt)
 wants_between s (plain (probe c t) r) None = asked_by (selector_of s c t) want.Probe (selects s c t) (λ w h. h)
 wants_between s (plain (try_probe c t x) r) None = asked_by (selector_of s c t) want.TryProbe (selects s c t) (λ w h. h)
 wants_between s (plain (print e) r) None = unasked (value s e) _ (λ z. tt)
+wants_between s (plain (collect c) r) None = collective_between s c
 wants_between s (if_only e y r) None = unasked (value s e) _ (λ z. tt)
 wants_between s (if_else e y o r) None = unasked (value s e) _ (λ z. tt)
 wants_between s (loop e y r) None = unasked (value s e) _ (λ z. tt)

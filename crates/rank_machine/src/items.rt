@@ -1,5 +1,5 @@
 //! The items of one array.
-ghost use Rattle.std.specs.Prelude.{◌≡◌, ◌<◌, ◌≤◌, IfOk, length, map, pos, replicate, slice_set};
+ghost use Rattle.std.specs.Prelude.{◌≡◌, ◌<◌, ◌≤◌, ◌++◌, IfOk, length, map, pos, replicate, slice_set};
 ghost use Rattle.metered.specs.Limits.{most_items};
 ghost use Rattle.rank_lines.specs.SeenLines.{arrays_seen};
 ghost use Rattle.rank_language.specs.Program.{AllSized};
@@ -101,6 +101,14 @@ impl Items {
         ensures length { length self.new ≡ length self.old }
     {
         lay(items, &mut self.items);
+    }
+
+    /// All items go behind others.
+    pub fn append_to(&self, others: &mut Vec<i64, Heap>) -> Result<(), AllocError>
+        ensures items { IfOk result (λ _. others.new.items ≡ others.old.items ++ self.now) }
+        ensures most { length self.now ≤ most_items }
+    {
+        others.extend_from_slice(&self.items)
     }
 
     /// All items, in memory of their own.

@@ -1,6 +1,7 @@
 //! What a machine holds besides its program, rank and number of ranks.
 
 use crate::fault::MachineFault;
+use crate::gathered::Gathered;
 use crate::items::Items;
 use crate::status::Status;
 use metered::Heap;
@@ -13,6 +14,12 @@ pub struct Parts {
     /// The fault that an act left, if one did.
     pub fault: Option<MachineFault>,
     pub status: Status,
+    /// How many collectives it has finished, up to `GREATEST_CLOCK` of `metered::limits`.
+    pub finished: u32,
+    /// How many parts of the collective that stands are done, 0 where none stands.
+    pub done: u16,
+    /// What it has gathered of the reduce that stands, with room for as many values as ranks.
+    pub gathered: Gathered,
     /// In the order of declaration, as the arrays are.
     pub variables: Vec<i64, Heap>,
     pub arrays: Vec<Items, Heap>,

@@ -9,12 +9,17 @@ use Rattle.rank_text.specs.declared.token.Operator.{Operator}
 use Rattle.rank_text.specs.declared.token.Operator.TheVariants.{Add, Subtract, Multiply, Divide, Remainder, Equal, NotEqual, Less, LessEqual, Greater, GreaterEqual}
 use Rattle.rank_text.specs.declared.token.Reading.{Reading}
 use Rattle.rank_text.specs.declared.token.Reading.TheVariants as reads
+use Rattle.rank_text.specs.declared.token.Reduction.{Reduction}
+use Rattle.rank_text.specs.declared.token.Reduction.TheVariants as reduces
 use Rattle.rank_text.specs.declared.token.Token.{Token}
 use Rattle.rank_text.specs.declared.token.Token.TheVariants as t
 use Rattle.rank_text.specs.Tree.{Tree, number, variable, item, reading, negation, operation}
-use Rattle.rank_text.specs.Forms.{Choice, any, value, Payload, lone, one, Form, var_form, array_form, let_form, item_form, if_form, else_form, end_form, while_form, send_form, recv_form, probe_form, try_probe_form, print_form}
+use Rattle.rank_text.specs.Forms.{Choice, any, value, Payload, lone, one}
+use Rattle.rank_text.specs.Forms.{Form, var_form, array_form, let_form, item_form, if_form, else_form, end_form, while_form}
+use Rattle.rank_text.specs.Forms.{send_form, recv_form, probe_form, try_probe_form, print_form, barrier_form, bcast_form, reduce_form}
 use Rattle.rank_lines.specs.Scope.{nodes, deepest}
-use Rattle.rank_print.specs.Canonical.{operator_text, reading_text, is_operation, operand_text, expression_text, choice_text, payload_text, form_text, indentation}
+use Rattle.rank_print.specs.Canonical.{operator_text, reading_text, is_operation, operand_text, expression_text}
+use Rattle.rank_print.specs.Canonical.{choice_text, payload_text, reduction_text, form_text, indentation}
 use Rattle.rank_print.proofs.PrintedTokens.{operand_tokens, expression_tokens, choice_tokens, payload_tokens, form_tokens}
 use Rattle.rank_print.proofs.Fitting.{IsPlain, IsFit, ChoiceFits, PayloadFits, FormFits}
 
@@ -108,6 +113,10 @@ form_shallow (probe_form s g) h = two_shallow (choice_tokens s) (choice_tokens g
 form_shallow (try_probe_form s g x) h =
     three_shallow (choice_tokens s) (choice_tokens g) (t.Name x ∷ []) (choice_shallow s h.0) (choice_shallow g h.1) (λ k n us p d. d)
 form_shallow (print_form e) h = alone (expression_tokens e) (fit_shallow e h)
+form_shallow barrier_form h = none_open
+form_shallow (bcast_form r x) h = two_shallow (expression_tokens r) (t.Name x ∷ []) (fit_shallow r h.0) (λ k n us p d. d)
+form_shallow (reduce_form o r e x) h =
+    three_shallow (expression_tokens r) (expression_tokens e) (t.Name x ∷ []) (fit_shallow r h.0) (fit_shallow e h.1) (λ k n us p d. d)
 
 -- an operator takes at most 4 bytes
 operator_length : (o : Operator) → length (operator_text o) ≤ 4
@@ -130,6 +139,12 @@ reading_length reads.Size = omega arith
 reading_length reads.Source = omega arith
 reading_length reads.Tag = omega arith
 reading_length reads.Count = omega arith
+
+-- a word for a reduction takes 3
+reduction_length : (o : Reduction) → length (reduction_text o) ≤ 3
+reduction_length reduces.Sum = omega arith
+reduction_length reduces.Max = omega arith
+reduction_length reduces.Min = omega arith
 
 -- parentheses two more
 wrapped_length : (z : Bool) (text : List ℕ) → length (if z then codes "(" ++ text ++ codes ")" else text) ≤ length text + 2
@@ -219,6 +234,18 @@ form_length (probe_form s g) h =
 form_length (try_probe_form s g x) h =
     omega (arith, three_length (codes "iprobe ") (choice_text s) (choice_text g) x, choice_length s h.0, choice_length g h.1, h.2.1)
 form_length (print_form e) h = omega (arith, fit_length e h)
+form_length barrier_form h = omega arith
+form_length (bcast_form r x) h = omega (arith, between_length (codes "bcast " ++ expression_text r) (codes ", ") x, fit_length r h.0, h.1.1)
+form_length (reduce_form o r e x) h =
+    omega (
+      arith,
+      three_length (codes "reduce " ++ reduction_text o ++ codes ", ") (expression_text r) (expression_text e) x,
+      between_length (codes "reduce ") (reduction_text o) (codes ", "),
+      reduction_length o,
+      fit_length r h.0,
+      fit_length e h.1,
+      h.2.1,
+    )
 
 -- each open block takes two
 indentation_length : (depth : ℕ) → length (indentation depth) ≡ 2 * depth

@@ -3,7 +3,9 @@ use Rattle.std.proofs.Common.{ℕ, ◌^◌, ◌<◌, ◌≤◌, List, length}
 use Rattle.metered.specs.Limits.{most_name_bytes, most_nodes}
 use Rattle.rank_text.specs.Lexes.{IsName}
 use Rattle.rank_text.specs.Tree.{Tree, number, variable, item, reading, negation, operation}
-use Rattle.rank_text.specs.Forms.{Choice, any, value, Payload, lone, one, Form, var_form, array_form, let_form, item_form, if_form, else_form, end_form, while_form, send_form, recv_form, probe_form, try_probe_form, print_form}
+use Rattle.rank_text.specs.Forms.{Choice, any, value, Payload, lone, one}
+use Rattle.rank_text.specs.Forms.{Form, var_form, array_form, let_form, item_form, if_form, else_form, end_form, while_form}
+use Rattle.rank_text.specs.Forms.{send_form, recv_form, probe_form, try_probe_form, print_form, barrier_form, bcast_form, reduce_form}
 use Rattle.rank_lines.specs.Scope.{nodes}
 
 -- a name that isn't too long
@@ -48,3 +50,6 @@ FormFits (recv_form s g x) = ChoiceFits s × ChoiceFits g × IsShortName x
 FormFits (probe_form s g) = ChoiceFits s × ChoiceFits g
 FormFits (try_probe_form s g x) = ChoiceFits s × ChoiceFits g × IsShortName x
 FormFits (print_form e) = IsFit e
+FormFits barrier_form = Unit {0}
+FormFits (bcast_form r x) = IsFit r × IsShortName x
+FormFits (reduce_form o r e x) = IsFit r × IsFit e × IsShortName x

@@ -13,6 +13,8 @@ use Rattle.rank_text.specs.declared.token.Operator.{Operator}
 use Rattle.rank_text.specs.declared.token.Operator.TheVariants.{Add, Subtract, Multiply, Divide, Remainder, Equal, NotEqual, Less, LessEqual, Greater, GreaterEqual}
 use Rattle.rank_text.specs.declared.token.Reading.{Reading}
 use Rattle.rank_text.specs.declared.token.Reading.TheVariants as reads
+use Rattle.rank_text.specs.declared.token.Reduction.{Reduction}
+use Rattle.rank_text.specs.declared.token.Reduction.TheVariants as reduces
 use Rattle.rank_text.specs.declared.token.Token.{Token}
 use Rattle.rank_text.specs.declared.token.Token.TheVariants as t
 use Rattle.rank_text.specs.Tokens.{is_letter, is_digit, is_word_byte, control_words, message_words, reading_words, argument_words}
@@ -20,8 +22,11 @@ use Rattle.rank_text.specs.Lexes.{space, AllAre, StopsAt, IsWord, word_token, Is
 use Rattle.rank_text.specs.Lexes.{is_add, is_subtract, is_multiply, is_divide, is_remainder, is_open_parenthesis, is_close_parenthesis, is_open_bracket, is_close_bracket, is_comma, is_assign, is_less, is_greater, is_equal, is_not_equal, is_less_equal, is_greater_equal}
 use Rattle.rank_text.specs.Grammar.{minus}
 use Rattle.rank_text.specs.Tree.{Tree, number, variable, item, reading, negation, operation}
-use Rattle.rank_text.specs.Forms.{Choice, any, value, Payload, lone, one, Form, var_form, array_form, let_form, item_form, if_form, else_form, end_form, while_form, send_form, recv_form, probe_form, try_probe_form, print_form}
-use Rattle.rank_print.specs.Canonical.{operator_text, reading_text, is_operation, operand_text, expression_text, choice_text, payload_text, form_text, indentation}
+use Rattle.rank_text.specs.Forms.{Choice, any, value, Payload, lone, one}
+use Rattle.rank_text.specs.Forms.{Form, var_form, array_form, let_form, item_form, if_form, else_form, end_form, while_form}
+use Rattle.rank_text.specs.Forms.{send_form, recv_form, probe_form, try_probe_form, print_form, barrier_form, bcast_form, reduce_form}
+use Rattle.rank_print.specs.Canonical.{operator_text, reading_text, is_operation, operand_text, expression_text}
+use Rattle.rank_print.specs.Canonical.{choice_text, payload_text, reduction_text, form_text, indentation}
 use Rattle.rank_print.proofs.PrintedTokens.{operand_tokens, expression_tokens, choice_tokens, payload_tokens, form_tokens}
 use Rattle.rank_print.proofs.Fitting.{IsShortName, IsPlain, ChoiceFits, PayloadFits, FormFits}
 
@@ -313,6 +318,28 @@ print_closed : Closed (codes "print ") (t.Keyword k.Print ∷ [])
 unfolding control_words message_words reading_words argument_words
 print_closed = λ line ts l. word_closed (codes "print") (t.Keyword k.Print) (refl, (refl, (refl, (refl, (refl, tt))))) refl line ts l
 
+bcast_closed : Closed (codes "bcast ") (t.Keyword k.Bcast ∷ [])
+unfolding control_words message_words reading_words argument_words
+bcast_closed = λ line ts l. word_closed (codes "bcast") (t.Keyword k.Bcast) (refl, (refl, (refl, (refl, (refl, tt))))) refl line ts l
+
+reduce_closed : Closed (codes "reduce ") (t.Keyword k.Reduce ∷ [])
+unfolding control_words message_words reading_words argument_words
+reduce_closed = λ line ts l. word_closed (codes "reduce") (t.Keyword k.Reduce) (refl, (refl, (refl, (refl, (refl, (refl, tt)))))) refl line ts l
+
+-- the words for how a reduction combines two values
+reduction_reads : (o : Reduction) → Reads (reduction_text o) (t.Reduction o ∷ [])
+unfolding control_words message_words reading_words argument_words
+reduction_reads reduces.Sum = word_reads (codes "sum") (t.Reduction reduces.Sum) (refl, (refl, (refl, tt))) refl
+reduction_reads reduces.Max = word_reads (codes "max") (t.Reduction reduces.Max) (refl, (refl, (refl, tt))) refl
+reduction_reads reduces.Min = word_reads (codes "min") (t.Reduction reduces.Min) (refl, (refl, (refl, tt))) refl
+
+-- the statement word of a reduction, how it combines, and a comma
+reduction_closed : (o : Reduction) → Closed (codes "reduce " ++ reduction_text o ++ codes ", ") (t.Keyword k.Reduce ∷ t.Reduction o ∷ t.Comma ∷ [])
+reduction_closed o =
+    let front = closed_then (codes "reduce ") (reduction_text o) (t.Keyword k.Reduce ∷ []) (t.Reduction o ∷ []) reduce_closed (reduction_reads o) in
+    then_closed (codes "reduce " ++ reduction_text o) (codes ", ") (t.Keyword k.Reduce ∷ t.Reduction o ∷ []) (t.Comma ∷ []) front
+    comma_closed (λ line. refl)
+
 else_reads : Reads (codes "else") (t.Keyword k.Else ∷ [])
 unfolding control_words message_words reading_words argument_words
 else_reads = word_reads (codes "else") (t.Keyword k.Else) (refl, (refl, (refl, (refl, tt)))) refl
@@ -320,6 +347,10 @@ else_reads = word_reads (codes "else") (t.Keyword k.Else) (refl, (refl, (refl, (
 end_reads : Reads (codes "end") (t.Keyword k.End ∷ [])
 unfolding control_words message_words reading_words argument_words
 end_reads = word_reads (codes "end") (t.Keyword k.End) (refl, (refl, (refl, tt))) refl
+
+barrier_reads : Reads (codes "barrier") (t.Keyword k.Barrier ∷ [])
+unfolding control_words message_words reading_words argument_words
+barrier_reads = word_reads (codes "barrier") (t.Keyword k.Barrier) (refl, (refl, (refl, (refl, (refl, (refl, (refl, tt))))))) refl
 
 -- two arguments behind a word, with a comma between them
 two_reads : (word a b : List ℕ) (w : Token) (xs ys : List Token) → Closed word (w ∷ []) → Reads a xs → Reads b ys
@@ -334,6 +365,22 @@ three_reads word a b c w xs ys zs p q r s =
     let second = two_reads word a b w xs ys p q r in
     let third = between (word ++ a ++ codes ", " ++ b) (codes ", ") c (w ∷ (xs ++ t.Comma ∷ ys)) (t.Comma ∷ []) zs second comma_closed (λ line. refl) s in
     subst (λ z. Reads (word ++ a ++ codes ", " ++ b ++ codes ", " ++ c) (w ∷ z)) (append_assoc xs (t.Comma ∷ ys) (t.Comma ∷ zs)) third
+
+-- a reduction with its root, its value and the root's variable
+reduce_reads : (o : Reduction) (a b c : List ℕ) (xs ys zs : List Token) → Reads a xs → Reads b ys → Reads c zs
+    → Reads (codes "reduce " ++ reduction_text o ++ codes ", " ++ a ++ codes ", " ++ b ++ codes ", " ++ c)
+    (t.Keyword k.Reduce ∷ t.Reduction o ∷ t.Comma ∷ (xs ++ t.Comma ∷ (ys ++ t.Comma ∷ zs)))
+reduce_reads o a b c xs ys zs q r s =
+    let word = codes "reduce " ++ reduction_text o ++ codes ", " in
+    let front = closed_then word a (t.Keyword k.Reduce ∷ t.Reduction o ∷ t.Comma ∷ []) xs (reduction_closed o) q in
+    let second =
+    between (word ++ a) (codes ", ") b (t.Keyword k.Reduce ∷ t.Reduction o ∷ t.Comma ∷ xs) (t.Comma ∷ []) ys
+    front comma_closed (λ line. refl) r in
+    let third =
+    between (word ++ a ++ codes ", " ++ b) (codes ", ") c (t.Keyword k.Reduce ∷ t.Reduction o ∷ t.Comma ∷ (xs ++ t.Comma ∷ ys)) (t.Comma ∷ []) zs
+    second comma_closed (λ line. refl) s in
+    subst (λ z. Reads (word ++ a ++ codes ", " ++ b ++ codes ", " ++ c) (t.Keyword k.Reduce ∷ t.Reduction o ∷ t.Comma ∷ z))
+    (append_assoc xs (t.Comma ∷ ys) (t.Comma ∷ zs)) third
 
 -- a statement has its tokens
 pub form_reads : (f : Form) → FormFits f → Reads (form_text f) (form_tokens f)
@@ -372,6 +419,13 @@ form_reads (try_probe_form s g x) h =
     try_probe_closed (choice_reads s h.0) (choice_reads g h.1) (name_reads x h.2)
 form_reads (print_form e) h =
     closed_then (codes "print ") (expression_text e) (t.Keyword k.Print ∷ []) (expression_tokens e) print_closed (expression_reads e h.0)
+form_reads barrier_form h = barrier_reads
+form_reads (bcast_form r x) h =
+    two_reads (codes "bcast ") (expression_text r) x (t.Keyword k.Bcast) (expression_tokens r) (t.Name x ∷ [])
+    bcast_closed (expression_reads r h.0.0) (name_reads x h.1)
+form_reads (reduce_form o r e x) h =
+    reduce_reads o (expression_text r) (expression_text e) x (expression_tokens r) (expression_tokens e) (t.Name x ∷ [])
+    (expression_reads r h.0.0) (expression_reads e h.1.0) (name_reads x h.2)
 
 -- spaces in front change no tokens
 indented_lexes : (depth : ℕ) {line : List ℕ} {ts : List Token} → Lexes line ts → Lexes (indentation depth ++ line) ts

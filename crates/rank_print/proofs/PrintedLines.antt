@@ -7,7 +7,8 @@ use Rattle.rank_text.specs.declared.token.Token.{Token}
 use Rattle.rank_text.specs.Tokens.{is_letter, is_digit, is_word_byte, is_between, control_words, message_words, reading_words, argument_words}
 use Rattle.rank_text.specs.Lexes.{AllAre, IsWord, IsNumber, Symbol, Lexes, is_end, is_space, is_word, is_number, is_symbol}
 use Rattle.rank_text.specs.Lexes.{is_add, is_subtract, is_multiply, is_divide, is_remainder, is_open_parenthesis, is_close_parenthesis, is_open_bracket, is_close_bracket, is_comma, is_assign, is_less, is_greater, is_equal, is_not_equal, is_less_equal, is_greater_equal}
-use Rattle.rank_text.specs.Forms.{Form, var_form, array_form, let_form, item_form, if_form, else_form, end_form, while_form, send_form, recv_form, probe_form, try_probe_form, print_form}
+use Rattle.rank_text.specs.Forms.{Form, var_form, array_form, let_form, item_form, if_form, else_form, end_form, while_form}
+use Rattle.rank_text.specs.Forms.{send_form, recv_form, probe_form, try_probe_form, print_form, barrier_form, bcast_form, reduce_form}
 use Rattle.rank_lines.specs.Lines.{lines_of, onto_first, without_spaces, begins_comment, is_skipped, is_text, front_word, is_keyword, is_statement}
 use Rattle.rank_text.specs.Tokens.{found_in, reserved}
 use Rattle.rank_print.specs.Canonical.{form_text, indentation}
@@ -86,6 +87,9 @@ form_states (recv_form s g x) = refl
 form_states (probe_form s g) = refl
 form_states (try_probe_form s g x) = refl
 form_states (print_form e) = refl
+form_states barrier_form = refl
+form_states (bcast_form r x) = refl
+form_states (reduce_form o r e x) = refl
 
 -- and so isn't skipped
 form_unskipped : (f : Form) → begins_comment (without_spaces (form_text f)) ≡ false
@@ -102,6 +106,9 @@ form_unskipped (recv_form s g x) = refl
 form_unskipped (probe_form s g) = refl
 form_unskipped (try_probe_form s g x) = refl
 form_unskipped (print_form e) = refl
+form_unskipped barrier_form = refl
+form_unskipped (bcast_form r x) = refl
+form_unskipped (reduce_form o r e x) = refl
 
 -- the indentation is only spaces
 unindented : (depth : ℕ) (line : List ℕ) → without_spaces (indentation depth ++ line) ≡ without_spaces line

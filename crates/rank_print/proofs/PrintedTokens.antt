@@ -12,8 +12,11 @@ use Rattle.rank_text.specs.declared.token.Token.{Token}
 use Rattle.rank_text.specs.declared.token.Token.TheVariants as t
 use Rattle.rank_text.specs.Tree.{Tree, number, variable, item, reading, negation, operation}
 use Rattle.rank_text.specs.Grammar.{strength, minus, whole, atom, Spells, is_number, is_variable, is_reading, is_item, in_parentheses, is_atom, negated, is_unary, multiplied, is_product, added, is_sum, compared}
-use Rattle.rank_text.specs.Forms.{Choice, any, value, Payload, lone, one, Form, var_form, array_form, let_form, item_form, if_form, else_form, end_form, while_form, send_form, recv_form, probe_form, try_probe_form, print_form}
+use Rattle.rank_text.specs.Forms.{Choice, any, value, Payload, lone, one}
+use Rattle.rank_text.specs.Forms.{Form, var_form, array_form, let_form, item_form, if_form, else_form, end_form, while_form}
+use Rattle.rank_text.specs.Forms.{send_form, recv_form, probe_form, try_probe_form, print_form, barrier_form, bcast_form, reduce_form}
 use Rattle.rank_text.specs.Forms.{IsChoice, is_any, is_value, IsNoName, IsPayload, is_lone, is_one, IsForm, is_var, is_array, is_let, is_let_item, is_if, is_else, is_end, is_while, is_send, is_recv, is_probe, is_try_probe, is_print}
+use Rattle.rank_text.specs.Forms.{is_barrier, is_bcast, is_reduce}
 use Rattle.rank_print.specs.Canonical.{is_operation, IsCanonicalPayload, IsCanonical}
 
 -- an operand with these tokens, in parentheses where it is itself an operation
@@ -57,6 +60,10 @@ form_tokens (probe_form s g) = t.Keyword k.Probe ∷ (choice_tokens s ++ t.Comma
 form_tokens (try_probe_form s g x) =
     t.Keyword k.Iprobe ∷ (choice_tokens s ++ t.Comma ∷ (choice_tokens g ++ t.Comma ∷ (t.Name x ∷ [])))
 form_tokens (print_form e) = t.Keyword k.Print ∷ expression_tokens e
+form_tokens barrier_form = t.Keyword k.Barrier ∷ []
+form_tokens (bcast_form r x) = t.Keyword k.Bcast ∷ (expression_tokens r ++ t.Comma ∷ (t.Name x ∷ []))
+form_tokens (reduce_form o r e x) =
+    t.Keyword k.Reduce ∷ t.Reduction o ∷ t.Comma ∷ (expression_tokens r ++ t.Comma ∷ (expression_tokens e ++ t.Comma ∷ (t.Name x ∷ [])))
 
 -- an atom is a whole expression
 of_atom : {ts : List Token} {e : Tree} → Spells atom ts e → Spells whole ts e
@@ -130,3 +137,6 @@ form_spells (recv_form s g x) c = is_recv (choice_spells s) (choice_spells g)
 form_spells (probe_form s g) c = is_probe (choice_spells s) (choice_spells g)
 form_spells (try_probe_form s g x) c = is_try_probe (choice_spells s) (choice_spells g)
 form_spells (print_form e) c = is_print (expression_spells e)
+form_spells barrier_form c = is_barrier
+form_spells (bcast_form r x) c = is_bcast (expression_spells r)
+form_spells (reduce_form o r e x) c = is_reduce (expression_spells r) (expression_spells e)

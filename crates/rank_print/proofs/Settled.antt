@@ -2,7 +2,8 @@
 -- is always a text, of the canonical statements.
 use Rattle.std.proofs.Common.{◌≡◌, ℕ, Bool, true, false, ◌&&◌, ◌||◌, List, [], ◌∷◌, ◌++◌, length, codes, refl, sym, ap, subst, ◌∙◌, arith}
 use Rattle.rank_text.specs.Tree.{number, variable, item, reading, negation, operation}
-use Rattle.rank_text.specs.Forms.{Payload, lone, one, Form, var_form, array_form, let_form, item_form, if_form, else_form, end_form, while_form, send_form, recv_form, probe_form, try_probe_form, print_form}
+use Rattle.rank_text.specs.Forms.{Payload, lone, one, Form, var_form, array_form, let_form, item_form, if_form, else_form, end_form, while_form}
+use Rattle.rank_text.specs.Forms.{send_form, recv_form, probe_form, try_probe_form, print_form, barrier_form, bcast_form, reduce_form}
 use Rattle.rank_lines.specs.Faults.{IsText}
 use Rattle.rank_lines.specs.Scope.{Scope, nothing_yet, is_array, all_declared, payload_declared, is_large, payload_is_large, is_great, payload_is_great, after, after_all, MayStand, AllMayStand, IsWhole}
 use Rattle.rank_print.specs.Canonical.{expression_text, payload_text, form_text, depth_of, depth_after, indentation, text_from, program_text, IsCanonicalPayload, IsCanonical, AllCanonical, canonical_payload, canonical, all_canonical}
@@ -87,6 +88,9 @@ form_stands s (recv_form c g x) m = m
 form_stands s (probe_form c g) m = m
 form_stands s (try_probe_form c g x) m = m
 form_stands s (print_form e) m = m
+form_stands s barrier_form m = m
+form_stands s (bcast_form r x) m = m
+form_stands s (reduce_form o r e x) m = m
 
 -- and leaves what it left
 form_leaves : (s : Scope) (f : Form) → after s (canonical f) ≡ after s f
@@ -103,6 +107,9 @@ form_leaves s (recv_form c g x) = refl
 form_leaves s (probe_form c g) = refl
 form_leaves s (try_probe_form c g x) = refl
 form_leaves s (print_form e) = refl
+form_leaves s barrier_form = refl
+form_leaves s (bcast_form r x) = refl
+form_leaves s (reduce_form o r e x) = refl
 
 form_canonical : (f : Form) → IsCanonical (canonical f)
 form_canonical (var_form x) = tt
@@ -118,6 +125,9 @@ form_canonical (recv_form c g x) = tt
 form_canonical (probe_form c g) = tt
 form_canonical (try_probe_form c g x) = tt
 form_canonical (print_form e) = tt
+form_canonical barrier_form = tt
+form_canonical (bcast_form r x) = tt
+form_canonical (reduce_form o r e x) = tt
 
 -- its line is the same, and so is where the next one begins
 abbrev IsSameLine : ℕ → Form → Type 0
@@ -138,6 +148,9 @@ same_line depth (recv_form c g x) = (refl, refl, refl)
 same_line depth (probe_form c g) = (refl, refl, refl)
 same_line depth (try_probe_form c g x) = (refl, refl, refl)
 same_line depth (print_form e) = (refl, refl, refl)
+same_line depth barrier_form = (refl, refl, refl)
+same_line depth (bcast_form r x) = (refl, refl, refl)
+same_line depth (reduce_form o r e x) = (refl, refl, refl)
 
 -- the text is the same
 same_text : (depth : ℕ) (fs : List Form) → text_from depth (all_canonical fs) ≡ text_from depth fs

@@ -9,7 +9,9 @@ use Rattle.std.proofs.lemmas.Bool.Decides.{nat_tests}
 use Rattle.metered.specs.Limits.{most_lines, most_blocks, most_name_bytes, most_nodes, most_parentheses}
 use Rattle.rank_text.specs.declared.token.Token.{Token}
 use Rattle.rank_text.specs.Tree.{Tree, number, variable, item, reading, negation, operation}
-use Rattle.rank_text.specs.Forms.{Choice, any, value, Payload, lone, one, Form, var_form, array_form, let_form, item_form, if_form, else_form, end_form, while_form, send_form, recv_form, probe_form, try_probe_form, print_form}
+use Rattle.rank_text.specs.Forms.{Choice, any, value, Payload, lone, one}
+use Rattle.rank_text.specs.Forms.{Form, var_form, array_form, let_form, item_form, if_form, else_form, end_form, while_form}
+use Rattle.rank_text.specs.Forms.{send_form, recv_form, probe_form, try_probe_form, print_form, barrier_form, bcast_form, reduce_form}
 use Rattle.rank_lines.specs.declared.fault.FaultKind.{FaultKind}
 use Rattle.rank_lines.specs.Lines.{is_statement}
 use Rattle.rank_lines.specs.Faults.{IsFormed, Holds, other_byte, no_word, no_form, unknown_name, known_name, no_block, long_line, late_line, over, great_number}
@@ -141,6 +143,16 @@ fits_of s (try_probe_form c g x) h m =
     let j = or_fails (choice_is_great c) (choice_is_great g) m.fitting in
     (choice_fits s c h b.0 l.0 j.0, choice_fits s g h b.1 l.1 j.1, variable_short s x h a.1)
 fits_of s (print_form e) h m = fit_of s e h m.declared m.sized m.fitting
+fits_of s barrier_form h m = tt
+fits_of s (bcast_form r x) h m =
+    let a = and_parts (all_declared s r) (is_declared s x) m.declared in
+    (fit_of s r h a.0 m.sized m.fitting, declared_short s x h a.1)
+fits_of s (reduce_form o r e x) h m =
+    let a = and_parts (all_declared s r && all_declared s e) (is_variable s x) m.declared in
+    let b = and_parts (all_declared s r) (all_declared s e) a.0 in
+    let l = or_fails (is_large r) (is_large e) m.sized in
+    let j = or_fails (is_great r) (is_great e) m.fitting in
+    (fit_of s r h b.0 l.0 j.0, fit_of s e h b.1 l.1 j.1, variable_short s x h a.1)
 
 -- a name more
 short_push : (ys : List (List ℕ)) (x : List ℕ) → AllShort ys → IsShortName x → AllShort (ys ++ x ∷ [])
@@ -168,6 +180,9 @@ named_after s (recv_form c g x) h m = h
 named_after s (probe_form c g) h m = h
 named_after s (try_probe_form c g x) h m = h
 named_after s (print_form e) h m = h
+named_after s barrier_form h m = h
+named_after s (bcast_form r x) h m = h
+named_after s (reduce_form o r e x) h m = h
 
 -- the other branch is as deep as the first
 other_length : (bs : List Opened) → length (other_branch bs) ≡ length bs
@@ -194,6 +209,9 @@ depth_goes s (recv_form c g x) depth q = q
 depth_goes s (probe_form c g) depth q = q
 depth_goes s (try_probe_form c g x) depth q = q
 depth_goes s (print_form e) depth q = q
+depth_goes s barrier_form depth q = q
+depth_goes s (bcast_form r x) depth q = q
+depth_goes s (reduce_form o r e x) depth q = q
 
 -- a table of blocks that has room
 room_in : (n : ℕ) → nat_le most_blocks n ≡ false → n < most_blocks
@@ -214,6 +232,9 @@ blocks_few s (recv_form c g x) m h = h
 blocks_few s (probe_form c g) m h = h
 blocks_few s (try_probe_form c g x) m h = h
 blocks_few s (print_form e) m h = h
+blocks_few s barrier_form m h = h
+blocks_few s (bcast_form r x) m h = h
+blocks_few s (reduce_form o r e x) m h = h
 
 -- a line isn't indented deeper
 pub depth_least : (depth : ℕ) (f : Form) → depth_of depth f ≤ depth
@@ -230,6 +251,9 @@ depth_least depth (recv_form c g x) = omega arith
 depth_least depth (probe_form c g) = omega arith
 depth_least depth (try_probe_form c g x) = omega arith
 depth_least depth (print_form e) = omega arith
+depth_least depth barrier_form = omega arith
+depth_least depth (bcast_form r x) = omega arith
+depth_least depth (reduce_form o r e x) = omega arith
 
 -- parentheses that nest no deeper than they may aren't too many
 shallow_test : (n : ℕ) → n ≤ most_parentheses → nat_lt most_parentheses n ≡ false

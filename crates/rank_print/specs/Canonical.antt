@@ -6,7 +6,11 @@ use Rattle.rank_text.specs.declared.token.Operator.TheVariants.{Add, Subtract, M
 use Rattle.rank_text.specs.declared.token.Reading.{Reading}
 use Rattle.rank_text.specs.declared.token.Reading.TheVariants as reads
 use Rattle.rank_text.specs.Tree.{Tree, number, variable, item, reading, negation, operation}
-use Rattle.rank_text.specs.Forms.{Choice, any, value, Payload, lone, one, Form, var_form, array_form, let_form, item_form, if_form, else_form, end_form, while_form, send_form, recv_form, probe_form, try_probe_form, print_form}
+use Rattle.rank_text.specs.declared.token.Reduction.{Reduction}
+use Rattle.rank_text.specs.declared.token.Reduction.TheVariants as reduces
+use Rattle.rank_text.specs.Forms.{Choice, any, value, Payload, lone, one}
+use Rattle.rank_text.specs.Forms.{Form, var_form, array_form, let_form, item_form, if_form, else_form, end_form, while_form}
+use Rattle.rank_text.specs.Forms.{send_form, recv_form, probe_form, try_probe_form, print_form, barrier_form, bcast_form, reduce_form}
 
 -- the sign of an operator, with a space on both sides
 abbrev pub operator_text : Operator → List ℕ
@@ -62,6 +66,12 @@ abbrev pub payload_text : Payload → List ℕ
 payload_text (lone x) = x
 payload_text (one e) = expression_text e
 
+-- the word for how a reduction combines two values
+abbrev pub reduction_text : Reduction → List ℕ
+reduction_text reduces.Sum = codes "sum"
+reduction_text reduces.Max = codes "max"
+reduction_text reduces.Min = codes "min"
+
 -- a statement, with a space after its word and after each comma
 abbrev pub form_text : Form → List ℕ
 form_text (var_form x) = codes "var " ++ x
@@ -77,6 +87,10 @@ form_text (recv_form s g x) = codes "recv " ++ choice_text s ++ codes ", " ++ ch
 form_text (probe_form s g) = codes "probe " ++ choice_text s ++ codes ", " ++ choice_text g
 form_text (try_probe_form s g x) = codes "iprobe " ++ choice_text s ++ codes ", " ++ choice_text g ++ codes ", " ++ x
 form_text (print_form e) = codes "print " ++ expression_text e
+form_text barrier_form = codes "barrier"
+form_text (bcast_form r x) = codes "bcast " ++ expression_text r ++ codes ", " ++ x
+form_text (reduce_form o r e x) =
+    codes "reduce " ++ reduction_text o ++ codes ", " ++ expression_text r ++ codes ", " ++ expression_text e ++ codes ", " ++ x
 
 -- what a statement does to the blocks that are open
 pub data Nesting : Type 0 where
@@ -100,6 +114,9 @@ nesting_of (recv_form s g x) = stays
 nesting_of (probe_form s g) = stays
 nesting_of (try_probe_form s g x) = stays
 nesting_of (print_form e) = stays
+nesting_of barrier_form = stays
+nesting_of (bcast_form r x) = stays
+nesting_of (reduce_form o r e x) = stays
 
 -- how far a line is indented where this many blocks are open: `else` and `end` stand as the line that opened their block
 abbrev pub indented_by : ℕ → Nesting → ℕ
@@ -166,6 +183,9 @@ IsCanonical (recv_form s g x) = Unit {0}
 IsCanonical (probe_form s g) = Unit {0}
 IsCanonical (try_probe_form s g x) = Unit {0}
 IsCanonical (print_form e) = Unit {0}
+IsCanonical barrier_form = Unit {0}
+IsCanonical (bcast_form r x) = Unit {0}
+IsCanonical (reduce_form o r e x) = Unit {0}
 
 -- so is each of the statements
 abbrev pub AllCanonical : List Form → Type 0
@@ -197,6 +217,9 @@ canonical (recv_form s g x) = recv_form s g x
 canonical (probe_form s g) = probe_form s g
 canonical (try_probe_form s g x) = try_probe_form s g x
 canonical (print_form e) = print_form e
+canonical barrier_form = barrier_form
+canonical (bcast_form r x) = bcast_form r x
+canonical (reduce_form o r e x) = reduce_form o r e x
 
 -- so of each of the statements
 abbrev pub all_canonical : List Form → List Form

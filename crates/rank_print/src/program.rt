@@ -20,6 +20,7 @@ fn depth_of(depth: usize, form: &Form) -> usize
         Form::If(_) | Form::While(_) => depth,
         Form::Send(..) | Form::Recv(..) => depth,
         Form::Probe(..) | Form::TryProbe(..) | Form::Print(_) => depth,
+        Form::Barrier | Form::Bcast(..) | Form::Reduce(..) => depth,
     }
 }
 
@@ -35,6 +36,7 @@ fn depth_after(depth: usize, form: &Form) -> usize
         Form::Var(_) | Form::Array(..) | Form::Let(..) | Form::LetItem(..) => depth,
         Form::Send(..) | Form::Recv(..) => depth,
         Form::Probe(..) | Form::TryProbe(..) | Form::Print(_) => depth,
+        Form::Barrier | Form::Bcast(..) | Form::Reduce(..) => depth,
     }
 }
 

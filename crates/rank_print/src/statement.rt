@@ -1,14 +1,15 @@
 //! Writes a statement.
 
 ghost use Rattle.std.specs.Prelude.{◌≡◌, ◌++◌, OnOk, codes};
-ghost use Rattle.rank_text.specs.Forms.{array_form, item_form, let_form, probe_form, recv_form, send_form, try_probe_form, var_form};
+ghost use Rattle.rank_text.specs.Forms.{array_form, bcast_form, item_form, let_form, probe_form, recv_form};
+ghost use Rattle.rank_text.specs.Forms.{reduce_form, send_form, try_probe_form, var_form};
 ghost use Rattle.rank_text.specs.SeenForms.{choice_of, form_seen, payload_seen};
 ghost use Rattle.rank_text.specs.Tree.{tree_of};
-ghost use Rattle.rank_print.specs.Canonical.{choice_text, expression_text, form_text, payload_text};
+ghost use Rattle.rank_print.specs.Canonical.{choice_text, expression_text, form_text, payload_text, reduction_text};
 
 use crate::expression::{put_expression, put_number};
 use metered::Heap;
-use rank_text::{Choice, Form, Name, Payload, Written};
+use rank_text::{Choice, Form, Name, Payload, Reduction, Written};
 use std::alloc::AllocError;
 
 fn put_choice(alloc: Heap, text: &mut Vec<u8, Heap>, choice: &Choice) -> Result<(), AllocError>
@@ -180,6 +181,52 @@ fn put_try_probe(
     text.extend_from_slice(flag.as_bytes())
 }
 
+fn put_broadcast(
+    alloc: Heap,
+    text: &mut Vec<u8, Heap>,
+    root: &Written,
+    buffer: &Name,
+) -> Result<(), AllocError>
+    ensures { OnOk result (text.new.items
+        ≡ text.old.items ++ form_text (bcast_form (tree_of root.now) buffer.now)) }
+{
+    put_with(alloc, text, b"bcast ", root)?;
+    put_comma(text)?;
+    text.extend_from_slice(buffer.as_bytes())
+}
+
+/// The word for how a reduction combines two values.
+fn reduction_word(reduction: Reduction) -> &'static [u8]
+    ensures { result.now ≡ reduction_text reduction }
+{
+    match reduction {
+        Reduction::Sum => b"sum",
+        Reduction::Max => b"max",
+        Reduction::Min => b"min",
+    }
+}
+
+fn put_reduction(
+    alloc: Heap,
+    text: &mut Vec<u8, Heap>,
+    reduction: Reduction,
+    root: &Written,
+    value: &Written,
+    place: &Name,
+) -> Result<(), AllocError>
+    ensures { OnOk result (text.new.items
+        ≡ text.old.items ++ form_text (reduce_form reduction (tree_of root.now) (tree_of value.now) place.now)) }
+{
+    text.extend_from_slice(b"reduce ".as_slice())?;
+    text.extend_from_slice(reduction_word(reduction))?;
+    put_comma(text)?;
+    put_expression(alloc, text, root)?;
+    put_comma(text)?;
+    put_expression(alloc, text, value)?;
+    put_comma(text)?;
+    text.extend_from_slice(place.as_bytes())
+}
+
 /// Writes a statement, without its line.
 pub(crate) fn put_form(alloc: Heap, text: &mut Vec<u8, Heap>, form: &Form) -> Result<(), AllocError>
     ensures { OnOk result (text.new.items ≡ text.old.items ++ form_text (form_seen form.now)) }
@@ -198,5 +245,10 @@ pub(crate) fn put_form(alloc: Heap, text: &mut Vec<u8, Heap>, form: &Form) -> Re
         Form::Probe(source, tag) => put_probe(alloc, text, source, tag),
         Form::TryProbe(source, tag, flag) => put_try_probe(alloc, text, source, tag, flag),
         Form::Print(value) => put_with(alloc, text, b"print ", value),
+        Form::Barrier => text.extend_from_slice(b"barrier".as_slice()),
+        Form::Bcast(root, buffer) => put_broadcast(alloc, text, root, buffer),
+        Form::Reduce(reduction, root, value, place) => {
+            put_reduction(alloc, text, *reduction, root, value, place)
+        }
     }
 }

@@ -7,6 +7,7 @@
 use Rattle.std.proofs.Common.{◌≡◌, ℕ, List, [], ◌∷◌, ◌++◌, Option, Some, None, Result, Ok, Err, IfOk, IfSome, refl, ap, ◌∙◌, sym, subst}
 use Rattle.std.specs.declared.alloc.AllocError.{AllocError}
 use Rattle.rank_text.specs.declared.token.Keyword.TheVariants as k
+use Rattle.rank_text.specs.declared.token.Reduction.{Reduction}
 use Rattle.rank_text.specs.declared.token.Token.{Token}
 use Rattle.rank_text.specs.declared.token.Token.TheVariants as t
 use Rattle.rank_text.specs.declared.form.Form as source_form
@@ -14,8 +15,11 @@ use Rattle.rank_text.specs.Tree.{Tree}
 use Rattle.rank_text.specs.Grammar.{Spells, whole}
 use Rattle.rank_text.specs.Reader.{expression_at, whole_expression}
 use Rattle.rank_text.specs.Forms.{Choice, value, Payload, one, Form, let_form, item_form, if_form, while_form, send_form, recv_form, probe_form, try_probe_form, print_form}
+use Rattle.rank_text.specs.Forms.{bcast_form, reduce_form}
 use Rattle.rank_text.specs.Forms.{IsChoice, is_any, is_value, IsNoName, IsPayload, is_lone, is_one, IsForm, is_var, is_array, is_let, is_let_item, is_if, is_else, is_end, is_while, is_send, is_recv, is_probe, is_try_probe, is_print}
+use Rattle.rank_text.specs.Forms.{is_barrier, is_bcast, is_reduce}
 use Rattle.rank_text.specs.Forms.{◌>>=◌, comma, bracket_assign, lone_name, choice_at, whole_choice, payload_of, var_of, array_of, let_of, item_of, if_of, while_of, send_of, recv_of, probe_of, try_probe_of, print_of, form_of}
+use Rattle.rank_text.specs.Forms.{bcast_of, reduced_of, reduce_of}
 use Rattle.rank_text.specs.SeenForms.{form_in, form_seen}
 use Rattle.rank_text.proofs.Complete.{complete}
 use Rattle.rank_text.proofs.Sound.{sound, ReadIs}
@@ -58,7 +62,7 @@ whole_choice_read (is_value {ts} {e} d) = of_whole ts (read_whole ts e d)
 
 -- what has a form is read as that form
 pub form_read : {ts : List Token} {f : Form} → IsForm ts f → form_of ts ≡ Some f
-unfolding var_of array_of let_of item_of if_of while_of send_of recv_of probe_of try_probe_of print_of
+unfolding var_of array_of let_of item_of if_of while_of send_of recv_of probe_of try_probe_of print_of bcast_of reduced_of reduce_of
 form_read is_var = refl
 form_read is_array = refl
 form_read (is_let {x} {ts} {e} d) = ap (λ o. o >>= (λ e. Some (let_form x e))) (read_whole ts e d)
@@ -83,6 +87,13 @@ form_read (is_try_probe {ss} {gs} {s} {g} {x} ds dg) =
     ap (λ o. o >>= (λ s. comma s.1 >>= (λ us. choice_at us >>= (λ g. comma g.1 >>= (λ vs. lone_name vs >>= (λ x. Some (try_probe_form s.0 g.0 x))))))) (choice_read ds (gs ++ t.Comma ∷ (t.Name x ∷ [])))
     ∙ ap (λ o. o >>= (λ g. comma g.1 >>= (λ vs. lone_name vs >>= (λ x. Some (try_probe_form s g.0 x))))) (choice_read dg (t.Name x ∷ []))
 form_read (is_print {ts} {e} d) = ap (λ o. o >>= (λ e. Some (print_form e))) (read_whole ts e d)
+form_read is_barrier = refl
+form_read (is_bcast {rs} {root} {x} d) =
+    ap (λ o. o >>= (λ d. comma d.1 >>= (λ us. lone_name us >>= (λ x. Some (bcast_form d.0 x))))) (complete d (t.Comma ∷ (t.Name x ∷ [])) tt)
+form_read (is_reduce {r} {rs} {es} {root} {e} {x} dd de) =
+    ap (λ o. o >>= (λ d. comma d.1 >>= (λ us. expression_at us >>= (λ e. comma e.1 >>= (λ vs. lone_name vs >>= (λ x. Some (reduce_form r d.0 e.0 x)))))))
+    (complete dd (t.Comma ∷ (es ++ t.Comma ∷ (t.Name x ∷ []))) tt)
+    ∙ ap (λ o. o >>= (λ e. comma e.1 >>= (λ vs. lone_name vs >>= (λ x. Some (reduce_form r root e.0 x))))) (complete de (t.Comma ∷ (t.Name x ∷ [])) tt)
 
 -- the tokens have the form, where there is one
 abbrev pub FormIs : Option Form → List Token → Type 0
@@ -207,9 +218,30 @@ item_spelled x ts =
     ended (whole_expression us) us (item_form x i) (t.Keyword k.Let ∷ t.Name x ∷ t.OpenBracket ∷ ts) (whole_spelled us) (λ e de.
     subst (λ z. IsForm (t.Keyword k.Let ∷ t.Name x ∷ t.OpenBracket ∷ z) (item_form x i e)) (sym q) (is_let_item di de)))
 
+-- what is read as a broadcast is one
+bcast_spelled : (ts : List Token) → FormIs (bcast_of ts) (t.Keyword k.Bcast ∷ ts)
+unfolding bcast_of
+bcast_spelled ts =
+    then_comma (expression_at ts) ts (λ d us. lone_name us >>= (λ x. Some (bcast_form d x))) (t.Keyword k.Bcast ∷ ts) (sound ts) (λ d ds us dd q.
+    last_name us (bcast_form d) (t.Keyword k.Bcast ∷ ts) (λ x l.
+    subst (λ z. IsForm (t.Keyword k.Bcast ∷ z) (bcast_form d x)) (sym (q ∙ ap (λ z. ds ++ t.Comma ∷ z) l)) (is_bcast dd)))
+
+-- what is read as a reduce from its root on is one, behind its reduction
+reduce_spelled : (r : Reduction) (ts : List Token)
+    → FormIs (reduced_of r ts) (t.Keyword k.Reduce ∷ t.Reduction r ∷ t.Comma ∷ ts)
+unfolding reduced_of
+reduce_spelled r ts =
+    let all : List Token = t.Keyword k.Reduce ∷ t.Reduction r ∷ t.Comma ∷ ts in
+    then_comma (expression_at ts) ts
+    (λ d us. expression_at us >>= (λ e. comma e.1 >>= (λ vs. lone_name vs >>= (λ x. Some (reduce_form r d e.0 x))))) all (sound ts) (λ d ds us dd p.
+    then_comma (expression_at us) us (λ e vs. lone_name vs >>= (λ x. Some (reduce_form r d e x))) all (sound us) (λ e es vs de q.
+    last_name vs (reduce_form r d e) all (λ x l.
+    subst (λ z. IsForm (t.Keyword k.Reduce ∷ t.Reduction r ∷ t.Comma ∷ z) (reduce_form r d e x))
+    (sym (p ∙ ap (λ z. ds ++ t.Comma ∷ z) (q ∙ ap (λ z. es ++ t.Comma ∷ z) l))) (is_reduce dd de))))
+
 -- what is read as a form has it
 pub form_spelled : (ts : List Token) → FormIs (form_of ts) ts
-unfolding var_of array_of let_of if_of while_of print_of
+unfolding var_of array_of let_of if_of while_of print_of reduce_of
 form_spelled (t.Keyword k.Array ∷ (t.Name x ∷ (t.OpenBracket ∷ (t.Number n ∷ (t.CloseBracket ∷ []))))) = is_array
 form_spelled (t.Keyword k.Let ∷ (t.Name x ∷ (t.OpenBracket ∷ ts))) = item_spelled x ts
 form_spelled (t.Keyword k.Let ∷ (t.Name x ∷ (t.Assign ∷ ts))) =
@@ -224,6 +256,9 @@ form_spelled (t.Keyword k.Send ∷ ts) = send_spelled ts
 form_spelled (t.Keyword k.Recv ∷ ts) = recv_spelled ts
 form_spelled (t.Keyword k.Probe ∷ ts) = probe_spelled ts
 form_spelled (t.Keyword k.Iprobe ∷ ts) = try_probe_spelled ts
+form_spelled (t.Keyword k.Barrier ∷ []) = is_barrier
+form_spelled (t.Keyword k.Bcast ∷ ts) = bcast_spelled ts
+form_spelled (t.Keyword k.Reduce ∷ (t.Reduction r ∷ (t.Comma ∷ ts))) = reduce_spelled r ts
 form_spelled _ = tt
 
 -- no tokens have two forms

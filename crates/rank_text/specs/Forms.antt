@@ -2,6 +2,7 @@
 use Rattle.std.specs.Prelude.{ℕ, List, [], ◌∷◌, ◌++◌, Option, Some, None, option_and_then}
 use Rattle.rank_text.specs.declared.token.Keyword.{Keyword}
 use Rattle.rank_text.specs.declared.token.Keyword.TheVariants as k
+use Rattle.rank_text.specs.declared.token.Reduction.{Reduction}
 use Rattle.rank_text.specs.declared.token.Token.{Token}
 use Rattle.rank_text.specs.declared.token.Token.TheVariants as t
 use Rattle.rank_text.specs.Tree.{Tree}
@@ -33,6 +34,9 @@ pub data Form : Type 0 where
   probe_form : (source tag : Choice) → Form
   try_probe_form : (source tag : Choice) (flag : List ℕ) → Form
   print_form : (e : Tree) → Form
+  barrier_form : Form
+  bcast_form : (root : Tree) (buffer : List ℕ) → Form
+  reduce_form : (reduction : Reduction) (root e : Tree) (x : List ℕ) → Form
 
 -- a choice is written `any`, or as an expression
 pub data IsChoice : List Token → Choice → Type 0 where
@@ -77,6 +81,14 @@ pub data IsForm : List Token → Form → Type 0 where
       → IsChoice ss s → IsChoice gs g
       → IsForm (t.Keyword k.Iprobe ∷ (ss ++ t.Comma ∷ (gs ++ t.Comma ∷ (t.Name x ∷ [])))) (try_probe_form s g x)
   is_print : {ts : List Token} {e : Tree} → Spells whole ts e → IsForm (t.Keyword k.Print ∷ ts) (print_form e)
+  is_barrier : IsForm (t.Keyword k.Barrier ∷ []) barrier_form
+  is_bcast : {rs : List Token} {root : Tree} {x : List ℕ}
+      → Spells whole rs root
+      → IsForm (t.Keyword k.Bcast ∷ (rs ++ t.Comma ∷ (t.Name x ∷ []))) (bcast_form root x)
+  is_reduce : {r : Reduction} {rs es : List Token} {root e : Tree} {x : List ℕ}
+      → Spells whole rs root → Spells whole es e
+      → IsForm (t.Keyword k.Reduce ∷ t.Reduction r ∷ t.Comma ∷ (rs ++ t.Comma ∷ (es ++ t.Comma ∷ (t.Name x ∷ []))))
+      (reduce_form r root e x)
 
 -- The same, read from the left.
 
@@ -209,7 +221,30 @@ print_of ts = do
   e ← whole_expression ts
   Some (print_form e)
 
--- the form of a statement word with these arguments; the last three words have none yet
+-- the form of `bcast` with these arguments
+unfoldable pub bcast_of : List Token → Option Form
+bcast_of ts = do
+  d ← expression_at ts
+  us ← comma d.1
+  x ← lone_name us
+  Some (bcast_form d.0 x)
+
+-- the form of `reduce` with this reduction, from its root on
+unfoldable pub reduced_of : Reduction → List Token → Option Form
+reduced_of r ts = do
+  d ← expression_at ts
+  us ← comma d.1
+  e ← expression_at us
+  vs ← comma e.1
+  x ← lone_name vs
+  Some (reduce_form r d.0 e.0 x)
+
+-- the form of `reduce` with these arguments: a reduction, a root, a value and a name
+unfoldable pub reduce_of : List Token → Option Form
+reduce_of (t.Reduction r ∷ (t.Comma ∷ ts)) = reduced_of r ts
+reduce_of _ = None
+
+-- the form of a statement word with these arguments
 abbrev pub form_with : Keyword → List Token → Option Form
 form_with k.Var ts = var_of ts
 form_with k.Array ts = array_of ts
@@ -223,9 +258,9 @@ form_with k.Recv ts = recv_of ts
 form_with k.Print ts = print_of ts
 form_with k.Probe ts = probe_of ts
 form_with k.Iprobe ts = try_probe_of ts
-form_with k.Barrier ts = None
-form_with k.Bcast ts = None
-form_with k.Reduce ts = None
+form_with k.Barrier ts = bare barrier_form ts
+form_with k.Bcast ts = bcast_of ts
+form_with k.Reduce ts = reduce_of ts
 
 -- the form of a line's tokens
 abbrev pub form_of : List Token → Option Form

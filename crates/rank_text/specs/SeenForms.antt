@@ -8,6 +8,7 @@ use Rattle.rank_text.specs.declared.form.Payload as source_payload
 use Rattle.rank_text.specs.declared.form.Form as source_form
 use Rattle.rank_text.specs.Tree.{tree_of}
 use Rattle.rank_text.specs.Forms.{Choice, any, value, Payload, lone, one, Form, var_form, array_form, let_form, item_form, if_form, else_form, end_form, while_form, send_form, recv_form, probe_form, try_probe_form, print_form}
+use Rattle.rank_text.specs.Forms.{barrier_form, bcast_form, reduce_form}
 
 -- a source or a tag
 abbrev pub choice_of : source_choice.Choice → Choice
@@ -34,6 +35,9 @@ form_seen (source_form.TheVariants.Recv s g x) = recv_form (choice_of s) (choice
 form_seen (source_form.TheVariants.Probe s g) = probe_form (choice_of s) (choice_of g)
 form_seen (source_form.TheVariants.TryProbe s g x) = try_probe_form (choice_of s) (choice_of g) x
 form_seen (source_form.TheVariants.Print e) = print_form (tree_of e)
+form_seen source_form.TheVariants.Barrier = barrier_form
+form_seen (source_form.TheVariants.Bcast e x) = bcast_form (tree_of e) x
+form_seen (source_form.TheVariants.Reduce r d e x) = reduce_form r (tree_of d) (tree_of e) x
 
 -- the statement of a line, if it has one
 abbrev pub form_in : Option source_form.Form → Option Form

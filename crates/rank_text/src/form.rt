@@ -1,6 +1,7 @@
 //! The statement of a line, before the blocks and the declarations are known.
 
 use crate::name::Name;
+use crate::token::Reduction;
 use crate::written::Written;
 
 /// The source or the tag of a receive or a probe.
@@ -42,4 +43,9 @@ pub enum Form {
     /// Source, tag and flag.
     TryProbe(Choice, Choice, Name),
     Print(Written),
+    Barrier,
+    /// Root and buffer.
+    Bcast(Written, Name),
+    /// Reduction, root, value and the root's variable.
+    Reduce(Reduction, Written, Written, Name),
 }

@@ -4,12 +4,13 @@ ghost use Rattle.std.specs.Prelude.{◌≡◌, List, IfOk, IfSome, Some};
 ghost use Rattle.rank_text.specs.declared.token.Token.{Token};
 ghost use Rattle.rank_text.specs.Forms as forms;
 ghost use Rattle.rank_text.specs.Forms.{IsForm, comma, bracket_assign, bare, lone_name, choice_at, whole_choice, payload_of, var_of, array_of, let_of, item_of, if_of, while_of, send_of, recv_of, probe_of, try_probe_of, print_of, form_with, form_of};
+ghost use Rattle.rank_text.specs.Forms.{bcast_of, reduced_of, reduce_of};
 ghost use Rattle.rank_text.specs.SeenForms.{form_in, form_seen, payload_in, choice_in, whole_choice_in, rest_in, lone_in};
 
 use crate::form::{Choice, Form, Payload};
 use crate::name::Name;
 use crate::reader::{expression_at, whole_expression};
-use crate::token::{Keyword, Token};
+use crate::token::{Keyword, Reduction, Token};
 use metered::Heap;
 use std::alloc::AllocError;
 
@@ -264,6 +265,70 @@ fn read_print(alloc: Heap, tokens: &[Token]) -> Result<Option<Form>, AllocError>
     Ok(Some(Form::Print(value)))
 }
 
+fn read_barrier(tokens: &[Token]) -> Option<Form>
+    ensures { form_in result ≡ bare forms.barrier_form tokens.now }
+{
+    match tokens {
+        [] => Some(Form::Barrier),
+        _ => None,
+    }
+}
+
+#[tactic(auto, unfolding(crate::specs::Forms::bcast_of))]
+fn read_bcast(alloc: Heap, tokens: &[Token]) -> Result<Option<Form>, AllocError>
+    ensures { IfOk result (λ f. form_in f ≡ bcast_of tokens.now) }
+{
+    let Some((root, rest)) = expression_at(alloc, tokens)? else {
+        return Ok(None);
+    };
+    let Some(rest) = after_comma(rest) else {
+        return Ok(None);
+    };
+    let Some(buffer) = only_name(rest) else {
+        return Ok(None);
+    };
+    Ok(Some(Form::Bcast(root, buffer)))
+}
+
+/// From the root on.
+#[tactic(auto, unfolding(crate::specs::Forms::reduced_of))]
+fn read_reduced(
+    alloc: Heap,
+    reduction: Reduction,
+    tokens: &[Token],
+) -> Result<Option<Form>, AllocError>
+    ensures { IfOk result (λ f. form_in f ≡ reduced_of reduction tokens.now) }
+{
+    let Some((root, rest)) = expression_at(alloc, tokens)? else {
+        return Ok(None);
+    };
+    let Some(rest) = after_comma(rest) else {
+        return Ok(None);
+    };
+    let Some((value, rest)) = expression_at(alloc, rest)? else {
+        return Ok(None);
+    };
+    let Some(rest) = after_comma(rest) else {
+        return Ok(None);
+    };
+    let Some(variable) = only_name(rest) else {
+        return Ok(None);
+    };
+    Ok(Some(Form::Reduce(reduction, root, value, variable)))
+}
+
+#[tactic(auto, unfolding(crate::specs::Forms::reduce_of))]
+fn read_reduce(alloc: Heap, tokens: &[Token]) -> Result<Option<Form>, AllocError>
+    ensures { IfOk result (λ f. form_in f ≡ reduce_of tokens.now) }
+{
+    match tokens {
+        [Token::Reduction(reduction), Token::Comma, rest @ ..] => {
+            read_reduced(alloc, *reduction, rest)
+        }
+        _ => Ok(None),
+    }
+}
+
 /// The form of a statement word with these arguments.
 fn read_arguments(
     alloc: Heap,
@@ -285,7 +350,9 @@ fn read_arguments(
         Keyword::Print => read_print(alloc, arguments),
         Keyword::Probe => read_probe(alloc, arguments),
         Keyword::Iprobe => read_try_probe(alloc, arguments),
-        Keyword::Barrier | Keyword::Bcast | Keyword::Reduce => Ok(None),
+        Keyword::Barrier => Ok(read_barrier(arguments)),
+        Keyword::Bcast => read_bcast(alloc, arguments),
+        Keyword::Reduce => read_reduce(alloc, arguments),
     }
 }
 

@@ -34,7 +34,7 @@ pub const RUN: &str = "\
 First come the lines of each rank, as `R> V`, then how each rank ended:
   halted      the program came to its end
   fault K     a statement can't be done: 1 a result out of range, 2 division by zero, 3 an index, 4 a rank,
-              5 a tag, 6 a message longer than its buffer
+              5 a tag, 6 a message longer than its buffer, 7 a packet of another collective
   stalled     it waits for a message that doesn't come
   unfinished  it made S steps, or its next act passes a limit
 and then how many ranks crashed and how often the event logger was called. A program that is refused has its

@@ -6,6 +6,8 @@
 #![tactic(auto)]
 
 #[cfg(test)]
+mod collectives;
+#[cfg(test)]
 mod crashes;
 #[cfg(test)]
 mod images;

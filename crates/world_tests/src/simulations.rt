@@ -127,6 +127,47 @@ fn probes(rt: HostRuntime) -> Result<(), Fail> {
     play_two(&rt, rt.alloc(), PROBES, &PROBED)
 }
 
+/// Rank 0 sends a message of tag 0 and then comes to a barrier; rank 1 takes it behind the barrier.
+const BARRIER: &[u8] = b"var x
+if rank == 0
+send 1, 0, 9
+barrier
+else
+barrier
+recv any, any, x
+end
+";
+
+/// A collective takes its own packets alone, though another of the same source and tag was sent before, and a receive the other.
+const MET: [Move; 21] = [
+    (0, Next, Ok(())),
+    (0, Next, Ok(())),
+    (0, Next, Ok(())),
+    (0, Take(1, 1), NOT_ELIGIBLE),
+    (0, Next, WANTS_OTHER),
+    (0, Miss, WANTS_OTHER),
+    (1, Next, Ok(())),
+    (1, Next, Ok(())),
+    (1, Next, Ok(())),
+    (1, Take(0, 1), NOT_ELIGIBLE),
+    (1, Take(0, 2), NOT_ELIGIBLE),
+    (0, Take(1, 1), Ok(())),
+    (0, Take(1, 1), WANTS_OTHER),
+    (1, Take(0, 2), NOT_ELIGIBLE),
+    (0, Next, Ok(())),
+    (1, Take(0, 1), NOT_ELIGIBLE),
+    (1, Take(0, 2), Ok(())),
+    (1, Take(0, 2), NOT_ELIGIBLE),
+    (1, Take(0, 1), Ok(())),
+    (1, Next, Ok(())),
+    (1, Next, ENDED),
+];
+
+#[test]
+fn a_barrier(rt: HostRuntime) -> Result<(), Fail> {
+    play_two(&rt, rt.alloc(), BARRIER, &MET)
+}
+
 /// What rank 1 may take of the three messages of rank 0, by their numbers: of two ranks its first receive is of tag 7.
 const TAKES_OF_TWO: [(u64, Result<(), NotAllowed>); 7] = [
     (2, NOT_ELIGIBLE),

@@ -1,6 +1,6 @@
 //! The steps and acts of one rank.
 ghost use Rattle.std.specs.Prelude.{◌≡◌, ℕ, ◌<◌, ◌≤◌, IfOk, IfErr, OnOk, OnErr, length};
-ghost use Rattle.metered.specs.Limits.{greatest_tag, most_items};
+ghost use Rattle.matching.specs.Message.{least_items, most_items, greatest_tag};
 ghost use Rattle.rank_machine.specs.Wants.{IsLegal};
 ghost use Rattle.crash_free.specs.Sim.{Allows, Refuses};
 ghost use Rattle.crash_free.specs.Wanted.{AsksAt, ProbesAt, TriesAt};
@@ -144,10 +144,9 @@ fn packet(
     tag: u16,
     items: &[i64],
 ) -> Result<Packet, AllocError>
-    requires context { context ≡ Context.PointToPoint }
-    requires tag { tag ≤ greatest_tag }
-    requires least { 1 ≤ length items.now }
-    requires most { length items.now ≤ most_items }
+    requires tag { tag ≤ greatest_tag context }
+    requires least { least_items context ≤ length items.now }
+    requires most { length items.now ≤ most_items context }
     ensures { IfOk result (λ packet. packet ≡ record { source = source; clock = 1; number = 1; context = context; tag = tag; items = items.now }) }
 {
     Ok(Packet {

@@ -34,7 +34,8 @@ impl Machine<'_> {
             | Statement::EndWhile(_)
             | Statement::Send { .. }
             | Statement::Receive { .. }
-            | Statement::Print(_) => unreachable!(),
+            | Statement::Print(_)
+            | Statement::Collect(_) => unreachable!(),
         }
         self.store.show(packet);
         self.position += 1;

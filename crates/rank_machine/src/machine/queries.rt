@@ -45,6 +45,27 @@ impl<'p> Machine<'p> {
         self.fault
     }
 
+    /// How many collectives it has finished, up to `GREATEST_CLOCK` of `metered::limits`.
+    pub fn finished(&self) -> u32
+        ensures { result ≡ self.now.store.finished }
+    {
+        self.store.finished()
+    }
+
+    /// How many parts of the collective that stands are done, 0 where none stands.
+    pub fn done(&self) -> u16
+        ensures { result ≡ self.now.store.done }
+    {
+        self.store.done()
+    }
+
+    /// What it has gathered of the reduce that stands.
+    pub fn gathered(&self) -> &[i64]
+        ensures { result.now ≡ self.now.store.gathered }
+    {
+        self.store.gathered()
+    }
+
     /// Source, tag and number of items of the last message.
     pub fn status(&self) -> Status
         ensures source { result.source ≡ self.now.store.source }
@@ -68,7 +89,8 @@ impl<'p> Machine<'p> {
         self.store.arrays()
     }
 
-    /// Position, status and fault are within their limits, and its arrays are as long as its program says.
+    /// Position, status, fault and number of collectives are within their limits, its arrays are as long as its program
+    /// says, and it is within the collective that stands.
     pub fn is_whole(&self)
         ensures { IsMachine self.now }
     {

@@ -19,7 +19,8 @@ returns-clause-reads c =
     let whole = c.within_program.ensures in
     let written = c.in_ok-put_machine.ensures in
     let table = subst IsTable c.program-program.ensures c.within_table.ensures in
-    let saved = machine_is m whole.machine whole.lines whole.few c.requires.ranks written.variables written.arrays in
+    let saved = machine_is m whole.machine whole.lines whole.few c.requires.ranks written.gathered written.variables
+    written.arrays in
     let stored = subst (All IsStored) c.destinations.ensures c.in_ok-put_lanes.ensures.stored in
     let is = image_is i c.requires whole.machine table saved c.numbers_rise.ensures c.few_packets.ensures c.in_ok-put_inbox.ensures.packets
     stored in

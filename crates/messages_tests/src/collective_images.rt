@@ -1,0 +1,85 @@
+//! Images of ranks within collectives: their bytes, and which of what is done and gathered they may say.
+use crate::images::{Change, beginnings_are_short, changed, fails_each, reads};
+use checkpoint::{ImageFault, decode};
+use rank_language::Program;
+use std::test::*;
+
+/// The root is an item of an array, which stands behind what is done and gathered.
+const REDUCING: &[u8] = b"var x\narray a[1]\nreduce sum, a[0], 1, x\n";
+
+/// Rank 0 of three, the root, which has gathered 2 from rank 1.
+const GATHERED: [u8; 91] = [
+    1, 0, 3, 0, 3, 1, 1, 0, 1, // whose image it is
+    0, 2, 1, 0, 1, // its position, the parts that are done, its fault, how many values it has gathered
+    0, 0, 0, 0, 0, 0, 0, 2, // the value
+    0, 0, 0, 0, // how many collectives it has finished
+    0, 0, 0, 0, 0, // of the last message: source, tag, number of items
+    0, 0, 0, 0, 0, 0, 0, 0, // the variable
+    0, 0, 0, 0, 0, 0, 0, 0, // the item
+    0, 0, 0, 1, // the clock
+    0, 0, 0, 0, 0, 0, 0, 1, 0, 0, 0, 0, // what was accepted of each rank
+    0, 0, 0, 0, // how many packets lie in the inbox
+    0, 0, 0, 0, 0, 0, 0, 0, 0, 0, 0, 0, 0, 0, 0, 0, 0, 0, 0, 0, 0, 0, 0, 0, // nothing was sent
+];
+
+/// Changes of what is done and gathered, and of what decides on it.
+const OF_GATHERED: [Change; 9] = [
+    // another statement stands there, or none
+    (10, 1, ImageFault::Field),
+    (10, 3, ImageFault::Field),
+    // as many values as parts are done, and two parts at most
+    (11, 0, ImageFault::Field),
+    (11, 2, ImageFault::Field),
+    (11, 3, ImageFault::Field),
+    (13, 0, ImageFault::Field),
+    (22, 16, ImageFault::Field),
+    // another rank is the root, or none
+    (46, 1, ImageFault::Field),
+    (46, 3, ImageFault::Field),
+];
+
+const MEETING: &[u8] = b"barrier\n";
+
+/// Rank 0 of three at a barrier, before its last part; it has finished none.
+const MET: [u8; 65] = [
+    1, 0, 3, 0, 1, 0, 0, // whose image it is
+    0, 0, 3, 0, 0, // its position, the parts that are done, its fault, how many values it has gathered
+    0, 0, 0, 0, // how many collectives it has finished
+    0, 0, 0, 0, 0, // of the last message: source, tag, number of items
+    0, 0, 0, 3, // the clock
+    0, 0, 0, 0, 0, 0, 0, 1, 0, 0, 0, 1, // what was accepted of each rank
+    0, 0, 0, 0, // how many packets lie in the inbox
+    0, 0, 0, 0, 0, 0, 0, 0, 0, 0, 0, 1, 0, 0, 0, 1, 0, 0, 0, 0, 0, 0, 0, 0, // one was sent to rank 1, and let go
+];
+
+/// Rank 0 of three has four parts at a barrier, and none behind it.
+const OF_MET: [Change; 4] = [
+    (8, 1, ImageFault::Field),
+    (9, 4, ImageFault::Field),
+    (9, 255, ImageFault::Field),
+    (12, 16, ImageFault::Field),
+];
+
+#[test]
+fn an_image_within_a_reduce(rt: HostRuntime) -> Result<(), Fail> {
+    let alloc = rt.alloc();
+    let program = Program::parse(alloc, REDUCING)?;
+    reads(&rt, alloc, &program, 3, &GATHERED)?;
+    let image = decode(alloc, &program, 0, 3, &GATHERED)?;
+    assert_eq!(rt; (image.machine.done(), image.machine.finished()), (1, 0));
+    assert_eq!(rt; image.machine.gathered(), [2].as_slice());
+    fails_each(&rt, alloc, &program, 3, &GATHERED, &OF_GATHERED)?;
+    beginnings_are_short(&rt, alloc, &program, 3, &GATHERED)?;
+    assert!(rt; changed(&rt, alloc, &program, 3, &GATHERED)? > 91);
+    Ok(())
+}
+
+#[test]
+fn an_image_within_a_barrier(rt: HostRuntime) -> Result<(), Fail> {
+    let alloc = rt.alloc();
+    let program = Program::parse(alloc, MEETING)?;
+    reads(&rt, alloc, &program, 3, &MET)?;
+    let image = decode(alloc, &program, 0, 3, &MET)?;
+    assert_eq!(rt; (image.machine.done(), image.machine.finished()), (3, 0));
+    fails_each(&rt, alloc, &program, 3, &MET, &OF_MET)
+}
