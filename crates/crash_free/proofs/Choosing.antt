@@ -115,7 +115,7 @@ pub asks_there : (machines : List MachineValue) (r : ℕ) (w : Want) (m : Machin
 asks_there machines r w m asks there = subst (λ o. IsSomeAnd o (λ x. Asks x w)) there asks
 
 -- the machine that a call reads is its rank's
-read_machine : (now : SimValue) (program : ProgramValue) (machines : List MachineValue) (C : List Passed) (k r : ℕ) (m : MachineValue)
+pub read_machine : (now : SimValue) (program : ProgramValue) (machines : List MachineValue) (C : List Passed) (k r : ℕ) (m : MachineValue)
     → value_of program machines C ≡ now → k ≡ r → r < length now.machines → m ≡ get_or machines k m → slice_get machines r ≡ Some m
 read_machine now program machines C k r m seen place low read =
     subst (λ z. slice_get machines z ≡ Some m) place (slice_get_read machines (length machines) k m refl inside read)

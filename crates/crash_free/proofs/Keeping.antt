@@ -13,7 +13,7 @@ use Rattle.rank_machine.specs.Machine.{MachineValue, state_of, GoesOn, KeepsRank
 use Rattle.crash_free.specs.Runs.{Passed, history, looked_up, IsFree, IsRun}
 use Rattle.crash_free.specs.Sim.{start_of, inbound_of, IsAfter, Begins, AreBegun}
 use Rattle.crash_free.specs.Slots.{Slot, IsMail, IsRanks, IsKept}
-use Rattle.crash_free.proofs.Steps.{Inners-push, Runs-push}
+use Rattle.crash_free.proofs.Steps.{Inners-push, Inners-append, Runs-push}
 use Rattle.crash_free.proofs.Lists.{history-own, history-other, push_cases}
 
 -- what stands in a list after a write: what was written, or what was there
@@ -34,6 +34,14 @@ pub set_there : {A : Type 0} (xs : List A) (i : ℕ) (y : A) → i < length xs �
 set_there [] i y low = absurd (omega arith)
 set_there (x ∷ xs) zero y low = refl
 set_there (x ∷ xs) (suc i) y low = set_there xs i y (omega arith)
+
+-- what stands at another place of a list stays where one is written
+pub set_apart : {A : Type 0} (xs : List A) (i : ℕ) (y : A) (k : ℕ) → (k ≡ i → ⊥) → slice_get (slice_set xs i y) k ≡ slice_get xs k
+set_apart [] i y k apart = refl
+set_apart (x ∷ xs) zero y zero apart = absurd (apart refl)
+set_apart (x ∷ xs) zero y (suc k) apart = refl
+set_apart (x ∷ xs) (suc i) y zero apart = refl
+set_apart (x ∷ xs) (suc i) y (suc k) apart = set_apart xs i y k (λ e. apart (ap suc e))
 
 -- an internal step leaves whose machine it is
 keeps_rank : (m m' : MachineValue) → GoesOn m m' → KeepsRank m m'
@@ -85,6 +93,15 @@ kept_step program machines lanes C r m m' kept there goes =
     further : (inner (state_of m) ≡ Some (state_of m')) ⊎ (state_of m' ≡ state_of m) → Stands program (length machines) C r m'
     further (inl e) = let old = kept.simulates.ranks r m there in (old.0, old.1, Inners-push old.2 e)
     further (inr e) = let old = kept.simulates.ranks r m there in (old.0, old.1, subst (λ z. Inners old.0 z) (sym e) old.2)
+
+-- steps of its own of a rank, whatever their number
+pub kept_inside : (program : ProgramValue) (machines : List MachineValue) (lanes : List (List Slot)) (C : List Passed) (r : ℕ) (m m' : MachineValue)
+    → IsKept program machines lanes C → slice_get machines r ≡ Some m → KeepsRank m m' → Inners (state_of m) (state_of m')
+    → IsKept program (slice_set machines r m') lanes C
+kept_inside program machines lanes C r m m' kept there keeps inners =
+    let old = kept.simulates.ranks r m there in
+    kept_with program machines lanes lanes C C r m m' kept there keeps kept.simulates.is_run (old.0, old.1, Inners-append old.2 inners)
+    (λ q never. refl) kept.mail
 
 -- an act of a rank
 pub kept_act : (program : ProgramValue) (machines : List MachineValue) (lanes lanes' : List (List Slot)) (C : List Passed) (r : ℕ) (m m' : MachineValue)

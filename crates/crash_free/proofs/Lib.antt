@@ -6,7 +6,12 @@ pub mod Taking
 pub mod SlotLemmas
 pub mod MailLemmas
 pub mod Keeping
+pub mod Searching
+pub mod Indexing
+pub mod Putting
+pub mod Tidying
 pub mod Choosing
+pub mod Inside
 pub mod Finding
 pub mod Refusing
 pub mod OtherSteps

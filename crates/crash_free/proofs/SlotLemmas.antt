@@ -3,7 +3,7 @@
 use Rattle.std.proofs.Common.{◌≡◌, ℕ, zero, suc, ◌+◌, ◌<◌, ◌==◌, ◌&&◌, ◌||◌, Bool, true, false, List, [], ◌∷◌, ◌++◌, Option, Some, None, length, refl}
 use Rattle.std.proofs.Common.{sym, ap, ◌∙◌, subst, arith, slice_get, get_or, cond}
 use Rattle.std.specs.Prelude.{slice_set, position, nat_lt}
-use Rattle.std.proofs.lemmas.Bool.{eq-eqb, ne_eqb, eqb-true}
+use Rattle.std.proofs.lemmas.Bool.{eq-eqb, ne_eqb, eqb-true, false≢true}
 use Rattle.std.proofs.lemmas.List.Quantifiers.{position-Some}
 use Rattle.std.proofs.lemmas.List.Sums.{position_or_len_is}
 use Rattle.std.proofs.lemmas.Option.{slice_get_within, get_or_from_slice_get}
@@ -17,11 +17,11 @@ use Rattle.crash_free.specs.Slots.{packet_of, slot_of, slots_from, passes}
 
 -- a packet's test and the definition's agree
 
-both : (a b : Bool) → (a && b) ≡ true → (a ≡ true) × (b ≡ true)
+pub both : (a b : Bool) → (a && b) ≡ true → (a ≡ true) × (b ≡ true)
 both true b h = (refl, h)
 both false b h = (cc, cc)
 
-same_contexts : (a b : Context) → same_context a b ≡ true → b ≡ a
+pub same_contexts : (a b : Context) → same_context a b ≡ true → b ≡ a
 same_contexts PointToPoint PointToPoint h = refl
 same_contexts PointToPoint Collective h = cc
 same_contexts Collective PointToPoint h = cc
@@ -117,7 +117,18 @@ eligible_first inbound h s i w e =
         let place : 0 + k + 1 ≡ suc k = omega arith in
         subst (λ z. taken h s z ≡ true) place (slot_fails w s (taken h s (0 + k + 1)) x (ap (passes w) (sym here) ∙ none k (omega arith)) q)
 
-is_position : {A : Type 0} (p : A → Bool) (xs : List A) (i : ℕ) (d : A) → i < length xs → p (get_or xs i d) ≡ true
+-- where none passes there is no position
+pub no_position : {A : Type 0} (p : A → Bool) (xs : List A) (d : A) → ((k : ℕ) → k < length xs → p (get_or xs k d) ≡ false) → position p xs ≡ None
+no_position p xs d none = go (position p xs) refl
+  where
+    go : (found : Option ℕ) → position p xs ≡ found → position p xs ≡ None
+    go None e = e
+    go (Some i) e =
+        let all = position-Some p xs i d e in
+        absurd (false≢true (sym (none i all.0) ∙ all.1))
+
+-- the first that passes is at the position
+pub is_position : {A : Type 0} (p : A → Bool) (xs : List A) (i : ℕ) (d : A) → i < length xs → p (get_or xs i d) ≡ true
     → ((k : ℕ) → k < i → p (get_or xs k d) ≡ false) → position p xs ≡ Some i
 is_position p xs i d low here before =
     let at = position_or_len_is p xs i d (omega (arith, low)) before (λ _. here) in

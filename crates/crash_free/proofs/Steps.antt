@@ -8,6 +8,11 @@ pub Inners-push : {a b c : State} → Inners a b → inner b ≡ Some c → Inne
 Inners-push here e = on e here
 Inners-push (on e r) f = on e (Inners-push r f)
 
+-- inner steps after inner steps
+pub Inners-append : {a b c : State} → Inners a b → Inners b c → Inners a c
+Inners-append here s = s
+Inners-append (on e r) s = on e (Inners-append r s)
+
 -- acts after acts
 pub Runs-append : (a b c : State) (h k : List (Act × Option Message)) → Runs a h b → Runs b k c → Runs a (h ++ k) c
 Runs-append a b c [] k r s = rw r at s

@@ -3,5 +3,7 @@ pub mod Laws
 pub mod Grows
 pub mod Seen
 pub mod Sim
+pub mod Inside
 pub mod Slots
+pub mod Index
 pub mod Wanted

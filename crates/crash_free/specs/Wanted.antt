@@ -1,5 +1,5 @@
 -- What the machines of a run ask for.
-use Rattle.std.specs.Prelude.{◌≡◌, ◌⊎◌, ℕ, List, IsSomeAnd, slice_get}
+use Rattle.std.specs.Prelude.{◌≡◌, ◌≢◌, ◌⊎◌, ℕ, List, IsSomeAnd, slice_get}
 use Rattle.matching.specs.declared.selector.Selector.{Selector}
 use Rattle.rank_machine.specs.declared.want.Want.{Want}
 use Rattle.rank_machine.specs.declared.want.Want.TheVariants as want
@@ -22,3 +22,7 @@ ProbesAt machines r w = AsksAt machines r (want.Probe w) ⊎ AsksAt machines r (
 -- the machine of a rank asks for a probe that doesn't wait
 abbrev pub TriesAt : List MachineValue → ℕ → Type 0
 TriesAt machines r = (w : Selector) × AsksAt machines r (want.TryProbe w)
+
+-- the machine of a rank asks for something else than a step of its own: for an act, or for nothing more
+abbrev pub StandsAtAct : List MachineValue → ℕ → Type 0
+StandsAtAct machines r = (w : Want) × AsksAt machines r w × (w ≢ want.Internal)

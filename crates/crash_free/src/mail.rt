@@ -3,73 +3,16 @@ ghost use Rattle.std.specs.Prelude.{◌≡◌, ◌≢◌, ℕ, ◌+◌, ◌*◌,
 ghost use Rattle.metered.specs.Limits.{most_ranks};
 ghost use Rattle.crash_free.specs.Slots.{passes, lane, place_of};
 
+mod index;
+mod lane;
+mod queue;
+
+use crate::mail::lane::Lane;
 use matching::{Packet, Selector};
 use metered::Heap;
 use metered::limits::MOST_RANKS;
 use std::alloc::AllocError;
 use std::marker::Model;
-use std::mem;
-
-/// What one rank sent to another: a slot for each message, empty once it is taken.
-#[derive(Drop)]
-struct Lane {
-    slots: Vec<Option<Packet>, Heap>,
-}
-
-impl Model for Lane {
-    ghost use Rattle.std.specs.Prelude.{List};
-    ghost use Rattle.crash_free.specs.Slots.{Slot};
-
-    ghost Value = { List Slot };
-
-    ghost view = { λ l. l.slots.items };
-}
-
-impl Lane {
-    fn first(&self, selector: &Selector) -> Option<usize>
-        ensures { result ≡ position (passes selector.now) self.now }
-    {
-        self.slots.iter().position(|slot| passes(slot, selector))
-    }
-
-    fn push(&mut self, packet: Packet) -> Result<(), AllocError>
-        ensures ok { OnOk result (self.new ≡ self.old ++ Some packet ∷ []) }
-        ensures err { OnErr result (self.new ≡ self.old) }
-    {
-        self.slots.push(Some(packet))?;
-        Ok(())
-    }
-
-    fn look(&self, index: usize) -> &Packet
-        requires { IsSomeAnd (slice_get self.now index) IsSome }
-        ensures { slice_get self.now index ≡ Some (Some result.now) }
-    {
-        let Some(packet) = &self.slots[index] else {
-            unreachable!()
-        };
-        packet
-    }
-
-    fn take(&mut self, index: usize) -> Packet
-        requires { IsSomeAnd (slice_get self.old index) IsSome }
-        ensures packet { slice_get self.old index ≡ Some (Some result) }
-        ensures left { self.new ≡ slice_set self.old index None }
-    {
-        let Some(packet) = mem::replace(&mut self.slots[index], None) else {
-            unreachable!()
-        };
-        packet
-    }
-}
-
-fn passes(slot: &Option<Packet>, selector: &Selector) -> bool
-    ensures { result ≡ passes selector.now slot.now }
-{
-    match slot {
-        Some(packet) => selector.matches(packet),
-        None => false,
-    }
-}
 
 /// The lanes of all pairs of ranks.
 #[derive(Drop)]
@@ -94,9 +37,7 @@ impl Mail {
         // one lane for each source that there may be, so that the place of a pair is a sum
         let mut lanes = Vec::new(alloc);
         for _ in 0..MOST_RANKS * usize::from(ranks) {
-            lanes.push(Lane {
-                slots: Vec::new(alloc),
-            })?;
+            lanes.push(Lane::new(alloc))?;
         }
         Ok(Mail { lanes })
     }

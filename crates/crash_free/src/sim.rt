@@ -3,7 +3,8 @@ ghost use Rattle.std.specs.Prelude.{◌≡◌, ◌≢◌, ◌<◌, ◌≤◌, []
 ghost use Rattle.metered.specs.Limits.{most_ranks};
 ghost use Rattle.rank_machine.specs.Wants.{IsLegal};
 ghost use Rattle.crash_free.specs.Sim.{Simulates, CollectivesAgree, Allows, Refuses, AllowsAll, StopsAt, are_of_ranks, AreBegun};
-ghost use Rattle.crash_free.specs.Wanted.{AsksAt};
+ghost use Rattle.crash_free.specs.Inside.{GoesInside};
+ghost use Rattle.crash_free.specs.Wanted.{AsksAt, StandsAtAct};
 
 mod acts;
 mod opening;
@@ -79,6 +80,33 @@ impl<'p> Sim<'p> {
         ensures collectives { CollectivesAgree self.now }
     {
         self.machines.len() as u8
+    }
+
+    /// What the rank wants.
+    pub fn wants(&self, rank: u8) -> Want
+        requires { rank < length self.now.machines }
+        ensures asks { AsksAt self.now.machines rank result }
+        ensures legal { IsLegal (length self.now.machines) result }
+    {
+        let machine = &self.machines[usize::from(rank)];
+        asks_its_state(machine);
+        machine.wants()
+    }
+
+    /// Makes steps of the rank's own until it wants something else, but no
+    /// more than `most`. Answers how many it made: as many calls of `act` with
+    /// `Choice::Next` would do the same. It takes no memory.
+    pub fn stride(&mut self, rank: u8, most: u32) -> u32
+        requires there { rank < length self.old.machines }
+        ensures few { result ≤ most }
+        ensures inside { GoesInside self.old rank result self.new }
+        ensures stops { result < most → StandsAtAct self.new.machines rank }
+        ensures stands { Simulates self.new }
+        ensures collectives { CollectivesAgree self.new }
+    {
+        let made = self.advance(rank, most);
+        let _ = &self.machines;
+        made
     }
 
     /// Makes the step or the act that the choice names.
@@ -166,16 +194,5 @@ impl<'p> Sim<'p> {
     {
         let ranks = self.ranks();
         choices.iter().all(|(rank, _)| *rank < ranks)
-    }
-
-    // What the rank wants.
-    fn wants(&self, rank: u8) -> Want
-        requires { rank < length self.now.machines }
-        ensures asks { AsksAt self.now.machines rank result }
-        ensures legal { IsLegal (length self.now.machines) result }
-    {
-        let machine = &self.machines[usize::from(rank)];
-        asks_its_state(machine);
-        machine.wants()
     }
 }

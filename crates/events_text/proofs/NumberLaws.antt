@@ -1,46 +1,32 @@
--- A number of at most 9 digits lies below 2 ^ 32, and is read a digit at a time.
-use Rattle.std.specs.Prelude.{◌≡◌, ℕ, ◌+◌, ◌-◌, ◌*◌, ◌^◌, ◌<◌, ◌≤◌, List, [], ◌∷◌, length, Some, None, take, drop}
-use Rattle.std.proofs.Common.{arith, ap, ◌∙◌, subst, get_or}
+-- A number of at most 9 digits lies below 2 ^ 32, so that it is kept as it is.
+use Rattle.std.specs.Prelude.{◌≡◌, ℕ, ◌+◌, ◌*◌, ◌^◌, ◌<◌, ◌≤◌, List, [], ◌∷◌, length, Some, None}
+use Rattle.std.proofs.Common.{arith, refl, ap}
 use Rattle.std.proofs.Math.Nat.{pow-le-pow_right}
-use Rattle.std.proofs.Math.Seq.{take-length}
+use Rattle.std.proofs.lemmas.Bool.Decides.{nat_tests}
 use Rattle.std.proofs.lemmas.Grind.{pow_more}
-use Rattle.events_text.specs.Events.{digit_of, value_behind}
+use Rattle.text_lines.specs.Numbers.{decimal_of, digit_of, kept, kept_of, value_behind}
 
--- before the last of at most 9 digits the value has at most 8
-pub room : (w r v : ℕ) → v < 10 ^ (w - r) → 1 ≤ r → w ≤ 9 → v < 100000000
-room w r v h k l = let p : 10 ^ (w - r) ≤ 10 ^ 8 = pow-le-pow_right (omega arith) {i = w - r} {j = 8} (omega arith) in omega arith
+-- a digit is below ten
+digit_small : (b d : ℕ) → Some d ≡ digit_of b → d < 10
+digit_small b d q = grind (arith, nat_tests)
+
+-- a number of at most 9 digits is kept as it is
+small : (v k : ℕ) → v < 10 ^ k → k ≤ 9 → kept v ≡ v
+small v k h l = let p : 10 ^ k ≤ 10 ^ 9 = pow-le-pow_right (omega arith) {i = k} {j = 9} l in omega arith
 
 -- one digit more
-more : (n v d : ℕ) → v < 10 ^ n → d < 10 → v * 10 + d < 10 ^ (n + 1)
-more n v d h k = let p : 10 ^ (n + 1) ≡ 10 ^ n * 10 = pow_more 10 n in omega arith
+more : (k v d : ℕ) → v < 10 ^ k → d < 10 → v * 10 + d < 10 ^ (k + 1)
+more k v d h l = let p : 10 ^ (k + 1) ≡ 10 ^ k * 10 = pow_more 10 k in omega arith
 
--- what is left behind a digit
-abbrev pub left : List ℕ → List ℕ
-left rest = take (length rest - 1) (drop 1 rest)
+-- digits behind k others, at most 9 in all, make a number that is kept as it is
+few : (v k : ℕ) (bs : List ℕ) → v < 10 ^ k → k + length bs ≤ 9 → kept_of (value_behind v bs) ≡ value_behind v bs
+few v k [] h l = ap Some (small v k h (omega arith))
+few v k (b ∷ bs) h l =
+    (elim (digit_of b) as (λ o. o ≡ digit_of b
+    → kept_of (elim o [ None ↦ None | Some d ↦ value_behind (v * 10 + d) bs ]) ≡ elim o [ None ↦ None | Some d ↦ value_behind (v * 10 + d) bs ])
+    [ None ↦ λ q. refl | Some d ↦ λ q. few (v * 10 + d) (k + 1) bs (more k v d h (digit_small b d q)) (omega arith) ]) refl
 
--- it is all but the digit
-left_all : (b : ℕ) (bs : List ℕ) → left (b ∷ bs) ≡ bs
-left_all b bs =
-    let e : length (b ∷ bs) - 1 ≡ length bs = omega arith in
-    ap (λ n. take n bs) e ∙ take-length bs
-
--- it is one shorter
-pub left_length : (rest : List ℕ) → 1 ≤ length rest → length (left rest) + 1 ≡ length rest
-left_length [] h = absurd (omega arith)
-left_length (b ∷ bs) h = let e : length (left (b ∷ bs)) ≡ length bs = ap length (left_all b bs) in omega arith
-
--- one digit more is read, and one fewer is left
-pub digit_more : (word rest : List ℕ) (v d : ℕ) → v < 10 ^ (length word - length rest) → 1 ≤ length rest → length rest ≤ length word → d < 10
-    → v * 10 + d < 10 ^ (length word - length (left rest))
-digit_more word rest v d h k l m =
-    let q = left_length rest k in
-    let e : length word - length rest + 1 ≡ length word - length (left rest) = omega arith in
-    subst (λ n. v * 10 + d < 10 ^ n) e (more (length word - length rest) v d h m)
-
--- the value goes on with a digit
-pub value_more : (rest : List ℕ) (v d : ℕ) → 1 ≤ length rest → Some d ≡ digit_of (get_or rest 0 0)
-    → value_behind (v * 10 + d) (left rest) ≡ value_behind v rest
-value_more [] v d h q = absurd (omega arith)
-value_more (b ∷ bs) v d h q =
-    ap (value_behind (v * 10 + d)) (left_all b bs)
-    ∙ ap (λ o. elim o [ None ↦ None | Some d ↦ value_behind (v * 10 + d) bs ]) q
+-- what at most 9 digits spell is kept as it is
+pub nine_digits : (word : List ℕ) → length word ≤ 9 → kept_of (decimal_of word) ≡ decimal_of word
+nine_digits [] h = refl
+nine_digits (b ∷ bs) h = few 0 0 (b ∷ bs) (omega arith) (omega arith)

@@ -1,5 +1,5 @@
 -- The events of a text, or its first faulty line and that line's lowest fault (docs/FORMATS.md, "Events").
-use Rattle.std.specs.Prelude.{ℕ, ◌+◌, ◌-◌, ◌*◌, List, [], ◌∷◌, ◌++◌, Bool, true, false, ◌&&◌, ◌||◌, nat_eq, nat_le, nat_lt, length, codes, Option}
+use Rattle.std.specs.Prelude.{ℕ, ◌+◌, List, [], ◌∷◌, ◌++◌, nat_lt, length, codes, Option}
 use Rattle.std.specs.Prelude.{Some, None, Result, Ok, Err, if◌then◌else◌}
 use Rattle.std.specs.Str.{bytes_eq}
 use Rattle.metered.specs.Limits.{most_event_lines}
@@ -8,20 +8,13 @@ use Rattle.world_model.specs.declared.event.WorldEvent.TheVariants.{Step, Put, A
 use Rattle.events_text.specs.declared.fault.EventsFaultKind.{EventsFaultKind}
 use Rattle.events_text.specs.declared.fault.EventsFaultKind.TheVariants.{BadLine, Limit}
 use Rattle.events_text.specs.declared.line.Judged as source_judged
-use Rattle.events_text.specs.Pieces.{pieces_of, words_of}
-
--- the value of a decimal digit
-abbrev pub digit_of : ℕ → Option ℕ
-digit_of b = if nat_le 48 b && nat_le b 57 then Some (b - 48) else None
-
--- the value of decimal digits behind others that have this value, if all are digits
-abbrev pub value_behind : ℕ → List ℕ → Option ℕ
-value_behind n [] = Some n
-value_behind n (b ∷ bs) = elim (digit_of b) [ None ↦ None | Some d ↦ value_behind (n * 10 + d) bs ]
+use Rattle.text_lines.specs.Pieces.{pieces_of, words_of}
+use Rattle.text_lines.specs.Numbers.{decimal_of}
+use Rattle.text_lines.specs.Skipped.{is_skipped}
 
 -- a number has 1 to 9 decimal digits
 abbrev pub number_of : List ℕ → Option ℕ
-number_of word = if nat_eq (length word) 0 || nat_lt 9 (length word) then None else value_behind 0 word
+number_of word = if nat_lt 9 (length word) then None else decimal_of word
 
 -- the words are one number
 abbrev pub one_number : List (List ℕ) → Option ℕ
@@ -65,20 +58,6 @@ named_event name ws =
 abbrev pub event_of : List (List ℕ) → Option WorldEvent
 event_of [] = None
 event_of (name ∷ ws) = named_event name ws
-
--- the line begins with `#`
-abbrev pub is_comment : List ℕ → Bool
-is_comment [] = false
-is_comment (b ∷ bs) = nat_eq b 35
-
--- there is none
-abbrev pub is_none : List (List ℕ) → Bool
-is_none [] = true
-is_none (w ∷ ws) = false
-
--- the line has only spaces, or is a comment
-abbrev pub is_skipped : List ℕ → Bool
-is_skipped line = is_comment line || is_none (words_of line)
 
 -- what a line of this number gives, where no form is wrong
 abbrev pub within_limit : ℕ → Option WorldEvent → Result (Option WorldEvent) EventsFaultKind

@@ -1,4 +1,3 @@
 pub mod Faults
-pub mod Pieces
 pub mod Events
 pub mod Output

@@ -2,7 +2,6 @@
 //! the text of what a world answers to them.
 #![tactic(auto)]
 
-mod bytes;
 mod fault;
 mod line;
 mod number;

@@ -1,12 +1,12 @@
 //! One line of a text of events.
 ghost use Rattle.std.specs.Prelude.{◌≡◌};
-ghost use Rattle.events_text.specs.Pieces.{words_of};
-ghost use Rattle.events_text.specs.Events.{event_of, is_comment, is_skipped, judged_seen, line_of, named_event, one_number, rank_event, three_numbers, two_numbers};
+ghost use Rattle.text_lines.specs.Pieces.{words_of};
+ghost use Rattle.events_text.specs.Events.{event_of, judged_seen, line_of, named_event, one_number, rank_event, three_numbers, two_numbers};
 
-use crate::bytes::next_word;
 use crate::fault::EventsFaultKind;
 use crate::number::number_of;
 use metered::limits::MOST_EVENT_LINES;
+use text_lines::{is_skipped, next_word};
 use world_model::WorldEvent;
 
 /// The number that is the line's only word.
@@ -95,23 +95,6 @@ fn event_of(line: &[u8]) -> Option<WorldEvent>
 {
     let (name, rest) = next_word(line)?;
     named_event(name, rest)
-}
-
-/// Whether the line begins with `#`.
-fn is_comment(line: &[u8]) -> bool
-    ensures { result ≡ is_comment line.now }
-{
-    match line {
-        [byte, ..] => *byte == b'#',
-        [] => false,
-    }
-}
-
-/// Whether the line has only spaces, or is a comment.
-fn is_skipped(line: &[u8]) -> bool
-    ensures { result ≡ is_skipped line.now }
-{
-    is_comment(line) || next_word(line).is_none()
 }
 
 /// What a line gives.

@@ -1,14 +1,14 @@
 //! A text is read line by line.
 ghost use Rattle.std.specs.Prelude.{◌≡◌, ℕ, Ok, Err, IfOk, OnOk};
-ghost use Rattle.events_text.specs.Pieces.{pieces_of};
+ghost use Rattle.text_lines.specs.Pieces.{pieces_of};
 ghost use Rattle.events_text.specs.Events.{behind_events, events_from, events_of, onto_event};
 ghost use Rattle.events_text.specs.declared.fault.EventsFault.TheVariants.{Fault};
 ghost use Rattle.events_text.specs.declared.fault.EventsFaultKind.{EventsFaultKind};
 
-use crate::bytes::next_line;
 use crate::fault::EventsFault;
 use crate::line::{Judged, judge};
 use metered::Heap;
+use text_lines::next_line;
 use world_model::WorldEvent;
 
 /// The events of a text in order, or its first fault.

@@ -1,5 +1,5 @@
-//! Tests of `matching`, `payload_log`, `checkpoint` and `ports`: what no clause
-//! of them says, above all that calls succeed with ample memory at the limits.
+//! Tests of `matching`, `payload_log`, `checkpoint`, `ports` and `lanes`: what no
+//! clause of them says, above all that calls succeed with ample memory at the limits.
 #![tactic(auto)]
 
 #[cfg(test)]
@@ -15,11 +15,13 @@ mod images;
 #[cfg(test)]
 mod inbox;
 #[cfg(test)]
-mod lanes;
+mod one_lane;
 #[cfg(test)]
 mod packets;
 #[cfg(test)]
 mod payload_logs;
+#[cfg(test)]
+mod run_lanes;
 #[cfg(test)]
 mod shelf;
 #[cfg(test)]

@@ -1,5 +1,5 @@
 //! Collectives, a rank's machine at a time: each part, and what ends the rank.
-ghost use Rattle.std.specs.Prelude.{◌≡◌, ◌<◌, true};
+ghost use Rattle.std.specs.Prelude.{◌≡◌, ◌<◌, true, IfOk, IfSome};
 ghost use Rattle.matching.specs.Matching.{matches};
 
 use matching::{Context, Packet, Selector};
@@ -232,17 +232,11 @@ fn played(alloc: Heap, text: &str, seat: Seat, coming: &[Coming]) -> Result<Stri
                 write!(shown, "send {dest} {items:?}, ")?;
             }
             Want::Receive(selector) => {
-                let Some((source, items)) = coming.next() else {
+                let Some(packet) = next_packet(alloc, &machine, &selector, coming.next())? else {
                     break;
                 };
-                let Some(packet) = collective_packet(alloc, *source, items)? else {
-                    break;
-                };
-                if !comes(&machine, &selector, &packet) {
-                    break;
-                }
+                write!(shown, "take {}, ", packet.source)?;
                 machine.give(packet);
-                write!(shown, "take {source}, ")?;
             }
             Want::Probe(_) | Want::TryProbe(_) | Want::Halted | Want::Faulted(_) => break,
         }
@@ -251,12 +245,27 @@ fn played(alloc: Heap, text: &str, seat: Seat, coming: &[Coming]) -> Result<Stri
     Ok(shown)
 }
 
-// Whether the packet is one of a rank of the machine's run, and one that the selector names.
-fn comes(machine: &Machine, selector: &Selector, packet: &Packet) -> bool
-    ensures source { result ≡ true → packet.now.source < machine.now.store.size }
-    ensures named { result ≡ true → matches selector.now packet.now ≡ true }
+/// The packet that comes next, if it is one of a rank of the machine's run, and one that the selector names.
+fn next_packet(
+    alloc: Heap,
+    machine: &Machine,
+    selector: &Selector,
+    coming: Option<&Coming>,
+) -> Result<Option<Packet>, AllocError>
+    ensures source { IfOk result (λ found. IfSome found (λ packet. packet.source < machine.now.store.size)) }
+    ensures named { IfOk result (λ found. IfSome found (λ packet. matches selector.now packet ≡ true)) }
 {
-    packet.source < machine.size() && selector.matches(packet)
+    let Some((source, items)) = coming else {
+        return Ok(None);
+    };
+    let Some(packet) = collective_packet(alloc, *source, items)? else {
+        return Ok(None);
+    };
+    if packet.source < machine.size() && selector.matches(&packet) {
+        Ok(Some(packet))
+    } else {
+        Ok(None)
+    }
 }
 
 /// A collective's packet of these items, if it may have so many.

@@ -1,7 +1,7 @@
 //! Places for the names of a statement.
-ghost use Rattle.std.specs.Prelude.{◌≡◌, Some, IfOk, true, false, option_map};
+ghost use Rattle.std.specs.Prelude.{◌≡◌, ℕ, Some, IfOk, true, false, option_map};
 ghost use Rattle.rank_text.specs.SeenForms.{choice_of as choice_seen, form_seen, payload_seen};
-ghost use Rattle.rank_text.specs.Forms.{bcast_form, lone, reduce_form};
+ghost use Rattle.rank_text.specs.Forms.{bcast_form, lone, probe_form, recv_form, reduce_form, try_probe_form};
 ghost use Rattle.rank_text.specs.Tree.{tree_of};
 ghost use Rattle.rank_lines.specs.Scope.{is_declared, choice_declared, choice_is_great, payload_declared, payload_is_great};
 ghost use Rattle.rank_language.specs.Resolvable.{IsResolvable};
@@ -70,6 +70,64 @@ pub(crate) fn resolve_payload(
         form::Payload::Lone(name) => Ok(resolve_lone(tables, *name)),
         form::Payload::One(written) => Ok(Payload::One(resolve(alloc, tables, written)?)),
     }
+}
+
+/// The receive with places for its names.
+fn resolve_receive(
+    alloc: Heap,
+    tables: Tables<'_>,
+    source: &form::Choice,
+    tag: &form::Choice,
+    buffer: Name,
+) -> Result<Statement, AllocError>
+    requires resolvable { IsResolvable (tables_seen tables) (recv_form (choice_seen source.now) (choice_seen tag.now) buffer) }
+    ensures { (target : ℕ) → IfOk result (λ statement.
+        option_map (line_to target) (form_resolved (tables_seen tables.entry) (recv_form (choice_seen source.now) (choice_seen tag.now) buffer))
+        ≡ Some (line_of statement)) }
+{
+    Ok(Statement::Receive {
+        source: resolve_choice(alloc, tables, source)?,
+        tag: resolve_choice(alloc, tables, tag)?,
+        buffer: resolve_buffer(tables, buffer),
+    })
+}
+
+/// The probe that waits, with places for its names.
+fn resolve_probe(
+    alloc: Heap,
+    tables: Tables<'_>,
+    source: &form::Choice,
+    tag: &form::Choice,
+) -> Result<Statement, AllocError>
+    requires resolvable { IsResolvable (tables_seen tables) (probe_form (choice_seen source.now) (choice_seen tag.now)) }
+    ensures { (target : ℕ) → IfOk result (λ statement.
+        option_map (line_to target) (form_resolved (tables_seen tables.entry) (probe_form (choice_seen source.now) (choice_seen tag.now)))
+        ≡ Some (line_of statement)) }
+{
+    Ok(Statement::Probe {
+        source: resolve_choice(alloc, tables, source)?,
+        tag: resolve_choice(alloc, tables, tag)?,
+    })
+}
+
+/// The probe that doesn't wait, with places for its names.
+fn resolve_try_probe(
+    alloc: Heap,
+    tables: Tables<'_>,
+    source: &form::Choice,
+    tag: &form::Choice,
+    flag: Name,
+) -> Result<Statement, AllocError>
+    requires resolvable { IsResolvable (tables_seen tables) (try_probe_form (choice_seen source.now) (choice_seen tag.now) flag) }
+    ensures { (target : ℕ) → IfOk result (λ statement.
+        option_map (line_to target) (form_resolved (tables_seen tables.entry) (try_probe_form (choice_seen source.now) (choice_seen tag.now) flag))
+        ≡ Some (line_of statement)) }
+{
+    Ok(Statement::TryProbe {
+        source: resolve_choice(alloc, tables, source)?,
+        tag: resolve_choice(alloc, tables, tag)?,
+        flag: tables.variable(flag),
+    })
 }
 
 /// The broadcast with places for its names.
@@ -142,20 +200,9 @@ pub(crate) fn resolve_form(
             tag: resolve(alloc, tables, tag)?,
             payload: resolve_payload(alloc, tables, payload)?,
         }),
-        Form::Recv(source, tag, buffer) => Ok(Statement::Receive {
-            source: resolve_choice(alloc, tables, source)?,
-            tag: resolve_choice(alloc, tables, tag)?,
-            buffer: resolve_buffer(tables, *buffer),
-        }),
-        Form::Probe(source, tag) => Ok(Statement::Probe {
-            source: resolve_choice(alloc, tables, source)?,
-            tag: resolve_choice(alloc, tables, tag)?,
-        }),
-        Form::TryProbe(source, tag, flag) => Ok(Statement::TryProbe {
-            source: resolve_choice(alloc, tables, source)?,
-            tag: resolve_choice(alloc, tables, tag)?,
-            flag: tables.variable(*flag),
-        }),
+        Form::Recv(source, tag, buffer) => resolve_receive(alloc, tables, source, tag, *buffer),
+        Form::Probe(source, tag) => resolve_probe(alloc, tables, source, tag),
+        Form::TryProbe(source, tag, flag) => resolve_try_probe(alloc, tables, source, tag, *flag),
         Form::Print(value) => Ok(Statement::Print(resolve(alloc, tables, value)?)),
         Form::Barrier => Ok(Statement::Collect(Collective::Barrier)),
         Form::Bcast(root, buffer) => Ok(Statement::Collect(resolve_broadcast(

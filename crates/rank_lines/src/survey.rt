@@ -1,15 +1,16 @@
 //! One walk over a statement's arguments: are its names declared, its expressions small, its numbers readable?
 ghost use Rattle.std.specs.Prelude.{◌≡◌, OnOk, IfOk, true, false, ◌&&◌, ◌||◌};
 ghost use Rattle.rank_text.specs.SeenForms.{choice_of, form_seen, payload_seen};
-ghost use Rattle.rank_lines.specs.Scope.{choice_declared, choice_is_great, choice_is_large, declared_in};
-ghost use Rattle.rank_lines.specs.Scope.{has_great_number, has_large, is_array, is_declared};
+ghost use Rattle.rank_text.specs.Tree.{tree_of};
+ghost use Rattle.rank_lines.specs.Scope.{all_declared, choice_declared, choice_is_great, choice_is_large, declared_in};
+ghost use Rattle.rank_lines.specs.Scope.{has_great_number, has_large, is_array, is_declared, is_great, is_large};
 ghost use Rattle.rank_lines.specs.Scope.{is_variable, payload_declared, payload_is_great, payload_is_large};
 ghost use Rattle.rank_lines.specs.SeenLines.{scope_seen};
 
 use crate::scope::Scope;
 use metered::Heap;
 use metered::limits::MOST_NODES;
-use rank_text::{Choice, Form, Name, Payload};
+use rank_text::{Choice, Form, Name, Payload, Written};
 use std::alloc::AllocError;
 
 /// The greatest number of a program.
@@ -83,6 +84,68 @@ impl Survey {
         }
     }
 
+    /// The source and the tag of a reception or of a probe.
+    fn envelope(
+        &mut self,
+        alloc: Heap,
+        scope: &Scope,
+        source: &Choice,
+        tag: &Choice,
+    ) -> Result<(), AllocError>
+        ensures declared { OnOk result (self.new.declared
+            ≡ ((self.old.declared && choice_declared (scope_seen scope.now) (choice_of source.now))
+            && choice_declared (scope_seen scope.now) (choice_of tag.now))) }
+        ensures large { OnOk result (self.new.large
+            ≡ ((self.old.large || choice_is_large (choice_of source.now)) || choice_is_large (choice_of tag.now))) }
+        ensures great { OnOk result (self.new.great
+            ≡ ((self.old.great || choice_is_great (choice_of source.now)) || choice_is_great (choice_of tag.now))) }
+    {
+        self.choice(alloc, scope, source)?;
+        self.choice(alloc, scope, tag)
+    }
+
+    /// Root and buffer of a broadcast.
+    fn broadcast(
+        &mut self,
+        alloc: Heap,
+        scope: &Scope,
+        root: &Written,
+        buffer: &Name,
+    ) -> Result<(), AllocError>
+        ensures declared { OnOk result (self.new.declared
+            ≡ ((self.old.declared && all_declared (scope_seen scope.now) (tree_of root.now))
+            && is_declared (scope_seen scope.now) buffer.now)) }
+        ensures large { OnOk result (self.new.large ≡ (self.old.large || is_large (tree_of root.now))) }
+        ensures great { OnOk result (self.new.great ≡ (self.old.great || is_great (tree_of root.now))) }
+    {
+        self.expression(alloc, scope, root)?;
+        self.either(scope, buffer);
+        Ok(())
+    }
+
+    /// Root, value and variable of a reduce.
+    fn reduction(
+        &mut self,
+        alloc: Heap,
+        scope: &Scope,
+        root: &Written,
+        value: &Written,
+        variable: &Name,
+    ) -> Result<(), AllocError>
+        ensures declared { OnOk result (self.new.declared
+            ≡ (((self.old.declared && all_declared (scope_seen scope.now) (tree_of root.now))
+            && all_declared (scope_seen scope.now) (tree_of value.now)) && is_variable (scope_seen scope.now) variable.now)) }
+        ensures large { OnOk result (self.new.large
+            ≡ ((self.old.large || is_large (tree_of root.now)) || is_large (tree_of value.now))) }
+        ensures great { OnOk result (self.new.great
+            ≡ ((self.old.great || is_great (tree_of root.now)) || is_great (tree_of value.now))) }
+    {
+        self.expression(alloc, scope, root)?;
+        self.expression(alloc, scope, value)?;
+        self.variable(scope, variable);
+        Ok(())
+    }
+
     /// The walk: a new form is added here.
     fn walk(&mut self, alloc: Heap, scope: &Scope, form: &Form) -> Result<(), AllocError>
         requires declared { self.old.declared ≡ true }
@@ -114,32 +177,20 @@ impl Survey {
                 self.payload(alloc, scope, payload)
             }
             Form::Recv(source, tag, buffer) => {
-                self.choice(alloc, scope, source)?;
-                self.choice(alloc, scope, tag)?;
+                self.envelope(alloc, scope, source, tag)?;
                 self.either(scope, buffer);
                 Ok(())
             }
-            Form::Probe(source, tag) => {
-                self.choice(alloc, scope, source)?;
-                self.choice(alloc, scope, tag)
-            }
+            Form::Probe(source, tag) => self.envelope(alloc, scope, source, tag),
             Form::TryProbe(source, tag, flag) => {
-                self.choice(alloc, scope, source)?;
-                self.choice(alloc, scope, tag)?;
+                self.envelope(alloc, scope, source, tag)?;
                 self.variable(scope, flag);
                 Ok(())
             }
             Form::Print(value) => self.expression(alloc, scope, value),
-            Form::Bcast(root, buffer) => {
-                self.expression(alloc, scope, root)?;
-                self.either(scope, buffer);
-                Ok(())
-            }
+            Form::Bcast(root, buffer) => self.broadcast(alloc, scope, root, buffer),
             Form::Reduce(_, root, value, variable) => {
-                self.expression(alloc, scope, root)?;
-                self.expression(alloc, scope, value)?;
-                self.variable(scope, variable);
-                Ok(())
+                self.reduction(alloc, scope, root, value, variable)
             }
         }
     }

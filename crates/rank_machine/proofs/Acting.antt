@@ -4,7 +4,7 @@ use Rattle.std.proofs.Common.{◌≡◌, ℕ, ℤ, ◌+◌, ◌<◌, ◌≤◌, 
 use Rattle.std.proofs.lemmas.List.{length-map, length-set}
 use Rattle.metered.specs.Limits.{greatest_tag, most_items}
 use Rattle.rank_language.specs.Placed.{declare, declare_array, assign, assign_item, send, receive, probe, try_probe, print, Collective, collect}
-use Rattle.rank_language.specs.Block.{Block, plain, Line, simple_line, if_line, else_line, end_line, while_line, back_line, Leads, remaining, size}
+use Rattle.rank_language.specs.Block.{Block, plain, Line, simple_line, if_line, else_line, end_line, while_line, back_line, remaining, size}
 use Rattle.rank_language.specs.Program.{tree_of}
 use Rattle.rank_machine.specs.declared.fault.MachineFault.{MachineFault}
 use Rattle.rank_machine.specs.declared.want.Want.{Want}
@@ -13,7 +13,7 @@ use Rattle.rank_machine.specs.Values.{Store, Valued, ◌>>=◌}
 use Rattle.rank_machine.specs.Collectives.{Call, called, part_of, is_last, counted, passed, greatest_ordinal}
 use Rattle.rank_machine.specs.Acts.{Message, with_variable, with_status}
 use Rattle.rank_machine.specs.Wants.{part_want, collective_want, or_fault, want_of}
-use Rattle.rank_machine.specs.Machine.{MachineValue, line_at, asked, asks, position_after, next_of, call_at, HasStage, IsAtLine, IsWithinLimits, IsMachine}
+use Rattle.rank_machine.specs.Machine.{MachineValue, line_at, asked, asks, next_of, call_at, HasStage, IsAtLine, IsWithinLimits, IsMachine}
 use Rattle.rank_machine.proofs.Going.{IsNoCollectiveLine, after_part}
 use Rattle.rank_machine.proofs.Stages.{fresh}
 
@@ -73,7 +73,7 @@ was_called P s c (Ok call) none h = (call, refl, h)
 was_called P s c (Err k) none h = absurd (none k h)
 
 -- and no fault is left
-no_fault : (P : Want → Type 0) (s : Store) (b : Block) (k : Option MachineFault) → ((f : MachineFault) → P (want.Faulted f) → ⊥) → P (want_of s b k) → k ≡ None
+pub no_fault : (P : Want → Type 0) (s : Store) (b : Block) (k : Option MachineFault) → ((f : MachineFault) → P (want.Faulted f) → ⊥) → P (want_of s b k) → k ≡ None
 no_fault P s b None none h = refl
 no_fault P s b (Some f) none h = absurd (none f h)
 

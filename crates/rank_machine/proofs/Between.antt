@@ -36,7 +36,7 @@ follows P (Ok x) f h = h x
 follows P (Err k) f h = tt
 
 -- a source and a tag name messages between two ranks
-selects : (s : Store) (c t : Choice) → IfOk (selector_of s c t) (λ w. w.context ≡ PointToPoint)
+pub selects : (s : Store) (c t : Choice) → IfOk (selector_of s c t) (λ w. w.context ≡ PointToPoint)
 selects s c t =
     let P : Selector → Type 0 = λ w. w.context ≡ PointToPoint in
     follows P (choice_value s c) _ (λ x. follows P (choice_value s t) _ (λ y. follows P (where_named (rank_in s.size) x) _ (λ source. follows P (where_named tag_in y) _ (λ tag. refl))))
@@ -83,7 +83,8 @@ pub record IsFew (m : packet.Message) : Type 0 where
   pub tag : m.tag ≤ limits.greatest_tag
   pub count : length m.items ≤ limits.most_items
 
-few : (m : packet.Message) → IsMessage m → m.context ≡ PointToPoint → IsFew m
+-- one between two ranks is such
+pub few : (m : packet.Message) → IsMessage m → m.context ≡ PointToPoint → IsFew m
 few m h e = record { tag = subst (λ c. m.tag ≤ greatest_tag c) e h.tag; count = subst (λ c. length m.items ≤ most_items c) e h.most }
 
 shown_of : (w : Want) (m : packet.Message) → IsMessage m → IsBetween w → IsShowing w m → IsFew m

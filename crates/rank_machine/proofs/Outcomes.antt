@@ -54,7 +54,7 @@ abbrev pub Outcome : Store → statements.Collective → Block → Call → Act 
 Outcome s c r call act m b = Gave s c r call act m b ⊎ (Took s c r call act m b ⊎ Failed s c r call act m b)
 
 -- what fits is left as it is
-fitting_same : (s : Store) (c : statements.Collective) (vs ws : List ℤ) → fitting s c vs ≡ Ok ws → ws ≡ vs
+pub fitting_same : (s : Store) (c : statements.Collective) (vs ws : List ℤ) → fitting s c vs ≡ Ok ws → ws ≡ vs
 fitting_same s barrier vs ws e = cc
 fitting_same s (reduce f e' v p) vs ws e = cc
 fitting_same s (broadcast e' b) vs ws e = by_test _ e

@@ -1,62 +1,41 @@
 -- What a machine is after a reception, and that it stands for the state after it.
-use Rattle.std.proofs.Common.{◌≡◌, ℕ, ℤ, ◌+◌, ◌<◌, ◌≤◌, Bool, true, false, List, [], ◌∷◌, Ok, Err, Option, Some, None, length, map, refl, sym, ap, subst, ◌∙◌, arith, if◌then◌else◌}
+use Rattle.std.proofs.Common.{◌≡◌, ℕ, ℤ, ◌+◌, ◌<◌, ◌≤◌, Bool, true, false, List, [], ◌∷◌, Ok, Err, Option, Some, None, IfOk, length, map, refl, sym, ap, subst, ◌∙◌, arith, if◌then◌else◌}
 use Rattle.std.specs.Prelude.{nat_le}
 use Rattle.std.proofs.lemmas.List.{length-set}
 use Rattle.std.proofs.lemmas.Bool.Decides.{nat_tests}
-use Rattle.matching.specs.declared.packet.Context.{Context}
 use Rattle.matching.specs.declared.packet.Context.TheVariants.{PointToPoint}
 use Rattle.matching.specs.declared.selector.Selector.{Selector}
 use Rattle.matching.specs.Message as packet
-use Rattle.matching.specs.Message.{IsMessage, most_items, greatest_tag}
+use Rattle.matching.specs.Message.{IsMessage}
 use Rattle.rank_language.specs.Placed.{Buffer, into_variable, into_array, Choice, receive, Collective, barrier, broadcast, reduce, collect}
 use Rattle.rank_language.specs.Block.{Block, plain, simple_line, remaining, size}
 use Rattle.rank_language.specs.Program.{tree_of}
 use Rattle.rank_machine.specs.declared.call.Call as source_call
 use Rattle.rank_machine.specs.declared.fault.MachineFault.{MachineFault}
 use Rattle.rank_machine.specs.declared.fault.MachineFault.TheVariants.{TooLong, CollectiveMismatch}
-use Rattle.rank_machine.specs.declared.want.Want.{Want}
 use Rattle.rank_machine.specs.declared.want.Want.TheVariants as want
 use Rattle.rank_machine.specs.Faults.{IsLeft}
-use Rattle.rank_machine.specs.Values.{Store, Valued, ◌>>=◌, rank_in}
-use Rattle.rank_machine.specs.Collectives.{Call, called, Part, gives, gets, ends, part_of, is_last, passed, given_by, ended}
+use Rattle.rank_machine.specs.Values.{Store, Valued, ◌>>=◌}
+use Rattle.rank_machine.specs.Collectives.{Call, Part, gives, gets, ends, part_of, is_last, passed, given_by, ended}
 use Rattle.rank_machine.specs.Calling.{head_of, call_of}
 use Rattle.rank_machine.specs.States.{State}
-use Rattle.rank_machine.specs.Wants.{tag_in, choice_value, where_named, selector_of, part_want, receive_want, or_fault, want_of}
+use Rattle.rank_machine.specs.Wants.{selector_of, part_want, receive_want, or_fault, want_of}
 use Rattle.rank_machine.specs.Acts.{Act, Message, carried, takes, room, written, with_status, received, kept, fitting, items_taken, part_taken, collected, after_first, unless_faulted, next}
 use Rattle.rank_machine.specs.Machine.{MachineValue, state_of, line_at, asked, asks, IsReceiving, IsAtLine, IsMachine}
 use Rattle.rank_machine.proofs.Lines.{never}
 use Rattle.rank_machine.proofs.Making.{named}
-use Rattle.rank_machine.proofs.Between.{IsFew}
+use Rattle.rank_machine.proofs.Between.{IsFew, few, selects}
 use Rattle.rank_machine.proofs.Calls.{bound_ok}
 use Rattle.rank_machine.proofs.Going.{after_part, remains_after}
+use Rattle.rank_machine.proofs.Outcomes.{fitting_same}
 use Rattle.rank_machine.proofs.Stages.{taken_stage}
-use Rattle.rank_machine.proofs.Acting.{IsCalling, calls, call_stage, IsPart, Leaves, part_within, part_ahead, part_is, same_line, Shows, plain_machine}
+use Rattle.rank_machine.proofs.Acting.{IsCalling, no_fault, calls, call_stage, IsPart, Leaves, part_within, part_ahead, part_is, same_line, Shows, plain_machine}
 
--- what a receive statement names is between two ranks
-between : (s : Store) (c t : Choice) (w : Selector) → selector_of s c t ≡ Ok w → w.context ≡ PointToPoint
-between s c t w e =
-    let x = bound_ok (choice_value s c) _ w e in
-    let y = bound_ok (choice_value s t) _ w x.2 in
-    let source = bound_ok (where_named (rank_in s.size) x.0) _ w y.2 in
-    let tag = bound_ok (where_named tag_in y.0) _ w source.2 in
-    let named : Selector = record { context = PointToPoint; source = source.0; tag = tag.0 } in
-    let last : Ok named ≡ Ok w = tag.2 in
-    let same : named ≡ w = cc in
-    let C : Selector → Context = λ u. u.context in
-    ap C (sym same)
-
--- so the message that it takes has few items
-selected_few : (v : Valued Selector) (m : packet.Message) → IsMessage m → ((w : Selector) → v ≡ Ok w → w.context ≡ PointToPoint)
+-- what a receive statement names is between two ranks, so the message that it takes has few items
+selected_few : (v : Valued Selector) (m : packet.Message) → IsMessage m → IfOk v (λ w. w.context ≡ PointToPoint)
     → IsReceiving (or_fault (v >>= (λ w. Ok (want.Receive w)))) m → IsFew m
-selected_few (Ok w) m h b i =
-    let e : m.context ≡ PointToPoint = (named w m i).0 ∙ b w refl in
-    record { tag = subst (λ c. m.tag ≤ greatest_tag c) e h.tag; count = subst (λ c. length m.items ≤ most_items c) e h.most }
+selected_few (Ok w) m h b i = few m h ((named w m i).0 ∙ b)
 selected_few (Err k) m h b i = absurd i
-
--- a state that receives isn't faulted
-receiving_none : (s : Store) (b : Block) (k : Option MachineFault) (m : packet.Message) → IsReceiving (want_of s b k) m → k ≡ None
-receiving_none s b None m h = refl
-receiving_none s b (Some f) m h = absurd h
 
 -- A receive statement that takes a message: the line that stands, no fault, and a message within the limits of its context.
 pub record IsTaking (m : MachineValue) (c t : Choice) (b : Buffer) (p : packet.Message) : Type 0 where
@@ -71,10 +50,10 @@ taking m c t b p h l at i =
     let r : Block = remaining (tree_of m.program) m.position in
     let stands : r ≡ plain (receive c t b) (remaining (tree_of m.program) (m.position + 1)) = l.leads (simple_line (receive c t b)) at in
     let v : IsReceiving (want_of m.store r m.fault) p = subst (λ o. IsReceiving (asked o m.fault (want_of m.store r m.fault)) p) at i in
-    let k = receiving_none m.store r m.fault p v in
+    let k = no_fault (λ w. IsReceiving w p) m.store r m.fault (λ f z. z) v in
     let wanted = ap (want_of m.store r) k ∙ ap (λ z. want_of m.store z None) stands in
     let u : IsReceiving (or_fault (receive_want m.store c t)) p = subst (λ w. IsReceiving w p) wanted v in
-    record { there = at; stands = stands; fault = k; few = selected_few (selector_of m.store c t) p h (between m.store c t) u }
+    record { there = at; stands = stands; fault = k; few = selected_few (selector_of m.store c t) p h (selects m.store c t) u }
 
 -- the same machine as it was seen at the call
 pub seen_taking : (m n : MachineValue) (c t : Choice) (b : Buffer) (p : packet.Message) → m ≡ n → IsMessage p → IsAtLine n
@@ -238,21 +217,11 @@ head_taken s c k items v e =
     let F : Valued (List ℤ) → Valued (List ℤ) = λ w. w >>= (λ items. fitting s c items) in
     sym (ap F (head_given s c k items)) ∙ e
 
--- items that fit are left as they are
-fits_same : (s : Store) (c : Collective) (xs ys : List ℤ) → fitting s c xs ≡ Ok ys → xs ≡ ys
-fits_same s barrier xs ys e = cc
-fits_same s (broadcast x b) xs ys e = by_test _ e
-  where
-    by_test : (t : Bool) → (if t then Ok xs else Err MachineFault.TooLong) ≡ Ok ys → xs ≡ ys
-    by_test true e = cc
-    by_test false e = absurd cc
-fits_same s (reduce f x v p) xs ys e = cc
-
--- so those that are taken were given
+-- items that fit are left as they are, so those that are taken were given
 taken_given : (s : Store) (c : Collective) (call : Call) (packet items : List ℤ) → items_taken s c call packet ≡ Ok items → given_by call packet ≡ Ok items
 taken_given s c call packet items e =
     let x = bound_ok (given_by call packet) _ items e in
-    x.1 ∙ ap Ok (fits_same s c x.0 items x.2)
+    x.1 ∙ ap Ok (sym (fitting_same s c x.0 items x.2))
 
 -- what a packet that isn't taken leaves as a fault
 mismatched : (call : Call) (packet : List ℤ) (k : MachineFault) → given_by call packet ≡ Err k → IsLeft (Some k)

@@ -1,9 +1,9 @@
 -- What a machine is after a send of a collective.
-use Rattle.std.proofs.Common.{◌≡◌, ℕ, ◌+◌, ◌≤◌, Bool, Ok, Option, Some, length, map, refl, sym, ap, subst, ◌∙◌}
+use Rattle.std.proofs.Common.{◌≡◌, ℕ, Bool, Ok, Option, Some, length, map, refl, sym, ap, subst, ◌∙◌}
 use Rattle.rank_language.specs.Placed.{Collective, collect}
 use Rattle.rank_language.specs.Block.{simple_line}
-use Rattle.rank_machine.specs.Values.{Store, Valued}
-use Rattle.rank_machine.specs.Collectives.{Call, called, Part, gives, gets, ends, part_of, is_last, passed, ended}
+use Rattle.rank_machine.specs.Values.{Store}
+use Rattle.rank_machine.specs.Collectives.{Call, Part, gives, gets, ends, part_of, is_last, passed, ended}
 use Rattle.rank_machine.specs.Wants.{IsSend, part_want, or_fault}
 use Rattle.rank_machine.specs.Acts.{Act, Message, Makes, next}
 use Rattle.rank_machine.specs.Machine.{MachineValue, state_of, line_at, asks, IsAtLine, IsMachine}

@@ -1,17 +1,17 @@
 -- At which part of a collective a machine stands, at its beginning and after each part.
-use Rattle.std.proofs.Common.{◌≡◌, ℕ, ℤ, zero, suc, ◌+◌, ◌<◌, ◌≤◌, ◌==◌, Bool, true, false, List, [], ◌∷◌, ◌++◌, Ok, Err, Option, Some, None, length, slice_get, refl, sym, ap, subst, ◌∙◌, arith, ◌⊎◌, inl, inr}
-use Rattle.std.proofs.lemmas.Bool.{eq-eqb, ne_eqb, eqb-false, cases_eq}
+use Rattle.std.proofs.Common.{◌≡◌, ℕ, ℤ, ◌+◌, ◌<◌, ◌==◌, Bool, true, false, List, [], ◌∷◌, ◌++◌, Ok, Option, Some, None, length, slice_get, refl, sym, ap, ◌∙◌, arith}
+use Rattle.std.proofs.lemmas.Bool.{eq-eqb, eqb-false}
 use Rattle.std.proofs.lemmas.List.{length-append}
 use Rattle.rank_text.specs.declared.token.Reduction.{Reduction}
 use Rattle.rank_language.specs.Placed.{into_variable, into_array, Collective, barrier, broadcast, reduce, collect}
 use Rattle.rank_language.specs.Block.{Line, simple_line}
-use Rattle.rank_machine.specs.Values.{Store, Valued}
-use Rattle.rank_machine.specs.Collectives.{Kind, barriers, broadcasts, folds, Call, called, Part, gives, gets, ends, parts, parts_of, part_of, is_last, counted, passed, given_by, unfaulted}
+use Rattle.rank_machine.specs.Values.{Store}
+use Rattle.rank_machine.specs.Collectives.{Kind, barriers, broadcasts, folds, Call, called, Part, gives, gets, ends, parts, parts_of, part_of, is_last, counted, passed, given_by}
 use Rattle.rank_machine.specs.Acts.{kept}
-use Rattle.rank_machine.specs.Machine.{HasStage, stages, gathers, gathered_by, call_at}
+use Rattle.rank_machine.specs.Machine.{HasStage, gathered_by, call_at}
 use Rattle.rank_machine.proofs.CollectiveParts.{found_or, some_part}
 use Rattle.rank_machine.proofs.Places.{broadcast_gets, reduce_gives, reduce_gets_root, ends_is_last}
-use Rattle.rank_machine.proofs.Calls.{kind_of, IsCall, is_call, called_same, gives_one}
+use Rattle.rank_machine.proofs.Calls.{kind_of, is_call, called_same, gives_one}
 
 -- before the first part nothing is gathered
 none_gathered : (k : Kind) (b : Bool) (n : ℕ) → n ≡ 0 → gathered_by k b n ≡ 0

@@ -7,7 +7,6 @@ use Rattle.rank_text.specs.declared.token.Reduction.{Reduction}
 use Rattle.rank_text.specs.declared.token.Reduction.TheVariants.{Sum, Max, Min}
 use Rattle.rank_language.specs.Placed.{Buffer, into_variable, into_array, Collective, barrier, broadcast, reduce}
 use Rattle.rank_language.specs.Block.{Block}
-use Rattle.rank_machine.specs.declared.fault.MachineFault.{MachineFault}
 use Rattle.rank_machine.specs.declared.fault.MachineFault.TheVariants.{Overflow, CollectiveMismatch}
 use Rattle.rank_machine.specs.Values.{Store, Valued, ◌>>=◌, value, in_range, rank_in}
 

@@ -1,5 +1,5 @@
 pub mod Lists
-pub mod Rows
+pub use Rattle.audit.proofs.Rows
 pub mod Pending
 pub mod Places
 pub mod Inboxes

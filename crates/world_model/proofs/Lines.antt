@@ -8,17 +8,8 @@ use Rattle.ports.specs.Console.{is_new, after_line}
 use Rattle.rank_machine.specs.Acts.{Act, sends, takes, hits, misses, prints}
 use Rattle.crash_free.specs.Runs.{Passed, History, cons_if, history, printed, prints_from, print_at}
 use Rattle.crash_free.proofs.Lists.{printed-own, printed-other}
+use Rattle.audit.proofs.Sorting.{lines_of-push}
 use Rattle.world_model.specs.Headline.{lines_of}
-
--- the lines of a rank, after one more line
-lines_of-push : (q : ℕ) (lines : List Line) (x : Line) → lines_of q (lines ++ x ∷ []) ≡ lines_of q lines ++ cons_if (x.rank == q) (x.clock, x.value) []
-lines_of-push q [] x = refl
-lines_of-push q (y ∷ lines) x = rw (lines_of-push q lines x) (go (y.rank == q))
-  where
-    go : (b : Bool) → cons_if b (y.clock, y.value) (lines_of q lines ++ cons_if (x.rank == q) (x.clock, x.value) [])
-        ≡ cons_if b (y.clock, y.value) (lines_of q lines) ++ cons_if (x.rank == q) (x.clock, x.value) []
-    go true = refl
-    go false = refl
 
 -- each clock is at most this
 AtMost : ℕ → List (ℕ × ℤ) → Type 0

@@ -1,5 +1,5 @@
 -- The world stands for a crash-free run. This is what the contracts of the world promise after each event.
-use Rattle.std.specs.Prelude.{◌≡◌, ◌≢◌, ℕ, ◌+◌, ℤ, ◌≤◌, ◌==◌, List, [], ◌∷◌, ◌++◌, length, take, Option, Some, None, slice_get, replicate}
+use Rattle.std.specs.Prelude.{◌≡◌, ◌≢◌, ℕ, ◌+◌, ◌≤◌, List, [], ◌++◌, length, take, Option, Some, None, slice_get, replicate}
 use Rattle.rank_language.specs.Program.{ProgramValue}
 use Rattle.rank_machine.specs.States.{State, Inners}
 use Rattle.rank_machine.specs.Acts.{Act, Runs, carried}
@@ -10,17 +10,13 @@ use Rattle.rank_node.specs.declared.frame.Frame.{Frame}
 use Rattle.rank_node.specs.declared.frame.Frame.TheVariants as frame
 use Rattle.plain_logger.specs.Event.{EventValue}
 use Rattle.plain_logger.specs.History.{empty_rows}
-use Rattle.ports.specs.declared.line.Line.{Line}
 use Rattle.checkpoint.specs.declared.memory_shelf.MemoryShelf.{MemoryShelf}
 use Rattle.checkpoint.specs.Shelf.{image_bytes}
-use Rattle.crash_free.specs.Runs.{Passed, at_place, cons_if, history, sent, printed, IsRun, continue}
+use Rattle.crash_free.specs.Runs.{Passed, at_place, history, sent, printed, IsRun, continue}
 use Rattle.world_model.specs.Rows.{row, expand, IsRow}
 use Rattle.world_model.specs.World.{Live, WorldValue, size, start_of, IsLive, IsWire, unstored, unreleased}
-
 -- the lines of a rank, each with its clock
-abbrev pub lines_of : ℕ → List Line → List (ℕ × ℤ)
-lines_of r [] = []
-lines_of r (l ∷ lines) = cons_if (l.rank == r) (l.clock, l.value) (lines_of r lines)
+pub use Rattle.audit.specs.Outcome.{lines_of}
 
 -- a packet on the wire from s to d with number k is the kth message that s sent to d in the run
 abbrev pub IsReal : List Passed → ℕ → ℕ → Frame → Type 0

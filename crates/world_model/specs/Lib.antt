@@ -1,4 +1,4 @@
-pub mod Rows
+pub use Rattle.audit.specs.Rows
 pub mod World
 pub mod Headline
 pub mod Retained

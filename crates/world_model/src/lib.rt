@@ -13,6 +13,7 @@ mod wire;
 mod wires;
 mod world;
 
+pub use audit::{AuditFault, Audited, End, Outcome, audit};
 pub use crash_free::{Act, Choice, NotAllowed, Passed, Sim};
 pub use event::WorldEvent;
 pub use reply::Reply;

@@ -1,10 +1,13 @@
-//! Tests of crash-free runs, of worlds and of their texts, over public calls.
+//! Tests of crash-free runs, of audits, of worlds and of their texts, over
+//! public calls.
 //!
 //! They see what no clause says: that each call can succeed, at the limits too,
 //! and that the definitions mean what they should. Expected values are worked
 //! out by hand.
 #![tactic(auto)]
 
+#[cfg(test)]
+mod audits;
 #[cfg(test)]
 mod collectives;
 #[cfg(test)]

@@ -3,7 +3,8 @@ ghost use Rattle.std.specs.Prelude.{◌≡◌, ℕ, ◌<◌, ◌≤◌, IfOk, If
 ghost use Rattle.matching.specs.Message.{least_items, most_items, greatest_tag};
 ghost use Rattle.rank_machine.specs.Wants.{IsLegal};
 ghost use Rattle.crash_free.specs.Sim.{Allows, Refuses};
-ghost use Rattle.crash_free.specs.Wanted.{AsksAt, ProbesAt, TriesAt};
+ghost use Rattle.crash_free.specs.Inside.{GoesInside};
+ghost use Rattle.crash_free.specs.Wanted.{AsksAt, ProbesAt, TriesAt, StandsAtAct};
 
 use crate::act::Passed;
 use crate::choice::Choice;
@@ -12,7 +13,7 @@ use crate::sim::Sim;
 use matching::{Context, Packet, Selector};
 use metered::Heap;
 use rank_machine::Want;
-use rank_machine::laws::{makes_its_miss, makes_its_print, makes_its_send};
+use rank_machine::laws::{asks_its_state, makes_its_miss, makes_its_print, makes_its_send};
 use std::alloc::AllocError;
 
 impl Sim<'_> {
@@ -23,6 +24,18 @@ impl Sim<'_> {
     {
         let machine = &mut self.machines[usize::from(rank)];
         machine.internal();
+    }
+
+    pub(super) fn advance(&mut self, rank: u8, most: u32) -> u32
+        requires there { rank < length self.old.machines }
+        ensures few { result ≤ most }
+        ensures inside { GoesInside self.old rank result self.new }
+        ensures stops { result < most → StandsAtAct self.new.machines rank }
+    {
+        let machine = &mut self.machines[usize::from(rank)];
+        let made = machine.advance(most);
+        asks_its_state(machine);
+        made
     }
 
     pub(super) fn print(&mut self, rank: u8, value: i64) -> Result<(), AllocError>

@@ -1,5 +1,5 @@
 use Rattle.std.proofs.Common.{◌≡◌, ◌≤◌, ◌+◌, length}
-use Rattle.events_text.specs.Pieces.{pieces_of}
+use Rattle.text_lines.specs.Pieces.{pieces_of}
 use Rattle.events_text.specs.Events.{behind_events, events_from, events_of}
 use Rattle.events_text.proofs.parse.parse_events.Given as goal
 

@@ -23,11 +23,9 @@ invariant_of-self c =
     let m : MachineValue =
     record { program = c.self.inside.program.now; position = c.self.inside.position; store = c.self.inside.store; fault = c.self.inside.fault }
     in
-    let r = c.requires in
     let x = collective_of c.args.collective.now in
     let k = c.in-Ok.call in
     let call = call_of m.store x k in
-    let i = seen_part m c.args.self.now x call k.ordinal c.self.view_is r.at_line r.line r.behind (sym c.in-Ok.ensures.call) c.in-Ok.ensures.ordinal in
     let p = c.args.packet.now in
     let Items : Message → List ℤ = λ z. z.items in
     let items : c.deref.result.now ≡ p.items = c.deref.ensures.value ∙ ap Items c.packet.view_is in

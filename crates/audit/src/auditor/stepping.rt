@@ -1,0 +1,177 @@
+//! Steps of one rank that the outcome has.
+ghost use Rattle.std.specs.Prelude.{◌≡◌, ◌<◌, ◌≤◌, length, IfSome, IfOk, OnOk, IsTrue, is_ok};
+ghost use Rattle.crash_free.specs.Wanted.{AsksAt};
+ghost use Rattle.audit.specs.Audits.{Keeps, GoesTo, IsSendTo, Suits, Repeats};
+
+use crate::auditor::{Auditor, Goal};
+use crash_free::{Choice, NotAllowed};
+use plain_logger::{Event, Kind};
+use rank_machine::Want;
+use std::alloc::AllocError;
+
+impl Auditor<'_> {
+    /// Makes steps of the rank's own, at most so many, and answers how many.
+    #[tactic(auto, using(crate::proofs::Steps::goes_inside))]
+    pub(super) fn stride(&mut self, rank: u8, most: u32) -> u32
+        requires rank { rank < length self.old.sim.machines }
+        requires keeps { Keeps self.old.sim self.old.traces.items }
+        ensures few { result ≤ most }
+        ensures goes { GoesTo self.old.sim self.new.sim self.new.traces.items }
+    {
+        self.sim.stride(rank, most)
+    }
+
+    /// Makes the next act of a rank, unless the outcome doesn't have it.
+    #[tactic(auto, using(crate::proofs::Steps::goes_nowhere))]
+    pub(super) fn act(&mut self, rank: u8, goal: &Goal<'_>) -> Result<bool, AllocError>
+        requires rank { rank < length self.old.sim.machines }
+        requires keeps { Keeps self.old.sim self.old.traces.items }
+        ensures { OnOk result (GoesTo self.old.sim self.new.sim self.new.traces.items) }
+    {
+        let want = self.sim.wants(rank);
+        match want {
+            Want::Send { dest, .. } => self.send(rank, want, dest),
+            Want::Print(value) if self.is_next_line(rank, goal, value) => self.print(rank, value),
+            Want::Receive(_) | Want::Probe(_) | Want::TryProbe(_) => {
+                match self.next_event(rank, goal) {
+                    Some(event) => self.choose(rank, want, event),
+                    None => Ok(false),
+                }
+            }
+            Want::Internal | Want::Print(_) | Want::Halted | Want::Faulted(_) => Ok(false),
+        }
+    }
+
+    /// The send that the rank wants.
+    fn send(&mut self, rank: u8, want: Want, dest: u8) -> Result<bool, AllocError>
+        requires rank { rank < length self.old.sim.machines }
+        requires dest { dest < length self.old.sim.machines }
+        requires keeps { Keeps self.old.sim self.old.traces.items }
+        requires asks { AsksAt self.old.sim.machines rank want }
+        requires sends { IsSendTo dest want }
+        ensures { OnOk result (GoesTo self.old.sim self.new.sim self.new.traces.items) }
+    {
+        let place = usize::from(rank);
+        let Some(clock) = self.traces[place].next_clock() else {
+            return Ok(false);
+        };
+        if !was_allowed(self.sim.act(rank, Choice::Next))? {
+            return Ok(false);
+        }
+        self.traces[place].note_send(clock, dest)?;
+        Ok(true)
+    }
+
+    /// The print that the rank wants.
+    fn print(&mut self, rank: u8, value: i64) -> Result<bool, AllocError>
+        requires rank { rank < length self.old.sim.machines }
+        requires keeps { Keeps self.old.sim self.old.traces.items }
+        requires asks { AsksAt self.old.sim.machines rank (Want.Print value) }
+        ensures { OnOk result (GoesTo self.old.sim self.new.sim self.new.traces.items) }
+    {
+        let place = usize::from(rank);
+        let Some(clock) = self.traces[place].next_clock() else {
+            return Ok(false);
+        };
+        if !was_allowed(self.sim.act(rank, Choice::Next))? {
+            return Ok(false);
+        }
+        self.traces[place].note_line(clock, value)?;
+        Ok(true)
+    }
+
+    /// The reception, hit or miss that the event keeps.
+    fn choose(&mut self, rank: u8, want: Want, event: Event) -> Result<bool, AllocError>
+        requires rank { rank < length self.old.sim.machines }
+        requires keeps { Keeps self.old.sim self.old.traces.items }
+        requires asks { AsksAt self.old.sim.machines rank want }
+        ensures { OnOk result (GoesTo self.old.sim self.new.sim self.new.traces.items) }
+    {
+        if !suits(&want, event.kind()) {
+            return Ok(false);
+        }
+        let Some(choice) = self.choice_of(rank, &event) else {
+            return Ok(false);
+        };
+        let place = usize::from(rank);
+        let Some(clock) = self.traces[place].next_clock() else {
+            return Ok(false);
+        };
+        if event.receiver_clock() != clock {
+            return Ok(false);
+        }
+        if !was_allowed(self.sim.act(rank, choice))? {
+            return Ok(false);
+        }
+        self.traces[place].note_event(event)?;
+        Ok(true)
+    }
+
+    /// The choice by which the rank repeats an event, if its message was sent.
+    fn choice_of(&self, rank: u8, event: &Event) -> Option<Choice>
+        requires rank { rank < length self.now.sim.machines }
+        requires keeps { Keeps self.now.sim self.now.traces.items }
+        ensures { IfSome result (Repeats self.now.sim.run rank event.now) }
+    {
+        if event.kind() == Kind::Miss {
+            return Some(Choice::Miss);
+        }
+        let source = event.sender();
+        if source >= self.sim.ranks() {
+            return None;
+        }
+        let trace = &self.traces[usize::from(source)];
+        let index = trace.place_of(rank, event.sender_clock())?;
+        Some(Choice::Take {
+            source: u32::from(source),
+            index,
+        })
+    }
+
+    /// The event that the outcome has next for the rank.
+    pub(super) fn next_event(&self, rank: u8, goal: &Goal<'_>) -> Option<Event> {
+        let rank = usize::from(rank);
+        let done = self.traces.get(rank)?.row().len();
+        let outcome = goal.outcome;
+        outcome.rows.get(rank)?.get(done).copied()
+    }
+
+    /// Whether the outcome's next line of the rank has its next clock and this value.
+    pub(super) fn is_next_line(&self, rank: u8, goal: &Goal<'_>, value: i64) -> bool {
+        let rank = usize::from(rank);
+        let (Some(trace), Some(lines)) = (self.traces.get(rank), goal.lines.get(rank)) else {
+            return false;
+        };
+        match lines.as_slice().get(trace.lines().len()) {
+            Some(&(clock, printed)) => trace.next_clock() == Some(clock) && printed == value,
+            None => false,
+        }
+    }
+}
+
+/// Whether an event of this kind may come from what is wanted.
+fn suits(want: &Want, kind: Kind) -> bool
+    ensures { IsTrue result → Suits want.now kind }
+{
+    match (want, kind) {
+        (Want::Receive(_), Kind::Reception)
+        | (Want::Probe(_), Kind::Hit)
+        | (Want::TryProbe(_), Kind::Hit | Kind::Miss) => true,
+        (Want::Receive(_), Kind::Hit | Kind::Miss)
+        | (Want::Probe(_), Kind::Reception | Kind::Miss)
+        | (Want::TryProbe(_), Kind::Reception)
+        | (Want::Internal | Want::Send { .. } | Want::Print(_), _)
+        | (Want::Halted | Want::Faulted(_), _) => false,
+    }
+}
+
+/// Whether a choice was allowed; want of memory is an `Err`.
+fn was_allowed(answer: Result<(), NotAllowed>) -> Result<bool, AllocError>
+    ensures { IfOk result (λ allowed. allowed ≡ is_ok answer) }
+{
+    match answer {
+        Ok(()) => Ok(true),
+        Err(NotAllowed::Memory) => Err(AllocError),
+        Err(NotAllowed::WantsOther | NotAllowed::NotEligible | NotAllowed::Ended) => Ok(false),
+    }
+}

@@ -1,0 +1,15 @@
+//! Audits: whether an outcome is that of a run without crashes.
+#![tactic(auto)]
+
+mod auditing;
+mod auditor;
+mod clocks;
+mod fault;
+mod lines;
+mod outcome;
+mod trace;
+
+pub use auditing::{Audited, audit};
+pub use fault::AuditFault;
+pub use outcome::{End, Outcome};
+pub use ports::Line;

@@ -1,0 +1,122 @@
+//! Where messages of each kind stand.
+ghost use Rattle.std.specs.Prelude.{◌≡◌, [], Some, IfOk, OnOk, OnErr, option_copied};
+ghost use Rattle.crash_free.specs.Index.{kind_of, number_of, queue_of, IsListed, IsListedTwice, IsIndex, HasQueues, ListsMore};
+
+use crate::mail::queue::Queue;
+use matching::{Context, Packet};
+use metered::Heap;
+use std::alloc::AllocError;
+use std::collections::BTreeMap;
+use std::marker::Model;
+
+/// For each kind of messages of one rank to another a queue of their places.
+///
+/// A message is of two kinds: its context with its tag, and its context with
+/// any tag. So what a selector names is of one kind.
+#[derive(Drop)]
+pub struct Index {
+    alloc: Heap,
+    // which queue is that of a kind, by the number of the kind
+    kinds: BTreeMap<u32, usize, Heap>,
+    queues: Vec<Queue, Heap>,
+}
+
+impl Model for Index {
+    ghost use Rattle.crash_free.specs.Index.{IndexValue, AreThere};
+
+    ghost Value = { IndexValue };
+
+    ghost view = { λ i. record { kinds = i.kinds.entries; queues = i.queues.items } };
+
+    ghost invariant = { λ i. AreThere (record { kinds = i.kinds.entries; queues = i.queues.items }) };
+}
+
+impl Index {
+    pub fn new(alloc: Heap) -> Index
+        ensures { result ≡ record { kinds = []; queues = [] } }
+    {
+        Index {
+            alloc,
+            kinds: BTreeMap::new(alloc),
+            queues: Vec::new(alloc),
+        }
+    }
+
+    /// The queue of what a selector with this context and tag names, if a
+    /// message of it was met.
+    pub fn queue(&self, context: Context, tag: Option<u16>) -> Option<&Queue>
+        ensures { option_copied result ≡ queue_of self.now (kind_of context tag) }
+    {
+        let queue = self.kinds.get(&kind_of(context, tag))?;
+        Some(&self.queues[*queue])
+    }
+
+    /// Lists a message, behind all others. An `Err` may leave its place in a
+    /// queue, where it does no harm.
+    #[tactic(auto, using(crate::proofs::Putting::more_and_more))]
+    pub fn list(&mut self, context: Context, tag: u16, place: usize) -> Result<(), AllocError>
+        ensures more { ListsMore self.old place self.new }
+        ensures ok { OnOk result (IsListedTwice self.new context tag place) }
+    {
+        self.put(kind_of(context, None), place)?;
+        self.put(kind_of(context, Some(tag)), place)
+    }
+
+    /// Drops what is empty from the fronts of a message's queues.
+    pub fn tidy(&mut self, context: Context, tag: u16, slots: &[Option<Packet>])
+        requires { IsIndex self.old slots.now }
+        ensures { IsIndex self.new slots.now }
+    {
+        self.tidy_kind(kind_of(context, None), slots);
+        self.tidy_kind(kind_of(context, Some(tag)), slots);
+    }
+
+    #[tactic(auto, using(crate::proofs::Tidying::tidied_at))]
+    fn tidy_kind(&mut self, kind: u32, slots: &[Option<Packet>])
+        requires { IsIndex self.old slots.now }
+        ensures { IsIndex self.new slots.now }
+    {
+        if let Some(queue) = self.kinds.get(&kind).copied() {
+            let queue = &mut self.queues[queue];
+            queue.tidy(slots);
+        }
+    }
+
+    // The place goes last in the queue of the kind.
+    fn put(&mut self, kind: u32, place: usize) -> Result<(), AllocError>
+        ensures more { ListsMore self.old place self.new }
+        ensures ok { OnOk result (IsListed self.new kind place) }
+    {
+        let queue = self.number(kind)?;
+        let queue = &mut self.queues[queue];
+        queue.push(place)
+    }
+
+    // The number of the kind's queue, which is made where there is none.
+    #[tactic(auto, using(crate::proofs::Putting::same_queues, crate::proofs::Putting::queue_more, crate::proofs::Putting::queue_more_there))]
+    fn number(&mut self, kind: u32) -> Result<usize, AllocError>
+        ensures ok { IfOk result (λ queue. number_of self.new kind ≡ Some queue) }
+        ensures queues { HasQueues self.old self.new }
+        ensures err { OnErr result (self.new ≡ self.old) }
+    {
+        if let Some(queue) = self.kinds.get(&kind) {
+            return Ok(*queue);
+        }
+        let queue = self.queues.len();
+        self.queues.reserve(1)?;
+        self.kinds.insert(kind, queue)?;
+        self.queues.push_reserved(Queue::new(self.alloc));
+        Ok(queue)
+    }
+}
+
+fn kind_of(context: Context, tag: Option<u16>) -> u32
+    ensures { result ≡ kind_of context tag }
+{
+    match (context, tag) {
+        (Context::PointToPoint, None) => 0,
+        (Context::Collective, None) => 1,
+        (Context::PointToPoint, Some(tag)) => 2 * u32::from(tag) + 2,
+        (Context::Collective, Some(tag)) => 2 * u32::from(tag) + 3,
+    }
+}

@@ -1,0 +1,4 @@
+pub mod EndsLemmas
+pub mod GrowLemmas
+pub mod RowLemmas
+pub mod SumLemmas

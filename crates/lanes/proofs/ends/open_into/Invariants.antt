@@ -1,0 +1,16 @@
+use Rattle.std.proofs.Common.{◌≡◌, [], map, length, vec_len}
+use Rattle.std.specs.List.{All}
+use Rattle.lanes.specs.Crossed.{grow}
+use Rattle.lanes.specs.Ends.{to_names, NonePut}
+use Rattle.ports.specs.Lanes.{lane_from, taken_of}
+use Rattle.lanes.proofs.ends.open_into.Given as goal
+
+abbrev pub invariant-loop-source : goal.invariant-loop-source
+invariant-loop-source l = record {
+  names : to_names l.to.items ≡ grow (to_names l.fn.to.items) (map lane_from l.column.items);
+  column : length l.column.items ≡ l.source;
+  end : vec_len l.to ≡ l.source-end;
+  size : vec_len l.to ≡ vec_len l.fn.to;
+  put : NonePut l.to.items;
+  taken : All (λ rx. taken_of rx ≡ []) l.column.items;
+}

@@ -1,0 +1,16 @@
+-- The numbers and names of the faults of a script.
+use Rattle.std.specs.Prelude.{ℕ, List, codes}
+use Rattle.script_text.specs.declared.fault.ScriptFaultKind.{ScriptFaultKind}
+use Rattle.script_text.specs.declared.fault.ScriptFaultKind.TheVariants.{BadLine, BadRank, Limit}
+
+-- the faults are numbered from 1 in this order
+abbrev pub number_of : ScriptFaultKind → ℕ
+number_of BadLine = 1
+number_of BadRank = 2
+number_of Limit = 3
+
+-- the fault's name
+abbrev pub name_of : ScriptFaultKind → List ℕ
+name_of BadLine = codes "BadLine"
+name_of BadRank = codes "BadRank"
+name_of Limit = codes "Limit"

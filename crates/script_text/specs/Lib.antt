@@ -1,0 +1,5 @@
+pub mod Faults
+pub mod Form
+pub mod Orders
+pub mod Script
+pub mod Seen

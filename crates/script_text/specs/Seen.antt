@@ -1,0 +1,17 @@
+-- What code keeps of a form.
+use Rattle.std.specs.Prelude.{ℕ, Option, Some, None, if◌then◌else◌}
+use Rattle.text_lines.specs.Numbers.{kept}
+use Rattle.script_text.specs.declared.fault.ScriptFaultKind.{ScriptFaultKind}
+use Rattle.script_text.specs.declared.fault.ScriptFaultKind.TheVariants.{BadLine, BadRank}
+use Rattle.script_text.specs.declared.form.Form.{Form}
+use Rattle.script_text.specs.declared.line.ScriptLine.{ScriptLine}
+use Rattle.script_text.specs.Script.{is_bad, is_foreign}
+
+-- a form's order, with its numbers as 32 bits keep them
+abbrev pub form_seen : Option ScriptLine → Option Form
+form_seen None = None
+form_seen (Some line) = Some (record { order = line.order; rank = kept line.rank; clock = kept line.clock })
+
+-- the lower fault of what isn't skipped
+abbrev pub form_fault : ℕ → Option ScriptLine → Option ScriptFaultKind
+form_fault ranks asked = if is_bad asked then Some BadLine else (if is_foreign ranks asked then Some BadRank else None)

@@ -1,0 +1,56 @@
+//! What a line asks for, or its lowest fault.
+ghost use Rattle.std.specs.Prelude.{◌≡◌, None, Some, IfOk, IfErr, OnOk};
+ghost use Rattle.text_lines.specs.Pieces.{words_of};
+ghost use Rattle.script_text.specs.Form.{form_of};
+ghost use Rattle.script_text.specs.Script.{asked_by, fault_of};
+ghost use Rattle.script_text.specs.Seen.{form_fault};
+
+use crate::fault::ScriptFaultKind;
+use crate::form::form_of;
+use crate::line::ScriptLine;
+use metered::limits::{GREATEST_CLOCK, MOST_SCRIPT_LINES};
+use text_lines::is_skipped;
+
+/// What a line that isn't skipped asks for in a run of so many ranks.
+fn ask(line: &[u8], ranks: u8) -> Result<ScriptLine, ScriptFaultKind>
+    ensures asked { IfOk result (λ asked. form_of (words_of line.now) ≡ Some asked) }
+    ensures faultless { OnOk result (form_fault ranks (form_of (words_of line.now)) ≡ None) }
+    ensures fault { IfErr result (λ kind. form_fault ranks (form_of (words_of line.now)) ≡ Some kind) }
+{
+    let Some(form) = form_of(line) else {
+        return Err(ScriptFaultKind::BadLine);
+    };
+    if form.clock < 1 || GREATEST_CLOCK < form.clock {
+        return Err(ScriptFaultKind::BadLine);
+    }
+    if form.rank >= u32::from(ranks) {
+        return Err(ScriptFaultKind::BadRank);
+    }
+    Ok(ScriptLine {
+        rank: form.rank as u8,
+        clock: form.clock,
+        order: form.order,
+    })
+}
+
+/// What the line of this number asks for in a run of so many ranks, nothing where
+/// it is skipped, or its lowest fault.
+pub(crate) fn judge(
+    line: &[u8],
+    number: usize,
+    ranks: u8,
+) -> Result<Option<ScriptLine>, ScriptFaultKind>
+    ensures asked { IfOk result (λ asked. asked_by line.now ≡ asked) }
+    ensures faultless { OnOk result (fault_of ranks number line.now ≡ None) }
+    ensures fault { IfErr result (λ kind. fault_of ranks number line.now ≡ Some kind) }
+{
+    let asked = if is_skipped(line) {
+        None
+    } else {
+        Some(ask(line, ranks)?)
+    };
+    if number > MOST_SCRIPT_LINES {
+        return Err(ScriptFaultKind::Limit);
+    }
+    Ok(asked)
+}

@@ -1,0 +1,13 @@
+use Rattle.std.proofs.Common.{◌≡◌, ◌^◌, ◌<◌, length}
+use Rattle.text_lines.specs.Numbers.{decimal_of, kept_of, value_behind}
+use Rattle.text_lines.proofs.number.decimal.Given as goal
+
+-- what is left of the digits makes the value so far the word's
+abbrev pub invariant-loop-rest : goal.invariant-loop-rest
+invariant-loop-rest l = record {
+  number : kept_of (value_behind l.value l.rest) ≡ kept_of (decimal_of l.word);
+  fits : l.value < 2 ^ 32;
+}
+
+abbrev pub decreases-loop-rest : goal.decreases-loop-rest
+decreases-loop-rest l = length l.rest

@@ -1,0 +1,117 @@
+//! Outcomes of several ranks and of many acts.
+
+use crate::audits::Stored::Took;
+use crate::audits::{answer, compare, event_of};
+use metered::Heap;
+use ports::Line;
+use std::process::Abort;
+use std::test::*;
+use world_model::{End, Outcome};
+
+/// Rank 0 sends so many numbers to rank 1, which prints each.
+fn stream(alloc: Heap, count: u32) -> Result<String<Heap>, Fail> {
+    Ok(format!(in alloc;
+        "var i
+var x
+while i < {count}
+let i = i + 1
+if rank == 0
+send 1, 7, i
+else
+recv 0, 7, x
+print x
+end
+end
+"
+    )?)
+}
+
+/// What `stream` comes to.
+fn streamed(rt: &impl Abort, alloc: Heap, count: u32) -> Result<Outcome, Fail> {
+    assert!(rt; count <= 100_000);
+    let mut row = Vec::new(alloc);
+    let mut lines = Vec::new(alloc);
+    for number in 1..=count {
+        row.push(event_of(rt, Took(0, number, 2 * number - 1)))?;
+        lines.push(Line {
+            rank: 1,
+            clock: 2 * number,
+            value: i64::from(number),
+        })?;
+    }
+    let mut rows = Vec::new(alloc);
+    rows.push(Vec::new(alloc))?;
+    rows.push(row)?;
+    Ok(Outcome {
+        rows,
+        lines,
+        ends: vec![in alloc; End::Halted; 2]?,
+    })
+}
+
+#[test]
+fn a_stream(rt: HostRuntime) -> Result<(), Fail> {
+    let alloc = rt.alloc();
+    let text = stream(alloc, 300)?;
+    for (count, steps, want) in [(300u32, 10_000u32, 0u8), (300, 1000, 5), (299, 10_000, 4)] {
+        let outcome = streamed(&rt, alloc, count)?;
+        let given = answer(alloc, text.as_bytes(), 2, &outcome, steps)?;
+        assert_eq!(rt; given, want, "{count} of 300 in {steps} steps");
+    }
+    Ok(())
+}
+
+/// Each of four ranks hands a number on, one more each time, three times.
+const RING: &[u8] = b"var i
+var x
+if rank == 0
+send 1, 1, 0
+end
+while i < 3
+let i = i + 1
+recv any, any, x
+print x
+if rank > 0
+send (rank + 1) % 4, 1, x + 1
+else
+if i < 3
+send 1, 1, x + 1
+end
+end
+end
+";
+
+#[test]
+fn a_ring(rt: HostRuntime) -> Result<(), Fail> {
+    compare(
+        &rt,
+        rt.alloc(),
+        RING,
+        4,
+        &[(
+            "three times round",
+            &[
+                &[Took(3, 3, 2), Took(3, 6, 5), Took(3, 9, 8)],
+                &[Took(0, 1, 1), Took(0, 4, 4), Took(0, 7, 7)],
+                &[Took(1, 3, 1), Took(1, 6, 4), Took(1, 9, 7)],
+                &[Took(2, 3, 1), Took(2, 6, 4), Took(2, 9, 7)],
+            ],
+            &[
+                (1, 2, 0),
+                (2, 2, 1),
+                (3, 2, 2),
+                (0, 3, 3),
+                (1, 5, 4),
+                (2, 5, 5),
+                (3, 5, 6),
+                (0, 6, 7),
+                (1, 8, 8),
+                (2, 8, 9),
+                (3, 8, 10),
+                (0, 9, 11),
+            ],
+            &[End::Halted; 4],
+            0,
+        )],
+    )
+}
