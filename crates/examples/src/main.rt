@@ -1,6 +1,7 @@
 //! Runs the example programs of the data folder and prints what each gives.
 #![tactic(auto)]
 
+mod killed;
 mod manual;
 
 use runner::{MachineFiles, command};
@@ -75,7 +76,11 @@ const RUNS: [&str; 60] = [
 ];
 
 fn main(rt: HostRuntime) -> io::Result<()> {
-    for runs in [RUNS.as_slice(), manual::RUNS.as_slice()] {
+    for runs in [
+        RUNS.as_slice(),
+        killed::RUNS.as_slice(),
+        manual::RUNS.as_slice(),
+    ] {
         for run in runs {
             show(&rt, run)?;
         }

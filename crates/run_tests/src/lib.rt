@@ -10,9 +10,13 @@ mod faults;
 #[cfg(test)]
 mod helps;
 #[cfg(test)]
+mod kills;
+#[cfg(test)]
 mod limits;
 #[cfg(test)]
 mod lines;
+#[cfg(test)]
+mod meeting;
 #[cfg(test)]
 mod refusals;
 #[cfg(test)]

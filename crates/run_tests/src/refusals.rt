@@ -84,9 +84,9 @@ const REFUSALS: [Refusal; 12] = [
     Refusal {
         words: "run --ranks 1 --script s p",
         program: "",
-        script: "kill 0 at 1\n",
+        script: "kill 0 at 1\nimage 1 at 1\n",
         status: 2,
-        error: "script line 1: fault 1 BadLine\n",
+        error: "script line 2: fault 2 BadRank\n",
     },
     Refusal {
         words: "run --ranks 1 --script s p",

@@ -1,7 +1,4 @@
-//! Runs with all that they tell before acts and all that they report.
-//!
-//! A round is one turn of each rank, in rising order. A turn is a stride of
-//! the machine's own steps, or one step.
+//! Runs with all that they report, and how far each rank told of its acts.
 ghost use Rattle.std.specs.Prelude.{◌≤◌};
 ghost use Rattle.metered.specs.Limits.{most_ranks};
 
@@ -13,24 +10,25 @@ use std::sync::Wait;
 use std::test::Fail;
 use std::thread::Threads;
 
-// The run of this text with ample steps tells and reports this.
+// The run of this text under this script with ample steps tells and reports this.
 fn expect<R: Threads + Wait + Sync + Copy + Send + AllocGlobal + Abort>(
     rt: &R,
-    text: &str,
-    ranks: u8,
-    idle: u32,
-    want: &str,
+    row: &Row,
 ) -> Result<(), Fail>
-    requires some { 1 ≤ ranks }
-    requires few { ranks ≤ most_ranks }
+    requires some { 1 ≤ row.now.ranks }
+    requires few { row.now.ranks ≤ most_ranks }
 {
     let alloc = rt.alloc();
-    let program = Program::parse(alloc, text.as_bytes())?;
-    let told = Told::new(alloc, 64)?;
-    let limits = RunLimits { idle, steps: 10000 };
-    let report = run(rt, alloc, &program, ranks, &Script::new(), limits, &told)?;
+    let program = Program::parse(alloc, row.program.as_bytes())?;
+    let script = Script::parse(alloc, row.script.as_bytes(), row.ranks)?;
+    let told = Told::new(alloc, row.ranks)?;
+    let limits = RunLimits {
+        idle: row.idle,
+        steps: 10000,
+    };
+    let report = run(rt, alloc, &program, row.ranks, &script, limits, &told)?;
     let got = described(alloc, &told, &report)?;
-    assert_eq!(rt; got.as_str(), want, "at {ranks} ranks:\n{text}");
+    assert_eq!(rt; got.as_str(), row.want, "at {row:?}");
     Ok(())
 }
 
@@ -51,33 +49,30 @@ while i < 2
 end
 ";
 
-/// Each round on one line. Rank 1 takes in the round of rank 0's send, rank 0 in the round after rank 1's.
 const OF_PAIR: &str = concat!(
-    "told 0@1 1@1",
-    " 0@2 1@2",
-    " 0@2 1@3",
-    " 0@2",
-    " 0@3 1@4",
-    " 1@4",
-    " 0@4 1@4",
-    " 0@5 1@5",
-    " 0@5 1@6",
-    " 0@5",
-    " 0@6\n",
+    "told 0@6 1@6\n",
     "events of 0: Reception 1@3 at 2 Reception 1@6 at 5\n",
     "events of 1: Reception 0@1 at 1 Reception 0@4 at 4\n",
-    "1@2> 10\n0@3> 20\n1@5> 11\n0@6> 22\n",
+    "0@3> 20\n0@6> 22\n1@2> 10\n1@5> 11\n",
     "ends halted halted\n",
     "crashes 0, calls 2 2\n",
+);
+
+/// Rank 1 crashes after its second send, and rank 0 in the replay of its first crash: three fetches in all.
+const OF_PAIR_KILLED: &str = concat!(
+    "told 0@6 1@6\n",
+    "events of 0: Reception 1@3 at 2 Reception 1@6 at 5\n",
+    "events of 1: Reception 0@1 at 1 Reception 0@4 at 4\n",
+    "0@3> 20\n0@6> 22\n1@2> 10\n1@5> 11\n",
+    "ends halted halted\n",
+    "crashes 3, calls 4 3\n",
 );
 
 /// Each of 8 ranks sends its number to the next one.
 const ROUND: &str = "var x\nsend (rank + 1) % size, rank, rank\nrecv any, any, x\nprint x\n";
 
 const OF_ROUND: &str = concat!(
-    "told 0@1 1@1 2@1 3@1 4@1 5@1 6@1 7@1",
-    " 0@2 1@2 2@2 3@2 4@2 5@2 6@2 7@2",
-    " 0@3 1@3 2@3 3@3 4@3 5@3 6@3 7@3\n",
+    "told 0@3 1@3 2@3 3@3 4@3 5@3 6@3 7@3\n",
     "events of 0: Reception 7@1 at 2\n",
     "events of 1: Reception 0@1 at 2\n",
     "events of 2: Reception 1@1 at 2\n",
@@ -91,7 +86,7 @@ const OF_ROUND: &str = concat!(
     "crashes 0, calls 1 1 1 1 1 1 1 1\n",
 );
 
-// Two idle turns before a frame don't count with those after it: four more pass before the mark.
+// Rank 1 takes one message and waits for another that never comes.
 const TWICE: &str = "var x
 if rank
   recv 0, 0, x
@@ -103,8 +98,7 @@ else
 end
 ";
 
-// Rank 0 is marked after two idle turns. Rank 1 counts on by strides of at most 1024 steps, sends and halts two rounds
-// later; by then rank 0 has only just taken the message.
+// Rank 0 may be marked before rank 1 has counted and sends: the late frame takes the mark back.
 const LATE: &str = "var x
 if rank == 0
   recv any, any, x
@@ -130,7 +124,7 @@ else
 end
 ";
 
-// A rank that faults and one that waits: blocked turns are told each, also those of a marked rank.
+// A rank that faults and one that waits.
 const FAULTS: &str = "var x
 if rank
   recv 0, 0, x
@@ -141,10 +135,9 @@ print 3
 print 1 / 0
 ";
 
-// Rank 1 asks before the message is sent, waits for it, asks again, and takes it: four events, each stored before the print.
+// Rank 1 waits for the message, asks for it, and takes it: three events, each stored before the print.
 const PROBES: &str = "var x
 if rank
-  iprobe any, any, x
   probe 0, 4
   iprobe 0, 4, x
   recv 0, any, x
@@ -155,43 +148,74 @@ else
 end
 ";
 
-/// How many ranks there are, after how many idle turns one is marked, the program, and what its run tells and reports.
-type Row = (u8, u32, &'static str, &'static str);
+/// A run, and what it tells and reports.
+#[derive(Clone, Copy, Debug)]
+struct Row {
+    ranks: u8,
+    idle: u32,
+    program: &'static str,
+    script: &'static str,
+    want: &'static str,
+}
 
-const REPORTS: [Row; 7] = [
-    (2, 10, PAIR, OF_PAIR),
-    (8, 10, ROUND, OF_ROUND),
-    (
-        2,
-        4,
-        TWICE,
-        "told 0@1 1@1 0@2 1@1 0@3 1@1 1@2 1@2 1@2 1@2\nevents of 0:\nevents of 1: Reception 0@3 at 1\n0@1> 1\n0@2> 2\nends halted stalled\ncrashes 0, calls 0 1\n",
-    ),
-    (
-        2,
-        2,
-        LATE,
-        "told 0@1 0@1 0@1 1@1 0@1 0@2 0@3 0@4\nevents of 0: Reception 1@1 at 1\nevents of 1:\n0@2> 8\n0@3> 9\n0@4> 10\nends halted halted\ncrashes 0, calls 1 0\n",
-    ),
-    (
-        2,
-        2,
-        UNWANTED,
-        "told 0@1 1@1 0@1 1@2 0@1 1@3 0@1 0@1 0@1\nevents of 0:\nevents of 1:\n1@1> 1\n1@2> 2\nends stalled halted\ncrashes 0, calls 0 0\n",
-    ),
-    (
-        2,
-        1,
-        FAULTS,
-        "told 0@1 1@1 0@2 1@1 0@3 1@1 1@1\nevents of 0:\nevents of 1:\n0@1> 1\n0@2> 2\n0@3> 3\nends fault-2 stalled\ncrashes 0, calls 0 0\n",
-    ),
-    (
-        2,
-        10,
-        PROBES,
-        "told 0@1 1@1 0@2 1@2 1@3 1@4 1@5\nevents of 0:\nevents of 1: Miss 0@0 at 1 Hit 0@2 at 2 Hit 0@2 at 3 Reception 0@2 at 4\n\
-         0@1> 1\n1@5> 30\nends halted halted\ncrashes 0, calls 0 4\n",
-    ),
+const REPORTS: [Row; 8] = [
+    Row {
+        ranks: 2,
+        idle: 10,
+        program: PAIR,
+        script: "",
+        want: OF_PAIR,
+    },
+    Row {
+        ranks: 2,
+        idle: 10,
+        program: PAIR,
+        script: "kill 1 at 6\nkill 0 at 5\nkill 0 at 2\n",
+        want: OF_PAIR_KILLED,
+    },
+    Row {
+        ranks: 8,
+        idle: 10,
+        program: ROUND,
+        script: "",
+        want: OF_ROUND,
+    },
+    Row {
+        ranks: 2,
+        idle: 4,
+        program: TWICE,
+        script: "",
+        want: "told 0@3 1@2\nevents of 0:\nevents of 1: Reception 0@3 at 1\n0@1> 1\n0@2> 2\nends halted stalled\ncrashes 0, calls 0 1\n",
+    },
+    Row {
+        ranks: 2,
+        idle: 2,
+        program: LATE,
+        script: "",
+        want: "told 0@4 1@1\nevents of 0: Reception 1@1 at 1\nevents of 1:\n0@2> 8\n0@3> 9\n0@4> 10\nends halted halted\ncrashes 0, calls 1 0\n",
+    },
+    Row {
+        ranks: 2,
+        idle: 2,
+        program: UNWANTED,
+        script: "",
+        want: "told 0@1 1@3\nevents of 0:\nevents of 1:\n1@1> 1\n1@2> 2\nends stalled halted\ncrashes 0, calls 0 0\n",
+    },
+    Row {
+        ranks: 2,
+        idle: 1,
+        program: FAULTS,
+        script: "",
+        want: "told 0@3 1@1\nevents of 0:\nevents of 1:\n0@1> 1\n0@2> 2\n0@3> 3\nends fault-2 stalled\ncrashes 0, calls 0 0\n",
+    },
+    Row {
+        ranks: 2,
+        idle: 10,
+        program: PROBES,
+        script: "",
+        want: "told 0@2 1@4\nevents of 0:\nevents of 1: Hit 0@2 at 1 Hit 0@2 at 2 Reception 0@2 at 3\n\
+         0@1> 1\n1@4> 30\nends halted halted\ncrashes 0, calls 0 3\n",
+    },
 ];
 
 // Each of these runs tells and reports this.
@@ -200,9 +224,8 @@ fn expect_all<R: Threads + Wait + Sync + Copy + Send + AllocGlobal + Abort>(
     rows: &[Row],
 ) -> Result<(), Fail> {
     for row in rows {
-        let (ranks, idle, text, want) = *row;
-        assert!(rt; 0 < ranks && ranks <= 8);
-        expect(rt, text, ranks, idle, want)?;
+        assert!(rt; 0 < row.ranks && row.ranks <= 8);
+        expect(rt, row)?;
     }
     Ok(())
 }

@@ -111,3 +111,26 @@ pub fn expect_run<R: Threads + Wait + Sync + Copy + Send + AllocGlobal + Abort>(
     let words = format!(in rt.alloc(); "run {options} p")?;
     expect_answer(rt, words.as_str(), &[("p", text)], (status, out, ""))
 }
+
+/// A run under a script: its options, the texts of the program and of the script, and what it writes to standard output.
+#[derive(Clone, Copy)]
+pub struct Scripted {
+    pub options: &'static str,
+    pub program: &'static str,
+    pub script: &'static str,
+    pub status: u8,
+    pub out: &'static str,
+}
+
+// Each of these runs ends and writes as its row says, and nothing to standard error.
+pub fn expect_scripted<R: Threads + Wait + Sync + Copy + Send + AllocGlobal + Abort>(
+    rt: &R,
+    runs: &[Scripted],
+) -> Result<(), Fail> {
+    for run in runs {
+        let words = format!(in rt.alloc(); "run {} --script s p", run.options)?;
+        let files = [("p", run.program), ("s", run.script)];
+        expect_answer(rt, words.as_str(), &files, (run.status, run.out, ""))?;
+    }
+    Ok(())
+}

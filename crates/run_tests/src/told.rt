@@ -1,38 +1,40 @@
-//! Who is told of acts, and what a run was, as one text.
+//! Who is told of acts, and what a run was, as one text. What ranks did at the
+//! same time is ordered by rank.
 use metered::Heap;
 use plain_logger::Event;
-use runner::{End, Hold, Report};
+use runner::{End, Hold, Line, Report};
 use std::alloc::AllocError;
 use std::fmt::Write;
-use std::sync::atomic::{AtomicU64, Ordering};
+use std::sync::atomic::{AtomicBool, AtomicU64, Ordering};
 
-/// Keeps each act that it is told of, in order, as `rank * 2^32 + clock`.
+/// Keeps of each rank the greatest clock that it is told of, and whether one
+/// was left out.
 #[derive(Drop)]
 pub struct Told {
-    count: AtomicU64,
-    acts: Vec<AtomicU64>,
+    greatest: Vec<AtomicU64>,
+    is_gapped: AtomicBool,
 }
 
 impl Told {
-    /// Nothing is told yet, and there is room for so many acts.
-    pub fn new(alloc: Heap, room: usize) -> Result<Told, AllocError> {
-        let mut acts = Vec::new(alloc);
-        for _ in 0..room {
-            acts.push(AtomicU64::new(0))?;
+    /// Nothing is told yet of so many ranks.
+    pub fn new(alloc: Heap, ranks: u8) -> Result<Told, AllocError> {
+        let mut greatest = Vec::new(alloc);
+        for _ in 0..ranks {
+            greatest.push(AtomicU64::new(0))?;
         }
         Ok(Told {
-            count: AtomicU64::new(0),
-            acts,
+            greatest,
+            is_gapped: AtomicBool::new(false),
         })
     }
 
     fn print(&self, text: &mut String<Heap>) -> Result<(), AllocError> {
-        let count = self.count.load(Ordering::SeqCst);
         write!(text, "told")?;
-        for (act, _) in self.acts.iter().zip(0..count) {
-            let act = act.load(Ordering::SeqCst);
-            let (rank, clock) = (act >> 32, act & 0xffff_ffff);
-            write!(text, " {rank}@{clock}")?;
+        for (rank, clock) in self.greatest.iter().enumerate() {
+            write!(text, " {rank}@{}", clock.load(Ordering::SeqCst))?;
+        }
+        if self.is_gapped.load(Ordering::SeqCst) {
+            write!(text, " with a gap")?;
         }
         writeln!(text)
     }
@@ -40,10 +42,17 @@ impl Told {
 
 impl Hold for Told {
     fn before(&self, rank: u8, clock: u32) {
-        let at = self.count.fetch_add(1, Ordering::SeqCst);
-        if let Some(act) = self.acts.get(at as usize) {
-            act.store(u64::from(rank) << 32 | u64::from(clock), Ordering::SeqCst);
+        let Some(greatest) = self.greatest.get(usize::from(rank)) else {
+            self.is_gapped.store(true, Ordering::SeqCst);
+            return;
+        };
+        // no other thread tells of this rank at the same time
+        let before = greatest.load(Ordering::SeqCst);
+        let clock = u64::from(clock);
+        if clock > before.saturating_add(1) || clock == 0 {
+            self.is_gapped.store(true, Ordering::SeqCst);
         }
+        greatest.store(clock.max(before), Ordering::SeqCst);
     }
 }
 
@@ -54,8 +63,8 @@ pub fn described(alloc: Heap, told: &Told, report: &Report) -> Result<String<Hea
     for (rank, row) in report.outcome.rows.iter().enumerate() {
         print_row(&mut text, rank, row.as_slice())?;
     }
-    for line in report.outcome.lines.iter() {
-        writeln!(text, "{}@{}> {}", line.rank, line.clock, line.value)?;
+    for (rank, _) in (0u8..).zip(report.outcome.ends.iter()) {
+        print_lines(&mut text, rank, report.outcome.lines.as_slice())?;
     }
     print_ends(&mut text, report.outcome.ends.as_slice())?;
     write!(text, "crashes {}, calls", report.crashes)?;
@@ -64,6 +73,15 @@ pub fn described(alloc: Heap, told: &Told, report: &Report) -> Result<String<Hea
     }
     writeln!(text)?;
     Ok(text)
+}
+
+fn print_lines(text: &mut String<Heap>, rank: u8, lines: &[Line]) -> Result<(), AllocError> {
+    for line in lines {
+        if line.rank == rank {
+            writeln!(text, "{rank}@{}> {}", line.clock, line.value)?;
+        }
+    }
+    Ok(())
 }
 
 fn print_row(text: &mut String<Heap>, rank: usize, row: &[Event]) -> Result<(), AllocError> {

@@ -1,16 +1,18 @@
 //! The whole program `ftmpi` without the machine's own files and streams: `command` reads
 //! words and files, and writes what they ask for.
 //!
-//! `run`, one run of a program that is parsed already, is passed on from `turns`.
+//! `run`, one run of a program that is parsed already, is passed on from
+//! `rank_threads`.
 #![tactic(auto)]
 
 mod commands;
 mod files;
 mod output;
 
+pub use audit::{AuditFault, End, Outcome};
 pub use commands::command;
 pub use files::{FileFault, Files, MachineFiles};
-pub use turns::{
-    End, Hold, Line, MachineFault, Outcome, Report, RunFault, RunLimits, Script, ScriptFault,
-    ScriptFaultKind, ScriptParseFault, run,
-};
+pub use ports::Line;
+pub use rank_machine::MachineFault;
+pub use rank_threads::{Hold, Report, RunFault, RunLimits, run};
+pub use script_text::{Script, ScriptFault, ScriptFaultKind, ScriptParseFault};

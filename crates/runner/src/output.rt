@@ -1,8 +1,9 @@
 //! What the program prints of a run.
+use audit::{End, Outcome};
 use metered::Heap;
+use rank_threads::Report;
 use std::alloc::AllocError;
 use std::fmt::Write;
-use turns::{End, Outcome, Report};
 
 /// The lines of each rank, how each rank ended, and what the run took.
 pub fn print_report(alloc: Heap, report: &Report) -> Result<String<Heap>, AllocError> {

@@ -7,11 +7,12 @@ use crate::commands::world::world_text;
 use crate::files::Files;
 use crate::output::{all_halted, print_report};
 use metered::Heap;
+use rank_threads::{Hold, Report, RunLimits, run};
 use runner_words::{Job, RunJob};
+use script_text::Script;
 use std::alloc::AllocError;
 use std::sync::Wait;
 use std::thread::Threads;
-use turns::{Hold, Report, RunLimits, Script, run};
 
 // Waits for no act.
 #[derive(Drop)]
@@ -54,7 +55,7 @@ fn report_of<'a, R: Threads + Wait + Sync + Copy + Send, F: Files>(
     let program = program_in(alloc, job.program, files)?;
     let script = match job.script {
         Some(name) => script_in(alloc, name, job.ranks, files)?,
-        None => Script::new(),
+        None => Script::new(alloc),
     };
     let limits = RunLimits {
         idle: job.idle,

@@ -4,7 +4,7 @@ use crate::files::Files;
 use events_text::parse_events;
 use metered::Heap;
 use rank_language::Program;
-use turns::Script;
+use script_text::Script;
 use world_model::WorldEvent;
 
 /// The program of the file with this name.

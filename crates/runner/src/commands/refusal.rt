@@ -1,11 +1,14 @@
 //! Why the program goes no further.
 use crate::commands::said::Said;
 use crate::files::FileFault;
+use audit::AuditFault;
 use events_text::{EventsFault, EventsFaultKind};
 use metered::Heap;
 use rank_language::{ParseFault, ProgramFault};
+use rank_node::NodeFault;
+use rank_threads::RunFault;
+use script_text::{ScriptFault, ScriptParseFault};
 use std::alloc::AllocError;
-use turns::{RunFault, ScriptFault, ScriptParseFault};
 
 /// What stands in the way of an answer.
 #[derive(Clone, Copy, Debug, PartialEq, Eq)]
@@ -14,6 +17,10 @@ pub enum Refusal<'a> {
     Program(ProgramFault),
     Script(ScriptFault),
     Events { line: usize, kind: EventsFaultKind },
+    /// The outcome of a run isn't one of a run without crashes.
+    Audit(AuditFault),
+    /// A rank of a run couldn't go on.
+    Node { rank: u8, fault: NodeFault },
     Memory,
 }
 
@@ -32,6 +39,8 @@ impl<'a> Refusal<'a> {
             Refusal::Program(fault) => program_line(alloc, fault)?,
             Refusal::Script(fault) => script_line(alloc, fault)?,
             Refusal::Events { line, kind } => events_line(alloc, line, kind)?,
+            Refusal::Audit(fault) => return audit_line(alloc, fault),
+            Refusal::Node { rank, fault } => return node_line(alloc, rank, fault),
             Refusal::Memory => return Err(AllocError),
         };
         Ok(Said::refusal(alloc, 2, text))
@@ -59,6 +68,18 @@ fn events_line(
 ) -> Result<String<Heap>, AllocError> {
     let number = kind.number();
     format!(in alloc; "events line {line}: fault {number} {kind}\n")
+}
+
+fn audit_line(alloc: Heap, fault: AuditFault) -> Result<Said, AllocError> {
+    let number = fault.number();
+    let text = format!(in alloc; "audit fault {number}\n")?;
+    Ok(Said::refusal(alloc, 1, text))
+}
+
+fn node_line(alloc: Heap, rank: u8, fault: NodeFault) -> Result<Said, AllocError> {
+    let number = fault.number();
+    let text = format!(in alloc; "rank {rank}: node fault {number}\n")?;
+    Ok(Said::refusal(alloc, 1, text))
 }
 
 impl From<AllocError> for Refusal<'_> {
@@ -98,6 +119,8 @@ impl From<RunFault> for Refusal<'_> {
     fn from(fault: RunFault) -> Self {
         match fault {
             RunFault::Memory => Refusal::Memory,
+            RunFault::Audit(fault) => Refusal::Audit(fault),
+            RunFault::Node(rank, fault) => Refusal::Node { rank, fault },
         }
     }
 }

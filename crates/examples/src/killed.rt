@@ -1,0 +1,36 @@
+//! Runs whose ranks crash: each prints the lines of the run without a script.
+
+/// The words of each run, after the program's name. A script named for a number
+/// of ranks has each of them crash once, after its first act.
+pub const RUNS: [&str; 30] = [
+    "run --ranks 2 --script answer.script answer.rank",
+    "run --ranks 2 --script kills_of_2.script answer.rank",
+    "run --ranks 4 --script kills_of_4.script ring.rank",
+    "run --ranks 2 --script kills_of_2.script ping_pong.rank",
+    "run --ranks 4 --script kills_of_4.script sum.rank",
+    "run --ranks 3 --script kills_of_3.script token.rank",
+    "run --ranks 2 --script kills_of_2.script overtaking.rank",
+    "run --ranks 2 --script image.script overtaking.rank",
+    "run --ranks 1 --script kills_of_1.script status.rank",
+    "run --ranks 2 --script kills_of_2.script division.rank",
+    "run --ranks 1 --script kills_of_1.script overflow.rank",
+    "run --ranks 2 --idle 100 --script kills_of_2.script stalled.rank",
+    "run --ranks 2 --script kills_of_2.script squares.rank",
+    "run --ranks 2 --script squares.script squares.rank",
+    "run --ranks 1 --script kills_of_1.script bounded.rank",
+    "run --ranks 3 --script kills_of_3.script stencil.rank",
+    "run --ranks 2 --script kills_of_2.script sieve.rank",
+    "run --ranks 2 --script kills_of_2.script array_short.rank",
+    "run --ranks 2 --script kills_of_2.script probe.rank",
+    "run --ranks 2 --script kills_of_2.script poll.rank",
+    "run --ranks 1 --script kills_of_1.script probe_status.rank",
+    "run --ranks 3 --script kills_of_3.script reduce_min.rank",
+    "run --ranks 3 --script kills_of_3.script fold_overflow.rank",
+    "run --ranks 3 --script kills_of_3.script collectives.rank",
+    "run --ranks 4 --script kills_of_4.script dot_product.rank",
+    "run --ranks 3 --script kills_of_3.script table.rank",
+    "run --ranks 3 --script kills_of_3.script relaxation.rank",
+    "run --ranks 2 --script bad_line.script answer.rank",
+    "run --ranks 2 --script bad_rank.script answer.rank",
+    "run --ranks 2 --script long.script answer.rank",
+];

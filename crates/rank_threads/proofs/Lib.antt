@@ -1,0 +1,5 @@
+mod Crews
+mod LaneLists
+mod ReleasingLemmas
+mod ReportLemmas
+mod SeatingLemmas

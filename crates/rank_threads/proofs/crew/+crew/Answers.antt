@@ -1,0 +1,7 @@
+use Rattle.rank_threads.proofs.Crews.{same_snoc}
+use Rattle.rank_threads.proofs.crew.+crew.Goals as goal
+
+pub keep_all-returns-clause-same : goal.keep_all-returns-clause-same
+keep_all-returns-clause-same g t c =
+    let s = same_snoc c.pop.new.self.items c.beside-parcel.result.1.items c.in-Some.parcel c.beside-parcel.result.0 c.beside-parcel.ensures.same c.beside-parcel.ensures.one in
+    rw (c.in-Some.ensures.items, c.push_reserved.ensures.items) s

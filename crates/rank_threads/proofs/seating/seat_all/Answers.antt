@@ -1,0 +1,40 @@
+use Rattle.std.proofs.Common.{◌≡◌, ◌+◌, vec_len, sym, ◌∙◌, ap, arith}
+use Rattle.lanes.specs.Ends.{to_names, from_names}
+use Rattle.rank_threads.proofs.SeatingLemmas.{to_seated, from_seated, seated_more, desks_less}
+use Rattle.rank_threads.proofs.seating.seat_all.Goals as goal
+
+pub new-station-requires-clause-own : goal.new-station-requires-clause-own
+new-station-requires-clause-own g c =
+    (desks_less c.args.logger.now 0 c.pop.new.self.items c.in-Some.desk (rw (sym c.in-Some.ensures.items) c.loop-desk.invariant.desks)).1
+
+pub new-station-requires-clause-who : goal.new-station-requires-clause-who
+new-station-requires-clause-who g c =
+    let less = desks_less c.args.logger.now 0 c.pop.new.self.items c.in-Some.desk (rw (sym c.in-Some.ensures.items) c.loop-desk.invariant.desks) in
+    less.2 ∙ omega (arith, c.pop.new.self.ok.0, c.len-rank.ensures)
+
+pub loop-desk-preserved : goal.loop-desk-preserved
+loop-desk-preserved g c =
+    let kept = c.loop-desk.invariant in
+    let less = desks_less c.args.logger.now 0 c.pop.new.self.items c.in-Some.desk (rw (sym c.in-Some.ensures.items) kept.desks) in
+    let shorter : vec_len c.loop-desk.desks ≡ vec_len c.pop.new.self + 1 = grind (arith, c.in-Some.ensures.len) in
+    let to = to_seated c.pop-in-Some.new.self.items c.in-Some-pop.mine c.loop-desk.stations.items
+    (record { rt = c.args.rt; station = c.new-station.result }) (to_names c.args.parts.ends.to.items)
+    (rw (sym c.in-Some-pop.ensures.items) kept.to) (sym (ap (λ v. v.items) c.new-station.ensures.to)) in
+    let from = from_seated c.pop-in-Some-2.new.self.items c.in-Some-pop-2.theirs c.loop-desk.stations.items
+    (record { rt = c.args.rt; station = c.new-station.result }) (from_names c.args.parts.ends.from.items)
+    (rw (sym c.in-Some-pop-2.ensures.items) kept.from) (sym (ap (λ v. v.items) c.new-station.ensures.from)) in
+    let seated = seated_more c.args.logger.now (vec_len c.pop.new.self) c.loop-desk.stations.items
+    (record { rt = c.args.rt; station = c.new-station.result }) (rw (sym shorter) kept.seated)
+    (ap (λ d. d.table) c.new-station.ensures.desk ∙ less.1)
+    (ap (λ d. d.rank) c.new-station.ensures.desk ∙ less.2 ∙ omega (arith, c.pop.new.self.ok.0)) in
+    record {
+      to = rw (c.push_reserved.ensures.items) to;
+      from = rw (c.push_reserved.ensures.items) from;
+      seated = rw (c.push_reserved.ensures.items) seated;
+      desks = less.0;
+      as_many_to = grind (arith, kept.as_many_to, c.in-Some.ensures.len, c.in-Some-pop.ensures.len);
+      as_many_from = grind (arith, kept.as_many_from, c.in-Some.ensures.len, c.in-Some-pop-2.ensures.len);
+      as_many_plans = grind (arith, kept.as_many_plans, c.in-Some.ensures.len, c.in-Some-pop-3.ensures.len);
+      all = grind (arith, kept.all, shorter, c.push_reserved.ensures.len);
+      room = grind (arith, kept.room, c.push_reserved.ensures.capacity);
+    }

@@ -1,0 +1,14 @@
+-- What stays of a rank's seat within a life.
+use Rattle.std.specs.Prelude.{◌≡◌}
+use Rattle.rank_threads.specs.Lanes.{SameTxs, SameRxs}
+use Rattle.rank_threads.specs.Phases.{SamePhase}
+use Rattle.rank_threads.specs.declared.node.Node.{Node}
+use Rattle.rank_threads.specs.declared.seat.Seat.{Seat}
+
+-- a rank at the same desk, of as many
+abbrev pub SameNode : Node → Node → Type 0
+SameNode a b = SamePhase a.phase b.phase × (b.size ≡ a.size)
+
+-- the rank, its desk and its lanes are the same
+abbrev pub SameSeat : Seat → Seat → Type 0
+SameSeat a b = (b.rank ≡ a.rank) × SameNode a.node b.node × SameTxs a.to.items b.to.items × SameRxs a.from.items b.from.items

@@ -1,0 +1,86 @@
+//! The keepers of all ranks, each on a thread of its own.
+ghost use Rattle.std.specs.Prelude.{◌≡◌, vec_len, vec_capacity, ◌≤◌};
+ghost use Rattle.rank_threads.specs.Stations.{SameStation, SameStations};
+
+use crate::hold::Hold;
+use crate::keeper::{keep, unplayed};
+use crate::parcel::{Parcel, SameAs};
+use crate::shared::Shared;
+use metered::Heap;
+use std::snapshot::Snapshot;
+use std::sync::Wait;
+use std::thread;
+use std::thread::Threads;
+
+/// Runs a keeper for each station, each on a thread of its own, and gives the
+/// stations back in their order. Where a thread can't be made, all are to leave, and all
+/// come back.
+#[cycle(crew)]
+pub fn keep_all<'p, R: Threads + Wait + Sync + Copy + Send, H: Hold + Sync>(
+    rt: R,
+    shared: &Shared<'_, H>,
+    stations: Vec<Parcel<'p, R>, Heap>,
+) -> Vec<Parcel<'p, R>, Heap>
+    ensures same { SameStations stations.entry.items result.items }
+    ensures len { vec_len result ≡ vec_len stations.entry }
+    ensures room { vec_capacity result ≡ vec_capacity stations.entry }
+{
+    let mut stations = stations;
+    let Some(parcel) = stations.pop() else {
+        return stations;
+    };
+    let (parcel, mut stations) = beside(rt, shared, parcel, stations);
+    stations.push_reserved(parcel);
+    stations
+}
+
+fn keep_one<'p, R: Threads + Wait + Sync + Copy + Send, H: Hold + Sync>(
+    shared: &Shared<'_, H>,
+    parcel: Parcel<'p, R>,
+) -> Parcel<'p, R>
+    ensures { SameStation parcel.entry.station result.station }
+{
+    let rt = parcel.rt;
+    let station = keep(rt, shared, parcel.open());
+    Parcel { rt, station }
+}
+
+#[cycle(crew)]
+fn beside<'p, R: Threads + Wait + Sync + Copy + Send, H: Hold + Sync>(
+    rt: R,
+    shared: &Shared<'_, H>,
+    parcel: Parcel<'p, R>,
+    rest: Vec<Parcel<'p, R>, Heap>,
+) -> (Parcel<'p, R>, Vec<Parcel<'p, R>, Heap>)
+    ensures one { SameStation parcel.entry.station result.0.station }
+    ensures same { SameStations rest.entry.items result.1.items }
+    ensures len { vec_len result.1 ≡ vec_len rest.entry }
+    ensures room { vec_capacity result.1 ≡ vec_capacity rest.entry }
+{
+    thread::scope(
+        thread::scope_env(),
+        &rt,
+        move |scope| -> (Parcel<'_, R>, Vec<Parcel<'_, R>, Heap>)
+            ensures one { SameStation parcel.entry.station result.0.station }
+            ensures same { SameStations rest.entry.items result.1.items }
+            ensures len { vec_len result.1 ≡ vec_len rest.entry }
+            ensures room { vec_capacity result.1 ≡ vec_capacity rest.entry }
+        {
+            let promise = SameAs(Snapshot::of(&parcel.station));
+            let whole = move || -> Parcel<'_, R>
+                ensures { SameStation parcel.entry.station result.station }
+            { keep_one(shared, parcel) };
+            match scope.spawn_with(promise, whole) {
+                Ok(child) => {
+                    let rest = keep_all(rt, shared, rest);
+                    (child.join(&rt), rest)
+                }
+                Err(back) => {
+                    let parcel = unplayed(shared, (back.value)());
+                    let rest = keep_all(rt, shared, rest);
+                    (parcel, rest)
+                }
+            }
+        },
+    )
+}

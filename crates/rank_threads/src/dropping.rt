@@ -1,0 +1,30 @@
+//! The frames that a crash loses.
+ghost use Rattle.std.specs.Prelude.{◌≡◌};
+ghost use Rattle.rank_threads.specs.Stations.{SameStation};
+
+use crate::lanes_of::take_from;
+use crate::station::Station;
+
+/// How many frames a lane holds.
+const MOST: u32 = 64;
+
+/// At a crash the frames in the lanes into the rank are dropped, at most as
+/// many as they hold. They count as taken.
+pub fn drop_frames(station: &mut Station<'_>)
+    ensures { SameStation station.old station.new }
+{
+    for source in 0..station.size {
+        drop_from(station, source);
+    }
+}
+
+fn drop_from(station: &mut Station<'_>, source: u8)
+    ensures { SameStation station.old station.new }
+{
+    for _ in 0..MOST {
+        if take_from(&mut station.from, source).is_none() {
+            break;
+        }
+        station.tally.count_taken();
+    }
+}

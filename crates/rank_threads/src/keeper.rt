@@ -1,0 +1,101 @@
+//! A keeper starts and joins the threads of a rank's lives.
+ghost use Rattle.std.specs.Prelude.{◌≡◌};
+ghost use Rattle.rank_threads.specs.Stations.{SameStation};
+
+use crate::dropping::drop_frames;
+use crate::hold::Hold;
+use crate::life::{life, refused};
+use crate::parcel::{Parcel, SameAs};
+use crate::shared::Shared;
+use crate::station::Station;
+use std::snapshot::Snapshot;
+use std::sync::Wait;
+use std::thread;
+use std::thread::Threads;
+
+/// Plays lives until one doesn't crash.
+pub fn keep<'l, R: Threads + Wait + Sync + Copy + Send, H: Hold + Sync>(
+    rt: R,
+    shared: &Shared<'_, H>,
+    station: Station<'l>,
+) -> Station<'l>
+    ensures { SameStation station.entry result }
+{
+    let mut station = station;
+    for _ in rt.forever() {
+        if shared.is_stopped() {
+            return station;
+        }
+        station = one_life(rt, shared, station);
+        if station.end.is_some() {
+            return station;
+        }
+        station = fetched(shared, station);
+    }
+    unreachable!()
+}
+
+// The frames in the lanes into the rank are dropped, and its row is fetched.
+fn fetched<'l, H>(shared: &Shared<'_, H>, station: Station<'l>) -> Station<'l>
+    ensures { SameStation station.entry result }
+{
+    let mut station = station;
+    drop_frames(&mut station);
+    station.tally.begin_again();
+    match station.fetch(shared.alloc) {
+        Ok(()) => station,
+        Err(_) => refused(shared, station),
+    }
+}
+
+fn play<'l, W: Wait + Drop + Copy, H: Hold>(
+    shared: &Shared<'_, H>,
+    parcel: Parcel<'l, W>,
+) -> Parcel<'l, W>
+    ensures { SameStation parcel.entry.station result.station }
+{
+    let rt = parcel.rt;
+    let station = life(&rt, shared, parcel.open());
+    Parcel { rt, station }
+}
+
+/// What comes back where no thread could be made.
+pub fn unplayed<'l, W: Wait + Drop + Copy, H>(
+    shared: &Shared<'_, H>,
+    parcel: Parcel<'l, W>,
+) -> Parcel<'l, W>
+    ensures { SameStation parcel.entry.station result.station }
+{
+    let rt = parcel.rt;
+    let station = refused(shared, parcel.open());
+    Parcel { rt, station }
+}
+
+/// Plays one life in a thread. Where no thread can be made, all are to leave,
+/// and the station comes back at once.
+fn one_life<'l, R: Threads + Wait + Sync + Copy + Send, H: Hold + Sync>(
+    rt: R,
+    shared: &Shared<'_, H>,
+    station: Station<'l>,
+) -> Station<'l>
+    ensures { SameStation station.entry result }
+{
+    let parcel = Parcel { rt, station };
+    thread::scope(
+        thread::scope_env(),
+        &rt,
+        move |scope| -> Parcel<'_, R>
+            ensures { SameStation parcel.entry.station result.station }
+        {
+            let promise = SameAs(Snapshot::of(&parcel.station));
+            let whole = move || -> Parcel<'_, R>
+                ensures { SameStation parcel.entry.station result.station }
+            { play(shared, parcel) };
+            match scope.spawn_with(promise, whole) {
+                Ok(child) => child.join(&rt),
+                Err(back) => unplayed(shared, (back.value)()),
+            }
+        },
+    )
+    .open()
+}

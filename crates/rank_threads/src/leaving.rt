@@ -1,0 +1,85 @@
+//! What a rank does in idle turns: it marks itself, and looks whether all may
+//! leave.
+ghost use Rattle.std.specs.Prelude.{◌≡◌, ◌<◌};
+ghost use Rattle.rank_threads.specs.Seats.{SameSeat};
+
+use crate::marks::{first_look, second_look};
+use crate::seat::Seat;
+use crate::shared::Shared;
+use crate::stepping::Stepped;
+use crate::taking::take_in;
+use metered::Heap;
+use std::alloc::AllocError;
+
+/// What an idle turn leads to: whether the rank leaves.
+///
+/// A rank that owes no other a frame marks itself: at once where it has ended
+/// or steps no more, and where it waits, after as many idle turns as the limits
+/// say, in which no other rank's row has grown.
+pub fn rest<H>(
+    shared: &Shared<'_, H>,
+    seat: &mut Seat<'_, '_>,
+    stepped: Stepped,
+) -> Result<bool, AllocError>
+    ensures { SameSeat seat.old seat.new }
+{
+    if seat.tally.is_marked {
+        return may_leave(shared, seat);
+    }
+    if seat.tally.may_owe {
+        return Ok(false);
+    }
+    match stepped {
+        Stepped::Moved | Stepped::Acted | Stepped::Held => return Ok(false),
+        Stepped::Blocked => {
+            let waited = seat.tally.has_waited(shared.limits.idle);
+            if !waited || others_went_on(shared.alloc, seat)? {
+                return Ok(false);
+            }
+        }
+        Stepped::Ended => {}
+    }
+    shared.set_mark(seat.rank, seat.tally.put, seat.tally.taken);
+    seat.tally.set_marked(true);
+    Ok(false)
+}
+
+// Between two looks that see the same marks, all of this rank's lanes are looked at once more.
+fn may_leave<H>(shared: &Shared<'_, H>, seat: &mut Seat<'_, '_>) -> Result<bool, AllocError>
+    ensures { SameSeat seat.old seat.new }
+{
+    let Some(first) = first_look(shared.marks) else {
+        return Ok(false);
+    };
+    if take_in(shared, seat)? {
+        seat.tally.is_busy();
+        return Ok(false);
+    }
+    Ok(second_look(shared.marks, &first))
+}
+
+// Whether another row has grown since the last reads. All are read.
+fn others_went_on(alloc: Heap, seat: &mut Seat<'_, '_>) -> Result<bool, AllocError>
+    ensures { SameSeat seat.old seat.new }
+{
+    let mut went_on = false;
+    for of in 0..seat.node.size {
+        if of != seat.rank {
+            went_on = has_grown(alloc, seat, of)? || went_on;
+        }
+    }
+    Ok(went_on)
+}
+
+fn has_grown(alloc: Heap, seat: &mut Seat<'_, '_>, of: u8) -> Result<bool, AllocError>
+    requires { of < seat.old.node.size }
+    ensures { SameSeat seat.old seat.new }
+{
+    let after = seat.tally.seen_in(of);
+    let events = seat.node.read(alloc, of, after)?;
+    let Some(last) = events.last() else {
+        return Ok(false);
+    };
+    seat.tally.has_seen(of, last.receiver_clock());
+    Ok(true)
+}

@@ -1,0 +1,34 @@
+//! Ranks on threads of their own: they are killed and imaged by a script, start
+//! again and replay, and the report of a run is audited.
+#![tactic(auto)]
+
+mod crew;
+mod dropping;
+mod hold;
+mod keeper;
+mod lanes_of;
+mod leaving;
+mod life;
+mod marks;
+mod node;
+mod parcel;
+mod phase;
+mod plan;
+mod putting;
+mod releasing;
+mod report;
+mod row;
+mod running;
+mod seat;
+mod seating;
+mod settling;
+mod shared;
+mod station;
+mod stepping;
+mod taking;
+mod tally;
+mod turn;
+
+pub use hold::Hold;
+pub use report::{Report, RunFault};
+pub use running::{RunLimits, run};

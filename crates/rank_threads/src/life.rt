@@ -1,0 +1,106 @@
+//! One life of a rank.
+ghost use Rattle.std.specs.Prelude.{◌≡◌};
+ghost use Rattle.rank_threads.specs.Seats.{SameSeat};
+ghost use Rattle.rank_threads.specs.Stations.{SameStation};
+
+use crate::hold::Hold;
+use crate::phase::Phase;
+use crate::seat::Seat;
+use crate::shared::Shared;
+use crate::station::Station;
+use crate::turn::{After, turn};
+use audit::End;
+use ports::ConsoleState;
+use rank_language::Program;
+use rank_machine::Want;
+use rank_node::NodeFault;
+use std::sync::Wait;
+use std::thread;
+
+/// Plays a life, until the rank crashes or leaves. The rank reads the program
+/// for itself: all that a crash loses is of this thread alone.
+pub fn life<'l, W: Wait, H: Hold>(
+    rt: &W,
+    shared: &Shared<'_, H>,
+    station: Station<'l>,
+) -> Station<'l>
+    ensures { SameStation station.entry result }
+{
+    let Ok(mut blank) = ConsoleState::new(shared.alloc, 0) else {
+        return refused(shared, station);
+    };
+    // what is read is the canonical text of a program, so only memory can be wanting
+    let Ok(program) = Program::parse(shared.alloc, shared.text) else {
+        return refused(shared, station);
+    };
+    let seat = station.begin(shared.alloc, &program);
+    if seat.tally.fault.is_some() {
+        shared.stop_all();
+    }
+    let (seat, has_crashed) = play(rt, shared, &mut blank, seat);
+    let end = if has_crashed {
+        None
+    } else {
+        Some(end_of(&seat))
+    };
+    seat.leave(end)
+}
+
+// Turns, until the rank crashes or leaves. Answers whether it crashed.
+fn play<'p, 'l, W: Wait, H: Hold>(
+    rt: &W,
+    shared: &Shared<'_, H>,
+    blank: &mut ConsoleState,
+    seat: Seat<'p, 'l>,
+) -> (Seat<'p, 'l>, bool)
+    ensures { SameSeat seat.entry result.0 }
+{
+    let mut seat = seat;
+    for _ in rt.forever() {
+        if shared.is_stopped() {
+            return (seat, false);
+        }
+        let (next, after) = turn(rt, shared, blank, seat);
+        seat = next;
+        match after {
+            After::Crash => {
+                seat.tally.count_crash();
+                return (seat, true);
+            }
+            After::Leave => return (seat, false),
+            After::Turn { is_idle: false } => {}
+            After::Turn { is_idle: true } => thread::yield_now(),
+        }
+    }
+    unreachable!()
+}
+
+/// The rank has met want of memory, and all are to leave.
+pub fn refused<'l, H>(shared: &Shared<'_, H>, station: Station<'l>) -> Station<'l>
+    ensures { SameStation station.entry result }
+{
+    let mut station = station;
+    station.tally.refuse(NodeFault::Memory);
+    shared.stop_all();
+    station
+}
+
+// A rank that a limit stopped, or that didn't come to the end of its row, is unfinished.
+fn end_of(seat: &Seat<'_, '_>) -> End {
+    if seat.tally.is_spent {
+        return End::Unfinished;
+    }
+    match seat.node.phase() {
+        Phase::Running(rank) => end_at(rank.wants()),
+        Phase::Replaying(_) | Phase::Down(_) => End::Unfinished,
+    }
+}
+
+fn end_at(want: Want) -> End {
+    match want {
+        Want::Halted => End::Halted,
+        Want::Faulted(fault) => End::Faulted(fault),
+        Want::Receive(_) | Want::Probe(_) => End::Stalled,
+        Want::Internal | Want::Send { .. } | Want::TryProbe(_) | Want::Print(_) => End::Unfinished,
+    }
+}

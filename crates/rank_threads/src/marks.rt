@@ -1,0 +1,74 @@
+//! When a rank may leave: every rank is at rest, and as many frames were taken
+//! as were put.
+//!
+//! A rank at rest has nothing to put and waits or has ended, so that only a
+//! frame can wake it. Its mark says so, with how many frames it has put and
+//! taken in all its lives. It takes the mark back before it does anything with
+//! a frame that comes.
+use crossbeam_utils::CachePadded;
+use metered::limits::MOST_RANKS;
+use std::sync::atomic::{AtomicU64, Ordering};
+
+/// The mark of one rank.
+#[derive(Drop)]
+pub struct Mark {
+    // 0 where the rank is at work, else one more than the frames it has taken; so no value comes twice
+    taken: AtomicU64,
+    // how many frames it had put when it set its mark
+    put: AtomicU64,
+}
+
+impl Mark {
+    pub fn new() -> Mark {
+        Mark {
+            taken: AtomicU64::new(0),
+            put: AtomicU64::new(0),
+        }
+    }
+
+    /// The rank has come to rest. What it has put is there before the mark is.
+    pub fn set(&self, put: u64, taken: u64) {
+        self.put.store(put, Ordering::SeqCst);
+        self.taken.store(taken.saturating_add(1), Ordering::SeqCst);
+    }
+
+    /// The rank is at work.
+    pub fn take_back(&self) {
+        self.taken.store(0, Ordering::SeqCst);
+    }
+}
+
+/// What one look at all marks saw, where all were set.
+#[derive(Clone, Copy)]
+pub struct Look {
+    marks: [u64; MOST_RANKS],
+    taken: u64,
+}
+
+/// The marks of all ranks, where all are set.
+pub fn first_look(marks: &[CachePadded<Mark>]) -> Option<Look> {
+    let mut seen = [0u64; MOST_RANKS];
+    let mut taken = 0u64;
+    for (mark, slot) in marks.iter().zip(seen.iter_mut()) {
+        let one = mark.taken.load(Ordering::SeqCst);
+        if one == 0 {
+            return None;
+        }
+        *slot = one;
+        taken = taken.wrapping_add(one - 1);
+    }
+    Some(Look { marks: seen, taken })
+}
+
+/// Whether all marks are still those of the first look, and as many frames were
+/// taken as were put.
+pub fn second_look(marks: &[CachePadded<Mark>], first: &Look) -> bool {
+    let mut put = 0u64;
+    for (mark, seen) in marks.iter().zip(first.marks.iter()) {
+        put = put.wrapping_add(mark.put.load(Ordering::SeqCst));
+        if mark.taken.load(Ordering::SeqCst) != *seen {
+            return false;
+        }
+    }
+    put == first.taken
+}

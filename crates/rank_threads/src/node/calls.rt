@@ -1,0 +1,98 @@
+//! What a rank is asked for in its life.
+ghost use Rattle.std.specs.Prelude.{◌≡◌, ◌<◌, ◌≤◌};
+ghost use Rattle.ports.specs.Lanes.{lane_to};
+ghost use Rattle.rank_threads.specs.Seats.{SameNode};
+
+use super::Node;
+use crate::phase::{Phase, Went};
+use metered::Heap;
+use plain_logger::Event;
+use ports::{Console, ConsoleState, Tx};
+use rank_machine::Want;
+use rank_node::{Frame, NodeFault, Turn};
+use std::alloc::AllocError;
+use std::sync::Wait;
+
+impl<'p, 'l> Node<'p, 'l> {
+    /// The rank in its phase.
+    pub fn phase(&self) -> &Phase<'p>
+        ensures { result.now ≡ self.now.phase }
+    {
+        &self.phase
+    }
+
+    /// What its machine wants next; nothing where the rank is down.
+    pub fn wants(&self) -> Option<Want> {
+        self.phase.wants()
+    }
+
+    /// How many acts it has made.
+    pub fn clock(&self) -> u32 {
+        self.phase.clock()
+    }
+
+    /// Takes in a frame that came from this rank. An `Err` is want of memory.
+    pub fn arrive(&mut self, from: u8, frame: Frame) -> Result<(), AllocError>
+        requires { from < self.old.size }
+        ensures { SameNode self.old self.new }
+    {
+        self.phase.arrive(from, frame)
+    }
+
+    /// Puts what is outgoing to this rank next into the lane to it. An `Err` is
+    /// want of memory.
+    pub fn put_one(&mut self, dest: u8, lane: &mut Tx) -> Result<Went, AllocError>
+        requires { dest < self.old.size }
+        ensures same { SameNode self.old self.new }
+        ensures lane { lane_to lane.new ≡ lane_to lane.old }
+    {
+        self.phase.put_one(dest, lane)
+    }
+
+    /// Steps of its machine that no other rank sees, at most so many. Answers
+    /// how many it made.
+    pub fn stride(&mut self, most: u32) -> u32
+        ensures few { result ≤ most }
+        ensures same { SameNode self.old self.new }
+    {
+        self.phase.stride(most)
+    }
+
+    /// One step of its machine; what it prints goes to the screen.
+    pub fn step(&mut self, screen: &mut ConsoleState) -> Result<Turn, NodeFault>
+        ensures { SameNode self.old self.new }
+    {
+        self.phase.step(screen)
+    }
+
+    /// The events of rank `of` whose receiver's clock is above `after`. An `Err`
+    /// is want of memory.
+    pub fn read(&mut self, alloc: Heap, of: u8, after: u32) -> Result<Vec<Event, Heap>, AllocError>
+        requires { of < self.old.size }
+        ensures { SameNode self.old self.new }
+    {
+        let logger = self.logger;
+        self.phase.read(alloc, logger, of, after)
+    }
+
+    /// Takes an image of a rank that runs, and answers whether it did.
+    pub fn image(&mut self) -> Result<bool, NodeFault>
+        ensures { SameNode self.old self.new }
+    {
+        self.phase.image()
+    }
+
+    /// What waits at the gate of a rank that runs passes. Answers whether the
+    /// logger took all its events. An `Err` is want of memory.
+    pub fn release<W: Wait>(
+        &mut self,
+        rt: &W,
+        console: &Console,
+        blank: &mut ConsoleState,
+    ) -> Result<bool, AllocError>
+        ensures { SameNode self.old self.new }
+    {
+        let logger = self.logger;
+        self.phase.release(rt, logger, console, blank)
+    }
+}

@@ -1,0 +1,107 @@
+//! How a life of a rank begins and ends.
+ghost use Rattle.std.specs.Prelude.{◌≡◌, ◌≤◌, MatchOption, length};
+ghost use Rattle.metered.specs.Limits.{most_events};
+ghost use Rattle.rank_threads.specs.Phases.{stable_of, SameStable};
+ghost use Rattle.rank_threads.specs.Seats.{SameNode};
+
+use super::Node;
+use crate::phase::Phase;
+use crate::row::Row;
+use checkpoint::MemoryShelf;
+use event_logger::{Desk, Logger};
+use metered::Heap;
+use rank_language::Program;
+use rank_node::{Down, NodeFault, Running};
+
+impl<'p, 'l> Node<'p, 'l> {
+    /// A rank at the beginning of a life: of its program, or where there is a
+    /// row, of what it replays. Where it can't begin it is down, and the fault
+    /// says why.
+    pub fn begin(
+        alloc: Heap,
+        program: &'p Program,
+        logger: &'l Logger,
+        down: Down<MemoryShelf, Desk>,
+        row: Option<Row>,
+        size: u8,
+    ) -> (Node<'p, 'l>, Option<NodeFault>)
+        requires own { down.desk.table ≡ logger.now.table }
+        requires ranks { logger.now.ranks ≡ size }
+        requires sized { down.size ≡ size }
+        ensures same { SameStable down (stable_of result.0.phase) }
+        ensures size { result.0.size ≡ size }
+    {
+        let (phase, fault) = match row {
+            None => first(alloc, program, down),
+            Some(row) => again(alloc, program, down, row),
+        };
+        let node = Node {
+            phase,
+            logger,
+            size,
+        };
+        (node, fault)
+    }
+
+    /// A rank that has nothing left to replay runs from now on.
+    pub fn settled(self) -> Node<'p, 'l>
+        ensures { SameNode self.entry result }
+    {
+        let Node {
+            phase,
+            logger,
+            size,
+        } = self;
+        Node {
+            phase: phase.settled(),
+            logger,
+            size,
+        }
+    }
+
+    /// The life is over: what is stable outlives it, and nothing else does of
+    /// the rank. Gives the logger and the number of ranks back too.
+    pub fn over(self) -> (Down<MemoryShelf, Desk>, &'l Logger, u8)
+        ensures down { result.0 ≡ stable_of self.entry.phase }
+        ensures size { result.2 ≡ self.entry.size }
+        ensures own { result.0.desk.table ≡ result.1.now.table }
+        ensures ranks { result.1.now.ranks ≡ result.2 }
+        ensures sized { result.0.size ≡ result.2 }
+    {
+        let Node {
+            phase,
+            logger,
+            size,
+        } = self;
+        (phase.crash(), logger, size)
+    }
+}
+
+// At the beginning of its program.
+fn first<'p>(
+    alloc: Heap,
+    program: &'p Program,
+    down: Down<MemoryShelf, Desk>,
+) -> (Phase<'p>, Option<NodeFault>)
+    ensures { stable_of result.0 ≡ down }
+{
+    match Running::start(alloc, program, down.retire()) {
+        Ok(rank) => (Phase::Running(rank), None),
+        Err((stable, fault)) => (Phase::Down(Down::of(stable)), Some(fault)),
+    }
+}
+
+// At its image, replaying what of its row is above it.
+fn again<'p>(
+    alloc: Heap,
+    program: &'p Program,
+    down: Down<MemoryShelf, Desk>,
+    row: Row,
+) -> (Phase<'p>, Option<NodeFault>)
+    ensures { SameStable down (stable_of result.0) }
+{
+    match down.restart(alloc, program, row.into_events()) {
+        Ok(rank) => (Phase::Replaying(rank).settled(), None),
+        Err((down, fault)) => (Phase::Down(down), Some(fault)),
+    }
+}

@@ -1,0 +1,112 @@
+//! A rank that runs, replays or is down.
+ghost use Rattle.std.specs.Prelude.{◌≡◌, ◌≤◌};
+ghost use Rattle.rank_threads.specs.Phases.{stable_of};
+
+mod calls;
+mod frames;
+
+use checkpoint::MemoryShelf;
+use event_logger::Desk;
+pub use frames::Went;
+use ports::ConsoleState;
+use rank_machine::Want;
+use rank_node::{Down, NodeFault, Replaying, Running, Turn};
+
+/// A rank of a run, with a desk at its logger and a shelf in memory. It must be
+/// spent.
+pub enum Phase<'p> {
+    Running(Running<'p, MemoryShelf, Desk>),
+    Replaying(Replaying<'p, MemoryShelf, Desk>),
+    Down(Down<MemoryShelf, Desk>),
+}
+
+impl<'p> Phase<'p> {
+    /// The rank is down, whatever it was.
+    pub fn crash(self) -> Down<MemoryShelf, Desk>
+        ensures { result ≡ stable_of self.entry }
+    {
+        match self {
+            Phase::Running(rank) => rank.crash(),
+            Phase::Replaying(rank) => rank.crash(),
+            Phase::Down(rank) => rank,
+        }
+    }
+
+    /// A rank that has nothing left to replay runs.
+    pub fn settled(self) -> Phase<'p>
+        ensures { stable_of result ≡ stable_of self.entry }
+    {
+        match self {
+            Phase::Replaying(rank) => settled(rank),
+            Phase::Running(rank) => Phase::Running(rank),
+            Phase::Down(rank) => Phase::Down(rank),
+        }
+    }
+
+    /// What its machine wants next; nothing where the rank is down.
+    pub fn wants(&self) -> Option<Want> {
+        match self {
+            Phase::Running(rank) => Some(rank.wants()),
+            Phase::Replaying(rank) => Some(rank.wants()),
+            Phase::Down(_) => None,
+        }
+    }
+
+    /// How many acts it has made.
+    pub fn clock(&self) -> u32 {
+        match self {
+            Phase::Running(rank) => rank.clock(),
+            Phase::Replaying(rank) => rank.clock(),
+            Phase::Down(_) => 0,
+        }
+    }
+
+    /// Steps of its machine that no other rank sees, at most so many. Answers
+    /// how many it made.
+    pub fn stride(&mut self, most: u32) -> u32
+        ensures few { result ≤ most }
+        ensures stable { stable_of self.new ≡ stable_of self.old }
+    {
+        match self {
+            Phase::Running(rank) => rank.stride(most),
+            Phase::Replaying(rank) => rank.stride(most),
+            Phase::Down(_) => 0,
+        }
+    }
+
+    /// One step of its machine; what it prints goes to the screen.
+    pub fn step(&mut self, screen: &mut ConsoleState) -> Result<Turn, NodeFault>
+        ensures stable { stable_of self.new ≡ stable_of self.old }
+    {
+        match self {
+            Phase::Running(rank) => rank.step(screen),
+            Phase::Replaying(rank) => step_again(rank, screen),
+            Phase::Down(_) => Ok(Turn::Ended),
+        }
+    }
+}
+
+fn settled<'p>(rank: Replaying<'p, MemoryShelf, Desk>) -> Phase<'p>
+    ensures { stable_of result ≡ rank.entry.node.stable }
+{
+    if rank.left() > 0 {
+        return Phase::Replaying(rank);
+    }
+    match rank.settle() {
+        Ok(rank) => Phase::Running(rank),
+        Err(rank) => Phase::Replaying(rank),
+    }
+}
+
+// A rank is settled as soon as nothing is left, so that none replays beyond its row.
+fn step_again(
+    rank: &mut Replaying<'_, MemoryShelf, Desk>,
+    screen: &mut ConsoleState,
+) -> Result<Turn, NodeFault>
+    ensures stable { rank.new.node.stable ≡ rank.old.node.stable }
+{
+    if rank.left() == 0 {
+        return Err(NodeFault::Replay);
+    }
+    rank.step(screen)
+}

@@ -1,0 +1,28 @@
+//! What a rank fetched from its logger.
+ghost use Rattle.std.specs.Prelude.{◌≡◌, ◌≤◌, length};
+ghost use Rattle.metered.specs.Limits.{most_events};
+
+use metered::Heap;
+use plain_logger::Event;
+
+/// The whole row of a rank.
+#[derive(Debug, Drop)]
+pub struct Row {
+    events: Vec<Event, Heap>,
+    ghost most: { length events.items ≤ most_events },
+}
+
+impl Row {
+    pub fn new(events: Vec<Event, Heap>) -> Row
+        requires { length events.items ≤ most_events }
+    {
+        Row { events }
+    }
+
+    pub fn into_events(self) -> Vec<Event, Heap>
+        ensures { length result.items ≤ most_events }
+    {
+        let Row { events } = self;
+        events
+    }
+}

@@ -1,0 +1,134 @@
+//! From lanes and desks to stations, and back.
+ghost use Rattle.std.specs.Prelude.{◌≡◌, ◌+◌, ◌<◌, ◌≤◌, [], vec_len, vec_capacity};
+ghost use Rattle.metered.specs.Limits.{most_ranks};
+ghost use Rattle.lanes.specs.Ends.{to_names, from_names};
+ghost use Rattle.rank_threads.specs.Seating.{AreDesksFrom, stations_to, stations_from, AreSeated};
+
+use crate::parcel::Parcel;
+use crate::plan::Plan;
+use crate::station::Station;
+use audit::End;
+use event_logger::{Desk, Logger};
+use lanes::Ends;
+use metered::Heap;
+use ports::{Rx, Tx};
+use rank_node::NodeFault;
+use std::sync::Wait;
+
+/// What the stations of a run are made of, each in the order of ranks.
+pub struct Unseated {
+    pub desks: Vec<Desk, Heap>,
+    pub ends: Ends,
+    pub plans: Vec<Plan, Heap>,
+}
+
+/// What a rank came to.
+#[derive(Clone, Copy, Debug, PartialEq, Eq)]
+pub struct Came {
+    pub end: End,
+    pub crashes: u64,
+    pub fault: Option<NodeFault>,
+}
+
+/// What is left of the stations, each in the order of ranks.
+pub struct Left {
+    pub desks: Vec<Desk, Heap>,
+    pub ends: Ends,
+    pub came: Vec<Came, Heap>,
+}
+
+/// A station for each rank, the last one's first.
+#[tactic(auto, using(crate::proofs::SeatingLemmas::to_seated, crate::proofs::SeatingLemmas::from_seated, crate::proofs::SeatingLemmas::seated_more))]
+pub fn seat_all<'l, W: Wait + Drop + Copy>(
+    rt: W,
+    alloc: Heap,
+    logger: &'l Logger,
+    size: u8,
+    parts: Unseated,
+    stations: Vec<Parcel<'l, W>, Heap>,
+) -> Vec<Parcel<'l, W>, Heap>
+    requires empty { stations.items ≡ [] }
+    requires few { size ≤ most_ranks }
+    requires ranks { logger.now.ranks ≡ size }
+    requires desks { AreDesksFrom logger.now 0 parts.desks.items }
+    requires sizes { (vec_len parts.desks ≡ size) × (vec_len parts.ends.to ≡ size) × (vec_len parts.ends.from ≡ size) × (vec_len parts.plans ≡ size) }
+    requires room { size ≤ vec_capacity stations }
+    ensures to { stations_to result.items ≡ to_names parts.ends.to.items }
+    ensures from { stations_from result.items ≡ from_names parts.ends.from.items }
+    ensures desks { AreSeated logger.now 0 result.items }
+    ensures len { vec_len result ≡ size }
+{
+    let Unseated {
+        mut desks,
+        ends,
+        mut plans,
+    } = parts;
+    let Ends { mut to, mut from } = ends;
+    let mut stations = stations;
+    while let Some(desk) = desks.pop() {
+        let Some(mine) = to.pop() else { unreachable!() };
+        let Some(theirs) = from.pop() else {
+            unreachable!()
+        };
+        let Some(plan) = plans.pop() else {
+            unreachable!()
+        };
+        let rank = desks.len() as u8;
+        let station = Station::new(alloc, logger, desk, rank, size, mine, theirs, plan);
+        stations.push_reserved(Parcel { rt, station });
+    }
+    desks.destroy_empty();
+    stations
+}
+
+/// The lanes and desks of the stations, and what each rank came to.
+#[tactic(auto, using(crate::proofs::SeatingLemmas::to_unseated, crate::proofs::SeatingLemmas::from_unseated, crate::proofs::SeatingLemmas::seated_less, crate::proofs::SeatingLemmas::desks_more))]
+pub fn unseat_all<'l, W: Wait + Drop + Copy>(
+    stations: Vec<Parcel<'l, W>, Heap>,
+    room: Left,
+    logger: &Logger,
+) -> Left
+    requires empty { (room.ends.to.items ≡ []) × (room.ends.from.items ≡ []) × (room.desks.items ≡ []) × (room.came.items ≡ []) }
+    requires room { (vec_len stations ≤ vec_capacity room.ends.to) × (vec_len stations ≤ vec_capacity room.ends.from) × (vec_len stations ≤ vec_capacity room.desks) × (vec_len stations ≤ vec_capacity room.came) }
+    requires desks { AreSeated logger.now 0 stations.items }
+    ensures to { to_names result.ends.to.items ≡ stations_to stations.entry.items }
+    ensures from { from_names result.ends.from.items ≡ stations_from stations.entry.items }
+    ensures desks { AreDesksFrom logger.now 0 result.desks.items }
+    ensures len { vec_len result.desks ≡ vec_len stations.entry }
+{
+    let Left {
+        mut desks,
+        ends,
+        mut came,
+    } = room;
+    let Ends { mut to, mut from } = ends;
+    let mut stations = stations;
+    while let Some(parcel) = stations.pop() {
+        let (desk, mine, theirs, became) = parts(parcel.open());
+        to.push_reserved(mine);
+        from.push_reserved(theirs);
+        desks.push_reserved(desk);
+        came.push_reserved(became);
+    }
+    stations.destroy_empty();
+    Left {
+        desks,
+        ends: Ends { to, from },
+        came,
+    }
+}
+
+// A rank that didn't leave by itself is unfinished.
+fn parts(station: Station<'_>) -> (Desk, Vec<Tx, Heap>, Vec<Rx, Heap>, Came)
+    ensures desk { result.0 ≡ station.entry.down.desk }
+    ensures to { result.1 ≡ station.entry.to }
+    ensures from { result.2 ≡ station.entry.from }
+{
+    let came = Came {
+        end: station.end.unwrap_or(End::Unfinished),
+        crashes: station.tally.crashes,
+        fault: station.tally.fault,
+    };
+    let (desk, to, from) = station.close();
+    (desk, to, from, came)
+}

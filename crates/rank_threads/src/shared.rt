@@ -1,0 +1,81 @@
+//! What all ranks of a run share.
+use crate::marks::Mark;
+use crate::running::RunLimits;
+use crossbeam_utils::CachePadded;
+use metered::Heap;
+use ports::Console;
+use std::sync::atomic::{AtomicBool, Ordering};
+
+/// What all ranks share. Of each rank there is a mark and a bell.
+pub struct Shared<'a, H> {
+    pub alloc: Heap,
+    /// The program's canonical text.
+    pub text: &'a [u8],
+    pub hold: &'a H,
+    pub limits: RunLimits,
+    pub console: &'a Console,
+    pub marks: &'a [CachePadded<Mark>],
+    /// A bell is rung after each put into a lane to its rank.
+    pub bells: &'a [CachePadded<AtomicBool>],
+    /// All ranks leave at their next turn.
+    pub stop: &'a AtomicBool,
+}
+
+// Written by hand, since a derived one would ask that `H` be `Drop`.
+impl<H> Drop for Shared<'_, H> {
+    fn drop(self) {
+        let Shared {
+            alloc: _,
+            text: _,
+            hold: _,
+            limits: _,
+            console: _,
+            marks: _,
+            bells: _,
+            stop: _,
+        } = self;
+    }
+}
+
+impl<H> Shared<'_, H> {
+    /// All ranks are to leave.
+    pub fn stop_all(&self) {
+        self.stop.store(true, Ordering::SeqCst);
+    }
+
+    /// Whether all ranks are to leave.
+    pub fn is_stopped(&self) -> bool {
+        self.stop.load(Ordering::SeqCst)
+    }
+
+    /// A frame was put into a lane to this rank.
+    pub fn ring(&self, rank: u8) {
+        if let Some(bell) = self.bells.get(usize::from(rank)) {
+            if !bell.load(Ordering::SeqCst) {
+                bell.store(true, Ordering::SeqCst);
+            }
+        }
+    }
+
+    /// Whether a frame may have come to this rank since the last call.
+    pub fn was_rung(&self, rank: u8) -> bool {
+        match self.bells.get(usize::from(rank)) {
+            Some(bell) => bell.load(Ordering::SeqCst) && bell.swap(false, Ordering::SeqCst),
+            None => true,
+        }
+    }
+
+    /// The mark of this rank is set.
+    pub fn set_mark(&self, rank: u8, put: u64, taken: u64) {
+        if let Some(mark) = self.marks.get(usize::from(rank)) {
+            mark.set(put, taken);
+        }
+    }
+
+    /// The mark of this rank is taken back.
+    pub fn take_mark_back(&self, rank: u8) {
+        if let Some(mark) = self.marks.get(usize::from(rank)) {
+            mark.take_back();
+        }
+    }
+}

@@ -1,0 +1,99 @@
+//! Part 2 of a turn: a stride or a step of the rank.
+ghost use Rattle.std.specs.Prelude.{◌≡◌};
+ghost use Rattle.rank_threads.specs.Seats.{SameSeat};
+
+use crate::hold::Hold;
+use crate::seat::Seat;
+use crate::shared::Shared;
+use ports::ConsoleState;
+use rank_machine::Want;
+use rank_node::{NodeFault, Turn};
+use std::sync::Wait;
+
+/// How many steps of its own a rank makes in one turn at most.
+const STRIDE: u32 = 1024;
+
+/// What became of a rank's step.
+#[derive(Clone, Copy, Debug, PartialEq, Eq)]
+pub enum Stepped {
+    /// It made steps of its own.
+    Moved,
+    /// It made an act.
+    Acted,
+    /// It waits for a message.
+    Blocked,
+    /// It waits at its gate.
+    Held,
+    /// It has ended, or steps no more.
+    Ended,
+}
+
+/// A stride of steps of the rank's own, or else one step, where the rank may
+/// step. No act follows a stride in the same turn.
+///
+/// A rank that is refused by a limit is spent, and steps no more.
+pub fn step<W: Wait, H: Hold>(
+    rt: &W,
+    shared: &Shared<'_, H>,
+    blank: &mut ConsoleState,
+    seat: &mut Seat<'_, '_>,
+) -> Result<Stepped, NodeFault>
+    ensures { SameSeat seat.old seat.new }
+{
+    if seat.tally.is_spent {
+        return Ok(Stepped::Ended);
+    }
+    let left = shared.limits.steps.saturating_sub(seat.tally.steps);
+    let made = seat.node.stride(left.min(STRIDE));
+    if made > 0 {
+        seat.tally.count_steps(made, shared.limits.steps, false);
+        return Ok(Stepped::Moved);
+    }
+    match act(rt, shared, blank, seat) {
+        Ok(Turn::Moved) => {
+            seat.tally.count_steps(1, shared.limits.steps, true);
+            Ok(Stepped::Acted)
+        }
+        Ok(Turn::Blocked) => Ok(Stepped::Blocked),
+        Ok(Turn::Held) => Ok(Stepped::Held),
+        Ok(Turn::Ended) => Ok(Stepped::Ended),
+        Err(NodeFault::ClockSpent | NodeFault::Log) => {
+            seat.tally.spend();
+            Ok(Stepped::Ended)
+        }
+        Err(fault) => Err(fault),
+    }
+}
+
+// Who holds acts is told of one before it is made, also where it turns out to
+// be blocked. The console's lock is taken for a print alone.
+fn act<W: Wait, H: Hold>(
+    rt: &W,
+    shared: &Shared<'_, H>,
+    blank: &mut ConsoleState,
+    seat: &mut Seat<'_, '_>,
+) -> Result<Turn, NodeFault>
+    ensures { SameSeat seat.old seat.new }
+{
+    let Some(want) = seat.node.wants() else {
+        return Ok(Turn::Ended);
+    };
+    if want.is_act() {
+        // No clock is near the end of its type.
+        let clock = seat.node.clock().saturating_add(1);
+        shared.hold.before(seat.rank, clock);
+    }
+    match want {
+        Want::Print(_) => {
+            let mut console = shared.console.lock(rt);
+            seat.node.step(&mut *console)
+        }
+        Want::Internal
+        | Want::Send { .. }
+        | Want::Receive(_)
+        | Want::Probe(_)
+        | Want::TryProbe(_)
+        | Want::Halted
+        | Want::Faulted(_) => seat.node.step(blank),
+    }
+}

@@ -1,0 +1,54 @@
+//! Part 1 of a turn: what the lanes bring.
+ghost use Rattle.std.specs.Prelude.{◌≡◌, ◌<◌};
+ghost use Rattle.rank_threads.specs.Seats.{SameSeat};
+
+use crate::lanes_of::take_from;
+use crate::seat::Seat;
+use crate::shared::Shared;
+use std::alloc::AllocError;
+
+/// How many frames a turn takes from one lane: as many as a lane holds.
+const MOST: u32 = 64;
+
+/// Takes what the lanes bring, by rising source, and answers whether a frame
+/// came.
+pub fn take_in<H>(shared: &Shared<'_, H>, seat: &mut Seat<'_, '_>) -> Result<bool, AllocError>
+    ensures { SameSeat seat.old seat.new }
+{
+    let mut took = false;
+    for source in 0..seat.node.size {
+        took = take_all_from(shared, seat, source)? || took;
+    }
+    Ok(took)
+}
+
+fn take_all_from<H>(
+    shared: &Shared<'_, H>,
+    seat: &mut Seat<'_, '_>,
+    source: u8,
+) -> Result<bool, AllocError>
+    requires { source < seat.old.node.size }
+    ensures { SameSeat seat.old seat.new }
+{
+    let mut took = false;
+    for _ in 0..MOST {
+        let Some(frame) = take_from(&mut seat.from, source) else {
+            break;
+        };
+        wake(shared, seat);
+        seat.node.arrive(source, frame)?;
+        took = true;
+    }
+    Ok(took)
+}
+
+// A frame came. The mark is taken back before anything is done with it.
+fn wake<H>(shared: &Shared<'_, H>, seat: &mut Seat<'_, '_>)
+    ensures { SameSeat seat.old seat.new }
+{
+    if seat.tally.is_marked {
+        shared.take_mark_back(seat.rank);
+        seat.tally.set_marked(false);
+    }
+    seat.tally.count_taken();
+}

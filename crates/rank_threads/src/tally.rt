@@ -1,0 +1,117 @@
+//! What a run counts of a rank over all its lives.
+use metered::limits::MOST_RANKS;
+use rank_node::NodeFault;
+
+/// What a run counts of a rank over all its lives.
+#[derive(Clone, Copy, Debug)]
+pub struct Tally {
+    /// Frames put into lanes.
+    pub put: u64,
+    /// Frames taken out of lanes, or dropped there at a crash.
+    pub taken: u64,
+    pub steps: u32,
+    pub crashes: u64,
+    /// Idle turns in succession.
+    pub idle: u32,
+    /// Whether the rank's mark is set.
+    pub is_marked: bool,
+    /// Whether something may be outgoing.
+    pub may_owe: bool,
+    /// Whether a limit was reached, so that the rank steps no more.
+    pub is_spent: bool,
+    /// Of each row, the clock of the last event that the rank read there.
+    pub seen: [u32; MOST_RANKS],
+    /// Why the rank can't go on.
+    pub fault: Option<NodeFault>,
+}
+
+impl Tally {
+    /// Nothing is counted yet.
+    pub fn new() -> Tally {
+        Tally {
+            put: 0,
+            taken: 0,
+            steps: 0,
+            crashes: 0,
+            idle: 0,
+            is_marked: false,
+            may_owe: true,
+            is_spent: false,
+            seen: [0; MOST_RANKS],
+            fault: None,
+        }
+    }
+
+    pub fn refuse(&mut self, fault: NodeFault) {
+        self.fault = Some(fault);
+    }
+
+    /// The rank was refused by a limit.
+    pub fn spend(&mut self) {
+        self.is_spent = true;
+    }
+
+    /// The rank made so many steps, of which `most` are allowed. Only an act
+    /// can leave something to put.
+    pub fn count_steps(&mut self, made: u32, most: u32, is_act: bool) {
+        self.may_owe = self.may_owe || is_act;
+        self.steps = self.steps.saturating_add(made);
+        if self.steps >= most {
+            self.is_spent = true;
+        }
+    }
+
+    pub fn count_put(&mut self) {
+        self.put = self.put.saturating_add(1);
+    }
+
+    pub fn count_taken(&mut self) {
+        self.taken = self.taken.saturating_add(1);
+        self.may_owe = true;
+    }
+
+    pub fn count_crash(&mut self) {
+        self.crashes = self.crashes.saturating_add(1);
+    }
+
+    /// A new life begins: it asks every rank.
+    pub fn begin_again(&mut self) {
+        self.may_owe = true;
+        self.idle = 0;
+    }
+
+    pub fn set_marked(&mut self, is_marked: bool) {
+        self.is_marked = is_marked;
+    }
+
+    pub fn set_owing(&mut self, may_owe: bool) {
+        self.may_owe = may_owe;
+    }
+
+    /// A turn that wasn't idle.
+    pub fn is_busy(&mut self) {
+        self.idle = 0;
+    }
+
+    /// Whether this idle turn is the last of `most` in succession. If so, they
+    /// are counted anew.
+    pub fn has_waited(&mut self, most: u32) -> bool {
+        self.idle = self.idle.saturating_add(1);
+        if self.idle < most {
+            return false;
+        }
+        self.idle = 0;
+        true
+    }
+
+    /// The clock of the last event that was read in this row.
+    pub fn seen_in(&self, of: u8) -> u32 {
+        self.seen.get(usize::from(of)).copied().unwrap_or(0)
+    }
+
+    pub fn has_seen(&mut self, of: u8, clock: u32) {
+        if let Some(slot) = self.seen.get_mut(usize::from(of)) {
+            *slot = clock;
+        }
+    }
+}

@@ -1,0 +1,135 @@
+//! One turn of a rank.
+ghost use Rattle.std.specs.Prelude.{◌≡◌};
+ghost use Rattle.rank_threads.specs.Seats.{SameSeat};
+
+use crate::hold::Hold;
+use crate::leaving::rest;
+use crate::putting::put_out;
+use crate::seat::Seat;
+use crate::settling::settle;
+use crate::shared::Shared;
+use crate::stepping::{Stepped, step};
+use crate::taking::take_in;
+use ports::ConsoleState;
+use rank_node::NodeFault;
+use script_text::Order;
+use std::sync::Wait;
+
+/// What follows a turn.
+#[derive(Clone, Copy, Debug, PartialEq, Eq)]
+pub enum After {
+    /// Another turn; after an idle one others go first.
+    Turn { is_idle: bool },
+    Crash,
+    Leave,
+}
+
+/// One turn: what the lanes bring, a stride or a step, the script's next line,
+/// what waits at the gate, what goes out, and the rank's mark.
+pub fn turn<'p, 'l, W: Wait, H: Hold>(
+    rt: &W,
+    shared: &Shared<'_, H>,
+    blank: &mut ConsoleState,
+    seat: Seat<'p, 'l>,
+) -> (Seat<'p, 'l>, After)
+    ensures { SameSeat seat.entry result.0 }
+{
+    let mut seat = seat;
+    let first = begin(rt, shared, blank, &mut seat);
+    let mut seat = settled(seat);
+    let after = match first {
+        Ok(begun) => match end(rt, shared, blank, &mut seat, begun) {
+            Ok(after) => after,
+            Err(fault) => faulted(shared, &mut seat, fault),
+        },
+        Err(fault) => faulted(shared, &mut seat, fault),
+    };
+    (seat, after)
+}
+
+// What the first two parts of a turn came to.
+#[derive(Clone, Copy)]
+struct Begun {
+    took: bool,
+    stepped: Stepped,
+}
+
+fn begin<W: Wait, H: Hold>(
+    rt: &W,
+    shared: &Shared<'_, H>,
+    blank: &mut ConsoleState,
+    seat: &mut Seat<'_, '_>,
+) -> Result<Begun, NodeFault>
+    ensures { SameSeat seat.old seat.new }
+{
+    let took = shared.was_rung(seat.rank) && take_in(shared, seat)?;
+    let stepped = step(rt, shared, blank, seat)?;
+    Ok(Begun { took, stepped })
+}
+
+fn end<W: Wait, H: Hold>(
+    rt: &W,
+    shared: &Shared<'_, H>,
+    blank: &mut ConsoleState,
+    seat: &mut Seat<'_, '_>,
+    begun: Begun,
+) -> Result<After, NodeFault>
+    ensures { SameSeat seat.old seat.new }
+{
+    let order = match begun.stepped {
+        Stepped::Acted => {
+            let clock = seat.node.clock();
+            seat.plan.order_at(clock)
+        }
+        Stepped::Moved | Stepped::Blocked | Stepped::Held | Stepped::Ended => None,
+    };
+    if order == Some(Order::Kill) {
+        seat.plan.use_one();
+        return Ok(After::Crash);
+    }
+    settle(rt, shared, blank, seat, order == Some(Order::Image))?;
+    let put = put_out(shared, seat)?;
+    let is_busy = match begun.stepped {
+        Stepped::Moved | Stepped::Acted | Stepped::Held => true,
+        Stepped::Blocked | Stepped::Ended => begun.took || put,
+    };
+    if is_busy {
+        seat.tally.is_busy();
+        return Ok(After::Turn { is_idle: false });
+    }
+    if rest(shared, seat, begun.stepped)? {
+        return Ok(After::Leave);
+    }
+    Ok(After::Turn { is_idle: true })
+}
+
+// A rank that has nothing left to replay runs from now on.
+fn settled<'p, 'l>(seat: Seat<'p, 'l>) -> Seat<'p, 'l>
+    ensures { SameSeat seat.entry result }
+{
+    let Seat {
+        rank,
+        node,
+        to,
+        from,
+        plan,
+        tally,
+    } = seat;
+    Seat {
+        rank,
+        node: node.settled(),
+        to,
+        from,
+        plan,
+        tally,
+    }
+}
+
+// The rank can't go on, and all are to leave.
+fn faulted<H>(shared: &Shared<'_, H>, seat: &mut Seat<'_, '_>, fault: NodeFault) -> After
+    ensures { SameSeat seat.old seat.new }
+{
+    seat.tally.refuse(fault);
+    shared.stop_all();
+    After::Leave
+}

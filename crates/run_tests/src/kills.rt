@@ -1,0 +1,173 @@
+//! Runs whose ranks are killed, with what they write.
+use crate::scenes::{Scripted, expect_scripted};
+use std::test::Fail;
+
+/// Rank 0 sends 41, and rank 1 prints one more.
+const ANSWER: &str =
+    "var x\nif rank == 0\n  send 1, 7, 41\nelse\n  recv any, any, x\n  print x + 1\nend\n";
+
+/// Rank 1 takes the second of three messages first.
+const OVERTAKING: &str = "var x
+if rank == 0
+  send 1, 1, 10
+  send 1, 2, 20
+  send 1, 1, 30
+else
+  recv 0, 2, x
+  print x
+  recv any, any, x
+  print x
+end
+";
+
+/// Four round trips of two ranks.
+const TRIPS: &str = "var i
+var x
+while i < 4
+  if rank == 0
+    send 1, 0, i
+    recv 1, 0, x
+  else
+    recv 0, 0, x
+    send 0, 0, x * x
+  end
+  let i = i + 1
+end
+print x
+";
+
+/// A rank takes two messages of its own.
+const OWN: &str = "var x
+send 0, 3, 6
+send 0, 3, 7
+recv 0, 3, x
+print x
+recv 0, 3, x
+print x
+";
+
+/// A reduce, a broadcast and a barrier of three ranks.
+const COLLECTIVES: &str = "var x\nreduce sum, 2, rank + 1, x\nbcast 2, x\nbarrier\nprint x\n";
+
+/// What the round trips print, with the crashes and the logger's calls.
+const OF_TRIPS: &str = "0> 9\n1> 3\nrank 0: halted\nrank 1: halted\ncrashes 2, logger calls 10\n";
+
+const KILLS: [Scripted; 14] = [
+    // Before the reception is stored: the row is empty, and the message is sent again. A fetch and an append.
+    Scripted {
+        options: "--ranks 2",
+        program: ANSWER,
+        script: "kill 1 at 1\n",
+        status: 0,
+        out: "1> 42\nrank 0: halted\nrank 1: halted\ncrashes 1, logger calls 2\n",
+    },
+    // The print stands, is repeated and dropped. An append and a fetch.
+    Scripted {
+        options: "--ranks 2",
+        program: ANSWER,
+        script: "# after its print\n\nkill 1 at 2\n",
+        status: 0,
+        out: "1> 42\nrank 0: halted\nrank 1: halted\ncrashes 1, logger calls 2\n",
+    },
+    // Its payload is asked for again, from the sender that crashed after the send.
+    Scripted {
+        options: "--ranks 2",
+        program: ANSWER,
+        script: "kill 0 at 1\n",
+        status: 0,
+        out: "1> 42\nrank 0: halted\nrank 1: halted\ncrashes 1, logger calls 2\n",
+    },
+    // Both prints have the same value, and neither is lost or shown twice.
+    Scripted {
+        options: "--ranks 1",
+        program: "print 5\nprint 5\n",
+        script: "kill 0 at 2\n",
+        status: 0,
+        out: "0> 5\n0> 5\nrank 0: halted\ncrashes 1, logger calls 1\n",
+    },
+    // It begins again at the image. Two appends and a fetch.
+    Scripted {
+        options: "--ranks 2",
+        program: OVERTAKING,
+        script: "image 1 at 1\nkill 1 at 2\n",
+        status: 0,
+        out: "1> 20\n1> 10\nrank 0: halted\nrank 1: halted\ncrashes 1, logger calls 3\n",
+    },
+    // Both ranks, each in the middle. Eight appends and two fetches.
+    Scripted {
+        options: "--ranks 2",
+        program: TRIPS,
+        script: "kill 0 at 4\nkill 1 at 4\n",
+        status: 0,
+        out: OF_TRIPS,
+    },
+    // The second crash is inside the replay of the first.
+    Scripted {
+        options: "--ranks 2",
+        program: TRIPS,
+        script: "kill 1 at 7\nkill 1 at 3\n",
+        status: 0,
+        out: OF_TRIPS,
+    },
+    // Twice at the same clock.
+    Scripted {
+        options: "--ranks 2",
+        program: TRIPS,
+        script: "kill 1 at 5\nkill 1 at 5\n",
+        status: 0,
+        out: OF_TRIPS,
+    },
+    // Its own messages are kept until the image has them.
+    Scripted {
+        options: "--ranks 1",
+        program: OWN,
+        script: "image 0 at 3\nkill 0 at 5\n",
+        status: 0,
+        out: "0> 6\n0> 7\nrank 0: halted\ncrashes 1, logger calls 3\n",
+    },
+    // One line an act: the image is taken, and the kill stays next, as that clock isn't made again.
+    Scripted {
+        options: "--ranks 1",
+        program: OWN,
+        script: "image 0 at 3\nkill 0 at 3\n",
+        status: 0,
+        out: "0> 6\n0> 7\nrank 0: halted\ncrashes 0, logger calls 2\n",
+    },
+    // A clock that is never met keeps the lines behind it back.
+    Scripted {
+        options: "--ranks 1",
+        program: OWN,
+        script: "kill 0 at 9\nkill 0 at 2\n",
+        status: 0,
+        out: "0> 6\n0> 7\nrank 0: halted\ncrashes 0, logger calls 2\n",
+    },
+    // The last step that is allowed is an act with a kill: the crash is made, and the new life steps no more.
+    Scripted {
+        options: "--ranks 1 --steps 1",
+        program: "print 5\nprint 6\n",
+        script: "kill 0 at 1\n",
+        status: 1,
+        out: "0> 5\nrank 0: unfinished\ncrashes 1, logger calls 1\n",
+    },
+    // The root of a reduce begins again in the middle. Eight events and a fetch.
+    Scripted {
+        options: "--ranks 3",
+        program: COLLECTIVES,
+        script: "kill 2 at 1\n",
+        status: 0,
+        out: "0> 6\n1> 6\n2> 6\nrank 0: halted\nrank 1: halted\nrank 2: halted\ncrashes 1, logger calls 9\n",
+    },
+    // A rank that waits in vain is killed before, and is stalled all the same.
+    Scripted {
+        options: "--ranks 2 --idle 50",
+        program: "var x\nif rank\n  print 1\n  recv 0, 0, x\nend\n",
+        script: "kill 1 at 1\n",
+        status: 1,
+        out: "1> 1\nrank 0: halted\nrank 1: stalled\ncrashes 1, logger calls 1\n",
+    },
+];
+
+#[test]
+fn kills(rt: HostRuntime) -> Result<(), Fail> {
+    expect_scripted(&rt, &KILLS)
+}

@@ -1,8 +1,0 @@
-//! Who is told of each act before it is made.
-
-/// Is called by a run before each act of a rank.
-pub trait Hold {
-    /// `rank` is about to make the act of clock `clock`, a receive or a probe
-    /// that turns out to be blocked too. Internal steps aren't told.
-    fn before(&self, rank: u8, clock: u32);
-}
