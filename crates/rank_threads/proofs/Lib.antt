@@ -1,5 +1,9 @@
 mod Crews
 mod LaneLists
+mod PhaseLaws
+mod PlanLaws
+mod PuttingLemmas
 mod ReleasingLemmas
 mod ReportLemmas
 mod SeatingLemmas
+mod TakingLemmas

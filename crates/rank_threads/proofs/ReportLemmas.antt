@@ -5,7 +5,7 @@ use Rattle.event_logger.specs.Desks.{DeskValue, counts_of}
 use Rattle.rank_language.specs.Program.{ProgramValue}
 use Rattle.rank_threads.specs.Report.{IsPlayed, IsReport}
 use Rattle.rank_threads.specs.declared.report.Report.{Report}
-use Rattle.rank_threads.specs.declared.running.Played.{Played}
+use Rattle.rank_threads.specs.declared.playing.Played.{Played}
 
 -- what desks counted as calls
 calls_of : (desks : List DeskValue) → map (λ d. (counts_of d).calls) desks ≡ map (λ c. c.calls) (map counts_of desks)

@@ -5,3 +5,9 @@ pub mod Stations
 pub mod Seating
 pub mod Report
 pub mod Putting
+pub mod Tally
+pub mod Plans
+pub mod Ends
+pub mod Faults
+pub mod Taking
+pub mod Orders

@@ -1,9 +1,18 @@
 -- What stays of a rank, whether it runs, replays or is down (fail-stop processes with stable storage: Schlichting and
 -- Schneider, "Fail-Stop Processors", 1983).
-use Rattle.std.specs.Prelude.{◌≡◌}
+use Rattle.std.specs.Prelude.{◌≡◌, ℕ, List, [], ◌∷◌, Option, Some, None}
+use Rattle.checkpoint.specs.Shelf.{image_bytes}
 use Rattle.checkpoint.specs.declared.memory_shelf.MemoryShelf.{MemoryShelf}
 use Rattle.event_logger.specs.Desks.{DeskValue, IsSameDesk}
+use Rattle.plain_logger.specs.Event.{EventValue}
+use Rattle.rank_language.specs.Program.{ProgramValue}
+use Rattle.rank_machine.specs.declared.want.Want.{Want}
+use Rattle.rank_machine.specs.Machine.{asks}
+use Rattle.rank_node.specs.Image.{BeginsAgain}
+use Rattle.rank_node.specs.Node.{opening}
+use Rattle.rank_node.specs.Replay.{Replay}
 use Rattle.rank_node.specs.Stored.{Stored}
+use Rattle.rank_threads.specs.declared.row.Row.{Row}
 use Rattle.rank_threads.specs.declared.phase.Phase.{Phase}
 use Rattle.rank_threads.specs.declared.phase.Phase.TheVariants as phase
 
@@ -12,6 +21,18 @@ abbrev pub stable_of : Phase → Stored MemoryShelf DeskValue
 stable_of (phase.Running v) = v.stable
 stable_of (phase.Replaying r) = r.node.stable
 stable_of (phase.Down s) = s
+
+-- how many acts the rank has made
+abbrev pub clock_in : Phase → ℕ
+clock_in (phase.Running v) = v.clock
+clock_in (phase.Replaying r) = r.node.clock
+clock_in (phase.Down s) = 0
+
+-- what the rank's machine wants; nothing where the rank is down
+abbrev pub want_in : Phase → Option Want
+want_in (phase.Running v) = Some (asks v.machine)
+want_in (phase.Replaying r) = Some (asks r.node.machine)
+want_in (phase.Down s) = None
 
 -- the same desk, whatever it has been asked, and the same rank of as many
 pub record SameStable (a b : Stored MemoryShelf DeskValue) : Type 0 where
@@ -22,3 +43,25 @@ pub record SameStable (a b : Stored MemoryShelf DeskValue) : Type 0 where
 -- a rank at the same desk, of as many
 abbrev pub SamePhase : Phase → Phase → Type 0
 SamePhase a b = SameStable (stable_of a) (stable_of b)
+
+-- the last image on a shelf in memory
+abbrev pub last_image : MemoryShelf → Option (List ℕ)
+last_image shelf = image_bytes shelf.image
+
+-- a rank that replays runs as soon as nothing is left to replay
+abbrev pub settled_replay : Replay MemoryShelf DeskValue → List EventValue → Phase
+settled_replay r [] = phase.Running r.node
+settled_replay r (e ∷ left) = phase.Replaying r
+
+-- the same of a rank in any phase
+abbrev pub settled_of : Phase → Phase
+settled_of (phase.Running v) = phase.Running v
+settled_of (phase.Replaying r) = settled_replay r r.left
+settled_of (phase.Down s) = phase.Down s
+
+-- The rank begins to live: at the beginning of its program, where it has fetched no row, else at its image with what of
+-- its row is above that, which it replays.
+abbrev pub Begins : ProgramValue → Stored MemoryShelf DeskValue → Option Row → Phase → Type 0
+Begins program stable None p = p ≡ phase.Running (opening program stable)
+Begins program stable (Some row) p =
+    (r : Replay MemoryShelf DeskValue) × BeginsAgain last_image program row.events.items stable r × (p ≡ settled_of (phase.Replaying r))

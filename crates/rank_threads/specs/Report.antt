@@ -5,7 +5,7 @@ use Rattle.ports.specs.Console.{IsConsole}
 use Rattle.rank_language.specs.Program.{ProgramValue}
 use Rattle.audit.specs.Outcome.{IsOfSomeRun}
 use Rattle.rank_threads.specs.declared.report.Report.{Report}
-use Rattle.rank_threads.specs.declared.running.Played.{Played}
+use Rattle.rank_threads.specs.declared.playing.Played.{Played}
 
 -- Some run of the program without crashes has the report's outcome. The logger's history, which the ranks made on their
 -- own threads, is one of a single thread: it has the calls of all desks, which the report counts, and leaves the
@@ -26,3 +26,4 @@ pub record IsPlayed (ranks : ℕ) (played : Played) : Type 0 where
   pub one_history : IsOneHistory ranks desks played.ledger.rows
   pub counts : played.ledger.counts ≡ map counts_of desks
   pub console : IsConsole played.console
+  pub an_end_each : length played.came.items ≡ ranks

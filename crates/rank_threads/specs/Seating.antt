@@ -1,13 +1,33 @@
 -- The stations of a run, the last rank's first.
-use Rattle.std.specs.Prelude.{◌≡◌, ℕ, ◌+◌, List, [], ◌∷◌, ◌++◌, length, map}
+use Rattle.std.specs.Prelude.{◌≡◌, ℕ, ◌+◌, ◌≤◌, List, [], ◌∷◌, ◌++◌, length, map, vec_len, vec_capacity}
 use Rattle.ports.specs.Lanes.{Lane, lane_to, lane_from}
 use Rattle.event_logger.specs.Desks.{DeskValue, LoggerValue}
 use Rattle.rank_threads.specs.declared.parcel.Parcel.{Parcel}
+use Rattle.rank_threads.specs.declared.seating.Left.{Left}
+use Rattle.rank_threads.specs.declared.seating.Unseated.{Unseated}
 
 -- the desks of the ranks from this one on, each of this logger
 abbrev pub AreDesksFrom : LoggerValue → ℕ → List DeskValue → Type 0
 AreDesksFrom logger first [] = Unit {0}
 AreDesksFrom logger first (d ∷ ds) = (d.table ≡ logger.table) × (d.rank ≡ first) × AreDesksFrom logger (first + 1) ds
+
+-- of each part there is one for each of so many ranks
+pub record ArePartsOf (size : ℕ) (parts : Unseated) : Type 0 where
+  pub desks : vec_len parts.desks ≡ size
+  pub to : vec_len parts.ends.to ≡ size
+  pub from : vec_len parts.ends.from ≡ size
+  pub plans : vec_len parts.plans ≡ size
+
+-- nothing stands there yet, and there is room for what so many ranks leave
+pub record IsRoom (size : ℕ) (room : Left) : Type 0 where
+  pub no_desks : room.desks.items ≡ []
+  pub no_to : room.ends.to.items ≡ []
+  pub no_from : room.ends.from.items ≡ []
+  pub none_came : room.came.items ≡ []
+  pub desks : size ≤ vec_capacity room.desks
+  pub to : size ≤ vec_capacity room.ends.to
+  pub from : size ≤ vec_capacity room.ends.from
+  pub came : size ≤ vec_capacity room.came
 
 module _ {W : Type 0} where
   -- into which lanes each rank puts, by source

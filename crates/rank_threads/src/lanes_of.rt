@@ -1,7 +1,9 @@
 //! One of a rank's lanes among all of them.
-ghost use Rattle.std.specs.Prelude.{◌≡◌, ◌<◌};
+ghost use Rattle.std.specs.Prelude.{◌≡◌, ◌<◌, IfOk};
 ghost use Rattle.rank_threads.specs.Lanes.{SameTxs, SameRxs};
+ghost use Rattle.rank_threads.specs.Putting.{PutsInto};
 ghost use Rattle.rank_threads.specs.Seats.{SameNode};
+ghost use Rattle.rank_threads.specs.Taking.{Takes, those_of};
 
 use crate::node::Node;
 use crate::phase::Went;
@@ -11,9 +13,10 @@ use rank_node::Frame;
 use std::alloc::AllocError;
 
 /// The next frame of the lane from this rank.
-#[tactic(auto, using(crate::proofs::LaneLists::map_set_same))]
+#[tactic(auto, using(crate::proofs::LaneLists::map_set_same, crate::proofs::TakingLemmas::takes_looked, crate::proofs::TakingLemmas::takes_none))]
 pub fn take_from(lanes: &mut Vec<Rx, Heap>, source: u8) -> Option<Frame>
-    ensures { SameRxs lanes.old.items lanes.new.items }
+    ensures takes { Takes source (those_of result) lanes.old.items lanes.new.items }
+    ensures same { SameRxs lanes.old.items lanes.new.items }
 {
     let source = usize::from(source);
     if source >= lanes.len() {
@@ -22,20 +25,22 @@ pub fn take_from(lanes: &mut Vec<Rx, Heap>, source: u8) -> Option<Frame>
     lanes[source].take()
 }
 
-/// Puts what is outgoing to this rank next into the lane to it.
-#[tactic(auto, using(crate::proofs::LaneLists::map_set_same))]
+/// Puts what is outgoing to this rank next into the lane to it. Each rank has
+/// a lane to each; were one missing, it would be as one that is full.
+#[tactic(auto, using(crate::proofs::LaneLists::map_set_same, crate::proofs::PuttingLemmas::puts_into, crate::proofs::PuttingLemmas::no_lane))]
 pub fn put_to(
     lanes: &mut Vec<Tx, Heap>,
     dest: u8,
     node: &mut Node<'_, '_>,
 ) -> Result<Went, AllocError>
     requires { dest < node.old.size }
+    ensures puts { IfOk result (λ went. PutsInto went node.old.phase dest lanes.old.items node.new.phase lanes.new.items) }
     ensures lanes { SameTxs lanes.old.items lanes.new.items }
     ensures node { SameNode node.old node.new }
 {
     let lane = usize::from(dest);
     if lane >= lanes.len() {
-        return Ok(Went::Nothing);
+        return Ok(Went::Full);
     }
     node.put_one(dest, &mut lanes[lane])
 }

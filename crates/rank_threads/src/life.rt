@@ -1,5 +1,6 @@
 //! One life of a rank.
 ghost use Rattle.std.specs.Prelude.{◌≡◌};
+ghost use Rattle.rank_threads.specs.Ends.{end_at, end_of};
 ghost use Rattle.rank_threads.specs.Seats.{SameSeat};
 ghost use Rattle.rank_threads.specs.Stations.{SameStation};
 
@@ -86,7 +87,9 @@ pub fn refused<'l, H>(shared: &Shared<'_, H>, station: Station<'l>) -> Station<'
 }
 
 // A rank that a limit stopped, or that didn't come to the end of its row, is unfinished.
-fn end_of(seat: &Seat<'_, '_>) -> End {
+fn end_of(seat: &Seat<'_, '_>) -> End
+    ensures { result ≡ end_of seat.now.tally.is_spent seat.now.node.phase }
+{
     if seat.tally.is_spent {
         return End::Unfinished;
     }
@@ -96,7 +99,9 @@ fn end_of(seat: &Seat<'_, '_>) -> End {
     }
 }
 
-fn end_at(want: Want) -> End {
+fn end_at(want: Want) -> End
+    ensures { result ≡ end_at want }
+{
     match want {
         Want::Halted => End::Halted,
         Want::Faulted(fault) => End::Faulted(fault),

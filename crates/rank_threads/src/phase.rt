@@ -1,6 +1,6 @@
 //! A rank that runs, replays or is down.
 ghost use Rattle.std.specs.Prelude.{◌≡◌, ◌≤◌};
-ghost use Rattle.rank_threads.specs.Phases.{stable_of};
+ghost use Rattle.rank_threads.specs.Phases.{stable_of, clock_in, want_in, settled_of, settled_replay};
 
 mod calls;
 mod frames;
@@ -34,7 +34,8 @@ impl<'p> Phase<'p> {
 
     /// A rank that has nothing left to replay runs.
     pub fn settled(self) -> Phase<'p>
-        ensures { stable_of result ≡ stable_of self.entry }
+        ensures settled { result ≡ settled_of self.entry }
+        ensures stable { stable_of result ≡ stable_of self.entry }
     {
         match self {
             Phase::Replaying(rank) => settled(rank),
@@ -44,7 +45,9 @@ impl<'p> Phase<'p> {
     }
 
     /// What its machine wants next; nothing where the rank is down.
-    pub fn wants(&self) -> Option<Want> {
+    pub fn wants(&self) -> Option<Want>
+        ensures { result ≡ want_in self.now }
+    {
         match self {
             Phase::Running(rank) => Some(rank.wants()),
             Phase::Replaying(rank) => Some(rank.wants()),
@@ -53,7 +56,9 @@ impl<'p> Phase<'p> {
     }
 
     /// How many acts it has made.
-    pub fn clock(&self) -> u32 {
+    pub fn clock(&self) -> u32
+        ensures { result ≡ clock_in self.now }
+    {
         match self {
             Phase::Running(rank) => rank.clock(),
             Phase::Replaying(rank) => rank.clock(),
@@ -86,8 +91,10 @@ impl<'p> Phase<'p> {
     }
 }
 
+#[tactic(auto, using(crate::proofs::PhaseLaws::goes_on, crate::proofs::PhaseLaws::is_done))]
 fn settled<'p>(rank: Replaying<'p, MemoryShelf, Desk>) -> Phase<'p>
-    ensures { stable_of result ≡ rank.entry.node.stable }
+    ensures settled { result ≡ settled_replay rank.entry rank.entry.left }
+    ensures stable { stable_of result ≡ rank.entry.node.stable }
 {
     if rank.left() > 0 {
         return Phase::Replaying(rank);

@@ -15,12 +15,14 @@ pub struct Row {
 impl Row {
     pub fn new(events: Vec<Event, Heap>) -> Row
         requires { length events.items ≤ most_events }
+        ensures { result.events ≡ events }
     {
         Row { events }
     }
 
     pub fn into_events(self) -> Vec<Event, Heap>
-        ensures { length result.items ≤ most_events }
+        ensures most { length result.items ≤ most_events }
+        ensures events { result ≡ self.events }
     {
         let Row { events } = self;
         events

@@ -2,7 +2,7 @@
 ghost use Rattle.std.specs.Prelude.{◌≡◌, ◌+◌, ◌<◌, ◌≤◌, [], vec_len, vec_capacity};
 ghost use Rattle.metered.specs.Limits.{most_ranks};
 ghost use Rattle.lanes.specs.Ends.{to_names, from_names};
-ghost use Rattle.rank_threads.specs.Seating.{AreDesksFrom, stations_to, stations_from, AreSeated};
+ghost use Rattle.rank_threads.specs.Seating.{AreDesksFrom, ArePartsOf, IsRoom, stations_to, stations_from, AreSeated};
 
 use crate::parcel::Parcel;
 use crate::plan::Plan;
@@ -51,7 +51,7 @@ pub fn seat_all<'l, W: Wait + Drop + Copy>(
     requires few { size ≤ most_ranks }
     requires ranks { logger.now.ranks ≡ size }
     requires desks { AreDesksFrom logger.now 0 parts.desks.items }
-    requires sizes { (vec_len parts.desks ≡ size) × (vec_len parts.ends.to ≡ size) × (vec_len parts.ends.from ≡ size) × (vec_len parts.plans ≡ size) }
+    requires sizes { ArePartsOf size parts }
     requires room { size ≤ vec_capacity stations }
     ensures to { stations_to result.items ≡ to_names parts.ends.to.items }
     ensures from { stations_from result.items ≡ from_names parts.ends.from.items }
@@ -88,13 +88,13 @@ pub fn unseat_all<'l, W: Wait + Drop + Copy>(
     room: Left,
     logger: &Logger,
 ) -> Left
-    requires empty { (room.ends.to.items ≡ []) × (room.ends.from.items ≡ []) × (room.desks.items ≡ []) × (room.came.items ≡ []) }
-    requires room { (vec_len stations ≤ vec_capacity room.ends.to) × (vec_len stations ≤ vec_capacity room.ends.from) × (vec_len stations ≤ vec_capacity room.desks) × (vec_len stations ≤ vec_capacity room.came) }
+    requires room { IsRoom (vec_len stations) room }
     requires desks { AreSeated logger.now 0 stations.items }
     ensures to { to_names result.ends.to.items ≡ stations_to stations.entry.items }
     ensures from { from_names result.ends.from.items ≡ stations_from stations.entry.items }
     ensures desks { AreDesksFrom logger.now 0 result.desks.items }
     ensures len { vec_len result.desks ≡ vec_len stations.entry }
+    ensures came { vec_len result.came ≡ vec_len stations.entry }
 {
     let Left {
         mut desks,

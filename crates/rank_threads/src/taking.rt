@@ -1,6 +1,8 @@
 //! Part 1 of a turn: what the lanes bring.
-ghost use Rattle.std.specs.Prelude.{◌≡◌, ◌<◌};
+ghost use Rattle.std.specs.Prelude.{◌≡◌, ◌<◌, IfOk};
 ghost use Rattle.rank_threads.specs.Seats.{SameSeat};
+ghost use Rattle.rank_threads.specs.Taking.{TookFrom};
+ghost use Rattle.rank_threads.specs.Tally.{woken};
 
 use crate::lanes_of::take_from;
 use crate::seat::Seat;
@@ -22,13 +24,15 @@ pub fn take_in<H>(shared: &Shared<'_, H>, seat: &mut Seat<'_, '_>) -> Result<boo
     Ok(took)
 }
 
+#[tactic(auto, using(crate::proofs::TakingLemmas::took_nothing, crate::proofs::TakingLemmas::took_one, crate::proofs::TakingLemmas::took_no_more))]
 fn take_all_from<H>(
     shared: &Shared<'_, H>,
     seat: &mut Seat<'_, '_>,
     source: u8,
 ) -> Result<bool, AllocError>
     requires { source < seat.old.node.size }
-    ensures { SameSeat seat.old seat.new }
+    ensures took { IfOk result (λ took. TookFrom source seat.old seat.new took) }
+    ensures same { SameSeat seat.old seat.new }
 {
     let mut took = false;
     for _ in 0..MOST {
@@ -44,7 +48,7 @@ fn take_all_from<H>(
 
 // A frame came. The mark is taken back before anything is done with it.
 fn wake<H>(shared: &Shared<'_, H>, seat: &mut Seat<'_, '_>)
-    ensures { SameSeat seat.old seat.new }
+    ensures { seat.new ≡ record seat.old { tally = woken seat.old.tally } }
 {
     if seat.tally.is_marked {
         shared.take_mark_back(seat.rank);

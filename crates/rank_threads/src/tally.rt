@@ -1,4 +1,8 @@
 //! What a run counts of a rank over all its lives.
+ghost use Rattle.std.specs.Prelude.{◌≡◌, ◌||◌, true, false, Some, None, slice_index_or, slice_set, replicate};
+ghost use Rattle.metered.specs.Limits.{most_ranks};
+ghost use Rattle.rank_threads.specs.Tally.{one_more, after_steps, is_last_idle, after_idle};
+
 use metered::limits::MOST_RANKS;
 use rank_node::NodeFault;
 
@@ -27,7 +31,20 @@ pub struct Tally {
 
 impl Tally {
     /// Nothing is counted yet.
-    pub fn new() -> Tally {
+    pub fn new() -> Tally
+        ensures { result ≡ record {
+          put = 0;
+          taken = 0;
+          steps = 0;
+          crashes = 0;
+          idle = 0;
+          is_marked = false;
+          may_owe = true;
+          is_spent = false;
+          seen = replicate most_ranks 0;
+          fault = None;
+        } }
+    {
         Tally {
             put: 0,
             taken: 0,
@@ -42,18 +59,25 @@ impl Tally {
         }
     }
 
-    pub fn refuse(&mut self, fault: NodeFault) {
+    /// The rank can't go on.
+    pub fn refuse(&mut self, fault: NodeFault)
+        ensures { self.new ≡ record self.old { fault = Some fault } }
+    {
         self.fault = Some(fault);
     }
 
     /// The rank was refused by a limit.
-    pub fn spend(&mut self) {
+    pub fn spend(&mut self)
+        ensures { self.new ≡ record self.old { is_spent = true } }
+    {
         self.is_spent = true;
     }
 
     /// The rank made so many steps, of which `most` are allowed. Only an act
     /// can leave something to put.
-    pub fn count_steps(&mut self, made: u32, most: u32, is_act: bool) {
+    pub fn count_steps(&mut self, made: u32, most: u32, is_act: bool)
+        ensures { self.new ≡ after_steps self.old made most is_act }
+    {
         self.may_owe = self.may_owe || is_act;
         self.steps = self.steps.saturating_add(made);
         if self.steps >= most {
@@ -61,41 +85,60 @@ impl Tally {
         }
     }
 
-    pub fn count_put(&mut self) {
+    /// A frame was put into a lane.
+    pub fn count_put(&mut self)
+        ensures { self.new ≡ record self.old { put = one_more self.old.put } }
+    {
         self.put = self.put.saturating_add(1);
     }
 
-    pub fn count_taken(&mut self) {
+    /// A frame was taken out of a lane, which may be answered.
+    pub fn count_taken(&mut self)
+        ensures { self.new ≡ record self.old { taken = one_more self.old.taken; may_owe = true } }
+    {
         self.taken = self.taken.saturating_add(1);
         self.may_owe = true;
     }
 
-    pub fn count_crash(&mut self) {
+    pub fn count_crash(&mut self)
+        ensures { self.new ≡ record self.old { crashes = one_more self.old.crashes } }
+    {
         self.crashes = self.crashes.saturating_add(1);
     }
 
     /// A new life begins: it asks every rank.
-    pub fn begin_again(&mut self) {
+    pub fn begin_again(&mut self)
+        ensures { self.new ≡ record self.old { may_owe = true; idle = 0 } }
+    {
         self.may_owe = true;
         self.idle = 0;
     }
 
-    pub fn set_marked(&mut self, is_marked: bool) {
+    pub fn set_marked(&mut self, is_marked: bool)
+        ensures { self.new ≡ record self.old { is_marked = is_marked } }
+    {
         self.is_marked = is_marked;
     }
 
-    pub fn set_owing(&mut self, may_owe: bool) {
+    pub fn set_owing(&mut self, may_owe: bool)
+        ensures { self.new ≡ record self.old { may_owe = may_owe } }
+    {
         self.may_owe = may_owe;
     }
 
     /// A turn that wasn't idle.
-    pub fn is_busy(&mut self) {
+    pub fn is_busy(&mut self)
+        ensures { self.new ≡ record self.old { idle = 0 } }
+    {
         self.idle = 0;
     }
 
     /// Whether this idle turn is the last of `most` in succession. If so, they
     /// are counted anew.
-    pub fn has_waited(&mut self, most: u32) -> bool {
+    pub fn has_waited(&mut self, most: u32) -> bool
+        ensures last { result ≡ is_last_idle self.old most }
+        ensures counted { self.new ≡ after_idle self.old most }
+    {
         self.idle = self.idle.saturating_add(1);
         if self.idle < most {
             return false;
@@ -105,13 +148,20 @@ impl Tally {
     }
 
     /// The clock of the last event that was read in this row.
-    pub fn seen_in(&self, of: u8) -> u32 {
+    pub fn seen_in(&self, of: u8) -> u32
+        ensures { result ≡ slice_index_or self.now.seen of 0 }
+    {
         self.seen.get(usize::from(of)).copied().unwrap_or(0)
     }
 
-    pub fn has_seen(&mut self, of: u8, clock: u32) {
-        if let Some(slot) = self.seen.get_mut(usize::from(of)) {
-            *slot = clock;
+    /// The last event that was read in this row has this clock.
+    #[tactic(auto, using(crate::proofs::LaneLists::set_past))]
+    pub fn has_seen(&mut self, of: u8, clock: u32)
+        ensures { self.new ≡ record self.old { seen = slice_set self.old.seen of clock } }
+    {
+        let of = usize::from(of);
+        if of < self.seen.len() {
+            self.seen[of] = clock;
         }
     }
 }

@@ -1,5 +1,6 @@
 //! One turn of a rank.
-ghost use Rattle.std.specs.Prelude.{◌≡◌};
+ghost use Rattle.std.specs.Prelude.{◌≡◌, true, Ok, drop};
+ghost use Rattle.rank_threads.specs.Orders.{order_after, is_kill, is_image};
 ghost use Rattle.rank_threads.specs.Seats.{SameSeat};
 
 use crate::hold::Hold;
@@ -74,20 +75,17 @@ fn end<W: Wait, H: Hold>(
     seat: &mut Seat<'_, '_>,
     begun: Begun,
 ) -> Result<After, NodeFault>
-    ensures { SameSeat seat.old seat.new }
+    ensures killed { is_kill (order_after begun.stepped seat.old.plan seat.old.node.phase) ≡ true → result ≡ Ok After.Crash }
+    ensures crash { result ≡ Ok After.Crash → is_kill (order_after begun.stepped seat.old.plan seat.old.node.phase) ≡ true }
+    ensures used { result ≡ Ok After.Crash → seat.new.plan ≡ drop 1 seat.old.plan }
+    ensures same { SameSeat seat.old seat.new }
 {
-    let order = match begun.stepped {
-        Stepped::Acted => {
-            let clock = seat.node.clock();
-            seat.plan.order_at(clock)
-        }
-        Stepped::Moved | Stepped::Blocked | Stepped::Held | Stepped::Ended => None,
-    };
-    if order == Some(Order::Kill) {
+    let order = order_after(begun.stepped, seat);
+    if is_kill(order) {
         seat.plan.use_one();
         return Ok(After::Crash);
     }
-    settle(rt, shared, blank, seat, order == Some(Order::Image))?;
+    settle(rt, shared, blank, seat, is_image(order))?;
     let put = put_out(shared, seat)?;
     let is_busy = match begun.stepped {
         Stepped::Moved | Stepped::Acted | Stepped::Held => true,
@@ -101,6 +99,34 @@ fn end<W: Wait, H: Hold>(
         return Ok(After::Leave);
     }
     Ok(After::Turn { is_idle: true })
+}
+
+// What the script's next line asks for after this step.
+fn order_after(stepped: Stepped, seat: &Seat<'_, '_>) -> Option<Order>
+    ensures { result ≡ order_after stepped seat.now.plan seat.now.node.phase }
+{
+    match stepped {
+        Stepped::Acted => seat.plan.order_at(seat.node.clock()),
+        Stepped::Moved | Stepped::Blocked | Stepped::Held | Stepped::Ended => None,
+    }
+}
+
+fn is_kill(order: Option<Order>) -> bool
+    ensures { result ≡ is_kill order }
+{
+    match order {
+        Some(Order::Kill) => true,
+        Some(Order::Image) | None => false,
+    }
+}
+
+fn is_image(order: Option<Order>) -> bool
+    ensures { result ≡ is_image order }
+{
+    match order {
+        Some(Order::Image) => true,
+        Some(Order::Kill) | None => false,
+    }
 }
 
 // A rank that has nothing left to replay runs from now on.

@@ -1,7 +1,10 @@
 //! What a rank is asked for in its life.
-ghost use Rattle.std.specs.Prelude.{◌≡◌, ◌<◌, ◌≤◌};
-ghost use Rattle.ports.specs.Lanes.{lane_to};
+ghost use Rattle.std.specs.Prelude.{◌≡◌, ◌<◌, ◌≤◌, IfOk, OnOk, OnErr};
+ghost use Rattle.ports.specs.Lanes.{lane_to, put_of};
+ghost use Rattle.rank_threads.specs.Phases.{clock_in, want_in};
+ghost use Rattle.rank_threads.specs.Putting.{Puts};
 ghost use Rattle.rank_threads.specs.Seats.{SameNode};
+ghost use Rattle.rank_threads.specs.Taking.{arrived};
 
 use super::Node;
 use crate::phase::{Phase, Went};
@@ -22,19 +25,24 @@ impl<'p, 'l> Node<'p, 'l> {
     }
 
     /// What its machine wants next; nothing where the rank is down.
-    pub fn wants(&self) -> Option<Want> {
+    pub fn wants(&self) -> Option<Want>
+        ensures { result ≡ want_in self.now.phase }
+    {
         self.phase.wants()
     }
 
     /// How many acts it has made.
-    pub fn clock(&self) -> u32 {
+    pub fn clock(&self) -> u32
+        ensures { result ≡ clock_in self.now.phase }
+    {
         self.phase.clock()
     }
 
     /// Takes in a frame that came from this rank. An `Err` is want of memory.
     pub fn arrive(&mut self, from: u8, frame: Frame) -> Result<(), AllocError>
         requires { from < self.old.size }
-        ensures { SameNode self.old self.new }
+        ensures ok { OnOk result (self.new.phase ≡ arrived self.old.phase from frame) }
+        ensures same { SameNode self.old self.new }
     {
         self.phase.arrive(from, frame)
     }
@@ -43,6 +51,8 @@ impl<'p, 'l> Node<'p, 'l> {
     /// want of memory.
     pub fn put_one(&mut self, dest: u8, lane: &mut Tx) -> Result<Went, AllocError>
         requires { dest < self.old.size }
+        ensures puts { IfOk result (λ went. Puts went self.old.phase dest (put_of lane.old) self.new.phase (put_of lane.new)) }
+        ensures err { OnErr result ((self.new.phase ≡ self.old.phase) × (put_of lane.new ≡ put_of lane.old)) }
         ensures same { SameNode self.old self.new }
         ensures lane { lane_to lane.new ≡ lane_to lane.old }
     {

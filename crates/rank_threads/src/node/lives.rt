@@ -1,7 +1,8 @@
 //! How a life of a rank begins and ends.
-ghost use Rattle.std.specs.Prelude.{◌≡◌, ◌≤◌, MatchOption, length};
+ghost use Rattle.std.specs.Prelude.{◌≡◌, ◌≤◌, Some, None, MatchOption, length};
 ghost use Rattle.metered.specs.Limits.{most_events};
-ghost use Rattle.rank_threads.specs.Phases.{stable_of, SameStable};
+ghost use Rattle.rank_node.specs.Node.{opening};
+ghost use Rattle.rank_threads.specs.Phases.{stable_of, Begins, SameStable};
 ghost use Rattle.rank_threads.specs.Seats.{SameNode};
 
 use super::Node;
@@ -28,6 +29,7 @@ impl<'p, 'l> Node<'p, 'l> {
         requires own { down.desk.table ≡ logger.now.table }
         requires ranks { logger.now.ranks ≡ size }
         requires sized { down.size ≡ size }
+        ensures begins { result.1 ≡ None → Begins program.now down row result.0.phase }
         ensures same { SameStable down (stable_of result.0.phase) }
         ensures size { result.0.size ≡ size }
     {
@@ -83,7 +85,8 @@ fn first<'p>(
     program: &'p Program,
     down: Down<MemoryShelf, Desk>,
 ) -> (Phase<'p>, Option<NodeFault>)
-    ensures { stable_of result.0 ≡ down }
+    ensures begins { result.1 ≡ None → result.0 ≡ Phase.Running (opening program.now down) }
+    ensures stable { stable_of result.0 ≡ down }
 {
     match Running::start(alloc, program, down.retire()) {
         Ok(rank) => (Phase::Running(rank), None),
@@ -98,7 +101,8 @@ fn again<'p>(
     down: Down<MemoryShelf, Desk>,
     row: Row,
 ) -> (Phase<'p>, Option<NodeFault>)
-    ensures { SameStable down (stable_of result.0) }
+    ensures begins { result.1 ≡ None → Begins program.now down (Some row) result.0 }
+    ensures same { SameStable down (stable_of result.0) }
 {
     match down.restart(alloc, program, row.into_events()) {
         Ok(rank) => (Phase::Replaying(rank).settled(), None),

@@ -1,8 +1,8 @@
 //! The frames of a rank in its lanes.
-ghost use Rattle.std.specs.Prelude.{◌≡◌, ◌≢◌, ◌<◌, Ok, None, OnErr};
+ghost use Rattle.std.specs.Prelude.{◌≡◌, ◌<◌, IfOk, OnOk, OnErr};
 ghost use Rattle.ports.specs.Lanes.{lane_to, put_of};
-ghost use Rattle.rank_node.specs.Frames.{outgoing_of};
-ghost use Rattle.rank_threads.specs.Putting.{PutsOne};
+ghost use Rattle.rank_threads.specs.Putting.{Puts};
+ghost use Rattle.rank_threads.specs.Taking.{arrived};
 
 use super::Phase;
 use checkpoint::MemoryShelf;
@@ -29,7 +29,8 @@ impl<'p> Phase<'p> {
     /// An `Err` is want of memory.
     pub fn arrive(&mut self, from: u8, frame: Frame) -> Result<(), AllocError>
         requires { from < (stable_of self.old).size }
-        ensures { stable_of self.new ≡ stable_of self.old }
+        ensures ok { OnOk result (self.new ≡ arrived self.old from frame) }
+        ensures stable { stable_of self.new ≡ stable_of self.old }
     {
         let answer = match self {
             Phase::Running(rank) => rank.arrive(from, frame).is_ok(),
@@ -40,9 +41,11 @@ impl<'p> Phase<'p> {
     }
 
     /// Puts what is outgoing to this rank next into the lane to it. An `Err` is
-    /// want of memory.
+    /// want of memory, and leaves all as it was.
     pub fn put_one(&mut self, dest: u8, lane: &mut Tx) -> Result<Went, AllocError>
         requires { dest < (stable_of self.old).size }
+        ensures puts { IfOk result (λ went. Puts went self.old dest (put_of lane.old) self.new (put_of lane.new)) }
+        ensures err { OnErr result ((self.new ≡ self.old) × (put_of lane.new ≡ put_of lane.old)) }
         ensures stable { stable_of self.new ≡ stable_of self.old }
         ensures lane { lane_to lane.new ≡ lane_to lane.old }
     {
@@ -61,9 +64,8 @@ fn put_running(
     lane: &mut Tx,
 ) -> Result<Went, AllocError>
     requires { dest < rank.old.stable.size }
-    ensures gone { result ≡ Ok Went.Gone → PutsOne rank.old dest (put_of lane.old) rank.new (put_of lane.new) }
-    ensures nothing { result ≡ Ok Went.Nothing → outgoing_of rank.new dest ≡ None }
-    ensures stays { result ≢ Ok Went.Gone → (rank.new ≡ rank.old) × (put_of lane.new ≡ put_of lane.old) }
+    ensures puts { IfOk result (λ went. Puts went (Phase.Running rank.old) dest (put_of lane.old) (Phase.Running rank.new) (put_of lane.new)) }
+    ensures err { OnErr result ((rank.new ≡ rank.old) × (put_of lane.new ≡ put_of lane.old)) }
     ensures stable { rank.new.stable ≡ rank.old.stable }
     ensures lane { lane_to lane.new ≡ lane_to lane.old }
 {
@@ -86,9 +88,8 @@ fn put_replaying(
     lane: &mut Tx,
 ) -> Result<Went, AllocError>
     requires { dest < rank.old.node.stable.size }
-    ensures gone { result ≡ Ok Went.Gone → PutsOne rank.old.node dest (put_of lane.old) rank.new.node (put_of lane.new) }
-    ensures nothing { result ≡ Ok Went.Nothing → outgoing_of rank.new.node dest ≡ None }
-    ensures stays { result ≢ Ok Went.Gone → (rank.new ≡ rank.old) × (put_of lane.new ≡ put_of lane.old) }
+    ensures puts { IfOk result (λ went. Puts went (Phase.Replaying rank.old) dest (put_of lane.old) (Phase.Replaying rank.new) (put_of lane.new)) }
+    ensures err { OnErr result ((rank.new ≡ rank.old) × (put_of lane.new ≡ put_of lane.old)) }
     ensures stable { rank.new.node.stable ≡ rank.old.node.stable }
     ensures lane { lane_to lane.new ≡ lane_to lane.old }
 {

@@ -1,6 +1,7 @@
 //! From a station to a life and back.
-ghost use Rattle.std.specs.Prelude.{◌≡◌, ◌<◌, ◌≤◌};
+ghost use Rattle.std.specs.Prelude.{◌≡◌, ◌<◌, ◌≤◌, None};
 ghost use Rattle.metered.specs.Limits.{most_ranks};
+ghost use Rattle.rank_threads.specs.Phases.{Begins};
 ghost use Rattle.rank_threads.specs.Stations.{SameStation, IsLifeOf};
 
 use super::Station;
@@ -55,7 +56,8 @@ impl<'l> Station<'l> {
 
     /// A life of the rank begins. Where it can't, the seat's fault says why.
     pub fn begin<'p>(self, alloc: Heap, program: &'p Program) -> Seat<'p, 'l>
-        ensures { IsLifeOf self.entry result }
+        ensures begins { result.tally.fault ≡ None → Begins program.now self.entry.down self.entry.row result.node.phase }
+        ensures same { IsLifeOf self.entry result }
     {
         let Station {
             rank,

@@ -28,4 +28,5 @@ loop-parcel-preserved g c =
       room_desks = grind (arith, kept.room_desks, c.in-Some.ensures.len, c.push_reserved-in-Some-2.ensures.len, c.push_reserved-in-Some-2.ensures.capacity);
       room_came = grind (arith, kept.room_came, c.in-Some.ensures.len, c.push_reserved-in-Some-3.ensures.len, c.push_reserved-in-Some-3.ensures.capacity);
       all = grind (arith, kept.all, c.in-Some.ensures.len, c.push_reserved-in-Some-2.ensures.len);
+      as_many_came = grind (arith, kept.as_many_came, c.push_reserved-in-Some-2.ensures.len, c.push_reserved-in-Some-3.ensures.len);
     }

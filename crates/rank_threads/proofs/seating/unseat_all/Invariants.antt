@@ -14,6 +14,7 @@ invariant-loop-parcel g l = record {
   room_desks : vec_len l.stations + vec_len l.desks ≤ vec_capacity l.desks;
   room_came : vec_len l.stations + vec_len l.came ≤ vec_capacity l.came;
   all : vec_len l.stations + vec_len l.desks ≡ vec_len l.initial.stations;
+  as_many_came : vec_len l.came ≡ vec_len l.desks;
 }
 
 abbrev pub decreases-loop-parcel : goal.decreases-loop-parcel

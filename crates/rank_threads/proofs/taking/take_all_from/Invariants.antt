@@ -1,6 +1,10 @@
 use Rattle.rank_threads.specs.Seats.{SameSeat}
+use Rattle.rank_threads.specs.Taking.{TookFrom}
 use Rattle.rank_threads.proofs.taking.take_all_from.Given as goal
 
--- the seat stays the same
+-- what came so far has arrived, and the seat stays the same
 abbrev pub invariant-loop : goal.invariant-loop
-invariant-loop g l = SameSeat l.fn.seat l.seat
+invariant-loop g l = record {
+  so_far : TookFrom l.source l.fn.seat l.seat l.took;
+  same : SameSeat l.fn.seat l.seat;
+}

@@ -1,0 +1,31 @@
+-- How a run counts.
+use Rattle.std.specs.Prelude.{ℕ, ◌+◌, ◌-◌, ◌^◌, min, Bool, true, false, ◌||◌, nat_le, if◌then◌else◌}
+use Rattle.rank_threads.specs.declared.tally.Tally.{Tally}
+
+-- one more, up to the greatest `u64`
+abbrev pub one_more : ℕ → ℕ
+one_more count = min (count + 1) (2 ^ 64 - 1)
+
+-- so many more, up to the greatest `u32`
+abbrev pub more : ℕ → ℕ → ℕ
+more count by = min (count + by) (2 ^ 32 - 1)
+
+-- after a frame that came: it is counted, it may be answered, and there is no mark any more
+abbrev pub woken : Tally → Tally
+woken t = record t { is_marked = false; taken = one_more t.taken; may_owe = true }
+
+-- after so many steps, of which the limits allow `most`; only an act can leave something to put
+abbrev pub after_steps : Tally → ℕ → ℕ → Bool → Tally
+after_steps t made most is_act = record t {
+  may_owe = t.may_owe || is_act;
+  steps = more t.steps made;
+  is_spent = nat_le most (more t.steps made) || t.is_spent;
+}
+
+-- this idle turn is the last of `most` in succession
+abbrev pub is_last_idle : Tally → ℕ → Bool
+is_last_idle t most = nat_le most (more t.idle 1)
+
+-- after an idle turn; the last of `most` in succession begins the count anew
+abbrev pub after_idle : Tally → ℕ → Tally
+after_idle t most = record t { idle = if is_last_idle t most then 0 else more t.idle 1 }

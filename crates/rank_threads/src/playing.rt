@@ -1,0 +1,142 @@
+//! All ranks of a run, from their lanes and desks to what is left of them.
+ghost use Rattle.std.specs.Prelude.{◌≡◌, ◌≤◌, [], IfOk, length, vec_len, vec_capacity};
+ghost use Rattle.metered.specs.Limits.{most_ranks};
+ghost use Rattle.rank_threads.specs.Report.{IsPlayed};
+ghost use Rattle.rank_threads.specs.Seating.{IsRoom};
+
+use crate::crew::keep_all;
+use crate::hold::Hold;
+use crate::marks::Mark;
+use crate::plan::Plan;
+use crate::running::RunLimits;
+use crate::seating::{Came, Left, Unseated, seat_all, unseat_all};
+use crate::shared::Shared;
+use crossbeam_utils::CachePadded;
+use event_logger::{Ledger, Logger};
+use lanes::{Ends, close_all, open_all};
+use metered::Heap;
+use ports::{Console, ConsoleState};
+use rank_language::Program;
+use script_text::Script;
+use std::alloc::AllocError;
+use std::sync::Wait;
+use std::sync::atomic::AtomicBool;
+use std::thread::Threads;
+
+/// What is left of a run when all ranks have left.
+#[derive(Drop)]
+pub struct Played {
+    pub ledger: Ledger,
+    pub console: ConsoleState,
+    /// What each rank came to, in the order of ranks.
+    pub came: Vec<Came, Heap>,
+}
+
+/// Plays the program on so many ranks, until all have left. An `Err` is want of memory.
+#[tactic(auto, using(crate::proofs::SeatingLemmas::same_to, crate::proofs::SeatingLemmas::same_from, crate::proofs::SeatingLemmas::same_seated, crate::proofs::SeatingLemmas::same_length, crate::proofs::SeatingLemmas::desks_listed, crate::proofs::SeatingLemmas::desks_ordered))]
+pub fn play<R: Threads + Wait + Sync + Copy + Send, H: Hold + Sync>(
+    rt: R,
+    alloc: Heap,
+    program: &Program,
+    size: u8,
+    script: &Script,
+    limits: RunLimits,
+    hold: &H,
+) -> Result<Played, AllocError>
+    requires some { 1 ≤ size }
+    requires few { size ≤ most_ranks }
+    ensures { IfOk result (λ played. IsPlayed size played) }
+{
+    let ranks = usize::from(size);
+    let text = program.print(alloc)?;
+    let console = Console::new(alloc, size)?;
+    let marks = marks(alloc, size)?;
+    let bells = bells(alloc, size)?;
+    let plans = plans(alloc, script, size)?;
+    let ends = open_all(alloc, size)?;
+    let stations = Vec::with_capacity(alloc, ranks)?;
+    let room = room(alloc, ranks)?;
+    let (logger, desks) = match Logger::new(alloc, ranks) {
+        Ok(made) => made,
+        Err(error) => {
+            given_up(room);
+            return Err(error);
+        }
+    };
+    // From here on every station comes back: nothing is refused while a desk is there.
+    let stop = AtomicBool::new(false);
+    let shared = Shared {
+        alloc,
+        text: text.as_slice(),
+        hold,
+        limits,
+        console: &console,
+        marks: marks.as_slice(),
+        bells: bells.as_slice(),
+        stop: &stop,
+    };
+    let parts = Unseated { desks, ends, plans };
+    let stations = seat_all(rt, alloc, &logger, size, parts, stations);
+    let stations = keep_all(rt, &shared, stations);
+    drop(shared);
+    let Left { desks, ends, came } = unseat_all(stations, room, &logger);
+    close_all(ends);
+    let ledger = logger.close(alloc, desks)?;
+    Ok(Played {
+        ledger,
+        console: console.into_state(),
+        came,
+    })
+}
+
+// Where the desks, lanes and ends of so many ranks have room.
+fn room(alloc: Heap, ranks: usize) -> Result<Left, AllocError>
+    ensures { IfOk result (λ room. IsRoom ranks room) }
+{
+    let came = Vec::with_capacity(alloc, ranks)?;
+    let ends = Ends {
+        to: Vec::with_capacity(alloc, ranks)?,
+        from: Vec::with_capacity(alloc, ranks)?,
+    };
+    let desks = Vec::with_capacity(alloc, ranks)?;
+    Ok(Left { desks, ends, came })
+}
+
+// Room in which nothing stands yet.
+fn given_up(room: Left)
+    requires { room.desks.items ≡ [] }
+{
+    let Left {
+        desks,
+        ends: _,
+        came: _,
+    } = room;
+    desks.destroy_empty();
+}
+
+fn marks(alloc: Heap, size: u8) -> Result<Vec<CachePadded<Mark>, Heap>, AllocError> {
+    let mut marks = Vec::new(alloc);
+    for _ in 0..size {
+        marks.push(CachePadded::new(Mark::new()))?;
+    }
+    Ok(marks)
+}
+
+// Each bell is rung at first.
+fn bells(alloc: Heap, size: u8) -> Result<Vec<CachePadded<AtomicBool>, Heap>, AllocError> {
+    let mut bells = Vec::new(alloc);
+    for _ in 0..size {
+        bells.push(CachePadded::new(AtomicBool::new(true)))?;
+    }
+    Ok(bells)
+}
+
+fn plans(alloc: Heap, script: &Script, size: u8) -> Result<Vec<Plan, Heap>, AllocError>
+    ensures { IfOk result (λ plans. vec_len plans ≡ size) }
+{
+    let mut plans = Vec::new(alloc);
+    for rank in 0..size {
+        plans.push(Plan::new(script.lines_of(alloc, rank)?))?;
+    }
+    Ok(plans)
+}

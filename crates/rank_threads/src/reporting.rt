@@ -1,0 +1,129 @@
+//! What is left of a run as its report, or why it has none.
+ghost use Rattle.std.specs.Prelude.{◌≡◌, ◌≤◌, IfOk, length, map};
+ghost use Rattle.metered.specs.Limits.{most_ranks};
+ghost use Rattle.rank_threads.specs.Faults.{crashes_from, fault_of, is_memory, lacked_memory, lowest_from};
+
+use crate::playing::Played;
+use crate::report::{Report, RunFault};
+use crate::seating::Came;
+use audit::{End, Outcome};
+use event_logger::Counts;
+use metered::Heap;
+use ports::Line;
+use rank_node::NodeFault;
+use std::alloc::AllocError;
+
+/// Why the run has no report: want of memory, or else the fault of the lowest
+/// rank that met one.
+pub fn fault_of(came: &[Came]) -> Option<RunFault>
+    requires { length came.now ≤ most_ranks }
+    ensures { result ≡ fault_of came.now }
+{
+    if lacked_memory(came) {
+        return Some(RunFault::Memory);
+    }
+    lowest_fault(came)
+}
+
+fn lacked_memory(came: &[Came]) -> bool
+    ensures { result ≡ lacked_memory came.now }
+{
+    let mut rest = came;
+    while let [one, more @ ..] = rest {
+        if is_memory(one.fault) {
+            return true;
+        }
+        rest = more;
+    }
+    false
+}
+
+fn is_memory(fault: Option<NodeFault>) -> bool
+    ensures { result ≡ is_memory fault }
+{
+    match fault {
+        Some(NodeFault::Memory) => true,
+        None
+        | Some(
+            NodeFault::NotSettled
+            | NodeFault::Shelf
+            | NodeFault::Image
+            | NodeFault::Replay
+            | NodeFault::ClockSpent
+            | NodeFault::Log,
+        ) => false,
+    }
+}
+
+fn lowest_fault(came: &[Came]) -> Option<RunFault>
+    requires { length came.now ≤ most_ranks }
+    ensures { result ≡ lowest_from 0 came.now }
+{
+    let mut rank = 0u8;
+    let mut rest = came;
+    while let [one, more @ ..] = rest {
+        if let Some(fault) = one.fault {
+            return Some(RunFault::Node(rank, fault));
+        }
+        rank += 1;
+        rest = more;
+    }
+    None
+}
+
+/// What is left of a run as its report.
+pub fn reported(alloc: Heap, played: Played) -> Result<Report, AllocError>
+    ensures rows { IfOk result (λ report. report.outcome.rows ≡ played.ledger.rows) }
+    ensures lines { IfOk result (λ report. report.outcome.lines ≡ played.console) }
+    ensures ends { IfOk result (λ report. report.outcome.ends ≡ map (λ c. c.end) played.came.items) }
+    ensures calls { IfOk result (λ report. report.calls.items ≡ map (λ c. c.calls) played.ledger.counts) }
+    ensures crashes { IfOk result (λ report. report.crashes ≡ crashes_from 0 played.came.items) }
+{
+    let Played {
+        ledger,
+        console,
+        came,
+    } = played;
+    let calls = calls_of(alloc, ledger.counts())?;
+    let ends = ends_of(alloc, came.as_slice())?;
+    let lines = copied(alloc, console.lines())?;
+    Ok(Report {
+        outcome: Outcome {
+            rows: ledger.into_rows(),
+            lines,
+            ends,
+        },
+        crashes: crashes_of(came.as_slice()),
+        calls,
+    })
+}
+
+fn crashes_of(came: &[Came]) -> u64
+    ensures { result ≡ crashes_from 0 came.now }
+{
+    let mut crashes = 0u64;
+    let mut rest = came;
+    while let [one, more @ ..] = rest {
+        crashes = crashes.saturating_add(one.crashes);
+        rest = more;
+    }
+    crashes
+}
+
+fn ends_of(alloc: Heap, came: &[Came]) -> Result<Vec<End, Heap>, AllocError>
+    ensures { IfOk result (λ ends. ends.items ≡ map (λ c. c.end) came.now) }
+{
+    came.iter().map(|one| one.end).collect(alloc)
+}
+
+fn calls_of(alloc: Heap, counts: &[Counts]) -> Result<Vec<u64, Heap>, AllocError>
+    ensures { IfOk result (λ calls. calls.items ≡ map (λ c. c.calls) counts.now) }
+{
+    counts.iter().map(|count| count.calls).collect(alloc)
+}
+
+fn copied(alloc: Heap, lines: &[Line]) -> Result<Vec<Line, Heap>, AllocError>
+    ensures { IfOk result (λ copy. copy.items ≡ lines.now) }
+{
+    lines.iter().copied().collect(alloc)
+}
