@@ -201,7 +201,7 @@ choice_length : (c : Choice) → ChoiceFits c → length (choice_text c) ≤ 128
 choice_length any h = omega arith
 choice_length (value e) h = fit_length e h
 
--- nor does what a send gives
+-- so does what a send gives
 payload_length : (p : Payload) → PayloadFits p → length (payload_text p) ≤ 1280
 payload_length (lone x) h = omega (arith, h.1)
 payload_length (one e) h = fit_length e h

@@ -27,7 +27,7 @@ minuses (wants f s) = f.minuses
 minuses (named f s x) = 0
 minuses (has c a s e) = 0
 
--- the state has at most as many signs, where there is one
+-- the state has at most this many signs, where there is one
 abbrev AtMost : Option State → ℕ → Type 0
 AtMost None n = Unit {0}
 AtMost (Some st) n = minuses st ≤ n

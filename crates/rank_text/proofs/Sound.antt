@@ -193,7 +193,7 @@ opens : (b : Bracket) (f : Level) (s : Stack) (us vs : List Token) → StackIs s
     → (ts : List Token) → ts ≡ us ++ (vs ++ opening b) → StateIs (wants fresh ((b, f) ∷ s)) ts
 opens b f s us vs hs hf ts q = (ts, [], (us, vs, hs, hf, q), fresh_is, sym (append-nil ts))
 
--- the same, where nothing follows
+-- a sign behind others, with nothing after it, is the same as one in front of them
 replicate-push : (n : ℕ) → replicate n minus ++ minus ∷ [] ≡ minus ∷ replicate n minus
 replicate-push n = minus_inside n [] ∙ ap (λ z. minus ∷ z) (append-nil (replicate n minus))
 
