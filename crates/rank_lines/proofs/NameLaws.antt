@@ -35,6 +35,7 @@ abbrev AllNoName : List (List ℕ × Token) → Type 0
 AllNoName [] = Unit {0}
 AllNoName (r ∷ rs) = NoName r.1 × AllNoName rs
 
+-- a row of the table decides, or the rows behind it
 found_either : (b : Bool) (token : Token) (o : Option Token) → NoName token → FoundNoName o → FoundNoName (if b then Some token else o)
 found_either true token o h k = h
 found_either false token o h k = k
@@ -60,6 +61,7 @@ abbrev pub AllNamedTokens : List Token → Type 0
 AllNamedTokens [] = Unit {0}
 AllNamedTokens (token ∷ ts) = IsNamedToken token × AllNamedTokens ts
 
+-- of a token that is no name nothing is asked
 other_token : (token : Token) → NoName token → IsNamedToken token
 other_token (t.Name x) h = absurd h
 other_token _ h = tt

@@ -1,12 +1,14 @@
 -- What is printed of a statement within its limits is within those of a line: its parentheses nest less than its
 -- expressions have nodes, and each node takes at most 20 bytes.
-use Rattle.std.proofs.Common.{◌≡◌, ℕ, zero, suc, ◌+◌, ◌-◌, ◌*◌, ◌^◌, ◌<◌, ◌≤◌, Bool, true, false, List, [], ◌∷◌, ◌++◌, length, codes, refl, sym, subst, append_assoc, append-nil, length-append, arith}
+use Rattle.std.proofs.Common.{◌≡◌, ℕ, zero, suc, ◌+◌, ◌-◌, ◌*◌, ◌^◌, ◌<◌, ◌≤◌, Bool, true, false, List, [], ◌∷◌, ◌++◌, length, codes}
+use Rattle.std.proofs.Common.{refl, sym, subst, append_assoc, append-nil, length-append, arith}
 use Rattle.std.specs.Prelude.{if◌then◌else◌}
 use Rattle.std.specs.Fmt.{decimal}
 use Rattle.metered.specs.Limits.{most_line_bytes, most_blocks, most_parentheses}
 use Rattle.std.proofs.lemmas.Fmt.{length-decimal-le}
 use Rattle.rank_text.specs.declared.token.Operator.{Operator}
-use Rattle.rank_text.specs.declared.token.Operator.TheVariants.{Add, Subtract, Multiply, Divide, Remainder, Equal, NotEqual, Less, LessEqual, Greater, GreaterEqual}
+use Rattle.rank_text.specs.declared.token.Operator.TheVariants.{Add, Subtract, Multiply, Divide, Remainder}
+use Rattle.rank_text.specs.declared.token.Operator.TheVariants.{Equal, NotEqual, Less, LessEqual, Greater, GreaterEqual}
 use Rattle.rank_text.specs.declared.token.Reading.{Reading}
 use Rattle.rank_text.specs.declared.token.Reading.TheVariants as reads
 use Rattle.rank_text.specs.declared.token.Reduction.{Reduction}
@@ -45,7 +47,8 @@ wrapped_shallow : (z : Bool) (a : ℕ) (ts : List Token) → Shallow a ts
 wrapped_shallow false a ts s = λ k n us h d. s k n us (omega (arith, h)) d
 wrapped_shallow true a ts s = λ k n us h d.
     let e : (n + 1) - 1 ≡ n = omega arith in
-    let inner : deepest (n + 1) (t.CloseParenthesis ∷ us) ≤ k = (let f : deepest ((n + 1) - 1) us ≤ k = subst (λ m. deepest m us ≤ k) (sym e) d in omega (arith, h, f)) in
+    let inner : deepest (n + 1) (t.CloseParenthesis ∷ us) ≤ k =
+    (let f : deepest ((n + 1) - 1) us ≤ k = subst (λ m. deepest m us ≤ k) (sym e) d in omega (arith, h, f)) in
     subst (λ z. deepest (n + 1) z ≤ k) (sym (append_assoc ts (t.CloseParenthesis ∷ []) us)) (s k (n + 1) (t.CloseParenthesis ∷ us) (omega (arith, h)) inner)
 
 -- an expression nests less deep than it has nodes
@@ -53,13 +56,18 @@ expression_shallow : (e : Tree) → Shallow (nodes e) (expression_tokens e)
 expression_shallow (number n) = λ k n us h d. d
 expression_shallow (variable x) = λ k n us h d. d
 expression_shallow (item x e) = λ k n us h d.
-    subst (λ z. deepest n z ≤ k) (sym (append_assoc (expression_tokens e) (t.CloseBracket ∷ []) us)) (expression_shallow e k n (t.CloseBracket ∷ us) (omega (arith, h)) d)
+    subst (λ z. deepest n z ≤ k) (sym (append_assoc (expression_tokens e) (t.CloseBracket ∷ []) us))
+    (expression_shallow e k n (t.CloseBracket ∷ us) (omega (arith, h)) d)
 expression_shallow (reading r) = λ k n us h d. d
 expression_shallow (negation e) = λ k n us h d.
     wrapped_shallow (is_operation e) (nodes e) (expression_tokens e) (expression_shallow e) k n us (omega (arith, h)) d
 expression_shallow (operation o a b) =
-    let left = wider (suc (nodes a)) (nodes (operation o a b)) (operand_tokens a (expression_tokens a)) (omega arith) (wrapped_shallow (is_operation a) (nodes a) (expression_tokens a) (expression_shallow a)) in
-    let right = wider (suc (nodes b)) (nodes (operation o a b)) (operand_tokens b (expression_tokens b)) (omega arith) (wrapped_shallow (is_operation b) (nodes b) (expression_tokens b) (expression_shallow b)) in
+    let left =
+    wider (suc (nodes a)) (nodes (operation o a b)) (operand_tokens a (expression_tokens a)) (omega arith)
+    (wrapped_shallow (is_operation a) (nodes a) (expression_tokens a) (expression_shallow a)) in
+    let right =
+    wider (suc (nodes b)) (nodes (operation o a b)) (operand_tokens b (expression_tokens b)) (omega arith)
+    (wrapped_shallow (is_operation b) (nodes b) (expression_tokens b) (expression_shallow b)) in
     shallow_then (nodes (operation o a b)) (operand_tokens a (expression_tokens a)) (t.Operator o ∷ operand_tokens b (expression_tokens b)) left
     (operator_shallow o (nodes (operation o a b)) (operand_tokens b (expression_tokens b)) right)
 
@@ -90,7 +98,8 @@ two_shallow : (xs ys : List Token) → Shallow most_parentheses xs → Shallow m
 two_shallow xs ys p q = p most_parentheses 0 (t.Comma ∷ ys) (omega arith) (alone ys q)
 
 -- three arguments with commas between them
-three_shallow : (xs ys zs : List Token) → Shallow most_parentheses xs → Shallow most_parentheses ys → Shallow most_parentheses zs → deepest 0 (xs ++ t.Comma ∷ (ys ++ t.Comma ∷ zs)) ≤ most_parentheses
+three_shallow : (xs ys zs : List Token) → Shallow most_parentheses xs → Shallow most_parentheses ys → Shallow most_parentheses zs
+    → deepest 0 (xs ++ t.Comma ∷ (ys ++ t.Comma ∷ zs)) ≤ most_parentheses
 three_shallow xs ys zs p q r =
     p most_parentheses 0 (t.Comma ∷ (ys ++ t.Comma ∷ zs)) (omega arith) (q most_parentheses 0 (t.Comma ∷ zs) (omega arith) (alone zs r))
 
@@ -187,10 +196,12 @@ expression_length (operation o a b) h =
 fit_length : (e : Tree) → IsFit e → length (expression_text e) ≤ 1280
 fit_length e h = omega (arith, expression_length e h.0, h.1)
 
+-- a source or a tag takes no more than an expression may
 choice_length : (c : Choice) → ChoiceFits c → length (choice_text c) ≤ 1280
 choice_length any h = omega arith
 choice_length (value e) h = fit_length e h
 
+-- so does what a send gives
 payload_length : (p : Payload) → PayloadFits p → length (payload_text p) ≤ 1280
 payload_length (lone x) h = omega (arith, h.1)
 payload_length (one e) h = fit_length e h

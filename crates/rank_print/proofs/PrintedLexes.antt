@@ -2,7 +2,8 @@
 --
 -- A piece of text has its tokens in each line where what follows doesn't go on with its last word, number or sign
 -- (`Reads`), or in each line at all (`Closed`); pieces are put together from the left.
-use Rattle.std.proofs.Common.{◌≡◌, ℕ, zero, suc, ◌+◌, ◌-◌, ◌*◌, ◌/◌, ◌%◌, ◌^◌, ◌<◌, min, Bool, true, false, ◌||◌, List, [], ◌∷◌, ◌++◌, take, codes, Some, None, refl, ap, ◌∙◌, sym, subst, append_assoc, append-nil, arith}
+use Rattle.std.proofs.Common.{◌≡◌, ℕ, zero, suc, ◌+◌, ◌-◌, ◌*◌, ◌/◌, ◌%◌, ◌^◌, ◌<◌, min, Bool, true, false, ◌||◌, List, [], ◌∷◌, ◌++◌, take, codes}
+use Rattle.std.proofs.Common.{Some, None, refl, ap, ◌∙◌, sym, subst, append_assoc, append-nil, arith}
 use Rattle.std.specs.Prelude.{nat_eq, if◌then◌else◌}
 use Rattle.std.specs.Fmt.{decimal}
 use Rattle.std.proofs.lemmas.Fmt.{decimal_by_steps}
@@ -10,7 +11,8 @@ use Rattle.std.proofs.lemmas.List.{take_all}
 use Rattle.std.proofs.lemmas.Bool.Decides.{nat_tests}
 use Rattle.rank_text.specs.declared.token.Keyword.TheVariants as k
 use Rattle.rank_text.specs.declared.token.Operator.{Operator}
-use Rattle.rank_text.specs.declared.token.Operator.TheVariants.{Add, Subtract, Multiply, Divide, Remainder, Equal, NotEqual, Less, LessEqual, Greater, GreaterEqual}
+use Rattle.rank_text.specs.declared.token.Operator.TheVariants.{Add, Subtract, Multiply, Divide, Remainder}
+use Rattle.rank_text.specs.declared.token.Operator.TheVariants.{Equal, NotEqual, Less, LessEqual, Greater, GreaterEqual}
 use Rattle.rank_text.specs.declared.token.Reading.{Reading}
 use Rattle.rank_text.specs.declared.token.Reading.TheVariants as reads
 use Rattle.rank_text.specs.declared.token.Reduction.{Reduction}
@@ -18,8 +20,11 @@ use Rattle.rank_text.specs.declared.token.Reduction.TheVariants as reduces
 use Rattle.rank_text.specs.declared.token.Token.{Token}
 use Rattle.rank_text.specs.declared.token.Token.TheVariants as t
 use Rattle.rank_text.specs.Tokens.{is_letter, is_digit, is_word_byte, control_words, message_words, reading_words, argument_words}
-use Rattle.rank_text.specs.Lexes.{space, AllAre, StopsAt, IsWord, word_token, IsNumber, value_behind, number_token, Symbol, extends, Lexes, is_end, is_space, is_word, is_number, is_symbol}
-use Rattle.rank_text.specs.Lexes.{is_add, is_subtract, is_multiply, is_divide, is_remainder, is_open_parenthesis, is_close_parenthesis, is_open_bracket, is_close_bracket, is_comma, is_assign, is_less, is_greater, is_equal, is_not_equal, is_less_equal, is_greater_equal}
+use Rattle.rank_text.specs.Lexes.{space, AllAre, StopsAt, IsWord, word_token, IsNumber, value_behind, number_token, Symbol, extends}
+use Rattle.rank_text.specs.Lexes.{Lexes, is_end, is_space, is_word, is_number, is_symbol}
+use Rattle.rank_text.specs.Lexes.{is_add, is_subtract, is_multiply, is_divide, is_remainder}
+use Rattle.rank_text.specs.Lexes.{is_open_parenthesis, is_close_parenthesis, is_open_bracket, is_close_bracket, is_comma, is_assign}
+use Rattle.rank_text.specs.Lexes.{is_less, is_greater, is_equal, is_not_equal, is_less_equal, is_greater_equal}
 use Rattle.rank_text.specs.Grammar.{minus}
 use Rattle.rank_text.specs.Tree.{Tree, number, variable, item, reading, negation, operation}
 use Rattle.rank_text.specs.Forms.{Choice, any, value, Payload, lone, one}
@@ -69,11 +74,12 @@ between : (a m b : List ℕ) (xs ms ys : List Token) → Reads a xs → Closed m
 between a m b xs ms ys p q e r =
     subst (λ z. Reads (a ++ m ++ b) z) (append_assoc xs ms ys) (closed_then (a ++ m) b (xs ++ ms) ys (then_closed a m xs ms p q e) r)
 
--- a failed `or` has two failed tests
+-- where an `or` fails, its first test fails
 or_left_fails : (x y : Bool) → (x || y) ≡ false → x ≡ false
 or_left_fails true y q = q
 or_left_fails false y q = refl
 
+-- and so does its second
 or_right_fails : (x y : Bool) → (x || y) ≡ false → y ≡ false
 or_right_fails true y q = absurd cc
 or_right_fails false y q = q
@@ -97,19 +103,23 @@ stops_never test never (b ∷ bs) = never b
 symbol_closed : (w : List ℕ) (token : Token) → Symbol w token → ((b : ℕ) → extends w b ≡ false) → Closed w (token ∷ [])
 symbol_closed w token y never = λ line ts l. is_symbol w line y (stops_never (extends w) never line) l
 
--- the brackets and the sign of a negation
+-- an opening parenthesis is a token, whatever follows
 open_closed : Closed (codes "(") (t.OpenParenthesis ∷ [])
 open_closed = symbol_closed (codes "(") t.OpenParenthesis is_open_parenthesis (λ b. refl)
 
+-- so is a closing parenthesis
 close_closed : Closed (codes ")") (t.CloseParenthesis ∷ [])
 close_closed = symbol_closed (codes ")") t.CloseParenthesis is_close_parenthesis (λ b. refl)
 
+-- so is the bracket in front of an index
 bracket_closed : Closed (codes "[") (t.OpenBracket ∷ [])
 bracket_closed = symbol_closed (codes "[") t.OpenBracket is_open_bracket (λ b. refl)
 
+-- so is the bracket behind it
 unbracket_closed : Closed (codes "]") (t.CloseBracket ∷ [])
 unbracket_closed = symbol_closed (codes "]") t.CloseBracket is_close_bracket (λ b. refl)
 
+-- so is the sign of a negation
 minus_closed : Closed (codes "-") (minus ∷ [])
 minus_closed = symbol_closed (codes "-") minus is_subtract (λ b. refl)
 
@@ -172,6 +182,7 @@ name_token : (x : List ℕ) → IsShortName x → word_token x ≡ t.Name x
 name_token x h =
     ap (λ o. elim o [ None ↦ t.Name (take 17 x) | Some token ↦ token ]) h.0.1 ∙ ap t.Name (take_all 17 x (omega (arith, h.1)))
 
+-- a short name is the token of that name
 name_reads : (x : List ℕ) → IsShortName x → Reads x (t.Name x ∷ [])
 name_reads x h = word_reads x (t.Name x) h.0.0 (name_token x h)
 
@@ -203,15 +214,19 @@ value_push n (d ∷ ds) b = value_push (10 * n + (d - 48)) ds b
 abbrev IsOf : ℕ → List ℕ → Type 0
 IsOf n ds = IsNumber ds × (value_behind 0 ds ≡ n)
 
+-- a number below ten is written as a digit
 one_digit : (n : ℕ) → n < 10 → is_digit (48 + n) ≡ true
 one_digit n h = grind (arith, nat_tests)
 
+-- and that digit has the number's value
 one_value : (n : ℕ) → 10 * 0 + ((48 + n) - 48) ≡ n
 one_value n = omega arith
 
+-- what is written last of a number is a digit
 last_digit : (n : ℕ) → is_digit (48 + n % 10) ≡ true
 last_digit n = let h : n % 10 < 10 = omega arith in one_digit (n % 10) h
 
+-- the digits of a tenth of a number, with its last digit behind them, have the number's value
 last_value : (n v : ℕ) → v ≡ n / 10 → 10 * v + ((48 + n % 10) - 48) ≡ n
 last_value n v q = omega (arith, q)
 
@@ -223,12 +238,14 @@ decimal_is n h =
       value_push 0 ds (48 + n % 10) ∙ last_value n (value_behind 0 ds) ih.1,
     )) n h
 
+-- a number in range is kept whole
 number_is : (n : ℕ) → n < 2 ^ 63 → number_token (decimal n) ≡ t.Number n
 number_is n h =
     let v = (decimal_is n (omega (arith, h))).1 in
     let m : min n (2 ^ 63) ≡ n = omega (arith, h) in
     ap (λ z. t.Number (min z (2 ^ 63))) v ∙ ap t.Number m
 
+-- so its digits are the token of that number
 number_reads : (n : ℕ) → n < 2 ^ 63 → Reads (decimal n) (t.Number n ∷ [])
 number_reads n h = λ line ts e l.
     subst (λ z. Lexes (decimal n ++ line) (z ∷ ts)) (number_is n h) (is_number (decimal n) line (decimal_is n (omega (arith, h))).0 (ends_number line e) l)
@@ -277,51 +294,62 @@ payload_reads : (p : Payload) → PayloadFits p → Reads (payload_text p) (payl
 payload_reads (lone x) h = name_reads x h
 payload_reads (one e) h = expression_reads e h.0
 
--- the statement words, with a space behind those that have arguments
+-- `var` with a space behind it is its statement word, whatever follows
 var_closed : Closed (codes "var ") (t.Keyword k.Var ∷ [])
 unfolding control_words message_words reading_words argument_words
 var_closed = λ line ts l. word_closed (codes "var") (t.Keyword k.Var) (refl, (refl, (refl, tt))) refl line ts l
 
+-- so is `array`
 array_closed : Closed (codes "array ") (t.Keyword k.Array ∷ [])
 unfolding control_words message_words reading_words argument_words
 array_closed = λ line ts l. word_closed (codes "array") (t.Keyword k.Array) (refl, (refl, (refl, (refl, (refl, tt))))) refl line ts l
 
+-- so is `let`
 let_closed : Closed (codes "let ") (t.Keyword k.Let ∷ [])
 unfolding control_words message_words reading_words argument_words
 let_closed = λ line ts l. word_closed (codes "let") (t.Keyword k.Let) (refl, (refl, (refl, tt))) refl line ts l
 
+-- so is `if`
 if_closed : Closed (codes "if ") (t.Keyword k.If ∷ [])
 unfolding control_words message_words reading_words argument_words
 if_closed = λ line ts l. word_closed (codes "if") (t.Keyword k.If) (refl, (refl, tt)) refl line ts l
 
+-- so is `while`
 while_closed : Closed (codes "while ") (t.Keyword k.While ∷ [])
 unfolding control_words message_words reading_words argument_words
 while_closed = λ line ts l. word_closed (codes "while") (t.Keyword k.While) (refl, (refl, (refl, (refl, (refl, tt))))) refl line ts l
 
+-- so is `send`
 send_closed : Closed (codes "send ") (t.Keyword k.Send ∷ [])
 unfolding control_words message_words reading_words argument_words
 send_closed = λ line ts l. word_closed (codes "send") (t.Keyword k.Send) (refl, (refl, (refl, (refl, tt)))) refl line ts l
 
+-- so is `recv`
 recv_closed : Closed (codes "recv ") (t.Keyword k.Recv ∷ [])
 unfolding control_words message_words reading_words argument_words
 recv_closed = λ line ts l. word_closed (codes "recv") (t.Keyword k.Recv) (refl, (refl, (refl, (refl, tt)))) refl line ts l
 
+-- so is `probe`
 probe_closed : Closed (codes "probe ") (t.Keyword k.Probe ∷ [])
 unfolding control_words message_words reading_words argument_words
 probe_closed = λ line ts l. word_closed (codes "probe") (t.Keyword k.Probe) (refl, (refl, (refl, (refl, (refl, tt))))) refl line ts l
 
+-- so is `iprobe`
 try_probe_closed : Closed (codes "iprobe ") (t.Keyword k.Iprobe ∷ [])
 unfolding control_words message_words reading_words argument_words
 try_probe_closed = λ line ts l. word_closed (codes "iprobe") (t.Keyword k.Iprobe) (refl, (refl, (refl, (refl, (refl, (refl, tt)))))) refl line ts l
 
+-- so is `print`
 print_closed : Closed (codes "print ") (t.Keyword k.Print ∷ [])
 unfolding control_words message_words reading_words argument_words
 print_closed = λ line ts l. word_closed (codes "print") (t.Keyword k.Print) (refl, (refl, (refl, (refl, (refl, tt))))) refl line ts l
 
+-- so is `bcast`
 bcast_closed : Closed (codes "bcast ") (t.Keyword k.Bcast ∷ [])
 unfolding control_words message_words reading_words argument_words
 bcast_closed = λ line ts l. word_closed (codes "bcast") (t.Keyword k.Bcast) (refl, (refl, (refl, (refl, (refl, tt))))) refl line ts l
 
+-- so is `reduce`
 reduce_closed : Closed (codes "reduce ") (t.Keyword k.Reduce ∷ [])
 unfolding control_words message_words reading_words argument_words
 reduce_closed = λ line ts l. word_closed (codes "reduce") (t.Keyword k.Reduce) (refl, (refl, (refl, (refl, (refl, (refl, tt)))))) refl line ts l
@@ -340,14 +368,17 @@ reduction_closed o =
     then_closed (codes "reduce " ++ reduction_text o) (codes ", ") (t.Keyword k.Reduce ∷ t.Reduction o ∷ []) (t.Comma ∷ []) front
     comma_closed (λ line. refl)
 
+-- `else` is its statement word, where what follows doesn't go on with it
 else_reads : Reads (codes "else") (t.Keyword k.Else ∷ [])
 unfolding control_words message_words reading_words argument_words
 else_reads = word_reads (codes "else") (t.Keyword k.Else) (refl, (refl, (refl, (refl, tt)))) refl
 
+-- so is `end`
 end_reads : Reads (codes "end") (t.Keyword k.End ∷ [])
 unfolding control_words message_words reading_words argument_words
 end_reads = word_reads (codes "end") (t.Keyword k.End) (refl, (refl, (refl, tt))) refl
 
+-- so is `barrier`
 barrier_reads : Reads (codes "barrier") (t.Keyword k.Barrier ∷ [])
 unfolding control_words message_words reading_words argument_words
 barrier_reads = word_reads (codes "barrier") (t.Keyword k.Barrier) (refl, (refl, (refl, (refl, (refl, (refl, (refl, tt))))))) refl

@@ -6,7 +6,9 @@ use Rattle.std.proofs.lemmas.Bool.Decides.{nat_tests}
 use Rattle.rank_text.specs.declared.token.Token.{Token}
 use Rattle.rank_text.specs.Tokens.{is_letter, is_digit, is_word_byte, is_between, control_words, message_words, reading_words, argument_words}
 use Rattle.rank_text.specs.Lexes.{AllAre, IsWord, IsNumber, Symbol, Lexes, is_end, is_space, is_word, is_number, is_symbol}
-use Rattle.rank_text.specs.Lexes.{is_add, is_subtract, is_multiply, is_divide, is_remainder, is_open_parenthesis, is_close_parenthesis, is_open_bracket, is_close_bracket, is_comma, is_assign, is_less, is_greater, is_equal, is_not_equal, is_less_equal, is_greater_equal}
+use Rattle.rank_text.specs.Lexes.{is_add, is_subtract, is_multiply, is_divide, is_remainder}
+use Rattle.rank_text.specs.Lexes.{is_open_parenthesis, is_close_parenthesis, is_open_bracket, is_close_bracket, is_comma, is_assign}
+use Rattle.rank_text.specs.Lexes.{is_less, is_greater, is_equal, is_not_equal, is_less_equal, is_greater_equal}
 use Rattle.rank_text.specs.Forms.{Form, var_form, array_form, let_form, item_form, if_form, else_form, end_form, while_form}
 use Rattle.rank_text.specs.Forms.{send_form, recv_form, probe_form, try_probe_form, print_form, barrier_form, bcast_form, reduce_form}
 use Rattle.rank_lines.specs.Lines.{lines_of, onto_first, without_spaces, begins_comment, is_skipped, is_text, front_word, is_keyword, is_statement}
@@ -20,25 +22,29 @@ text_append (c ∷ a) b p q =
     let h = and_parts (is_between 32 126 c) (is_text a) p in
     and_from (is_between 32 126 c) (is_text (a ++ b)) h.0 (text_append a b h.1 q)
 
--- each letter and each digit is a character of text
+-- each letter is a character of text
 letter_text : (b : ℕ) → is_letter b ≡ true → is_between 32 126 b ≡ true
 letter_text b h = grind (arith, nat_tests)
 
+-- so is each digit
 digit_text : (b : ℕ) → is_digit b ≡ true → is_between 32 126 b ≡ true
 digit_text b h = grind (arith, nat_tests)
 
+-- and each byte of a word
 word_byte_text : (b : ℕ) → is_word_byte b ≡ true → is_between 32 126 b ≡ true
 word_byte_text b h = grind (arith, nat_tests)
 
--- so is a run of them
+-- a run of characters of text is text
 run_text : (test : ℕ → Bool) → ((b : ℕ) → test b ≡ true → is_between 32 126 b ≡ true) → (w : List ℕ) → AllAre test w → is_text w ≡ true
 run_text test each [] h = refl
 run_text test each (b ∷ w) h = and_from (is_between 32 126 b) (is_text w) (each b h.0) (run_text test each w h.1)
 
+-- so is a word
 word_text : (w : List ℕ) → IsWord w → is_text w ≡ true
 word_text [] h = absurd h
 word_text (b ∷ w) h = and_from (is_between 32 126 b) (is_text w) (letter_text b h.0) (run_text is_word_byte word_byte_text w h.1)
 
+-- and a number
 number_text : (ds : List ℕ) → IsNumber ds → is_text ds ≡ true
 number_text [] h = absurd h
 number_text (b ∷ ds) h = and_from (is_between 32 126 b) (is_text ds) (digit_text b h.0) (run_text is_digit digit_text ds h.1)
@@ -119,6 +125,7 @@ unindented (suc depth) line = unindented depth line
 pub line_states : (depth : ℕ) (f : Form) → is_statement (indentation depth ++ form_text f) ≡ true
 line_states depth f = ap (λ z. is_keyword (found_in reserved (front_word z))) (unindented depth (form_text f)) ∙ form_states f
 
+-- and isn't skipped
 pub line_unskipped : (depth : ℕ) (f : Form) → is_skipped (indentation depth ++ form_text f) ≡ false
 line_unskipped depth f = ap begins_comment (unindented depth (form_text f)) ∙ form_unskipped f
 
@@ -134,5 +141,6 @@ cut_at (b ∷ line) rest p =
     ap (λ z. if z then [] ∷ lines_of (line ++ 10 ∷ rest) else onto_first b (lines_of (line ++ 10 ∷ rest))) (text_no_lf b h.0)
     ∙ ap (onto_first b) (cut_at line rest h.1)
 
+-- the same, where the LF is written as a text of its own
 pub line_cut : (line rest : List ℕ) → is_text line ≡ true → lines_of (line ++ codes "\n" ++ rest) ≡ line ∷ lines_of rest
 line_cut line rest p = ap lines_of (append_assoc line (codes "\n") rest) ∙ cut_at line rest p

@@ -11,12 +11,15 @@ use Rattle.rank_text.specs.declared.token.Strength.TheVariants.{Compares, Adds, 
 use Rattle.rank_text.specs.declared.token.Token.{Token}
 use Rattle.rank_text.specs.declared.token.Token.TheVariants as t
 use Rattle.rank_text.specs.Tree.{Tree, number, variable, item, reading, negation, operation}
-use Rattle.rank_text.specs.Grammar.{strength, minus, whole, atom, Spells, is_number, is_variable, is_reading, is_item, in_parentheses, is_atom, negated, is_unary, multiplied, is_product, added, is_sum, compared}
+use Rattle.rank_text.specs.Grammar.{strength, minus, whole, atom}
+use Rattle.rank_text.specs.Grammar.{Spells, is_number, is_variable, is_reading, is_item, in_parentheses, is_atom, negated, is_unary}
+use Rattle.rank_text.specs.Grammar.{multiplied, is_product, added, is_sum, compared}
 use Rattle.rank_text.specs.Forms.{Choice, any, value, Payload, lone, one}
 use Rattle.rank_text.specs.Forms.{Form, var_form, array_form, let_form, item_form, if_form, else_form, end_form, while_form}
 use Rattle.rank_text.specs.Forms.{send_form, recv_form, probe_form, try_probe_form, print_form, barrier_form, bcast_form, reduce_form}
-use Rattle.rank_text.specs.Forms.{IsChoice, is_any, is_value, IsNoName, IsPayload, is_lone, is_one, IsForm, is_var, is_array, is_let, is_let_item, is_if, is_else, is_end, is_while, is_send, is_recv, is_probe, is_try_probe, is_print}
-use Rattle.rank_text.specs.Forms.{is_barrier, is_bcast, is_reduce}
+use Rattle.rank_text.specs.Forms.{IsChoice, is_any, is_value, IsNoName, IsPayload, is_lone, is_one}
+use Rattle.rank_text.specs.Forms.{IsForm, is_var, is_array, is_let, is_let_item, is_if, is_else, is_end, is_while}
+use Rattle.rank_text.specs.Forms.{is_send, is_recv, is_probe, is_try_probe, is_print, is_barrier, is_bcast, is_reduce}
 use Rattle.rank_print.specs.Canonical.{is_operation, IsCanonicalPayload, IsCanonical}
 
 -- an operand with these tokens, in parentheses where it is itself an operation

@@ -5,8 +5,10 @@ use Rattle.rank_text.specs.Tree.{number, variable, item, reading, negation, oper
 use Rattle.rank_text.specs.Forms.{Payload, lone, one, Form, var_form, array_form, let_form, item_form, if_form, else_form, end_form, while_form}
 use Rattle.rank_text.specs.Forms.{send_form, recv_form, probe_form, try_probe_form, print_form, barrier_form, bcast_form, reduce_form}
 use Rattle.rank_lines.specs.Faults.{IsText}
-use Rattle.rank_lines.specs.Scope.{Scope, nothing_yet, is_array, all_declared, payload_declared, is_large, payload_is_large, is_great, payload_is_great, after, after_all, MayStand, AllMayStand, IsWhole}
-use Rattle.rank_print.specs.Canonical.{expression_text, payload_text, form_text, depth_of, depth_after, indentation, text_from, program_text, IsCanonicalPayload, IsCanonical, AllCanonical, canonical_payload, canonical, all_canonical}
+use Rattle.rank_lines.specs.Scope.{Scope, nothing_yet, is_array, all_declared, payload_declared, is_large, payload_is_large, is_great, payload_is_great}
+use Rattle.rank_lines.specs.Scope.{after, after_all, MayStand, AllMayStand, IsWhole}
+use Rattle.rank_print.specs.Canonical.{expression_text, payload_text, form_text, depth_of, depth_after, indentation, text_from, program_text}
+use Rattle.rank_print.specs.Canonical.{IsCanonicalPayload, IsCanonical, AllCanonical, canonical_payload, canonical, all_canonical}
 use Rattle.rank_print.proofs.PrintedText.{reads_back}
 
 -- a payload's text is the canonical one's
@@ -49,6 +51,7 @@ payload_size (one (reading r)) = refl
 payload_size (one (negation e)) = refl
 payload_size (one (operation o a b)) = refl
 
+-- and its numbers are in range where they were
 payload_range : (p : Payload) → payload_is_great (canonical_payload p) ≡ payload_is_great p
 payload_range (lone x) = refl
 payload_range (one (number n)) = refl
@@ -111,6 +114,7 @@ form_leaves s barrier_form = refl
 form_leaves s (bcast_form r x) = refl
 form_leaves s (reduce_form o r e x) = refl
 
+-- and is canonical
 form_canonical : (f : Form) → IsCanonical (canonical f)
 form_canonical (var_form x) = tt
 form_canonical (array_form x n) = tt
@@ -131,8 +135,12 @@ form_canonical (reduce_form o r e x) = tt
 
 -- its line is the same, and so is where the next one begins
 abbrev IsSameLine : ℕ → Form → Type 0
-IsSameLine depth f = (form_text (canonical f) ≡ form_text f) × (depth_of depth (canonical f) ≡ depth_of depth f) × (depth_after depth (canonical f) ≡ depth_after depth f)
+IsSameLine depth f =
+    (form_text (canonical f) ≡ form_text f)
+    × (depth_of depth (canonical f) ≡ depth_of depth f)
+    × (depth_after depth (canonical f) ≡ depth_after depth f)
 
+-- so it is for each statement
 same_line : (depth : ℕ) (f : Form) → IsSameLine depth f
 same_line depth (var_form x) = (refl, refl, refl)
 same_line depth (array_form x n) = (refl, refl, refl)
@@ -163,19 +171,23 @@ same_text depth (f ∷ fs) =
     ∙ ap (λ z. indentation (depth_of depth f) ++ form_text f ++ codes "\n" ++ text_from z rest) h.2
     ∙ ap (λ z. indentation (depth_of depth f) ++ form_text f ++ codes "\n" ++ z) (same_text (depth_after depth f) fs)
 
+-- the statements stand where they stood
 all_stand : (s : Scope) (fs : List Form) → AllMayStand s fs → AllMayStand s (all_canonical fs)
 all_stand s [] h = tt
 all_stand s (f ∷ fs) h =
     (form_stands s f h.0, subst (λ z. AllMayStand z (all_canonical fs)) (sym (form_leaves s f)) (all_stand (after s f) fs h.1))
 
+-- and leave what they left
 pub all_leave : (s : Scope) (fs : List Form) → after_all s (all_canonical fs) ≡ after_all s fs
 all_leave s [] = refl
 all_leave s (f ∷ fs) = ap (λ z. after_all z (all_canonical fs)) (form_leaves s f) ∙ all_leave (after s f) fs
 
+-- they are as many
 all_many : (fs : List Form) → length (all_canonical fs) ≡ length fs
 all_many [] = refl
 all_many (f ∷ fs) = omega (arith, all_many fs)
 
+-- and are canonical
 pub all_are : (fs : List Form) → AllCanonical (all_canonical fs)
 all_are [] = tt
 all_are (f ∷ fs) = (form_canonical f, all_are fs)

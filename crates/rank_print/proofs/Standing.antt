@@ -1,6 +1,7 @@
 -- A statement that may stand where it does fits: its names are declared, so they are names that aren't too long, and its
 -- numbers and expressions are within their limits. No fault holds of a line that has it.
-use Rattle.std.proofs.Common.{◌≡◌, ℕ, ◌-◌, ◌^◌, ◌<◌, ◌≤◌, ◌⊎◌, inl, inr, Bool, true, false, ◌&&◌, ◌||◌, List, [], ◌∷◌, ◌++◌, length, map, refl, sym, ap, subst, ◌∙◌, arith}
+use Rattle.std.proofs.Common.{◌≡◌, ℕ, ◌-◌, ◌^◌, ◌<◌, ◌≤◌, ◌⊎◌, inl, inr, Bool, true, false, ◌&&◌, ◌||◌, List, [], ◌∷◌, ◌++◌, length, map}
+use Rattle.std.proofs.Common.{refl, sym, ap, subst, ◌∙◌, arith}
 use Rattle.std.specs.Prelude.{nat_le, nat_lt}
 use Rattle.std.specs.Str.{bytes_eq}
 use Rattle.std.proofs.lemmas.Slice.Eq.{bytes_eq-Decides}
@@ -15,7 +16,9 @@ use Rattle.rank_text.specs.Forms.{send_form, recv_form, probe_form, try_probe_fo
 use Rattle.rank_lines.specs.declared.fault.FaultKind.{FaultKind}
 use Rattle.rank_lines.specs.Lines.{is_statement}
 use Rattle.rank_lines.specs.Faults.{IsFormed, Holds, other_byte, no_word, no_form, unknown_name, known_name, no_block, long_line, late_line, over, great_number}
-use Rattle.rank_lines.specs.Scope.{Scope, Opened, is_name_in, is_variable, is_array, is_declared, all_declared, choice_declared, payload_declared, declared_in, is_twice, is_stray, nodes, is_large, choice_is_large, payload_is_large, has_large, deepest, is_past_table, is_over, is_great, choice_is_great, payload_is_great, has_great_number, other_branch, outer, after, MayStand}
+use Rattle.rank_lines.specs.Scope.{Scope, Opened, is_name_in, is_variable, is_array, is_declared, all_declared, choice_declared, payload_declared, declared_in}
+use Rattle.rank_lines.specs.Scope.{is_twice, is_stray, nodes, is_large, choice_is_large, payload_is_large, has_large, deepest, is_past_table, is_over}
+use Rattle.rank_lines.specs.Scope.{is_great, choice_is_great, payload_is_great, has_great_number, other_branch, outer, after, MayStand}
 use Rattle.rank_lines.proofs.LineLaws.{form_one}
 use Rattle.rank_print.specs.Canonical.{depth_of, depth_after}
 use Rattle.rank_print.proofs.Fitting.{IsShortName, IsPlain, IsFit, ChoiceFits, PayloadFits, FormFits}
@@ -48,12 +51,15 @@ short_in (y ∷ ys) x h q =
       | inr e ↦ short_in ys x h.1 e
     ]
 
+-- so a declared variable has such a name
 variable_short : (s : Scope) (x : List ℕ) → IsNamedWell s → is_variable s x ≡ true → IsShortName x
 variable_short s x h q = short_in s.variables x h.0 q
 
+-- and a declared array
 array_short : (s : Scope) (x : List ℕ) → IsNamedWell s → is_array s x ≡ true → IsShortName x
 array_short s x h q = short_in (map (λ a. a.0) s.arrays) x h.1 q
 
+-- and whatever is declared as one of them
 declared_short : (s : Scope) (x : List ℕ) → IsNamedWell s → is_declared s x ≡ true → IsShortName x
 declared_short s x h q =
     elim (or_cases (is_variable s x) (is_array s x) q) [ inl e ↦ variable_short s x h e | inr e ↦ array_short s x h e ]
@@ -76,18 +82,21 @@ plain_of s (operation o a b) h d g =
     let q = or_fails (is_great a) (is_great b) g in
     (plain_of s a h p.0 q.0, plain_of s b h p.1 q.1)
 
+-- what isn't too large has no more nodes than an expression may have
 few_nodes : (n : ℕ) → nat_lt most_nodes n ≡ false → n ≤ most_nodes
 few_nodes n q = grind (arith, nat_tests)
 
--- and that isn't too large
+-- an expression whose names are declared, whose numbers are in range and that isn't too large fits
 fit_of : (s : Scope) (e : Tree) → IsNamedWell s → all_declared s e ≡ true → is_large e ≡ false → is_great e ≡ false → IsFit e
 fit_of s e h d l g = (plain_of s e h d g, few_nodes (nodes e) l)
 
+-- a source or a tag fits, as its expression does
 choice_fits : (s : Scope) (c : Choice) → IsNamedWell s → choice_declared s c ≡ true → choice_is_large c ≡ false → choice_is_great c ≡ false
     → ChoiceFits c
 choice_fits s any h d l g = tt
 choice_fits s (value e) h d l g = fit_of s e h d l g
 
+-- so does what a send gives
 payload_fits : (s : Scope) (p : Payload) → IsNamedWell s → payload_declared s p ≡ true → payload_is_large p ≡ false → payload_is_great p ≡ false
     → PayloadFits p
 payload_fits s (lone x) h d l g = declared_short s x h d
@@ -97,6 +106,7 @@ payload_fits s (one e) h d l g = fit_of s e h d l g
 short_variable : (s : Scope) (x : List ℕ) → is_past_table s (var_form x) ≡ false → length x ≤ most_name_bytes
 short_variable s x q = grind (arith, nat_tests)
 
+-- and for that of an array
 short_array : (s : Scope) (x : List ℕ) (n : ℕ) → is_past_table s (array_form x n) ≡ false → length x ≤ most_name_bytes
 short_array s x n q = grind (arith, nat_tests)
 

@@ -29,17 +29,23 @@ whole_spelled ts = alone_is (expression_at ts) ts (sound ts)
 pub read_whole : (ts : List Token) (e : Tree) → Spells whole ts e → whole_expression ts ≡ Some e
 read_whole ts e d = ap (λ z. alone (expression_at z)) (sym (append-nil ts)) ∙ ap alone (complete d [] tt)
 
+-- no tokens spell two expressions
 pub one_tree : (ts : List Token) (a b : Tree) → Spells whole ts a → Spells whole ts b → a ≡ b
 one_tree ts a b d e = let q : Some a ≡ Some b = sym (read_whole ts a d) ∙ read_whole ts b e in cc
 
+-- an expression that the code has read is spelled by the tokens
 found_of : (o : Option Written) (ts : List Token) → tree_in o ≡ whole_expression ts → IfSome o (λ e. Spells whole ts (tree_of e))
 found_of None ts q = tt
 found_of (Some e) ts q = subst (λ o. AloneIs o ts) (sym q) (whole_spelled ts)
 
-pub found : (r : Result (Option Written) AllocError) (ts : List Token) → IfOk r (λ o. tree_in o ≡ whole_expression ts) → IfOk r (λ o. IfSome o (λ e. Spells whole ts (tree_of e)))
+-- the same of the code's result, unless memory ran out
+pub found : (r : Result (Option Written) AllocError) (ts : List Token) → IfOk r (λ o. tree_in o ≡ whole_expression ts)
+    → IfOk r (λ o. IfSome o (λ e. Spells whole ts (tree_of e)))
 found (Ok o) ts h = found_of o ts h
 found (Err e) ts h = tt
 
-pub only : (r : Result (Option Written) AllocError) (ts : List Token) → IfOk r (λ o. tree_in o ≡ whole_expression ts) → IfOk r (λ o. (e : Tree) → Spells whole ts e → tree_in o ≡ Some e)
+-- an expression that the tokens spell is what the code has read
+pub only : (r : Result (Option Written) AllocError) (ts : List Token) → IfOk r (λ o. tree_in o ≡ whole_expression ts)
+    → IfOk r (λ o. (e : Tree) → Spells whole ts e → tree_in o ≡ Some e)
 only (Ok o) ts h = λ e d. h ∙ read_whole ts e d
 only (Err e) ts h = tt

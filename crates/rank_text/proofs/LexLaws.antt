@@ -4,20 +4,27 @@
 -- fresh start up to its end, and the rest likewise. What is read is what the grammar has
 -- (`spelled`): what is pending stands for the bytes since its token began (`Stands`), and
 -- where it stops those bytes are a token as long as it can be.
-use Rattle.std.proofs.Common.{◌≡◌, ℕ, ◌+◌, ◌-◌, ◌*◌, ◌^◌, min, Bool, true, false, ◌&&◌, ◌||◌, List, [], ◌∷◌, ◌++◌, take, Option, Some, None, Result, Ok, Err, IfOk, IfSome, refl, ap, ◌∙◌, sym, subst, append_assoc, arith, inl, inr}
+use Rattle.std.proofs.Common.{◌≡◌, ℕ, ◌+◌, ◌-◌, ◌*◌, ◌^◌, min, Bool, true, false, ◌&&◌, ◌||◌, List, [], ◌∷◌, ◌++◌, take, Option, Some, None}
+use Rattle.std.proofs.Common.{Result, Ok, Err, IfOk, IfSome, refl, ap, ◌∙◌, sym, subst, append_assoc, arith, inl, inr}
 use Rattle.std.specs.Prelude.{nat_eq, if◌then◌else◌}
 use Rattle.std.specs.declared.alloc.AllocError.{AllocError}
 use Rattle.std.specs.Global.{Vec}
 use Rattle.std.proofs.lemmas.Bool.{eqb-true}
 use Rattle.std.proofs.lemmas.Bool.Decides.{nat_tests, eqb_tells}
-use Rattle.rank_text.specs.declared.token.Operator.TheVariants.{Add, Subtract, Multiply, Divide, Remainder, Equal, NotEqual, Less, LessEqual, Greater, GreaterEqual}
+use Rattle.rank_text.specs.declared.token.Operator.TheVariants.{Add, Subtract, Multiply, Divide, Remainder}
+use Rattle.rank_text.specs.declared.token.Operator.TheVariants.{Equal, NotEqual, Less, LessEqual, Greater, GreaterEqual}
 use Rattle.rank_text.specs.declared.token.Token.{Token}
 use Rattle.rank_text.specs.declared.token.Token.TheVariants as t
-use Rattle.rank_text.specs.Tokens.{is_letter, is_digit, is_word_byte, is_sign, word_or_name, with_digit, Pending, nothing, word, digits, sign, whole, lone_sign, with_equal, single, listed, held, flushed, begun, grown, and_after, tokens_from, tokens_of}
-use Rattle.rank_text.specs.Lexes.{AllAre, StopsAt, IsWord, word_token, IsNumber, number_token, value_behind, Symbol, extends, Lexes, is_end, is_space, is_word, is_number, is_symbol}
-use Rattle.rank_text.specs.Lexes.{is_add, is_subtract, is_multiply, is_divide, is_remainder, is_open_parenthesis, is_close_parenthesis, is_open_bracket, is_close_bracket, is_comma, is_assign, is_less, is_greater, is_equal, is_not_equal, is_less_equal, is_greater_equal}
+use Rattle.rank_text.specs.Tokens.{is_letter, is_digit, is_word_byte, is_sign, word_or_name, with_digit, Pending, nothing, word, digits, sign, whole}
+use Rattle.rank_text.specs.Tokens.{lone_sign, with_equal, single, listed, held, flushed, begun, grown, and_after, tokens_from, tokens_of}
+use Rattle.rank_text.specs.Lexes.{AllAre, StopsAt, IsWord, word_token, IsNumber, number_token, value_behind, Symbol, extends}
+use Rattle.rank_text.specs.Lexes.{Lexes, is_end, is_space, is_word, is_number, is_symbol}
+use Rattle.rank_text.specs.Lexes.{is_add, is_subtract, is_multiply, is_divide, is_remainder}
+use Rattle.rank_text.specs.Lexes.{is_open_parenthesis, is_close_parenthesis, is_open_bracket, is_close_bracket, is_comma, is_assign}
+use Rattle.rank_text.specs.Lexes.{is_less, is_greater, is_equal, is_not_equal, is_less_equal, is_greater_equal}
 use Rattle.rank_text.specs.SeenTokens.{tokens_in}
-use Rattle.rank_text.proofs.Lexing.{none_before, after_byte, begins, Stops, stops, failed_where, take_push, min_digit, refused_after, none_after, word_run, digits_run, word_stops, digits_stop, whole_stops, sign_stops, letter_begins, digit_begins}
+use Rattle.rank_text.proofs.Lexing.{none_before, after_byte, begins, Stops, stops, failed_where, take_push, min_digit, refused_after, none_after}
+use Rattle.rank_text.proofs.Lexing.{word_run, digits_run, word_stops, digits_stop, whole_stops, sign_stops, letter_begins, digit_begins}
 use Rattle.rank_text.proofs.ReservedWords.{same_token}
 
 -- a token in front of the tokens of the rest
@@ -55,7 +62,8 @@ whole_read : (token : Token) (line : List ℕ) → and_after (Some []) (tokens_f
 whole_read token line = none_before (tokens_from (whole token) line) ∙ stops (whole token) line (whole_stops token line)
 
 -- a sign that `=` doesn't follow
-sign_read : (c : ℕ) (token : Token) (line : List ℕ) → lone_sign c ≡ Some token → StopsAt (λ b. nat_eq b 61) line → and_after (Some []) (tokens_from (sign c) line) ≡ and_after (Some (token ∷ [])) (tokens_from nothing line)
+sign_read : (c : ℕ) (token : Token) (line : List ℕ) → lone_sign c ≡ Some token → StopsAt (λ b. nat_eq b 61) line
+    → and_after (Some []) (tokens_from (sign c) line) ≡ and_after (Some (token ∷ [])) (tokens_from nothing line)
 sign_read c token line q s =
     none_before (tokens_from (sign c) line) ∙ stops (sign c) line (sign_stops c line s) ∙ ap (λ o. and_after (listed o) (tokens_from nothing line)) q
 
@@ -111,7 +119,8 @@ by_cases P true a o f g = f refl
 by_cases P false a o f g = g refl
 
 -- what holds of a byte's token, and else of the rest
-by_byte : (P : ℕ → Option Token → Type 0) (b n : ℕ) (token : Token) (rest : Option Token) → P n (Some token) → P b rest → P b (if nat_eq b n then Some token else rest)
+by_byte : (P : ℕ → Option Token → Type 0) (b n : ℕ) (token : Token) (rest : Option Token) → P n (Some token) → P b rest
+    → P b (if nat_eq b n then Some token else rest)
 by_byte P b n token rest y h =
     elim (eqb_tells b n) [
       | inl e ↦ subst (λ z. P b (if z then Some token else rest)) (sym e.0) (subst (λ x. P x (Some token)) (sym e.1) y)
@@ -198,13 +207,19 @@ value_push n (d ∷ ds) b = value_push (10 * n + (d - 48)) ds b
 grows_standing : (p : Pending) (front : List ℕ) (b : ℕ) → Stands p front → StandsIn (grown p b) (front ++ b ∷ [])
 grows_standing nothing front b h = tt
 grows_standing (word w) front b h =
-    by_cases (λ o. StandsIn o (front ++ b ∷ [])) (is_word_byte b) _ _ (λ e. (word_push front b h.0 e, ap (λ z. take 17 (z ++ b ∷ [])) h.1 ∙ take_push 17 front b)) (λ e. tt)
+    by_cases (λ o. StandsIn o (front ++ b ∷ [])) (is_word_byte b) _ _ (λ e.
+    (word_push front b h.0 e, ap (λ z. take 17 (z ++ b ∷ [])) h.1 ∙ take_push 17 front b)) (λ e. tt)
 grows_standing (digits n) front b h =
-    by_cases (λ o. StandsIn o (front ++ b ∷ [])) (is_digit b) _ _ (λ e.
-    (number_push front b h.0 e, ap (λ z. with_digit z b) h.1 ∙ min_digit (value_behind 0 front) (b - 48) (2 ^ 63) ∙ ap (λ z. min z (2 ^ 63)) (sym (value_push 0 front b)))) (λ e. tt)
+    by_cases (λ o. StandsIn o (front ++ b ∷ [])) (is_digit b) _ _ (λ e. (
+      number_push front b h.0 e,
+      ap (λ z. with_digit z b) h.1
+          ∙ min_digit (value_behind 0 front) (b - 48) (2 ^ 63)
+          ∙ ap (λ z. min z (2 ^ 63)) (sym (value_push 0 front b)),
+    )) (λ e. tt)
 grows_standing (sign c) front b h =
     by_cases (λ o. StandsIn o (front ++ b ∷ [])) (nat_eq b 61) _ _ (λ e.
-    subst (λ f. Stands (whole (with_equal c)) (f ++ b ∷ [])) (sym h.1) (subst (λ x. Stands (whole (with_equal c)) (c ∷ x ∷ [])) (sym (eqb-true b 61 e)) (equal_is c h.0, λ x. refl))) (λ e. tt)
+    subst (λ f. Stands (whole (with_equal c)) (f ++ b ∷ [])) (sym h.1)
+    (subst (λ x. Stands (whole (with_equal c)) (c ∷ x ∷ [])) (sym (eqb-true b 61 e)) (equal_is c h.0, λ x. refl))) (λ e. tt)
 grows_standing (whole token) front b h = tt
 
 -- a test that always fails stops at once
@@ -233,28 +248,33 @@ sign_ends c [] h = tt
 sign_ends c (b ∷ bs) h = and_failed (nat_eq c 61 || nat_eq c 60 || nat_eq c 62) (nat_eq b 61) (failed_where (nat_eq b 61) (whole (with_equal c)) h)
 
 -- a symbol, and the tokens of the rest
-symbol_ends : (o : Option Token) (front line : List ℕ) (ts : List Token) → SymbolIs o front → StopsAt (extends front) line → Lexes line ts → LexedIs (and_after (listed o) (Some ts)) (front ++ line)
+symbol_ends : (o : Option Token) (front line : List ℕ) (ts : List Token) → SymbolIs o front → StopsAt (extends front) line → Lexes line ts
+    → LexedIs (and_after (listed o) (Some ts)) (front ++ line)
 symbol_ends None front line ts y s d = tt
 symbol_ends (Some token) front line ts y s d = is_symbol front line y s d
 
 -- what is pending, where it stops, and the tokens of the rest
-finishes : (p : Pending) (front line : List ℕ) (ts : List Token) → Stands p front → Stops p line → Lexes line ts → LexedIs (and_after (flushed p) (Some ts)) (front ++ line)
+finishes : (p : Pending) (front line : List ℕ) (ts : List Token) → Stands p front → Stops p line → Lexes line ts
+    → LexedIs (and_after (flushed p) (Some ts)) (front ++ line)
 finishes nothing front line ts h s d = h line ts d
 finishes (word w) front line ts h s d =
     subst (λ z. Lexes (front ++ line) (z ∷ ts)) (sym (same_token front) ∙ ap word_or_name (sym h.1)) (is_word front line h.0 (word_ends w line s) d)
 finishes (digits n) front line ts h s d =
     subst (λ z. Lexes (front ++ line) (t.Number z ∷ ts)) (sym h.1) (is_number front line h.0 (number_ends n line s) d)
 finishes (sign c) front line ts h s d =
-    subst (λ f. LexedIs (and_after (listed (lone_sign c)) (Some ts)) (f ++ line)) (sym h.1) (symbol_ends (lone_sign c) (c ∷ []) line ts (lone_is c) (sign_ends c line s) d)
+    subst (λ f. LexedIs (and_after (listed (lone_sign c)) (Some ts)) (f ++ line)) (sym h.1)
+    (symbol_ends (lone_sign c) (c ∷ []) line ts (lone_is c) (sign_ends c line s) d)
 finishes (whole token) front line ts h s d = is_symbol front line h.0 (never (extends front) h.1 line) d
 
 -- the same, where the rest may have no tokens
-finished : (p : Pending) (front line : List ℕ) (o : Option (List Token)) → Stands p front → Stops p line → LexedIs o line → LexedIs (and_after (flushed p) o) (front ++ line)
+finished : (p : Pending) (front line : List ℕ) (o : Option (List Token)) → Stands p front → Stops p line → LexedIs o line
+    → LexedIs (and_after (flushed p) o) (front ++ line)
 finished p front line None h s d = subst (λ z. LexedIs z (front ++ line)) (sym (refused_after (flushed p))) tt
 finished p front line (Some ts) h s d = finishes p front line ts h s d
 
 -- a byte goes on with what is pending, or begins something behind it
-turned : (p : Pending) (front : List ℕ) (b : ℕ) (bs : List ℕ) → Stands p front → (g n : Option Pending) → (g ≡ None → grown p b ≡ None) → StandsIn g (front ++ b ∷ []) → StandsIn n (b ∷ [])
+turned : (p : Pending) (front : List ℕ) (b : ℕ) (bs : List ℕ) → Stands p front
+    → (g n : Option Pending) → (g ≡ None → grown p b ≡ None) → StandsIn g (front ++ b ∷ []) → StandsIn n (b ∷ [])
     → ((q : Pending) (f : List ℕ) → Stands q f → LexedIs (tokens_from q bs) (f ++ bs)) → LexedIs (after_byte p g n bs) (front ++ b ∷ bs)
 turned p front b bs h (Some q) n e k l more = subst (λ z. LexedIs (tokens_from q bs) z) (append_assoc front (b ∷ []) bs) (more q (front ++ b ∷ []) k)
 turned p front b bs h None None e k l more = tt
@@ -279,11 +299,14 @@ found_of : (o : Option (Vec Token)) (line : List ℕ) → tokens_in o ≡ tokens
 found_of None line q = tt
 found_of (Some ts) line q = subst (λ o. LexedIs o line) (sym q) (read_is line)
 
-pub found : (r : Result (Option (Vec Token)) AllocError) (line : List ℕ) → IfOk r (λ o. tokens_in o ≡ tokens_of line) → IfOk r (λ o. IfSome o (λ ts. Lexes line ts.items))
+-- the same of the code's result, unless memory ran out
+pub found : (r : Result (Option (Vec Token)) AllocError) (line : List ℕ) → IfOk r (λ o. tokens_in o ≡ tokens_of line)
+    → IfOk r (λ o. IfSome o (λ ts. Lexes line ts.items))
 found (Ok o) line h = found_of o line h
 found (Err e) line h = tt
 
 -- the line's tokens are what the code has read
-pub only : (r : Result (Option (Vec Token)) AllocError) (line : List ℕ) → IfOk r (λ o. tokens_in o ≡ tokens_of line) → IfOk r (λ o. (ts : List Token) → Lexes line ts → tokens_in o ≡ Some ts)
+pub only : (r : Result (Option (Vec Token)) AllocError) (line : List ℕ) → IfOk r (λ o. tokens_in o ≡ tokens_of line)
+    → IfOk r (λ o. (ts : List Token) → Lexes line ts → tokens_in o ≡ Some ts)
 only (Ok o) line h = λ ts d. h ∙ lexed d
 only (Err e) line h = tt

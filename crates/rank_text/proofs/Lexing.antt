@@ -3,11 +3,13 @@
 -- Where a byte doesn't go on with what is pending, or the line ends, the tokens are
 -- the one that is pending and those of the rest (`stops`). A word and a number grow
 -- to the end of their runs (`word_run`, `digits_run`), however much of them is kept.
-use Rattle.std.proofs.Common.{◌≡◌, ℕ, zero, suc, ◌+◌, ◌-◌, ◌*◌, ◌^◌, min, Bool, true, false, List, [], ◌∷◌, ◌++◌, take, Option, Some, None, refl, ap, ◌∙◌, sym, append_assoc, append-nil, arith}
+use Rattle.std.proofs.Common.{◌≡◌, ℕ, zero, suc, ◌+◌, ◌-◌, ◌*◌, ◌^◌, min, Bool, true, false, List, [], ◌∷◌, ◌++◌, take, Option, Some, None}
+use Rattle.std.proofs.Common.{refl, ap, ◌∙◌, sym, append_assoc, append-nil, arith}
 use Rattle.std.specs.Prelude.{nat_eq, if◌then◌else◌}
 use Rattle.std.proofs.lemmas.Bool.Decides.{nat_tests}
 use Rattle.rank_text.specs.declared.token.Token.{Token}
-use Rattle.rank_text.specs.Tokens.{is_letter, is_digit, is_word_byte, with_digit, Pending, nothing, word, digits, sign, whole, flushed, begun, grown, and_after, tokens_from}
+use Rattle.rank_text.specs.Tokens.{is_letter, is_digit, is_word_byte, with_digit, Pending, nothing, word, digits, sign, whole}
+use Rattle.rank_text.specs.Tokens.{flushed, begun, grown, and_after, tokens_from}
 use Rattle.rank_text.specs.Lexes.{AllAre, StopsAt, value_behind}
 
 -- no tokens before some
@@ -46,6 +48,7 @@ abbrev pub Stops : Pending → List ℕ → Type 0
 Stops p [] = Unit {0}
 Stops p (b ∷ bs) = grown p b ≡ None
 
+-- a byte that what is pending doesn't go on with is read as from the beginning, behind the pending token
 begun_after : (p : Pending) (n : Option Pending) (bs : List ℕ) → after_byte p None n bs ≡ and_after (flushed p) (after_byte nothing None n bs)
 begun_after p None bs = sym (refused_after (flushed p))
 begun_after p (Some q) bs = ap (λ o. and_after (flushed p) o) (sym (none_before (tokens_from q bs)))
@@ -78,7 +81,8 @@ take_push (suc n) (x ∷ xs) y = ap (λ z. x ∷ z) (take_push n xs y)
 pub word_run : (w front line : List ℕ) → AllAre is_word_byte w → tokens_from (word (take 17 front)) (w ++ line) ≡ tokens_from (word (take 17 (front ++ w))) line
 word_run [] front line h = ap (λ z. tokens_from (word (take 17 z)) line) (sym (append-nil front))
 word_run (b ∷ w) front line h =
-    goes_on (word (take 17 front)) (word (take 17 (take 17 front ++ b ∷ []))) b (w ++ line) (kept_where (is_word_byte b) (word (take 17 (take 17 front ++ b ∷ []))) h.0)
+    goes_on (word (take 17 front)) (word (take 17 (take 17 front ++ b ∷ []))) b (w ++ line)
+    (kept_where (is_word_byte b) (word (take 17 (take 17 front ++ b ∷ []))) h.0)
     ∙ ap (λ z. tokens_from (word z) (w ++ line)) (take_push 17 front b)
     ∙ word_run w (front ++ b ∷ []) line h.1
     ∙ ap (λ z. tokens_from (word (take 17 z)) line) (append_assoc front (b ∷ []) w)
@@ -88,10 +92,12 @@ pub min_digit : (n d limit : ℕ) → min (10 * min n limit + d) limit ≡ min (
 min_digit n d limit = omega arith
 
 -- a number goes on to the end of its digits
-pub digits_run : (ds : List ℕ) (n : ℕ) (line : List ℕ) → AllAre is_digit ds → tokens_from (digits (min n (2 ^ 63))) (ds ++ line) ≡ tokens_from (digits (min (value_behind n ds) (2 ^ 63))) line
+pub digits_run : (ds : List ℕ) (n : ℕ) (line : List ℕ) → AllAre is_digit ds
+    → tokens_from (digits (min n (2 ^ 63))) (ds ++ line) ≡ tokens_from (digits (min (value_behind n ds) (2 ^ 63))) line
 digits_run [] n line h = refl
 digits_run (d ∷ ds) n line h =
-    goes_on (digits (min n (2 ^ 63))) (digits (with_digit (min n (2 ^ 63)) d)) d (ds ++ line) (kept_where (is_digit d) (digits (with_digit (min n (2 ^ 63)) d)) h.0)
+    goes_on (digits (min n (2 ^ 63))) (digits (with_digit (min n (2 ^ 63)) d)) d (ds ++ line)
+    (kept_where (is_digit d) (digits (with_digit (min n (2 ^ 63)) d)) h.0)
     ∙ ap (λ z. tokens_from (digits z) (ds ++ line)) (min_digit n (d - 48) (2 ^ 63))
     ∙ digits_run ds (10 * n + (d - 48)) line h.1
 

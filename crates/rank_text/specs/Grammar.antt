@@ -1,7 +1,8 @@
 -- Which tokens spell which expression (the language's own manual, docs/LANGUAGE.md).
 use Rattle.std.specs.Prelude.{◌≡◌, ℕ, List, [], ◌∷◌, ◌++◌}
 use Rattle.rank_text.specs.declared.token.Operator.{Operator}
-use Rattle.rank_text.specs.declared.token.Operator.TheVariants.{Add, Subtract, Multiply, Divide, Remainder, Equal, NotEqual, Less, LessEqual, Greater, GreaterEqual}
+use Rattle.rank_text.specs.declared.token.Operator.TheVariants.{Add, Subtract, Multiply, Divide, Remainder}
+use Rattle.rank_text.specs.declared.token.Operator.TheVariants.{Equal, NotEqual, Less, LessEqual, Greater, GreaterEqual}
 use Rattle.rank_text.specs.declared.token.Reading.{Reading}
 use Rattle.rank_text.specs.declared.token.Strength.{Strength}
 use Rattle.rank_text.specs.declared.token.Strength.TheVariants.{Compares, Adds, Multiplies}

@@ -3,7 +3,8 @@
 -- `Spells` says the same as a grammar. The reader has a stack of its own, so nesting costs no recursion.
 use Rattle.std.specs.Prelude.{ℕ, zero, suc, List, [], ◌∷◌, Option, Some, None}
 use Rattle.rank_text.specs.declared.token.Operator.{Operator}
-use Rattle.rank_text.specs.declared.token.Operator.TheVariants.{Add, Subtract, Multiply, Divide, Remainder, Equal, NotEqual, Less, LessEqual, Greater, GreaterEqual}
+use Rattle.rank_text.specs.declared.token.Operator.TheVariants.{Add, Subtract, Multiply, Divide, Remainder}
+use Rattle.rank_text.specs.declared.token.Operator.TheVariants.{Equal, NotEqual, Less, LessEqual, Greater, GreaterEqual}
 use Rattle.rank_text.specs.declared.token.Strength.{Strength}
 use Rattle.rank_text.specs.declared.token.Strength.TheVariants.{Compares, Adds, Multiplies}
 use Rattle.rank_text.specs.declared.token.Token.{Token}

@@ -7,8 +7,9 @@ use Rattle.rank_text.specs.declared.form.Choice as source_choice
 use Rattle.rank_text.specs.declared.form.Payload as source_payload
 use Rattle.rank_text.specs.declared.form.Form as source_form
 use Rattle.rank_text.specs.Tree.{tree_of}
-use Rattle.rank_text.specs.Forms.{Choice, any, value, Payload, lone, one, Form, var_form, array_form, let_form, item_form, if_form, else_form, end_form, while_form, send_form, recv_form, probe_form, try_probe_form, print_form}
-use Rattle.rank_text.specs.Forms.{barrier_form, bcast_form, reduce_form}
+use Rattle.rank_text.specs.Forms.{Choice, any, value, Payload, lone, one}
+use Rattle.rank_text.specs.Forms.{Form, var_form, array_form, let_form, item_form, if_form, else_form, end_form, while_form}
+use Rattle.rank_text.specs.Forms.{send_form, recv_form, probe_form, try_probe_form, print_form, barrier_form, bcast_form, reduce_form}
 
 -- a source or a tag
 abbrev pub choice_of : source_choice.Choice → Choice

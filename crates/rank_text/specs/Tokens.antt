@@ -4,7 +4,8 @@
 use Rattle.std.specs.Prelude.{ℕ, ◌+◌, ◌-◌, ◌*◌, ◌^◌, min, List, [], ◌∷◌, ◌++◌, Bool, ◌&&◌, ◌||◌, nat_eq, nat_le, take, codes, Option, Some, None, if◌then◌else◌}
 use Rattle.std.specs.Str.{bytes_eq}
 use Rattle.rank_text.specs.Name.{kept_bytes}
-use Rattle.rank_text.specs.declared.token.Operator.TheVariants.{Add, Subtract, Multiply, Divide, Remainder, Equal, NotEqual, Less, LessEqual, Greater, GreaterEqual}
+use Rattle.rank_text.specs.declared.token.Operator.TheVariants.{Add, Subtract, Multiply, Divide, Remainder}
+use Rattle.rank_text.specs.declared.token.Operator.TheVariants.{Equal, NotEqual, Less, LessEqual, Greater, GreaterEqual}
 use Rattle.rank_text.specs.declared.token.Reading.TheVariants as reads
 use Rattle.rank_text.specs.declared.token.Reduction.TheVariants as reduces
 use Rattle.rank_text.specs.declared.token.Keyword.TheVariants as k

@@ -3,8 +3,10 @@
 ghost use Rattle.std.specs.Prelude.{◌≡◌, List, IfOk, IfSome, Some};
 ghost use Rattle.rank_text.specs.declared.token.Token.{Token};
 ghost use Rattle.rank_text.specs.Forms as forms;
-ghost use Rattle.rank_text.specs.Forms.{IsForm, comma, bracket_assign, bare, lone_name, choice_at, whole_choice, payload_of, var_of, array_of, let_of, item_of, if_of, while_of, send_of, recv_of, probe_of, try_probe_of, print_of, form_with, form_of};
-ghost use Rattle.rank_text.specs.Forms.{bcast_of, reduced_of, reduce_of};
+ghost use Rattle.rank_text.specs.Forms.{IsForm, comma, bracket_assign, bare, lone_name, choice_at, whole_choice, payload_of};
+ghost use Rattle.rank_text.specs.Forms.{var_of, array_of, let_of, item_of, if_of, while_of};
+ghost use Rattle.rank_text.specs.Forms.{send_of, recv_of, probe_of, try_probe_of, print_of, bcast_of, reduced_of, reduce_of};
+ghost use Rattle.rank_text.specs.Forms.{form_with, form_of};
 ghost use Rattle.rank_text.specs.SeenForms.{form_in, form_seen, payload_in, choice_in, whole_choice_in, rest_in, lone_in};
 
 use crate::form::{Choice, Form, Payload};

@@ -3,7 +3,8 @@
 ghost use Rattle.std.specs.Prelude.{◌≡◌, ℕ, List, ◌∷◌, IfOk, IfSome, Some};
 ghost use Rattle.rank_text.specs.declared.token.Token as token;
 ghost use Rattle.rank_text.specs.Lexes.{Lexes};
-ghost use Rattle.rank_text.specs.Tokens.{is_letter, is_digit, is_word_byte, is_sign, with_digit, word_or_name, lone_sign, with_equal, single, listed, begun, grown, flushed, and_after, tokens_from, tokens_of};
+ghost use Rattle.rank_text.specs.Tokens.{is_letter, is_digit, is_word_byte, is_sign, with_digit, word_or_name, lone_sign, with_equal, single, listed};
+ghost use Rattle.rank_text.specs.Tokens.{begun, grown, flushed, and_after, tokens_from, tokens_of};
 ghost use Rattle.rank_text.specs.SeenTokens.{pending_of, pending_in, flush_of, from_next, tokens_in};
 
 use crate::name::Name;

@@ -4,7 +4,8 @@
 ghost use Rattle.std.specs.Prelude.{◌≡◌, ◌<◌, ◌^◌, ◌-◌, IfOk, IfSome, Some, List, [], ◌∷◌, length};
 ghost use Rattle.rank_text.specs.Tree.{Tree, tree_of};
 ghost use Rattle.rank_text.specs.Grammar.{strength, Spells, whole};
-ghost use Rattle.rank_text.specs.Reader.{join, negate, fresh, arrive, all_of, wants, has, close, operate, next, end_tree, with_rest, expression_at, whole_expression};
+ghost use Rattle.rank_text.specs.Reader.{join, negate, fresh, arrive, all_of, wants, has, close, operate};
+ghost use Rattle.rank_text.specs.Reader.{next, end_tree, with_rest, expression_at, whole_expression};
 ghost use Rattle.rank_text.specs.declared.reader.Bracket.{Bracket};
 ghost use Rattle.rank_text.specs.declared.token.Token.{Token};
 ghost use Rattle.rank_text.specs.declared.reader.Level.{Level};
