@@ -39,10 +39,13 @@ follows P (Err k) f h = tt
 pub selects : (s : Store) (c t : Choice) → IfOk (selector_of s c t) (λ w. w.context ≡ PointToPoint)
 selects s c t =
     let P : Selector → Type 0 = λ w. w.context ≡ PointToPoint in
-    follows P (choice_value s c) _ (λ x. follows P (choice_value s t) _ (λ y. follows P (where_named (rank_in s.size) x) _ (λ source. follows P (where_named tag_in y) _ (λ tag. refl))))
+    follows P (choice_value s c) _
+    (λ x. follows P (choice_value s t) _
+    (λ y. follows P (where_named (rank_in s.size) x) _ (λ source. follows P (where_named tag_in y) _ (λ tag. refl))))
 
 -- what asks for nothing but its own selector, or faults
-asked_by : (v : Valued Selector) (f : Selector → Want) → IfOk v (λ w. w.context ≡ PointToPoint) → ((w : Selector) → w.context ≡ PointToPoint → IsBetween (f w)) → IsBetween (or_fault (v >>= (λ w. Ok (f w))))
+asked_by : (v : Valued Selector) (f : Selector → Want) → IfOk v (λ w. w.context ≡ PointToPoint)
+    → ((w : Selector) → w.context ≡ PointToPoint → IsBetween (f w)) → IsBetween (or_fault (v >>= (λ w. Ok (f w))))
 asked_by (Ok w) f h g = g w h
 asked_by (Err k) f h g = tt
 
@@ -68,7 +71,9 @@ wants_between s (plain (declare_array p) r) None = tt
 wants_between s (plain (assign p e) r) None = unasked (value s e) _ (λ z. tt)
 wants_between s (plain (assign_item p i e) r) None = unasked (item_value s p i e) _ (λ x. tt)
 wants_between s (plain (send d t p) r) None =
-    unasked (value s d) _ (λ x. unasked (value s t) _ (λ y. unasked (items_of s p) _ (λ items. unasked (rank_in s.size x) _ (λ dest. unasked (tag_in y) _ (λ tag. tt)))))
+    unasked (value s d) _
+    (λ x. unasked (value s t) _
+    (λ y. unasked (items_of s p) _ (λ items. unasked (rank_in s.size x) _ (λ dest. unasked (tag_in y) _ (λ tag. tt)))))
 wants_between s (plain (receive c t b) r) None = asked_by (selector_of s c t) want.Receive (selects s c t) (λ w h. tt)
 wants_between s (plain (probe c t) r) None = asked_by (selector_of s c t) want.Probe (selects s c t) (λ w h. h)
 wants_between s (plain (try_probe c t x) r) None = asked_by (selector_of s c t) want.TryProbe (selects s c t) (λ w h. h)

@@ -24,11 +24,14 @@ pub single : (kind : Kind) (root n r : ℕ) → n ≡ 1 → parts kind root n r 
 single kind root n r e = rw (eq-eqb n 1 e) refl
 
 -- A reception of a broadcast is its one part, and from its root.
-pub broadcast_gets : (root n r i q : ℕ) → slice_get (parts broadcasts root n r) i ≡ Some (gets q) → (i ≡ 0) × (q ≡ root) × (length (parts broadcasts root n r) ≡ 1)
+pub broadcast_gets : (root n r i q : ℕ) → slice_get (parts broadcasts root n r) i ≡ Some (gets q)
+    → (i ≡ 0) × (q ≡ root) × (length (parts broadcasts root n r) ≡ 1)
 broadcast_gets root n r i q e = by_size (cases_eq n 1)
   where
     by_size : (n ≡ 1) ⊎ (n ≡ 1 → ⊥) → (i ≡ 0) × (q ≡ root) × (length (parts broadcasts root n r) ≡ 1)
-    by_size (inl one) = absurd (let f : slice_get (ends ∷ []) i ≡ Some (gets q) = rw (single broadcasts root n r one) at e in let l = lone ends (gets q) i f in (let h = l.1 in cc))
+    by_size (inl one) =
+        absurd (let f : slice_get (ends ∷ []) i ≡ Some (gets q) = rw (single broadcasts root n r one) at e in
+        let l = lone ends (gets q) i f in (let h = l.1 in cc))
     by_size (inr ne) = by_root (cases_eq r root)
       where
         by_root : (r ≡ root) ⊎ (r ≡ root → ⊥) → (i ≡ 0) × (q ≡ root) × (length (parts broadcasts root n r) ≡ 1)
@@ -42,7 +45,9 @@ pub reduce_gives : (f : Reduction) (root n r i d : ℕ) → slice_get (parts (fo
 reduce_gives f root n r i d e = by_size (cases_eq n 1)
   where
     by_size : (n ≡ 1) ⊎ (n ≡ 1 → ⊥) → i + 1 ≡ length (parts (folds f) root n r)
-    by_size (inl one) = absurd (let g : slice_get (ends ∷ []) i ≡ Some (gives d) = rw (single (folds f) root n r one) at e in let l = lone ends (gives d) i g in (let h = l.1 in cc))
+    by_size (inl one) =
+        absurd (let g : slice_get (ends ∷ []) i ≡ Some (gives d) = rw (single (folds f) root n r one) at e in
+        let l = lone ends (gives d) i g in (let h = l.1 in cc))
     by_size (inr ne) = by_root (cases_eq r root)
       where
         by_root : (r ≡ root) ⊎ (r ≡ root → ⊥) → i + 1 ≡ length (parts (folds f) root n r)
@@ -59,7 +64,12 @@ barrier_gets n s ne l m nz =
     let w = within_at (others 0 0 n) p.0 s p.1 in
     let there = longer_at (map gets (others 0 0 n)) (map gives (others 0 0 n)) p.0 (gets s) (mapped_at gets (others 0 0 n) p.0 s p.1) in
     let longer : length (parts barriers 0 n 0) ≡ length (others 0 0 n) + length (others 0 0 n) =
-    rw (many barriers 0 n 0 ne, length-append (map gets (others 0 0 n)) (map gives (others 0 0 n)), length-map (others 0 0 n) gets, length-map (others 0 0 n) gives) refl in (
+    rw (
+      many barriers 0 n 0 ne,
+      length-append (map gets (others 0 0 n)) (map gives (others 0 0 n)),
+      length-map (others 0 0 n) gets,
+      length-map (others 0 0 n) gives,
+    ) refl in (
       p.0,
       rw (many barriers 0 n 0 ne) there,
       rw longer (omega (arith, w)),
@@ -174,7 +184,8 @@ broadcast_ends root n r i e = by_size (cases_eq n 1)
     by_size (inr ne) = by_root ne (cases_eq r root)
 
 -- the last part of a reduce's root is its own step
-pub reduce_last : (f : Reduction) (n r i : ℕ) (p : Part) → r < n → slice_get (parts (folds f) r n r) i ≡ Some p → i + 1 ≡ length (parts (folds f) r n r) → p ≡ ends
+pub reduce_last : (f : Reduction) (n r i : ℕ) (p : Part) → r < n → slice_get (parts (folds f) r n r) i ≡ Some p
+    → i + 1 ≡ length (parts (folds f) r n r) → p ≡ ends
 reduce_last f n r i p l e last =
     let len = reduce_length f n r l in
     let m = length_others r 0 n (omega arith) (omega (arith, l)) in

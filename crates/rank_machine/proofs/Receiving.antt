@@ -1,5 +1,6 @@
 -- What a machine is after a reception, and that it stands for the state after it.
-use Rattle.std.proofs.Common.{◌≡◌, ℕ, ℤ, ◌+◌, ◌<◌, ◌≤◌, Bool, true, false, List, [], ◌∷◌, Ok, Err, Option, Some, None, IfOk, length, map, refl, sym, ap, subst, ◌∙◌, arith, if◌then◌else◌}
+use Rattle.std.proofs.Common.{◌≡◌, ℕ, ℤ, ◌+◌, ◌<◌, ◌≤◌, Bool, true, false, List, [], ◌∷◌, Ok, Err, Option}
+use Rattle.std.proofs.Common.{Some, None, IfOk, length, map, refl, sym, ap, subst, ◌∙◌, arith, if◌then◌else◌}
 use Rattle.std.specs.Prelude.{nat_le}
 use Rattle.std.proofs.lemmas.List.{length-set}
 use Rattle.std.proofs.lemmas.Bool.Decides.{nat_tests}
@@ -20,7 +21,8 @@ use Rattle.rank_machine.specs.Collectives.{Call, Part, gives, gets, ends, part_o
 use Rattle.rank_machine.specs.Calling.{head_of, call_of}
 use Rattle.rank_machine.specs.States.{State}
 use Rattle.rank_machine.specs.Wants.{selector_of, part_want, receive_want, or_fault, want_of}
-use Rattle.rank_machine.specs.Acts.{Act, Message, carried, takes, room, written, with_status, received, kept, fitting, items_taken, part_taken, collected, after_first, unless_faulted, next}
+use Rattle.rank_machine.specs.Acts.{Act, Message, carried, takes, room, written, with_status, received, kept}
+use Rattle.rank_machine.specs.Acts.{fitting, items_taken, part_taken, collected, after_first, unless_faulted, next}
 use Rattle.rank_machine.specs.Machine.{MachineValue, state_of, line_at, asked, asks, IsReceiving, IsAtLine, IsMachine}
 use Rattle.rank_machine.proofs.Lines.{never}
 use Rattle.rank_machine.proofs.Making.{named}
@@ -29,7 +31,8 @@ use Rattle.rank_machine.proofs.Calls.{bound_ok}
 use Rattle.rank_machine.proofs.Going.{after_part, remains_after}
 use Rattle.rank_machine.proofs.Outcomes.{fitting_same}
 use Rattle.rank_machine.proofs.Stages.{taken_stage}
-use Rattle.rank_machine.proofs.Acting.{IsCalling, no_fault, calls, call_stage, IsPart, Leaves, part_within, part_ahead, part_is, same_line, Shows, plain_machine}
+use Rattle.rank_machine.proofs.Acting.{IsCalling, no_fault, calls, call_stage, IsPart, Leaves, part_within}
+use Rattle.rank_machine.proofs.Acting.{part_ahead, part_is, same_line, Shows, plain_machine}
 
 -- what a receive statement names is between two ranks, so the message that it takes has few items
 selected_few : (v : Valued Selector) (m : packet.Message) → IsMessage m → IfOk v (λ w. w.context ≡ PointToPoint)
@@ -317,7 +320,8 @@ taken_machine m n c call p items s last v h i w e g variables lengths f =
 -- and it stands for the state after that
 pub taken_state : (m n : MachineValue) (c : Collective) (call : Call) (p : packet.Message) (items : List ℤ) (s : Store) (last : Bool) → m ≡ n
     → IsPart m c call → IsReceiving (asks n) p → items_taken m.store c call p.items ≡ Ok items → s ≡ passed (kept c items m.store) call
-    → is_last m.store call ≡ last → (place : ℕ) → state_of (record m { store = s; position = after_part last m.position }) ≡ next (state_of n) (takes p.source place) (Some (carried p))
+    → is_last m.store call ≡ last → (place : ℕ)
+    → state_of (record m { store = s; position = after_part last m.position }) ≡ next (state_of n) (takes p.source place) (Some (carried p))
 taken_state m n c call p items s last v i w e g f place =
     let o = m.store in
     let t = is_last o call in
