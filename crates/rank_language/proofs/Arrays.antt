@@ -102,6 +102,7 @@ declared_there s x n fs h p q =
     ∙ ap (λ z. slice_index_or z (length s.arrays) ([], 0)) all
     ∙ at_behind s.arrays bs (x, n)
 
+-- a statement that may stand: an array that it declares stands at its place behind all statements
 stands_there : (s : Scope) (f : Form) (fs : List Form) → MayStand s f → ArrayStands (after_all (after s f) fs) f
 stands_there s (var_form x) fs h = tt
 stands_there s (array_form x n) fs h = declared_there s x n fs h
@@ -120,6 +121,7 @@ stands_there s barrier_form fs h = tt
 stands_there s (bcast_form r x) fs h = tt
 stands_there s (reduce_form o r e x) fs h = tt
 
+-- and so does the array of each statement in turn, whatever the tables in front hold
 stand_from : (s : Scope) (fs : List Form) → AllMayStand s fs → AllArraysStand (after_all s fs) fs
 stand_from s [] h = tt
 stand_from s (f ∷ fs) h = (stands_there s f fs h.0, stand_from (after s f) fs h.1)

@@ -60,9 +60,11 @@ part_between s c call (gives d) = tt
 part_between s c call (gets q) = tt
 part_between s c call ends = unasked (ended s c call) _ (λ s'. tt)
 
+-- so whatever its call and its part are, a collective asks for no probe
 collective_between : (s : Store) (c : Collective) → IsBetween (or_fault (collective_want s c))
 collective_between s c = unasked (called s c) _ (λ call. part_between s c call (part_of s call))
 
+-- whatever a state asks for, a probe looks only for messages between two ranks
 wants_between : (s : Store) (b : Block) (k : Option MachineFault) → IsBetween (want_of s b k)
 wants_between s b (Some k) = tt
 wants_between s done None = tt
@@ -92,6 +94,7 @@ pub record IsFew (m : packet.Message) : Type 0 where
 pub few : (m : packet.Message) → IsMessage m → m.context ≡ PointToPoint → IsFew m
 few m h e = record { tag = subst (λ c. m.tag ≤ greatest_tag c) e h.tag; count = subst (λ c. length m.items ≤ most_items c) e h.most }
 
+-- so a message that is shown to a probe, or to a try of one, is within those limits
 shown_of : (w : Want) (m : packet.Message) → IsMessage m → IsBetween w → IsShowing w m → IsFew m
 shown_of (want.Probe w) m h b i = few m h ((named w m i).0 ∙ b)
 shown_of (want.TryProbe w) m h b i = few m h ((named w m i).0 ∙ b)

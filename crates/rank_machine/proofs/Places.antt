@@ -11,6 +11,7 @@ lone : {A : Type 0} (x y : A) (i : ℕ) → slice_get (x ∷ []) i ≡ Some y �
 lone x y zero e = (refl, cc)
 lone x y (suc i) e = absurd cc
 
+-- no reception stands among sends
 no_gets : (xs : List ℕ) (i q : ℕ) → slice_get (map gives xs) i ≡ Some (gets q) → ⊥
 no_gets [] i q e = cc
 no_gets (x ∷ xs) zero q e = cc
@@ -20,6 +21,7 @@ no_gets (x ∷ xs) (suc i) q e = no_gets xs i q e
 pub many : (kind : Kind) (root n r : ℕ) → (n ≡ 1 → ⊥) → parts kind root n r ≡ parts_among kind root n r
 many kind root n r ne = rw (ne_eqb n 1 ne) refl
 
+-- a single rank has nothing but the step of its own
 pub single : (kind : Kind) (root n r : ℕ) → n ≡ 1 → parts kind root n r ≡ ends ∷ []
 single kind root n r e = rw (eq-eqb n 1 e) refl
 
@@ -98,6 +100,7 @@ reduce_root f n r l = by_size (cases_eq n 1)
         empty_list (x ∷ xs) e = absurd (omega (arith, e))
     by_size (inr ne) = rw (many (folds f) r n r ne, eq-eqb r r refl) refl
 
+-- so the root has as many parts as there are ranks
 pub reduce_length : (f : Reduction) (n r : ℕ) → r < n → length (parts (folds f) r n r) ≡ n
 reduce_length f n r l =
     let e = length_others r 0 n (omega arith) (omega (arith, l)) in
@@ -107,16 +110,19 @@ reduce_length f n r l =
 pub reduce_gets : (f : Reduction) (n r i s : ℕ) → r < n → slice_get (others r 0 n) i ≡ Some s → slice_get (parts (folds f) r n r) i ≡ Some (gets s)
 reduce_gets f n r i s l e = rw (reduce_root f n r l) (longer_at (map gets (others r 0 n)) (ends ∷ []) i (gets s) (mapped_at gets (others r 0 n) i s e))
 
+-- no step of the rank's own stands among sends
 no_ends : (xs : List ℕ) (i : ℕ) → slice_get (map gives xs) i ≡ Some ends → ⊥
 no_ends [] i e = cc
 no_ends (x ∷ xs) zero e = cc
 no_ends (x ∷ xs) (suc i) e = no_ends xs i e
 
+-- nor among receptions with sends behind them
 no_ends_behind : (xs ys : List ℕ) (i : ℕ) → slice_get (map gets xs ++ map gives ys) i ≡ Some ends → ⊥
 no_ends_behind [] ys i e = no_ends ys i e
 no_ends_behind (x ∷ xs) ys zero e = cc
 no_ends_behind (x ∷ xs) ys (suc i) e = no_ends_behind xs ys i e
 
+-- behind the receptions of a reduce's root its own step stands last
 ends_place : (xs : List ℕ) (i : ℕ) → slice_get (map gets xs ++ ends ∷ []) i ≡ Some ends → i ≡ length xs
 ends_place [] zero e = refl
 ends_place [] (suc i) e = absurd cc

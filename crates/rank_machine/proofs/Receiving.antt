@@ -47,6 +47,7 @@ pub record IsTaking (m : MachineValue) (c t : Choice) (b : Buffer) (p : packet.M
   pub fault : m.fault ≡ None
   pub few : IsFew p
 
+-- a machine that asks for a message at a receive statement has no fault, and takes a message between two ranks
 taking : (m : MachineValue) (c t : Choice) (b : Buffer) (p : packet.Message) → IsMessage p → IsAtLine m → line_at m ≡ Some (simple_line (receive c t b))
     → IsReceiving (asks m) p → IsTaking m c t b p
 taking m c t b p h l at i =
@@ -123,6 +124,7 @@ pub record Writes (s s' : Store) : Type 0 where
   pub gathered : s'.gathered ≡ s.gathered
   pub variables : length s'.variables ≡ length s.variables
 
+-- a written buffer changes one variable or one array at most, and nothing else
 writes : (b : Buffer) (items : List ℤ) (s : Store) → Writes s (written b items s)
 writes (into_variable p) [] s =
     record { rank = refl; size = refl; source = refl; tag = refl; count = refl; finished = refl; done = refl; gathered = refl; variables = refl }
@@ -184,6 +186,7 @@ record IsGetting (m : MachineValue) (call : Call) : Type 0 where
   source : ℕ
   part : part_of m.store call ≡ gets source
 
+-- a machine that asks for a message at a collective has no fault, and its part gets
 getting : (m n : MachineValue) (c : Collective) (call : Call) (p : packet.Message) → m ≡ n → IsPart m c call → IsReceiving (asks n) p → IsGetting m call
 getting m n c call p v i w =
     let P : MachineValue → Type 0 = λ z. IsReceiving (asks z) p in
@@ -237,6 +240,7 @@ mismatched call (x ∷ (y ∷ (z ∷ items))) k e = by_test _ e
     by_test true e = absurd cc
     by_test false e = (let q : CollectiveMismatch ≡ k = cc in subst (λ z. IsLeft (Some z)) q tt)
 
+-- what items that don't fit leave as a fault
 unfit : (s : Store) (c : Collective) (xs : List ℤ) (k : MachineFault) → fitting s c xs ≡ Err k → IsLeft (Some k)
 unfit s barrier xs k e = absurd cc
 unfit s (broadcast x b) xs k e = by_test _ e
@@ -246,6 +250,7 @@ unfit s (broadcast x b) xs k e = by_test _ e
     by_test false e = (let q : TooLong ≡ k = cc in subst (λ z. IsLeft (Some z)) q tt)
 unfit s (reduce f x v p) xs k e = absurd cc
 
+-- so a packet is refused by its header or for items that don't fit
 refused : (s : Store) (c : Collective) (call : Call) (packet : List ℤ) (v : Valued (List ℤ)) (k : MachineFault) → given_by call packet ≡ v
     → (v >>= (λ items. fitting s c items)) ≡ Err k → IsLeft (Some k)
 refused s c call packet (Ok xs) k g e = unfit s c xs k e

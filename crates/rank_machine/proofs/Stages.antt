@@ -46,6 +46,7 @@ more_parts s call l e =
     let ne = eqb-false (s.done + 1) (length (parts_of s call)) e in
     grind (arith, l, ne)
 
+-- such a part doesn't stand at the last place
 never_last : (s : Store) (call : Call) → is_last s call ≡ false → s.done + 1 ≡ length (parts_of s call) → ⊥
 never_last s call e h = eqb-false (s.done + 1) (length (parts_of s call)) e h
 
@@ -105,6 +106,7 @@ same_call : (s s' : Store) (c : Collective) (call : Call) → called s c ≡ Ok 
     → call_at s' o ≡ Some call
 same_call s s' c call e same o at = rw (at, same, e) refl
 
+-- behind the last part no part is done; behind another one the call stays, at its next part
 by_last : (s s' : Store) (c : Collective) (call : Call) (last : Bool) (o : Option Line) → is_last s' call ≡ last → s'.rank < s'.size
     → (last ≡ false → o ≡ Some (simple_line (collect c)))
     → (last ≡ false → HasStage (record s' { done = s'.done + 1 }) (Some call))
@@ -127,6 +129,7 @@ kept_last s (broadcast e (into_variable p)) call (x ∷ items) = refl
 kept_last s (broadcast e (into_array p)) call items = refl
 kept_last s (reduce f e v p) call items = refl
 
+-- so the rank stays below the size
 kept_below : (s : Store) (c : Collective) (items : List ℤ) → s.rank < s.size → (kept c items s).rank < (kept c items s).size
 kept_below s barrier items l = l
 kept_below s (broadcast e (into_variable p)) [] l = l
