@@ -21,10 +21,8 @@ behind_from [] bs x n i h =
     ap (λ b. cond b (Some i) (position_from (λ y. bytes_eq y x) (i + 1) (map (λ a. a.0) bs))) ((bytes_eq-Decides x x).1 refl)
     ∙ ap Some (let e : i ≡ i + 0 = omega arith in e)
 behind_from (a ∷ as') bs x n i h =
-    elim (bytes_eq a.0 x) as
-    (λ b. (b || is_name_in (map (λ z. z.0) as') x) ≡ false
-    → cond b (Some i) (position_from (λ y. bytes_eq y x) (i + 1) (map (λ z. z.0) (as' ++ (x, n) ∷ bs)))
-    ≡ Some (i + suc (length as'))) [
+    elim (bytes_eq a.0 x) as (λ b. (b || is_name_in (map (λ z. z.0) as') x) ≡ false
+    → cond b (Some i) (position_from (λ y. bytes_eq y x) (i + 1) (map (λ z. z.0) (as' ++ (x, n) ∷ bs))) ≡ Some (i + suc (length as'))) [
       | true ↦ λ q. absurd (cc)
       | false ↦ λ q. (behind_from as' bs x n (i + 1) q ∙ ap Some (let e : (i + 1) + length as' ≡ i + suc (length as') = omega arith in e))
     ] h

@@ -25,8 +25,7 @@ back_from : (names : List (List ℕ)) (x : List ℕ) (i p : ℕ) → position_fr
     → (k : ℕ) × (i + k ≡ p) × (slice_index_or names k [] ≡ x)
 back_from [] x i p h = cc
 back_from (y ∷ ys) x i p h =
-    elim (bytes_eq y x) as
-    (λ b. bytes_eq y x ≡ b → cond b (Some i) (position_from (λ z. bytes_eq z x) (i + 1) ys) ≡ Some p
+    elim (bytes_eq y x) as (λ b. bytes_eq y x ≡ b → cond b (Some i) (position_from (λ z. bytes_eq z x) (i + 1) ys) ≡ Some p
     → (k : ℕ) × (i + k ≡ p) × (slice_index_or (y ∷ ys) k [] ≡ x)) [
       | true ↦ λ e q. (let r : i ≡ p = cc in (0, omega (arith, r), (bytes_eq-Decides y x).0 e))
       | false ↦ λ e q. (let (k, a, b) = back_from ys x (i + 1) p q in (suc k, omega (arith, a), b))

@@ -122,7 +122,7 @@ no_ends_behind [] ys i e = no_ends ys i e
 no_ends_behind (x ∷ xs) ys zero e = cc
 no_ends_behind (x ∷ xs) ys (suc i) e = no_ends_behind xs ys i e
 
--- behind the receptions of a reduce's root its own step stands last
+-- the step of a reduce's root stands nowhere but behind its receptions
 ends_place : (xs : List ℕ) (i : ℕ) → slice_get (map gets xs ++ ends ∷ []) i ≡ Some ends → i ≡ length xs
 ends_place [] zero e = refl
 ends_place [] (suc i) e = absurd cc

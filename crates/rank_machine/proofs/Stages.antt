@@ -102,8 +102,7 @@ taken_on s (reduce f e v z) call q packet items k h p g more =
 
 -- the collective that stands is called in the same way after a part that isn't its last
 same_call : (s s' : Store) (c : Collective) (call : Call) → called s c ≡ Ok call → called s' c ≡ called s c → (o : Option Line)
-    → o ≡ Some (simple_line (collect c))
-    → call_at s' o ≡ Some call
+    → o ≡ Some (simple_line (collect c)) → call_at s' o ≡ Some call
 same_call s s' c call e same o at = rw (at, same, e) refl
 
 -- behind the last part no part is done; behind another one the call stays, at its next part
@@ -139,8 +138,8 @@ kept_below s (reduce f e v p) items l = l
 
 -- the call stays where the part that takes a packet isn't the last
 kept_call : (s : Store) (c : Collective) (call : Call) (q : ℕ) (items : List ℤ) → called s c ≡ Ok call → call.kind ≡ kind_of c
-    → HasStage s (Some call) → part_of s call ≡ gets q
-    → is_last s call ≡ false → (let s' : Store = kept c items s in called (record s' { done = s'.done + 1 }) c ≡ Ok call)
+    → HasStage s (Some call) → part_of s call ≡ gets q → is_last s call ≡ false
+    → (let s' : Store = kept c items s in called (record s' { done = s'.done + 1 }) c ≡ Ok call)
 kept_call s barrier call q items e k h p more = called_same s (s.done + 1) s.gathered barrier ∙ e
 kept_call s (broadcast x b) call q items e k h p more =
     let at : slice_get (parts broadcasts call.root s.size s.rank) s.done ≡ Some (gets q) =
@@ -152,8 +151,8 @@ kept_call s (reduce f x v p) call q items e k h t more = called_same s (s.done +
 
 -- where a machine stands after a reception of a collective
 pub taken_stage : (s : Store) (c : Collective) (call : Call) (q : ℕ) (packet items : List ℤ) (o : Option Line) → s.rank < s.size
-    → called s c ≡ Ok call → HasStage s (Some call)
-    → part_of s call ≡ gets q → given_by call packet ≡ Ok items → (is_last s call ≡ false → o ≡ Some (simple_line (collect c)))
+    → called s c ≡ Ok call → HasStage s (Some call) → part_of s call ≡ gets q → given_by call packet ≡ Ok items
+    → (is_last s call ≡ false → o ≡ Some (simple_line (collect c)))
     → (let s' : Store = passed (kept c items s) call in HasStage s' (call_at s' o))
 taken_stage s c call q packet items o l e h p g at =
     let s' = kept c items s in

@@ -16,8 +16,7 @@ statements_of-requires c =
 
 -- the statements were found by the tables of the text
 found : (c : goal.In_ok-statements)
-    → lines_from (scope_with c.args.draft.variables.items (arrays_seen c.args.draft.arrays.items) []) 0
-    (forms_seen c.args.draft.forms.items)
+    → lines_from (scope_with c.args.draft.variables.items (arrays_seen c.args.draft.arrays.items) []) 0 (forms_seen c.args.draft.forms.items)
     ≡ Some (map line_of c.in_ok-statements.statements.items)
 found c =
     rw (← c.deref.ensures.value, ← c.deref-2.ensures.value, ← c.deref-3.ensures.value) (c.in_ok-statements.ensures {u = tt})
@@ -35,8 +34,7 @@ invariant_of-result c = (stands c).stands
 
 pub returns : goal.returns
 returns c =
-    let found' : lines_from (scope_with c.args.draft.variables.items (arrays_seen c.args.draft.arrays.items) []) 0
-    (forms_seen c.args.draft.forms.items)
+    let found' : lines_from (scope_with c.args.draft.variables.items (arrays_seen c.args.draft.arrays.items) []) 0 (forms_seen c.args.draft.forms.items)
     ≡ Some (map line_of c.in_ok-statements.statements.items) =
     rw (← c.deref.ensures.value, ← c.deref-2.ensures.value, ← c.deref-3.ensures.value) (c.in_ok-statements.ensures {u = tt}) in
     (built (forms_seen c.args.draft.forms.items) c.in_ok-statements.statements.items c.args.draft.variables.items c.args.draft.arrays.items
