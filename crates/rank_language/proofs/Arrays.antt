@@ -1,6 +1,7 @@
 -- The arrays of a whole program stand at their places: an array is put last where none of its name stands yet, and later ones
 -- stand behind it.
-use Rattle.std.proofs.Common.{◌≡◌, ℕ, suc, ◌+◌, List, [], ◌∷◌, ◌++◌, length, map, Bool, true, false, cond, ◌||◌, Some, refl, ap, ◌∙◌, sym, arith, append_assoc, append-nil}
+use Rattle.std.proofs.Common.{◌≡◌, ℕ, suc, ◌+◌, List, [], ◌∷◌, ◌++◌, length, map, Bool, true, false}
+use Rattle.std.proofs.Common.{cond, ◌||◌, Some, refl, ap, ◌∙◌, sym, arith, append_assoc, append-nil}
 use Rattle.std.specs.Prelude.{slice_index_or}
 use Rattle.std.specs.List.{position_from}
 use Rattle.std.specs.Str.{bytes_eq}
@@ -14,12 +15,14 @@ use Rattle.rank_language.specs.Named.{array_at}
 use Rattle.rank_language.proofs.Back.{ArrayStands, AllArraysStand}
 
 -- behind arrays that haven't got the name it stands at their number, wherever counting begins
-behind_from : (as' bs : List (List ℕ × ℕ)) (x : List ℕ) (n i : ℕ) → is_name_in (map (λ a. a.0) as') x ≡ false → position_from (λ y. bytes_eq y x) i (map (λ a. a.0) (as' ++ (x, n) ∷ bs)) ≡ Some (i + length as')
+behind_from : (as' bs : List (List ℕ × ℕ)) (x : List ℕ) (n i : ℕ) → is_name_in (map (λ a. a.0) as') x ≡ false
+    → position_from (λ y. bytes_eq y x) i (map (λ a. a.0) (as' ++ (x, n) ∷ bs)) ≡ Some (i + length as')
 behind_from [] bs x n i h =
     ap (λ b. cond b (Some i) (position_from (λ y. bytes_eq y x) (i + 1) (map (λ a. a.0) bs))) ((bytes_eq-Decides x x).1 refl)
     ∙ ap Some (let e : i ≡ i + 0 = omega arith in e)
 behind_from (a ∷ as') bs x n i h =
-    elim (bytes_eq a.0 x) as (λ b. (b || is_name_in (map (λ z. z.0) as') x) ≡ false → cond b (Some i) (position_from (λ y. bytes_eq y x) (i + 1) (map (λ z. z.0) (as' ++ (x, n) ∷ bs))) ≡ Some (i + suc (length as'))) [
+    elim (bytes_eq a.0 x) as (λ b. (b || is_name_in (map (λ z. z.0) as') x) ≡ false
+    → cond b (Some i) (position_from (λ y. bytes_eq y x) (i + 1) (map (λ z. z.0) (as' ++ (x, n) ∷ bs))) ≡ Some (i + suc (length as'))) [
       | true ↦ λ q. absurd (cc)
       | false ↦ λ q. (behind_from as' bs x n (i + 1) q ∙ ap Some (let e : (i + 1) + length as' ≡ i + suc (length as') = omega arith in e))
     ] h
@@ -80,7 +83,8 @@ neither true b h = cc
 neither false b h = h
 
 -- an array that is declared where none of its name is stands at its place behind all statements
-declared_there : (s : Scope) (x : List ℕ) (n : ℕ) (fs : List Form) → MayStand s (array_form x n) → (p : ℕ) → array_place (after_all (after s (array_form x n)) fs) x ≡ Some p → array_at (after_all (after s (array_form x n)) fs) p ≡ (x, n)
+declared_there : (s : Scope) (x : List ℕ) (n : ℕ) (fs : List Form) → MayStand s (array_form x n) → (p : ℕ)
+    → array_place (after_all (after s (array_form x n)) fs) x ≡ Some p → array_at (after_all (after s (array_form x n)) fs) p ≡ (x, n)
 declared_there s x n fs h p q =
     let end = after_all (after s (array_form x n)) fs in
     let (bs, e) = arrays_go_on (after s (array_form x n)) fs in
@@ -96,6 +100,7 @@ declared_there s x n fs h p q =
     ∙ ap (λ z. slice_index_or z (length s.arrays) ([], 0)) all
     ∙ at_behind s.arrays bs (x, n)
 
+-- a statement that may stand: an array that it declares stands at its place behind all statements
 stands_there : (s : Scope) (f : Form) (fs : List Form) → MayStand s f → ArrayStands (after_all (after s f) fs) f
 stands_there s (var_form x) fs h = tt
 stands_there s (array_form x n) fs h = declared_there s x n fs h
@@ -114,6 +119,7 @@ stands_there s barrier_form fs h = tt
 stands_there s (bcast_form r x) fs h = tt
 stands_there s (reduce_form o r e x) fs h = tt
 
+-- and so does the array of each statement in turn, whatever the tables in front hold
 stand_from : (s : Scope) (fs : List Form) → AllMayStand s fs → AllArraysStand (after_all s fs) fs
 stand_from s [] h = tt
 stand_from s (f ∷ fs) h = (stands_there s f fs h.0, stand_from (after s f) fs h.1)

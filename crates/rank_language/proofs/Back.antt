@@ -14,16 +14,19 @@ use Rattle.rank_language.specs.Placed.{Placed, number, variable, item, reading, 
 use Rattle.rank_language.specs.Placed.{Payload, one, all_of, Buffer, into_variable, into_array}
 use Rattle.rank_language.specs.Placed.{declare, declare_array, assign, assign_item, send, receive, probe, try_probe, print}
 use Rattle.rank_language.specs.Placed.{barrier, broadcast, reduce, collect, Step, does, tests, repeats, otherwise, closes}
-use Rattle.rank_language.specs.Resolved.{place_in, variable_place, array_place, resolved, choice_resolved, payload_resolved, buffer_resolved, form_resolved, all_resolved}
+use Rattle.rank_language.specs.Resolved.{place_in, variable_place, array_place, resolved, choice_resolved}
+use Rattle.rank_language.specs.Resolved.{payload_resolved, buffer_resolved, form_resolved, all_resolved}
 use Rattle.rank_language.specs.Named.{variable_name, array_at, named, choice_named, value_named, payload_named, buffer_name, form_named}
 use Rattle.rank_language.proofs.Options.{mapped, gone_on, either_from}
 use Rattle.rank_print.specs.Canonical.{canonical_payload, canonical, all_canonical}
 
 -- the name at the place that is found for a name, wherever counting begins
-back_from : (names : List (List ℕ)) (x : List ℕ) (i p : ℕ) → position_from (λ y. bytes_eq y x) i names ≡ Some p → (k : ℕ) × (i + k ≡ p) × (slice_index_or names k [] ≡ x)
+back_from : (names : List (List ℕ)) (x : List ℕ) (i p : ℕ) → position_from (λ y. bytes_eq y x) i names ≡ Some p
+    → (k : ℕ) × (i + k ≡ p) × (slice_index_or names k [] ≡ x)
 back_from [] x i p h = cc
 back_from (y ∷ ys) x i p h =
-    elim (bytes_eq y x) as (λ b. bytes_eq y x ≡ b → cond b (Some i) (position_from (λ z. bytes_eq z x) (i + 1) ys) ≡ Some p → (k : ℕ) × (i + k ≡ p) × (slice_index_or (y ∷ ys) k [] ≡ x)) [
+    elim (bytes_eq y x) as (λ b. bytes_eq y x ≡ b → cond b (Some i) (position_from (λ z. bytes_eq z x) (i + 1) ys) ≡ Some p
+    → (k : ℕ) × (i + k ≡ p) × (slice_index_or (y ∷ ys) k [] ≡ x)) [
       | true ↦ λ e q. (let r : i ≡ p = cc in (0, omega (arith, r), (bytes_eq-Decides y x).0 e))
       | false ↦ λ e q. (let (k, a, b) = back_from ys x (i + 1) p q in (suc k, omega (arith, a), b))
     ] refl h
@@ -66,7 +69,8 @@ tree_back s (text.operation o a b) t h =
     let (left, g, k) = gone_on _ (resolved s a) t h in
     let (right, i, q) = gone_on _ (resolved s b) t k in
     let r : operation o left right ≡ t = cc in
-    subst (λ z. named s z ≡ text.operation o a b) r (ap (λ y. text.operation o y (named s right)) (tree_back s a left g) ∙ ap (text.operation o a) (tree_back s b right i))
+    subst (λ z. named s z ≡ text.operation o a b) r
+    (ap (λ y. text.operation o y (named s right)) (tree_back s a left g) ∙ ap (text.operation o a) (tree_back s b right i))
 
 -- a choice is got back
 choice_back : (s : Scope) (c : line.Choice) (t : Choice) → choice_resolved s c ≡ Some t → choice_named s t ≡ c
@@ -87,7 +91,8 @@ value_back s (text.item x i) t h =
     let (p, e, k) = gone_on _ (array_place s x) t h in
     let (index, g, q) = gone_on _ (resolved s i) t k in
     let r : item p index ≡ t = cc in
-    subst (λ z. value_named s z ≡ line.one (text.item x i)) r (ap (λ y. line.one (text.item y (named s index))) (array_back s x p e) ∙ ap (λ y. line.one (text.item x y)) (tree_back s i index g))
+    subst (λ z. value_named s z ≡ line.one (text.item x i)) r
+    (ap (λ y. line.one (text.item y (named s index))) (array_back s x p e) ∙ ap (λ y. line.one (text.item x y)) (tree_back s i index g))
 value_back s (text.reading r) t h =
     let q : reading r ≡ t = cc in subst (λ z. value_named s z ≡ line.one (text.reading r)) q refl
 value_back s (text.negation e) t h =
@@ -97,7 +102,9 @@ value_back s (text.operation o a b) t h =
     let (left, g, k) = gone_on _ (resolved s a) t h in
     let (right, i, q) = gone_on _ (resolved s b) t k in
     let r : operation o left right ≡ t = cc in
-    subst (λ z. value_named s z ≡ line.one (text.operation o a b)) r (ap (λ y. line.one (text.operation o y (named s right))) (tree_back s a left g) ∙ ap (λ y. line.one (text.operation o a y)) (tree_back s b right i))
+    subst (λ z. value_named s z ≡ line.one (text.operation o a b)) r
+    (ap (λ y. line.one (text.operation o y (named s right))) (tree_back s a left g)
+    ∙ ap (λ y. line.one (text.operation o a y)) (tree_back s b right i))
 
 -- a payload is got back
 payload_back : (s : Scope) (p : line.Payload) (t : Payload) → payload_resolved s p ≡ Some t → payload_named s t ≡ canonical_payload p
@@ -150,13 +157,17 @@ form_back s (line.let_form x e) t l h =
     let (p, a, i) = gone_on _ (variable_place s x) t h in
     let (v, b, j) = gone_on _ (resolved s e) t i in
     let q : does (assign p v) ≡ t = cc in
-    subst (λ z. form_named s z ≡ line.let_form x e) q (ap (λ y. line.let_form y (named s v)) (name_back s.variables x p a) ∙ ap (line.let_form x) (tree_back s e v b))
+    subst (λ z. form_named s z ≡ line.let_form x e) q
+    (ap (λ y. line.let_form y (named s v)) (name_back s.variables x p a) ∙ ap (line.let_form x) (tree_back s e v b))
 form_back s (line.item_form x d e) t l h =
     let (p, a, i) = gone_on _ (array_place s x) t h in
     let (index, b, j) = gone_on _ (resolved s d) t i in
     let (v, c, k) = gone_on _ (resolved s e) t j in
     let q : does (assign_item p index v) ≡ t = cc in
-    subst (λ z. form_named s z ≡ line.item_form x d e) q (ap (λ y. line.item_form y (named s index) (named s v)) (array_back s x p a) ∙ ap (λ y. line.item_form x y (named s v)) (tree_back s d index b) ∙ ap (line.item_form x d) (tree_back s e v c))
+    subst (λ z. form_named s z ≡ line.item_form x d e) q
+    (ap (λ y. line.item_form y (named s index) (named s v)) (array_back s x p a)
+    ∙ ap (λ y. line.item_form x y (named s v)) (tree_back s d index b)
+    ∙ ap (line.item_form x d) (tree_back s e v c))
 form_back s (line.if_form e) t l h =
     let (a, g, q) = mapped tests (resolved s e) t h in
     subst (λ z. form_named s z ≡ line.if_form e) q (ap line.if_form (tree_back s e a g))
@@ -172,24 +183,34 @@ form_back s (line.send_form d g p) t l h =
     let (y, b, j) = gone_on _ (resolved s g) t i in
     let (w, c, k) = gone_on _ (payload_resolved s p) t j in
     let q : does (send x y w) ≡ t = cc in
-    subst (λ z. form_named s z ≡ line.send_form d g (canonical_payload p)) q (ap (λ z. line.send_form z (named s y) (payload_named s w)) (tree_back s d x a) ∙ ap (λ z. line.send_form d z (payload_named s w)) (tree_back s g y b) ∙ ap (line.send_form d g) (payload_back s p w c))
+    subst (λ z. form_named s z ≡ line.send_form d g (canonical_payload p)) q
+    (ap (λ z. line.send_form z (named s y) (payload_named s w)) (tree_back s d x a)
+    ∙ ap (λ z. line.send_form d z (payload_named s w)) (tree_back s g y b)
+    ∙ ap (line.send_form d g) (payload_back s p w c))
 form_back s (line.recv_form r g x) t l h =
     let (c, a, i) = gone_on _ (choice_resolved s r) t h in
     let (y, b, j) = gone_on _ (choice_resolved s g) t i in
     let (w, e, k) = gone_on _ (buffer_resolved s x) t j in
     let q : does (receive c y w) ≡ t = cc in
-    subst (λ z. form_named s z ≡ line.recv_form r g x) q (ap (λ z. line.recv_form z (choice_named s y) (buffer_name s w)) (choice_back s r c a) ∙ ap (λ z. line.recv_form r z (buffer_name s w)) (choice_back s g y b) ∙ ap (line.recv_form r g) (buffer_back s x w e))
+    subst (λ z. form_named s z ≡ line.recv_form r g x) q
+    (ap (λ z. line.recv_form z (choice_named s y) (buffer_name s w)) (choice_back s r c a)
+    ∙ ap (λ z. line.recv_form r z (buffer_name s w)) (choice_back s g y b)
+    ∙ ap (line.recv_form r g) (buffer_back s x w e))
 form_back s (line.probe_form r g) t l h =
     let (c, a, i) = gone_on _ (choice_resolved s r) t h in
     let (y, b, j) = gone_on _ (choice_resolved s g) t i in
     let q : does (probe c y) ≡ t = cc in
-    subst (λ z. form_named s z ≡ line.probe_form r g) q (ap (λ z. line.probe_form z (choice_named s y)) (choice_back s r c a) ∙ ap (line.probe_form r) (choice_back s g y b))
+    subst (λ z. form_named s z ≡ line.probe_form r g) q
+    (ap (λ z. line.probe_form z (choice_named s y)) (choice_back s r c a) ∙ ap (line.probe_form r) (choice_back s g y b))
 form_back s (line.try_probe_form r g x) t l h =
     let (c, a, i) = gone_on _ (choice_resolved s r) t h in
     let (y, b, j) = gone_on _ (choice_resolved s g) t i in
     let (p, e, k) = gone_on _ (variable_place s x) t j in
     let q : does (try_probe c y p) ≡ t = cc in
-    subst (λ z. form_named s z ≡ line.try_probe_form r g x) q (ap (λ z. line.try_probe_form z (choice_named s y) (variable_name s p)) (choice_back s r c a) ∙ ap (λ z. line.try_probe_form r z (variable_name s p)) (choice_back s g y b) ∙ ap (line.try_probe_form r g) (name_back s.variables x p e))
+    subst (λ z. form_named s z ≡ line.try_probe_form r g x) q
+    (ap (λ z. line.try_probe_form z (choice_named s y) (variable_name s p)) (choice_back s r c a)
+    ∙ ap (λ z. line.try_probe_form r z (variable_name s p)) (choice_back s g y b)
+    ∙ ap (line.try_probe_form r g) (name_back s.variables x p e))
 form_back s (line.print_form e) t l h =
     let (a, g, q) = mapped (λ v. does (print v)) (resolved s e) t h in
     subst (λ z. form_named s z ≡ line.print_form e) q (ap line.print_form (tree_back s e a g))
@@ -220,4 +241,5 @@ forms_back s (f ∷ fs) ts l h =
     let (t, a, i) = gone_on _ (form_resolved s f) ts h in
     let (us, b, j) = gone_on _ (all_resolved s fs) ts i in
     let q : t ∷ us ≡ ts = cc in
-    subst (λ z. map (form_named s) z ≡ canonical f ∷ all_canonical fs) q (ap (λ y. y ∷ map (form_named s) us) (form_back s f t l.0 a) ∙ ap (λ z. canonical f ∷ z) (forms_back s fs us l.1 b))
+    subst (λ z. map (form_named s) z ≡ canonical f ∷ all_canonical fs) q
+    (ap (λ y. y ∷ map (form_named s) us) (form_back s f t l.0 a) ∙ ap (λ z. canonical f ∷ z) (forms_back s fs us l.1 b))

@@ -30,7 +30,8 @@ abbrev pub scope_with : List (List ℕ) → List (List ℕ × ℕ) → List Open
 scope_with variables arrays blocks = record { variables = variables; arrays = arrays; blocks = blocks }
 
 -- the tables of a whole program are its scope at the end
-pub same_scope : (fs : List Form) (xs : List (List ℕ)) (as' : List Array) → IsWhole fs → xs ≡ (after_all nothing_yet fs).variables → arrays_seen as' ≡ (after_all nothing_yet fs).arrays → scope_with xs (arrays_seen as') [] ≡ after_all nothing_yet fs
+pub same_scope : (fs : List Form) (xs : List (List ℕ)) (as' : List Array) → IsWhole fs → xs ≡ (after_all nothing_yet fs).variables
+    → arrays_seen as' ≡ (after_all nothing_yet fs).arrays → scope_with xs (arrays_seen as') [] ≡ after_all nothing_yet fs
 same_scope fs xs as' w v a =
     let end = after_all nothing_yet fs in
     ap (λ z. scope_with z (arrays_seen as') []) v
@@ -38,7 +39,8 @@ same_scope fs xs as' w v a =
     ∙ ap (λ z. scope_with end.variables end.arrays z) (sym w.closed)
 
 -- a whole program's statements are resolvable by its tables
-pub tables_resolvable : (fs : List Form) (xs : List (List ℕ)) (as' : List Array) → IsWhole fs → xs ≡ (after_all nothing_yet fs).variables → arrays_seen as' ≡ (after_all nothing_yet fs).arrays → AllResolvable (scope_with xs (arrays_seen as') []) fs
+pub tables_resolvable : (fs : List Form) (xs : List (List ℕ)) (as' : List Array) → IsWhole fs → xs ≡ (after_all nothing_yet fs).variables
+    → arrays_seen as' ≡ (after_all nothing_yet fs).arrays → AllResolvable (scope_with xs (arrays_seen as') []) fs
 tables_resolvable fs xs as' w v a =
     subst (λ s. AllResolvable s fs) (sym (same_scope fs xs as' w v a)) (resolvable fs w)
 
@@ -48,7 +50,9 @@ pub record IsBuilt (fs : List Form) (p : ProgramValue) : Type 0 where
   pub program : IsOfForms fs p
 
 -- a program of a whole text's statements has them, with names for its places, as a canonical text would
-same_forms : (fs : List Form) (p : ProgramValue) → IsWhole fs → p.variables ≡ (after_all nothing_yet fs).variables → p.arrays ≡ (after_all nothing_yet fs).arrays → all_resolved (after_all nothing_yet fs) fs ≡ Some (map step_of p.statements) → forms_of p ≡ all_canonical fs
+same_forms : (fs : List Form) (p : ProgramValue) → IsWhole fs → p.variables ≡ (after_all nothing_yet fs).variables
+    → p.arrays ≡ (after_all nothing_yet fs).arrays → all_resolved (after_all nothing_yet fs) fs ≡ Some (map step_of p.statements)
+    → forms_of p ≡ all_canonical fs
 same_forms fs p w v a r =
     let end = after_all nothing_yet fs in
     let same : declared_by p ≡ end =
@@ -61,12 +65,15 @@ canonical_too : (fs : List Form) (p : ProgramValue) → IsOfForms fs p → IsOfF
 canonical_too fs p h = record {
   variables = h.variables ∙ ap (λ z. z.variables) (sym (all_leave nothing_yet fs));
   arrays = h.arrays ∙ ap (λ z. z.arrays) (sym (all_leave nothing_yet fs));
-  statements = ap (λ s. all_resolved s (all_canonical fs)) (all_leave nothing_yet fs) ∙ all_same (after_all nothing_yet fs) fs (map step_of p.statements) h.statements;
+  statements =
+      ap (λ s. all_resolved s (all_canonical fs)) (all_leave nothing_yet fs)
+      ∙ all_same (after_all nothing_yet fs) fs (map step_of p.statements) h.statements;
   targets = h.targets;
 }
 
 -- what is found by these tables stands, and is the program of the statements
-built_with : (fs : List Form) (p : ProgramValue) → IsWhole fs → p.variables ≡ (after_all nothing_yet fs).variables → p.arrays ≡ (after_all nothing_yet fs).arrays → AreLines (after_all nothing_yet fs) 0 fs p.statements → IsBuilt fs p
+built_with : (fs : List Form) (p : ProgramValue) → IsWhole fs → p.variables ≡ (after_all nothing_yet fs).variables
+    → p.arrays ≡ (after_all nothing_yet fs).arrays → AreLines (after_all nothing_yet fs) 0 fs p.statements → IsBuilt fs p
 built_with fs p w v a r =
     let end = after_all nothing_yet fs in
     let shaped = r.lines ∙ targeted_lines (map step_of p.statements) (balanced end fs (map step_of p.statements) w r.steps) in
@@ -78,7 +85,9 @@ built_with fs p w v a r =
     record {
       stands = record {
         shaped = shaped;
-        placed = subst (λ n. AllPlaced n (length p.arrays) p.statements) (ap length (sym v)) (subst (λ n. AllPlaced (length end.variables) n p.statements) (ap length (sym a)) r.within);
+        placed =
+            subst (λ n. AllPlaced n (length p.arrays) p.statements) (ap length (sym v))
+            (subst (λ n. AllPlaced (length end.variables) n p.statements) (ap length (sym a)) r.within);
         few = omega arith;
         few_variables = subst (λ xs. length xs ≤ most_variables) (sym v) tables.variables;
         few_arrays = subst (λ xs. length xs ≤ most_arrays) (sym a) tables.arrays;
@@ -90,7 +99,9 @@ built_with fs p w v a r =
     }
 
 -- the statements that were found are the program of the whole text's
-pub built : (fs : List Form) (ss : List Statement) (xs : List (List ℕ)) (as' : List Array) → IsWhole fs → xs ≡ (after_all nothing_yet fs).variables → arrays_seen as' ≡ (after_all nothing_yet fs).arrays → lines_from (scope_with xs (arrays_seen as') []) 0 fs ≡ Some (map line_of ss) → IsBuilt fs (program_value ss xs as')
+pub built : (fs : List Form) (ss : List Statement) (xs : List (List ℕ)) (as' : List Array) → IsWhole fs
+    → xs ≡ (after_all nothing_yet fs).variables → arrays_seen as' ≡ (after_all nothing_yet fs).arrays
+    → lines_from (scope_with xs (arrays_seen as') []) 0 fs ≡ Some (map line_of ss) → IsBuilt fs (program_value ss xs as')
 built fs ss xs as' w v a h =
     let e = same_scope fs xs as' w v a in
     built_with fs (program_value ss xs as') w v a (are_lines (after_all nothing_yet fs) 0 fs (map line_of ss) (ap (λ s. lines_from s 0 fs) (sym e) ∙ h))

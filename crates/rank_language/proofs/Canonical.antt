@@ -12,7 +12,8 @@ use Rattle.rank_language.proofs.Options.{gone_on}
 use Rattle.rank_language.proofs.Resolving.{all_front}
 
 -- a variable that has a place has it as a lone name
-lone_place : (o q : Option ℕ) (t : placed.Payload) → option_map placed.one (option_map placed.variable o) ≡ Some t → either_place (λ p. placed.one (placed.variable p)) placed.all_of o q ≡ Some t
+lone_place : (o q : Option ℕ) (t : placed.Payload) → option_map placed.one (option_map placed.variable o) ≡ Some t
+    → either_place (λ p. placed.one (placed.variable p)) placed.all_of o q ≡ Some t
 lone_place None q t h = cc
 lone_place (Some p) q t h = h
 
@@ -27,7 +28,8 @@ payload_same s (one (negation e)) t h = h
 payload_same s (one (operation o a b)) t h = h
 
 -- a send whose parts become these
-send_of_parts : (s : Scope) (d g : Tree) (p : Payload) (x y : placed.Placed) (z : placed.Payload) → resolved s d ≡ Some x → resolved s g ≡ Some y → payload_resolved s p ≡ Some z → form_resolved s (send_form d g p) ≡ Some (does (placed.send x y z))
+send_of_parts : (s : Scope) (d g : Tree) (p : Payload) (x y : placed.Placed) (z : placed.Payload) → resolved s d ≡ Some x
+    → resolved s g ≡ Some y → payload_resolved s p ≡ Some z → form_resolved s (send_form d g p) ≡ Some (does (placed.send x y z))
 send_of_parts s d g p x y z a b c = rw (a, b, c) refl
 
 -- a statement becomes the same

@@ -7,7 +7,8 @@ use Rattle.rank_text.specs.Forms.{Choice, any, value, Payload, lone, one}
 use Rattle.rank_text.specs.Forms.{Form, var_form, array_form, let_form, item_form, if_form, else_form, end_form, while_form, ◌>>=◌}
 use Rattle.rank_text.specs.Forms.{send_form, recv_form, probe_form, try_probe_form, print_form, barrier_form, bcast_form, reduce_form}
 use Rattle.rank_lines.specs.Scope.{Scope, is_name_in, is_variable, is_array, is_declared, all_declared, choice_declared, payload_declared, declared_in, after}
-use Rattle.rank_language.specs.Resolved.{place_in, variable_place, array_place, either_place, resolved, choice_resolved, payload_resolved, buffer_resolved, form_resolved}
+use Rattle.rank_language.specs.Resolved.{place_in, variable_place, array_place, either_place, resolved}
+use Rattle.rank_language.specs.Resolved.{choice_resolved, payload_resolved, buffer_resolved, form_resolved}
 use Rattle.rank_language.proofs.Names.{place_of_named, place_of_other}
 use Rattle.rank_language.proofs.Whole.{named_last, array_last}
 
@@ -23,7 +24,8 @@ two_some f (Some a) None = refl
 two_some f (Some a) (Some b) = refl
 
 -- three steps have a value exactly where all have
-three_some : {A B C D : Type 0} (f : A → B → C → D) (o : Option A) (q : Option B) (r : Option C) → (is_some o && is_some q && is_some r) ≡ is_some (o >>= λ a. q >>= λ b. r >>= λ c. Some (f a b c))
+three_some : {A B C D : Type 0} (f : A → B → C → D) (o : Option A) (q : Option B) (r : Option C)
+    → (is_some o && is_some q && is_some r) ≡ is_some (o >>= λ a. q >>= λ b. r >>= λ c. Some (f a b c))
 three_some f None q r = refl
 three_some f (Some a) None r = refl
 three_some f (Some a) (Some b) None = refl

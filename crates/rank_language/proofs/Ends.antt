@@ -10,16 +10,21 @@ use Rattle.rank_language.specs.Resolvable.{IsResolvable, AllResolvable}
 use Rattle.rank_language.specs.Ends.{kind_of, target_of, ends_before, ends_from, lines_from, lines_behind, form_line}
 
 -- what is left from a place on begins with what stands there
-front : (forms : List Form) (p q : ℕ) (f : Form) → p + 1 ≡ q → p < length forms → f ≡ get_or forms p f → forms_seen (drop p forms) ≡ form_seen f ∷ forms_seen (drop q forms)
+front : (forms : List Form) (p q : ℕ) (f : Form) → p + 1 ≡ q → p < length forms → f ≡ get_or forms p f
+    → forms_seen (drop p forms) ≡ form_seen f ∷ forms_seen (drop q forms)
 front forms p q f e h g =
     ap forms_seen (drop_more forms p f h)
     ∙ ap (λ x. form_seen x ∷ forms_seen (drop (p + 1) forms)) (sym g)
     ∙ ap (λ n. form_seen f ∷ forms_seen (drop n forms)) e
 
 -- the ends in front of one more statement
-pub ends_more : (forms : List Form) (p q : ℕ) (f : Form) (ends new : List ℕ) → p + 1 ≡ q → p < length forms → f ≡ get_or forms p f → ends ≡ ends_from q (forms_seen (drop q forms)) → new ≡ ends_before p (kind_of (form_seen f)) ends → new ≡ ends_from p (forms_seen (drop p forms))
+pub ends_more : (forms : List Form) (p q : ℕ) (f : Form) (ends new : List ℕ) → p + 1 ≡ q → p < length forms → f ≡ get_or forms p f
+    → ends ≡ ends_from q (forms_seen (drop q forms)) → new ≡ ends_before p (kind_of (form_seen f)) ends
+    → new ≡ ends_from p (forms_seen (drop p forms))
 ends_more forms p q f ends new e h g i j =
-    j ∙ ap (ends_before p (kind_of (form_seen f))) (i ∙ ap (λ n. ends_from n (forms_seen (drop q forms))) (sym e)) ∙ ap (ends_from p) (sym (front forms p q f e h g))
+    j
+    ∙ ap (ends_before p (kind_of (form_seen f))) (i ∙ ap (λ n. ends_from n (forms_seen (drop q forms))) (sym e))
+    ∙ ap (ends_from p) (sym (front forms p q f e h g))
 
 -- one more line in front of lines
 lines_front : (s : Scope) (n : ℕ) (f : _) (fs : _) (line : Line) (lines : List Line) → form_line s (ends_from (n + 1) fs) f ≡ Some line →
@@ -48,7 +53,8 @@ pub line_pushed : {A B : Type 0} (f : A → B) (xs : List A) (x : A) → map f (
 line_pushed f xs x = ap (map f) (reverse-append xs (x ∷ []))
 
 -- a statement of a list in which each is resolvable
-pub resolvable_at : (s : Scope) (forms : List Form) (p : ℕ) (f : Form) → p < length forms → f ≡ get_or forms p f → AllResolvable s (forms_seen forms) → IsResolvable s (form_seen f)
+pub resolvable_at : (s : Scope) (forms : List Form) (p : ℕ) (f : Form) → p < length forms → f ≡ get_or forms p f
+    → AllResolvable s (forms_seen forms) → IsResolvable s (form_seen f)
 resolvable_at s [] p f h g r = absurd (omega (arith, h))
 resolvable_at s (x ∷ xs) zero f h g r = subst (λ y. IsResolvable s (form_seen y)) (sym g) r.0
 resolvable_at s (x ∷ xs) (suc p) f h g r = resolvable_at s xs p f (omega (arith, h)) g r.1

@@ -1,6 +1,7 @@
 -- The `end` of a `while` is led back to it when the `while` is met, with the lines behind it found. That changes one
 -- line and no statement, place or number of lines; the code has these lines from the last one on.
-use Rattle.std.proofs.Common.{◌≡◌, ◌≢◌, ℕ, zero, suc, ◌+◌, ◌-◌, ◌<◌, ◌≤◌, List, [], ◌∷◌, ◌++◌, length, map, reverse, slice_set, get_or, refl, ap, ◌∙◌, sym, arith}
+use Rattle.std.proofs.Common.{◌≡◌, ◌≢◌, ℕ, zero, suc, ◌+◌, ◌-◌, ◌<◌, ◌≤◌, List, [], ◌∷◌, ◌++◌}
+use Rattle.std.proofs.Common.{length, map, reverse, slice_set, get_or, refl, ap, ◌∙◌, sym, arith}
 use Rattle.std.proofs.lemmas.List.{reverse-append, length-reverse, length-map, map-append, set-get_or}
 use Rattle.rank_text.specs.declared.form.Form.{Form}
 use Rattle.rank_text.specs.declared.form.Form.TheVariants as source_form

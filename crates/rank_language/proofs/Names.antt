@@ -1,6 +1,7 @@
 -- Names and their places. Two names are the same where their bytes are: the zeros behind them differ in number only
 -- where their lengths do. A name that stands among others has a first place, which is below their number.
-use Rattle.std.proofs.Common.{◌≡◌, ℕ, ◌+◌, ◌-◌, List, [], ◌∷◌, ◌++◌, length, replicate, true, false, ◌&&◌, ◌||◌, nat_eq, Some, None, cond, map, refl, ap, ◌∙◌, sym}
+use Rattle.std.proofs.Common.{◌≡◌, ℕ, ◌+◌, ◌-◌, List, [], ◌∷◌, ◌++◌, length, replicate, true}
+use Rattle.std.proofs.Common.{false, ◌&&◌, ◌||◌, nat_eq, Some, None, cond, map, refl, ap, ◌∙◌, sym}
 use Rattle.std.specs.List.{position, position_from}
 use Rattle.std.specs.Str.{bytes_eq}
 use Rattle.std.proofs.lemmas.List.{append_cancel_right}
@@ -23,7 +24,8 @@ unpadded xs ys h =
 pub same_names : (xs ys : List ℕ) → (bytes_eq (padded xs) (padded ys) && nat_eq (length xs) (length ys)) ≡ bytes_eq xs ys
 same_names xs ys =
     same_from_decides _ _
-    (Decides-like _ (unpadded xs ys) (λ q. (ap padded q, ap length q)) (Decides-and _ _ (bytes_eq-Decides (padded xs) (padded ys)) (Decides-eqb (length xs) (length ys))))
+    (Decides-like _ (unpadded xs ys) (λ q. (ap padded q, ap length q))
+    (Decides-and _ _ (bytes_eq-Decides (padded xs) (padded ys)) (Decides-eqb (length xs) (length ys))))
     (bytes_eq-Decides xs ys)
 
 -- a name that stands nowhere is not found, wherever counting begins
@@ -58,7 +60,8 @@ unplaced names x h q =
     cc
 
 -- arrays are looked up by their names
-place_from-map : (arrays : List Array) (x : List ℕ) (i : ℕ) → position_from (λ a. bytes_eq a.name x) i arrays ≡ position_from (λ y. bytes_eq y x) i (map (λ a. a.name) arrays)
+place_from-map : (arrays : List Array) (x : List ℕ) (i : ℕ)
+    → position_from (λ a. bytes_eq a.name x) i arrays ≡ position_from (λ y. bytes_eq y x) i (map (λ a. a.name) arrays)
 place_from-map [] x i = refl
 place_from-map (a ∷ as') x i = ap (cond (bytes_eq a.name x) (Some i)) (place_from-map as' x (i + 1))
 
@@ -76,5 +79,6 @@ array_placed arrays x =
     ∙ ap (λ names. place_in names x) (sym (names_of_arrays arrays))
 
 -- an array that stands among others isn't without a place
-pub array_unplaced : (arrays : List Array) (x : List ℕ) → is_name_in (map (λ a. a.0) (arrays_seen arrays)) x ≡ true → position (λ a. bytes_eq a.name x) arrays ≡ None → ⊥
+pub array_unplaced : (arrays : List Array) (x : List ℕ) → is_name_in (map (λ a. a.0) (arrays_seen arrays)) x ≡ true
+    → position (λ a. bytes_eq a.name x) arrays ≡ None → ⊥
 array_unplaced arrays x h q = unplaced (map (λ a. a.0) (arrays_seen arrays)) x h (sym (array_placed arrays x) ∙ q)

@@ -24,7 +24,8 @@ array_seen_at (x ∷ xs) zero d h = refl
 array_seen_at (x ∷ xs) (suc p) d h = array_seen_at xs p d (omega (arith, h))
 
 -- each statement's places are in the tables
-pub placed_each : (v a : ℕ) (ss : List Statement) (i : ℕ) (x : Statement) → i < length ss → x ≡ get_or ss i x → AllPlaced v a (map line_of ss) → IsPlaced v a (line_of x)
+pub placed_each : (v a : ℕ) (ss : List Statement) (i : ℕ) (x : Statement) → i < length ss → x ≡ get_or ss i x
+    → AllPlaced v a (map line_of ss) → IsPlaced v a (line_of x)
 placed_each v a [] i x h e k = absurd (omega (arith, h))
 placed_each v a (s ∷ ss) zero x h e k = subst (λ z. IsPlaced v a (line_of z)) (sym e) k.0
 placed_each v a (s ∷ ss) (suc i) x h e k = placed_each v a ss i x (omega (arith, h)) e k.1
@@ -39,7 +40,8 @@ named_each s [] = refl
 named_each s (x ∷ ss) = ap (λ z. statement_named s x ∷ z) (named_each s ss)
 
 -- one statement more
-pub named_more : (s : Scope) (ss : List Statement) (i : ℕ) (x : Statement) (fs gs : List source_form.Form) (f : source_form.Form) → i < length ss → x ≡ get_or ss i x
+pub named_more : (s : Scope) (ss : List Statement) (i : ℕ) (x : Statement) (fs gs : List source_form.Form) (f : source_form.Form)
+    → i < length ss → x ≡ get_or ss i x
     → forms_seen fs ≡ map (statement_named s) (take i ss) → form_seen f ≡ statement_named s x → gs ≡ fs ++ f ∷ []
     → forms_seen gs ≡ map (statement_named s) (take (i + 1) ss)
 named_more s ss i x fs gs f h e q r g =

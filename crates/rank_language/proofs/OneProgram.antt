@@ -25,7 +25,9 @@ one_of_forms fs p q g h =
     let lines : p.statements ≡ q.statements = g.targets ∙ ap (λ ss. lines_at 0 (tree_of_steps ss)) steps ∙ sym h.targets in
     let variables : p.variables ≡ q.variables = g.variables ∙ sym h.variables in
     let arrays : p.arrays ≡ q.arrays = g.arrays ∙ sym h.arrays in
-    (ap (λ ls. value_with ls p.variables p.arrays) lines ∙ ap (λ xs. value_with q.statements xs p.arrays) variables ∙ ap (λ as'. value_with q.statements q.variables as') arrays)
+    (ap (λ ls. value_with ls p.variables p.arrays) lines
+    ∙ ap (λ xs. value_with q.statements xs p.arrays) variables
+    ∙ ap (λ as'. value_with q.statements q.variables as') arrays)
 
 -- a text has one program at the most
 pub one_program : (text : List ℕ) (p q : ProgramValue) → IsProgramOf text p → IsProgramOf text q → p ≡ q

@@ -33,7 +33,8 @@ either false b true d f g h = refl
 either false b false d f g h = g h
 
 -- what a name by itself stands for comes from one of its two places
-pub either_from : {A : Type 0} (f g : ℕ → A) (o q : Option ℕ) (P : A → Type 0) (t : A) → ((p : ℕ) → o ≡ Some p → P (f p)) → ((p : ℕ) → q ≡ Some p → P (g p)) → either_place f g o q ≡ Some t → P t
+pub either_from : {A : Type 0} (f g : ℕ → A) (o q : Option ℕ) (P : A → Type 0) (t : A) → ((p : ℕ) → o ≡ Some p → P (f p))
+    → ((p : ℕ) → q ≡ Some p → P (g p)) → either_place f g o q ≡ Some t → P t
 either_from f g (Some p) q P t h k e =
     let r : f p ≡ t = cc in
     subst P r (h p refl)

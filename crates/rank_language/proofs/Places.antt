@@ -1,10 +1,12 @@
 -- Lines and the statements that remain. Over the places of a tree, the lines of each of its lists stand from some
 -- position on (`Stands`), and what remains behind them is what follows the list (`Laid`). So by recursion on the tree
 -- each of its lines says what remains at the positions that it leads to.
-use Rattle.std.proofs.Common.{◌≡◌, ℕ, zero, suc, ◌+◌, List, [], ◌∷◌, ◌++◌, length, true, false, Some, slice_get, refl, ap, ◌∙◌, sym, subst, arith, length-append, append_assoc, get_or}
+use Rattle.std.proofs.Common.{◌≡◌, ℕ, zero, suc, ◌+◌, List, [], ◌∷◌, ◌++◌, length, true, false, Some}
+use Rattle.std.proofs.Common.{slice_get, refl, ap, ◌∙◌, sym, subst, arith, length-append, append_assoc, get_or}
 use Rattle.std.proofs.Math.Seq.{get_or-append_seam}
 use Rattle.std.proofs.lemmas.List.{get_or_past}
-use Rattle.rank_language.specs.Block.{Block, done, plain, if_only, if_else, loop, ◌then◌, Line, else_line, end_line, back_line, size, lines_at, places, remaining, tested, taken, Leads}
+use Rattle.rank_language.specs.Block.{Block, done, plain, if_only, if_else, loop, ◌then◌, Line, else_line}
+use Rattle.rank_language.specs.Block.{end_line, back_line, size, lines_at, places, remaining, tested, taken, Leads}
 
 -- nothing after a list leaves the list
 pub then_done : (b : Block) → b then done ≡ b
@@ -40,7 +42,14 @@ length-places (plain s r) k = omega (arith, length-places r k)
 length-places (if_only e y r) k =
     omega (arith, length-append (places y (r then k)) ((r then k) ∷ places r k), length-places y (r then k), length-places r k)
 length-places (if_else e y o r) k =
-    omega (arith, length-append (places y (r then k)) ((r then k) ∷ (places o (r then k) ++ (r then k) ∷ places r k)), length-append (places o (r then k)) ((r then k) ∷ places r k), length-places y (r then k), length-places o (r then k), length-places r k)
+    omega (
+      arith,
+      length-append (places y (r then k)) ((r then k) ∷ (places o (r then k) ++ (r then k) ∷ places r k)),
+      length-append (places o (r then k)) ((r then k) ∷ places r k),
+      length-places y (r then k),
+      length-places o (r then k),
+      length-places r k,
+    )
 length-places (loop e y r) k =
     omega (arith, length-append (places y (loop e y (r then k))) (loop e y (r then k) ∷ places r k), length-places y (loop e y (r then k)), length-places r k)
 
@@ -49,13 +58,30 @@ pub length-lines_at : (n : ℕ) (b : Block) → length (lines_at n b) ≡ size b
 length-lines_at n done = refl
 length-lines_at n (plain s r) = omega (arith, length-lines_at (n + 1) r)
 length-lines_at n (if_only e y r) =
-    omega (arith, length-append (lines_at (n + 1) y) (end_line ∷ lines_at (n + 1 + size y + 1) r), length-lines_at (n + 1) y, length-lines_at (n + 1 + size y + 1) r)
+    omega (
+      arith,
+      length-append (lines_at (n + 1) y) (end_line ∷ lines_at (n + 1 + size y + 1) r),
+      length-lines_at (n + 1) y,
+      length-lines_at (n + 1 + size y + 1) r,
+    )
 length-lines_at n (if_else e y o r) =
     let m = n + 1 + size y in
     let q = m + 1 + size o in
-    omega (arith, length-append (lines_at (n + 1) y) (else_line (q + 1) ∷ (lines_at (m + 1) o ++ end_line ∷ lines_at (q + 1) r)), length-append (lines_at (m + 1) o) (end_line ∷ lines_at (q + 1) r), length-lines_at (n + 1) y, length-lines_at (m + 1) o, length-lines_at (q + 1) r)
+    omega (
+      arith,
+      length-append (lines_at (n + 1) y) (else_line (q + 1) ∷ (lines_at (m + 1) o ++ end_line ∷ lines_at (q + 1) r)),
+      length-append (lines_at (m + 1) o) (end_line ∷ lines_at (q + 1) r),
+      length-lines_at (n + 1) y,
+      length-lines_at (m + 1) o,
+      length-lines_at (q + 1) r,
+    )
 length-lines_at n (loop e y r) =
-    omega (arith, length-append (lines_at (n + 1) y) (back_line n ∷ lines_at (n + 1 + size y + 1) r), length-lines_at (n + 1) y, length-lines_at (n + 1 + size y + 1) r)
+    omega (
+      arith,
+      length-append (lines_at (n + 1) y) (back_line n ∷ lines_at (n + 1 + size y + 1) r),
+      length-lines_at (n + 1) y,
+      length-lines_at (n + 1 + size y + 1) r,
+    )
 
 -- What the lines of a list stand for from position n on, and what remains behind them.
 record Laid (at : ℕ → Block) (n : ℕ) (b k : Block) : Type 0 where
@@ -105,7 +131,8 @@ lead at n (if_only e y r) k h =
     let first = h.each.0 in
     let after = here at (m + 1) r k l in (
       (omega arith, ap tested first, here at (n + 1) y (r then k) p.part ∙ ap (taken true) (sym first), after ∙ ap (taken false) (sym first)),
-      lead_append at (n + 1) m (lines_at (n + 1) y) (end_line ∷ lines_at (m + 1) r) (ap (λ z. n + 1 + z) (length-lines_at (n + 1) y)) (lead at (n + 1) y (r then k) p.part) (p.behind ∙ sym after, lead at (m + 1) r k l),
+      lead_append at (n + 1) m (lines_at (n + 1) y) (end_line ∷ lines_at (m + 1) r) (ap (λ z. n + 1 + z) (length-lines_at (n + 1) y))
+          (lead at (n + 1) y (r then k) p.part) (p.behind ∙ sym after, lead at (m + 1) r k l),
     )
 lead at n (if_else e y o r) k h =
     let m = n + 1 + size y in
@@ -115,11 +142,18 @@ lead at n (if_else e y o r) k h =
     let l : Laid at (q + 1) r k = record { each = p'.more; after = ap at (omega arith) ∙ h.after } in
     let first = h.each.0 in
     let after = here at (q + 1) r k l in (
-      (omega arith, ap tested first, here at (n + 1) y (r then k) p.part ∙ ap (taken true) (sym first), here at (m + 1) o (r then k) p'.part ∙ ap (taken false) (sym first)),
-      lead_append at (n + 1) m (lines_at (n + 1) y) (else_line (q + 1) ∷ (lines_at (m + 1) o ++ end_line ∷ lines_at (q + 1) r)) (ap (λ z. n + 1 + z) (length-lines_at (n + 1) y)) (lead at (n + 1) y (r then k) p.part) (
-        (omega arith, p.behind ∙ sym after),
-        lead_append at (m + 1) q (lines_at (m + 1) o) (end_line ∷ lines_at (q + 1) r) (ap (λ z. m + 1 + z) (length-lines_at (m + 1) o)) (lead at (m + 1) o (r then k) p'.part) (p'.behind ∙ sym after, lead at (q + 1) r k l),
+      (
+        omega arith,
+        ap tested first,
+        here at (n + 1) y (r then k) p.part ∙ ap (taken true) (sym first),
+        here at (m + 1) o (r then k) p'.part ∙ ap (taken false) (sym first),
       ),
+      lead_append at (n + 1) m (lines_at (n + 1) y) (else_line (q + 1) ∷ (lines_at (m + 1) o ++ end_line ∷ lines_at (q + 1) r))
+          (ap (λ z. n + 1 + z) (length-lines_at (n + 1) y)) (lead at (n + 1) y (r then k) p.part) (
+            (omega arith, p.behind ∙ sym after),
+            lead_append at (m + 1) q (lines_at (m + 1) o) (end_line ∷ lines_at (q + 1) r) (ap (λ z. m + 1 + z) (length-lines_at (m + 1) o))
+                (lead at (m + 1) o (r then k) p'.part) (p'.behind ∙ sym after, lead at (q + 1) r k l),
+          ),
     )
 lead at n (loop e y r) k h =
     let again = loop e y (r then k) in
@@ -129,7 +163,8 @@ lead at n (loop e y r) k h =
     let first = h.each.0 in
     let after = here at (m + 1) r k l in (
       (omega arith, ap tested first, here at (n + 1) y again p.part ∙ ap (taken true) (sym first), after ∙ ap (taken false) (sym first)),
-      lead_append at (n + 1) m (lines_at (n + 1) y) (back_line n ∷ lines_at (m + 1) r) (ap (λ z. n + 1 + z) (length-lines_at (n + 1) y)) (lead at (n + 1) y again p.part) ((omega arith, p.behind ∙ sym first), lead at (m + 1) r k l),
+      lead_append at (n + 1) m (lines_at (n + 1) y) (back_line n ∷ lines_at (m + 1) r) (ap (λ z. n + 1 + z) (length-lines_at (n + 1) y))
+          (lead at (n + 1) y again p.part) ((omega arith, p.behind ∙ sym first), lead at (m + 1) r k l),
     )
 
 -- places stand where they are listed
@@ -137,7 +172,8 @@ stands_self : (all before bs : List Block) → all ≡ before ++ bs → Stands (
 stands_self all before [] q = tt
 stands_self all before (b ∷ bs) q = (
   ap (λ z. get_or z (length before) done) q ∙ get_or-append_seam before b bs done,
-  moved (λ p. get_or all p done) (length (before ++ b ∷ [])) (length before + 1) bs (length-append before (b ∷ [])) (stands_self all (before ++ b ∷ []) bs (q ∙ sym (append_assoc before (b ∷ []) bs))),
+  moved (λ p. get_or all p done) (length (before ++ b ∷ [])) (length before + 1) bs (length-append before (b ∷ []))
+      (stands_self all (before ++ b ∷ []) bs (q ∙ sym (append_assoc before (b ∷ []) bs))),
 )
 
 -- a tree's lines stand from position 0 on, and nothing remains behind them

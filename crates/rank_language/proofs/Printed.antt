@@ -65,6 +65,7 @@ printed p h = record {
 }
 
 -- and so is what holds its bytes
-pub printed_result : (r : Result (Vec ℕ Global) AllocError) (p : ProgramValue) → IsProgram p → IfOk r (λ text. text.items ≡ program_text (forms_of p)) → IfOk r (λ text. IsProgramOf text.items p)
+pub printed_result : (r : Result (Vec ℕ Global) AllocError) (p : ProgramValue) → IsProgram p
+    → IfOk r (λ text. text.items ≡ program_text (forms_of p)) → IfOk r (λ text. IsProgramOf text.items p)
 printed_result (Ok text) p h q = subst (λ z. IsProgramOf z p) (sym q) (printed p h)
 printed_result (Err e) p h q = tt

@@ -15,7 +15,8 @@ use Rattle.rank_language.specs.Placed.{barrier, broadcast, reduce, collect, Step
 use Rattle.rank_language.specs.Block.{Line}
 use Rattle.rank_language.specs.Shape.{step_of}
 use Rattle.rank_language.specs.Program.{IsWithin, IsChoiceWithin, IsPayloadWithin, IsBufferWithin, IsPlaced, AllPlaced}
-use Rattle.rank_language.specs.Resolved.{place_in, variable_place, array_place, resolved, choice_resolved, payload_resolved, buffer_resolved, form_resolved, all_resolved}
+use Rattle.rank_language.specs.Resolved.{place_in, variable_place, array_place, resolved, choice_resolved}
+use Rattle.rank_language.specs.Resolved.{payload_resolved, buffer_resolved, form_resolved, all_resolved}
 use Rattle.rank_language.specs.Ends.{kind_of, target_of, ends_before, ends_from, line_to, lines_behind, form_line, lines_from}
 use Rattle.rank_language.proofs.Loops.{behind-steps, behind-placed}
 use Rattle.rank_language.proofs.Options.{mapped, gone_on, either_from}
@@ -73,7 +74,8 @@ choice_within s (line.value e) t h =
 -- each place in a resolved payload is in a table
 payload_within : (s : Scope) (p : line.Payload) (t : Payload) → payload_resolved s p ≡ Some t → IsPayloadWithin (length s.variables) (length s.arrays) t
 payload_within s (line.lone x) t h =
-    either_from (λ k. one (variable k)) all_of (variable_place s x) (array_place s x) (IsPayloadWithin (length s.variables) (length s.arrays)) t (place_below s.variables x) (array_below s x) h
+    either_from (λ k. one (variable k)) all_of (variable_place s x) (array_place s x)
+    (IsPayloadWithin (length s.variables) (length s.arrays)) t (place_below s.variables x) (array_below s x) h
 payload_within s (line.one e) t h =
     let (a, g, q) = mapped one (resolved s e) t h in
     subst (IsPayloadWithin _ _) q (resolved_within s e a g)
@@ -81,7 +83,8 @@ payload_within s (line.one e) t h =
 -- the place of a resolved buffer is in a table
 buffer_within : (s : Scope) (x : List ℕ) (t : Buffer) → buffer_resolved s x ≡ Some t → IsBufferWithin (length s.variables) (length s.arrays) t
 buffer_within s x t h =
-    either_from into_variable into_array (variable_place s x) (array_place s x) (IsBufferWithin (length s.variables) (length s.arrays)) t (place_below s.variables x) (array_below s x) h
+    either_from into_variable into_array (variable_place s x) (array_place s x) (IsBufferWithin (length s.variables) (length s.arrays)) t
+    (place_below s.variables x) (array_below s x) h
 
 -- What a resolved statement is: of the same kind, and with places in tables.
 pub record Becomes (s : Scope) (f : Form) (t : Step) : Type 0 where
@@ -106,7 +109,8 @@ becomes s (line.item_form x d e) t h =
     let (index, b, j) = gone_on _ (resolved s d) t i in
     let (v, c, k) = gone_on _ (resolved s e) t j in
     let q : does (assign_item p index v) ≡ t = cc in
-    subst (Becomes s (line.item_form x d e)) q (record { kind = refl; within = λ n. (array_below s x p a, resolved_within s d index b, resolved_within s e v c) })
+    subst (Becomes s (line.item_form x d e)) q
+    (record { kind = refl; within = λ n. (array_below s x p a, resolved_within s d index b, resolved_within s e v c) })
 becomes s (line.while_form e) t h =
     let (a, g, q) = mapped repeats (resolved s e) t h in
     subst (Becomes s (line.while_form e)) q (record { kind = refl; within = λ n. resolved_within s e a g })
@@ -122,13 +126,15 @@ becomes s (line.send_form d g p) t h =
     let (tag, b, j) = gone_on _ (resolved s g) t i in
     let (payload, c, k) = gone_on _ (payload_resolved s p) t j in
     let q : does (send destination tag payload) ≡ t = cc in
-    subst (Becomes s (line.send_form d g p)) q (record { kind = refl; within = λ n. (resolved_within s d destination a, resolved_within s g tag b, payload_within s p payload c) })
+    subst (Becomes s (line.send_form d g p)) q
+    (record { kind = refl; within = λ n. (resolved_within s d destination a, resolved_within s g tag b, payload_within s p payload c) })
 becomes s (line.recv_form r g x) t h =
     let (source, a, i) = gone_on _ (choice_resolved s r) t h in
     let (tag, b, j) = gone_on _ (choice_resolved s g) t i in
     let (buffer, c, k) = gone_on _ (buffer_resolved s x) t j in
     let q : does (receive source tag buffer) ≡ t = cc in
-    subst (Becomes s (line.recv_form r g x)) q (record { kind = refl; within = λ n. (choice_within s r source a, choice_within s g tag b, buffer_within s x buffer c) })
+    subst (Becomes s (line.recv_form r g x)) q
+    (record { kind = refl; within = λ n. (choice_within s r source a, choice_within s g tag b, buffer_within s x buffer c) })
 becomes s (line.probe_form r g) t h =
     let (source, a, i) = gone_on _ (choice_resolved s r) t h in
     let (tag, b, j) = gone_on _ (choice_resolved s g) t i in
@@ -139,7 +145,8 @@ becomes s (line.try_probe_form r g x) t h =
     let (tag, b, j) = gone_on _ (choice_resolved s g) t i in
     let (flag, c, k) = gone_on _ (variable_place s x) t j in
     let q : does (try_probe source tag flag) ≡ t = cc in
-    subst (Becomes s (line.try_probe_form r g x)) q (record { kind = refl; within = λ n. (choice_within s r source a, choice_within s g tag b, place_below s.variables x flag c) })
+    subst (Becomes s (line.try_probe_form r g x)) q
+    (record { kind = refl; within = λ n. (choice_within s r source a, choice_within s g tag b, place_below s.variables x flag c) })
 becomes s (line.print_form e) t h =
     let (a, g, q) = mapped (λ v. does (print v)) (resolved s e) t h in
     subst (Becomes s (line.print_form e)) q (record { kind = refl; within = λ n. resolved_within s e a g })
@@ -182,12 +189,15 @@ length_behind n k target ls =
     sym (length-map (lines_behind n k target ls) step_of) ∙ ap length (behind-steps n k target ls) ∙ length-map ls step_of
 
 -- one more resolved statement in front
-pub all_front : (s : Scope) (f : Form) (fs : List Form) (t : Step) (ts : List Step) → form_resolved s f ≡ Some t → all_resolved s fs ≡ Some ts → all_resolved s (f ∷ fs) ≡ Some (t ∷ ts)
+pub all_front : (s : Scope) (f : Form) (fs : List Form) (t : Step) (ts : List Step) → form_resolved s f ≡ Some t
+    → all_resolved s fs ≡ Some ts → all_resolved s (f ∷ fs) ≡ Some (t ∷ ts)
 all_front s f fs t ts h g = rw (h, g) refl
 
 -- one more statement in front of statements with their targets
 are_more : (s : Scope) (n : ℕ) (f : Form) (fs : List Form) (t : Step) (ls : List Line) → form_resolved s f ≡ Some t → AreLines s (n + 1) fs ls →
-    AreLines s n (f ∷ fs) (line_to (target_of (kind_of f) (ends_from (n + 1) fs)) t ∷ lines_behind n (kind_of f) (target_of (kind_of f) (ends_from (n + 1) fs)) ls)
+    AreLines s n (f ∷ fs)
+    (line_to (target_of (kind_of f) (ends_from (n + 1) fs)) t
+    ∷ lines_behind n (kind_of f) (target_of (kind_of f) (ends_from (n + 1) fs)) ls)
 are_more s n f fs t ls h r =
     let b = becomes s f t h in
     let target = target_of (kind_of f) (ends_from (n + 1) fs) in

@@ -4,7 +4,8 @@
 use Rattle.std.proofs.Common.{◌≡◌, ℕ, ◌+◌, ◌-◌, length, List, [], ◌∷◌, ◌++◌, Bool, true, false, not, refl, ap, ◌∙◌, sym, arith, append_assoc, append-nil}
 use Rattle.rank_lines.specs.Scope.{Opened, in_if, in_else, in_while, is_empty, is_open_if, other_branch, outer}
 use Rattle.rank_language.specs.Placed.{Placed, Simple, Step, does, tests, repeats, otherwise, closes}
-use Rattle.rank_language.specs.Block.{Block, done, plain, if_only, if_else, loop, Line, simple_line, if_line, else_line, end_line, while_line, back_line, size, lines_at}
+use Rattle.rank_language.specs.Block.{Block, done, plain, if_only, if_else, loop, Line, simple_line}
+use Rattle.rank_language.specs.Block.{if_line, else_line, end_line, while_line, back_line, size, lines_at}
 use Rattle.rank_language.specs.Shape.{Part, fronted, branched, looped, parts, innermost, tree_of_steps}
 use Rattle.rank_language.specs.Ends.{Kind, is_plain, is_if, is_else, is_end, is_while, nearest, farther, target_of, ends_before, line_to, back_at, lines_behind}
 use Rattle.rank_language.proofs.Places.{length-lines_at}
@@ -144,7 +145,8 @@ abbrev Stand : ℕ → List Step → List Part → Type 0
 Stand n ss ps = (targeted n ss ≡ spread n ps) × (ends_at n ss ≡ tops n ps)
 
 -- a plain statement in front
-stand_plain : (n : ℕ) (s : Simple) (bs : List Opened) (ss : List Step) (ps : List Part) → Fit bs ps → Stand (n + 1) ss ps → Stand n (does s ∷ ss) (fronted (plain s) ps)
+stand_plain : (n : ℕ) (s : Simple) (bs : List Opened) (ss : List Step) (ps : List Part) → Fit bs ps → Stand (n + 1) ss ps
+    → Stand n (does s ∷ ss) (fronted (plain s) ps)
 stand_plain n s bs ss [] f h = absurd (elim bs as (λ z. Fit z [] → ⊥) [ [] ↦ λ x. x | b ∷ r ↦ λ x. x ] f)
 stand_plain n s bs ss (p ∷ ps) f h =
     let q : n + 1 + size p.1 + 1 ≡ n + (1 + size p.1) + 1 = omega arith in (
@@ -173,15 +175,22 @@ stand_end n bs ss (p ∷ ps) f h =
     )
 
 -- an `if` without `else` in front of its list and the list behind its `end`
-lines_only : (e : Placed) (n : ℕ) (y : Block) (p : Part) (ps : List Part) → let m = n + 1 + size y + 1 in if_line e m ∷ (lines_at (n + 1) y ++ end_line ∷ spread m (p ∷ ps)) ≡ spread n ((p.0, if_only e y p.1) ∷ ps)
+lines_only : (e : Placed) (n : ℕ) (y : Block) (p : Part) (ps : List Part)
+    → let m = n + 1 + size y + 1 in
+    if_line e m ∷ (lines_at (n + 1) y ++ end_line ∷ spread m (p ∷ ps)) ≡ spread n ((p.0, if_only e y p.1) ∷ ps)
 lines_only e n y p ps =
     let m = n + 1 + size y + 1 in
     let q : m + size p.1 + 1 ≡ n + (1 + (size y + (1 + size p.1))) + 1 = omega arith in
     ap (λ k. if_line e m ∷ (lines_at (n + 1) y ++ end_line ∷ (lines_at m p.1 ++ behind p.0 ps k))) q
-    ∙ ap (λ ls. if_line e m ∷ ls) (sym (append_assoc (lines_at (n + 1) y) (end_line ∷ lines_at m p.1) (behind p.0 ps (n + (1 + (size y + (1 + size p.1))) + 1))))
+    ∙ ap (λ ls. if_line e m ∷ ls)
+    (sym (append_assoc (lines_at (n + 1) y) (end_line ∷ lines_at m p.1) (behind p.0 ps (n + (1 + (size y + (1 + size p.1))) + 1))))
 
 -- an `if` with `else` in front of its lists and the list behind its `end`
-lines_else : (e : Placed) (n : ℕ) (y o : Block) (p : Part) (ps : List Part) → let m = n + 1 + size y + 1 in let q = m + size o + 1 in if_line e m ∷ (lines_at (n + 1) y ++ else_line q ∷ (lines_at m o ++ end_line ∷ spread q (p ∷ ps))) ≡ spread n ((p.0, if_else e y o p.1) ∷ ps)
+lines_else : (e : Placed) (n : ℕ) (y o : Block) (p : Part) (ps : List Part)
+    → let m = n + 1 + size y + 1 in
+    let q = m + size o + 1 in
+    if_line e m ∷ (lines_at (n + 1) y ++ else_line q ∷ (lines_at m o ++ end_line ∷ spread q (p ∷ ps)))
+    ≡ spread n ((p.0, if_else e y o p.1) ∷ ps)
 lines_else e n y o p ps =
     let m = n + 1 + size y + 1 in
     let q = m + size o + 1 in
@@ -198,7 +207,8 @@ tops_only e n y p ps =
     ap (λ m. topped p.0 m ps (tops m ps)) q
 
 -- the ends in front of an `if` with `else`
-tops_else : (e : Placed) (n : ℕ) (y o : Block) (p : Part) (ps : List Part) → tops (n + 1 + size y + 1 + size o + 1) (p ∷ ps) ≡ tops n ((p.0, if_else e y o p.1) ∷ ps)
+tops_else : (e : Placed) (n : ℕ) (y o : Block) (p : Part) (ps : List Part)
+    → tops (n + 1 + size y + 1 + size o + 1) (p ∷ ps) ≡ tops n ((p.0, if_else e y o p.1) ∷ ps)
 tops_else e n y o p ps =
     let q : n + 1 + size y + 1 + size o + 1 + size p.1 + 1 ≡ n + (1 + (size y + (1 + (size o + (1 + size p.1))))) + 1 = omega arith in
     ap (λ m. topped p.0 m ps (tops m ps)) q
@@ -210,11 +220,13 @@ lines_loop e n y p ps =
     let m = n + 1 + size y + 1 in
     let q : m + size p.1 + 1 ≡ n + (1 + (size y + (1 + size p.1))) + 1 = omega arith in
     ap (λ k. while_line e m ∷ (lines_at (n + 1) y ++ back_line n ∷ (lines_at m p.1 ++ behind p.0 ps k))) q
-    ∙ ap (λ ls. while_line e m ∷ ls) (sym (append_assoc (lines_at (n + 1) y) (back_line n ∷ lines_at m p.1) (behind p.0 ps (n + (1 + (size y + (1 + size p.1))) + 1))))
+    ∙ ap (λ ls. while_line e m ∷ ls)
+    (sym (append_assoc (lines_at (n + 1) y) (back_line n ∷ lines_at m p.1) (behind p.0 ps (n + (1 + (size y + (1 + size p.1))) + 1))))
 
 -- a `while` leads the line that closes its list back to itself
 lines_back : (e : Placed) (n : ℕ) (y : Block) (p : Part) (ps : List Part) →
-    let m = n + 1 + size y + 1 in while_line e m ∷ back_at n (m - n - 2) (lines_at (n + 1) y ++ end_line ∷ spread m (p ∷ ps)) ≡ spread n ((p.0, loop e y p.1) ∷ ps)
+    let m = n + 1 + size y + 1 in
+    while_line e m ∷ back_at n (m - n - 2) (lines_at (n + 1) y ++ end_line ∷ spread m (p ∷ ps)) ≡ spread n ((p.0, loop e y p.1) ∷ ps)
 lines_back e n y p ps =
     let m = n + 1 + size y + 1 in
     let q : m - n - 2 ≡ length (lines_at (n + 1) y) = omega (arith, length-lines_at (n + 1) y) in
@@ -232,7 +244,9 @@ fit_some [] h = h
 fit_some (b ∷ bs) h = h
 
 -- an `if` in front of lists that fit its block
-spread_if : (e : Placed) (n : ℕ) (bs : List Opened) (ps : List Part) → Fit (in_if ∷ bs) ps → (if_line e (nearest (tops (n + 1) ps)) ∷ spread (n + 1) ps ≡ spread n (branched e ps)) × (farther (tops (n + 1) ps) ≡ tops n (branched e ps))
+spread_if : (e : Placed) (n : ℕ) (bs : List Opened) (ps : List Part) → Fit (in_if ∷ bs) ps
+    → (if_line e (nearest (tops (n + 1) ps)) ∷ spread (n + 1) ps ≡ spread n (branched e ps))
+    × (farther (tops (n + 1) ps) ≡ tops n (branched e ps))
 spread_if e n bs [] f = absurd f
 spread_if e n bs ((false, y) ∷ []) f = absurd (fit_some bs f)
 spread_if e n bs ((false, y) ∷ (p ∷ ps)) f = (lines_only e n y p ps, tops_only e n y p ps)
@@ -243,14 +257,16 @@ spread_if e n bs ((true, y) ∷ ((true, o) ∷ ps)) f = absurd f
 
 -- a `while` in front of lists that fit its block
 spread_while : (e : Placed) (n : ℕ) (bs : List Opened) (ps : List Part) → Fit (in_while ∷ bs) ps →
-    (let m = nearest (tops (n + 1) ps) in while_line e m ∷ back_at n (m - n - 2) (spread (n + 1) ps) ≡ spread n (looped e ps)) × (farther (tops (n + 1) ps) ≡ tops n (looped e ps))
+    (let m = nearest (tops (n + 1) ps) in while_line e m ∷ back_at n (m - n - 2) (spread (n + 1) ps) ≡ spread n (looped e ps))
+    × (farther (tops (n + 1) ps) ≡ tops n (looped e ps))
 spread_while e n bs [] f = absurd f
 spread_while e n bs ((false, y) ∷ []) f = absurd (fit_some bs f)
 spread_while e n bs ((false, y) ∷ (p ∷ ps)) f = (lines_back e n y p ps, tops_loop e n y p ps)
 spread_while e n bs ((true, y) ∷ ps) f = absurd f
 
 -- an `if` in front
-stand_if : (n : ℕ) (e : Placed) (bs : List Opened) (ss : List Step) (ps : List Part) → Fit (in_if ∷ bs) ps → Stand (n + 1) ss ps → Stand n (tests e ∷ ss) (branched e ps)
+stand_if : (n : ℕ) (e : Placed) (bs : List Opened) (ss : List Step) (ps : List Part) → Fit (in_if ∷ bs) ps → Stand (n + 1) ss ps
+    → Stand n (tests e ∷ ss) (branched e ps)
 stand_if n e bs ss ps f h =
     let s = spread_if e n bs ps f in (
       ap (λ ends. if_line e (nearest ends) ∷ targeted (n + 1) ss) h.1 ∙ ap (λ ls. if_line e (nearest (tops (n + 1) ps)) ∷ ls) h.0 ∙ s.0,

@@ -1,6 +1,7 @@
 -- What holds of a statement that stands at a position of a program. Its line is the program's line there, so what
 -- holds of each line of the program's tree, and of each line's places, holds of it.
-use Rattle.std.proofs.Common.{◌≡◌, ℕ, zero, suc, List, [], ◌∷◌, Bool, Option, Some, None, length, map, slice_get, ◌<◌, ◌≤◌, ◌↔◌, IfSome, IsNone, MatchOption, option_map, get_or, arith, rules, refl, sym, ap, ◌∙◌, subst}
+use Rattle.std.proofs.Common.{◌≡◌, ℕ, zero, suc, List, [], ◌∷◌, Bool, Option, Some, None, length, map, slice_get, ◌<◌, ◌≤◌}
+use Rattle.std.proofs.Common.{◌↔◌, IfSome, IsNone, MatchOption, option_map, get_or, arith, rules, refl, sym, ap, ◌∙◌, subst}
 use Rattle.std.proofs.lemmas.Option.{slice_get-map, slice_get_read, slice_get_past, slice_get_within}
 use Rattle.std.specs.Borrow.{Bor}
 use Rattle.rank_language.specs.declared.statement.Statement.{Statement}
@@ -28,22 +29,27 @@ placed_at v a (x ∷ ls) zero l h q =
 placed_at v a (x ∷ ls) (suc k) l h q = placed_at v a ls k l h.1 q
 
 -- a statement that was found says what remains
-pub found_leads : (p : ProgramValue) (k : ℕ) (r : Option (Bor Statement)) → IsProgram p → line_in r ≡ slice_get p.statements k → IfSome r (λ s. Leads (remaining (tree_of p)) k (line_of s.now))
+pub found_leads : (p : ProgramValue) (k : ℕ) (r : Option (Bor Statement)) → IsProgram p → line_in r ≡ slice_get p.statements k
+    → IfSome r (λ s. Leads (remaining (tree_of p)) k (line_of s.now))
 found_leads p k None h q = tt
 found_leads p k (Some s) h q = leads (tree_of p) k (line_of s.now) (line_there p k (line_of s.now) h q)
 
 -- a statement that was found leads to a position of the program or behind its last
-pub found_reaches : (p : ProgramValue) (k : ℕ) (r : Option (Bor Statement)) → IsProgram p → line_in r ≡ slice_get p.statements k → IfSome r (λ s. (truth : Bool) → next_position (line_of s.now) k truth ≤ size (tree_of p))
+pub found_reaches : (p : ProgramValue) (k : ℕ) (r : Option (Bor Statement)) → IsProgram p → line_in r ≡ slice_get p.statements k
+    → IfSome r (λ s. (truth : Bool) → next_position (line_of s.now) k truth ≤ size (tree_of p))
 found_reaches p k None h q = tt
 found_reaches p k (Some s) h q = reaches (tree_of p) k (line_of s.now) (line_there p k (line_of s.now) h q)
 
 -- each place in a statement that was found is a variable's or an array's
-pub found_placed : (p : ProgramValue) (k : ℕ) (r : Option (Bor Statement)) → IsProgram p → line_in r ≡ slice_get p.statements k → IfSome r (λ s. IsPlaced (length p.variables) (length p.arrays) (line_of s.now))
+pub found_placed : (p : ProgramValue) (k : ℕ) (r : Option (Bor Statement)) → IsProgram p → line_in r ≡ slice_get p.statements k
+    → IfSome r (λ s. IsPlaced (length p.variables) (length p.arrays) (line_of s.now))
 found_placed p k None h q = tt
 found_placed p k (Some s) h q = placed_at (length p.variables) (length p.arrays) p.statements k (line_of s.now) h.placed q
 
 -- what a list's `get` found is the line there
-pub line_found : (ss : List Statement) (k : ℕ) (r : Option (Bor Statement)) (Q : Bor Statement → Type 0) → IfSome r (λ x. x.now ≡ get_or ss k x.now) → MatchOption r (length ss ≤ k) (λ x. (k < length ss) × Q x) → line_in r ≡ slice_get (map line_of ss) k
+pub line_found : (ss : List Statement) (k : ℕ) (r : Option (Bor Statement)) (Q : Bor Statement → Type 0)
+    → IfSome r (λ x. x.now ≡ get_or ss k x.now) → MatchOption r (length ss ≤ k) (λ x. (k < length ss) × Q x)
+    → line_in r ≡ slice_get (map line_of ss) k
 line_found ss k None Q e m =
     let q : slice_get ss k ≡ None = slice_get_past ss k m in
     sym (slice_get-map line_of ss k ∙ ap (option_map line_of) q)
@@ -58,7 +64,8 @@ missing_past (l ∷ ls) zero q = cc
 missing_past (l ∷ ls) (suc k) q = omega (arith, missing_past ls k q)
 
 -- no statement is found exactly where the position is past the last
-pub found_past : (p : ProgramValue) (k : ℕ) (r : Option (Bor Statement)) → IsProgram p → line_in r ≡ slice_get p.statements k → IsNone r ↔ (size (tree_of p) ≤ k)
+pub found_past : (p : ProgramValue) (k : ℕ) (r : Option (Bor Statement)) → IsProgram p → line_in r ≡ slice_get p.statements k
+    → IsNone r ↔ (size (tree_of p) ≤ k)
 found_past p k None h q =
     (λ _. omega (arith, missing_past p.statements k q, statement_count p h), λ _. search rules)
 found_past p k (Some s) h q =

@@ -1,6 +1,7 @@
 -- Where lines lead: each line of a list leads to a position up to the one behind the list's last line.
 use Rattle.std.proofs.Common.{◌≡◌, ℕ, zero, suc, ◌+◌, ◌≤◌, List, [], ◌∷◌, ◌++◌, length, Bool, true, false, Some, slice_get, ap, subst, arith}
-use Rattle.rank_language.specs.Block.{Block, done, plain, if_only, if_else, loop, Line, if_line, else_line, end_line, while_line, back_line, size, lines_at, next_position}
+use Rattle.rank_language.specs.Block.{Block, done, plain, if_only, if_else, loop, Line, if_line, else_line}
+use Rattle.rank_language.specs.Block.{end_line, while_line, back_line, size, lines_at, next_position}
 use Rattle.rank_language.proofs.Places.{length-lines_at}
 
 -- every line, the first of them at position n, leads to m at the most
@@ -30,21 +31,25 @@ reach m n (plain s r) h = (λ truth. omega arith, reach m (n + 1) r (omega arith
 reach m n (if_only e y r) h =
     let a = n + 1 + size y in (
       if_reach e (a + 1) n m (omega arith) (omega arith),
-      reach_append m (n + 1) a (lines_at (n + 1) y) (end_line ∷ lines_at (a + 1) r) (ap (λ z. n + 1 + z) (length-lines_at (n + 1) y)) (reach m (n + 1) y (omega arith)) (λ truth. omega arith, reach m (a + 1) r (omega arith)),
+      reach_append m (n + 1) a (lines_at (n + 1) y) (end_line ∷ lines_at (a + 1) r) (ap (λ z. n + 1 + z) (length-lines_at (n + 1) y))
+          (reach m (n + 1) y (omega arith)) (λ truth. omega arith, reach m (a + 1) r (omega arith)),
     )
 reach m n (if_else e y o r) h =
     let a = n + 1 + size y in
     let q = a + 1 + size o in (
       if_reach e (a + 1) n m (omega arith) (omega arith),
-      reach_append m (n + 1) a (lines_at (n + 1) y) (else_line (q + 1) ∷ (lines_at (a + 1) o ++ end_line ∷ lines_at (q + 1) r)) (ap (λ z. n + 1 + z) (length-lines_at (n + 1) y)) (reach m (n + 1) y (omega arith)) (
-        λ truth. omega arith,
-        reach_append m (a + 1) q (lines_at (a + 1) o) (end_line ∷ lines_at (q + 1) r) (ap (λ z. a + 1 + z) (length-lines_at (a + 1) o)) (reach m (a + 1) o (omega arith)) (λ truth. omega arith, reach m (q + 1) r (omega arith)),
-      ),
+      reach_append m (n + 1) a (lines_at (n + 1) y) (else_line (q + 1) ∷ (lines_at (a + 1) o ++ end_line ∷ lines_at (q + 1) r))
+          (ap (λ z. n + 1 + z) (length-lines_at (n + 1) y)) (reach m (n + 1) y (omega arith)) (
+            λ truth. omega arith,
+            reach_append m (a + 1) q (lines_at (a + 1) o) (end_line ∷ lines_at (q + 1) r) (ap (λ z. a + 1 + z) (length-lines_at (a + 1) o))
+                (reach m (a + 1) o (omega arith)) (λ truth. omega arith, reach m (q + 1) r (omega arith)),
+          ),
     )
 reach m n (loop e y r) h =
     let a = n + 1 + size y in (
       while_reach e (a + 1) n m (omega arith) (omega arith),
-      reach_append m (n + 1) a (lines_at (n + 1) y) (back_line n ∷ lines_at (a + 1) r) (ap (λ z. n + 1 + z) (length-lines_at (n + 1) y)) (reach m (n + 1) y (omega arith)) (λ truth. omega arith, reach m (a + 1) r (omega arith)),
+      reach_append m (n + 1) a (lines_at (n + 1) y) (back_line n ∷ lines_at (a + 1) r) (ap (λ z. n + 1 + z) (length-lines_at (n + 1) y))
+          (reach m (n + 1) y (omega arith)) (λ truth. omega arith, reach m (a + 1) r (omega arith)),
     )
 
 -- one of the lines leads so far at the most

@@ -9,7 +9,8 @@ use Rattle.rank_text.specs.Tree.{Tree, number, variable, item, reading, negation
 use Rattle.rank_text.specs.Forms.{Choice, any, value, Payload, lone, one}
 use Rattle.rank_text.specs.Forms.{Form, var_form, array_form, let_form, item_form, if_form, else_form, end_form, while_form}
 use Rattle.rank_text.specs.Forms.{send_form, recv_form, probe_form, try_probe_form, print_form, barrier_form, bcast_form, reduce_form}
-use Rattle.rank_lines.specs.Scope.{Scope, nothing_yet, is_name_in, is_variable, is_array, is_declared, all_declared, choice_declared, payload_declared, declared_in, is_stray, is_past_table, after, after_all, AllMayStand, IsWhole}
+use Rattle.rank_lines.specs.Scope.{Scope, nothing_yet, is_name_in, is_variable, is_array, is_declared, all_declared, choice_declared}
+use Rattle.rank_lines.specs.Scope.{payload_declared, declared_in, is_stray, is_past_table, after, after_all, AllMayStand, IsWhole}
 use Rattle.rank_language.specs.Placed.{Step}
 use Rattle.rank_language.specs.Program.{AllSized}
 use Rattle.rank_language.specs.Resolved.{form_resolved, all_resolved}
@@ -66,7 +67,8 @@ form_grows s t g (array_form x n) h = refl
 form_grows s t g (item_form x i e) h =
     let (ab, c) = both (is_array s x && all_declared s i) (all_declared s e) h in
     let (a, b) = both (is_array s x) (all_declared s i) ab in
-    joined (is_array t x && all_declared t i) (all_declared t e) (joined (is_array t x) (all_declared t i) (g.arrays x a) (tree_grows s t g i b)) (tree_grows s t g e c)
+    joined (is_array t x && all_declared t i) (all_declared t e)
+    (joined (is_array t x) (all_declared t i) (g.arrays x a) (tree_grows s t g i b)) (tree_grows s t g e c)
 form_grows s t g (if_form e) h = tree_grows s t g e h
 form_grows s t g (while_form e) h = tree_grows s t g e h
 form_grows s t g else_form h = refl
@@ -74,18 +76,21 @@ form_grows s t g end_form h = refl
 form_grows s t g (send_form d e p) h =
     let (ab, c) = both (all_declared s d && all_declared s e) (payload_declared s p) h in
     let (a, b) = both (all_declared s d) (all_declared s e) ab in
-    joined (all_declared t d && all_declared t e) (payload_declared t p) (joined (all_declared t d) (all_declared t e) (tree_grows s t g d a) (tree_grows s t g e b)) (payload_grows s t g p c)
+    joined (all_declared t d && all_declared t e) (payload_declared t p)
+    (joined (all_declared t d) (all_declared t e) (tree_grows s t g d a) (tree_grows s t g e b)) (payload_grows s t g p c)
 form_grows s t g (recv_form r e x) h =
     let (ab, c) = both (choice_declared s r && choice_declared s e) (is_declared s x) h in
     let (a, b) = both (choice_declared s r) (choice_declared s e) ab in
-    joined (choice_declared t r && choice_declared t e) (is_declared t x) (joined (choice_declared t r) (choice_declared t e) (choice_grows s t g r a) (choice_grows s t g e b)) (declared_grows s t g x c)
+    joined (choice_declared t r && choice_declared t e) (is_declared t x)
+    (joined (choice_declared t r) (choice_declared t e) (choice_grows s t g r a) (choice_grows s t g e b)) (declared_grows s t g x c)
 form_grows s t g (probe_form r e) h =
     let (a, b) = both (choice_declared s r) (choice_declared s e) h in
     joined (choice_declared t r) (choice_declared t e) (choice_grows s t g r a) (choice_grows s t g e b)
 form_grows s t g (try_probe_form r e x) h =
     let (ab, c) = both (choice_declared s r && choice_declared s e) (is_variable s x) h in
     let (a, b) = both (choice_declared s r) (choice_declared s e) ab in
-    joined (choice_declared t r && choice_declared t e) (is_variable t x) (joined (choice_declared t r) (choice_declared t e) (choice_grows s t g r a) (choice_grows s t g e b)) (g.variables x c)
+    joined (choice_declared t r && choice_declared t e) (is_variable t x)
+    (joined (choice_declared t r) (choice_declared t e) (choice_grows s t g r a) (choice_grows s t g e b)) (g.variables x c)
 form_grows s t g (print_form e) h = tree_grows s t g e h
 form_grows s t g barrier_form h = refl
 form_grows s t g (bcast_form r x) h =
@@ -110,7 +115,8 @@ named_last (z ∷ zs) x =
     either false true (bytes_eq z x) (is_name_in (zs ++ x ∷ []) x) (λ k. absurd (cc)) (λ k. named_last zs x) refl
 
 -- an array that stands in a table stands in a longer one
-array_longer : (xs : List (List ℕ × ℕ)) (a : List ℕ × ℕ) (y : List ℕ) → is_name_in (map (λ b. b.0) xs) y ≡ true → is_name_in (map (λ b. b.0) (xs ++ a ∷ [])) y ≡ true
+array_longer : (xs : List (List ℕ × ℕ)) (a : List ℕ × ℕ) (y : List ℕ) → is_name_in (map (λ b. b.0) xs) y ≡ true
+    → is_name_in (map (λ b. b.0) (xs ++ a ∷ [])) y ≡ true
 array_longer [] a y h = cc
 array_longer (z ∷ zs) a y h =
     either (bytes_eq z.0 y) (is_name_in (map (λ b. b.0) zs) y) (bytes_eq z.0 y) (is_name_in (map (λ b. b.0) (zs ++ a ∷ [])) y) (λ k. k) (array_longer zs a y) h
@@ -281,7 +287,8 @@ not_stray s (bcast_form r x) h = refl
 not_stray s (reduce_form o r e x) h = refl
 
 -- statements that may stand are balanced
-balanced_from : (s t : Scope) (fs : List Form) (ss : List Step) → AllMayStand s fs → (after_all s fs).blocks ≡ [] → all_resolved t fs ≡ Some ss → Balanced s.blocks ss
+balanced_from : (s t : Scope) (fs : List Form) (ss : List Step) → AllMayStand s fs → (after_all s fs).blocks ≡ []
+    → all_resolved t fs ≡ Some ss → Balanced s.blocks ss
 balanced_from s t [] ss h e r =
     let q : [] ≡ ss = cc in
     subst (Balanced s.blocks) q e

@@ -75,4 +75,6 @@ words_back e = ap last_read (read_words e [] [])
 -- the code of placed expressions
 abbrev pub placed_code : Coded Placed
 placed_code =
-    code_by (List Word) (coded_list (coded⊎ coded_ℤ (coded⊎ coded_ℕ (coded⊎ coded_ℕ (coded⊎ readings.the_row.coded (coded⊎ coded_unit operators.the_row.coded)))))) (λ e. words e []) (λ ws. last_read (read ws [])) words_back
+    code_by (List Word)
+    (coded_list (coded⊎ coded_ℤ (coded⊎ coded_ℕ (coded⊎ coded_ℕ (coded⊎ readings.the_row.coded (coded⊎ coded_unit operators.the_row.coded))))))
+    (λ e. words e []) (λ ws. last_read (read ws [])) words_back

@@ -4,7 +4,9 @@ use Rattle.metered.specs.Limits.{most_items}
 use Rattle.rank_lines.specs.declared.scope.Array.{Array}
 use Rattle.rank_lines.specs.SeenLines.{arrays_seen}
 use Rattle.rank_language.specs.declared.statement.Statement.{Statement}
-use Rattle.rank_language.specs.Placed.{Placed, number, variable, item, reading, negation, operation, Choice, any, value, Payload, one, all_of, Buffer, into_variable, into_array, declare, declare_array, assign, assign_item, send, receive, probe, try_probe, print, Collective, barrier, broadcast, reduce, collect}
+use Rattle.rank_language.specs.Placed.{Placed, number, variable, item, reading, negation, operation, Choice, any, value, Payload}
+use Rattle.rank_language.specs.Placed.{one, all_of, Buffer, into_variable, into_array, declare, declare_array, assign, assign_item}
+use Rattle.rank_language.specs.Placed.{send, receive, probe, try_probe, print, Collective, barrier, broadcast, reduce, collect}
 use Rattle.rank_language.specs.Block.{Block, Line, simple_line, if_line, else_line, end_line, while_line, back_line}
 use Rattle.rank_language.specs.Shape.{step_of, tree_of_steps}
 use Rattle.rank_language.specs.Seen.{line_of}

@@ -8,7 +8,9 @@ use Rattle.rank_language.specs.declared.statement.Payload as source_payload
 use Rattle.rank_language.specs.declared.statement.Buffer as source_buffer
 use Rattle.rank_language.specs.declared.statement.Collective as source_collective
 use Rattle.rank_language.specs.declared.statement.Statement as source_statement
-use Rattle.rank_language.specs.Placed.{Placed, number, variable, item, reading, negation, operation, Choice, any, value, Payload, one, all_of, Buffer, into_variable, into_array, declare, declare_array, assign, assign_item, send, receive, probe, try_probe, print, Collective, barrier, broadcast, reduce, collect}
+use Rattle.rank_language.specs.Placed.{Placed, number, variable, item, reading, negation, operation, Choice, any, value, Payload}
+use Rattle.rank_language.specs.Placed.{one, all_of, Buffer, into_variable, into_array, declare, declare_array, assign, assign_item}
+use Rattle.rank_language.specs.Placed.{send, receive, probe, try_probe, print, Collective, barrier, broadcast, reduce, collect}
 use Rattle.rank_language.specs.Block.{Line, simple_line, if_line, else_line, end_line, while_line, back_line}
 
 -- an expression without where it lies

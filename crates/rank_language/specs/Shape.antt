@@ -1,7 +1,8 @@
 -- The tree that lines spell (the rank-program text: `if` .. `else` .. `end`, `while` .. `end`).
 use Rattle.std.specs.Prelude.{◌≡◌, List, [], ◌∷◌, Bool, true, false, map}
 use Rattle.rank_language.specs.Placed.{Placed, Step, does, tests, repeats, otherwise, closes}
-use Rattle.rank_language.specs.Block.{Block, done, plain, if_only, if_else, loop, Line, simple_line, if_line, else_line, end_line, while_line, back_line, lines_at}
+use Rattle.rank_language.specs.Block.{Block, done, plain, if_only, if_else, loop, Line, simple_line}
+use Rattle.rank_language.specs.Block.{if_line, else_line, end_line, while_line, back_line, lines_at}
 
 -- a line without where it leads
 abbrev pub step_of : Line → Step

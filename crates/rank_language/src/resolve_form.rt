@@ -176,7 +176,8 @@ pub(crate) fn resolve_form(
     target: usize,
 ) -> Result<Statement, AllocError>
     requires resolvable { IsResolvable (tables_seen tables) (form_seen form.now) }
-    ensures { IfOk result (λ statement. option_map (line_to target) (form_resolved (tables_seen tables.entry) (form_seen form.now)) ≡ Some (line_of statement)) }
+    ensures { IfOk result (λ statement. option_map (line_to target) (form_resolved (tables_seen tables.entry) (form_seen form.now))
+        ≡ Some (line_of statement)) }
 {
     match form {
         Form::Var(name) => Ok(Statement::Declare(tables.variable(*name))),

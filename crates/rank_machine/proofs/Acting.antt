@@ -1,6 +1,7 @@
 -- What an act leaves of a machine: the limits, and at which part of a collective it stands. And what a machine asks for that
 -- stands at a collective: a part of the call, which doesn't fault.
-use Rattle.std.proofs.Common.{◌≡◌, ℕ, ℤ, ◌+◌, ◌<◌, ◌≤◌, Bool, true, false, not, Ok, Err, Option, Some, None, length, map, refl, sym, ap, subst, ◌∙◌, arith, slice_get, if◌then◌else◌}
+use Rattle.std.proofs.Common.{◌≡◌, ℕ, ℤ, ◌+◌, ◌<◌, ◌≤◌, Bool, true, false, not, Ok, Err, Option, Some}
+use Rattle.std.proofs.Common.{None, length, map, refl, sym, ap, subst, ◌∙◌, arith, slice_get, if◌then◌else◌}
 use Rattle.std.proofs.lemmas.List.{length-map, length-set}
 use Rattle.metered.specs.Limits.{greatest_tag, most_items}
 use Rattle.rank_language.specs.Placed.{declare, declare_array, assign, assign_item, send, receive, probe, try_probe, print, Collective, collect}
@@ -73,7 +74,8 @@ was_called P s c (Ok call) none h = (call, refl, h)
 was_called P s c (Err k) none h = absurd (none k h)
 
 -- and no fault is left
-pub no_fault : (P : Want → Type 0) (s : Store) (b : Block) (k : Option MachineFault) → ((f : MachineFault) → P (want.Faulted f) → ⊥) → P (want_of s b k) → k ≡ None
+pub no_fault : (P : Want → Type 0) (s : Store) (b : Block) (k : Option MachineFault) → ((f : MachineFault) → P (want.Faulted f) → ⊥)
+    → P (want_of s b k) → k ≡ None
 no_fault P s b None none h = refl
 no_fault P s b (Some f) none h = absurd (none f h)
 

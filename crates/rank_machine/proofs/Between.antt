@@ -39,10 +39,13 @@ follows P (Err k) f h = tt
 pub selects : (s : Store) (c t : Choice) → IfOk (selector_of s c t) (λ w. w.context ≡ PointToPoint)
 selects s c t =
     let P : Selector → Type 0 = λ w. w.context ≡ PointToPoint in
-    follows P (choice_value s c) _ (λ x. follows P (choice_value s t) _ (λ y. follows P (where_named (rank_in s.size) x) _ (λ source. follows P (where_named tag_in y) _ (λ tag. refl))))
+    follows P (choice_value s c) _
+    (λ x. follows P (choice_value s t) _
+    (λ y. follows P (where_named (rank_in s.size) x) _ (λ source. follows P (where_named tag_in y) _ (λ tag. refl))))
 
 -- what asks for nothing but its own selector, or faults
-asked_by : (v : Valued Selector) (f : Selector → Want) → IfOk v (λ w. w.context ≡ PointToPoint) → ((w : Selector) → w.context ≡ PointToPoint → IsBetween (f w)) → IsBetween (or_fault (v >>= (λ w. Ok (f w))))
+asked_by : (v : Valued Selector) (f : Selector → Want) → IfOk v (λ w. w.context ≡ PointToPoint)
+    → ((w : Selector) → w.context ≡ PointToPoint → IsBetween (f w)) → IsBetween (or_fault (v >>= (λ w. Ok (f w))))
 asked_by (Ok w) f h g = g w h
 asked_by (Err k) f h g = tt
 
@@ -57,9 +60,11 @@ part_between s c call (gives d) = tt
 part_between s c call (gets q) = tt
 part_between s c call ends = unasked (ended s c call) _ (λ s'. tt)
 
+-- so whatever its call and its part are, a collective asks for no probe
 collective_between : (s : Store) (c : Collective) → IsBetween (or_fault (collective_want s c))
 collective_between s c = unasked (called s c) _ (λ call. part_between s c call (part_of s call))
 
+-- whatever a state asks for, a probe looks only for messages between two ranks
 wants_between : (s : Store) (b : Block) (k : Option MachineFault) → IsBetween (want_of s b k)
 wants_between s b (Some k) = tt
 wants_between s done None = tt
@@ -68,7 +73,9 @@ wants_between s (plain (declare_array p) r) None = tt
 wants_between s (plain (assign p e) r) None = unasked (value s e) _ (λ z. tt)
 wants_between s (plain (assign_item p i e) r) None = unasked (item_value s p i e) _ (λ x. tt)
 wants_between s (plain (send d t p) r) None =
-    unasked (value s d) _ (λ x. unasked (value s t) _ (λ y. unasked (items_of s p) _ (λ items. unasked (rank_in s.size x) _ (λ dest. unasked (tag_in y) _ (λ tag. tt)))))
+    unasked (value s d) _
+    (λ x. unasked (value s t) _
+    (λ y. unasked (items_of s p) _ (λ items. unasked (rank_in s.size x) _ (λ dest. unasked (tag_in y) _ (λ tag. tt)))))
 wants_between s (plain (receive c t b) r) None = asked_by (selector_of s c t) want.Receive (selects s c t) (λ w h. tt)
 wants_between s (plain (probe c t) r) None = asked_by (selector_of s c t) want.Probe (selects s c t) (λ w h. h)
 wants_between s (plain (try_probe c t x) r) None = asked_by (selector_of s c t) want.TryProbe (selects s c t) (λ w h. h)
@@ -87,6 +94,7 @@ pub record IsFew (m : packet.Message) : Type 0 where
 pub few : (m : packet.Message) → IsMessage m → m.context ≡ PointToPoint → IsFew m
 few m h e = record { tag = subst (λ c. m.tag ≤ greatest_tag c) e h.tag; count = subst (λ c. length m.items ≤ most_items c) e h.most }
 
+-- so a message that is shown to a probe, or to a try of one, is within those limits
 shown_of : (w : Want) (m : packet.Message) → IsMessage m → IsBetween w → IsShowing w m → IsFew m
 shown_of (want.Probe w) m h b i = few m h ((named w m i).0 ∙ b)
 shown_of (want.TryProbe w) m h b i = few m h ((named w m i).0 ∙ b)

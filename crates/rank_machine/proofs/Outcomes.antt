@@ -1,12 +1,14 @@
 -- What a rank that stands at a collective can do next, case by case.
-use Rattle.std.proofs.Common.{◌≡◌, ℕ, ℤ, Bool, true, false, List, ◌++◌, Ok, Err, Option, Some, None, refl, sym, ap, subst, ◌∙◌, ◌⊎◌, inl, inr, if◌then◌else◌, option_map}
+use Rattle.std.proofs.Common.{◌≡◌, ℕ, ℤ, Bool, true, false, List, ◌++◌, Ok, Err, Option, Some}
+use Rattle.std.proofs.Common.{None, refl, sym, ap, subst, ◌∙◌, ◌⊎◌, inl, inr, if◌then◌else◌, option_map}
 use Rattle.matching.specs.declared.packet.Context.TheVariants.{Collective}
 use Rattle.rank_language.specs.Placed as statements
 use Rattle.rank_language.specs.Placed.{barrier, broadcast, reduce, collect}
 use Rattle.rank_language.specs.Block.{Block, plain}
 use Rattle.rank_machine.specs.declared.fault.MachineFault.{MachineFault}
 use Rattle.rank_machine.specs.Values.{Store, Valued, ◌>>=◌}
-use Rattle.rank_machine.specs.Collectives.{Call, called, header, Part, gives, gets, ends, part_of, passed, rest_after, given_by, ended, unfaulted, ended_at, ended_by, own_end, stored_or}
+use Rattle.rank_machine.specs.Collectives.{Call, called, header, Part, gives, gets, ends, part_of, passed, rest_after}
+use Rattle.rank_machine.specs.Collectives.{given_by, ended, unfaulted, ended_at, ended_by, own_end, stored_or}
 use Rattle.rank_machine.specs.States.{State, inner}
 use Rattle.rank_machine.specs.Wants.{or_fault, part_want}
 use Rattle.rank_machine.specs.Acts.{Message, Act, sends, takes, hits, misses, prints, Fits, Makes, next, kept, fitting, items_taken, part_taken}

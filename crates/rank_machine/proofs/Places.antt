@@ -11,6 +11,7 @@ lone : {A : Type 0} (x y : A) (i : ℕ) → slice_get (x ∷ []) i ≡ Some y �
 lone x y zero e = (refl, cc)
 lone x y (suc i) e = absurd cc
 
+-- no reception stands among sends
 no_gets : (xs : List ℕ) (i q : ℕ) → slice_get (map gives xs) i ≡ Some (gets q) → ⊥
 no_gets [] i q e = cc
 no_gets (x ∷ xs) zero q e = cc
@@ -20,15 +21,19 @@ no_gets (x ∷ xs) (suc i) q e = no_gets xs i q e
 pub many : (kind : Kind) (root n r : ℕ) → (n ≡ 1 → ⊥) → parts kind root n r ≡ parts_among kind root n r
 many kind root n r ne = rw (ne_eqb n 1 ne) refl
 
+-- a single rank has nothing but the step of its own
 pub single : (kind : Kind) (root n r : ℕ) → n ≡ 1 → parts kind root n r ≡ ends ∷ []
 single kind root n r e = rw (eq-eqb n 1 e) refl
 
 -- A reception of a broadcast is its one part, and from its root.
-pub broadcast_gets : (root n r i q : ℕ) → slice_get (parts broadcasts root n r) i ≡ Some (gets q) → (i ≡ 0) × (q ≡ root) × (length (parts broadcasts root n r) ≡ 1)
+pub broadcast_gets : (root n r i q : ℕ) → slice_get (parts broadcasts root n r) i ≡ Some (gets q)
+    → (i ≡ 0) × (q ≡ root) × (length (parts broadcasts root n r) ≡ 1)
 broadcast_gets root n r i q e = by_size (cases_eq n 1)
   where
     by_size : (n ≡ 1) ⊎ (n ≡ 1 → ⊥) → (i ≡ 0) × (q ≡ root) × (length (parts broadcasts root n r) ≡ 1)
-    by_size (inl one) = absurd (let f : slice_get (ends ∷ []) i ≡ Some (gets q) = rw (single broadcasts root n r one) at e in let l = lone ends (gets q) i f in (let h = l.1 in cc))
+    by_size (inl one) =
+        absurd (let f : slice_get (ends ∷ []) i ≡ Some (gets q) = rw (single broadcasts root n r one) at e in
+        let l = lone ends (gets q) i f in (let h = l.1 in cc))
     by_size (inr ne) = by_root (cases_eq r root)
       where
         by_root : (r ≡ root) ⊎ (r ≡ root → ⊥) → (i ≡ 0) × (q ≡ root) × (length (parts broadcasts root n r) ≡ 1)
@@ -42,7 +47,9 @@ pub reduce_gives : (f : Reduction) (root n r i d : ℕ) → slice_get (parts (fo
 reduce_gives f root n r i d e = by_size (cases_eq n 1)
   where
     by_size : (n ≡ 1) ⊎ (n ≡ 1 → ⊥) → i + 1 ≡ length (parts (folds f) root n r)
-    by_size (inl one) = absurd (let g : slice_get (ends ∷ []) i ≡ Some (gives d) = rw (single (folds f) root n r one) at e in let l = lone ends (gives d) i g in (let h = l.1 in cc))
+    by_size (inl one) =
+        absurd (let g : slice_get (ends ∷ []) i ≡ Some (gives d) = rw (single (folds f) root n r one) at e in
+        let l = lone ends (gives d) i g in (let h = l.1 in cc))
     by_size (inr ne) = by_root (cases_eq r root)
       where
         by_root : (r ≡ root) ⊎ (r ≡ root → ⊥) → i + 1 ≡ length (parts (folds f) root n r)
@@ -59,7 +66,12 @@ barrier_gets n s ne l m nz =
     let w = within_at (others 0 0 n) p.0 s p.1 in
     let there = longer_at (map gets (others 0 0 n)) (map gives (others 0 0 n)) p.0 (gets s) (mapped_at gets (others 0 0 n) p.0 s p.1) in
     let longer : length (parts barriers 0 n 0) ≡ length (others 0 0 n) + length (others 0 0 n) =
-    rw (many barriers 0 n 0 ne, length-append (map gets (others 0 0 n)) (map gives (others 0 0 n)), length-map (others 0 0 n) gets, length-map (others 0 0 n) gives) refl in (
+    rw (
+      many barriers 0 n 0 ne,
+      length-append (map gets (others 0 0 n)) (map gives (others 0 0 n)),
+      length-map (others 0 0 n) gets,
+      length-map (others 0 0 n) gives,
+    ) refl in (
       p.0,
       rw (many barriers 0 n 0 ne) there,
       rw longer (omega (arith, w)),
@@ -88,6 +100,7 @@ reduce_root f n r l = by_size (cases_eq n 1)
         empty_list (x ∷ xs) e = absurd (omega (arith, e))
     by_size (inr ne) = rw (many (folds f) r n r ne, eq-eqb r r refl) refl
 
+-- so the root has as many parts as there are ranks
 pub reduce_length : (f : Reduction) (n r : ℕ) → r < n → length (parts (folds f) r n r) ≡ n
 reduce_length f n r l =
     let e = length_others r 0 n (omega arith) (omega (arith, l)) in
@@ -97,16 +110,19 @@ reduce_length f n r l =
 pub reduce_gets : (f : Reduction) (n r i s : ℕ) → r < n → slice_get (others r 0 n) i ≡ Some s → slice_get (parts (folds f) r n r) i ≡ Some (gets s)
 reduce_gets f n r i s l e = rw (reduce_root f n r l) (longer_at (map gets (others r 0 n)) (ends ∷ []) i (gets s) (mapped_at gets (others r 0 n) i s e))
 
+-- no step of the rank's own stands among sends
 no_ends : (xs : List ℕ) (i : ℕ) → slice_get (map gives xs) i ≡ Some ends → ⊥
 no_ends [] i e = cc
 no_ends (x ∷ xs) zero e = cc
 no_ends (x ∷ xs) (suc i) e = no_ends xs i e
 
+-- nor among receptions with sends behind them
 no_ends_behind : (xs ys : List ℕ) (i : ℕ) → slice_get (map gets xs ++ map gives ys) i ≡ Some ends → ⊥
 no_ends_behind [] ys i e = no_ends ys i e
 no_ends_behind (x ∷ xs) ys zero e = cc
 no_ends_behind (x ∷ xs) ys (suc i) e = no_ends_behind xs ys i e
 
+-- the step of a reduce's root stands nowhere but behind its receptions
 ends_place : (xs : List ℕ) (i : ℕ) → slice_get (map gets xs ++ ends ∷ []) i ≡ Some ends → i ≡ length xs
 ends_place [] zero e = refl
 ends_place [] (suc i) e = absurd cc
@@ -174,7 +190,8 @@ broadcast_ends root n r i e = by_size (cases_eq n 1)
     by_size (inr ne) = by_root ne (cases_eq r root)
 
 -- the last part of a reduce's root is its own step
-pub reduce_last : (f : Reduction) (n r i : ℕ) (p : Part) → r < n → slice_get (parts (folds f) r n r) i ≡ Some p → i + 1 ≡ length (parts (folds f) r n r) → p ≡ ends
+pub reduce_last : (f : Reduction) (n r i : ℕ) (p : Part) → r < n → slice_get (parts (folds f) r n r) i ≡ Some p
+    → i + 1 ≡ length (parts (folds f) r n r) → p ≡ ends
 reduce_last f n r i p l e last =
     let len = reduce_length f n r l in
     let m = length_others r 0 n (omega arith) (omega (arith, l)) in

@@ -1,5 +1,6 @@
 -- What a machine is after a reception, and that it stands for the state after it.
-use Rattle.std.proofs.Common.{◌≡◌, ℕ, ℤ, ◌+◌, ◌<◌, ◌≤◌, Bool, true, false, List, [], ◌∷◌, Ok, Err, Option, Some, None, IfOk, length, map, refl, sym, ap, subst, ◌∙◌, arith, if◌then◌else◌}
+use Rattle.std.proofs.Common.{◌≡◌, ℕ, ℤ, ◌+◌, ◌<◌, ◌≤◌, Bool, true, false, List, [], ◌∷◌, Ok, Err, Option}
+use Rattle.std.proofs.Common.{Some, None, IfOk, length, map, refl, sym, ap, subst, ◌∙◌, arith, if◌then◌else◌}
 use Rattle.std.specs.Prelude.{nat_le}
 use Rattle.std.proofs.lemmas.List.{length-set}
 use Rattle.std.proofs.lemmas.Bool.Decides.{nat_tests}
@@ -20,7 +21,8 @@ use Rattle.rank_machine.specs.Collectives.{Call, Part, gives, gets, ends, part_o
 use Rattle.rank_machine.specs.Calling.{head_of, call_of}
 use Rattle.rank_machine.specs.States.{State}
 use Rattle.rank_machine.specs.Wants.{selector_of, part_want, receive_want, or_fault, want_of}
-use Rattle.rank_machine.specs.Acts.{Act, Message, carried, takes, room, written, with_status, received, kept, fitting, items_taken, part_taken, collected, after_first, unless_faulted, next}
+use Rattle.rank_machine.specs.Acts.{Act, Message, carried, takes, room, written, with_status, received, kept}
+use Rattle.rank_machine.specs.Acts.{fitting, items_taken, part_taken, collected, after_first, unless_faulted, next}
 use Rattle.rank_machine.specs.Machine.{MachineValue, state_of, line_at, asked, asks, IsReceiving, IsAtLine, IsMachine}
 use Rattle.rank_machine.proofs.Lines.{never}
 use Rattle.rank_machine.proofs.Making.{named}
@@ -29,7 +31,8 @@ use Rattle.rank_machine.proofs.Calls.{bound_ok}
 use Rattle.rank_machine.proofs.Going.{after_part, remains_after}
 use Rattle.rank_machine.proofs.Outcomes.{fitting_same}
 use Rattle.rank_machine.proofs.Stages.{taken_stage}
-use Rattle.rank_machine.proofs.Acting.{IsCalling, no_fault, calls, call_stage, IsPart, Leaves, part_within, part_ahead, part_is, same_line, Shows, plain_machine}
+use Rattle.rank_machine.proofs.Acting.{IsCalling, no_fault, calls, call_stage, IsPart, Leaves, part_within}
+use Rattle.rank_machine.proofs.Acting.{part_ahead, part_is, same_line, Shows, plain_machine}
 
 -- what a receive statement names is between two ranks, so the message that it takes has few items
 selected_few : (v : Valued Selector) (m : packet.Message) → IsMessage m → IfOk v (λ w. w.context ≡ PointToPoint)
@@ -44,6 +47,7 @@ pub record IsTaking (m : MachineValue) (c t : Choice) (b : Buffer) (p : packet.M
   pub fault : m.fault ≡ None
   pub few : IsFew p
 
+-- a machine that asks for a message at a receive statement has no fault, and takes a message between two ranks
 taking : (m : MachineValue) (c t : Choice) (b : Buffer) (p : packet.Message) → IsMessage p → IsAtLine m → line_at m ≡ Some (simple_line (receive c t b))
     → IsReceiving (asks m) p → IsTaking m c t b p
 taking m c t b p h l at i =
@@ -120,6 +124,7 @@ pub record Writes (s s' : Store) : Type 0 where
   pub gathered : s'.gathered ≡ s.gathered
   pub variables : length s'.variables ≡ length s.variables
 
+-- a written buffer changes one variable or one array at most, and nothing else
 writes : (b : Buffer) (items : List ℤ) (s : Store) → Writes s (written b items s)
 writes (into_variable p) [] s =
     record { rank = refl; size = refl; source = refl; tag = refl; count = refl; finished = refl; done = refl; gathered = refl; variables = refl }
@@ -181,6 +186,7 @@ record IsGetting (m : MachineValue) (call : Call) : Type 0 where
   source : ℕ
   part : part_of m.store call ≡ gets source
 
+-- a machine that asks for a message at a collective has no fault, and its part gets
 getting : (m n : MachineValue) (c : Collective) (call : Call) (p : packet.Message) → m ≡ n → IsPart m c call → IsReceiving (asks n) p → IsGetting m call
 getting m n c call p v i w =
     let P : MachineValue → Type 0 = λ z. IsReceiving (asks z) p in
@@ -234,6 +240,7 @@ mismatched call (x ∷ (y ∷ (z ∷ items))) k e = by_test _ e
     by_test true e = absurd cc
     by_test false e = (let q : CollectiveMismatch ≡ k = cc in subst (λ z. IsLeft (Some z)) q tt)
 
+-- what items that don't fit leave as a fault
 unfit : (s : Store) (c : Collective) (xs : List ℤ) (k : MachineFault) → fitting s c xs ≡ Err k → IsLeft (Some k)
 unfit s barrier xs k e = absurd cc
 unfit s (broadcast x b) xs k e = by_test _ e
@@ -243,6 +250,7 @@ unfit s (broadcast x b) xs k e = by_test _ e
     by_test false e = (let q : TooLong ≡ k = cc in subst (λ z. IsLeft (Some z)) q tt)
 unfit s (reduce f x v p) xs k e = absurd cc
 
+-- so a packet is refused by its header or for items that don't fit
 refused : (s : Store) (c : Collective) (call : Call) (packet : List ℤ) (v : Valued (List ℤ)) (k : MachineFault) → given_by call packet ≡ v
     → (v >>= (λ items. fitting s c items)) ≡ Err k → IsLeft (Some k)
 refused s c call packet (Ok xs) k g e = unfit s c xs k e
@@ -317,7 +325,8 @@ taken_machine m n c call p items s last v h i w e g variables lengths f =
 -- and it stands for the state after that
 pub taken_state : (m n : MachineValue) (c : Collective) (call : Call) (p : packet.Message) (items : List ℤ) (s : Store) (last : Bool) → m ≡ n
     → IsPart m c call → IsReceiving (asks n) p → items_taken m.store c call p.items ≡ Ok items → s ≡ passed (kept c items m.store) call
-    → is_last m.store call ≡ last → (place : ℕ) → state_of (record m { store = s; position = after_part last m.position }) ≡ next (state_of n) (takes p.source place) (Some (carried p))
+    → is_last m.store call ≡ last → (place : ℕ)
+    → state_of (record m { store = s; position = after_part last m.position }) ≡ next (state_of n) (takes p.source place) (Some (carried p))
 taken_state m n c call p items s last v i w e g f place =
     let o = m.store in
     let t = is_last o call in

@@ -1,12 +1,14 @@
 -- At which part of a collective a machine stands, at its beginning and after each part.
-use Rattle.std.proofs.Common.{◌≡◌, ℕ, ℤ, ◌+◌, ◌<◌, ◌==◌, Bool, true, false, List, [], ◌∷◌, ◌++◌, Ok, Option, Some, None, length, slice_get, refl, sym, ap, ◌∙◌, arith}
+use Rattle.std.proofs.Common.{◌≡◌, ℕ, ℤ, ◌+◌, ◌<◌, ◌==◌, Bool, true, false, List, [], ◌∷◌, ◌++◌}
+use Rattle.std.proofs.Common.{Ok, Option, Some, None, length, slice_get, refl, sym, ap, ◌∙◌, arith}
 use Rattle.std.proofs.lemmas.Bool.{eq-eqb, eqb-false}
 use Rattle.std.proofs.lemmas.List.{length-append}
 use Rattle.rank_text.specs.declared.token.Reduction.{Reduction}
 use Rattle.rank_language.specs.Placed.{into_variable, into_array, Collective, barrier, broadcast, reduce, collect}
 use Rattle.rank_language.specs.Block.{Line, simple_line}
 use Rattle.rank_machine.specs.Values.{Store}
-use Rattle.rank_machine.specs.Collectives.{Kind, barriers, broadcasts, folds, Call, called, Part, gives, gets, ends, parts, parts_of, part_of, is_last, counted, passed, given_by}
+use Rattle.rank_machine.specs.Collectives.{Kind, barriers, broadcasts, folds, Call, called, Part, gives, gets}
+use Rattle.rank_machine.specs.Collectives.{ends, parts, parts_of, part_of, is_last, counted, passed, given_by}
 use Rattle.rank_machine.specs.Acts.{kept}
 use Rattle.rank_machine.specs.Machine.{HasStage, gathered_by, call_at}
 use Rattle.rank_machine.proofs.CollectiveParts.{found_or, some_part}
@@ -44,6 +46,7 @@ more_parts s call l e =
     let ne = eqb-false (s.done + 1) (length (parts_of s call)) e in
     grind (arith, l, ne)
 
+-- such a part doesn't stand at the last place
 never_last : (s : Store) (call : Call) → is_last s call ≡ false → s.done + 1 ≡ length (parts_of s call) → ⊥
 never_last s call e h = eqb-false (s.done + 1) (length (parts_of s call)) e h
 
@@ -53,8 +56,10 @@ sent_gathers : (s : Store) (call : Call) (d n : ℕ) (k : Kind) → call.kind �
 sent_gathers s call d n barriers k there more g = g
 sent_gathers s call d n broadcasts k there more g = g
 sent_gathers s call d n (folds f) k there more g =
-    let at : slice_get (parts (folds f) call.root s.size s.rank) s.done ≡ Some (gives d) = ap (λ z. slice_get (parts z call.root s.size s.rank) s.done) (sym k) ∙ there in
-    let last : s.done + 1 ≡ length (parts_of s call) = reduce_gives f call.root s.size s.rank s.done d at ∙ ap (λ z. length (parts z call.root s.size s.rank)) (sym k) in
+    let at : slice_get (parts (folds f) call.root s.size s.rank) s.done ≡ Some (gives d) =
+    ap (λ z. slice_get (parts z call.root s.size s.rank) s.done) (sym k) ∙ there in
+    let last : s.done + 1 ≡ length (parts_of s call) =
+    reduce_gives f call.root s.size s.rank s.done d at ∙ ap (λ z. length (parts z call.root s.size s.rank)) (sym k) in
     absurd (never_last s call more last)
 
 -- the next part stands after a send
@@ -96,10 +101,11 @@ taken_on s (reduce f e v z) call q packet items k h p g more =
     )
 
 -- the collective that stands is called in the same way after a part that isn't its last
-same_call : (s s' : Store) (c : Collective) (call : Call) → called s c ≡ Ok call → called s' c ≡ called s c → (o : Option Line) → o ≡ Some (simple_line (collect c))
-    → call_at s' o ≡ Some call
+same_call : (s s' : Store) (c : Collective) (call : Call) → called s c ≡ Ok call → called s' c ≡ called s c → (o : Option Line)
+    → o ≡ Some (simple_line (collect c)) → call_at s' o ≡ Some call
 same_call s s' c call e same o at = rw (at, same, e) refl
 
+-- behind the last part no part is done; behind another one the call stays, at its next part
 by_last : (s s' : Store) (c : Collective) (call : Call) (last : Bool) (o : Option Line) → is_last s' call ≡ last → s'.rank < s'.size
     → (last ≡ false → o ≡ Some (simple_line (collect c)))
     → (last ≡ false → HasStage (record s' { done = s'.done + 1 }) (Some call))
@@ -122,6 +128,7 @@ kept_last s (broadcast e (into_variable p)) call (x ∷ items) = refl
 kept_last s (broadcast e (into_array p)) call items = refl
 kept_last s (reduce f e v p) call items = refl
 
+-- so the rank stays below the size
 kept_below : (s : Store) (c : Collective) (items : List ℤ) → s.rank < s.size → (kept c items s).rank < (kept c items s).size
 kept_below s barrier items l = l
 kept_below s (broadcast e (into_variable p)) [] l = l
@@ -130,8 +137,9 @@ kept_below s (broadcast e (into_array p)) items l = l
 kept_below s (reduce f e v p) items l = l
 
 -- the call stays where the part that takes a packet isn't the last
-kept_call : (s : Store) (c : Collective) (call : Call) (q : ℕ) (items : List ℤ) → called s c ≡ Ok call → call.kind ≡ kind_of c → HasStage s (Some call) → part_of s call ≡ gets q
-    → is_last s call ≡ false → (let s' : Store = kept c items s in called (record s' { done = s'.done + 1 }) c ≡ Ok call)
+kept_call : (s : Store) (c : Collective) (call : Call) (q : ℕ) (items : List ℤ) → called s c ≡ Ok call → call.kind ≡ kind_of c
+    → HasStage s (Some call) → part_of s call ≡ gets q → is_last s call ≡ false
+    → (let s' : Store = kept c items s in called (record s' { done = s'.done + 1 }) c ≡ Ok call)
 kept_call s barrier call q items e k h p more = called_same s (s.done + 1) s.gathered barrier ∙ e
 kept_call s (broadcast x b) call q items e k h p more =
     let at : slice_get (parts broadcasts call.root s.size s.rank) s.done ≡ Some (gets q) =
@@ -142,8 +150,9 @@ kept_call s (broadcast x b) call q items e k h p more =
 kept_call s (reduce f x v p) call q items e k h t more = called_same s (s.done + 1) (s.gathered ++ items) (reduce f x v p) ∙ e
 
 -- where a machine stands after a reception of a collective
-pub taken_stage : (s : Store) (c : Collective) (call : Call) (q : ℕ) (packet items : List ℤ) (o : Option Line) → s.rank < s.size → called s c ≡ Ok call → HasStage s (Some call)
-    → part_of s call ≡ gets q → given_by call packet ≡ Ok items → (is_last s call ≡ false → o ≡ Some (simple_line (collect c)))
+pub taken_stage : (s : Store) (c : Collective) (call : Call) (q : ℕ) (packet items : List ℤ) (o : Option Line) → s.rank < s.size
+    → called s c ≡ Ok call → HasStage s (Some call) → part_of s call ≡ gets q → given_by call packet ≡ Ok items
+    → (is_last s call ≡ false → o ≡ Some (simple_line (collect c)))
     → (let s' : Store = passed (kept c items s) call in HasStage s' (call_at s' o))
 taken_stage s c call q packet items o l e h p g at =
     let s' = kept c items s in

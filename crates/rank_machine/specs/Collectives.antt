@@ -1,6 +1,7 @@
 -- Collectives as the acts of their parts, in order (MPI 1.1, sections 4.3, 4.4 and 4.9.1: barrier, broadcast, reduce). Their
 -- packets have a context of their own, so no receive and no probe of a program meets them (MPI 1.1, section 5.1).
-use Rattle.std.specs.Prelude.{ℕ, zero, suc, ℤ, pos, ◌+◌, ◌==◌, nat_le, int_le, ◌+ℤ◌, Bool, true, false, ◌&&◌, List, [], ◌∷◌, ◌++◌, length, map, take, drop, slice_index_or, slice_set, Ok, Err, Option, Some, None, if◌then◌else◌}
+use Rattle.std.specs.Prelude.{ℕ, zero, suc, ℤ, pos, ◌+◌, ◌==◌, nat_le, int_le, ◌+ℤ◌, Bool, true, false, ◌&&◌, List, [], ◌∷◌}
+use Rattle.std.specs.Prelude.{◌++◌, length, map, take, drop, slice_index_or, slice_set, Ok, Err, Option, Some, None, if◌then◌else◌}
 use Rattle.std.specs.Ordering.{int_eq}
 use Rattle.metered.specs.Limits.{greatest_clock}
 use Rattle.rank_text.specs.declared.token.Reduction.{Reduction}

@@ -2,7 +2,8 @@
 ghost use Rattle.std.specs.Prelude.{◌≡◌, ◌<◌, ◌≤◌, ◌+◌, ◌∷◌, ◌++◌, ◌↔◌, [], true, false, Some, None, IfOk, IfSome, length, map};
 ghost use Rattle.rank_language.specs.Seen.{collective_of, line_in};
 ghost use Rattle.rank_language.specs.Program.{IsCollectiveWithin, IsPlaced};
-ghost use Rattle.rank_machine.specs.Collectives.{greatest_ordinal, called, parts_of, counted, ordinal_after, passed, folded, folded_from, with_at, own_end, unfaulted};
+ghost use Rattle.rank_machine.specs.Collectives.{greatest_ordinal, called, parts_of, counted, ordinal_after, passed};
+ghost use Rattle.rank_machine.specs.Collectives.{folded, folded_from, with_at, own_end, unfaulted};
 ghost use Rattle.rank_machine.specs.Calling.{head_of, called_seen};
 ghost use Rattle.rank_machine.specs.Wants.{IsLegal, collective_want};
 ghost use Rattle.rank_machine.specs.Machine.{HasStage, call_at, gathers};

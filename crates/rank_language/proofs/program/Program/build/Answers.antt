@@ -8,22 +8,34 @@ use Rattle.rank_language.proofs.program.Program.build.Goals as goal
 
 pub statements_of-requires : goal.statements_of-requires
 statements_of-requires c =
-    record { resolvable = rw (c.deref.ensures.value, c.deref-2.ensures.value, c.deref-3.ensures.value) (tables_resolvable _ c.args.draft.variables.items c.args.draft.arrays.items c.requires.whole c.requires.tables.variables c.requires.tables.arrays) }
+    record {
+      resolvable = rw (c.deref.ensures.value, c.deref-2.ensures.value, c.deref-3.ensures.value)
+          (tables_resolvable _ c.args.draft.variables.items c.args.draft.arrays.items c.requires.whole c.requires.tables.variables
+          c.requires.tables.arrays);
+    }
 
 -- the statements were found by the tables of the text
-found : (c : goal.In_ok-statements) → lines_from (scope_with c.args.draft.variables.items (arrays_seen c.args.draft.arrays.items) []) 0 (forms_seen c.args.draft.forms.items) ≡ Some (map line_of c.in_ok-statements.statements.items)
+found : (c : goal.In_ok-statements)
+    → lines_from (scope_with c.args.draft.variables.items (arrays_seen c.args.draft.arrays.items) []) 0 (forms_seen c.args.draft.forms.items)
+    ≡ Some (map line_of c.in_ok-statements.statements.items)
 found c =
     rw (← c.deref.ensures.value, ← c.deref-2.ensures.value, ← c.deref-3.ensures.value) (c.in_ok-statements.ensures {u = tt})
 
 -- they are the program of the text's statements
-stands : (c : goal.In_ok-statements) → IsBuilt (forms_seen c.args.draft.forms.items) (program_value c.in_ok-statements.statements.items c.args.draft.variables.items c.args.draft.arrays.items)
+stands : (c : goal.In_ok-statements)
+    → IsBuilt (forms_seen c.args.draft.forms.items)
+    (program_value c.in_ok-statements.statements.items c.args.draft.variables.items c.args.draft.arrays.items)
 stands c =
-    built (forms_seen c.args.draft.forms.items) c.in_ok-statements.statements.items c.args.draft.variables.items c.args.draft.arrays.items c.requires.whole c.requires.tables.variables c.requires.tables.arrays (found c)
+    built (forms_seen c.args.draft.forms.items) c.in_ok-statements.statements.items c.args.draft.variables.items c.args.draft.arrays.items
+    c.requires.whole c.requires.tables.variables c.requires.tables.arrays (found c)
 
 pub invariant_of-result : goal.invariant_of-result
 invariant_of-result c = (stands c).stands
 
 pub returns : goal.returns
 returns c =
-    let found' : lines_from (scope_with c.args.draft.variables.items (arrays_seen c.args.draft.arrays.items) []) 0 (forms_seen c.args.draft.forms.items) ≡ Some (map line_of c.in_ok-statements.statements.items) = rw (← c.deref.ensures.value, ← c.deref-2.ensures.value, ← c.deref-3.ensures.value) (c.in_ok-statements.ensures {u = tt}) in
-    (built (forms_seen c.args.draft.forms.items) c.in_ok-statements.statements.items c.args.draft.variables.items c.args.draft.arrays.items c.requires.whole c.requires.tables.variables c.requires.tables.arrays found').program
+    let found' : lines_from (scope_with c.args.draft.variables.items (arrays_seen c.args.draft.arrays.items) []) 0 (forms_seen c.args.draft.forms.items)
+    ≡ Some (map line_of c.in_ok-statements.statements.items) =
+    rw (← c.deref.ensures.value, ← c.deref-2.ensures.value, ← c.deref-3.ensures.value) (c.in_ok-statements.ensures {u = tt}) in
+    (built (forms_seen c.args.draft.forms.items) c.in_ok-statements.statements.items c.args.draft.variables.items c.args.draft.arrays.items
+    c.requires.whole c.requires.tables.variables c.requires.tables.arrays found').program
