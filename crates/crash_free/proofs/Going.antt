@@ -145,11 +145,10 @@ pub sent_grows : (C : List Passed) (p : Passed) (s r : ℕ) → Grows (sent C s 
 sent_grows C p s r = more (cases_eq p.rank s)
   where
     more : (p.rank ≡ s) ⊎ (p.rank ≡ s → ⊥) → Grows (sent C s r) (sent (p ∷ C) s r)
-    more (inl e) =
-        (
-          send_at (length (history C s) + 1) r p.act [],
-          subst (λ z. sent (p ∷ C) z r ≡ sent C z r ++ send_at (length (history C z) + 1) r p.act []) e (sent-own C p.rank r p.act),
-        )
+    more (inl e) = (
+      send_at (length (history C s) + 1) r p.act [],
+      subst (λ z. sent (p ∷ C) z r ≡ sent C z r ++ send_at (length (history C z) + 1) r p.act []) e (sent-own C p.rank r p.act),
+    )
     more (inr never) = ([], rw (history-other C p s never) (sym (append-nil _)))
 
 -- an act of another rank

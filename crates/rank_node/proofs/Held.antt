@@ -67,7 +67,7 @@ first_send (Line c v ∷ xs) dest clock e = absurd cc
 pub held_some : (log : List Backlog) (xs : List Waiting) (dest clock : ℕ) → Held log xs → xs ≡ Send dest clock ∷ drop 1 xs → 0 < length (backlog log dest).held
 held_some log xs dest clock h e =
     (let a = h dest ∙ ap (sends_to dest) e
-        ∙ ap (λ b. if b then suc (sends_to dest (drop 1 xs)) else sends_to dest (drop 1 xs)) (eq-eqb dest dest refl) in
+    ∙ ap (λ b. if b then suc (sends_to dest (drop 1 xs)) else sends_to dest (drop 1 xs)) (eq-eqb dest dest refl) in
     omega (arith, a))
 
 -- a rank for which a packet is held is one of the ranks
@@ -97,7 +97,7 @@ held_release log xs dest clock below h s d = go (cases_eq d dest)
         subst (λ z. length (backlog (slice_set log dest (freed (backlog log dest))) z).held ≡ sends_to z rest) (sym e)
         (ap (λ z. length z.held) (get_or-set_same log dest (freed (backlog log dest)) new_backlog below)
         ∙ freed_less (backlog log dest) (sends_to dest rest)
-            (h dest ∙ ap (sends_to dest) s ∙ ap (λ b. if b then suc (sends_to dest rest) else sends_to dest rest) (eq-eqb dest dest refl)))
+        (h dest ∙ ap (sends_to dest) s ∙ ap (λ b. if b then suc (sends_to dest rest) else sends_to dest rest) (eq-eqb dest dest refl)))
     go (inr ne) =
         ap (λ z. length z.held) (get_or-set_other log dest d (freed (backlog log dest)) new_backlog ne) ∙ h d ∙ ap (sends_to d) s
         ∙ ap (λ b. if b then suc (sends_to d rest) else sends_to d rest) (ne_eqb dest d (λ z. ne (sym z)))
