@@ -22,7 +22,7 @@ unfolding Rises
 Rises-if true k context t items xs r = (omega arith, r)
 Rises-if false k context t items xs r = Rises-down k xs r
 
--- one act more sends a message of the next clock to this rank, or none
+-- so they do with what one act more sends to a rank: a message of the next clock, or none
 Rises-at : (k r : ℕ) (a : Act) (xs : List Message) → Rises (k + 1) xs → Rises k (send_at (k + 1) r a xs)
 Rises-at k r (sends d context t items) xs h = Rises-if (d == r) k context t items xs h
 Rises-at k r (takes s j) xs h = Rises-down k xs h

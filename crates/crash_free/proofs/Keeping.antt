@@ -47,7 +47,7 @@ set_apart (x ∷ xs) (suc i) y (suc k) apart = set_apart xs i y k (λ e. apart (
 keeps_rank : (m m' : MachineValue) → GoesOn m m' → KeepsRank m m'
 keeps_rank m m' g = record { program = g.program; rank = g.rank; size = g.size }
 
--- so it stays a machine of this rank, of the program and of as many ranks
+-- so it stays this rank's machine, of the same program and among as many ranks
 ranks_kept : (program : ProgramValue) (n r : ℕ) (m m' : MachineValue) → KeepsRank m m' → IsRanks program n r m → IsRanks program n r m'
 ranks_kept program n r m m' k i = record { program_same = k.program ∙ i.program_same; rank = k.rank ∙ i.rank; size = k.size ∙ i.size }
 
