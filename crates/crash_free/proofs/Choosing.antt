@@ -79,7 +79,8 @@ pub may_miss : (m : MachineValue) (w : Selector) → Asks m (want.TryProbe w) �
 may_miss m w a = rw a.asked tt
 
 -- a miss is made
-pub done_miss : (program : ProgramValue) (machines : List MachineValue) (lanes : List (List Slot)) (C : List Passed) (r : ℕ) (m m' : MachineValue) (w : Selector)
+pub done_miss : (program : ProgramValue) (machines : List MachineValue) (lanes : List (List Slot)) (C : List Passed) (r : ℕ) (m m' : MachineValue)
+    (w : Selector)
     → IsKept program machines lanes C → slice_get machines r ≡ Some m → Asks m (want.TryProbe w)
     → Makes (state_of m) misses None → state_of m' ≡ next (state_of m) misses None → m'.position ≡ next_of m → KeepsRank m m'
     → IsDone program machines lanes C r m' choice.Miss misses

@@ -94,6 +94,7 @@ first_clock a (if_only e y r) act m c = refl
 first_clock a (if_else e y o r) act m c = refl
 first_clock a (loop e y r) act m c = refl
 
+-- and of a state, whether it has faulted or not
 next_clock : (k : Option MachineFault) (a : State) (act : Act) (m : Message) (c : ℕ)
     → unless_faulted k a act (Some (record m { clock = c })) ≡ unless_faulted k a act (Some m)
 next_clock None a act m c = first_clock a a.rest act m c
@@ -110,15 +111,36 @@ pub record Seeks (v : Want) (w : Selector) (act : ℕ → ℕ → Act) : Type 0 
 
 -- a receive takes it
 pub receiving : (w : Selector) → Seeks (want.Receive w) w takes
-receiving w = record { no_step = λ e. cc; means = λ items s j. refl; free = λ inbound h s j e. e; eligible = λ inbound h s j f. f; fits = λ items s j m h. h; finds = λ inbound s j. refl }
+receiving w = record {
+  no_step = λ e. cc;
+  means = λ items s j. refl;
+  free = λ inbound h s j e. e;
+  eligible = λ inbound h s j f. f;
+  fits = λ items s j m h. h;
+  finds = λ inbound s j. refl;
+}
 
 -- a probe that waits hits it
 probing : (w : Selector) → Seeks (want.Probe w) w hits
-probing w = record { no_step = λ e. cc; means = λ items s j. refl; free = λ inbound h s j e. e; eligible = λ inbound h s j f. f; fits = λ items s j m h. h; finds = λ inbound s j. refl }
+probing w = record {
+  no_step = λ e. cc;
+  means = λ items s j. refl;
+  free = λ inbound h s j e. e;
+  eligible = λ inbound h s j f. f;
+  fits = λ items s j m h. h;
+  finds = λ inbound s j. refl;
+}
 
 -- and so does one that doesn't
 trying : (w : Selector) → Seeks (want.TryProbe w) w hits
-trying w = record { no_step = λ e. cc; means = λ items s j. refl; free = λ inbound h s j e. e; eligible = λ inbound h s j f. f; fits = λ items s j m h. h; finds = λ inbound s j. refl }
+trying w = record {
+  no_step = λ e. cc;
+  means = λ items s j. refl;
+  free = λ inbound h s j e. e;
+  eligible = λ inbound h s j f. f;
+  fits = λ items s j m h. h;
+  finds = λ inbound s j. refl;
+}
 
 -- what is found stands first, so it may be taken or hit
 found_eligible : (program : ProgramValue) (machines : List MachineValue) (lanes : List (List Slot)) (C : List Passed) (r s i : ℕ) (w : Selector)
@@ -172,7 +194,8 @@ done_first program machines lanes lanes' C r s i m m' v w act p k kept there a s
     made : Makes (state_of m) (act s (suc i)) (looked_up (inbound_of C r) (act s (suc i)))
     made =
         subst (λ o. Fits (wants (state_of m)) (payload (state_of m)) (act s (suc i)) o) (sym named)
-        (subst (λ u. Fits u (payload (state_of m)) (act s (suc i)) (Some e.message)) (sym wanted) (k.fits (payload (state_of m)) s (suc i) e.message e.matching))
+        (subst (λ u. Fits u (payload (state_of m)) (act s (suc i)) (Some e.message)) (sym wanted)
+        (k.fits (payload (state_of m)) s (suc i) e.message e.matching))
 
     same : p ≡ packet_of s e.message
     same = some_same (some_same (sym slot ∙ ap (λ xs. slice_get xs i) (kept.mail.each r s rank source) ∙ packet_first (inbound_of C r) (history C r) s i w e))
@@ -284,7 +307,8 @@ refuses_memory now program machines lanes C r source index s i v w act k known f
     at m =
         let a = asks_there machines r v m.0 (subst (λ (s : SimValue). AsksAt s.machines r v) (sym known.seen) known.asks) m.1 in
         let wanted = wants_it m.0 v a k.no_step in
-        refused_at (value_of program machines C) r m.0 (choice.Take source index) (makes (act source index)) refusal.Memory m.1 (means_it m.0 v w act source index k a)
+        refused_at (value_of program machines C) r m.0 (choice.Take source index) (makes (act source index)) refusal.Memory m.1
+        (means_it m.0 v w act source index k a)
         (subst (λ u. IsFree u (act source index) (inbound_of C r) (history C r)) (sym wanted) (k.free (inbound_of C r) (history C r) source index e'))
 
 -- the slot that was found holds a packet
@@ -328,6 +352,7 @@ pub record Probes (machines : List MachineValue) (r : ℕ) (w : Selector) : Type
   pub shows : (p : packet.Message) → matches w p ≡ true → IsShowing want p
   pub asks : AsksAt machines r want
 
+-- a rank that asks for a probe is known as one, whether the probe waits or not
 pub probes_there : (machines : List MachineValue) (r : ℕ) (w : Selector) → ProbesAt machines r w → Probes machines r w
 probes_there machines r w (inl a) = record { want = want.Probe w; seeks = probing w; shows = λ p names. names; asks = a }
 probes_there machines r w (inr a) = record { want = want.TryProbe w; seeks = trying w; shows = λ p names. names; asks = a }

@@ -75,6 +75,7 @@ IsSilent (sends d c t items) = Unit {0}
 IsSilent misses = Unit {0}
 IsSilent (prints v) = Unit {0}
 
+-- so it is free whatever was sent and taken before
 pub free_silent : (w : Want) (a : Act) (inbound : ℕ → List Message) (h : History) → IsSilent a → IsFree w a inbound h
 free_silent w (takes s j) inbound h i = absurd i
 free_silent w (hits s j) inbound h i = absurd i
@@ -103,6 +104,7 @@ free_silent (want.Print v) (prints value) inbound h i = tt
 free_silent want.Halted (prints value) inbound h i = tt
 free_silent (want.Faulted k) (prints value) inbound h i = tt
 
+-- an act that is free stays free where others have sent more
 IsFree-longer : (w : Want) (a : Act) (inbound inbound' : ℕ → List Message) (h : History) → ((s : ℕ) → Grows (inbound s) (inbound' s))
     → IsFree w a inbound h → IsFree w a inbound' h
 IsFree-longer (want.Receive x) (takes s j) inbound inbound' h g e = IsEligible-longer inbound inbound' h s j x (g s) e
@@ -143,8 +145,10 @@ pub sent_grows : (C : List Passed) (p : Passed) (s r : ℕ) → Grows (sent C s 
 sent_grows C p s r = more (cases_eq p.rank s)
   where
     more : (p.rank ≡ s) ⊎ (p.rank ≡ s → ⊥) → Grows (sent C s r) (sent (p ∷ C) s r)
-    more (inl e) =
-        (send_at (length (history C s) + 1) r p.act [], subst (λ z. sent (p ∷ C) z r ≡ sent C z r ++ send_at (length (history C z) + 1) r p.act []) e (sent-own C p.rank r p.act))
+    more (inl e) = (
+      send_at (length (history C s) + 1) r p.act [],
+      subst (λ z. sent (p ∷ C) z r ≡ sent C z r ++ send_at (length (history C z) + 1) r p.act []) e (sent-own C p.rank r p.act),
+    )
     more (inr never) = ([], rw (history-other C p s never) (sym (append-nil _)))
 
 -- an act of another rank

@@ -47,6 +47,7 @@ set_apart (x ∷ xs) (suc i) y (suc k) apart = set_apart xs i y k (λ e. apart (
 keeps_rank : (m m' : MachineValue) → GoesOn m m' → KeepsRank m m'
 keeps_rank m m' g = record { program = g.program; rank = g.rank; size = g.size }
 
+-- so it stays this rank's machine, of the same program and among as many ranks
 ranks_kept : (program : ProgramValue) (n r : ℕ) (m m' : MachineValue) → KeepsRank m m' → IsRanks program n r m → IsRanks program n r m'
 ranks_kept program n r m m' k i = record { program_same = k.program ∙ i.program_same; rank = k.rank ∙ i.rank; size = k.size ∙ i.size }
 
@@ -141,8 +142,10 @@ kept_new program machines n some few long each =
       ranks = λ r m at. rw long (each r m at).0;
       some = rw long some;
       few = rw long few;
-      mail =
-          record { size = length_replicate (most_ranks * n) ∙ ap (λ z. most_ranks * z) (sym long); each = λ r s rank source. none (most_ranks * n) (most_ranks * r + s) };
+      mail = record {
+        size = length_replicate (most_ranks * n) ∙ ap (λ z. most_ranks * z) (sym long);
+        each = λ r s rank source. none (most_ranks * n) (most_ranks * r + s);
+      };
     }
   where
     begun : (r : ℕ) (m : MachineValue) → slice_get machines r ≡ Some m → Inners (opening program r (length machines)) (state_of m)

@@ -25,6 +25,7 @@ pub at_place-append : {A : Type 0} (xs ys : List A) (i : ℕ) (x : A) → at_pla
 at_place-append xs ys zero x e = absurd cc
 at_place-append xs ys (suc i) x e = slice_get-append xs ys i x e
 
+-- and of places before something of the shorter list
 pub at_place-append_before : {A : Type 0} (xs ys : List A) (i j : ℕ) (x y : A) → i < j → at_place xs j ≡ Some y → at_place (xs ++ ys) i ≡ Some x
     → at_place xs i ≡ Some x
 at_place-append_before xs ys zero j x y l e f = absurd cc
@@ -43,10 +44,12 @@ push_cases (z ∷ xs) y (suc k) x e = more (push_cases xs y k x e)
     more (inl h) = inl h
     more (inr h) = inr (ap suc h.0, h.1)
 
+-- what is put in front of two lists together is put in front of the first
 cons_if-append : {A : Type 0} (b : Bool) (x : A) (xs ys : List A) → cons_if b x (xs ++ ys) ≡ cons_if b x xs ++ ys
 cons_if-append true x xs ys = refl
 cons_if-append false x xs ys = refl
 
+-- so is what an act sends
 pub send_at-append : (c r : ℕ) (a : Act) (xs ys : List Message) → send_at c r a (xs ++ ys) ≡ send_at c r a xs ++ ys
 send_at-append c r (sends d context t items) xs ys = cons_if-append (d == r) _ xs ys
 send_at-append c r (takes s j) xs ys = refl
@@ -54,6 +57,7 @@ send_at-append c r (hits s j) xs ys = refl
 send_at-append c r misses xs ys = refl
 send_at-append c r (prints v) xs ys = refl
 
+-- and what it prints
 print_at-append : (c : ℕ) (a : Act) (xs ys : List (ℕ × ℤ)) → print_at c a (xs ++ ys) ≡ print_at c a xs ++ ys
 print_at-append c (sends d context t items) xs ys = refl
 print_at-append c (takes s j) xs ys = refl

@@ -18,6 +18,7 @@ use Rattle.crash_free.proofs.SlotLemmas.{slots_same, slots-push, slots_take}
 lane-set_same : (lanes : List (List Slot)) (s r : ℕ) (x : List Slot) → place_of s r < length lanes → lane (slice_set lanes (place_of s r) x) s r ≡ x
 lane-set_same lanes s r x low = get_or-set_same lanes (place_of s r) x [] low
 
+-- and the other pairs' lists stay
 lane-set_other : (lanes : List (List Slot)) (s r s' r' : ℕ) (x : List Slot) → (place_of s' r' ≡ place_of s r → ⊥)
     → lane (slice_set lanes (place_of s r) x) s' r' ≡ lane lanes s' r'
 lane-set_other lanes s r s' r' x differ = get_or-set_other lanes (place_of s r) (place_of s' r') x [] differ
@@ -38,6 +39,7 @@ slots_kept C q a s r same no_take =
     ap (λ ms. slots_from 0 s (history (record { rank = q; act = a } ∷ C) r) ms) same
     ∙ slots_same 0 s (history C r) (history (record { rank = q; act = a } ∷ C) r) (sent C s r) (λ j l. keeps_taken C q a r s j (no_take j))
 
+-- two tests, the second of which fails, aren't passed together
 and_false : (b : Bool) → (b && false) ≡ false
 and_false true = refl
 and_false false = refl

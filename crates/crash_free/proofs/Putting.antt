@@ -86,7 +86,10 @@ IsPut before place after = (after ≡ before) ⊎ (after ≡ before ++ place ∷
 pub put_lists_more : (i mid : IndexValue) (q place : ℕ) (before after : List ℕ) → HasQueues i mid → slice_get mid.queues q ≡ Some before
     → IsPut before place after → ListsMore i place (with_queue mid q after)
 put_lists_more i mid q place before after has there put =
-    record { listed = λ kind other l. more kind other (listed_on i mid kind other has l); index = λ slots long w. whole slots long (index_on i mid slots has w) }
+    record {
+      listed = λ kind other l. more kind other (listed_on i mid kind other has l);
+      index = λ slots long w. whole slots long (index_on i mid slots has w);
+    }
   where
     kept : (other : ℕ) → IsPut before place after → (j : ℕ) → slice_get before j ≡ Some other → (k : ℕ) × (slice_get after k ≡ Some other)
     kept other (inl e) j at = (j, subst (λ xs. slice_get xs j ≡ Some other) (sym e) at)

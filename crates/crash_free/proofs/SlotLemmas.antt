@@ -17,16 +17,19 @@ use Rattle.crash_free.specs.Slots.{packet_of, slot_of, slots_from, passes}
 
 -- a packet's test and the definition's agree
 
+-- two tests that are passed together are each passed
 pub both : (a b : Bool) → (a && b) ≡ true → (a ≡ true) × (b ≡ true)
 both true b h = (refl, h)
 both false b h = (cc, cc)
 
+-- contexts that pass the test are the same
 pub same_contexts : (a b : Context) → same_context a b ≡ true → b ≡ a
 same_contexts PointToPoint PointToPoint h = refl
 same_contexts PointToPoint Collective h = cc
 same_contexts Collective PointToPoint h = cc
 same_contexts Collective Collective h = refl
 
+-- and the same contexts pass it
 contexts_same : (a b : Context) → b ≡ a → same_context a b ≡ true
 contexts_same a b e = subst (λ z. same_context a z ≡ true) (sym e) (own a)
   where
@@ -34,25 +37,30 @@ contexts_same a b e = subst (λ z. same_context a z ≡ true) (sym e) (own a)
     own PointToPoint = refl
     own Collective = refl
 
+-- a number that the test allows is one that the selector names
 allowed : (o : Option ℕ) (n : ℕ) → allows o n ≡ true → IsNamed o n
 allowed None n h = tt
 allowed (Some x) n h = sym (eqb-true x n h)
 
+-- and one that it names is allowed
 named : (o : Option ℕ) (n : ℕ) → IsNamed o n → allows o n ≡ true
 named None n h = refl
 named (Some x) n h = eq-eqb x n (sym h)
 
+-- a message whose packet passes the test matches by the definition
 pub matching_packet : (w : Selector) (s : ℕ) (m : Message) → matches w (packet_of s m) ≡ true → Matches w s m
 matching_packet w s m h =
     let r = both (same_context w.context m.context && allows w.source s) (allows w.tag m.tag) h in
     let q = both (same_context w.context m.context) (allows w.source s) r.0 in
     (same_contexts w.context m.context q.0, allowed w.source s q.1, allowed w.tag m.tag r.1)
 
+-- and one that matches by the definition passes the test
 pub packet_matching : (w : Selector) (s : ℕ) (m : Message) → Matches w s m → matches w (packet_of s m) ≡ true
 packet_matching w s m h = rw (contexts_same w.context m.context h.0, named w.source s h.1, named w.tag m.tag h.2) refl
 
 -- the slot at a place
 
+-- a message has its slot at the place where it stands
 slot_at : (k s : ℕ) (h : History) (ms : List Message) (i : ℕ) (m : Message) → slice_get ms i ≡ Some m
     → slice_get (slots_from k s h ms) i ≡ Some (slot_of s (taken h s (k + i + 1)) m)
 slot_at k s h [] i m e = cc
@@ -64,6 +72,7 @@ slot_at k s h (x ∷ ms) (suc i) m e =
     let z : k + suc i + 1 ≡ k + 1 + i + 1 = omega arith in
     rw z (slot_at (k + 1) s h ms i m e)
 
+-- there are as many slots as messages
 length-slots : (k s : ℕ) (h : History) (ms : List Message) → length (slots_from k s h ms) ≡ length ms
 length-slots k s h [] = refl
 length-slots k s h (x ∷ ms) = ap suc (length-slots (k + 1) s h ms)
@@ -79,10 +88,12 @@ passes_slot : (w : Selector) (s : ℕ) (b : Bool) (m : Message) → passes w (sl
 passes_slot w s true m h = cc
 passes_slot w s false m h = (refl, matching_packet w s m h)
 
+-- and where both are so the slot passes
 slot_passes : (w : Selector) (s : ℕ) (b : Bool) (m : Message) → b ≡ false → Matches w s m → passes w (slot_of s b m) ≡ true
 slot_passes w s true m e h = cc
 slot_passes w s false m e h = packet_matching w s m h
 
+-- so where the slot of a message that is named fails, it was taken
 slot_fails : (w : Selector) (s : ℕ) (b : Bool) (m : Message) → passes w (slot_of s b m) ≡ false → Matches w s m → b ≡ true
 slot_fails w s true m e h = refl
 slot_fails w s false m e h = absurd (differ (sym (packet_matching w s m h) ∙ e))

@@ -12,6 +12,7 @@ use Rattle.rank_machine.specs.Acts.{Act, Message, sends, takes, hits, misses, pr
 use Rattle.crash_free.specs.Runs.{Passed, History, at_place, history, sent, send_at, taken, takes_it, IsFree, IsRun}
 use Rattle.crash_free.proofs.Lists.{taken-push, history-own, history-other, sent-own, sent-other}
 
+-- a test that fails adds nothing to another
 or_false : (b : Bool) → b ≡ (b || false)
 or_false true = refl
 or_false false = refl

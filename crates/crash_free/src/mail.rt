@@ -1,5 +1,6 @@
 //! The messages between ranks, without those that are taken.
-ghost use Rattle.std.specs.Prelude.{◌≡◌, ◌≢◌, ℕ, ◌+◌, ◌*◌, ◌<◌, ◌≤◌, [], ◌∷◌, ◌++◌, Some, None, IfOk, OnOk, OnErr, IfSome, IsNone, IsSomeAnd, IsSome, length, position, replicate, slice_get, slice_set};
+ghost use Rattle.std.specs.Prelude.{◌≡◌, ◌≢◌, ℕ, ◌+◌, ◌*◌, ◌<◌, ◌≤◌, [], ◌∷◌, ◌++◌, Some, None};
+ghost use Rattle.std.specs.Prelude.{IfOk, OnOk, OnErr, IfSome, IsNone, IsSomeAnd, IsSome, length, position, replicate, slice_get, slice_set};
 ghost use Rattle.metered.specs.Limits.{most_ranks};
 ghost use Rattle.crash_free.specs.Slots.{passes, lane, place_of};
 

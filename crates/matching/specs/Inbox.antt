@@ -1,6 +1,7 @@
 -- The inbox as contracts see it (reception in the order of sending, without gap or repetition: Alvisi and
 -- Marzullo 1998; order of messages: MPI 1.1, section 3.5).
-use Rattle.std.specs.Prelude.{◌≡◌, ℕ, ◌+◌, ◌<◌, ◌≤◌, Bool, ◌&&◌, ◌||◌, not, List, [], ◌∷◌, ◌++◌, length, ◌==◌, nat_le, nat_lt, if◌then◌else◌, slice_index, slice_set, remove}
+use Rattle.std.specs.Prelude.{◌≡◌, ℕ, ◌+◌, ◌<◌, ◌≤◌, Bool, ◌&&◌, ◌||◌, not, List, [], ◌∷◌, ◌++◌}
+use Rattle.std.specs.Prelude.{length, ◌==◌, nat_le, nat_lt, if◌then◌else◌, slice_index, slice_set, remove}
 use Rattle.std.specs.Prelude.{All, AllPairs}
 use Rattle.std.specs.List.{list_all}
 use Rattle.metered.specs.Limits.{greatest_clock}

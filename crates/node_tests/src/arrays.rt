@@ -32,7 +32,8 @@ fn packet_of(alloc: Heap, greatest: i64) -> Result<Option<Packet>, Fail> {
 /// all, sets the last one, and reads one past the last.
 fn text_of(alloc: Heap, length: i64) -> Result<String<Heap>, AllocError> {
     format!(in alloc;
-        "array a[{length}]\nrecv any, any, a\nprint count\nprint a[{length} - 1]\nsend 0, 0, a\nlet a[{length} - 1] = 0\nprint a[{length} - 1]\nprint a[{length}]"
+        "array a[{length}]\nrecv any, any, a\nprint count\nprint a[{length} - 1]\nsend 0, 0, a\n\
+         let a[{length} - 1] = 0\nprint a[{length} - 1]\nprint a[{length}]"
     )
 }
 

@@ -28,6 +28,7 @@ take-seam zero (p ∷ ps) m ms e = cc
 take-seam (suc n) [] m ms e = absurd cc
 take-seam (suc n) (p ∷ ps) m ms e = ap (λ l. p ∷ l) (take-seam n ps m ms e)
 
+-- and those behind it are the rest
 drop-seam : (n : ℕ) (ps : List Message) (m : Message) (ms : List Message) → drop n ps ≡ m ∷ ms → drop (suc n) ps ≡ ms
 drop-seam zero [] m ms e = absurd cc
 drop-seam zero (p ∷ ps) m ms e = cc
@@ -42,6 +43,7 @@ length_kept base sent cursor ps is = let short = length-take (sent - base) ps in
 above : (a b : ℕ) → a < b → nat_lt a b ≡ true
 above a b lt = lt-ltb a b lt
 
+-- and the number that is no greater fails it
 not_above : (a b : ℕ) → b ≤ a → nat_lt a b ≡ false
 not_above a b le = grind (arith, common_steps)
 
@@ -49,6 +51,7 @@ not_above a b le = grind (arith, common_steps)
 saved_above : (b : Backlog) (m : Message) → b.base < m.number → saved b m ≡ record b { sent = b.sent + 1; kept = b.kept ++ m ∷ [] }
 saved_above b m lt = ap (λ (t : Bool). record b { sent = b.sent + 1; kept = if t then b.kept ++ m ∷ [] else b.kept }) (above b.base m.number lt)
 
+-- and where it is not, the packet is only counted as sent
 saved_below : (b : Backlog) (m : Message) → m.number ≤ b.base → saved b m ≡ record b { sent = b.sent + 1 }
 saved_below b m le = ap (λ (t : Bool). record b { sent = b.sent + 1; kept = if t then b.kept ++ m ∷ [] else b.kept }) (not_above b.base m.number le)
 
@@ -219,6 +222,7 @@ held_after base sent upto ps lt =
     let all : min (sent - base) (upto - base) + (sent - upto) ≡ sent - base = omega arith in
     drop-drop (sent - upto) (min (sent - base) (upto - base)) ps ∙ ap (λ k. drop k ps) all
 
+-- so where the kept packets up to a number go from the front of the list, it is the pruned backlog
 pub pruned_front : (base sent cursor upto last : ℕ) (ps qs : List Message) → base < upto → last ≡ max cursor (upto + 1)
     → qs ≡ drop (min (sent - base) (upto - base)) ps
     → backlog_of upto sent last qs ≡ pruned (backlog_of base sent cursor ps) upto

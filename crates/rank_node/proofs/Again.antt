@@ -19,7 +19,8 @@ settled_nil [] settled = refl
 settled_nil (x ∷ xs) settled = absurd cc
 
 -- a backlog that holds what stood at its place before leaves what is held for each destination
-pub held_stays : (log : List Backlog) (dest : ℕ) (b : Backlog) → b.held ≡ (backlog log dest).held → (d : ℕ) → (backlog (slice_set log dest b) d).held ≡ (backlog log d).held
+pub held_stays : (log : List Backlog) (dest : ℕ) (b : Backlog) → b.held ≡ (backlog log dest).held
+    → (d : ℕ) → (backlog (slice_set log dest b) d).held ≡ (backlog log d).held
 held_stays [] dest b same d = refl
 held_stays (x ∷ log) zero b same zero = same
 held_stays (x ∷ log) zero b same (suc d) = refl

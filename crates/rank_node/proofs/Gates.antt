@@ -1,6 +1,7 @@
 -- What waits at the gate, as it grows at its end and shrinks at its front: how many effects there are, how many sends to a
 -- rank, and that the first of it are events.
-use Rattle.std.proofs.Common.{◌≡◌, ℕ, zero, suc, ◌+◌, ◌-◌, ◌<◌, ◌≤◌, Bool, true, false, ◌==◌, if◌then◌else◌, List, [], ◌∷◌, ◌++◌, length, drop, slice_get, option_and_then, refl, subst, arith}
+use Rattle.std.proofs.Common.{◌≡◌, ℕ, zero, suc, ◌+◌, ◌-◌, ◌<◌, ◌≤◌, Bool, true, false, ◌==◌, if◌then◌else◌, List, [], ◌∷◌, ◌++◌}
+use Rattle.std.proofs.Common.{length, drop, slice_get, option_and_then, refl, subst, arith}
 use Rattle.std.specs.Prelude.{IsSome}
 use Rattle.rank_node.specs.declared.waiting.Waiting.{Waiting}
 use Rattle.rank_node.specs.declared.waiting.Waiting.TheVariants.{Event, Send, Line}
@@ -13,8 +14,10 @@ use Rattle.rank_node.specs.Releasing.{effect_of}
 pub effects_push : (xs : List Waiting) (y : Waiting) → effects (xs ++ y ∷ []) ≡ effects xs + effects (y ∷ [])
 effects_push [] y = (let z : effects (y ∷ []) ≡ 0 + effects (y ∷ []) = omega arith in z)
 effects_push (Event e ∷ xs) y = effects_push xs y
-effects_push (Send d c ∷ xs) y = (let z = effects_push xs y in let q : suc (effects (xs ++ y ∷ [])) ≡ suc (effects xs) + effects (y ∷ []) = omega (arith, z) in q)
-effects_push (Line c v ∷ xs) y = (let z = effects_push xs y in let q : suc (effects (xs ++ y ∷ [])) ≡ suc (effects xs) + effects (y ∷ []) = omega (arith, z) in q)
+effects_push (Send d c ∷ xs) y =
+    (let z = effects_push xs y in let q : suc (effects (xs ++ y ∷ [])) ≡ suc (effects xs) + effects (y ∷ []) = omega (arith, z) in q)
+effects_push (Line c v ∷ xs) y =
+    (let z = effects_push xs y in let q : suc (effects (xs ++ y ∷ [])) ≡ suc (effects xs) + effects (y ∷ []) = omega (arith, z) in q)
 
 -- where an effect stands first there is one more than behind it
 pub effects_release : (xs : List Waiting) → IsSome (option_and_then effect_of (slice_get xs 0)) → effects xs ≡ effects (drop 1 xs) + 1
@@ -31,7 +34,9 @@ sends_to_push d [] y = (let z : sends_to d (y ∷ []) ≡ 0 + sends_to d (y ∷ 
 sends_to_push d (Event e ∷ xs) y = sends_to_push d xs y
 sends_to_push d (Send e c ∷ xs) y = go (e == d) (sends_to_push d xs y)
   where
-    go : (b : Bool) → sends_to d (xs ++ y ∷ []) ≡ sends_to d xs + sends_to d (y ∷ []) → (if b then suc (sends_to d (xs ++ y ∷ [])) else sends_to d (xs ++ y ∷ [])) ≡ (if b then suc (sends_to d xs) else sends_to d xs) + sends_to d (y ∷ [])
+    go : (b : Bool) → sends_to d (xs ++ y ∷ []) ≡ sends_to d xs + sends_to d (y ∷ [])
+        → (if b then suc (sends_to d (xs ++ y ∷ [])) else sends_to d (xs ++ y ∷ []))
+        ≡ (if b then suc (sends_to d xs) else sends_to d xs) + sends_to d (y ∷ [])
     go true z = omega (arith, z)
     go false z = z
 sends_to_push d (Line c v ∷ xs) y = sends_to_push d xs y
@@ -69,7 +74,8 @@ begins_more zero (Event e ∷ xs) b f = tt
 begins_more zero (Send d c ∷ xs) b f = absurd cc
 begins_more zero (Line c v ∷ xs) b f = absurd cc
 begins_more (suc k) [] b f = absurd b
-begins_more (suc k) (Event x ∷ xs) b f = (let z : suc (k + 1) ≡ suc k + 1 = omega arith in subst (λ y. BeginsWithEvents y (Event x ∷ xs)) z (begins_more k xs b f))
+begins_more (suc k) (Event x ∷ xs) b f =
+    (let z : suc (k + 1) ≡ suc k + 1 = omega arith in subst (λ y. BeginsWithEvents y (Event x ∷ xs)) z (begins_more k xs b f))
 begins_more (suc k) (Send d c ∷ xs) b f = absurd b
 begins_more (suc k) (Line c v ∷ xs) b f = absurd b
 

@@ -1,6 +1,7 @@
 -- For each rank as many packets are held as sends to it wait: so it stays where an event, a line or a send comes to wait,
 -- and where a send is released.
-use Rattle.std.proofs.Common.{◌≡◌, ℕ, zero, suc, ◌+◌, ◌<◌, ◌⊎◌, inl, inr, if◌then◌else◌, ℤ, List, [], ◌∷◌, ◌++◌, length, drop, Some, slice_get, option_and_then, refl, sym, ap, subst, ◌∙◌, arith, slice_set}
+use Rattle.std.proofs.Common.{◌≡◌, ℕ, zero, suc, ◌+◌, ◌<◌, ◌⊎◌, inl, inr, if◌then◌else◌, ℤ, List, [], ◌∷◌, ◌++◌}
+use Rattle.std.proofs.Common.{length, drop, Some, slice_get, option_and_then, refl, sym, ap, subst, ◌∙◌, arith, slice_set}
 use Rattle.std.proofs.lemmas.Bool.{cases_eq, eq-eqb, ne_eqb}
 use Rattle.std.proofs.lemmas.List.{get_or-set_same, get_or-set_other, length_push}
 use Rattle.matching.specs.Message as packet
@@ -27,10 +28,14 @@ pub sends_to_line : (d : ℕ) (xs : List Waiting) (clock : ℕ) (value : ℤ) �
 sends_to_line d xs clock value = (let z = sends_to_push d xs (Line clock value) in omega (arith, z))
 
 -- so as many packets are held as sends wait, as before
-pub held_event : (log : List Backlog) (old new : Gate) (e : EventValue) → new ≡ record { waiting = old.waiting ++ Event e ∷ []; stored = old.stored } → Held log old.waiting → Held log new.waiting
+pub held_event : (log : List Backlog) (old new : Gate) (e : EventValue) → new ≡ record { waiting = old.waiting ++ Event e ∷ []; stored = old.stored }
+    → Held log old.waiting → Held log new.waiting
 held_event log old new e more h d = h d ∙ sym (ap (λ (g : Gate). sends_to d g.waiting) more ∙ sends_to_event d old.waiting e)
 
-pub held_line : (log : List Backlog) (old new : Gate) (clock : ℕ) (value : ℤ) → new ≡ record { waiting = old.waiting ++ Line clock value ∷ []; stored = old.stored } → Held log old.waiting → Held log new.waiting
+-- and so it is where a line comes to wait
+pub held_line : (log : List Backlog) (old new : Gate) (clock : ℕ) (value : ℤ)
+    → new ≡ record { waiting = old.waiting ++ Line clock value ∷ []; stored = old.stored }
+    → Held log old.waiting → Held log new.waiting
 held_line log old new clock value more h d = h d ∙ sym (ap (λ (g : Gate). sends_to d g.waiting) more ∙ sends_to_line d old.waiting clock value)
 
 -- a send waits, and its packet is held
@@ -46,7 +51,8 @@ held_send log xs dest clock p below h d = go (cases_eq d dest)
         ∙ sym (sends_to_push dest xs (Send dest clock) ∙ ap (λ b. sends_to dest xs + (if b then 1 else 0)) (eq-eqb dest dest refl)))
     go (inr ne) =
         ap (λ z. length z.held) (get_or-set_other log dest d (hold (backlog log dest) p) new_backlog ne) ∙ h d
-        ∙ sym (sends_to_push d xs (Send dest clock) ∙ ap (λ b. sends_to d xs + (if b then 1 else 0)) (ne_eqb dest d (λ z. ne (sym z))) ∙ (let z : sends_to d xs + 0 ≡ sends_to d xs = omega arith in z))
+        ∙ sym (sends_to_push d xs (Send dest clock) ∙ ap (λ b. sends_to d xs + (if b then 1 else 0)) (ne_eqb dest d (λ z. ne (sym z)))
+        ∙ (let z : sends_to d xs + 0 ≡ sends_to d xs = omega arith in z))
 
 -- ---- what is released
 
@@ -60,7 +66,9 @@ first_send (Line c v ∷ xs) dest clock e = absurd cc
 -- where a send waits first a packet is held for its rank
 pub held_some : (log : List Backlog) (xs : List Waiting) (dest clock : ℕ) → Held log xs → xs ≡ Send dest clock ∷ drop 1 xs → 0 < length (backlog log dest).held
 held_some log xs dest clock h e =
-    (let a = h dest ∙ ap (sends_to dest) e ∙ ap (λ b. if b then suc (sends_to dest (drop 1 xs)) else sends_to dest (drop 1 xs)) (eq-eqb dest dest refl) in omega (arith, a))
+    (let a = h dest ∙ ap (sends_to dest) e
+    ∙ ap (λ b. if b then suc (sends_to dest (drop 1 xs)) else sends_to dest (drop 1 xs)) (eq-eqb dest dest refl) in
+    omega (arith, a))
 
 -- a rank for which a packet is held is one of the ranks
 pub held_within : (log : List Backlog) (dest : ℕ) → 0 < length (backlog log dest).held → dest < length log
@@ -68,6 +76,7 @@ held_within [] dest l = absurd (omega (arith, l))
 held_within (b ∷ log) zero l = omega arith
 held_within (b ∷ log) (suc dest) l = (let z = held_within log dest l in omega (arith, z))
 
+-- a backlog that frees a packet holds one less
 freed_less : (b : Backlog) (n : ℕ) → length b.held ≡ suc n → length (freed b).held ≡ n
 freed_less b n e = go b.held e
   where
@@ -87,7 +96,8 @@ held_release log xs dest clock below h s d = go (cases_eq d dest)
     go (inl e) =
         subst (λ z. length (backlog (slice_set log dest (freed (backlog log dest))) z).held ≡ sends_to z rest) (sym e)
         (ap (λ z. length z.held) (get_or-set_same log dest (freed (backlog log dest)) new_backlog below)
-        ∙ freed_less (backlog log dest) (sends_to dest rest) (h dest ∙ ap (sends_to dest) s ∙ ap (λ b. if b then suc (sends_to dest rest) else sends_to dest rest) (eq-eqb dest dest refl)))
+        ∙ freed_less (backlog log dest) (sends_to dest rest)
+        (h dest ∙ ap (sends_to dest) s ∙ ap (λ b. if b then suc (sends_to dest rest) else sends_to dest rest) (eq-eqb dest dest refl)))
     go (inr ne) =
         ap (λ z. length z.held) (get_or-set_other log dest d (freed (backlog log dest)) new_backlog ne) ∙ h d ∙ ap (sends_to d) s
         ∙ ap (λ b. if b then suc (sends_to d rest) else sends_to d rest) (ne_eqb dest d (λ z. ne (sym z)))

@@ -1,5 +1,6 @@
 -- What an image says of a rank, and where a rank that starts again stands.
-use Rattle.std.proofs.Common.{◌≡◌, ℕ, zero, suc, ◌+◌, ◌<◌, ◌≤◌, ◌⊎◌, inl, inr, List, [], ◌∷◌, ◌++◌, length, map, take, slice_set, slice_index, slice_index_or, Option, refl, sym, ap, subst, ◌∙◌, arith}
+use Rattle.std.proofs.Common.{◌≡◌, ℕ, zero, suc, ◌+◌, ◌<◌, ◌≤◌, ◌⊎◌, inl, inr, List, [], ◌∷◌, ◌++◌}
+use Rattle.std.proofs.Common.{length, map, take, slice_set, slice_index, slice_index_or, Option, refl, sym, ap, subst, ◌∙◌, arith}
 use Rattle.std.specs.Prelude.{All}
 use Rattle.std.specs.List.{flat_map}
 use Rattle.std.proofs.lemmas.Bool.{cases_lt}
@@ -35,7 +36,8 @@ first_savable program rank size limit = record {
 }
 
 -- a rank at which nothing waits
-pub node_savable : {S D : Type 0} (v : Node S D) → IsNode v → v.pending ≡ [] → IsSavable (record { machine = v.machine; clock = v.clock; inbox = v.inbox; log = v.log })
+pub node_savable : {S D : Type 0} (v : Node S D) → IsNode v → v.pending ≡ []
+    → IsSavable (record { machine = v.machine; clock = v.clock; inbox = v.inbox; log = v.log })
 node_savable v is settled = record {
   ranks = (let a = is.machine_size in let b = is.limit in omega (arith, a, b));
   accepted = is.inbox ∙ sym is.machine_size;
@@ -76,7 +78,8 @@ keeps_same last old = record { shelf = old.shelf; same = refl; image = refl }
 
 -- what is due to one rank more
 pub kepts_more : (accepted : List ℕ) (dues : List Due) (i : ℕ) (d : Due) → i < length accepted → i < length dues
-    → kepts_due (take (i + 1) accepted) dues ≡ slice_set (kepts_due (take i accepted) dues) i (kept_due (slice_index accepted i) (slice_index_or (kepts_due (take i accepted) dues) i d))
+    → kepts_due (take (i + 1) accepted) dues
+    ≡ slice_set (kepts_due (take i accepted) dues) i (kept_due (slice_index accepted i) (slice_index_or (kepts_due (take i accepted) dues) i d))
 kepts_more accepted dues i d low below = ap (λ k. kepts_due (take k accepted) dues) (add-one i) ∙ go accepted dues i low below
   where
     go : (ns : List ℕ) (ds : List Due) (i : ℕ) → i < length ns → i < length ds

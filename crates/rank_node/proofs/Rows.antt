@@ -4,6 +4,7 @@ use Rattle.std.proofs.Common.{arith}
 use Rattle.plain_logger.specs.Event.{EventValue}
 use Rattle.plain_logger.specs.History.{above}
 
+-- the events of a row above a clock are no more than the row has
 pub length_above : (after : ℕ) (es : List EventValue) → length (above after es) ≤ length es
 length_above after [] = (let z : 0 ≤ 0 = omega arith in z)
 length_above after (e ∷ es) = go (nat_lt after e.receiver_clock) (length_above after es)

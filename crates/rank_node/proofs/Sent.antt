@@ -1,7 +1,8 @@
 -- What a rank keeps and holds for others was sent by its own acts, the earlier packet by an earlier act. A packet that is
 -- saved or held has a greater clock than all before it, and goes behind them; one that is freed stays where it stands; one
 -- that is let go leaves the order of the others; and as the clock grows, all stay within it.
-use Rattle.std.proofs.Common.{◌≡◌, ℕ, suc, ◌+◌, ◌-◌, ◌<◌, ◌≤◌, ◌⊎◌, inl, inr, Bool, true, false, if◌then◌else◌, List, [], ◌∷◌, ◌++◌, length, drop, max, replicate, slice_set, slice_index_or, refl, sym, ap, subst, ◌∙◌, arith, append-nil, append_assoc}
+use Rattle.std.proofs.Common.{◌≡◌, ℕ, suc, ◌+◌, ◌-◌, ◌<◌, ◌≤◌, ◌⊎◌, inl, inr, Bool, true, false, if◌then◌else◌, List, [], ◌∷◌, ◌++◌}
+use Rattle.std.proofs.Common.{length, drop, max, replicate, slice_set, slice_index_or, refl, sym, ap, subst, ◌∙◌, arith, append-nil, append_assoc}
 use Rattle.std.specs.Prelude.{All, AllPairs, nat_lt, remove}
 use Rattle.std.proofs.lemmas.Bool.{cases_lt}
 use Rattle.std.proofs.lemmas.List.{length-drop, length-append, length_push, get_or-drop, drop-append-le, drop_all}
@@ -96,7 +97,8 @@ later_sent rank c d le b is =
 -- the packet of the next act is saved
 saved_sent : (rank c : ℕ) (b : Backlog) (m : Message) → b.held ≡ [] → m.source ≡ rank → m.clock ≡ c + 1 → IsSentBy rank c b → IsSentBy rank (c + 1) (saved b m)
 saved_sent rank c b m none own next is =
-    is_sent_by rank (c + 1) (saved b m) (subst (AreSent rank (c + 1)) (sym (ap (λ h. (saved b m).kept ++ h) none ∙ append-nil (saved b m).kept)) (go (nat_lt b.base m.number)))
+    is_sent_by rank (c + 1) (saved b m)
+    (subst (AreSent rank (c + 1)) (sym (ap (λ h. (saved b m).kept ++ h) none ∙ append-nil (saved b m).kept)) (go (nat_lt b.base m.number)))
     (let z = is.acts in omega (arith, z))
   where
     kept : AreSent rank c b.kept
@@ -117,14 +119,16 @@ hold_sent rank c b m own next is =
 freed_sent : (rank c : ℕ) (b : Backlog) → IsSentBy rank c b → IsSentBy rank c (freed b)
 freed_sent rank c b is = go b.held (are_sent rank c b is) is.acts
   where
-    kept_on : (m : Message) (ms : List Message) → AreSent rank c (b.kept ++ m ∷ ms) → (above : Bool) → AreSent rank c ((if above then b.kept ++ m ∷ [] else b.kept) ++ ms)
+    kept_on : (m : Message) (ms : List Message) → AreSent rank c (b.kept ++ m ∷ ms) → (above : Bool)
+        → AreSent rank c ((if above then b.kept ++ m ∷ [] else b.kept) ++ ms)
     kept_on m ms are true = subst (AreSent rank c) (sym (append_assoc b.kept (m ∷ []) ms)) are
     kept_on m ms are false = sent_without rank c b.kept m ms are
 
     go : (held : List Message) → AreSent rank c (b.kept ++ held) → b.sent + length held ≤ c → IsSentBy rank c (freed_of b held)
     go [] are acts = is
     go (m ∷ ms) are acts =
-        is_sent_by rank c (saved (record b { held = ms }) m) (kept_on m ms are (nat_lt b.base m.number)) (let z : b.sent + 1 + length ms ≤ c = omega (arith, acts) in z)
+        is_sent_by rank c (saved (record b { held = ms }) m) (kept_on m ms are (nat_lt b.base m.number))
+        (let z : b.sent + 1 + length ms ≤ c = omega (arith, acts) in z)
 
 -- the first of those kept are let go
 pruned_sent : (rank c : ℕ) (b : Backlog) (upto : ℕ) → IsSentBy rank c b → IsSentBy rank c (pruned b upto)
@@ -158,7 +162,8 @@ pub log_later : (rank c : ℕ) (log : List Backlog) → All (IsSentBy rank c) lo
 log_later rank c log all = All-weaker (IsSentBy rank c) (IsSentBy rank (c + 1)) (later_sent rank c (c + 1) (omega arith)) log all
 
 -- the act saved its packet
-pub log_saved : (rank c : ℕ) (log : List Backlog) (dest : ℕ) (m : Message) → dest < length log → (backlog log dest).held ≡ [] → m.source ≡ rank → m.clock ≡ c + 1
+pub log_saved : (rank c : ℕ) (log : List Backlog) (dest : ℕ) (m : Message) → dest < length log → (backlog log dest).held ≡ []
+    → m.source ≡ rank → m.clock ≡ c + 1
     → All (IsSentBy rank c) log → All (IsSentBy rank (c + 1)) (slice_set log dest (saved (backlog log dest) m))
 log_saved rank c log dest m below none own next all =
     All-set (IsSentBy rank (c + 1)) log dest (saved (backlog log dest) m)
@@ -172,23 +177,29 @@ log_hold rank c log dest m below own next all =
     (hold_sent rank c (backlog log dest) m own next (All-get_or (IsSentBy rank c) log dest new_backlog below all)) (log_later rank c log all)
 
 -- a packet that was held is saved
-pub log_freed : (rank c : ℕ) (log : List Backlog) (dest : ℕ) → dest < length log → All (IsSentBy rank c) log → All (IsSentBy rank c) (slice_set log dest (freed (backlog log dest)))
+pub log_freed : (rank c : ℕ) (log : List Backlog) (dest : ℕ) → dest < length log → All (IsSentBy rank c) log
+    → All (IsSentBy rank c) (slice_set log dest (freed (backlog log dest)))
 log_freed rank c log dest below all =
-    All-set (IsSentBy rank c) log dest (freed (backlog log dest)) (freed_sent rank c (backlog log dest) (All-get_or (IsSentBy rank c) log dest new_backlog below all)) all
+    All-set (IsSentBy rank c) log dest (freed (backlog log dest))
+    (freed_sent rank c (backlog log dest) (All-get_or (IsSentBy rank c) log dest new_backlog below all)) all
 
 -- packets are let go
-pub log_pruned : (rank c : ℕ) (log : List Backlog) (dest upto : ℕ) → dest < length log → All (IsSentBy rank c) log → All (IsSentBy rank c) (slice_set log dest (pruned (backlog log dest) upto))
+pub log_pruned : (rank c : ℕ) (log : List Backlog) (dest upto : ℕ) → dest < length log → All (IsSentBy rank c) log
+    → All (IsSentBy rank c) (slice_set log dest (pruned (backlog log dest) upto))
 log_pruned rank c log dest upto below all =
-    All-set (IsSentBy rank c) log dest (pruned (backlog log dest) upto) (pruned_sent rank c (backlog log dest) upto (All-get_or (IsSentBy rank c) log dest new_backlog below all)) all
+    All-set (IsSentBy rank c) log dest (pruned (backlog log dest) upto)
+    (pruned_sent rank c (backlog log dest) upto (All-get_or (IsSentBy rank c) log dest new_backlog below all)) all
 
 -- packets are asked for again
-pub log_asked : (rank c : ℕ) (log : List Backlog) (dest from : ℕ) → dest < length log → All (IsSentBy rank c) log → All (IsSentBy rank c) (slice_set log dest (asked (backlog log dest) from))
+pub log_asked : (rank c : ℕ) (log : List Backlog) (dest from : ℕ) → dest < length log → All (IsSentBy rank c) log
+    → All (IsSentBy rank c) (slice_set log dest (asked (backlog log dest) from))
 log_asked rank c log dest from below all =
     All-set (IsSentBy rank c) log dest (asked (backlog log dest) from)
     (at_cursor_sent rank c (backlog log dest) (asked (backlog log dest) from).cursor (All-get_or (IsSentBy rank c) log dest new_backlog below all)) all
 
 -- the packet at the cursor has gone
-pub log_passed : (rank c : ℕ) (log : List Backlog) (dest : ℕ) → dest < length log → All (IsSentBy rank c) log → All (IsSentBy rank c) (slice_set log dest (passed (backlog log dest)))
+pub log_passed : (rank c : ℕ) (log : List Backlog) (dest : ℕ) → dest < length log → All (IsSentBy rank c) log
+    → All (IsSentBy rank c) (slice_set log dest (passed (backlog log dest)))
 log_passed rank c log dest below all =
     All-set (IsSentBy rank c) log dest (passed (backlog log dest))
     (at_cursor_sent rank c (backlog log dest) (passed (backlog log dest)).cursor (All-get_or (IsSentBy rank c) log dest new_backlog below all)) all

@@ -1,5 +1,6 @@
 //! The steps of a rank whose next event stands in its row already.
-ghost use Rattle.std.specs.Prelude.{◌≡◌, ◌≢◌, ◌<◌, ◌≤◌, [], Some, None, Ok, Err, true, is_some, length, slice_get, if◌then◌else◌, IfOk, IfErr, IfSome, OnOk, OnErr, IsErrOf};
+ghost use Rattle.std.specs.Prelude.{◌≡◌, ◌≢◌, ◌<◌, ◌≤◌, [], Some, None, Ok, Err, true, is_some};
+ghost use Rattle.std.specs.Prelude.{length, slice_get, if◌then◌else◌, IfOk, IfErr, IfSome, OnOk, OnErr, IsErrOf};
 ghost use Rattle.metered.specs.Limits.{greatest_clock};
 ghost use Rattle.matching.specs.Message.{Message};
 ghost use Rattle.matching.specs.Matching.{matches};

@@ -74,7 +74,8 @@ const PROGRAMS: [Run; 8] = [
         "--ranks 8",
         "",
         0,
-        "rank 0: halted\nrank 1: halted\nrank 2: halted\nrank 3: halted\nrank 4: halted\nrank 5: halted\nrank 6: halted\nrank 7: halted\ncrashes 0, logger calls 0\n",
+        "rank 0: halted\nrank 1: halted\nrank 2: halted\nrank 3: halted\nrank 4: halted\nrank 5: halted\n\
+         rank 6: halted\nrank 7: halted\ncrashes 0, logger calls 0\n",
     ),
     // A rank's own message, and what the reception shows.
     (
@@ -86,14 +87,16 @@ const PROGRAMS: [Run; 8] = [
     // The tag decides, then the order of acceptance.
     (
         "--ranks 2",
-        "var x\nif rank == 0\nsend 1, 1, 10\nsend 1, 2, 20\nsend 1, 1, 30\nelse\nrecv 0, 2, x\nprint x\nrecv any, any, x\nprint x\nrecv any, any, x\nprint x\nend\n",
+        "var x\nif rank == 0\nsend 1, 1, 10\nsend 1, 2, 20\nsend 1, 1, 30\nelse\n\
+         recv 0, 2, x\nprint x\nrecv any, any, x\nprint x\nrecv any, any, x\nprint x\nend\n",
         0,
         "1> 20\n1> 10\n1> 30\nrank 0: halted\nrank 1: halted\ncrashes 0, logger calls 3\n",
     ),
     // Three ranks send to one, which asks for them by name.
     (
         "--ranks 4",
-        "var x\nvar y\nvar z\nif rank == 0\nrecv 3, any, x\nrecv 2, any, y\nrecv 1, any, z\nprint x * 10000 + y * 100 + z\nelse\nsend 0, rank, rank + 10\nend\n",
+        "var x\nvar y\nvar z\nif rank == 0\nrecv 3, any, x\nrecv 2, any, y\nrecv 1, any, z\n\
+         print x * 10000 + y * 100 + z\nelse\nsend 0, rank, rank + 10\nend\n",
         0,
         "0> 131211\nrank 0: halted\nrank 1: halted\nrank 2: halted\nrank 3: halted\ncrashes 0, logger calls 3\n",
     ),

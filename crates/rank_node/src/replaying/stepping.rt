@@ -24,12 +24,15 @@ impl<'p, S: Shelf, D> Replaying<'p, S, D> {
         ensures turn { IfOk result (λ turn. (e : EventValue) (rest : List EventValue) → self.old.left ≡ e ∷ rest → replay_turn_of self.old.node e ≡ Ok turn) }
         ensures ok { IfOk result (λ turn. (e : EventValue) (rest : List EventValue) → self.old.left ≡ e ∷ rest →
             self.new ≡ record { node = after_replay self.old.node e self.new.node.machine; left = left_after (asks self.old.node.machine) turn e rest }) }
-        ensures machine { OnOk result ((e : EventValue) (rest : List EventValue) → self.old.left ≡ e ∷ rest → ReplayStep self.old.node e self.new.node.machine) }
+        ensures machine { OnOk result ((e : EventValue) (rest : List EventValue) → self.old.left ≡ e ∷ rest →
+            ReplayStep self.old.node e self.new.node.machine) }
         ensures stable { self.new.node.stable ≡ self.old.node.stable }
         ensures shown { OnOk result (ShowsReplay C.shows self.old.node screen.old screen.new) }
 
-        ensures refusal { (fault : NodeFault) (e : EventValue) (rest : List EventValue) → self.old.left ≡ e ∷ rest → replay_turn_of self.old.node e ≡ Err fault → result ≡ Err fault }
-        ensures refused { IfErr result (λ fault. fault ≢ NodeFault.Memory → (e : EventValue) (rest : List EventValue) → self.old.left ≡ e ∷ rest → replay_turn_of self.old.node e ≡ Err fault) }
+        ensures refusal { (fault : NodeFault) (e : EventValue) (rest : List EventValue) → self.old.left ≡ e ∷ rest →
+            replay_turn_of self.old.node e ≡ Err fault → result ≡ Err fault }
+        ensures refused { IfErr result (λ fault. fault ≢ NodeFault.Memory →
+            (e : EventValue) (rest : List EventValue) → self.old.left ≡ e ∷ rest → replay_turn_of self.old.node e ≡ Err fault) }
         ensures memory { IsErrOf result NodeFault.Memory → replay_takes_memory self.old.node ≡ true }
         ensures err { OnErr result (self.new ≡ self.old) }
         ensures err_screen { OnErr result (screen.new ≡ screen.old) }

@@ -14,8 +14,8 @@ returns-in_default-clause-refused c =
     let known : Sought c.args.self.now s.program.now s.machines.items s.mail run c.args.rank (Receive c.args.selector.now) =
     record { seen = c.self.view_is; kept = c.self.invariant; rank = c.requires.there; asks = c.requires.asks } in
     let ranks : c.ranks-ranks.result ≡ length s.machines.items = c.ranks-ranks.ensures.value ∙ ap (λ (v : SimValue). length v.machines) (sym c.self.view_is) in
-    refuses_take c.args.self.now s.program.now s.machines.items s.mail run c.args.rank c.args.source c.args.index (Receive c.args.selector.now) c.args.selector.now takes
-    (receiving c.args.selector.now) known
+    refuses_take c.args.self.now s.program.now s.machines.items s.mail run c.args.rank c.args.source c.args.index
+    (Receive c.args.selector.now) c.args.selector.now takes (receiving c.args.selector.now) known
     (λ low. c.in_default.ensures.none refl (rw ranks low))
 
 pub returns-then-is_err-clause-refused : goal.returns-then-is_err-clause-refused

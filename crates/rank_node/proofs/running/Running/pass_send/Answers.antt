@@ -9,5 +9,6 @@ invariant_of-self-2 g c =
     let waiting = c.self.inside.pending.waiting in
     let below : c.args.dest < length c.self.inside.log = search rules in
     let none = none_held log waiting c.self.invariant.held (settled_nil waiting (search rules)) c.args.dest in
-    let sent = log_saved c.self.inside.stable.rank c.self.inside.clock log c.args.dest c.args.packet below none (search rules) (search rules) c.self.invariant.sent in
+    let sent = log_saved c.self.inside.stable.rank c.self.inside.clock log c.args.dest c.args.packet below none
+    (search rules) (search rules) c.self.invariant.sent in
     search rules

@@ -11,6 +11,7 @@ invariant_of-self-2 g c =
       | then-is_settled+in_ok-show w ↦ search rules
       | else-is_settled+in_ok-push_line w ↦
           (let held : Held c.self.inside.log w.push_line.new.self.waiting =
-          held_line c.self.inside.log c.self.inside.pending w.push_line.new.self (c.self.inside.clock + 1) _ w.in_ok-push_line.ensures.ok c.self.invariant.held in
+          held_line c.self.inside.log c.self.inside.pending w.push_line.new.self (c.self.inside.clock + 1) _
+          w.in_ok-push_line.ensures.ok c.self.invariant.held in
           search rules)
     ]
