@@ -116,7 +116,8 @@ arrive_nowhere w s d i past = (λ v frames f live wire at. none_live w d v past 
 -- the frames of a wire are these
 wire_is : (w : WorldValue) (s d : ℕ) (frames : List Frame) → HasWire w.wires s d → IsWire w s d frames → frames ≡ wire_of w.wires s d
 wire_is w s d frames has wire =
-    let of_s : wire.0 ≡ slice_index_or w.wires s [] = (let q : Some wire.0 ≡ Some (slice_index_or w.wires s []) = sym wire.1 ∙ slice_get-get_or w.wires s [] has.0 in cc) in
+    let of_s : wire.0 ≡ slice_index_or w.wires s [] =
+        (let q : Some wire.0 ≡ Some (slice_index_or w.wires s []) = sym wire.1 ∙ slice_get-get_or w.wires s [] has.0 in cc) in
     let at : slice_get (slice_index_or w.wires s []) d ≡ Some frames = subst (λ z. slice_get z d ≡ Some frames) of_s wire.2 in
     let q : Some frames ≡ Some (wire_of w.wires s d) = sym at ∙ slice_get-get_or (slice_index_or w.wires s []) d [] has.1 in
     cc
@@ -128,7 +129,10 @@ the_wire w s d has = (slice_index_or w.wires s [], slice_get-get_or w.wires s []
 -- nothing arrives that isn't on the wire
 pub arrive_none : (w : WorldValue) (s d i : ℕ) → HasWire w.wires s d → slice_get (wire_of w.wires s d) i ≡ None → Follows w (Arrive s d i) reply.Refused w
 arrive_none w s d i has none =
-    (λ v frames f live wire at. let e = wire_is w s d frames has wire in let g : slice_get (wire_of w.wires s d) i ≡ Some f = subst (λ z. slice_get z i ≡ Some f) e at in cc, refl)
+    (λ v frames f live wire at.
+      let e = wire_is w s d frames has wire in
+      let g : slice_get (wire_of w.wires s d) i ≡ Some f = subst (λ z. slice_get z i ≡ Some f) e at in
+      cc, refl)
 
 -- nothing arrives at a rank that is down
 pub arrive_down : (w : WorldValue) (s d i : ℕ) → IsDown w d → Follows w (Arrive s d i) reply.Refused w
@@ -183,8 +187,12 @@ arrive_some w w' s d i f a answer has there h ranks is program images logger wir
     }
 
     go : (b : Arrived) (r : Reply) → arrived_as b ≡ Some r → ArriveFollows w s d i r w' → Follows w (Arrive s d i) r w'
-    go arrived.Accepted r e g = let q : reply.Accepted ≡ r = cc in subst (λ z. Follows w (Arrive s d i) z w') q (subst (λ z. ArriveFollows w s d i z w') (sym q) g)
-    go arrived.Repeated r e g = let q : reply.Repeated ≡ r = cc in subst (λ z. Follows w (Arrive s d i) z w') q (subst (λ z. ArriveFollows w s d i z w') (sym q) g)
+    go arrived.Accepted r e g =
+        let q : reply.Accepted ≡ r = cc in
+        subst (λ z. Follows w (Arrive s d i) z w') q (subst (λ z. ArriveFollows w s d i z w') (sym q) g)
+    go arrived.Repeated r e g =
+        let q : reply.Repeated ≡ r = cc in
+        subst (λ z. Follows w (Arrive s d i) z w') q (subst (λ z. ArriveFollows w s d i z w') (sym q) g)
     go arrived.Gap r e g = let q : reply.Gap ≡ r = cc in subst (λ z. Follows w (Arrive s d i) z w') q (subst (λ z. ArriveFollows w s d i z w') (sym q) g)
     go arrived.Noted r e g = let q : reply.Noted ≡ r = cc in subst (λ z. Follows w (Arrive s d i) z w') q (subst (λ z. ArriveFollows w s d i z w') (sym q) g)
     go arrived.Foreign r e g = absurd cc

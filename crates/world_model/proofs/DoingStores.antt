@@ -42,7 +42,13 @@ pub ack_some : (w w' : WorldValue) (r : ℕ) → AtRank w.ranks r (λ v. (0 < v.
     → Follows w (Ack r) reply.Acked w'
 ack_some w w' r h program images logger wires lines run =
     let x = live_at w.ranks r _ h in
-    record { before = x.0; live = x.1; some = λ z. (let l = x.2.0 in omega (arith, l, z)); answered = refl; after = same_world w' _ program x.2.1 images logger wires lines run }
+    record {
+      before = x.0;
+      live = x.1;
+      some = λ z. (let l = x.2.0 in omega (arith, l, z));
+      answered = refl;
+      after = same_world w' _ program x.2.1 images logger wires lines run;
+    }
 
 -- what the oldest unstored event of a rank says of the run
 takes_of : (c s j : ℕ) (o : Option Message) (x : EventValue) → event_at c (takes s j) o ≡ Some x
