@@ -29,14 +29,14 @@ InboxStands-accepted box inbound h p within next_one real i =
     record {
       real =
           λ k q e. ⊎_elim (λ old. i.real k q old)
-              (λ new. subst (λ z. at_place (inbound z.source) z.number ≡ Some (carried z)) (sym new.1) real)
-              (push_cases box.packets p k q e);
+          (λ new. subst (λ z. at_place (inbound z.source) z.number ≡ Some (carried z)) (sym new.1) real)
+          (push_cases box.packets p k q e);
       untaken =
           λ k q e. ⊎_elim (λ old. i.untaken k q old) (λ new. subst (λ z. taken h z.source z.number ≡ false) (sym new.1) fresh) (push_cases box.packets p k q e);
       accepted =
           λ k q e. ⊎_elim (λ old. more q.source q.number (i.accepted k q old))
-              (λ new. subst (λ z. z.number ≤ accepted_from (with_packet box p) z.source) (sym new.1) last)
-              (push_cases box.packets p k q e);
+          (λ new. subst (λ z. z.number ≤ accepted_from (with_packet box p) z.source) (sym new.1) last)
+          (push_cases box.packets p k q e);
       each = λ s j one l t. each s j one t (was s j l);
       rising = λ k l q q' lt e e' s. rising k l q q' lt s (push_cases box.packets p k q e) (push_cases box.packets p l q' e');
       taken_accepted = λ s j t. more s j (i.taken_accepted s j t);
@@ -72,9 +72,9 @@ InboxStands-accepted box inbound h p within next_one real i =
         go (inl e) =
             let l' : j ≤ p.number = rw now at (subst (λ z. j ≤ accepted_from (with_packet box p) z) e l) in
             ⊎_elim
-                (λ (lt : j < p.number). inl (subst (λ z. j ≤ accepted_from box z) (sym e) (omega (arith, next_one))))
-                (λ (ge : p.number ≤ j). inr (e, omega arith))
-                (cases_lt j p.number)
+            (λ (lt : j < p.number). inl (subst (λ z. j ≤ accepted_from box z) (sym e) (omega (arith, next_one))))
+            (λ (ge : p.number ≤ j). inr (e, omega arith))
+            (cases_lt j p.number)
 
     each : (s j : ℕ) → 1 ≤ j → taken h s j ≡ false → (j ≤ accepted_from box s) ⊎ ((s ≡ p.source) × (j ≡ p.number))
         → (k : ℕ) × (q : packet.Message) × (slice_get (box.packets ++ p ∷ []) k ≡ Some q) × (q.source ≡ s) × (q.number ≡ j)

@@ -249,9 +249,9 @@ pub Counts-restart : (w : WorldValue) (r : ℕ) (answer : Reply) (w' : WorldValu
 Counts-restart w r answer w' c f whole =
     Counts-rank w w' r _ (ap (λ z. z.ranks) f.after) (ap (λ z. z.rows) f.fetches.logged)
     (λ x events e there. one _ x events (
-      let l = ap length (whole events there) in
-      let m = c.rows r events there in
-      record { made = (let z : length f.events ≡ length events + 0 = omega (arith, l) in z); few = omega (arith, l, m) }) e) c
+    let l = ap length (whole events there) in
+    let m = c.rows r events there in
+    record { made = (let z : length f.events ≡ length events + 0 = omega (arith, l) in z); few = omega (arith, l, m) }) e) c
 
 -- ---- stores
 
@@ -322,20 +322,20 @@ Counts-store w r answer w' c f =
         let a = k.made in
         let b = ap length is ∙ length_push (slice_index_or w.logger.rows r []) f.event in
         let d =
-            ap length (ap events_in (drop_first f.before.rank.pending f.before.rank.stored (waits.Event f.event)
-            (event_there f.before.rank.pending f.before.rank.stored f.event f.oldest))) in
+        ap length (ap events_in (drop_first f.before.rank.pending f.before.rank.stored (waits.Event f.event)
+        (event_there f.before.rank.pending f.before.rank.stored f.event f.oldest))) in
         one (record { rank = after_store f.before.rank; left = f.before.left }) u events
         (record {
           made =
               (let z : f.before.rank.made ≡ length events + length (events_in (drop (f.before.rank.stored + 1) f.before.rank.pending)) =
-                  omega (arith, a, b, d) in z);
+              omega (arith, a, b, d) in z);
           few = k.few;
         }) (sym e)
 
     go : (q : ℕ) (v : Live) (events : List EventValue)
         → ((q ≡ r) × (events ≡ slice_index_or w.logger.rows r [] ++ f.event ∷ [])) ⊎ ((q ≡ r → ⊥) × (slice_get w.logger.rows q ≡ Some events))
         → ((q ≡ r) × (Some v ≡ Some (record { rank = after_store f.before.rank; left = f.before.left })))
-            ⊎ ((q ≡ r → ⊥) × (slice_get w.ranks q ≡ Some (Some v)))
+        ⊎ ((q ≡ r → ⊥) × (slice_get w.ranks q ≡ Some (Some v)))
         → slice_get (slice_set w.logger.rows r (slice_index_or w.logger.rows r [] ++ f.event ∷ [])) q ≡ Some events → RankCounts v events
     go q v events (inr h) (inr g) e = c.ranks q v events g.1 h.1
     go q v events (inl h) (inr g) e = absurd (g.0 h.0)
@@ -351,7 +351,7 @@ Counts-release w r answer w' c f none =
     Counts-rank w w' r (Some (record { rank = after_release f.before.rank f.effect; left = f.before.left })) (ap (λ z. z.ranks) f.after)
     (ap (λ z. z.logger.rows) f.after)
     (λ x events e there. same_counts w r f.before
-      (record { rank = after_release f.before.rank f.effect; left = f.before.left }) x events c f.live refl same e there) c
+    (record { rank = after_release f.before.rank f.effect; left = f.before.left }) x events c f.live refl same e there) c
   where
     first : (f.before.rank.pending ≡ f.effect ∷ drop 1 f.before.rank.pending) × (event_in f.effect ≡ None)
     first = effect_there f.before.rank.pending f.effect f.oldest

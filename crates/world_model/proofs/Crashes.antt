@@ -44,7 +44,7 @@ Stands-restart w r answer w' s f =
     (record {
       run = resized w (changed w r (Some v) w.images w'.logger w.lines w.run) (length-set w.ranks r (Some v))
           (Stands-rank (size w) w r (Some v) w'.logger s.run rows_same
-              (λ u e. (let q : v ≡ u = cc in subst (λ z. RankStands (start_at w (size w)) (size w) w.run r z) q k)));
+          (λ u e. (let q : v ≡ u = cc in subst (λ z. RankStands (start_at w (size w)) (size w) w.run r z) q k)));
       covers = Covers-rank w (changed w r (Some v) w.images w'.logger w.lines w.run) r (Some v) refl refl refl
           (λ u e. (let q : v ≡ u = cc in subst (λ z. RankCovers w.images r z) q c)) s.covers;
     })

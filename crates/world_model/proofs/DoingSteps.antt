@@ -206,8 +206,8 @@ replay_fits w r s h =
     let v = live_at w.ranks r _ h in
     subst (λ z. IsSomeAnd z (λ y. IsSomeAnd y IsFitting)) (sym v.1)
     (λ e rest left. (
-      let g = replays (start_at w (size w)) (size w) w.run r v.0 s.run.is_run (s.run.ranks r v.0 v.1) e rest left (asks v.0.rank.machine) refl in
-      (g.turn, g.turned)))
+    let g = replays (start_at w (size w)) (size w) w.run r v.0 s.run.is_run (s.run.ranks r v.0 v.1) e rest left (asks v.0.rank.machine) refl in
+    (g.turn, g.turned)))
 
 -- a print that is replayed moves
 print_moves : (v : Rank) (e : EventValue) (x : ℤ) (t : Turn) (b : Bool) → (if b then Ok turn.Moved else Err Replay) ≡ Ok t → t ≡ turn.Moved
@@ -298,3 +298,9 @@ replay_takes ranks r h g = go (slice_get ranks r) h g
     go None h g = absurd h
     go (Some None) h g = absurd h
     go (Some (Some v)) h g = one v.rank v.left h g
+
+-- what a step of a rank at work comes to, and which steps take memory
+pub ruleset step_laws = (step_down, step_refused, step_some, step_allowed, step_possible, step_takes, pass_takes, takes_at, work_takes)
+
+-- what a step of a rank that replays comes to, and which steps take memory
+pub ruleset replay_laws = (replay_fits, replay_some, replay_possible, replay_takes, step_takes)

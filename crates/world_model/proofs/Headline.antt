@@ -312,8 +312,8 @@ stands_fresh program n w f =
     rank_counts : (r : ℕ) (v : Live) (events : List EventValue) → IsOpened program n r (Some v) → events ≡ [] → RankCounts v events
     rank_counts r v events h none =
         subst (λ z. RankCounts z events) (sym h.0) (
-          let l = ap length none in
-          record { made = (let z : 0 ≡ length events + 0 = omega (arith, l) in z); few = omega arith })
+        let l = ap length none in
+        record { made = (let z : 0 ≡ length events + 0 = omega (arith, l) in z); few = omega arith })
 
     rank_covers : (r : ℕ) (v : Live) → IsOpened program n r (Some v) → RankCovers w.images r v
     rank_covers r v h =

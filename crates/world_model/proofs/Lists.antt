@@ -96,7 +96,7 @@ packets_push r k [] m = (let e : k + 1 ≡ k + 0 + 1 = omega arith in ap (λ z. 
 packets_push r k (x ∷ ms) m =
     ap (λ z. packet_of r (k + 1) x ∷ z)
     (packets_push r (k + 1) ms m
-        ∙ (let e : k + 1 + length ms + 1 ≡ k + suc (length ms) + 1 = omega arith in ap (λ z. packets_from r (k + 1) ms ++ packet_of r z m ∷ []) e))
+    ∙ (let e : k + 1 + length ms + 1 ≡ k + suc (length ms) + 1 = omega arith in ap (λ z. packets_from r (k + 1) ms ++ packet_of r z m ∷ []) e))
 
 -- as many packets as messages
 pub packets_length : (r k : ℕ) (ms : List Message) → length (packets_from r k ms) ≡ length ms

@@ -86,7 +86,7 @@ module _ (n : ℕ) (w : WorldValue) (r : ℕ) (v : Live) (s : StandsAt n w) (c :
 
   log_at : (d : ℕ) → d < n
       → LogStands r (sends_from 0 d (take v.rank.clock (history w.run r)))
-          (sends_of (length (history w.run r)) d (s.ranks r v live).acts) (backlog v.rank.log d)
+      (sends_of (length (history w.run r)) d (s.ranks r v live).acts) (backlog v.rank.log d)
   log_at d l = (s.ranks r v live).logs d (backlog v.rank.log d)
       (slice_get-get_or v.rank.log d new_backlog (let e = (s.ranks r v live).at.logged in omega (arith, l, e)))
 
@@ -125,7 +125,7 @@ module _ (n : ℕ) (w : WorldValue) (r : ℕ) (v : Live) (s : StandsAt n w) (c :
       real : (p : packet.Message) → next_of (backlog v.rank.log d) ≡ Some p → (p.source ≡ r) × (at_place (sent w.run r d) p.number ≡ Some (carried p))
       real p g =
           let x = next_is_real r (sends_from 0 d (take v.rank.clock (history w.run r)))
-              (sends_of (length (history w.run r)) d (s.ranks r v live).acts) (backlog v.rank.log d) p (log_at d l) g in
+          (sends_of (length (history w.run r)) d (s.ranks r v live).acts) (backlog v.rank.log d) p (log_at d l) g in
           (x.0, placed_in_all d v.rank.clock (history w.run r) p.number (carried p) x.1)
 
       go : (a b : Option ℕ) (o : Option packet.Message) → DueCovered w.images r d b → next_of (backlog v.rank.log d) ≡ o → first_of a b o ≡ Some f
@@ -349,7 +349,7 @@ RankStands-passes start n C r v s x rest pending stored log some is same low log
         longer : (a : Act) (acts : List Act)
             → StandsIn (start r) n r (λ q. sent C q r) (history (continue C r (a ∷ acts)) r) v.rank.clock v.rank.machine v.rank.inbox v.rank.log
             → StandsIn (start r) n r (λ q. sent (record { rank = r; act = a } ∷ C) q r)
-                (history (continue (record { rank = r; act = a } ∷ C) r acts) r) v.rank.clock v.rank.machine v.rank.inbox v.rank.log
+            (history (continue (record { rank = r; act = a } ∷ C) r acts) r) v.rank.clock v.rank.machine v.rank.inbox v.rank.log
         longer a acts at =
             StandsIn-longer (start r) n r (λ q. sent C q r) (λ q. sent (record { rank = r; act = a } ∷ C) q r)
             (history (continue (record { rank = r; act = a } ∷ C) r acts) r) v.rank.clock v.rank.machine v.rank.inbox v.rank.log
@@ -368,7 +368,7 @@ module _ (C : List Passed) (r c : ℕ) (a : Act) (acts : List Act) (counts : c �
   -- the act is among what was sent, and no more among what waits
   sent_after : (d : ℕ)
       → sends_from 0 d (take c (history (record { rank = r; act = a } ∷ C) r))
-          ≡ sends_from 0 d (take c (history C r)) ++ send_at (length (history C r) + 1) d a []
+      ≡ sends_from 0 d (take c (history C r)) ++ send_at (length (history C r) + 1) d a []
   sent_after d =
       ap (λ z. sends_from 0 d z) all_after ∙ sends_from-push 0 d (history C r) (a, looked_up (λ s. sent C s r) a)
       ∙ ap (λ z. sends_from 0 d z ++ send_at (0 + length (history C r) + 1) d a []) (sym all_before)
@@ -381,7 +381,7 @@ module _ (C : List Passed) (r c : ℕ) (a : Act) (acts : List Act) (counts : c �
   pub quiet_there : (d : ℕ) (b : Backlog) → send_at (length (history C r) + 1) d a [] ≡ []
       → LogStands r (sends_from 0 d (take c (history C r))) (sends_of (length (history C r)) d (a ∷ acts)) b
       → LogStands r (sends_from 0 d (take c (history (record { rank = r; act = a } ∷ C) r)))
-          (sends_of (length (history (record { rank = r; act = a } ∷ C) r)) d acts) b
+      (sends_of (length (history (record { rank = r; act = a } ∷ C) r)) d acts) b
   quiet_there d b none s =
       subst (λ z. LogStands r z (sends_of (length (history (record { rank = r; act = a } ∷ C) r)) d acts) b)
       (sym (sent_after d ∙ ap (λ z. sends_from 0 d (take c (history C r)) ++ z) none ∙ append-nil _))
@@ -401,7 +401,7 @@ module _ (C : List Passed) (r c : ℕ) (a : Act) (acts : List Act) (counts : c �
   pub freed_there : (d : ℕ) (b : Backlog) (m : Message) → send_at (length (history C r) + 1) d a [] ≡ m ∷ []
       → LogStands r (sends_from 0 d (take c (history C r))) (sends_of (length (history C r)) d (a ∷ acts)) b
       → LogStands r (sends_from 0 d (take c (history (record { rank = r; act = a } ∷ C) r)))
-          (sends_of (length (history (record { rank = r; act = a } ∷ C) r)) d acts) (freed b)
+      (sends_of (length (history (record { rank = r; act = a } ∷ C) r)) d acts) (freed b)
   freed_there d b m one s =
       subst (λ z. LogStands r z (sends_of (length (history (record { rank = r; act = a } ∷ C) r)) d acts) (freed b))
       (sym (sent_after d ∙ ap (λ z. sends_from 0 d (take c (history C r)) ++ z) one))
@@ -445,17 +445,17 @@ Stands-store w r answer w' s f =
           resized w (changed w r (Some (record { rank = after_store f.before.rank; left = f.before.left })) w.images w'.logger w.lines
           (continue w.run r f.acts)) (length-set w.ranks r _)
           (subst (λ z. StandsAt (size w) (changed w r (Some (record { rank = after_store f.before.rank; left = f.before.left })) w.images w'.logger w.lines
-              (continue w.run r z))) (sym named.1)
+          (continue w.run r z))) (sym named.1)
           (subst (λ z. StandsAt (size w) (changed w r (Some (record { rank = after_store f.before.rank; left = f.before.left })) w.images w'.logger w.lines
-              (record { rank = r; act = z } ∷ w.run))) same
+          (record { rank = r; act = z } ∷ w.run))) same
           (Stands-passed (size w) w r o.act (record { rank = after_store f.before.rank; left = f.before.left })
-              w'.logger w.lines s.run below o.can o.stands as_many rows_are
-              (λ q. s.run.lines q ∙ sym (printed_same w.run r q o.act (event_prints_none _ _ o.act (looked_up (λ q. sent w.run q r) o.act) f.event o.is_for))))));
+          w'.logger w.lines s.run below o.can o.stands as_many rows_are
+          (λ q. s.run.lines q ∙ sym (printed_same w.run r q o.act (event_prints_none _ _ o.act (looked_up (λ q. sent w.run q r) o.act) f.event o.is_for))))));
       covers =
           Covers-rank w (changed w r (Some (record { rank = after_store f.before.rank; left = f.before.left })) w.images w'.logger w.lines
           (continue w.run r f.acts)) r (Some (record { rank = after_store f.before.rank; left = f.before.left })) refl refl refl
           (one_cover w.images r (record { rank = after_store f.before.rank; left = f.before.left })
-              (let c = s.covers.ranks r f.before f.live in record { bases = c.bases; dues = c.dues; since = c.since })) s.covers;
+          (let c = s.covers.ranks r f.before f.live in record { bases = c.bases; dues = c.dues; since = c.since })) s.covers;
     })
   where
     below : r < size w
@@ -517,7 +517,7 @@ Stands-ack w r answer w' s f =
           Covers-rank w (changed w r (Some (record { rank = after_ack f.before.rank; left = f.before.left })) w.images w.logger w.lines w.run) r
           (Some (record { rank = after_ack f.before.rank; left = f.before.left })) refl refl refl
           (one_cover w.images r (record { rank = after_ack f.before.rank; left = f.before.left })
-              (let c = s.covers.ranks r f.before f.live in record { bases = c.bases; dues = c.dues; since = c.since })) s.covers;
+          (let c = s.covers.ranks r f.before f.live in record { bases = c.bases; dues = c.dues; since = c.since })) s.covers;
     })
   where
     k : RankStands (start_at w (size w)) (size w) w.run r f.before
@@ -611,7 +611,7 @@ Stands-release w r answer w' s f =
           Covers-rank w (changed w r (Some after) w.images w.logger (lines_released w.lines r f.effect) (passed_at w.run r f.clock (Some f.act))) r
           (Some after) refl refl refl
           (one_cover w.images r after
-              (let c = s.covers.ranks r f.before f.live in record { bases = covered_bases c f.effect; dues = c.dues; since = c.since })) s.covers;
+          (let c = s.covers.ranks r f.before f.live in record { bases = covered_bases c f.effect; dues = c.dues; since = c.since })) s.covers;
     })
   where
     after : Live
@@ -658,11 +658,11 @@ Stands-release w r answer w' s f =
         let had : backlog f.before.rank.log dest ≡ b = get_or_from_slice_get f.before.rank.log dest b new_backlog at in
         let m : Message = record { clock = length (history w.run r) + 1; context = c; tag = t; items = items } in
         let there = message_there w.run r f.before.rank.clock (sends d c t items) o.acts counts dest b m
-            (ap (λ z. cons_if z m []) (eq-eqb d dest same)) (logs dest b at) in
+        (ap (λ z. cons_if z m []) (eq-eqb d dest same)) (logs dest b at) in
         let held = held_first r (sends_from 0 dest (take f.before.rank.clock (history w.run r)))
-            (sends_of (length (history w.run r) + 1) dest o.acts) b m there in
+        (sends_of (length (history w.run r) + 1) dest o.acts) b m there in
         let is : oldest_held f.before.rank dest ≡ Some (packet_of r (length (sends_from 0 dest (take f.before.rank.clock (history w.run r))) + 1) m) =
-            ap (λ z. slice_get z.held 0) had ∙ held in
+        ap (λ z. slice_get z.held 0) had ∙ held in
         let q : Some (sends dest c t items) ≡ Some act = ap (λ z. option_map (send_of dest) z) (sym is) ∙ e in
         (let y : sends dest c t items ≡ act = cc in sym y ∙ ap (λ z. sends z c t items) (sym same))
       where

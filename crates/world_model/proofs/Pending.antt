@@ -134,7 +134,7 @@ sends_of-push k d (b ∷ acts) a =
     ap (λ z. send_at (k + 1) d b z) (sends_of-push (k + 1) d acts a)
     ∙ send_at-append (k + 1) d b (sends_of (k + 1) d acts) (send_at (k + 1 + length acts + 1) d a [])
     ∙ (let e : k + 1 + length acts + 1 ≡ k + suc (length acts) + 1 = omega arith in
-        ap (λ z. send_at (k + 1) d b (sends_of (k + 1) d acts) ++ send_at z d a []) e)
+    ap (λ z. send_at (k + 1) d b (sends_of (k + 1) d acts) ++ send_at z d a []) e)
 
 -- ---- the events that stand first
 

@@ -281,7 +281,7 @@ RankStands-again start n C r v s m inbox log a o rest left settled is makes stat
       logs = rw x.taken logs;
       at =
           StandsIn-next (start r) n r (λ q. sent C q r) (history C r)
-              v.rank.clock v.rank.machine m v.rank.inbox inbox v.rank.log log a o rest is makes state counted box logged (at_run start n C r v s none);
+          v.rank.clock v.rank.machine m v.rank.inbox inbox v.rank.log log a o rest is makes state counted box logged (at_run start n C r v s none);
     }
   where
     none : s.acts ≡ []

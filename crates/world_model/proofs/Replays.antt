@@ -47,11 +47,11 @@ use Rattle.world_model.proofs.Fits.{history_looks_up, first_event_late}
 -- what the first c acts sent, and a send as the next
 sends_next : (h : History) (c d' d : ℕ) (context : Context) (t : ℕ) (items : List ℤ) (o : Option Message) → c ≤ length h
     → sends_from 0 d (take c h ++ (sends d' context t items, o) ∷ [])
-        ≡ sends_from 0 d (take c h) ++ cons_if (d' == d) (record { clock = c + 1; context = context; tag = t; items = items }) []
+    ≡ sends_from 0 d (take c h) ++ cons_if (d' == d) (record { clock = c + 1; context = context; tag = t; items = items }) []
 sends_next h c d' d context t items o l =
     sends_from-push 0 d (take c h) (sends d' context t items, o)
     ∙ (let z : 0 + length (take c h) ≡ c = (let e = take_length c h l in omega (arith, e)) in
-        ap (λ y. sends_from 0 d (take c h) ++ cons_if (d' == d) (record { clock = y + 1; context = context; tag = t; items = items }) []) z)
+    ap (λ y. sends_from 0 d (take c h) ++ cons_if (d' == d) (record { clock = y + 1; context = context; tag = t; items = items }) []) z)
 
 -- a send that is made again is saved
 pub logs_saved : (r : ℕ) (h : History) (v : Rank) (d : ℕ) (context : Context) (t : ℕ)
@@ -80,12 +80,12 @@ logs_saved r h v d context t number within s =
     own b at =
         let is : backlog v.log d ≡ b = get_or_from_slice_get v.log d b new_backlog at in
         let had : LogStands r (sends_from 0 d (take v.clock h)) [] (backlog v.log d) =
-            subst (λ z. LogStands r (sends_from 0 d (take v.clock h)) [] z) (sym is) (s d b at) in
+        subst (λ z. LogStands r (sends_from 0 d (take v.clock h)) [] z) (sym is) (s d b at) in
         let none = ap length had.held in
         subst (λ z. LogStands r z [] (saved (backlog v.log d) p))
         (sym (messages d ∙ ap (λ z. sends_from 0 d (take v.clock h) ++ cons_if z (carried p) []) (eq-eqb d d refl)))
         (LogStands-saved r (sends_from 0 d (take v.clock h)) [] (backlog v.log d) p number
-            (let z : p.number ≡ (backlog v.log d).sent + 1 = omega (arith, none) in z) had.sent had.kept had.held)
+        (let z : p.number ≡ (backlog v.log d).sent + 1 = omega (arith, none) in z) had.sent had.kept had.held)
 
 -- an act that sends nothing leaves the log
 abbrev pub SendsNone : Act → Type 0
@@ -186,7 +186,7 @@ module _ (start : ℕ → State) (n : ℕ) (C : List Passed) (r : ℕ) (v : Live
   looked : (x : NextAct (history C r) v.rank.clock v.rank.machine) → looked_up (λ q. sent C q r) x.act ≡ x.message
   looked x = (
       let y = history_looks_up start n C r run v.rank.clock (x.act, x.message)
-          (next_of_drop v.rank.clock (history C r) (x.act, x.message) x.rest x.is_next).there in
+      (next_of_drop v.rank.clock (history C r) (x.act, x.message) x.rest x.is_next).there in
       y.3)
 
   -- a rank that makes the run's next act
@@ -211,8 +211,8 @@ module _ (start : ℕ → State) (n : ℕ) (C : List Passed) (r : ℕ) (v : Live
   sending d c t is =
       let x = next_is (stopped v.rank.machine (want.Send d c t) is (λ z. cc)) in
       let f = fits_send d c t (payload (state_of v.rank.machine)) x.act x.message
-          (subst (λ z. Fits z (payload (state_of v.rank.machine)) x.act x.message)
-              (wanted v.rank.machine (want.Send d c t) is (λ z. cc)) x.makes) in
+      (subst (λ z. Fits z (payload (state_of v.rank.machine)) x.act x.message)
+      (wanted v.rank.machine (want.Send d c t) is (λ z. cc)) x.makes) in
       let b = before x (ap (λ z. event_at (v.rank.clock + 1) z x.message) f.0) in
       record {
         turn = Moved;
@@ -232,8 +232,8 @@ module _ (start : ℕ → State) (n : ℕ) (C : List Passed) (r : ℕ) (v : Live
   printing z is =
       let x = next_is (stopped v.rank.machine (want.Print z) is (λ y. cc)) in
       let f = fits_print z (payload (state_of v.rank.machine)) x.act x.message
-          (subst (λ y. Fits y (payload (state_of v.rank.machine)) x.act x.message)
-              (wanted v.rank.machine (want.Print z) is (λ y. cc)) x.makes) in
+      (subst (λ y. Fits y (payload (state_of v.rank.machine)) x.act x.message)
+      (wanted v.rank.machine (want.Print z) is (λ y. cc)) x.makes) in
       let b = before x (ap (λ y. event_at (v.rank.clock + 1) y x.message) f.0) in
       record {
         turn = Moved;
@@ -283,7 +283,7 @@ module _ (start : ℕ → State) (n : ℕ) (C : List Passed) (r : ℕ) (v : Live
           let there : slice_get v.rank.inbox.packets k ≡ Some p = f ∙ ap Some eq in
           let first = position-Some (is_named e.sender e.sender_clock) v.rank.inbox.packets k p g in
           let parts = named_parts e.sender e.sender_clock p
-              (subst (λ z. is_named e.sender e.sender_clock z ≡ true) (get_or_from_slice_get v.rank.inbox.packets k p p there) first.1) in
+          (subst (λ z. is_named e.sender e.sender_clock z ≡ true) (get_or_from_slice_get v.rank.inbox.packets k p p there) first.1) in
           (subst (λ z. slice_get v.rank.inbox.packets z ≡ Some p) ek there, parts.0, parts.1)
 
       go : (o : Option ℕ) → position (is_named e.sender e.sender_clock) v.rank.inbox.packets ≡ o

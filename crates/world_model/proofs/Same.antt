@@ -84,8 +84,10 @@ one_some (Some y) x e = let q : y ≡ x = cc in ap Some q
 pub noted_act : (C : List Passed) (r : ℕ) (acts : List Act) (x : EventValue) → Noted C r acts x
     → (a : Act) × (acts ≡ a ∷ []) × (event_at (length (history C r) + 1) a (looked_up (λ s. sent C s r) a) ≡ Some x)
 noted_act C r [] x n = let e = n.as_many in absurd (omega (arith, e))
-noted_act C r (a ∷ []) x n =
-    (a, refl,
-      one_some _ x (append_cancel_left (row C r) (cons_some (event_at (length (history C r) + 1) a (looked_up (λ s. sent C s r) a)) [])
-          (x ∷ []) (sym (row-own C r a) ∙ n.row_grows)))
+noted_act C r (a ∷ []) x n = (
+  a,
+  refl,
+  one_some _ x (append_cancel_left (row C r) (cons_some (event_at (length (history C r) + 1) a (looked_up (λ s. sent C s r) a)) [])
+      (x ∷ []) (sym (row-own C r a) ∙ n.row_grows)),
+)
 noted_act C r (a ∷ (b ∷ acts)) x n = let e = n.as_many in absurd (omega (arith, e))

@@ -13,8 +13,8 @@ seat c = taken c.args.self.now _ c.self.inside.seats.items c.from.result c.args.
 pub returns-clause-acked : goal.returns-clause-acked
 returns-clause-acked c =
     on_true c.ack.result
-        (λ h. after_call c.ack.new.self _ _ (seat c) (λ v is e. (e.0, is ∙ ap (λ x. slice_set c.args.self.now.ranks c.args.rank x) e.1)) h)
-        c.ack.ensures.acked
+    (λ h. after_call c.ack.new.self _ _ (seat c) (λ v is e. (e.0, is ∙ ap (λ x. slice_set c.args.self.now.ranks c.args.rank x) e.1)) h)
+    c.ack.ensures.acked
 
 -- src/seats/storing.rt
 pub returns-clause-none : goal.returns-clause-none

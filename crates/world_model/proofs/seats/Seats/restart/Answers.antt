@@ -13,8 +13,8 @@ seat c = taken c.args.self.now _ c.self.inside.seats.items c.from.result c.args.
 pub returns-clause-ok : goal.returns-clause-ok
 returns-clause-ok c =
     on_ok c.restart.result
-        (λ h. restarted_then c.restart.new.self _ c.args.row.items (ap (λ (z : SeatsValue). z.program) c.self.view_is) (seat c) c.self.invariant h)
-        c.restart.ensures.ok
+    (λ h. restarted_then c.restart.new.self _ c.args.row.items (ap (λ (z : SeatsValue). z.program) c.self.view_is) (seat c) c.self.invariant h)
+    c.restart.ensures.ok
 
 -- src/seats/living.rt
 pub returns-clause-images : goal.returns-clause-images
