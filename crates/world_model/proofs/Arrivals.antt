@@ -11,10 +11,12 @@ use Rattle.crash_free.specs.Runs.{History, at_place, taken}
 use Rattle.crash_free.proofs.Lists.{slice_get-append, push_cases}
 use Rattle.world_model.specs.Stands.{InboxStands}
 
+-- an element put at a list's end stands at the place of the old length
 get_last : {A : Type 0} (xs : List A) (x : A) → slice_get (xs ++ x ∷ []) (length xs) ≡ Some x
 get_last [] x = refl
 get_last (y ∷ xs) x = get_last xs x
 
+-- a place where a message stands is at most the number of messages: places count from 1
 place_within : (xs : List Message) (j : ℕ) (m : Message) → at_place xs j ≡ Some m → j ≤ length xs
 place_within xs zero m e = absurd cc
 place_within xs (suc j) m e = let l = slice_get_within xs j m e in omega (arith, l)
@@ -26,11 +28,15 @@ pub InboxStands-accepted : (box : Mailbox) (inbound : ℕ → List Message) (h :
 InboxStands-accepted box inbound h p within next_one real i =
     record {
       real =
-          λ k q e. ⊎_elim (λ old. i.real k q old) (λ new. subst (λ z. at_place (inbound z.source) z.number ≡ Some (carried z)) (sym new.1) real) (push_cases box.packets p k q e);
+          λ k q e. ⊎_elim (λ old. i.real k q old)
+          (λ new. subst (λ z. at_place (inbound z.source) z.number ≡ Some (carried z)) (sym new.1) real)
+          (push_cases box.packets p k q e);
       untaken =
           λ k q e. ⊎_elim (λ old. i.untaken k q old) (λ new. subst (λ z. taken h z.source z.number ≡ false) (sym new.1) fresh) (push_cases box.packets p k q e);
       accepted =
-          λ k q e. ⊎_elim (λ old. more q.source q.number (i.accepted k q old)) (λ new. subst (λ z. z.number ≤ accepted_from (with_packet box p) z.source) (sym new.1) last) (push_cases box.packets p k q e);
+          λ k q e. ⊎_elim (λ old. more q.source q.number (i.accepted k q old))
+          (λ new. subst (λ z. z.number ≤ accepted_from (with_packet box p) z.source) (sym new.1) last)
+          (push_cases box.packets p k q e);
       each = λ s j one l t. each s j one t (was s j l);
       rising = λ k l q q' lt e e' s. rising k l q q' lt s (push_cases box.packets p k q e) (push_cases box.packets p l q' e');
       taken_accepted = λ s j t. more s j (i.taken_accepted s j t);
@@ -65,7 +71,10 @@ InboxStands-accepted box inbound h p within next_one real i =
         go (inr ne) = inl (rw (other s ne) at l)
         go (inl e) =
             let l' : j ≤ p.number = rw now at (subst (λ z. j ≤ accepted_from (with_packet box p) z) e l) in
-            ⊎_elim (λ (lt : j < p.number). inl (subst (λ z. j ≤ accepted_from box z) (sym e) (omega (arith, next_one)))) (λ (ge : p.number ≤ j). inr (e, omega arith)) (cases_lt j p.number)
+            ⊎_elim
+            (λ (lt : j < p.number). inl (subst (λ z. j ≤ accepted_from box z) (sym e) (omega (arith, next_one))))
+            (λ (ge : p.number ≤ j). inr (e, omega arith))
+            (cases_lt j p.number)
 
     each : (s j : ℕ) → 1 ≤ j → taken h s j ≡ false → (j ≤ accepted_from box s) ⊎ ((s ≡ p.source) × (j ≡ p.number))
         → (k : ℕ) × (q : packet.Message) × (slice_get (box.packets ++ p ∷ []) k ≡ Some q) × (q.source ≡ s) × (q.number ≡ j)

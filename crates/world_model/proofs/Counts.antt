@@ -64,7 +64,10 @@ same_counts w r v u x events c live made same e there =
     let a = k.made in
     let b = k.few in
     let l = ap length same in
-    subst (λ z. RankCounts z events) q (record { made = (let z : u.rank.made ≡ length events + length (unstored u.rank) = omega (arith, made, a, l) in z); few = omega (arith, made, b) })
+    subst (λ z. RankCounts z events) q (record {
+      made = (let z : u.rank.made ≡ length events + length (unstored u.rank) = omega (arith, made, a, l) in z);
+      few = omega (arith, made, b);
+    })
 
 -- ---- a step
 
@@ -75,7 +78,8 @@ events_append (waits.Event e ∷ xs) ys = ap (λ z. e ∷ z) (events_append xs y
 events_append (waits.Send d c ∷ xs) ys = events_append xs ys
 events_append (waits.Line c v ∷ xs) ys = events_append xs ys
 
-module _ (v : Live) (m : MachineValue) (left : List EventValue) (events : List EventValue) (k : RankCounts v events) (low : v.rank.stored ≤ length v.rank.pending) where
+module _ (v : Live) (m : MachineValue) (left : List EventValue)
+    (events : List EventValue) (k : RankCounts v events) (low : v.rank.stored ≤ length v.rank.pending) where
   stays : RankCounts (record { rank = v.rank; left = left }) events
   stays = record { made = k.made; few = k.few }
 
@@ -244,7 +248,10 @@ pub Counts-restart : (w : WorldValue) (r : ℕ) (answer : Reply) (w' : WorldValu
     → ((events : List EventValue) → slice_get w.logger.rows r ≡ Some events → f.events ≡ events) → Counts w'
 Counts-restart w r answer w' c f whole =
     Counts-rank w w' r _ (ap (λ z. z.ranks) f.after) (ap (λ z. z.rows) f.fetches.logged)
-    (λ x events e there. one _ x events (let l = ap length (whole events there) in let m = c.rows r events there in record { made = (let z : length f.events ≡ length events + 0 = omega (arith, l) in z); few = omega (arith, l, m) }) e) c
+    (λ x events e there. one _ x events (
+    let l = ap length (whole events there) in
+    let m = c.rows r events there in
+    record { made = (let z : length f.events ≡ length events + 0 = omega (arith, l) in z); few = omega (arith, l, m) }) e) c
 
 -- ---- stores
 
@@ -314,13 +321,21 @@ Counts-store w r answer w' c f =
         let k = c.ranks r f.before (slice_index_or w.logger.rows r []) f.live there in
         let a = k.made in
         let b = ap length is ∙ length_push (slice_index_or w.logger.rows r []) f.event in
-        let d = ap length (ap events_in (drop_first f.before.rank.pending f.before.rank.stored (waits.Event f.event) (event_there f.before.rank.pending f.before.rank.stored f.event f.oldest))) in
+        let d =
+        ap length (ap events_in (drop_first f.before.rank.pending f.before.rank.stored (waits.Event f.event)
+        (event_there f.before.rank.pending f.before.rank.stored f.event f.oldest))) in
         one (record { rank = after_store f.before.rank; left = f.before.left }) u events
-        (record { made = (let z : f.before.rank.made ≡ length events + length (events_in (drop (f.before.rank.stored + 1) f.before.rank.pending)) = omega (arith, a, b, d) in z); few = k.few }) (sym e)
+        (record {
+          made =
+              (let z : f.before.rank.made ≡ length events + length (events_in (drop (f.before.rank.stored + 1) f.before.rank.pending)) =
+              omega (arith, a, b, d) in z);
+          few = k.few;
+        }) (sym e)
 
     go : (q : ℕ) (v : Live) (events : List EventValue)
         → ((q ≡ r) × (events ≡ slice_index_or w.logger.rows r [] ++ f.event ∷ [])) ⊎ ((q ≡ r → ⊥) × (slice_get w.logger.rows q ≡ Some events))
-        → ((q ≡ r) × (Some v ≡ Some (record { rank = after_store f.before.rank; left = f.before.left }))) ⊎ ((q ≡ r → ⊥) × (slice_get w.ranks q ≡ Some (Some v)))
+        → ((q ≡ r) × (Some v ≡ Some (record { rank = after_store f.before.rank; left = f.before.left })))
+        ⊎ ((q ≡ r → ⊥) × (slice_get w.ranks q ≡ Some (Some v)))
         → slice_get (slice_set w.logger.rows r (slice_index_or w.logger.rows r [] ++ f.event ∷ [])) q ≡ Some events → RankCounts v events
     go q v events (inr h) (inr g) e = c.ranks q v events g.1 h.1
     go q v events (inl h) (inr g) e = absurd (g.0 h.0)
@@ -335,7 +350,8 @@ pub Counts-release : (w : WorldValue) (r : ℕ) (answer : Reply) (w' : WorldValu
 Counts-release w r answer w' c f none =
     Counts-rank w w' r (Some (record { rank = after_release f.before.rank f.effect; left = f.before.left })) (ap (λ z. z.ranks) f.after)
     (ap (λ z. z.logger.rows) f.after)
-    (λ x events e there. same_counts w r f.before (record { rank = after_release f.before.rank f.effect; left = f.before.left }) x events c f.live refl same e there) c
+    (λ x events e there. same_counts w r f.before
+    (record { rank = after_release f.before.rank f.effect; left = f.before.left }) x events c f.live refl same e there) c
   where
     first : (f.before.rank.pending ≡ f.effect ∷ drop 1 f.before.rank.pending) × (event_in f.effect ≡ None)
     first = effect_there f.before.rank.pending f.effect f.oldest

@@ -63,7 +63,9 @@ pub RankCovers-restarted : (images : Images) (r : ℕ) (v : Live) (i : ImageValu
 RankCovers-restarted images r v i log inbox dues bases since =
     record {
       bases = subst (λ z. BasesCovered images r z) (sym log) bases;
-      dues = λ d due e. (let x = get_map ask_after i.inbox.accepted d due (subst (λ z. slice_get z d ≡ Some due) dues e) in subst (λ z. DueCovered images r d z.kept) (sym x.2) tt);
+      dues = λ d due e. (
+          let x = get_map ask_after i.inbox.accepted d due (subst (λ z. slice_get z d ≡ Some due) dues e) in
+          subst (λ z. DueCovered images r d z.kept) (sym x.2) tt);
       since = subst (λ z. (s : ℕ) → covered images r s ≤ accepted_from z s) (sym inbox) since;
     }
 

@@ -43,8 +43,10 @@ Stands-restart w r answer w' s f =
     subst (λ z. Goes z) (sym f.after)
     (record {
       run = resized w (changed w r (Some v) w.images w'.logger w.lines w.run) (length-set w.ranks r (Some v))
-          (Stands-rank (size w) w r (Some v) w'.logger s.run rows_same (λ u e. (let q : v ≡ u = cc in subst (λ z. RankStands (start_at w (size w)) (size w) w.run r z) q k)));
-      covers = Covers-rank w (changed w r (Some v) w.images w'.logger w.lines w.run) r (Some v) refl refl refl (λ u e. (let q : v ≡ u = cc in subst (λ z. RankCovers w.images r z) q c)) s.covers;
+          (Stands-rank (size w) w r (Some v) w'.logger s.run rows_same
+          (λ u e. (let q : v ≡ u = cc in subst (λ z. RankStands (start_at w (size w)) (size w) w.run r z) q k)));
+      covers = Covers-rank w (changed w r (Some v) w.images w'.logger w.lines w.run) r (Some v) refl refl refl
+          (λ u e. (let q : v ≡ u = cc in subst (λ z. RankCovers w.images r z) q c)) s.covers;
     })
   where
     v : Live
@@ -68,7 +70,8 @@ Stands-restart w r answer w' s f =
     stands : ImageStands (start_at w (size w)) (size w) w.run r f.image
     stands = subst (λ z. ImageStands (start_at w (size w)) (size w) w.run r z) (sym f.begins.2) (s.run.images r f.begins.0 f.begins.1)
 
-    k : RankStands (start_at w (size w)) (size w) w.run r (record { rank = restarted (stable_of (size w) r f.shelf) f.image (length f.events); left = left_of f.image f.events })
+    k : RankStands (start_at w (size w)) (size w) w.run r
+        (record { rank = restarted (stable_of (size w) r f.shelf) f.image (length f.events); left = left_of f.image f.events })
     k = RankStands-restarted (start_at w (size w)) (size w) w.run r (stable_of (size w) r f.shelf) f.image f.events refl refl events_are stands
 
     bases : BasesCovered w.images r f.image.log

@@ -24,7 +24,7 @@ use Rattle.world_model.specs.declared.reply.Reply.{Reply}
 use Rattle.world_model.specs.declared.reply.Reply.TheVariants as reply
 use Rattle.world_model.proofs.Doing.{none_live, not_down, live_at, same_world}
 
--- putting
+-- no rank is there to put anything
 pub put_from_nowhere : (w : WorldValue) (s d : ℕ) → size w ≤ s → Follows w (Put s d) reply.Refused w
 put_from_nowhere w s d past = (λ v live l. absurd (none_live w s v past live), refl)
 
@@ -104,7 +104,7 @@ put_some w w' s d f next has wires ranks program images logger lines run = go f 
     go (frame.Ask k) h = h
     go (frame.Kept k) h = h
 
--- arriving
+-- nothing arrives from a rank that isn't there
 pub arrive_from_nowhere : (w : WorldValue) (s d i : ℕ) → Stands w → size w ≤ s → Follows w (Arrive s d i) reply.Refused w
 arrive_from_nowhere w s d i st past =
     (λ v frames f live wire at. let l = slice_get_within w.wires s wire.0 wire.1 in let e = st.run.as_many_wires in omega (arith, l, e), refl)
@@ -116,7 +116,8 @@ arrive_nowhere w s d i past = (λ v frames f live wire at. none_live w d v past 
 -- the frames of a wire are these
 wire_is : (w : WorldValue) (s d : ℕ) (frames : List Frame) → HasWire w.wires s d → IsWire w s d frames → frames ≡ wire_of w.wires s d
 wire_is w s d frames has wire =
-    let of_s : wire.0 ≡ slice_index_or w.wires s [] = (let q : Some wire.0 ≡ Some (slice_index_or w.wires s []) = sym wire.1 ∙ slice_get-get_or w.wires s [] has.0 in cc) in
+    let of_s : wire.0 ≡ slice_index_or w.wires s [] =
+    (let q : Some wire.0 ≡ Some (slice_index_or w.wires s []) = sym wire.1 ∙ slice_get-get_or w.wires s [] has.0 in cc) in
     let at : slice_get (slice_index_or w.wires s []) d ≡ Some frames = subst (λ z. slice_get z d ≡ Some frames) of_s wire.2 in
     let q : Some frames ≡ Some (wire_of w.wires s d) = sym at ∙ slice_get-get_or (slice_index_or w.wires s []) d [] has.1 in
     cc
@@ -127,8 +128,13 @@ the_wire w s d has = (slice_index_or w.wires s [], slice_get-get_or w.wires s []
 
 -- nothing arrives that isn't on the wire
 pub arrive_none : (w : WorldValue) (s d i : ℕ) → HasWire w.wires s d → slice_get (wire_of w.wires s d) i ≡ None → Follows w (Arrive s d i) reply.Refused w
-arrive_none w s d i has none =
-    (λ v frames f live wire at. let e = wire_is w s d frames has wire in let g : slice_get (wire_of w.wires s d) i ≡ Some f = subst (λ z. slice_get z i ≡ Some f) e at in cc, refl)
+arrive_none w s d i has none = (
+  λ v frames f live wire at.
+      let e = wire_is w s d frames has wire in
+      let g : slice_get (wire_of w.wires s d) i ≡ Some f = subst (λ z. slice_get z i ≡ Some f) e at in
+      cc,
+  refl,
+)
 
 -- nothing arrives at a rank that is down
 pub arrive_down : (w : WorldValue) (s d i : ℕ) → IsDown w d → Follows w (Arrive s d i) reply.Refused w
@@ -183,8 +189,12 @@ arrive_some w w' s d i f a answer has there h ranks is program images logger wir
     }
 
     go : (b : Arrived) (r : Reply) → arrived_as b ≡ Some r → ArriveFollows w s d i r w' → Follows w (Arrive s d i) r w'
-    go arrived.Accepted r e g = let q : reply.Accepted ≡ r = cc in subst (λ z. Follows w (Arrive s d i) z w') q (subst (λ z. ArriveFollows w s d i z w') (sym q) g)
-    go arrived.Repeated r e g = let q : reply.Repeated ≡ r = cc in subst (λ z. Follows w (Arrive s d i) z w') q (subst (λ z. ArriveFollows w s d i z w') (sym q) g)
+    go arrived.Accepted r e g =
+        let q : reply.Accepted ≡ r = cc in
+        subst (λ z. Follows w (Arrive s d i) z w') q (subst (λ z. ArriveFollows w s d i z w') (sym q) g)
+    go arrived.Repeated r e g =
+        let q : reply.Repeated ≡ r = cc in
+        subst (λ z. Follows w (Arrive s d i) z w') q (subst (λ z. ArriveFollows w s d i z w') (sym q) g)
     go arrived.Gap r e g = let q : reply.Gap ≡ r = cc in subst (λ z. Follows w (Arrive s d i) z w') q (subst (λ z. ArriveFollows w s d i z w') (sym q) g)
     go arrived.Noted r e g = let q : reply.Noted ≡ r = cc in subst (λ z. Follows w (Arrive s d i) z w') q (subst (λ z. ArriveFollows w s d i z w') (sym q) g)
     go arrived.Foreign r e g = absurd cc
@@ -236,3 +246,11 @@ pub arrive_named_possible : (w : WorldValue) (s d i from to : ℕ) (f : Frame) �
     → CanNot w (Arrive from to i) → ⊥
 arrive_named_possible w s d i from to f same_s same_d has there h =
     subst (λ z. CanNot w (Arrive z to i) → ⊥) same_s (subst (λ z. CanNot w (Arrive s z i) → ⊥) same_d (arrive_possible w s d i f has there h))
+
+-- what a put comes to, and what its calls ask for
+pub ruleset put_laws =
+    (put_from_nowhere, put_to_nowhere, put_down, put_none, put_some, put_due, has_wire, live_size, put_possible, put_packet, put_next)
+
+-- what an arrival comes to, and what its calls ask for
+pub ruleset arrive_laws =
+    (arrive_from_nowhere, arrive_nowhere, arrive_none, arrive_some, arrive_down, live_size, arrive_not_foreign, has_wire, arrive_possible)

@@ -94,3 +94,6 @@ image_some w w' r x s at settled took program logger wires lines run = follows
 pub image_possible : (w : WorldValue) (r : ℕ) (x : Rank) → slice_get w.ranks r ≡ Some (at_work x) → is_settled x.pending ≡ true
     → CanNot w (Image r) → ⊥
 image_possible w r x at e cannot = cannot (record { rank = x; left = [] }) at refl (none_waits x.pending e)
+
+-- what an image comes to, and what its calls ask for
+pub ruleset image_laws = (image_nowhere, image_idle, image_unsettled, image_settled, image_some, image_possible)

@@ -120,3 +120,6 @@ pub restart_fetched : (w w' : WorldValue) (r : ℕ) (events : List EventValue) �
     → Unchanged w (Restart r) w'
 restart_fetched w w' r events down fetches program ranks images wires lines run =
     inr (record { down = down; events = events; fetches = fetches; after = same_world w' _ program ranks images refl wires lines run })
+
+-- what a restart comes to, and what its calls ask for
+pub ruleset restart_laws = (restart_nowhere, restart_live, restart_row, restart_few, restart_some, restart_possible, restart_fetched)

@@ -77,3 +77,6 @@ release_clock x effect oldest = go (slice_get x.pending 0) (sym oldest)
     go (Some (waits.Event y)) e = absurd cc
     go (Some (waits.Send d c)) e = (let q : waits.Send d c ≡ effect = cc in subst (λ z. IsSome (effect_clock z)) q refl)
     go (Some (waits.Line c v)) e = (let q : waits.Line c v ≡ effect = cc in subst (λ z. IsSome (effect_clock z)) q refl)
+
+-- what a release comes to, and what its calls ask for
+pub ruleset release_laws = (release_nowhere, release_idle, release_none, release_some, release_due, release_clock, release_possible)

@@ -20,7 +20,8 @@ use Rattle.rank_node.specs.Replay.{replay_turn_at, replay_takes_memory, is_befor
 use Rattle.crash_free.specs.Runs.{history}
 use Rattle.world_model.specs.World.{Rank, Live, WorldValue, size}
 use Rattle.world_model.specs.Seats.{at_work, AtRank, IsFitting, IsReplayed, IsStep, IsNotAtWork, IsNotInReplay}
-use Rattle.world_model.specs.Follows.{CanNot, Happens, Follows, StepFollows, ReplayFollows, TakesNoMemory, lines_after, shown_where_moved, effect_at, where_moved, at_once}
+use Rattle.world_model.specs.Follows.{CanNot, Happens, Follows, StepFollows, ReplayFollows}
+use Rattle.world_model.specs.Follows.{TakesNoMemory, lines_after, shown_where_moved, effect_at, where_moved, at_once}
 use Rattle.world_model.specs.Follows.{passed_at, stepped, step_takes_memory}
 use Rattle.world_model.specs.Stands.{start_at, RankStands, Stands}
 use Rattle.world_model.specs.declared.event.WorldEvent.{WorldEvent}
@@ -204,7 +205,9 @@ pub replay_fits : (w : WorldValue) (r : ℕ) → Stands w → AtRank w.ranks r (
 replay_fits w r s h =
     let v = live_at w.ranks r _ h in
     subst (λ z. IsSomeAnd z (λ y. IsSomeAnd y IsFitting)) (sym v.1)
-    (λ e rest left. (let g = replays (start_at w (size w)) (size w) w.run r v.0 s.run.is_run (s.run.ranks r v.0 v.1) e rest left (asks v.0.rank.machine) refl in (g.turn, g.turned)))
+    (λ e rest left. (
+    let g = replays (start_at w (size w)) (size w) w.run r v.0 s.run.is_run (s.run.ranks r v.0 v.1) e rest left (asks v.0.rank.machine) refl in
+    (g.turn, g.turned)))
 
 -- a print that is replayed moves
 print_moves : (v : Rank) (e : EventValue) (x : ℤ) (t : Turn) (b : Bool) → (if b then Ok turn.Moved else Err Replay) ≡ Ok t → t ≡ turn.Moved
@@ -295,3 +298,9 @@ replay_takes ranks r h g = go (slice_get ranks r) h g
     go None h g = absurd h
     go (Some None) h g = absurd h
     go (Some (Some v)) h g = one v.rank v.left h g
+
+-- what a step of a rank at work comes to, and which steps take memory
+pub ruleset step_laws = (step_down, step_refused, step_some, step_allowed, step_possible, step_takes, pass_takes, takes_at, work_takes)
+
+-- what a step of a rank that replays comes to, and which steps take memory
+pub ruleset replay_laws = (replay_fits, replay_some, replay_possible, replay_takes, step_takes)

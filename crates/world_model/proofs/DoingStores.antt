@@ -23,7 +23,7 @@ use Rattle.world_model.proofs.Headline.{nothing_in_replay}
 use Rattle.world_model.proofs.Doing.{none_live, same_live, at_value, value_at, live_at, live_in_replay, same_world}
 use Rattle.world_model.proofs.Storing.{oldest_act, accepts, sender_below}
 
--- acknowledgements
+-- no rank is there to acknowledge anything
 pub ack_nowhere : (w : WorldValue) (r : ℕ) → size w ≤ r → Follows w (Ack r) reply.Refused w
 ack_nowhere w r past = (λ v live. absurd (none_live w r v past live), refl)
 
@@ -42,7 +42,13 @@ pub ack_some : (w w' : WorldValue) (r : ℕ) → AtRank w.ranks r (λ v. (0 < v.
     → Follows w (Ack r) reply.Acked w'
 ack_some w w' r h program images logger wires lines run =
     let x = live_at w.ranks r _ h in
-    record { before = x.0; live = x.1; some = λ z. (let l = x.2.0 in omega (arith, l, z)); answered = refl; after = same_world w' _ program x.2.1 images logger wires lines run }
+    record {
+      before = x.0;
+      live = x.1;
+      some = λ z. (let l = x.2.0 in omega (arith, l, z));
+      answered = refl;
+      after = same_world w' _ program x.2.1 images logger wires lines run;
+    }
 
 -- what the oldest unstored event of a rank says of the run
 takes_of : (c s j : ℕ) (o : Option Message) (x : EventValue) → event_at c (takes s j) o ≡ Some x
@@ -162,7 +168,7 @@ reception_stands w r x j s h is at =
     ∙ ap Some (ap (λ k. event_of k x.sender m.0.clock (length (history w.run r) + 1)) (sym is) ∙ ap
     (λ k. event_of x.kind x.sender k (length (history w.run r) + 1)) m.2 ∙ ap (λ k. event_of x.kind x.sender x.sender_clock k) (sym (own_clock w r x s h)))
 
--- storing
+-- no rank is there to store anything
 pub store_nowhere : (w : WorldValue) (r : ℕ) → size w ≤ r → Follows w (Store r) reply.Refused w
 store_nowhere w r past = (λ v live. absurd (none_live w r v past live), refl)
 
@@ -237,3 +243,9 @@ store_named w w' r named x e a count same at oldest event run appends ranks prog
 pub store_possible : (w : WorldValue) (r : ℕ) (x : Rank) (e : EventValue) → slice_get w.ranks r ≡ Some (at_work x) → next_unstored x ≡ Some e
     → CanNot w (Store r) → ⊥
 store_possible w r x e at oldest cannot = let none : Some e ≡ None = sym oldest ∙ cannot (record { rank = x; left = [] }) at in cc
+
+-- what a store comes to, and what its calls ask for
+pub ruleset store_laws = (store_nowhere, store_idle, store_none, store_some, store_row, store_accepted, store_oldest, store_possible)
+
+-- what an acknowledgement comes to
+pub ruleset ack_laws = (ack_nowhere, ack_idle, ack_none, ack_some)

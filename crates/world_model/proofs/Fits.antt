@@ -145,4 +145,8 @@ first_event_late k (x ∷ h) e rest q = go (event_at (k + 1) x.0 x.1) refl q (λ
     go : (o : Option EventValue) → event_at (k + 1) x.0 x.1 ≡ o → e ∷ rest ≡ cons_some o (events_from (k + 1) h)
         → (e ∷ rest ≡ events_from (k + 1) h → k < e.receiver_clock) → k < e.receiver_clock
     go None is q f = f q
-    go (Some y) is q f = (let same : e ≡ y = cc in let c = event_clock (k + 1) x.0 x.1 y is in let z : e.receiver_clock ≡ k + 1 = ap (λ u. u.receiver_clock) same ∙ c in omega (arith, z))
+    go (Some y) is q f = (
+        let same : e ≡ y = cc in
+        let c = event_clock (k + 1) x.0 x.1 y is in
+        let z : e.receiver_clock ≡ k + 1 = ap (λ u. u.receiver_clock) same ∙ c in
+        omega (arith, z))

@@ -214,7 +214,9 @@ stands_unchanged w (Release r) w' s u = subst (λ z. Stands z) (sym u) s
 
 -- a rank with something to release replays nothing
 release_running : (w : WorldValue) (r : ℕ) (v : Live) → Stands w → IsLive w r v → (x : Waiting) → next_effect v.rank ≡ Some x → v.left ≡ []
-release_running w r v s live x there = ahead (start_at w (size w)) (size w) w.run r v (s.run.ranks r v live) (λ e. (let q : None ≡ Some x = sym (ap (λ y. option_and_then effect_of (slice_get y 0)) e) ∙ there in cc))
+release_running w r v s live x there =
+    ahead (start_at w (size w)) (size w) w.run r v (s.run.ranks r v live)
+    (λ e. (let q : None ≡ Some x = sym (ap (λ y. option_and_then effect_of (slice_get y 0)) e) ∙ there in cc))
 
 -- nothing both happens and can't
 pub happens_can : (w : WorldValue) (event : WorldEvent) (answer : Reply) (w' : WorldValue) → Stands w → Happens w event answer w' → CanNot w event → ⊥
@@ -231,7 +233,8 @@ happens_can w (Ack r) answer w' s f c = f.some (c f.before f.live)
 happens_can w (Image r) answer w' s f c = c f.before f.live f.running f.settled
 happens_can w (Crash r) answer w' s f c = c f.before f.live
 happens_can w (Restart r) answer w' s f c = c f.down
-happens_can w (Release r) answer w' s f c = (let q : Some f.effect ≡ None = sym f.oldest ∙ c f.before f.live (release_running w r f.before s f.live f.effect f.oldest) in cc)
+happens_can w (Release r) answer w' s f c =
+    (let q : Some f.effect ≡ None = sym f.oldest ∙ c f.before f.live (release_running w r f.before s f.live f.effect f.oldest) in cc)
 
 -- ---- a new world
 
@@ -308,7 +311,9 @@ stands_fresh program n w f =
 
     rank_counts : (r : ℕ) (v : Live) (events : List EventValue) → IsOpened program n r (Some v) → events ≡ [] → RankCounts v events
     rank_counts r v events h none =
-        subst (λ z. RankCounts z events) (sym h.0) (let l = ap length none in record { made = (let z : 0 ≡ length events + 0 = omega (arith, l) in z); few = omega arith })
+        subst (λ z. RankCounts z events) (sym h.0) (
+        let l = ap length none in
+        record { made = (let z : 0 ≡ length events + 0 = omega (arith, l) in z); few = omega arith })
 
     rank_covers : (r : ℕ) (v : Live) → IsOpened program n r (Some v) → RankCovers w.images r v
     rank_covers r v h =

@@ -18,7 +18,8 @@ use Rattle.world_model.proofs.Inboxes.{InboxStands-longer}
 use Rattle.world_model.proofs.Lists.{take_append, Next, next_of_drop, drop_some}
 
 -- other ranks sent more
-pub StandsIn-longer : (start : State) (n r : ℕ) (inbound inbound' : ℕ → List Message) (h : History) (c : ℕ) (m : MachineValue) (box : Mailbox) (log : List Backlog)
+pub StandsIn-longer : (start : State) (n r : ℕ) (inbound inbound' : ℕ → List Message) (h : History)
+    (c : ℕ) (m : MachineValue) (box : Mailbox) (log : List Backlog)
     → ((s : ℕ) → Grows (inbound s) (inbound' s)) → StandsIn start n r inbound h c m box log → StandsIn start n r inbound' h c m box log
 StandsIn-longer start n r inbound inbound' h c m box log g s =
     record {
@@ -32,7 +33,8 @@ StandsIn-longer start n r inbound inbound' h c m box log g s =
     }
 
 -- the rank itself made more acts, in this life or an earlier one
-pub StandsIn-later : (start : State) (n r : ℕ) (inbound : ℕ → List Message) (h h' extra : History) (c : ℕ) (m : MachineValue) (box : Mailbox) (log : List Backlog)
+pub StandsIn-later : (start : State) (n r : ℕ) (inbound : ℕ → List Message) (h h' extra : History)
+    (c : ℕ) (m : MachineValue) (box : Mailbox) (log : List Backlog)
     → h' ≡ h ++ extra → StandsIn start n r inbound h c m box log → StandsIn start n r inbound h' c m box log
 StandsIn-later start n r inbound h h' extra c m box log e s =
     record {
@@ -68,7 +70,8 @@ StandsIn-moved start n r inbound h c m m' box log e s =
     goes (inr f) = subst (λ z. Inners s.after z) (sym f) s.inner
 
 -- frames came or went
-pub StandsIn-frames : (start : State) (n r : ℕ) (inbound : ℕ → List Message) (h : History) (c : ℕ) (m : MachineValue) (box box' : Mailbox) (log log' : List Backlog)
+pub StandsIn-frames : (start : State) (n r : ℕ) (inbound : ℕ → List Message) (h : History)
+    (c : ℕ) (m : MachineValue) (box box' : Mailbox) (log log' : List Backlog)
     → length box'.accepted ≡ n → InboxStands box' inbound (take c h)
     → length log' ≡ n
     → StandsIn start n r inbound h c m box log → StandsIn start n r inbound h c m box' log'
@@ -84,7 +87,8 @@ StandsIn-frames start n r inbound h c m box box' log log' counted stands logged 
     }
 
 -- The next act of the history: the machine that makes it, with its message, stands one act further.
-pub StandsIn-next : (start : State) (n r : ℕ) (inbound : ℕ → List Message) (h : History) (c : ℕ) (m m' : MachineValue) (box box' : Mailbox) (log log' : List Backlog)
+pub StandsIn-next : (start : State) (n r : ℕ) (inbound : ℕ → List Message) (h : History)
+    (c : ℕ) (m m' : MachineValue) (box box' : Mailbox) (log log' : List Backlog)
     (a : Act) (o : Option Message) (rest : History)
     → drop c h ≡ (a, o) ∷ rest
     → Makes (state_of m) a o

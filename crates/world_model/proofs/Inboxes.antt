@@ -37,38 +37,45 @@ get-kept (y ∷ xs) (suc i) (suc k) x e ne =
     let r = get-kept xs i k x e (λ q. ne (ap suc q)) in
     (suc r.0, r.1)
 
+-- one place of a list has one element
 same_element : {A : Type 0} (xs : List A) (k l : ℕ) (x y : A) → k ≡ l → slice_get xs k ≡ Some x → slice_get xs l ≡ Some y → x ≡ y
 same_element xs k l x y q e f = let g : slice_get xs l ≡ Some x = rw q at e in cc
 
--- a message that a selector names is one whose packet the machine's test accepts
+-- the machine's test of two contexts accepts equal ones
 same_contexts : (a b : Context) → a ≡ b → same_context b a ≡ true
 same_contexts PointToPoint PointToPoint e = refl
 same_contexts PointToPoint Collective e = absurd cc
 same_contexts Collective PointToPoint e = absurd cc
 same_contexts Collective Collective e = refl
 
+-- the machine's test of a source or a tag accepts what the selector names there
 allowed : (o : Option ℕ) (x : ℕ) → IsNamed o x → allows o x ≡ true
 allowed None x i = refl
 allowed (Some y) x i = eq-eqb y x (sym i)
 
+-- a message that a selector names is one whose packet the machine's test accepts
 pub matches_if_named : (w : Selector) (p : packet.Message) → Matches w p.source (carried p) → matches w p ≡ true
 matches_if_named w p m =
     rw (same_contexts p.context w.context m.0, allowed w.source p.source m.1, allowed w.tag p.tag m.2) refl
 
+-- two tests that accept together accept each by itself
 both : (a b : Bool) → (a && b) ≡ true → (a ≡ true) × (b ≡ true)
 both true b h = (refl, h)
 both false b h = absurd cc
 
+-- two contexts that the machine's test accepts are equal
 contexts_same : (a b : Context) → same_context a b ≡ true → b ≡ a
 contexts_same PointToPoint PointToPoint h = refl
 contexts_same PointToPoint Collective h = absurd cc
 contexts_same Collective PointToPoint h = absurd cc
 contexts_same Collective Collective h = refl
 
+-- a source or a tag that the machine's test accepts is one that the selector names there
 named : (o : Option ℕ) (n : ℕ) → allows o n ≡ true → IsNamed o n
 named None n h = tt
 named (Some x) n h = sym (eqb-true x n h)
 
+-- and the selector names the message of each packet that the test accepts
 pub named_if_matches : (w : Selector) (p : packet.Message) → matches w p ≡ true → Matches w p.source (carried p)
 named_if_matches w p h =
     let r = both (same_context w.context p.context && allows w.source p.source) (allows w.tag p.tag) h in
@@ -81,6 +88,7 @@ pub record Found (w : Selector) (packets : List packet.Message) (k : ℕ) (p : p
   pub matching : Matches w p.source (carried p)
   pub first : (l : ℕ) (q : packet.Message) → l < k → slice_get packets l ≡ Some q → Matches w q.source (carried q) → ⊥
 
+-- the packet at the first index that the machine's test accepts is what `find` gives
 pub found_at : (w : Selector) (packets : List packet.Message) (k : ℕ) (p : packet.Message) → position (matches w) packets ≡ Some k
     → slice_get packets k ≡ Some p → Found w packets k p
 found_at w packets k p e at =
@@ -175,6 +183,7 @@ InboxStands-noted box inbound h x none i =
     same : (s j : ℕ) → taken (h ++ x ∷ []) s j ≡ taken h s j
     same s j = taken-push h x s j ∙ or_none (taken h s j) (takes_it s j x.0) (none s j)
 
+-- where neither of two tests accepts, each by itself refuses
 or_false_parts : (b c : Bool) → (b || c) ≡ false → (b ≡ false) × (c ≡ false)
 or_false_parts true c e = absurd cc
 or_false_parts false c e = (refl, e)

@@ -16,6 +16,7 @@ AtMost : ℕ → List (ℕ × ℤ) → Type 0
 AtMost n [] = Unit {0}
 AtMost n (x ∷ xs) = (x.0 ≤ n) × AtMost n xs
 
+-- what is at most n is at most each greater number
 AtMost-more : (n m : ℕ) (xs : List (ℕ × ℤ)) → n ≤ m → AtMost n xs → AtMost m xs
 unfolding AtMost
 AtMost-more n m [] l a = tt
@@ -30,11 +31,13 @@ print_at-low k n (takes s j) xs l a = a
 print_at-low k n (hits s j) xs l a = a
 print_at-low k n misses xs l a = a
 
+-- no line of a history has a clock above that of its last act
 prints_low : (k n : ℕ) (h : History) → k + length h ≤ n → AtMost n (prints_from k h)
 unfolding AtMost
 prints_low k n [] l = tt
 prints_low k n (x ∷ h) l = print_at-low k n x.0 (prints_from (k + 1) h) (omega arith) (prints_low (k + 1) n h (omega arith))
 
+-- the test of a line that comes before holds where its clock is lower, be it of this rank or not
 or_true : (b : Bool) → (b || true) && true ≡ true
 or_true true = refl
 or_true false = refl

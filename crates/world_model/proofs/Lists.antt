@@ -95,7 +95,8 @@ pub packets_push : (r k : ℕ) (ms : List Message) (m : Message) → packets_fro
 packets_push r k [] m = (let e : k + 1 ≡ k + 0 + 1 = omega arith in ap (λ z. packet_of r z m ∷ []) e)
 packets_push r k (x ∷ ms) m =
     ap (λ z. packet_of r (k + 1) x ∷ z)
-    (packets_push r (k + 1) ms m ∙ (let e : k + 1 + length ms + 1 ≡ k + suc (length ms) + 1 = omega arith in ap (λ z. packets_from r (k + 1) ms ++ packet_of r z m ∷ []) e))
+    (packets_push r (k + 1) ms m
+    ∙ (let e : k + 1 + length ms + 1 ≡ k + suc (length ms) + 1 = omega arith in ap (λ z. packets_from r (k + 1) ms ++ packet_of r z m ∷ []) e))
 
 -- as many packets as messages
 pub packets_length : (r k : ℕ) (ms : List Message) → length (packets_from r k ms) ≡ length ms
@@ -106,7 +107,8 @@ packets_length r k (x ∷ ms) = ap suc (packets_length r (k + 1) ms)
 pub packets_get : (r k : ℕ) (ms : List Message) (i : ℕ) (p : packet.Message) → slice_get (packets_from r k ms) i ≡ Some p
     → (m : Message) × (slice_get ms i ≡ Some m) × (p ≡ packet_of r (k + i + 1) m)
 packets_get r k [] i p e = absurd cc
-packets_get r k (x ∷ ms) zero p e = (x, refl, (let q : packet_of r (k + 1) x ≡ p = cc in sym q) ∙ (let z : k + 1 ≡ k + 0 + 1 = omega arith in ap (λ y. packet_of r y x) z))
+packets_get r k (x ∷ ms) zero p e =
+    (x, refl, (let q : packet_of r (k + 1) x ≡ p = cc in sym q) ∙ (let z : k + 1 ≡ k + 0 + 1 = omega arith in ap (λ y. packet_of r y x) z))
 packets_get r k (x ∷ ms) (suc i) p e =
     let g = packets_get r (k + 1) ms i p e in
     (g.0, g.1, g.2 ∙ (let z : k + 1 + i + 1 ≡ k + suc i + 1 = omega arith in ap (λ y. packet_of r y g.0) z))
@@ -115,8 +117,13 @@ packets_get r k (x ∷ ms) (suc i) p e =
 pub packets_there : (r k : ℕ) (ms : List Message) (i : ℕ) (m : Message) → slice_get ms i ≡ Some m
     → slice_get (packets_from r k ms) i ≡ Some (packet_of r (k + i + 1) m)
 packets_there r k [] i m e = absurd cc
-packets_there r k (x ∷ ms) zero m e = let q : x ≡ m = cc in let z : k + 1 ≡ k + 0 + 1 = omega arith in ap Some (ap (λ y. packet_of r (k + 1) y) q ∙ ap (λ y. packet_of r y m) z)
-packets_there r k (x ∷ ms) (suc i) m e = packets_there r (k + 1) ms i m e ∙ (let z : k + 1 + i + 1 ≡ k + suc i + 1 = omega arith in ap (λ y. Some (packet_of r y m)) z)
+packets_there r k (x ∷ ms) zero m e =
+    let q : x ≡ m = cc in
+    let z : k + 1 ≡ k + 0 + 1 = omega arith in
+    ap Some (ap (λ y. packet_of r (k + 1) y) q ∙ ap (λ y. packet_of r y m) z)
+packets_there r k (x ∷ ms) (suc i) m e =
+    packets_there r (k + 1) ms i m e
+    ∙ (let z : k + 1 + i + 1 ≡ k + suc i + 1 = omega arith in ap (λ y. Some (packet_of r y m)) z)
 
 -- what stands in the rest stands in the list
 pub get_drop : {A : Type 0} (n : ℕ) (xs : List A) (k : ℕ) (x : A) → slice_get (drop n xs) k ≡ Some x → slice_get xs (n + k) ≡ Some x

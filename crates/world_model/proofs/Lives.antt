@@ -1,12 +1,14 @@
 -- The ranks and the images of seats, by the seat of one rank.
-use Rattle.std.proofs.Common.{◌≡◌, ℕ, ◌<◌, List, Option, Some, None, length, option_map, refl, sym, ap, subst, ◌∙◌, arith, get_or, slice_get, slice_set, IsSomeAnd, length-set}
+use Rattle.std.proofs.Common.{◌≡◌, ℕ, ◌<◌, List, Option, Some, None, length, option_map, refl, sym, ap, subst, ◌∙◌}
+use Rattle.std.proofs.Common.{arith, get_or, slice_get, slice_set, IsSomeAnd, length-set}
 use Rattle.std.proofs.lemmas.Option.{slice_get-map, slice_get_read}
 use Rattle.std.proofs.lemmas.List.{map-set}
 use Rattle.checkpoint.specs.Image.{ImageValue}
 use Rattle.plain_logger.specs.Event.{EventValue}
 use Rattle.rank_language.specs.Program.{ProgramValue}
 use Rattle.world_model.specs.World.{Rank, Live}
-use Rattle.world_model.specs.Seats.{SeatValue, SeatsValue, IsSeat, AreSeats, lives, images, IfLive, AtRank, with_live, with_rank_value, with_value, IsImaged, IsRestarted}
+use Rattle.world_model.specs.Seats.{SeatValue, SeatsValue, IsSeat, AreSeats, lives, images, IfLive, AtRank}
+use Rattle.world_model.specs.Seats.{with_live, with_rank_value, with_value, IsImaged, IsRestarted}
 use Rattle.world_model.proofs.Lists.{map_length}
 use Rattle.world_model.proofs.Places.{replaced_keeps, set_same}
 
@@ -122,7 +124,8 @@ restarted_then {value = value} {seats = seats} {index = index} {rank = rank} {s 
     own = all index s t.there
 
     there : slice_get value.images rank ≡ Some s.image
-    there = subst (λ z. slice_get value.images z ≡ Some s.image) t.number (subst (λ z. slice_get z index ≡ Some s.image) t.all_images (image_there seats index s t.there))
+    there = subst (λ z. slice_get value.images z ≡ Some s.image) t.number
+        (subst (λ z. slice_get z index ≡ Some s.image) t.all_images (image_there seats index s t.there))
 
     many : s.size ≡ length value.ranks
     many = own.size ∙ sym (map_length (λ (z : SeatValue). z.live) seats) ∙ ap (λ (z : List (Option Live)). length z) t.all_ranks

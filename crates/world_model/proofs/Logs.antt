@@ -24,7 +24,8 @@ LogStands-saved r messages later b p source number sent kept held =
     }
   where
     same : packet_of r (0 + length messages + 1) (carried p) ≡ p
-    same = ap (λ z. packet_of z (0 + length messages + 1) (carried p)) (sym source) ∙ ap (λ z. packet_of p.source z (carried p)) (let z : 0 + length messages + 1 ≡ p.number = omega (arith, sent, number) in z)
+    same = ap (λ z. packet_of z (0 + length messages + 1) (carried p)) (sym source)
+        ∙ ap (λ z. packet_of p.source z (carried p)) (let z : 0 + length messages + 1 ≡ p.number = omega (arith, sent, number) in z)
 
     more : packets_from r 0 (messages ++ carried p ∷ []) ≡ packets_from r 0 messages ++ p ∷ []
     more = packets_push r 0 messages (carried p) ∙ ap (λ z. packets_from r 0 messages ++ z ∷ []) same
@@ -59,7 +60,9 @@ LogStands-held r messages later b p source number s =
     same =
         ap (λ z. packet_of z (length messages + length later + 1) (carried p)) (sym source)
         ∙ ap (λ z. packet_of p.source z (carried p))
-        (let e = s.sent in let f = ap length s.held ∙ packets_length r (length messages) later in let z : length messages + length later + 1 ≡ p.number = omega (arith, e, f, number) in z)
+        (let e = s.sent in
+        let f = ap length s.held ∙ packets_length r (length messages) later in
+        let z : length messages + length later + 1 ≡ p.number = omega (arith, e, f, number) in z)
 
 -- the message that waits longest: its packet is held first
 pub held_first : (r : ℕ) (messages later : List Message) (b : Backlog) (m : Message) → LogStands r messages (m ∷ later) b
@@ -94,7 +97,8 @@ pub LogStands-pruned : (r upto : ℕ) (messages later : List Message) (b : Backl
 LogStands-pruned r upto messages later b s = go (nat_lt b.base upto) refl
   where
     go : (c : Bool) → nat_lt b.base upto ≡ c
-        → LogStands r messages later (if c then (record { base = upto; sent = b.sent; cursor = max b.cursor (upto + 1); kept = drop (upto - b.base) b.kept; held = b.held }) else b)
+        → LogStands r messages later
+        (if c then (record { base = upto; sent = b.sent; cursor = max b.cursor (upto + 1); kept = drop (upto - b.base) b.kept; held = b.held }) else b)
     go false e = s
     go true e =
         let l : b.base < upto = ltb-true b.base upto e in
@@ -110,7 +114,8 @@ pub base_pruned : (b : Backlog) (upto most : ℕ) → b.base ≤ most → upto �
 base_pruned b upto most l m = go (nat_lt b.base upto)
   where
     go : (c : Bool)
-        → (if c then (record { base = upto; sent = b.sent; cursor = max b.cursor (upto + 1); kept = drop (upto - b.base) b.kept; held = b.held }) else b).base ≤ most
+        → (if c then (record { base = upto; sent = b.sent; cursor = max b.cursor (upto + 1); kept = drop (upto - b.base) b.kept; held = b.held })
+        else b).base ≤ most
     go false = l
     go true = m
 
@@ -118,7 +123,8 @@ base_pruned b upto most l m = go (nat_lt b.base upto)
 pub next_is_real : (r : ℕ) (messages later : List Message) (b : Backlog) (p : packet.Message) → LogStands r messages later b → next_of b ≡ Some p
     → (p.source ≡ r) × (at_place messages p.number ≡ Some (carried p))
 next_is_real r messages later b p s e =
-    let g = packets_get r 0 messages (b.base + (b.cursor - (b.base + 1))) p (get_drop b.base (packets_from r 0 messages) (b.cursor - (b.base + 1)) p (subst (λ z. slice_get z (b.cursor - (b.base + 1)) ≡ Some p) s.kept e)) in
+    let g = packets_get r 0 messages (b.base + (b.cursor - (b.base + 1))) p
+    (get_drop b.base (packets_from r 0 messages) (b.cursor - (b.base + 1)) p (subst (λ z. slice_get z (b.cursor - (b.base + 1)) ≡ Some p) s.kept e)) in
     (ap (λ z. z.source) g.2, real (b.base + (b.cursor - (b.base + 1))) g.0 p.number (ap (λ z. z.number) g.2) g.1 ∙ ap Some (sym (ap carried g.2)))
   where
     real : (i : ℕ) (m : Message) (n : ℕ) → n ≡ 0 + i + 1 → slice_get messages i ≡ Some m → at_place messages n ≡ Some m

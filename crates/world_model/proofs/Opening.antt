@@ -1,5 +1,6 @@
 -- The ranks of a new world, one after another.
-use Rattle.std.proofs.Common.{◌≡◌, ℕ, suc, List, [], ◌∷◌, ◌++◌, Option, Some, None, length, refl, sym, ap, subst, ◌∙◌, slice_get, ◌⊎◌, inl, inr, replicate, ◌+◌, arith, length-append}
+use Rattle.std.proofs.Common.{◌≡◌, ℕ, suc, List, [], ◌∷◌, ◌++◌, Option, Some, None, length, refl, sym, ap, subst, ◌∙◌}
+use Rattle.std.proofs.Common.{slice_get, ◌⊎◌, inl, inr, replicate, ◌+◌, arith, length-append}
 use Rattle.rank_language.specs.Program.{ProgramValue}
 use Rattle.crash_free.proofs.Lists.{push_cases}
 use Rattle.world_model.specs.World.{Live}

@@ -85,8 +85,10 @@ module _ (n : ℕ) (w : WorldValue) (r : ℕ) (v : Live) (s : StandsAt n w) (c :
   k = s.ranks r v live
 
   log_at : (d : ℕ) → d < n
-      → LogStands r (sends_from 0 d (take v.rank.clock (history w.run r))) (sends_of (length (history w.run r)) d (s.ranks r v live).acts) (backlog v.rank.log d)
-  log_at d l = (s.ranks r v live).logs d (backlog v.rank.log d) (slice_get-get_or v.rank.log d new_backlog (let e = (s.ranks r v live).at.logged in omega (arith, l, e)))
+      → LogStands r (sends_from 0 d (take v.rank.clock (history w.run r)))
+      (sends_of (length (history w.run r)) d (s.ranks r v live).acts) (backlog v.rank.log d)
+  log_at d l = (s.ranks r v live).logs d (backlog v.rank.log d)
+      (slice_get-get_or v.rank.log d new_backlog (let e = (s.ranks r v live).at.logged in omega (arith, l, e)))
 
   relogged : (d : ℕ) (b : Backlog)
       → LogStands r (sends_from 0 d (take v.rank.clock (history w.run r))) (sends_of (length (history w.run r)) d (s.ranks r v live).acts) b
@@ -122,7 +124,8 @@ module _ (n : ℕ) (w : WorldValue) (r : ℕ) (v : Live) (s : StandsAt n w) (c :
     where
       real : (p : packet.Message) → next_of (backlog v.rank.log d) ≡ Some p → (p.source ≡ r) × (at_place (sent w.run r d) p.number ≡ Some (carried p))
       real p g =
-          let x = next_is_real r (sends_from 0 d (take v.rank.clock (history w.run r))) (sends_of (length (history w.run r)) d (s.ranks r v live).acts) (backlog v.rank.log d) p (log_at d l) g in
+          let x = next_is_real r (sends_from 0 d (take v.rank.clock (history w.run r)))
+          (sends_of (length (history w.run r)) d (s.ranks r v live).acts) (backlog v.rank.log d) p (log_at d l) g in
           (x.0, placed_in_all d v.rank.clock (history w.run r) p.number (carried p) x.1)
 
       go : (a b : Option ℕ) (o : Option packet.Message) → DueCovered w.images r d b → next_of (backlog v.rank.log d) ≡ o → first_of a b o ≡ Some f
@@ -235,13 +238,15 @@ Stands-arrive w from r i answer w' s f =
     subst (λ z. Goes z) (sym f.after)
     (record {
       run =
-          resized w (changed w r (Some (record { rank = after_frame f.before.rank from f.frame; left = f.before.left })) w.images w.logger w.lines w.run) (length-set w.ranks r _)
+          resized w (changed w r (Some (record { rank = after_frame f.before.rank from f.frame; left = f.before.left })) w.images w.logger w.lines w.run)
+          (length-set w.ranks r _)
           (Stands-rank (size w) w r (Some (record { rank = after_frame f.before.rank from f.frame; left = f.before.left })) w.logger s.run refl
           (one_rank (size w) w r (record { rank = after_frame f.before.rank from f.frame; left = f.before.left })
           (arriving (size w) w r f.before s.run (s.covers.ranks r f.before f.live) f.live from f.frame below
           (s.run.packets from r i f.frames f.frame f.wire f.there))));
       covers =
-          Covers-rank w (changed w r (Some (record { rank = after_frame f.before.rank from f.frame; left = f.before.left })) w.images w.logger w.lines w.run) r (Some (record { rank = after_frame f.before.rank from f.frame; left = f.before.left })) refl refl refl
+          Covers-rank w (changed w r (Some (record { rank = after_frame f.before.rank from f.frame; left = f.before.left })) w.images w.logger w.lines w.run)
+          r (Some (record { rank = after_frame f.before.rank from f.frame; left = f.before.left })) refl refl refl
           (one_cover w.images r (record { rank = after_frame f.before.rank from f.frame; left = f.before.left })
           (arriving_covers (size w) w r f.before s.run (s.covers.ranks r f.before f.live) f.live from f.frame
           (s.covers.wires from r i f.frames f.frame f.wire f.there))) s.covers;
@@ -301,7 +306,8 @@ pub record First (start : ℕ → State) (n : ℕ) (C : List Passed) (r : ℕ) (
   pub stands : RankStands start n (record { rank = r; act = act } ∷ C) r v
 
 -- the first of what waits passes
-pub RankStands-passes : (start : ℕ → State) (n : ℕ) (C : List Passed) (r : ℕ) (v : Live) (s : RankStands start n C r v) (x : Waiting) (rest pending : List Waiting) (stored : ℕ) (log : List Backlog)
+pub RankStands-passes : (start : ℕ → State) (n : ℕ) (C : List Passed) (r : ℕ) (v : Live) (s : RankStands start n C r v)
+    (x : Waiting) (rest pending : List Waiting) (stored : ℕ) (log : List Backlog)
     → (v.rank.pending ≡ [] → ⊥)
     → unpassed v.rank ≡ x ∷ rest → drop stored pending ≡ rest → BeginsWithEvents stored pending
     → length log ≡ n → LogPasses C r v.rank.clock x v.rank.log log
@@ -342,7 +348,8 @@ RankStands-passes start n C r v s x rest pending stored log some is same low log
       where
         longer : (a : Act) (acts : List Act)
             → StandsIn (start r) n r (λ q. sent C q r) (history (continue C r (a ∷ acts)) r) v.rank.clock v.rank.machine v.rank.inbox v.rank.log
-            → StandsIn (start r) n r (λ q. sent (record { rank = r; act = a } ∷ C) q r) (history (continue (record { rank = r; act = a } ∷ C) r acts) r) v.rank.clock v.rank.machine v.rank.inbox v.rank.log
+            → StandsIn (start r) n r (λ q. sent (record { rank = r; act = a } ∷ C) q r)
+            (history (continue (record { rank = r; act = a } ∷ C) r acts) r) v.rank.clock v.rank.machine v.rank.inbox v.rank.log
         longer a acts at =
             StandsIn-longer (start r) n r (λ q. sent C q r) (λ q. sent (record { rank = r; act = a } ∷ C) q r)
             (history (continue (record { rank = r; act = a } ∷ C) r acts) r) v.rank.clock v.rank.machine v.rank.inbox v.rank.log
@@ -360,7 +367,8 @@ module _ (C : List Passed) (r c : ℕ) (a : Act) (acts : List Act) (counts : c �
 
   -- the act is among what was sent, and no more among what waits
   sent_after : (d : ℕ)
-      → sends_from 0 d (take c (history (record { rank = r; act = a } ∷ C) r)) ≡ sends_from 0 d (take c (history C r)) ++ send_at (length (history C r) + 1) d a []
+      → sends_from 0 d (take c (history (record { rank = r; act = a } ∷ C) r))
+      ≡ sends_from 0 d (take c (history C r)) ++ send_at (length (history C r) + 1) d a []
   sent_after d =
       ap (λ z. sends_from 0 d z) all_after ∙ sends_from-push 0 d (history C r) (a, looked_up (λ s. sent C s r) a)
       ∙ ap (λ z. sends_from 0 d z ++ send_at (0 + length (history C r) + 1) d a []) (sym all_before)
@@ -372,7 +380,8 @@ module _ (C : List Passed) (r c : ℕ) (a : Act) (acts : List Act) (counts : c �
   -- where the act sends nothing there
   pub quiet_there : (d : ℕ) (b : Backlog) → send_at (length (history C r) + 1) d a [] ≡ []
       → LogStands r (sends_from 0 d (take c (history C r))) (sends_of (length (history C r)) d (a ∷ acts)) b
-      → LogStands r (sends_from 0 d (take c (history (record { rank = r; act = a } ∷ C) r))) (sends_of (length (history (record { rank = r; act = a } ∷ C) r)) d acts) b
+      → LogStands r (sends_from 0 d (take c (history (record { rank = r; act = a } ∷ C) r)))
+      (sends_of (length (history (record { rank = r; act = a } ∷ C) r)) d acts) b
   quiet_there d b none s =
       subst (λ z. LogStands r z (sends_of (length (history (record { rank = r; act = a } ∷ C) r)) d acts) b)
       (sym (sent_after d ∙ ap (λ z. sends_from 0 d (take c (history C r)) ++ z) none ∙ append-nil _))
@@ -391,7 +400,8 @@ module _ (C : List Passed) (r c : ℕ) (a : Act) (acts : List Act) (counts : c �
 
   pub freed_there : (d : ℕ) (b : Backlog) (m : Message) → send_at (length (history C r) + 1) d a [] ≡ m ∷ []
       → LogStands r (sends_from 0 d (take c (history C r))) (sends_of (length (history C r)) d (a ∷ acts)) b
-      → LogStands r (sends_from 0 d (take c (history (record { rank = r; act = a } ∷ C) r))) (sends_of (length (history (record { rank = r; act = a } ∷ C) r)) d acts) (freed b)
+      → LogStands r (sends_from 0 d (take c (history (record { rank = r; act = a } ∷ C) r)))
+      (sends_of (length (history (record { rank = r; act = a } ∷ C) r)) d acts) (freed b)
   freed_there d b m one s =
       subst (λ z. LogStands r z (sends_of (length (history (record { rank = r; act = a } ∷ C) r)) d acts) (freed b))
       (sym (sent_after d ∙ ap (λ z. sends_from 0 d (take c (history C r)) ++ z) one))
@@ -434,14 +444,18 @@ Stands-store w r answer w' s f =
       run =
           resized w (changed w r (Some (record { rank = after_store f.before.rank; left = f.before.left })) w.images w'.logger w.lines
           (continue w.run r f.acts)) (length-set w.ranks r _)
-          (subst (λ z. StandsAt (size w) (changed w r (Some (record { rank = after_store f.before.rank; left = f.before.left })) w.images w'.logger w.lines (continue w.run r z))) (sym named.1)
-          (subst (λ z. StandsAt (size w) (changed w r (Some (record { rank = after_store f.before.rank; left = f.before.left })) w.images w'.logger w.lines (record { rank = r; act = z } ∷ w.run))) same
-          (Stands-passed (size w) w r o.act (record { rank = after_store f.before.rank; left = f.before.left }) w'.logger w.lines s.run below o.can o.stands as_many rows_are
+          (subst (λ z. StandsAt (size w) (changed w r (Some (record { rank = after_store f.before.rank; left = f.before.left })) w.images w'.logger w.lines
+          (continue w.run r z))) (sym named.1)
+          (subst (λ z. StandsAt (size w) (changed w r (Some (record { rank = after_store f.before.rank; left = f.before.left })) w.images w'.logger w.lines
+          (record { rank = r; act = z } ∷ w.run))) same
+          (Stands-passed (size w) w r o.act (record { rank = after_store f.before.rank; left = f.before.left })
+          w'.logger w.lines s.run below o.can o.stands as_many rows_are
           (λ q. s.run.lines q ∙ sym (printed_same w.run r q o.act (event_prints_none _ _ o.act (looked_up (λ q. sent w.run q r) o.act) f.event o.is_for))))));
       covers =
           Covers-rank w (changed w r (Some (record { rank = after_store f.before.rank; left = f.before.left })) w.images w'.logger w.lines
           (continue w.run r f.acts)) r (Some (record { rank = after_store f.before.rank; left = f.before.left })) refl refl refl
-          (one_cover w.images r (record { rank = after_store f.before.rank; left = f.before.left }) (let c = s.covers.ranks r f.before f.live in record { bases = c.bases; dues = c.dues; since = c.since })) s.covers;
+          (one_cover w.images r (record { rank = after_store f.before.rank; left = f.before.left })
+          (let c = s.covers.ranks r f.before f.live in record { bases = c.bases; dues = c.dues; since = c.since })) s.covers;
     })
   where
     below : r < size w
@@ -502,7 +516,8 @@ Stands-ack w r answer w' s f =
       covers =
           Covers-rank w (changed w r (Some (record { rank = after_ack f.before.rank; left = f.before.left })) w.images w.logger w.lines w.run) r
           (Some (record { rank = after_ack f.before.rank; left = f.before.left })) refl refl refl
-          (one_cover w.images r (record { rank = after_ack f.before.rank; left = f.before.left }) (let c = s.covers.ranks r f.before f.live in record { bases = c.bases; dues = c.dues; since = c.since })) s.covers;
+          (one_cover w.images r (record { rank = after_ack f.before.rank; left = f.before.left })
+          (let c = s.covers.ranks r f.before f.live in record { bases = c.bases; dues = c.dues; since = c.since })) s.covers;
     })
   where
     k : RankStands (start_at w (size w)) (size w) w.run r f.before
@@ -523,8 +538,10 @@ Stands-ack w r answer w' s f =
 pub effect_there : (xs : List Waiting) (x : Waiting) → option_and_then effect_of (slice_get xs 0) ≡ Some x → (xs ≡ x ∷ drop 1 xs) × (event_in x ≡ None)
 effect_there [] x e = absurd cc
 effect_there (waits.Event y ∷ xs) x e = absurd cc
-effect_there (waits.Send d c ∷ xs) x e = (let q : waits.Send d c ≡ x = cc in (ap (λ z. z ∷ xs) q ∙ ap (λ z. x ∷ z) (sym (drop_zero xs)), subst (λ z. event_in z ≡ None) q refl))
-effect_there (waits.Line c v ∷ xs) x e = (let q : waits.Line c v ≡ x = cc in (ap (λ z. z ∷ xs) q ∙ ap (λ z. x ∷ z) (sym (drop_zero xs)), subst (λ z. event_in z ≡ None) q refl))
+effect_there (waits.Send d c ∷ xs) x e =
+    (let q : waits.Send d c ≡ x = cc in (ap (λ z. z ∷ xs) q ∙ ap (λ z. x ∷ z) (sym (drop_zero xs)), subst (λ z. event_in z ≡ None) q refl))
+effect_there (waits.Line c v ∷ xs) x e =
+    (let q : waits.Line c v ≡ x = cc in (ap (λ z. z ∷ xs) q ∙ ap (λ z. x ∷ z) (sym (drop_zero xs)), subst (λ z. event_in z ≡ None) q refl))
 
 -- what isn't there is the default
 missing_default : {A : Type 0} (xs : List A) (i : ℕ) (d : A) → slice_get xs i ≡ None → slice_index_or xs i d ≡ d
@@ -593,7 +610,8 @@ Stands-release w r answer w' s f =
       covers =
           Covers-rank w (changed w r (Some after) w.images w.logger (lines_released w.lines r f.effect) (passed_at w.run r f.clock (Some f.act))) r
           (Some after) refl refl refl
-          (one_cover w.images r after (let c = s.covers.ranks r f.before f.live in record { bases = covered_bases c f.effect; dues = c.dues; since = c.since })) s.covers;
+          (one_cover w.images r after
+          (let c = s.covers.ranks r f.before f.live in record { bases = covered_bases c f.effect; dues = c.dues; since = c.since })) s.covers;
     })
   where
     after : Live
@@ -639,9 +657,12 @@ Stands-release w r answer w' s f =
     sent_is dest d c t items act same logs (Some b) at e =
         let had : backlog f.before.rank.log dest ≡ b = get_or_from_slice_get f.before.rank.log dest b new_backlog at in
         let m : Message = record { clock = length (history w.run r) + 1; context = c; tag = t; items = items } in
-        let there = message_there w.run r f.before.rank.clock (sends d c t items) o.acts counts dest b m (ap (λ z. cons_if z m []) (eq-eqb d dest same)) (logs dest b at) in
-        let held = held_first r (sends_from 0 dest (take f.before.rank.clock (history w.run r))) (sends_of (length (history w.run r) + 1) dest o.acts) b m there in
-        let is : oldest_held f.before.rank dest ≡ Some (packet_of r (length (sends_from 0 dest (take f.before.rank.clock (history w.run r))) + 1) m) = ap (λ z. slice_get z.held 0) had ∙ held in
+        let there = message_there w.run r f.before.rank.clock (sends d c t items) o.acts counts dest b m
+        (ap (λ z. cons_if z m []) (eq-eqb d dest same)) (logs dest b at) in
+        let held = held_first r (sends_from 0 dest (take f.before.rank.clock (history w.run r)))
+        (sends_of (length (history w.run r) + 1) dest o.acts) b m there in
+        let is : oldest_held f.before.rank dest ≡ Some (packet_of r (length (sends_from 0 dest (take f.before.rank.clock (history w.run r))) + 1) m) =
+        ap (λ z. slice_get z.held 0) had ∙ held in
         let q : Some (sends dest c t items) ≡ Some act = ap (λ z. option_map (send_of dest) z) (sym is) ∙ e in
         (let y : sends dest c t items ≡ act = cc in sym y ∙ ap (λ z. sends z c t items) (sym same))
       where

@@ -133,7 +133,8 @@ sends_of-push k d [] a = (let e : k + 1 ≡ k + 0 + 1 = omega arith in ap (λ z.
 sends_of-push k d (b ∷ acts) a =
     ap (λ z. send_at (k + 1) d b z) (sends_of-push (k + 1) d acts a)
     ∙ send_at-append (k + 1) d b (sends_of (k + 1) d acts) (send_at (k + 1 + length acts + 1) d a [])
-    ∙ (let e : k + 1 + length acts + 1 ≡ k + suc (length acts) + 1 = omega arith in ap (λ z. send_at (k + 1) d b (sends_of (k + 1) d acts) ++ send_at z d a []) e)
+    ∙ (let e : k + 1 + length acts + 1 ≡ k + suc (length acts) + 1 = omega arith in
+    ap (λ z. send_at (k + 1) d b (sends_of (k + 1) d acts) ++ send_at z d a []) e)
 
 -- ---- the events that stand first
 
@@ -150,7 +151,8 @@ pub begins_more : (k : ℕ) (xs : List Waiting) (e : EventValue) → BeginsWithE
 begins_more zero [] e b f = absurd cc
 begins_more zero (x ∷ xs) e b f = (let q : x ≡ waits.Event e = cc in subst (λ z. BeginsWithEvents 1 (z ∷ xs)) (sym q) tt)
 begins_more (suc k) [] e b f = absurd b
-begins_more (suc k) (waits.Event x ∷ xs) e b f = (let z : suc (k + 1) ≡ suc k + 1 = omega arith in subst (λ y. BeginsWithEvents y (waits.Event x ∷ xs)) z (begins_more k xs e b f))
+begins_more (suc k) (waits.Event x ∷ xs) e b f =
+    (let z : suc (k + 1) ≡ suc k + 1 = omega arith in subst (λ y. BeginsWithEvents y (waits.Event x ∷ xs)) z (begins_more k xs e b f))
 begins_more (suc k) (waits.Send d c ∷ xs) e b f = absurd b
 begins_more (suc k) (waits.Line c v ∷ xs) e b f = absurd b
 

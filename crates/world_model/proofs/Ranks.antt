@@ -91,7 +91,8 @@ above_row k (suc n) (x ∷ h) l =
 -- ---- a restart
 
 -- A rank that starts again at an image of any earlier life goes with the run.
-pub RankStands-restarted : (start : ℕ → State) (n : ℕ) (C : List Passed) (r : ℕ) (stable : Stored MemoryShelf (Unit {0})) (i : ImageValue) (events : List EventValue)
+pub RankStands-restarted : (start : ℕ → State) (n : ℕ) (C : List Passed) (r : ℕ)
+    (stable : Stored MemoryShelf (Unit {0})) (i : ImageValue) (events : List EventValue)
     → stable.rank ≡ r → stable.size ≡ n → events ≡ row C r
     → ImageStands start n C r i
     → RankStands start n C r (record { rank = restarted stable i (length events); left = left_of i events })
@@ -112,14 +113,19 @@ RankStands-restarted start n C r stable i events number size same s =
 -- the beginning of the program stands in an image's place
 pub first_image_stands : (start : ℕ → State) (n : ℕ) (C : List Passed) (r : ℕ) (program : ProgramValue)
     → start r ≡ opening program r n → state_of (first_image program r n).machine ≡ opening program r n → ImageStands start n C r (first_image program r n)
-first_image_stands start n C r program starts opens = record { at = begins; logs = λ d b e. (let z = replicate_get n new_backlog d b e in rw z (record { sent = refl; kept = refl; held = refl })) }
+first_image_stands start n C r program starts opens =
+    record {
+      at = begins;
+      logs = λ d b e. (let z = replicate_get n new_backlog d b e in rw z (record { sent = refl; kept = refl; held = refl }));
+    }
   where
     nothing : (n s : ℕ) → slice_index (replicate n 0) s ≡ 0
     nothing zero s = refl
     nothing (suc n) zero = refl
     nothing (suc n) (suc s) = nothing n s
 
-    begins : StandsIn (start r) n r (λ q. sent C q r) (history C r) 0 (first_image program r n).machine (first_image program r n).inbox (first_image program r n).log
+    begins : StandsIn (start r) n r (λ q. sent C q r) (history C r) 0
+        (first_image program r n).machine (first_image program r n).inbox (first_image program r n).log
     begins = record {
       within = omega arith;
       after = start r;
@@ -252,7 +258,8 @@ after_again v m inbox log = record {
 }
 
 -- A rank that is behind the run makes the run's next act, replayed or again.
-pub RankStands-again : (start : ℕ → State) (n : ℕ) (C : List Passed) (r : ℕ) (v : Live) (s : RankStands start n C r v) (m : MachineValue) (inbox : Mailbox) (log : List Backlog)
+pub RankStands-again : (start : ℕ → State) (n : ℕ) (C : List Passed) (r : ℕ) (v : Live) (s : RankStands start n C r v)
+    (m : MachineValue) (inbox : Mailbox) (log : List Backlog)
     (a : Act) (o : Option Message) (rest : History) (left : List EventValue)
     → v.rank.pending ≡ []
     → drop v.rank.clock (history C r) ≡ (a, o) ∷ rest
@@ -273,7 +280,8 @@ RankStands-again start n C r v s m inbox log a o rest left settled is makes stat
       left = now ∙ ap (λ z. events_from (v.rank.clock + 1) z) (sym x.dropped);
       logs = rw x.taken logs;
       at =
-          StandsIn-next (start r) n r (λ q. sent C q r) (history C r) v.rank.clock v.rank.machine m v.rank.inbox inbox v.rank.log log a o rest is makes state counted box logged (at_run start n C r v s none);
+          StandsIn-next (start r) n r (λ q. sent C q r) (history C r)
+          v.rank.clock v.rank.machine m v.rank.inbox inbox v.rank.log log a o rest is makes state counted box logged (at_run start n C r v s none);
     }
   where
     none : s.acts ≡ []

@@ -46,10 +46,12 @@ use Rattle.world_model.proofs.Fits.{history_looks_up, first_event_late}
 
 -- what the first c acts sent, and a send as the next
 sends_next : (h : History) (c d' d : ℕ) (context : Context) (t : ℕ) (items : List ℤ) (o : Option Message) → c ≤ length h
-    → sends_from 0 d (take c h ++ (sends d' context t items, o) ∷ []) ≡ sends_from 0 d (take c h) ++ cons_if (d' == d) (record { clock = c + 1; context = context; tag = t; items = items }) []
+    → sends_from 0 d (take c h ++ (sends d' context t items, o) ∷ [])
+    ≡ sends_from 0 d (take c h) ++ cons_if (d' == d) (record { clock = c + 1; context = context; tag = t; items = items }) []
 sends_next h c d' d context t items o l =
     sends_from-push 0 d (take c h) (sends d' context t items, o)
-    ∙ (let z : 0 + length (take c h) ≡ c = (let e = take_length c h l in omega (arith, e)) in ap (λ y. sends_from 0 d (take c h) ++ cons_if (d' == d) (record { clock = y + 1; context = context; tag = t; items = items }) []) z)
+    ∙ (let z : 0 + length (take c h) ≡ c = (let e = take_length c h l in omega (arith, e)) in
+    ap (λ y. sends_from 0 d (take c h) ++ cons_if (d' == d) (record { clock = y + 1; context = context; tag = t; items = items }) []) z)
 
 -- a send that is made again is saved
 pub logs_saved : (r : ℕ) (h : History) (v : Rank) (d : ℕ) (context : Context) (t : ℕ)
@@ -77,11 +79,13 @@ logs_saved r h v d context t number within s =
     own : (b : Backlog) → slice_get v.log d ≡ Some b → LogStands r (sends_from 0 d (take v.clock h ++ (a, None) ∷ [])) [] (saved (backlog v.log d) p)
     own b at =
         let is : backlog v.log d ≡ b = get_or_from_slice_get v.log d b new_backlog at in
-        let had : LogStands r (sends_from 0 d (take v.clock h)) [] (backlog v.log d) = subst (λ z. LogStands r (sends_from 0 d (take v.clock h)) [] z) (sym is) (s d b at) in
+        let had : LogStands r (sends_from 0 d (take v.clock h)) [] (backlog v.log d) =
+        subst (λ z. LogStands r (sends_from 0 d (take v.clock h)) [] z) (sym is) (s d b at) in
         let none = ap length had.held in
         subst (λ z. LogStands r z [] (saved (backlog v.log d) p))
         (sym (messages d ∙ ap (λ z. sends_from 0 d (take v.clock h) ++ cons_if z (carried p) []) (eq-eqb d d refl)))
-        (LogStands-saved r (sends_from 0 d (take v.clock h)) [] (backlog v.log d) p number (let z : p.number ≡ (backlog v.log d).sent + 1 = omega (arith, none) in z) had.sent had.kept had.held)
+        (LogStands-saved r (sends_from 0 d (take v.clock h)) [] (backlog v.log d) p number
+        (let z : p.number ≡ (backlog v.log d).sent + 1 = omega (arith, none) in z) had.sent had.kept had.held)
 
 -- an act that sends nothing leaves the log
 abbrev pub SendsNone : Act → Type 0
@@ -119,7 +123,8 @@ one_message C r box acts i s j m p stands at source clock there =
 
 -- ---- the steps
 
-module _ (start : ℕ → State) (n : ℕ) (C : List Passed) (r : ℕ) (v : Live) (run : IsRun start n C) (s : RankStands start n C r v) (e : EventValue) (rest : List EventValue) (left : v.left ≡ e ∷ rest) where
+module _ (start : ℕ → State) (n : ℕ) (C : List Passed) (r : ℕ) (v : Live)
+    (run : IsRun start n C) (s : RankStands start n C r v) (e : EventValue) (rest : List EventValue) (left : v.left ≡ e ∷ rest) where
   -- a rank with something left to replay has nothing pending
   pub settled : v.rank.pending ≡ []
   settled = settled_behind start n C r v s (λ z. (let q : e ∷ rest ≡ [] = sym left ∙ z in cc))
@@ -145,7 +150,9 @@ module _ (start : ℕ → State) (n : ℕ) (C : List Passed) (r : ℕ) (v : Live
 
   -- the next act is the run's
   pub next_is : inner (state_of v.rank.machine) ≡ None → NextAct (history C r) v.rank.clock v.rank.machine
-  next_is stop = (let z = run_reaches start n C r run in next_act (start r) n r (λ q. sent C q r) (history C r) v.rank.clock v.rank.machine v.rank.inbox v.rank.log z.0 z.1 behind stop at)
+  next_is stop = (
+      let z = run_reaches start n C r run in
+      next_act (start r) n r (λ q. sent C q r) (history C r) v.rank.clock v.rank.machine v.rank.inbox v.rank.log z.0 z.1 behind stop at)
 
   left_is : (x : NextAct (history C r) v.rank.clock v.rank.machine)
       → e ∷ rest ≡ cons_some (event_at (v.rank.clock + 1) x.act x.message) (events_from (v.rank.clock + 1) x.rest)
@@ -177,10 +184,14 @@ module _ (start : ℕ → State) (n : ℕ) (C : List Passed) (r : ℕ) (v : Live
 
   -- the message of the next act is in the run
   looked : (x : NextAct (history C r) v.rank.clock v.rank.machine) → looked_up (λ q. sent C q r) x.act ≡ x.message
-  looked x = (let y = history_looks_up start n C r run v.rank.clock (x.act, x.message) (next_of_drop v.rank.clock (history C r) (x.act, x.message) x.rest x.is_next).there in y.3)
+  looked x = (
+      let y = history_looks_up start n C r run v.rank.clock (x.act, x.message)
+      (next_of_drop v.rank.clock (history C r) (x.act, x.message) x.rest x.is_next).there in
+      y.3)
 
   -- a rank that makes the run's next act
-  goes_on : (x : NextAct (history C r) v.rank.clock v.rank.machine) (m : MachineValue) (inbox : Mailbox) (log : List Backlog) (a : Act) (o : Option Message) (l : List EventValue)
+  goes_on : (x : NextAct (history C r) v.rank.clock v.rank.machine) (m : MachineValue) (inbox : Mailbox) (log : List Backlog)
+      (a : Act) (o : Option Message) (l : List EventValue)
       → x.act ≡ a → x.message ≡ o → state_of m ≡ next (state_of v.rank.machine) a o
       → length inbox.accepted ≡ n → InboxStands inbox (λ q. sent C q r) (take v.rank.clock (history C r) ++ (a, o) ∷ [])
       → length log ≡ n → ((d : ℕ) (b : Backlog) → slice_get log d ≡ Some b → LogStands r (sends_from 0 d (take v.rank.clock (history C r) ++ (a, o) ∷ [])) [] b)
@@ -199,7 +210,9 @@ module _ (start : ℕ → State) (n : ℕ) (C : List Passed) (r : ℕ) (v : Live
   sending : (d : ℕ) (c : Context) (t : ℕ) → asks v.rank.machine ≡ want.Send d c t → Goes (want.Send d c t)
   sending d c t is =
       let x = next_is (stopped v.rank.machine (want.Send d c t) is (λ z. cc)) in
-      let f = fits_send d c t (payload (state_of v.rank.machine)) x.act x.message (subst (λ z. Fits z (payload (state_of v.rank.machine)) x.act x.message) (wanted v.rank.machine (want.Send d c t) is (λ z. cc)) x.makes) in
+      let f = fits_send d c t (payload (state_of v.rank.machine)) x.act x.message
+      (subst (λ z. Fits z (payload (state_of v.rank.machine)) x.act x.message)
+      (wanted v.rank.machine (want.Send d c t) is (λ z. cc)) x.makes) in
       let b = before x (ap (λ z. event_at (v.rank.clock + 1) z x.message) f.0) in
       record {
         turn = Moved;
@@ -218,7 +231,9 @@ module _ (start : ℕ → State) (n : ℕ) (C : List Passed) (r : ℕ) (v : Live
   printing : (z : ℤ) → asks v.rank.machine ≡ want.Print z → Goes (want.Print z)
   printing z is =
       let x = next_is (stopped v.rank.machine (want.Print z) is (λ y. cc)) in
-      let f = fits_print z (payload (state_of v.rank.machine)) x.act x.message (subst (λ y. Fits y (payload (state_of v.rank.machine)) x.act x.message) (wanted v.rank.machine (want.Print z) is (λ y. cc)) x.makes) in
+      let f = fits_print z (payload (state_of v.rank.machine)) x.act x.message
+      (subst (λ y. Fits y (payload (state_of v.rank.machine)) x.act x.message)
+      (wanted v.rank.machine (want.Print z) is (λ y. cc)) x.makes) in
       let b = before x (ap (λ y. event_at (v.rank.clock + 1) y x.message) f.0) in
       record {
         turn = Moved;
@@ -267,7 +282,8 @@ module _ (start : ℕ → State) (n : ℕ) (C : List Passed) (r : ℕ) (v : Live
           let eq : q ≡ p = ap (λ z. z.1) both in
           let there : slice_get v.rank.inbox.packets k ≡ Some p = f ∙ ap Some eq in
           let first = position-Some (is_named e.sender e.sender_clock) v.rank.inbox.packets k p g in
-          let parts = named_parts e.sender e.sender_clock p (subst (λ z. is_named e.sender e.sender_clock z ≡ true) (get_or_from_slice_get v.rank.inbox.packets k p p there) first.1) in
+          let parts = named_parts e.sender e.sender_clock p
+          (subst (λ z. is_named e.sender e.sender_clock z ≡ true) (get_or_from_slice_get v.rank.inbox.packets k p p there) first.1) in
           (subst (λ z. slice_get v.rank.inbox.packets z ≡ Some p) ek there, parts.0, parts.1)
 
       go : (o : Option ℕ) → position (is_named e.sender e.sender_clock) v.rank.inbox.packets ≡ o
@@ -350,7 +366,8 @@ module _ (start : ℕ → State) (n : ℕ) (C : List Passed) (r : ℕ) (v : Live
               }
 
   -- a hit is shown the packet that the event names
-  shown_goes : (x : NextAct (history C r) v.rank.clock v.rank.machine) (selector : Selector) (f : FitsHits selector x.act x.message) (m : MachineValue) (g : ℕ × packet.Message)
+  shown_goes : (x : NextAct (history C r) v.rank.clock v.rank.machine) (selector : Selector) (f : FitsHits selector x.act x.message)
+      (m : MachineValue) (g : ℕ × packet.Message)
       → rest ≡ events_from (v.rank.clock + 1) x.rest → IsOf f.source f.place f.message g.1 → WasShown g.1 v.rank.machine m
       → RankStands start n C r (record { rank = shown_named v.rank m (Some g); left = rest })
   shown_goes x selector f m g er k did =
@@ -462,7 +479,8 @@ module _ (start : ℕ → State) (n : ℕ) (C : List Passed) (r : ℕ) (v : Live
     turn = Moved;
     turned = refl;
     stands = λ m did.
-        RankStands-same_clock start n C r (record { rank = v.rank; left = e ∷ rest }) stays v.rank.stable m v.rank.inbox v.rank.log v.rank.dues s.number s.size stays.logs
+        RankStands-same_clock start n C r (record { rank = v.rank; left = e ∷ rest })
+        stays v.rank.stable m v.rank.inbox v.rank.log v.rank.dues s.number s.size stays.logs
         (StandsIn-moved (start r) n r (λ q. sent C q r) _ v.rank.clock v.rank.machine m v.rank.inbox v.rank.log did.state stays.at);
   }
 

@@ -32,6 +32,7 @@ Above : ℕ → List Message → Type 0
 Above k [] = Unit {0}
 Above k (m ∷ ms) = (k < m.clock) × Above m.clock ms
 
+-- what is above k + 1 is above k
 Above-down : (k : ℕ) (ms : List Message) → Above (k + 1) ms → Above k ms
 unfolding Above
 Above-down k [] a = tt
@@ -50,6 +51,7 @@ Above-at k r (hits s j) ms a = Above-down k ms a
 Above-at k r misses ms a = Above-down k ms a
 Above-at k r (prints v) ms a = Above-down k ms a
 
+-- all that a history sends after clock k is above k, and rises
 sends-above : (k r : ℕ) (h : History) → Above k (sends_from k r h)
 unfolding Above
 sends-above k r [] = tt
@@ -64,6 +66,7 @@ above_each k (m ∷ ms) (suc j) a l =
     let more = above_each m.clock ms j a.1 (omega arith) in
     let z : k < m.clock = a.0 in omega (arith, more)
 
+-- where each message is above the ones before, the clocks rise
 above_rising : (k : ℕ) (ms : List Message) → Above k ms → Rising (map (λ m. m.clock) ms)
 unfolding Above
 above_rising k [] a i j le l = absurd (omega arith)

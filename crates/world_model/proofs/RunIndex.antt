@@ -76,6 +76,7 @@ clocks-own : (C : List Passed) (r d : ℕ) (act : Act)
     → clocks (record { rank = r; act = act } ∷ C) r d ≡ clocks C r d ++ map (λ (m : Message). m.clock) (send_at (length (history C r) + 1) d act [])
 clocks-own C r d act = ap (map (λ (m : Message). m.clock)) (sent-own C r d act) ∙ map-append (λ (m : Message). m.clock) _ _
 
+-- an act leaves as many lists of clocks, one for each destination
 length-clocks_with : (c : ℕ) (act : Act) (ks : List (List ℕ)) → length (clocks_with c act ks) ≡ length ks
 length-clocks_with c (sends d context tag items) ks = length-set ks d _
 length-clocks_with c (takes s j) ks = refl
@@ -83,6 +84,7 @@ length-clocks_with c (hits s j) ks = refl
 length-clocks_with c misses ks = refl
 length-clocks_with c (prints v) ks = refl
 
+-- so does an act that is taken back
 length-clocks_without : (act : Act) (ks : List (List ℕ)) → length (clocks_without act ks) ≡ length ks
 length-clocks_without (sends d context tag items) ks = length-set ks d _
 length-clocks_without (takes s j) ks = refl

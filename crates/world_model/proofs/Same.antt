@@ -10,16 +10,19 @@ use Rattle.crash_free.proofs.Clocks.{one_clock}
 use Rattle.world_model.specs.Rows.{row, event_at, cons_some, Noted}
 use Rattle.world_model.proofs.Rows.{row-own}
 
+-- the event of a reception names the source and the clock of the message that was taken
 takes_event : (c s j : ℕ) (o : Option Message) (x : EventValue) → event_at c (takes s j) o ≡ Some x
     → (m : Message) × (o ≡ Some m) × (x ≡ event_of kind.Reception s m.clock c)
 takes_event c s j None x e = absurd cc
 takes_event c s j (Some m) x e = (m, refl, cc)
 
+-- the event of a hit names the source and the clock of the message that was seen
 hits_event : (c s j : ℕ) (o : Option Message) (x : EventValue) → event_at c (hits s j) o ≡ Some x
     → (m : Message) × (o ≡ Some m) × (x ≡ event_of kind.Hit s m.clock c)
 hits_event c s j None x e = absurd cc
 hits_event c s j (Some m) x e = (m, refl, cc)
 
+-- an act that found nothing has the event of a miss
 misses_event : (c : ℕ) (o : Option Message) (x : EventValue) → event_at c misses o ≡ Some x → x.kind ≡ kind.Miss
 misses_event c o x e = let q : event_of kind.Miss 0 0 c ≡ x = cc in sym (ap (λ z. z.kind) q)
 
@@ -72,6 +75,7 @@ module _ (C : List Passed) (r c : ℕ) (x : EventValue) where
   same_event _ (sends d context t items) e f = absurd cc
   same_event _ (prints v) e f = absurd cc
 
+-- where an act's event makes one event, it is that event
 one_some : (o : Option EventValue) (x : EventValue) → cons_some o [] ≡ x ∷ [] → o ≡ Some x
 one_some None x e = absurd cc
 one_some (Some y) x e = let q : y ≡ x = cc in ap Some q
@@ -80,6 +84,10 @@ one_some (Some y) x e = let q : y ≡ x = cc in ap Some q
 pub noted_act : (C : List Passed) (r : ℕ) (acts : List Act) (x : EventValue) → Noted C r acts x
     → (a : Act) × (acts ≡ a ∷ []) × (event_at (length (history C r) + 1) a (looked_up (λ s. sent C s r) a) ≡ Some x)
 noted_act C r [] x n = let e = n.as_many in absurd (omega (arith, e))
-noted_act C r (a ∷ []) x n =
-    (a, refl, one_some _ x (append_cancel_left (row C r) (cons_some (event_at (length (history C r) + 1) a (looked_up (λ s. sent C s r) a)) []) (x ∷ []) (sym (row-own C r a) ∙ n.row_grows)))
+noted_act C r (a ∷ []) x n = (
+  a,
+  refl,
+  one_some _ x (append_cancel_left (row C r) (cons_some (event_at (length (history C r) + 1) a (looked_up (λ s. sent C s r) a)) [])
+      (x ∷ []) (sym (row-own C r a) ∙ n.row_grows)),
+)
 noted_act C r (a ∷ (b ∷ acts)) x n = let e = n.as_many in absurd (omega (arith, e))

@@ -67,3 +67,6 @@ stops w mid w' events replies k d l followed unchanged =
 pub stops_before : (w mid : WorldValue) (events : List WorldEvent) (replies : List Reply) (k : ℕ) (d : WorldEvent) → k < length events
     → FollowsAll w (take k events) replies mid → StoppedAt w events k mid
 stops_before w mid events replies k d l followed = stops w mid mid events replies k d l followed (unchanged_same mid (get_or events k d))
+
+-- what a list of events comes to, and where it may stop
+pub ruleset run_laws = (world_stands, world_retains, follows_push, stops)

@@ -89,11 +89,16 @@ caught_up start n C r v w run s left is event =
     (λ all. all) s.all_made
   where
     go : s.acts ≡ [] → (v.rank.clock < length (history C r)) ⊎ (length (history C r) ≤ v.rank.clock) → v.rank.clock ≡ length (history (continue C r s.acts) r)
-    go none (inr l) = (let i = (at_run start n C r v s none).within in let q : v.rank.clock ≡ length (history C r) = omega (arith, l, i) in q ∙ ap (λ z. length (history (continue C r z) r)) (sym none))
+    go none (inr l) = (
+        let i = (at_run start n C r v s none).within in
+        let q : v.rank.clock ≡ length (history C r) = omega (arith, l, i) in
+        q ∙ ap (λ z. length (history (continue C r z) r)) (sym none))
     go none (inl l) =
         let z = run_reaches start n C r run in
-        let x = next_act (start r) n r (λ q. sent C q r) (history C r) v.rank.clock v.rank.machine v.rank.inbox v.rank.log z.0 z.1 l (stopped v.rank.machine w is (no_internal w event)) (at_run start n C r v s none) in
-        let q : [] ≡ cons_some (event_at (v.rank.clock + 1) x.act x.message) (events_from (v.rank.clock + 1) x.rest) = sym left ∙ left_run start n C r v s none ∙ ap (λ y. events_from v.rank.clock y) x.is_next in
+        let x = next_act (start r) n r (λ q. sent C q r) (history C r)
+        v.rank.clock v.rank.machine v.rank.inbox v.rank.log z.0 z.1 l (stopped v.rank.machine w is (no_internal w event)) (at_run start n C r v s none) in
+        let q : [] ≡ cons_some (event_at (v.rank.clock + 1) x.act x.message) (events_from (v.rank.clock + 1) x.rest) =
+        sym left ∙ left_run start n C r v s none ∙ ap (λ y. events_from v.rank.clock y) x.is_next in
         absurd (event_of_fit (v.rank.clock + 1) w (payload (state_of v.rank.machine)) x.act x.message event
         (subst (λ y. Fits y (payload (state_of v.rank.machine)) x.act x.message) (wanted v.rank.machine w is (no_internal w event)) x.makes) (nothing _ _ q))
       where
@@ -172,7 +177,8 @@ module _ (start : ℕ → State) (n : ℕ) (C : List Passed) (r : ℕ) (v : Live
       → sends_of (length (history C r)) d (s.acts ++ a ∷ []) ≡ sends_of (length (history C r)) d s.acts ++ send_at (v.rank.clock + 1) d a []
   sends_more d =
       sends_of-push (length (history C r)) d s.acts a
-      ∙ (let z : length (history C r) + length s.acts + 1 ≡ v.rank.clock + 1 = (let y = counts in omega (arith, y)) in ap (λ k. sends_of (length (history C r)) d s.acts ++ send_at k d a []) z)
+      ∙ (let z : length (history C r) + length s.acts + 1 ≡ v.rank.clock + 1 = (let y = counts in omega (arith, y)) in
+      ap (λ k. sends_of (length (history C r)) d s.acts ++ send_at k d a []) z)
 
   pub RankStands-waits : (x : Waiting) (made : ℕ) (inbox : Mailbox) (log : List Backlog)
       → IsFor (continue C r s.acts) r a x
@@ -259,7 +265,9 @@ module _ (start : ℕ → State) (n : ℕ) (C : List Passed) (r : ℕ) (v : Live
       p = message_of v.rank d context t
 
       messages : (e : ℕ)
-          → sends_of (length (history C r)) e (s.acts ++ a ∷ []) ≡ sends_of (length (history C r)) e s.acts ++ cons_if (d == e) (record { clock = v.rank.clock + 1; context = context; tag = t; items = payload (state_of v.rank.machine) }) []
+          → sends_of (length (history C r)) e (s.acts ++ a ∷ [])
+          ≡ sends_of (length (history C r)) e s.acts
+          ++ cons_if (d == e) (record { clock = v.rank.clock + 1; context = context; tag = t; items = payload (state_of v.rank.machine) }) []
       messages e = sends_more e ∙ ap (λ z. sends_of (length (history C r)) e s.acts ++ send_at (v.rank.clock + 1) e z []) is
 
       others : (e : ℕ) (b : Backlog) → (e ≡ d → ⊥) → slice_get v.rank.log e ≡ Some b
@@ -273,7 +281,8 @@ module _ (start : ℕ → State) (n : ℕ) (C : List Passed) (r : ℕ) (v : Live
           (s.logs e b at))
 
       own : (b : Backlog) → slice_get v.rank.log d ≡ Some b
-          → LogStands r (sends_from 0 d (take (v.rank.clock + 1) (history C r))) (sends_of (length (history C r)) d (s.acts ++ a ∷ [])) (hold (backlog v.rank.log d) p)
+          → LogStands r (sends_from 0 d (take (v.rank.clock + 1) (history C r)))
+          (sends_of (length (history C r)) d (s.acts ++ a ∷ [])) (hold (backlog v.rank.log d) p)
       own b at =
           let had : backlog v.rank.log d ≡ b = get_or_from_slice_get v.rank.log d b new_backlog at in
           subst (λ z. LogStands r (sends_from 0 d z) (sends_of (length (history C r)) d (s.acts ++ a ∷ [])) (hold (backlog v.rank.log d) p)) before_it

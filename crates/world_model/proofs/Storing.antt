@@ -86,7 +86,9 @@ sends_none start n (p ∷ C) s l i =
 -- what was sent was sent by a rank
 pub sender_below : (start : ℕ → State) (n : ℕ) (C : List Passed) (s d j : ℕ) (m : Message) → IsRun start n C → at_place (sent C s d) j ≡ Some m → s < n
 sender_below start n C s d j m i at =
-    ⊎_elim (λ (l : s < n). l) (λ (l : n ≤ s). absurd (nothing j (subst (λ z. at_place (sends_from 0 d z) j ≡ Some m) (sends_none start n C s l i) at))) (cases_lt s n)
+    ⊎_elim (λ (l : s < n). l)
+    (λ (l : n ≤ s). absurd (nothing j (subst (λ z. at_place (sends_from 0 d z) j ≡ Some m) (sends_none start n C s l i) at)))
+    (cases_lt s n)
   where
     nothing : (j : ℕ) → at_place {A = Message} [] j ≡ Some m → ⊥
     nothing zero e = cc

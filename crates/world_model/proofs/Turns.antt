@@ -160,11 +160,14 @@ Stands-replay w r answer w' s f =
           (sym (lines_same (asks f.before.rank.machine) f.turn refl))
           (subst (λ z. StandsAt (size w) (changed w r (Some v) w.images w.logger w.lines z))
           (sym (passed_again w.run r f.before.rank.clock (effect_at f.before.rank (asks f.before.rank.machine) f.turn) is_behind))
-          (Stands-rank (size w) w r (Some v) w.logger s.run refl (λ u e. (let q : v ≡ u = cc in subst (λ z. RankStands (start_at w (size w)) (size w) w.run r z) q stands)))));
+          (Stands-rank (size w) w r (Some v) w.logger s.run refl
+          (λ u e. (let q : v ≡ u = cc in subst (λ z. RankStands (start_at w (size w)) (size w) w.run r z) q stands)))));
       covers =
           Covers-rank w (after_turn w r f.before f.turn (replayed_at f.before.rank f.event (asks f.before.rank.machine) f.machine)
           (left_after (asks f.before.rank.machine) f.turn f.event f.rest)) r (Some v) refl refl refl
-          (λ u e. (let q : v ≡ u = cc in subst (λ z. RankCovers w.images r z) q (replay_covers w.images r f.before f.machine (left_after (asks f.before.rank.machine) f.turn f.event f.rest) (s.covers.ranks r f.before f.live) f.event (asks f.before.rank.machine)))) s.covers;
+          (λ u e. (let q : v ≡ u = cc in subst (λ z. RankCovers w.images r z) q
+          (replay_covers w.images r f.before f.machine (left_after (asks f.before.rank.machine) f.turn f.event f.rest)
+          (s.covers.ranks r f.before f.live) f.event (asks f.before.rank.machine)))) s.covers;
     })
   where
     v : Live
@@ -190,7 +193,11 @@ Stands-replay w r answer w' s f =
     same_turn : goes.turn ≡ f.turn
     same_turn = (let q : Ok goes.turn ≡ Ok f.turn = sym goes.turned ∙ f.turned in cc)
 
-    stands : RankStands (start_at w (size w)) (size w) w.run r (record { rank = replayed_at f.before.rank f.event (asks f.before.rank.machine) f.machine; left = left_after (asks f.before.rank.machine) f.turn f.event f.rest })
+    stands : RankStands (start_at w (size w)) (size w) w.run r
+        (record {
+          rank = replayed_at f.before.rank f.event (asks f.before.rank.machine) f.machine;
+          left = left_after (asks f.before.rank.machine) f.turn f.event f.rest;
+        })
     stands =
         subst (λ t. RankStands (start_at w (size w)) (size w) w.run r
         (record {
@@ -202,8 +209,11 @@ Stands-replay w r answer w' s f =
 
     printed_again : (z : ℤ) → asks f.before.rank.machine ≡ want.Print z → after_line w.lines r (f.before.rank.clock + 1) z ≡ w.lines
     printed_again z is =
-        let x = next_is (start_at w (size w)) (size w) w.run r f.before s.run.is_run k f.event f.rest f.replaying (stopped f.before.rank.machine (want.Print z) is (λ y. cc)) in
-        let g = fits_print z (payload (state_of f.before.rank.machine)) x.act x.message (subst (λ y. Fits y (payload (state_of f.before.rank.machine)) x.act x.message) (wanted f.before.rank.machine (want.Print z) is (λ y. cc)) x.makes) in
+        let x = next_is (start_at w (size w)) (size w) w.run r f.before s.run.is_run k f.event f.rest f.replaying
+        (stopped f.before.rank.machine (want.Print z) is (λ y. cc)) in
+        let g = fits_print z (payload (state_of f.before.rank.machine)) x.act x.message
+        (subst (λ y. Fits y (payload (state_of f.before.rank.machine)) x.act x.message)
+        (wanted f.before.rank.machine (want.Print z) is (λ y. cc)) x.makes) in
         print_again w.run r f.before.rank.clock w.lines z x.message (s.run.lines r)
         (subst (λ a. slice_get (history w.run r) f.before.rank.clock ≡ Some (a, x.message)) g.0
         (next_of_drop f.before.rank.clock (history w.run r) (x.act, x.message) x.rest x.is_next).there)
@@ -280,7 +290,8 @@ module _ (n : ℕ) (w : WorldValue) (r : ℕ) (v : Live) (m : MachineValue) (s :
       → ((d : ℕ) (b : Backlog) → slice_get log d ≡ Some b → LogStands r (sends_from 0 d (take v.rank.clock (history w.run r) ++ (a, None) ∷ [])) [] b)
       → (slice_get (history w.run r) v.rank.clock ≡ Some (a, None) → lines ≡ w.lines)
       → (v.rank.clock ≡ length (history w.run r) → (q : ℕ) → lines_of q lines ≡ printed (record { rank = r; act = a } ∷ w.run) q)
-      → StandsAt n (changed w r (Some (record { rank = after_again v.rank m v.rank.inbox log; left = [] })) w.images w.logger lines (passed_at w.run r (v.rank.clock + 1) (Some a)))
+      → StandsAt n (changed w r (Some (record { rank = after_again v.rank m v.rank.inbox log; left = [] })) w.images w.logger lines
+      (passed_at w.run r (v.rank.clock + 1) (Some a)))
   effect a log lines settled only stop makes is_effect state logged logs again first = go (cases_lt v.rank.clock (length (history w.run r)))
     where
       C' : List Passed
@@ -295,16 +306,20 @@ module _ (n : ℕ) (w : WorldValue) (r : ℕ) (v : Live) (m : MachineValue) (s :
           (λ q j. effect_takes_none a q j is_effect) (at settled).inbox
 
       repeats : v.rank.clock < length (history w.run r)
-          → StandsAt n (changed w r (Some (record { rank = after_again v.rank m v.rank.inbox log; left = [] })) w.images w.logger lines (passed_at w.run r (v.rank.clock + 1) (Some a)))
+          → StandsAt n (changed w r (Some (record { rank = after_again v.rank m v.rank.inbox log; left = [] })) w.images w.logger lines
+          (passed_at w.run r (v.rank.clock + 1) (Some a)))
       repeats l =
           let z = run_reaches (start_at w n) n w.run r s.is_run in
-          let x = next_act (start_at w n r) n r (λ q. sent w.run q r) (history w.run r) v.rank.clock v.rank.machine v.rank.inbox v.rank.log z.0 z.1 l stop (at settled) in
+          let x = next_act (start_at w n r) n r (λ q. sent w.run q r) (history w.run r)
+          v.rank.clock v.rank.machine v.rank.inbox v.rank.log z.0 z.1 l stop (at settled) in
           let same = only x.act x.message x.makes in
-          let is : drop v.rank.clock (history w.run r) ≡ (a, None) ∷ x.rest = x.is_next ∙ ap (λ y. (y, x.message) ∷ x.rest) same.0 ∙ ap (λ y. (a, y) ∷ x.rest) same.1 in
+          let is : drop v.rank.clock (history w.run r) ≡ (a, None) ∷ x.rest =
+          x.is_next ∙ ap (λ y. (y, x.message) ∷ x.rest) same.0 ∙ ap (λ y. (a, y) ∷ x.rest) same.1 in
           subst (λ y. StandsAt n (changed w r (Some (record { rank = after_again v.rank m v.rank.inbox log; left = [] })) w.images w.logger y
           (passed_at w.run r (v.rank.clock + 1) (Some a))))
           (sym (again (next_of_drop v.rank.clock (history w.run r) (a, None) x.rest is).there))
-          (subst (λ y. StandsAt n (changed w r (Some (record { rank = after_again v.rank m v.rank.inbox log; left = [] })) w.images w.logger w.lines y)) (sym (passed_again w.run r v.rank.clock (Some a) l))
+          (subst (λ y. StandsAt n (changed w r (Some (record { rank = after_again v.rank m v.rank.inbox log; left = [] })) w.images w.logger w.lines y))
+          (sym (passed_again w.run r v.rank.clock (Some a) l))
           (alone (after_again v.rank m v.rank.inbox log)
           (RankStands-again (start_at w n) n w.run r v (s.ranks r v live) m v.rank.inbox log a None x.rest [] settled is makes state
           (at settled).counted box logged logs
@@ -316,7 +331,8 @@ module _ (n : ℕ) (w : WorldValue) (r : ℕ) (v : Live) (m : MachineValue) (s :
           nothing (Some y) es e = absurd cc
 
       passes : v.rank.clock ≡ length (history w.run r)
-          → StandsAt n (changed w r (Some (record { rank = after_again v.rank m v.rank.inbox log; left = [] })) w.images w.logger lines (passed_at w.run r (v.rank.clock + 1) (Some a)))
+          → StandsAt n (changed w r (Some (record { rank = after_again v.rank m v.rank.inbox log; left = [] })) w.images w.logger lines
+          (passed_at w.run r (v.rank.clock + 1) (Some a)))
       passes clock =
           subst (λ y. StandsAt n (changed w r (Some (record { rank = after_again v.rank m v.rank.inbox log; left = [] })) w.images w.logger lines y))
           (sym (passed_first w.run r v.rank.clock a clock))
@@ -367,12 +383,14 @@ module _ (n : ℕ) (w : WorldValue) (r : ℕ) (v : Live) (m : MachineValue) (s :
               logged (λ d b e. rw same (logs d b e)) refl
 
       go : (v.rank.clock < length (history w.run r)) ⊎ (length (history w.run r) ≤ v.rank.clock)
-          → StandsAt n (changed w r (Some (record { rank = after_again v.rank m v.rank.inbox log; left = [] })) w.images w.logger lines (passed_at w.run r (v.rank.clock + 1) (Some a)))
+          → StandsAt n (changed w r (Some (record { rank = after_again v.rank m v.rank.inbox log; left = [] })) w.images w.logger lines
+          (passed_at w.run r (v.rank.clock + 1) (Some a)))
       go (inl l) = repeats l
       go (inr l) = passes (let i = (at settled).within in omega (arith, l, i))
 
   sending : (d : ℕ) (c : Context) (t : ℕ) → asks v.rank.machine ≡ want.Send d c t → DidAct v.rank.machine m → v.rank.pending ≡ []
-      → StandsAt n (changed w r (Some (record { rank = after_send v.rank m d c t; left = [] })) w.images w.logger w.lines (passed_at w.run r (v.rank.clock + 1) (Some (sends d c t (payload (state_of v.rank.machine))))))
+      → StandsAt n (changed w r (Some (record { rank = after_send v.rank m d c t; left = [] })) w.images w.logger w.lines
+      (passed_at w.run r (v.rank.clock + 1) (Some (sends d c t (payload (state_of v.rank.machine))))))
   sending d c t e did settled =
       effect (sends d c t (payload (state_of v.rank.machine))) (slice_set v.rank.log d (saved (backlog v.rank.log d) (message_of v.rank d c t))) w.lines settled
       (λ a' o' h. fits_send d c t (payload (state_of v.rank.machine)) a' o'
@@ -386,7 +404,8 @@ module _ (n : ℕ) (w : WorldValue) (r : ℕ) (v : Live) (m : MachineValue) (s :
       (λ clock q. s.lines q ∙ sym (printed_same w.run r q (sends d c t (payload (state_of v.rank.machine))) refl))
 
   printing : (x : ℤ) → asks v.rank.machine ≡ want.Print x → DidAct v.rank.machine m → v.rank.pending ≡ []
-      → StandsAt n (changed w r (Some (record { rank = after_print v.rank m; left = [] })) w.images w.logger (after_line w.lines r (v.rank.clock + 1) x) (passed_at w.run r (v.rank.clock + 1) (Some (prints x))))
+      → StandsAt n (changed w r (Some (record { rank = after_print v.rank m; left = [] })) w.images w.logger
+      (after_line w.lines r (v.rank.clock + 1) x) (passed_at w.run r (v.rank.clock + 1) (Some (prints x))))
   printing x e did settled =
       effect (prints x) v.rank.log (after_line w.lines r (v.rank.clock + 1) x) settled
       (λ a' o' h. fits_print x (payload (state_of v.rank.machine)) a' o'
@@ -515,72 +534,85 @@ module _ (n : ℕ) (w : WorldValue) (r : ℕ) (v : Live) (m : MachineValue) (s :
   finding : (selector : Selector) → asks v.rank.machine ≡ want.Receive selector → (o : Option ℕ) → position (matches selector) v.rank.inbox.packets ≡ o
       → (if is_some o then event_refusal v.rank else None) ≡ None
       → TakesFound (option_and_then (at_index v.rank.inbox.packets) o) v.rank.machine m
-      → StandsAt n (changed w r (Some (record { rank = received v.rank m (option_and_then (at_index v.rank.inbox.packets) o); left = [] })) w.images w.logger w.lines w.run)
+      → StandsAt n (changed w r (Some (record { rank = received v.rank m (option_and_then (at_index v.rank.inbox.packets) o); left = [] }))
+      w.images w.logger w.lines w.run)
   finding selector e None there allowed steps = Stands-still
   finding selector e (Some i) there allowed steps = go (slice_get v.rank.inbox.packets i) refl steps
     where
       go : (o : Option packet.Message) → slice_get v.rank.inbox.packets i ≡ o
           → TakesFound (option_and_then {U = ℕ × packet.Message} (λ p. Some (i, p)) o) v.rank.machine m
-          → StandsAt n (changed w r (Some (record { rank = received v.rank m (option_and_then {U = ℕ × packet.Message} (λ p. Some (i, p)) o); left = [] })) w.images w.logger w.lines w.run)
+          → StandsAt n (changed w r (Some (record { rank = received v.rank m (option_and_then {U = ℕ × packet.Message} (λ p. Some (i, p)) o); left = [] }))
+          w.images w.logger w.lines w.run)
       go None f t = Stands-still
       go (Some p) f t = receiving selector e i p there f allowed t
 
   probing : (selector : Selector) → asks v.rank.machine ≡ want.Probe selector → (o : Option ℕ) → position (matches selector) v.rank.inbox.packets ≡ o
       → (if is_some o then event_refusal v.rank else None) ≡ None
       → IsShownFound (option_and_then (at_index v.rank.inbox.packets) o) v.rank.machine m
-      → StandsAt n (changed w r (Some (record { rank = probed v.rank m (option_and_then (at_index v.rank.inbox.packets) o); left = [] })) w.images w.logger w.lines w.run)
+      → StandsAt n (changed w r (Some (record { rank = probed v.rank m (option_and_then (at_index v.rank.inbox.packets) o); left = [] }))
+      w.images w.logger w.lines w.run)
   probing selector e None there allowed steps = Stands-still
   probing selector e (Some i) there allowed steps = go (slice_get v.rank.inbox.packets i) refl steps
     where
       go : (o : Option packet.Message) → slice_get v.rank.inbox.packets i ≡ o
           → IsShownFound (option_and_then {U = ℕ × packet.Message} (λ p. Some (i, p)) o) v.rank.machine m
-          → StandsAt n (changed w r (Some (record { rank = probed v.rank m (option_and_then {U = ℕ × packet.Message} (λ p. Some (i, p)) o); left = [] })) w.images w.logger w.lines w.run)
+          → StandsAt n (changed w r (Some (record { rank = probed v.rank m (option_and_then {U = ℕ × packet.Message} (λ p. Some (i, p)) o); left = [] }))
+          w.images w.logger w.lines w.run)
       go None f t = Stands-still
       go (Some p) f t = hitting (want.Probe selector) selector e (inl refl) i p there f allowed t
 
   trying : (selector : Selector) → asks v.rank.machine ≡ want.TryProbe selector → (o : Option ℕ) → position (matches selector) v.rank.inbox.packets ≡ o
       → event_refusal v.rank ≡ None
       → TriesFound (option_and_then (at_index v.rank.inbox.packets) o) v.rank.machine m
-      → StandsAt n (changed w r (Some (record { rank = tried v.rank m (option_and_then (at_index v.rank.inbox.packets) o); left = [] })) w.images w.logger w.lines w.run)
+      → StandsAt n (changed w r (Some (record { rank = tried v.rank m (option_and_then (at_index v.rank.inbox.packets) o); left = [] }))
+      w.images w.logger w.lines w.run)
   trying selector e None there allowed steps = missing selector e allowed steps
   trying selector e (Some i) there allowed steps = go (slice_get v.rank.inbox.packets i) refl steps
     where
       go : (o : Option packet.Message) → slice_get v.rank.inbox.packets i ≡ o
           → TriesFound (option_and_then {U = ℕ × packet.Message} (λ p. Some (i, p)) o) v.rank.machine m
-          → StandsAt n (changed w r (Some (record { rank = tried v.rank m (option_and_then {U = ℕ × packet.Message} (λ p. Some (i, p)) o); left = [] })) w.images w.logger w.lines w.run)
+          → StandsAt n (changed w r (Some (record { rank = tried v.rank m (option_and_then {U = ℕ × packet.Message} (λ p. Some (i, p)) o); left = [] }))
+          w.images w.logger w.lines w.run)
       go None f t = missing selector e allowed t
       go (Some p) f t = hitting (want.TryProbe selector) selector e (inr refl) i p there f allowed t
 
   -- a step that isn't refused
   pub stepping : (x : Want) → asks v.rank.machine ≡ x → refusal_at v.rank x ≡ None → MachineStepAt v.rank x m
-      → StandsAt n (changed w r (Some (record { rank = step_at v.rank x m; left = [] })) w.images w.logger (lines_after w.lines r v.rank x (turn_at v.rank x)) (passed_at w.run r (v.rank.clock + 1) (effect_at v.rank x (turn_at v.rank x))))
+      → StandsAt n (changed w r (Some (record { rank = step_at v.rank x m; left = [] })) w.images w.logger
+      (lines_after w.lines r v.rank x (turn_at v.rank x))
+      (passed_at w.run r (v.rank.clock + 1) (effect_at v.rank x (turn_at v.rank x))))
   stepping want.Internal e allowed steps =
       alone (with_machine v.rank m)
-      (RankStands-same_clock (start_at w n) n w.run r (record { rank = v.rank; left = [] }) stays v.rank.stable m v.rank.inbox v.rank.log v.rank.dues stays.number stays.size stays.logs
+      (RankStands-same_clock (start_at w n) n w.run r (record { rank = v.rank; left = [] })
+      stays v.rank.stable m v.rank.inbox v.rank.log v.rank.dues stays.number stays.size stays.logs
       (StandsIn-moved (start_at w n r) n r (λ q. sent w.run q r) _ v.rank.clock v.rank.machine m v.rank.inbox v.rank.log steps.state stays.at))
   stepping (want.Send d c t) e allowed steps = room (has_room v.rank.pending) steps
     where
       gate : (b : Bool) → is_settled v.rank.pending ≡ b → DidAct v.rank.machine m
-          → StandsAt n (changed w r (Some (record { rank = if b then after_send v.rank m d c t else after_hold v.rank m d c t; left = [] })) w.images w.logger w.lines
+          → StandsAt n (changed w r (Some (record { rank = if b then after_send v.rank m d c t else after_hold v.rank m d c t; left = [] }))
+          w.images w.logger w.lines
           (passed_at w.run r (v.rank.clock + 1) (if b then Some (sends d c t (payload (state_of v.rank.machine))) else None)))
       gate true q did = sending d c t e did (settled_none v.rank.pending q)
       gate false q did = holding d c t e did (unsettled v.rank.pending q)
 
       room : (b : Bool) → MatchBool b (DidAct v.rank.machine m) (m ≡ v.rank.machine)
-          → StandsAt n (changed w r (Some (record { rank = if b then made_send v.rank m d c t else v.rank; left = [] })) w.images w.logger (lines_after w.lines r v.rank (want.Send d c t) (if b then Moved else Held))
+          → StandsAt n (changed w r (Some (record { rank = if b then made_send v.rank m d c t else v.rank; left = [] })) w.images w.logger
+          (lines_after w.lines r v.rank (want.Send d c t) (if b then Moved else Held))
           (passed_at w.run r (v.rank.clock + 1) (effect_at v.rank (want.Send d c t) (if b then Moved else Held))))
       room true did = gate (is_settled v.rank.pending) refl did
       room false did = Stands-still
   stepping (want.Print x) e allowed steps = room (has_room v.rank.pending) steps
     where
       gate : (b : Bool) → is_settled v.rank.pending ≡ b → DidAct v.rank.machine m
-          → StandsAt n (changed w r (Some (record { rank = if b then after_print v.rank m else after_wait v.rank m x; left = [] })) w.images w.logger (if b then after_line w.lines r (v.rank.clock + 1) x else w.lines)
+          → StandsAt n (changed w r (Some (record { rank = if b then after_print v.rank m else after_wait v.rank m x; left = [] })) w.images w.logger
+          (if b then after_line w.lines r (v.rank.clock + 1) x else w.lines)
           (passed_at w.run r (v.rank.clock + 1) (if b then Some (prints x) else None)))
       gate true q did = printing x e did (settled_none v.rank.pending q)
       gate false q did = waiting x e did (unsettled v.rank.pending q)
 
       room : (b : Bool) → MatchBool b (DidAct v.rank.machine m) (m ≡ v.rank.machine)
-          → StandsAt n (changed w r (Some (record { rank = if b then made_print v.rank m x else v.rank; left = [] })) w.images w.logger (lines_after w.lines r v.rank (want.Print x) (if b then Moved else Held))
+          → StandsAt n (changed w r (Some (record { rank = if b then made_print v.rank m x else v.rank; left = [] })) w.images w.logger
+          (lines_after w.lines r v.rank (want.Print x) (if b then Moved else Held))
           (passed_at w.run r (v.rank.clock + 1) (effect_at v.rank (want.Print x) (if b then Moved else Held))))
       room true did = gate (is_settled v.rank.pending) refl did
       room false did = Stands-still

@@ -112,7 +112,8 @@ Stands-put n w r v d of_r frames f s k at_r at_d real =
       lines = s.lines;
       as_many_images = s.as_many_images;
       images = s.images;
-      ranks = replaced n (start_at w n) w.run w.ranks r (Some v) (λ q u ne e. s.ranks q u e) (λ u e. (let q : v ≡ u = cc in subst (λ z. RankStands (start_at w n) n w.run r z) q k));
+      ranks = replaced n (start_at w n) w.run w.ranks r (Some v) (λ q u ne e. s.ranks q u e)
+          (λ u e. (let q : v ≡ u = cc in subst (λ z. RankStands (start_at w n) n w.run r z) q k));
     }
   where
     as_many : (q : ℕ) (x : List (List Frame)) → ((q ≡ r) × (x ≡ slice_set of_r d (frames ++ f ∷ []))) ⊎ ((q ≡ r → ⊥) × (slice_get w.wires q ≡ Some x))

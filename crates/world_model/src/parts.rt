@@ -51,7 +51,15 @@ impl<'p> Model for Parts<'p> {
 
     ghost coded = { Prim.hlevel (codes, placed_code) };
 
-    ghost view = { λ w. record { program = w.seats.program; ranks = w.seats.ranks; images = w.seats.images; logger = w.logger; wires = w.wires; lines = w.console; run = w.run.acts } };
+    ghost view = { λ w. record {
+      program = w.seats.program;
+      ranks = w.seats.ranks;
+      images = w.seats.images;
+      logger = w.logger;
+      wires = w.wires;
+      lines = w.console;
+      run = w.run.acts;
+    } };
 
     ghost invariant = { λ w. (w.ranks ≤ most_ranks) × (length w.seats.ranks ≡ w.ranks) × (w.run.ranks ≡ w.ranks) };
 }
@@ -113,7 +121,7 @@ impl<'p> Parts<'p> {
     {
         match u8::try_from(number) {
             Ok(rank) if rank < self.ranks => Some(rank),
-            _ => None,
+            Ok(_) | Err(_) => None,
         }
     }
 }

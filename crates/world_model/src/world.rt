@@ -98,7 +98,7 @@ impl<'p> World<'p> {
     /// A list of events, one after another. Where memory ends, the first
     /// `done` of them have happened, and the next left the world as `apply`
     /// leaves it.
-    #[tactic(auto, using(crate::proofs::Sequences::world_stands, crate::proofs::Sequences::world_retains, crate::proofs::Sequences::follows_push, crate::proofs::Sequences::stops))]
+    #[tactic(auto, using(crate::proofs::Sequences::run_laws))]
     pub fn run(&mut self, alloc: Heap, events: &[WorldEvent]) -> Result<Vec<Reply, Heap>, Stopped>
         ensures follows { IfOk result (λ replies. FollowsAll self.old events.now replies.items self.new) }
         ensures stands { StandsFor self.new self.new.run }

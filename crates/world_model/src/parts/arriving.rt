@@ -15,7 +15,7 @@ impl<'p> Parts<'p> {
 
     /// The frame of this index on the wire from the source arrives at the
     /// destination.
-    #[tactic(auto, using(crate::proofs::DoingFrames::arrive_from_nowhere, crate::proofs::DoingFrames::arrive_nowhere, crate::proofs::DoingFrames::arrive_none, crate::proofs::DoingFrames::arrive_some, crate::proofs::DoingFrames::arrive_down, crate::proofs::DoingFrames::live_size, crate::proofs::DoingFrames::arrive_not_foreign, crate::proofs::DoingFrames::has_wire, crate::proofs::DoingFrames::arrive_possible))]
+    #[tactic(auto, using(crate::proofs::DoingFrames::arrive_laws))]
     pub fn arrive(&mut self, source: u32, dest: u32, index: u64) -> Result<Reply, AllocError>
         requires { Stands self.old }
         ensures follows { IfOk result (λ reply. Follows self.old (Arrive source dest index) reply self.new) }

@@ -13,7 +13,7 @@ impl<'p> Parts<'p> {
     ghost use Rattle.world_model.specs.Stands.{Stands};
 
     /// What goes next from the source is put on the wire to the destination.
-    #[tactic(auto, using(crate::proofs::DoingFrames::put_from_nowhere, crate::proofs::DoingFrames::put_to_nowhere, crate::proofs::DoingFrames::put_down, crate::proofs::DoingFrames::put_none, crate::proofs::DoingFrames::put_some, crate::proofs::DoingFrames::put_due, crate::proofs::DoingFrames::has_wire, crate::proofs::DoingFrames::live_size, crate::proofs::DoingFrames::put_possible, crate::proofs::DoingFrames::put_packet, crate::proofs::DoingFrames::put_next))]
+    #[tactic(auto, using(crate::proofs::DoingFrames::put_laws))]
     pub fn put(&mut self, source: u32, dest: u32) -> Result<Reply, AllocError>
         requires { Stands self.old }
         ensures follows { IfOk result (λ reply. Follows self.old (Put source dest) reply self.new) }

@@ -20,7 +20,7 @@ impl<'p> Parts<'p> {
 
     /// The oldest effect of a rank at work is released. Its act goes on the
     /// run first, and is taken back where memory ends after that.
-    #[tactic(auto, using(crate::proofs::DoingReleases::release_nowhere, crate::proofs::DoingReleases::release_idle, crate::proofs::DoingReleases::release_none, crate::proofs::DoingReleases::release_some, crate::proofs::DoingReleases::release_due, crate::proofs::DoingReleases::release_clock, crate::proofs::DoingReleases::release_possible, crate::proofs::Doing::works_at))]
+    #[tactic(auto, using(crate::proofs::DoingReleases::release_laws, crate::proofs::Doing::works_at))]
     pub fn release(&mut self, rank: u32) -> Result<Reply, AllocError>
         requires { Stands self.old }
         ensures follows { IfOk result (λ reply. Follows self.old (Release rank) reply self.new) }

@@ -14,7 +14,7 @@ impl<'p> Parts<'p> {
 
     /// A rank that replays makes one step. Nothing passes: its acts are in the
     /// run.
-    #[tactic(auto, using(crate::proofs::DoingSteps::replay_fits, crate::proofs::DoingSteps::replay_some, crate::proofs::DoingSteps::replay_possible, crate::proofs::DoingSteps::replay_takes, crate::proofs::DoingSteps::step_takes))]
+    #[tactic(auto, using(crate::proofs::DoingSteps::replay_laws))]
     pub(crate) fn replay(&mut self, rank: u8) -> Result<Reply, AllocError>
         requires stands { Stands self.old }
         requires rank { rank < length self.old.ranks }

@@ -13,7 +13,7 @@ impl<'p> Parts<'p> {
     /// The rank starts again at its image: it fetches its row, and replays what
     /// is above that. Where memory ends after the fetch, that stays in the
     /// logger's history.
-    #[tactic(auto, using(crate::proofs::DoingLives::restart_nowhere, crate::proofs::DoingLives::restart_live, crate::proofs::DoingLives::restart_row, crate::proofs::DoingLives::restart_few, crate::proofs::DoingLives::restart_some, crate::proofs::DoingLives::restart_possible, crate::proofs::DoingLives::restart_fetched))]
+    #[tactic(auto, using(crate::proofs::DoingLives::restart_laws))]
     pub fn restart(&mut self, rank: u32) -> Result<Reply, AllocError>
         requires { Stands self.old }
         ensures follows { IfOk result (λ reply. Follows self.old (Restart rank) reply self.new) }

@@ -40,7 +40,7 @@ impl<'p> Parts<'p> {
     /// A rank that doesn't replay makes one step. What the step lets others
     /// see at once goes on the run first, and is taken back where memory ends
     /// after that.
-    #[tactic(auto, using(crate::proofs::DoingSteps::step_down, crate::proofs::DoingSteps::step_refused, crate::proofs::DoingSteps::step_some, crate::proofs::DoingSteps::step_allowed, crate::proofs::DoingSteps::step_possible, crate::proofs::DoingSteps::step_takes, crate::proofs::DoingSteps::pass_takes, crate::proofs::DoingSteps::takes_at, crate::proofs::DoingSteps::work_takes, crate::proofs::Doing::works_at))]
+    #[tactic(auto, using(crate::proofs::DoingSteps::step_laws, crate::proofs::Doing::works_at))]
     fn advance(&mut self, rank: u8) -> Result<Reply, AllocError>
         requires stands { Stands self.old }
         requires rank { rank < length self.old.ranks }

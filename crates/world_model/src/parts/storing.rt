@@ -20,7 +20,7 @@ impl<'p> Parts<'p> {
 
     /// The rank's oldest unstored event is stored. Its act goes on the run
     /// first, and is taken back where memory ends after that.
-    #[tactic(auto, using(crate::proofs::DoingStores::store_nowhere, crate::proofs::DoingStores::store_idle, crate::proofs::Doing::works_at, crate::proofs::DoingStores::store_none, crate::proofs::DoingStores::store_some, crate::proofs::DoingStores::store_row, crate::proofs::DoingStores::store_accepted, crate::proofs::DoingStores::store_oldest, crate::proofs::DoingStores::store_possible))]
+    #[tactic(auto, using(crate::proofs::DoingStores::store_laws, crate::proofs::Doing::works_at))]
     pub fn store(&mut self, rank: u32) -> Result<Reply, AllocError>
         requires { Stands self.old }
         ensures follows { IfOk result (λ reply. Follows self.old (Store rank) reply self.new) }

@@ -89,7 +89,8 @@ impl<'p> Seat<'p> {
         requires work { IfLive self.old.live (λ v. v.left ≡ []) }
         requires row { IfLive self.old.live (λ v. v.rank.stable.rank < length logger.old.rows) }
         requires accepted { IfLive self.old.live (λ v. IsAccepted logger.old v.rank.stable.rank (next_unstored v.rank)) }
-        ensures row { IfOk result (λ count. IfLive self.old.live (λ v. Appends (next_unstored v.rank) v.rank.stable.rank logger.old (Length count) logger.new)) }
+        ensures row { IfOk result (λ count. IfLive self.old.live (λ v.
+            Appends (next_unstored v.rank) v.rank.stable.rank logger.old (Length count) logger.new)) }
         ensures ok { OnOk result (IfLive self.old.live (λ v. self.new.live ≡ with_rank_value v (after_store v.rank))) }
         ensures others { self.new ≡ with_live self.old self.new.live }
         ensures err { OnErr result (self.new ≡ self.old) }
@@ -114,7 +115,8 @@ impl<'p> Seat<'p> {
         ensures clock { IfOk result (λ clock. IfLive self.old.live (λ v. option_and_then effect_clock (next_effect v.rank) ≡ Some clock)) }
         ensures ok { OnOk result (IfLive self.old.live (λ v. self.new.live ≡ with_rank_value v (released v.rank (next_effect v.rank)))) }
         ensures others { self.new ≡ with_live self.old self.new.live }
-        ensures shown { OnOk result (IfLive self.old.live (λ v. ShowsEffect (λ old rank clock value new. new ≡ after_line old rank clock value) v.rank (next_effect v.rank) console.old console.new)) }
+        ensures shown { OnOk result (IfLive self.old.live (λ v.
+            ShowsEffect (λ old rank clock value new. new ≡ after_line old rank clock value) v.rank (next_effect v.rank) console.old console.new)) }
         ensures err { OnErr result (self.new ≡ self.old) }
         ensures err_console { OnErr result (console.new ≡ console.old) }
     {

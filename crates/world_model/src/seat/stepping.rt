@@ -44,7 +44,8 @@ impl<'p> Seat<'p> {
         requires replays { IfLive self.old.live (λ v. v.left ≢ []) }
         requires fits { IfLive self.old.live IsFitting }
         ensures ok { IfOk result (λ turn. IfLive self.old.live (λ v. IsReplayed v turn self.new.live)) }
-        ensures shown { OnOk result (IfLive self.old.live (λ v. ShowsReplay (λ old rank clock value new. new ≡ after_line old rank clock value) v.rank console.old console.new)) }
+        ensures shown { OnOk result (IfLive self.old.live (λ v.
+            ShowsReplay (λ old rank clock value new. new ≡ after_line old rank clock value) v.rank console.old console.new)) }
         ensures others { self.new ≡ with_live self.old self.new.live }
         ensures err { OnErr result (self.new ≡ self.old) }
         ensures memory { OnErr result (IfLive self.old.live (λ v. replay_takes_memory v.rank ≡ true)) }

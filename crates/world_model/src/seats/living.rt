@@ -38,7 +38,8 @@ impl<'p> Seats<'p> {
         ensures count { IfOk result (λ count. IsSomeAnd (slice_get self.old.images rank) (λ image.
             count ≡ length (left_of (begins_at self.old.program rank (length self.old.ranks) image) row.items))) }
         ensures ok { OnOk result (IsSomeAnd (slice_get self.old.images rank) (λ image.
-            (x : Option Live) × IsRestarted self.old.program (length self.old.ranks) rank image row.items x × (self.new.ranks ≡ slice_set self.old.ranks rank x))) }
+            (x : Option Live) × IsRestarted self.old.program (length self.old.ranks) rank image row.items x
+            × (self.new.ranks ≡ slice_set self.old.ranks rank x))) }
         ensures program { self.new.program ≡ self.old.program }
         ensures images { self.new.images ≡ self.old.images }
         ensures err { OnErr result (self.new ≡ self.old) }

@@ -21,7 +21,8 @@ impl<'p> Seats<'p> {
         requires work { AtRank self.old.ranks rank (λ v. v.left ≡ []) }
         requires allowed { AtRank self.old.ranks rank (λ v. refusal_of v.rank ≡ None) }
         ensures turn { IfOk result (λ turn. AtRank self.old.ranks rank (λ v. turn ≡ turn_of v.rank)) }
-        ensures ok { OnOk result (AtRank self.old.ranks rank (λ v. (x : Option Live) × IsStep v x console.old console.new × (self.new.ranks ≡ slice_set self.old.ranks rank x))) }
+        ensures ok { OnOk result (AtRank self.old.ranks rank (λ v.
+            (x : Option Live) × IsStep v x console.old console.new × (self.new.ranks ≡ slice_set self.old.ranks rank x))) }
         ensures program { self.new.program ≡ self.old.program }
         ensures images { self.new.images ≡ self.old.images }
         ensures err { OnErr result (self.new ≡ self.old) }
@@ -39,8 +40,10 @@ impl<'p> Seats<'p> {
         requires rank { rank < length self.old.ranks }
         requires replays { AtRank self.old.ranks rank (λ v. v.left ≢ []) }
         requires fits { AtRank self.old.ranks rank IsFitting }
-        ensures ok { IfOk result (λ turn. AtRank self.old.ranks rank (λ v. (x : Option Live) × IsReplayed v turn x × (self.new.ranks ≡ slice_set self.old.ranks rank x))) }
-        ensures shown { OnOk result (AtRank self.old.ranks rank (λ v. ShowsReplay (λ old rank clock value new. new ≡ after_line old rank clock value) v.rank console.old console.new)) }
+        ensures ok { IfOk result (λ turn. AtRank self.old.ranks rank (λ v.
+            (x : Option Live) × IsReplayed v turn x × (self.new.ranks ≡ slice_set self.old.ranks rank x))) }
+        ensures shown { OnOk result (AtRank self.old.ranks rank (λ v.
+            ShowsReplay (λ old rank clock value new. new ≡ after_line old rank clock value) v.rank console.old console.new)) }
         ensures program { self.new.program ≡ self.old.program }
         ensures images { self.new.images ≡ self.old.images }
         ensures err { OnErr result (self.new ≡ self.old) }

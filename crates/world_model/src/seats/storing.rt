@@ -41,7 +41,8 @@ impl<'p> Seats<'p> {
     pub fn ack(&mut self, rank: u8) -> bool
         requires rank { rank < length self.old.ranks }
         requires work { AtRank self.old.ranks rank (λ v. v.left ≡ []) }
-        ensures acked { OnTrue result (AtRank self.old.ranks rank (λ v. (0 < v.rank.stored) × (self.new.ranks ≡ with_value self.old.ranks rank v (after_ack v.rank)))) }
+        ensures acked { OnTrue result (AtRank self.old.ranks rank (λ v.
+            (0 < v.rank.stored) × (self.new.ranks ≡ with_value self.old.ranks rank v (after_ack v.rank)))) }
         ensures none { OnFalse result (AtRank self.old.ranks rank (λ v. v.rank.stored ≡ 0)) }
         ensures program { self.new.program ≡ self.old.program }
         ensures images { self.new.images ≡ self.old.images }
@@ -59,7 +60,8 @@ impl<'p> Seats<'p> {
         requires effect { AtRank self.old.ranks rank (λ v. IsSome (next_effect v.rank)) }
         ensures clock { IfOk result (λ clock. AtRank self.old.ranks rank (λ v. option_and_then effect_clock (next_effect v.rank) ≡ Some clock)) }
         ensures ok { OnOk result (AtRank self.old.ranks rank (λ v. self.new.ranks ≡ with_value self.old.ranks rank v (released v.rank (next_effect v.rank)))) }
-        ensures shown { OnOk result (AtRank self.old.ranks rank (λ v. ShowsEffect (λ old rank clock value new. new ≡ after_line old rank clock value) v.rank (next_effect v.rank) console.old console.new)) }
+        ensures shown { OnOk result (AtRank self.old.ranks rank (λ v.
+            ShowsEffect (λ old rank clock value new. new ≡ after_line old rank clock value) v.rank (next_effect v.rank) console.old console.new)) }
         ensures program { self.new.program ≡ self.old.program }
         ensures images { self.new.images ≡ self.old.images }
         ensures err { OnErr result (self.new ≡ self.old) }

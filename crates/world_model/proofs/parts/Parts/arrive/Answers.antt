@@ -37,23 +37,31 @@ there_then c =
 -- src/parts/arriving.rt
 pub arrived_as-requires : goal.arrived_as-requires
 arrived_as-requires c =
-    arrive_not_foreign c.args.self.now c.in-Some.source c.in-Some-rank_of.dest c.args.index c.in_ok-frame.frame c.in_ok-arrived.arrived c.requires (has c) (there c)
-    (subst (λ z. AtRank z.ranks c.in-Some-rank_of.dest (λ (v : Live). c.in_ok-arrived.arrived ≡ arrival_of v.rank c.in-Some.source c.in_ok-frame.frame)) c.self.view_is c.in_ok-arrived.ensures.answer)
+    arrive_not_foreign c.args.self.now c.in-Some.source c.in-Some-rank_of.dest c.args.index c.in_ok-frame.frame
+    c.in_ok-arrived.arrived c.requires (has c) (there c)
+    (subst (λ z. AtRank z.ranks c.in-Some-rank_of.dest (λ (v : Live). c.in_ok-arrived.arrived ≡ arrival_of v.rank c.in-Some.source c.in_ok-frame.frame))
+    c.self.view_is c.in_ok-arrived.ensures.answer)
 
 -- src/parts/arriving.rt
 pub returns-clause-follows : goal.returns-clause-follows
 returns-clause-follows c =
-    arrive_named c.args.self.now _ c.in-Some.source c.in-Some-rank_of.dest c.args.index c.args.source c.args.dest c.in_ok-frame.frame c.in_ok-arrived.arrived c.arrived_as.result
+    arrive_named c.args.self.now _ c.in-Some.source c.in-Some-rank_of.dest c.args.index
+    c.args.source c.args.dest c.in_ok-frame.frame c.in_ok-arrived.arrived c.arrived_as.result
     c.in-Some.ensures.0 c.in-Some-rank_of.ensures.0 (has_then c) (there_then c)
-    (subst (λ z. AtRank z.ranks c.in-Some-rank_of.dest (λ (v : Live). c.in_ok-arrived.arrived ≡ arrival_of v.rank c.in-Some.source c.in_ok-frame.frame)) c.self.view_is c.in_ok-arrived.ensures.answer)
-    (subst (λ z. AtRank z.ranks c.in-Some-rank_of.dest (λ (v : Live). c.arrive.new.self.ranks ≡ with_value z.ranks c.in-Some-rank_of.dest v (after_frame v.rank c.in-Some.source c.in_ok-frame.frame))) c.self.view_is c.in_ok-arrived.ensures.ok)
+    (subst (λ z. AtRank z.ranks c.in-Some-rank_of.dest (λ (v : Live). c.in_ok-arrived.arrived ≡ arrival_of v.rank c.in-Some.source c.in_ok-frame.frame))
+    c.self.view_is c.in_ok-arrived.ensures.answer)
+    (subst (λ z. AtRank z.ranks c.in-Some-rank_of.dest
+    (λ (v : Live). c.arrive.new.self.ranks ≡ with_value z.ranks c.in-Some-rank_of.dest v (after_frame v.rank c.in-Some.source c.in_ok-frame.frame)))
+    c.self.view_is c.in_ok-arrived.ensures.ok)
     c.arrived_as.ensures
-    (c.arrive.ensures.program ∙ ap (λ z. z.program) c.self.view_is) (c.arrive.ensures.images ∙ ap (λ z. z.images) c.self.view_is) (ap (λ z. z.logger) c.self.view_is) (ap (λ z. z.wires) c.self.view_is) (ap (λ z. z.lines) c.self.view_is) (ap (λ z. z.run) c.self.view_is)
+    (c.arrive.ensures.program ∙ ap (λ z. z.program) c.self.view_is) (c.arrive.ensures.images ∙ ap (λ z. z.images) c.self.view_is)
+    (ap (λ z. z.logger) c.self.view_is) (ap (λ z. z.wires) c.self.view_is) (ap (λ z. z.lines) c.self.view_is) (ap (λ z. z.run) c.self.view_is)
 
 -- src/parts/arriving.rt
 pub returns-in_err-frame-clause-possible : goal.returns-in_err-frame-clause-possible
 returns-in_err-frame-clause-possible c =
-    on_err c.from_residual.result _ (arrive_named_possible c.args.self.now c.in-Some.source c.in-Some-rank_of.dest c.args.index c.args.source c.args.dest c.in-Some-get.frame.now
+    on_err c.from_residual.result _ (arrive_named_possible c.args.self.now c.in-Some.source c.in-Some-rank_of.dest
+    c.args.index c.args.source c.args.dest c.in-Some-get.frame.now
     c.in-Some.ensures.0 c.in-Some-rank_of.ensures.0
     (has_wire c.args.self.now c.in-Some.source c.in-Some-rank_of.dest c.requires c.in-Some.ensures.1 c.in-Some-rank_of.ensures.1)
     (subst (λ z. slice_get (wire_of z.wires c.in-Some.source c.in-Some-rank_of.dest) c.args.index ≡ Some c.in-Some-get.frame.now) c.self.view_is
@@ -63,7 +71,8 @@ returns-in_err-frame-clause-possible c =
 -- src/parts/arriving.rt
 pub returns-in_err-arrived-clause-possible : goal.returns-in_err-arrived-clause-possible
 returns-in_err-arrived-clause-possible c =
-    on_err c.from_residual-in_err-arrived.result _ (arrive_named_possible c.args.self.now c.in-Some.source c.in-Some-rank_of.dest c.args.index c.args.source c.args.dest c.in-Some-get.frame.now
+    on_err c.from_residual-in_err-arrived.result _ (arrive_named_possible c.args.self.now c.in-Some.source c.in-Some-rank_of.dest
+    c.args.index c.args.source c.args.dest c.in-Some-get.frame.now
     c.in-Some.ensures.0 c.in-Some-rank_of.ensures.0
     (has_wire c.args.self.now c.in-Some.source c.in-Some-rank_of.dest c.requires c.in-Some.ensures.1 c.in-Some-rank_of.ensures.1)
     (subst (λ z. slice_get (wire_of z.wires c.in-Some.source c.in-Some-rank_of.dest) c.args.index ≡ Some c.in-Some-get.frame.now) c.self.view_is

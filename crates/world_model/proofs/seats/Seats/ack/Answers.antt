@@ -6,12 +6,15 @@ use Rattle.world_model.proofs.seats.Seats.ack.Goals as goal
 
 -- the seat is the rank's
 seat : (c : goal.After-self-1) → IsTaken c.args.self.now c.self.inside.seats.items c.from.result c.args.rank c.index_mut.result.now
-seat c = taken c.args.self.now _ c.self.inside.seats.items c.from.result c.args.rank c.index_mut.result.now c.self.view_is c.from.ensures c.requires.rank c.index_mut.ensures.value
+seat c = taken c.args.self.now _ c.self.inside.seats.items c.from.result c.args.rank c.index_mut.result.now
+    c.self.view_is c.from.ensures c.requires.rank c.index_mut.ensures.value
 
 -- src/seats/storing.rt
 pub returns-clause-acked : goal.returns-clause-acked
 returns-clause-acked c =
-    on_true c.ack.result (λ h. after_call c.ack.new.self _ _ (seat c) (λ v is e. (e.0, is ∙ ap (λ x. slice_set c.args.self.now.ranks c.args.rank x) e.1)) h) c.ack.ensures.acked
+    on_true c.ack.result
+    (λ h. after_call c.ack.new.self _ _ (seat c) (λ v is e. (e.0, is ∙ ap (λ x. slice_set c.args.self.now.ranks c.args.rank x) e.1)) h)
+    c.ack.ensures.acked
 
 -- src/seats/storing.rt
 pub returns-clause-none : goal.returns-clause-none

@@ -7,13 +7,16 @@ use Rattle.world_model.proofs.seats.Seats.arrive.Goals as goal
 
 -- the seat is the rank's
 seat : (c : goal.In_ok-arrived) → IsTaken c.args.self.now c.self.inside.seats.items c.from.result c.args.rank c.index_mut.result.now
-seat c = taken c.args.self.now _ c.self.inside.seats.items c.from.result c.args.rank c.index_mut.result.now c.self.view_is c.from.ensures c.requires.rank c.index_mut.ensures.value
+seat c = taken c.args.self.now _ c.self.inside.seats.items c.from.result c.args.rank c.index_mut.result.now
+    c.self.view_is c.from.ensures c.requires.rank c.index_mut.ensures.value
 
 -- src/seats/framing.rt
 pub invariant_of-self-2 : goal.invariant_of-self-2
 invariant_of-self-2 c =
     still_seats _ _ _ _ c.arrive.new.self (seat c).there
-    (ap (λ (z : SeatValue). z.program) c.arrive.ensures.others) (ap (λ (z : SeatValue). z.rank) c.arrive.ensures.others) (ap (λ (z : SeatValue). z.size) c.arrive.ensures.others)
+    (ap (λ (z : SeatValue). z.program) c.arrive.ensures.others)
+    (ap (λ (z : SeatValue). z.rank) c.arrive.ensures.others)
+    (ap (λ (z : SeatValue). z.size) c.arrive.ensures.others)
     c.self.invariant
 
 -- src/seats/framing.rt

@@ -5,7 +5,8 @@ use Rattle.world_model.proofs.seats.Seats.passed.Goals as goal
 
 -- the seat is the rank's
 seat : (c : goal.After-self-1) → IsTaken c.args.self.now c.self.inside.seats.items c.from.result c.args.rank c.index_mut.result.now
-seat c = taken c.args.self.now _ c.self.inside.seats.items c.from.result c.args.rank c.index_mut.result.now c.self.view_is c.from.ensures c.requires.rank c.index_mut.ensures.value
+seat c = taken c.args.self.now _ c.self.inside.seats.items c.from.result c.args.rank c.index_mut.result.now
+    c.self.view_is c.from.ensures c.requires.rank c.index_mut.ensures.value
 
 -- src/seats/framing.rt
 pub returns-clause-passed : goal.returns-clause-passed

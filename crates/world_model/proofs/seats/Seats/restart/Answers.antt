@@ -6,12 +6,15 @@ use Rattle.world_model.proofs.seats.Seats.restart.Goals as goal
 
 -- the seat is the rank's
 seat : (c : goal.After-self-1) → IsTaken c.args.self.now c.self.inside.seats.items c.from.result c.args.rank c.index_mut.result.now
-seat c = taken c.args.self.now _ c.self.inside.seats.items c.from.result c.args.rank c.index_mut.result.now c.self.view_is c.from.ensures c.requires.rank c.index_mut.ensures.value
+seat c = taken c.args.self.now _ c.self.inside.seats.items c.from.result c.args.rank c.index_mut.result.now
+    c.self.view_is c.from.ensures c.requires.rank c.index_mut.ensures.value
 
 -- src/seats/living.rt
 pub returns-clause-ok : goal.returns-clause-ok
 returns-clause-ok c =
-    on_ok c.restart.result (λ h. restarted_then c.restart.new.self _ c.args.row.items (ap (λ (z : SeatsValue). z.program) c.self.view_is) (seat c) c.self.invariant h) c.restart.ensures.ok
+    on_ok c.restart.result
+    (λ h. restarted_then c.restart.new.self _ c.args.row.items (ap (λ (z : SeatsValue). z.program) c.self.view_is) (seat c) c.self.invariant h)
+    c.restart.ensures.ok
 
 -- src/seats/living.rt
 pub returns-clause-images : goal.returns-clause-images
