@@ -99,7 +99,8 @@ module _ {W : Type 0} where
       (same.0.1.desk.0 ∙ all.0, same.0.1.desk.1 ∙ all.1 ∙ ap (λ n. first + n) (sym (same_length xs ys same.1)), same_seated logger first xs ys same.1 all.2)
 
 -- a further desk of the logger
-pub desks_more : (logger : LoggerValue) (first : ℕ) (ds : List DeskValue) (d : DeskValue) → AreDesksFrom logger first ds → d.table ≡ logger.table → d.rank ≡ first + length ds
+pub desks_more : (logger : LoggerValue) (first : ℕ) (ds : List DeskValue) (d : DeskValue)
+    → AreDesksFrom logger first ds → d.table ≡ logger.table → d.rank ≡ first + length ds
     → AreDesksFrom logger first (ds ++ d ∷ [])
 desks_more logger first [] d all same who = (same, who ∙ omega arith, tt)
 desks_more logger first (e ∷ ds) d all same who = (all.0, all.1, desks_more logger (first + 1) ds d all.2 same (who ∙ omega arith))
@@ -140,3 +141,9 @@ desks_less logger first [] d all = (tt, all.0, all.1 ∙ omega arith)
 desks_less logger first (e ∷ ds) d all =
     let rest = desks_less logger (first + 1) ds d all.2 in
     ((all.0, all.1, rest.0), rest.1, rest.2 ∙ omega arith)
+
+-- what carries a run from its lanes and desks to its stations, through their lives, and back
+pub ruleset played_laws = (same_to, same_from, same_seated, same_length, desks_listed, desks_ordered)
+
+-- what one station more that is taken apart leaves
+pub ruleset unseated_laws = (to_unseated, from_unseated, seated_less, desks_more)

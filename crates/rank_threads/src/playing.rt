@@ -33,7 +33,7 @@ pub struct Played {
 }
 
 /// Plays the program on so many ranks, until all have left. An `Err` is want of memory.
-#[tactic(auto, using(crate::proofs::SeatingLemmas::same_to, crate::proofs::SeatingLemmas::same_from, crate::proofs::SeatingLemmas::same_seated, crate::proofs::SeatingLemmas::same_length, crate::proofs::SeatingLemmas::desks_listed, crate::proofs::SeatingLemmas::desks_ordered))]
+#[tactic(auto, using(crate::proofs::SeatingLemmas::played_laws))]
 pub fn play<R: Threads + Wait + Sync + Copy + Send, H: Hold + Sync>(
     rt: R,
     alloc: Heap,
@@ -58,10 +58,7 @@ pub fn play<R: Threads + Wait + Sync + Copy + Send, H: Hold + Sync>(
     let room = room(alloc, ranks)?;
     let (logger, desks) = match Logger::new(alloc, ranks) {
         Ok(made) => made,
-        Err(error) => {
-            given_up(room);
-            return Err(error);
-        }
+        Err(error) => return Err(given_up(room, error)),
     };
     // From here on every station comes back: nothing is refused while a desk is there.
     let stop = AtomicBool::new(false);
@@ -102,8 +99,8 @@ fn room(alloc: Heap, ranks: usize) -> Result<Left, AllocError>
     Ok(Left { desks, ends, came })
 }
 
-// Room in which nothing stands yet.
-fn given_up(room: Left)
+// Room in which nothing stands yet is given up.
+fn given_up(room: Left, error: AllocError) -> AllocError
     requires { room.desks.items ≡ [] }
 {
     let Left {
@@ -112,6 +109,7 @@ fn given_up(room: Left)
         came: _,
     } = room;
     desks.destroy_empty();
+    error
 }
 
 fn marks(alloc: Heap, size: u8) -> Result<Vec<CachePadded<Mark>, Heap>, AllocError> {

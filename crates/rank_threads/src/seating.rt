@@ -82,7 +82,7 @@ pub fn seat_all<'l, W: Wait + Drop + Copy>(
 }
 
 /// The lanes and desks of the stations, and what each rank came to.
-#[tactic(auto, using(crate::proofs::SeatingLemmas::to_unseated, crate::proofs::SeatingLemmas::from_unseated, crate::proofs::SeatingLemmas::seated_less, crate::proofs::SeatingLemmas::desks_more))]
+#[tactic(auto, using(crate::proofs::SeatingLemmas::unseated_laws))]
 pub fn unseat_all<'l, W: Wait + Drop + Copy>(
     stations: Vec<Parcel<'l, W>, Heap>,
     room: Left,
