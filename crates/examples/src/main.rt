@@ -12,7 +12,7 @@ use std::sync::Wait;
 use std::thread::Threads;
 
 /// The words of each run, after the program's name.
-const RUNS: [&str; 60] = [
+const RUNS: [&str; 63] = [
     "run --ranks 2 answer.rank",
     "run --ranks 4 ring.rank",
     "run --ranks 2 ping_pong.rank",
@@ -56,6 +56,9 @@ const RUNS: [&str; 60] = [
     "run --ranks 1 fault_limit.rank",
     "run --ranks 1 array_length.rank",
     "run --ranks 1 fault_number_range.rank",
+    "run --ranks 1 canonical.rank",
+    "check canonical.rank",
+    "check refused.rank",
     "world --ranks 2 answer.rank answer.events",
     "world --ranks 2 overtaking.rank overtaking.events",
     "world --ranks 2 two_prints.rank two_prints.events",

@@ -1,7 +1,7 @@
 //! The runs of the texts of docs/LANGUAGE.md, in its order.
 
 /// The words of each run, after the program's name.
-pub const RUNS: [&str; 82] = [
+pub const RUNS: [&str; 79] = [
     "run --ranks 1 manual_var.rank",
     "run --ranks 1 manual_array.rank",
     "run --ranks 1 manual_let.rank",
@@ -81,7 +81,4 @@ pub const RUNS: [&str; 82] = [
     "run --ranks 1 manual_first.rank",
     "run --ranks 1 manual_free.rank",
     "check manual_free.rank",
-    "run --ranks 1 canonical.rank",
-    "check canonical.rank",
-    "check refused.rank",
 ];
