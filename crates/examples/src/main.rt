@@ -2,14 +2,9 @@
 #![tactic(auto)]
 
 mod killed;
-mod manual;
 
-use runner::{MachineFiles, command};
-use std::alloc::{AllocError, Global};
+use shown_runs::show_all;
 use std::io;
-use std::rt::Files;
-use std::sync::Wait;
-use std::thread::Threads;
 
 /// The words of each run, after the program's name.
 const RUNS: [&str; 63] = [
@@ -79,43 +74,6 @@ const RUNS: [&str; 63] = [
 ];
 
 fn main(rt: HostRuntime) -> io::Result<()> {
-    for runs in [
-        RUNS.as_slice(),
-        killed::RUNS.as_slice(),
-        manual::RUNS.as_slice(),
-    ] {
-        for run in runs {
-            show(&rt, run)?;
-        }
-    }
-    Ok(())
-}
-
-// Prints the command line, what it wrote to both streams, and the exit status.
-fn show<R: Threads + Wait + Sync + Copy + Send + AllocGlobal + Files + Print>(
-    rt: &R,
-    run: &str,
-) -> io::Result<()> {
-    let alloc = rt.alloc();
-    let words = words_of(alloc, run)?;
-    let mut files = MachineFiles::new(rt);
-    let mut out = Vec::new(alloc);
-    let mut err = Vec::new(alloc);
-    let status = command(rt, alloc, words.as_slice(), &mut files, &mut out, &mut err);
-    println!(rt; "$ ftmpi {run}")?;
-    rt.print(text_of(out.as_slice()))?;
-    rt.print(text_of(err.as_slice()))?;
-    println!(rt; "status {status}")
-}
-
-fn words_of(alloc: Global, run: &str) -> Result<Vec<String>, AllocError> {
-    let mut words = vec![in alloc; String::from_str(alloc, "ftmpi")?]?;
-    for word in run.split(' ') {
-        words.push(String::from_str(alloc, word)?)?;
-    }
-    Ok(words)
-}
-
-fn text_of(bytes: &[u8]) -> &str {
-    std::str::from_utf8(bytes).unwrap_or("no text\n")
+    show_all(&rt, RUNS.as_slice())?;
+    show_all(&rt, killed::RUNS.as_slice())
 }
