@@ -2,17 +2,12 @@
 #![tactic(auto)]
 
 mod killed;
-mod manual;
 
-use runner::{MachineFiles, command};
-use std::alloc::{AllocError, Global};
+use shown_runs::show_all;
 use std::io;
-use std::rt::Files;
-use std::sync::Wait;
-use std::thread::Threads;
 
 /// The words of each run, after the program's name.
-const RUNS: [&str; 60] = [
+const RUNS: [&str; 63] = [
     "run --ranks 2 answer.rank",
     "run --ranks 4 ring.rank",
     "run --ranks 2 ping_pong.rank",
@@ -56,6 +51,9 @@ const RUNS: [&str; 60] = [
     "run --ranks 1 fault_limit.rank",
     "run --ranks 1 array_length.rank",
     "run --ranks 1 fault_number_range.rank",
+    "run --ranks 1 canonical.rank",
+    "check canonical.rank",
+    "check refused.rank",
     "world --ranks 2 answer.rank answer.events",
     "world --ranks 2 overtaking.rank overtaking.events",
     "world --ranks 2 two_prints.rank two_prints.events",
@@ -76,43 +74,6 @@ const RUNS: [&str; 60] = [
 ];
 
 fn main(rt: HostRuntime) -> io::Result<()> {
-    for runs in [
-        RUNS.as_slice(),
-        killed::RUNS.as_slice(),
-        manual::RUNS.as_slice(),
-    ] {
-        for run in runs {
-            show(&rt, run)?;
-        }
-    }
-    Ok(())
-}
-
-// Prints the command line, what it wrote to both streams, and the exit status.
-fn show<R: Threads + Wait + Sync + Copy + Send + AllocGlobal + Files + Print>(
-    rt: &R,
-    run: &str,
-) -> io::Result<()> {
-    let alloc = rt.alloc();
-    let words = words_of(alloc, run)?;
-    let mut files = MachineFiles::new(rt);
-    let mut out = Vec::new(alloc);
-    let mut err = Vec::new(alloc);
-    let status = command(rt, alloc, words.as_slice(), &mut files, &mut out, &mut err);
-    println!(rt; "$ ftmpi {run}")?;
-    rt.print(text_of(out.as_slice()))?;
-    rt.print(text_of(err.as_slice()))?;
-    println!(rt; "status {status}")
-}
-
-fn words_of(alloc: Global, run: &str) -> Result<Vec<String>, AllocError> {
-    let mut words = vec![in alloc; String::from_str(alloc, "ftmpi")?]?;
-    for word in run.split(' ') {
-        words.push(String::from_str(alloc, word)?)?;
-    }
-    Ok(words)
-}
-
-fn text_of(bytes: &[u8]) -> &str {
-    std::str::from_utf8(bytes).unwrap_or("no text\n")
+    show_all(&rt, RUNS.as_slice())?;
+    show_all(&rt, killed::RUNS.as_slice())
 }
