@@ -25,15 +25,20 @@ impl WordsFault {
         ensures not_text { (number : ℕ) → self ≡ WordsFault.NotText number → result ≡ 3 }
         ensures memory { self ≡ WordsFault.Memory → result ≡ 4 }
     {
+        let _ = match self {
+            WordsFault::NotText(number) => writeln!(err, "argument {number} isn't UTF-8"),
+            WordsFault::Memory => writeln!(err, "out of memory"),
+        };
+        self.status()
+    }
+
+    fn status(self) -> u8
+        ensures not_text { (number : ℕ) → self ≡ WordsFault.NotText number → result ≡ 3 }
+        ensures memory { self ≡ WordsFault.Memory → result ≡ 4 }
+    {
         match self {
-            WordsFault::NotText(number) => {
-                let _ = writeln!(err, "argument {number} isn't UTF-8");
-                3
-            }
-            WordsFault::Memory => {
-                let _ = writeln!(err, "out of memory");
-                4
-            }
+            WordsFault::NotText(_) => 3,
+            WordsFault::Memory => 4,
         }
     }
 }
