@@ -1,8 +1,11 @@
-//! What the words ask for, with what they leave out.
+//! What the words ask for, with what they leave out; and arguments that are no words.
 use crate::scenes::words_of;
+use runner::words_given;
 use runner_words::{Job, job_of};
 use std::alloc::{AllocError, Global};
+use std::env::FillError;
 use std::process::Abort;
+use std::rt::Env;
 use std::test::Fail;
 
 /// The words of a run, with its ranks, idle turns, steps and program.
@@ -40,4 +43,140 @@ fn ask_for(rt: &impl Abort, alloc: Global, rows: &[(&str, &str)]) -> Result<(), 
 #[test]
 fn defaults(rt: HostRuntime) -> Result<(), Fail> {
     ask_for(&rt, rt.alloc(), &RUNS)
+}
+
+/// A machine that calls the program with these arguments.
+#[derive(Drop)]
+struct Called<'a> {
+    alloc: Global,
+    arguments: &'a [&'a [u8]],
+}
+
+impl Alloc for Called<'_> {
+    type A = Global;
+
+    fn alloc(&self) -> Global {
+        self.alloc
+    }
+}
+
+impl Env for Called<'_> {
+    fn arg(&self, i: usize, buf: &mut [u8]) -> Result<usize, FillError> {
+        let Some(argument) = self.arguments.get(i) else {
+            return Err(FillError::NotPresent);
+        };
+        if argument.len() > buf.len() {
+            return Err(FillError::TooLong);
+        }
+        buf[..argument.len()].copy_from_slice(argument);
+        Ok(argument.len())
+    }
+
+    fn var(&self, _name: &str, _buf: &mut [u8]) -> Result<usize, FillError> {
+        Err(FillError::NotPresent)
+    }
+
+    fn var_at(&self, _i: usize, _buf: &mut [u8]) -> Result<usize, FillError> {
+        Err(FillError::NotPresent)
+    }
+}
+
+/// What the program is called with, and what stands on standard error; nothing where these are words.
+#[derive(Clone, Copy)]
+struct Call {
+    name: &'static [u8],
+    first: &'static [u8],
+    second: &'static [u8],
+    error: &'static str,
+}
+
+const CALLS: [Call; 6] = [
+    Call {
+        name: b"ftmpi",
+        first: b"check",
+        second: b"na\xc3\xafve",
+        error: "",
+    },
+    Call {
+        name: b"",
+        first: b"",
+        second: b"",
+        error: "",
+    },
+    Call {
+        name: b"ftmpi",
+        first: b"check",
+        second: b"na\xefve",
+        error: "argument 2 isn't UTF-8\n",
+    },
+    // The first one that isn't is named.
+    Call {
+        name: b"ftmpi",
+        first: b"\xff",
+        second: b"\xff",
+        error: "argument 1 isn't UTF-8\n",
+    },
+    // A surrogate is no character.
+    Call {
+        name: b"ftmpi",
+        first: b"\xed\xa0\x80",
+        second: b"p",
+        error: "argument 1 isn't UTF-8\n",
+    },
+    Call {
+        name: b"\xff",
+        first: b"check",
+        second: b"p",
+        error: "argument 0 isn't UTF-8\n",
+    },
+];
+
+// Each of these gives three words, or ends the program with status 3.
+fn give_words(rt: &impl Abort, alloc: Global, rows: &[Call]) -> Result<(), Fail> {
+    for row in rows {
+        let arguments = [row.name, row.first, row.second];
+        let called = Called {
+            alloc,
+            arguments: arguments.as_slice(),
+        };
+        let mut err = Vec::new(alloc);
+        let found = match words_given(&called) {
+            Ok(words) => (0, words.len()),
+            Err(fault) => (fault.tell(&mut err), 0),
+        };
+        let want = if row.error.is_empty() { (0, 3) } else { (3, 0) };
+        assert_eq!(rt; found, want, "at {arguments:?}");
+        assert_eq!(rt; err.as_slice(), row.error.as_bytes(), "at {arguments:?}");
+    }
+    Ok(())
+}
+
+#[test]
+fn arguments(rt: HostRuntime) -> Result<(), Fail> {
+    give_words(&rt, rt.alloc(), &CALLS)
+}
+
+// An argument of any length is a word, byte for byte.
+fn read_long(rt: &impl Abort, alloc: Global, lengths: &[usize]) -> Result<(), Fail> {
+    for length in lengths {
+        let long = vec![in alloc; b'x'; *length]?;
+        let arguments = [b"ftmpi".as_slice(), long.as_slice()];
+        let called = Called {
+            alloc,
+            arguments: arguments.as_slice(),
+        };
+        let found = match words_given(&called) {
+            Ok(words) => words
+                .get(1)
+                .is_some_and(|word| word.as_bytes() == long.as_slice()),
+            Err(_) => false,
+        };
+        assert!(rt; found, "at {length} bytes");
+    }
+    Ok(())
+}
+
+#[test]
+fn long_arguments(rt: HostRuntime) -> Result<(), Fail> {
+    read_long(&rt, rt.alloc(), &[0, 255, 256, 257, 512, 100000])
 }

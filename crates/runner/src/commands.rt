@@ -3,7 +3,7 @@
 //! | Status | When |
 //! |---|---|
 //! | 0 | done, help too |
-//! | 1 | after a run a rank isn't halted |
+//! | 1 | after a run a rank isn't halted, or a run ends without a report |
 //! | 2 | the program, the script or the events are refused, or a file can't be read |
 //! | 3 | the words are refused |
 //! | 4 | there is no memory |

@@ -8,6 +8,7 @@
 mod commands;
 mod files;
 mod output;
+mod words;
 
 pub use audit::{AuditFault, End, Outcome};
 pub use commands::command;
@@ -16,3 +17,4 @@ pub use ports::Line;
 pub use rank_machine::MachineFault;
 pub use rank_threads::{Hold, Report, RunFault, RunLimits, run};
 pub use script_text::{Script, ScriptFault, ScriptFaultKind, ScriptParseFault};
+pub use words::{WordsFault, words_given};

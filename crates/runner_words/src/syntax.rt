@@ -35,13 +35,13 @@ fn run<'a>(alloc: Global) -> Result<Command<'a>, AllocError> {
             alloc,
             "idle",
             "T",
-            "Idle turns after which a rank counts as stalled",
+            "Idle turns before a rank may be stalled, 1 to 1000000000",
         ))?
         .arg(limit(
             alloc,
             "steps",
             "S",
-            "Steps after which a rank is left unfinished",
+            "Steps that a rank makes at most, 1 to 1000000000",
         ))?
         .arg(program(alloc))
 }
@@ -69,7 +69,7 @@ fn script<'a>(alloc: Global) -> Arg<'a> {
     Arg::new(alloc, "script")
         .long("script")
         .value_name("FILE")
-        .help("The script of the run")
+        .help("The script of the run: which ranks crash and take images, and when")
         .action(ArgAction::Set)
 }
 
