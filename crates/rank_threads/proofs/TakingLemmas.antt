@@ -1,11 +1,12 @@
 -- Frames that are taken one after another.
 use Rattle.std.proofs.Common.{◌≡◌, ℕ, Bool, true, false, List, [], ◌∷◌, ◌++◌, Option, Some, None, IfSome, slice_index_or, slice_set}
-use Rattle.std.proofs.Common.{refl, sym, ap, ◌∙◌, append_assoc, append-nil}
+use Rattle.std.proofs.Math.Numerals.{add-one}
+use Rattle.std.proofs.Common.{◌+◌, ◌||◌, refl, sym, subst, ap, ◌∙◌, append_assoc, append-nil}
 use Rattle.std.proofs.lemmas.List.{length-set}
 use Rattle.ports.specs.Lanes.{RxValue, taken_of}
 use Rattle.rank_node.specs.declared.frame.Frame.{Frame}
 use Rattle.rank_threads.proofs.PuttingLemmas.{set_here, same_there, set_elsewhere}
-use Rattle.rank_threads.specs.Taking.{arrived, all_arrived, is_some_frame, those_of, Takes, TookFrom}
+use Rattle.rank_threads.specs.Taking.{arrived, all_arrived, is_some_frame, those_of, Takes, TookFrom, TookBelow}
 use Rattle.rank_threads.specs.declared.phase.Phase.{Phase}
 use Rattle.rank_threads.specs.declared.seat.Seat.{Seat}
 
@@ -77,3 +78,13 @@ took_no_more source old mid new took before takes same = record {
   rank = same ∙ before.rank;
   took = before.took;
 }
+
+-- before the first lane nothing came
+pub took_before : (seat : Seat) → TookBelow 0 seat seat false
+took_before seat = (refl, refl)
+
+-- one lane more
+pub took_next : (k : ℕ) (old mid new : Seat) (earlier last answer : Bool) → TookBelow k old mid earlier → TookFrom k mid new last
+    → answer ≡ (last || earlier) → TookBelow (k + 1) old new answer
+took_next k old mid new earlier last answer before from either =
+    subst (λ n. TookBelow n old new answer) (sym (add-one k)) (mid, earlier, last, before, from, either)

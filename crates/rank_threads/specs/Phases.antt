@@ -1,14 +1,15 @@
 -- What stays of a rank, whether it runs, replays or is down (fail-stop processes with stable storage: Schlichting and
 -- Schneider, "Fail-Stop Processors", 1983).
-use Rattle.std.specs.Prelude.{◌≡◌, ℕ, List, [], ◌∷◌, Option, Some, None}
+use Rattle.std.specs.Prelude.{◌≡◌, ℕ, Bool, true, false, List, [], ◌∷◌, Option, Some, None}
 use Rattle.checkpoint.specs.Shelf.{image_bytes}
+use Rattle.checkpoint.specs.Spelling.{spelling}
 use Rattle.checkpoint.specs.declared.memory_shelf.MemoryShelf.{MemoryShelf}
 use Rattle.event_logger.specs.Desks.{DeskValue, IsSameDesk}
 use Rattle.plain_logger.specs.Event.{EventValue}
 use Rattle.rank_language.specs.Program.{ProgramValue}
 use Rattle.rank_machine.specs.declared.want.Want.{Want}
 use Rattle.rank_machine.specs.Machine.{asks}
-use Rattle.rank_node.specs.Image.{BeginsAgain}
+use Rattle.rank_node.specs.Image.{BeginsAgain, image_of}
 use Rattle.rank_node.specs.Node.{opening}
 use Rattle.rank_node.specs.Replay.{Replay}
 use Rattle.rank_node.specs.Stored.{Stored}
@@ -47,6 +48,18 @@ SamePhase a b = SameStable (stable_of a) (stable_of b)
 -- the last image on a shelf in memory
 abbrev pub last_image : MemoryShelf → Option (List ℕ)
 last_image shelf = image_bytes shelf.image
+
+-- the rank runs
+abbrev pub is_running : Phase → Bool
+is_running (phase.Running v) = true
+is_running (phase.Replaying r) = false
+is_running (phase.Down s) = false
+
+-- the shelf holds the image of the rank as it stands, which it can only where the rank runs
+abbrev pub HasImage : Phase → Type 0
+HasImage (phase.Running v) = last_image v.stable.shelf ≡ Some (spelling (image_of v))
+HasImage (phase.Replaying r) = ⊥
+HasImage (phase.Down s) = ⊥
 
 -- a rank that replays runs as soon as nothing is left to replay
 abbrev pub settled_replay : Replay MemoryShelf DeskValue → List EventValue → Phase

@@ -1,5 +1,5 @@
 -- What comes into a rank out of its lanes, each lane's frames in their order (MPI 1.1, section 3.5).
-use Rattle.std.specs.Prelude.{◌≡◌, ◌≢◌, ℕ, ◌<◌, Bool, true, false, List, [], ◌∷◌, ◌++◌, Option, Some, None, length, slice_index_or}
+use Rattle.std.specs.Prelude.{◌≡◌, ◌≢◌, ℕ, zero, suc, ◌<◌, Bool, true, false, ◌||◌, List, [], ◌∷◌, ◌++◌, Option, Some, None, length, slice_index_or}
 use Rattle.ports.specs.Lanes.{RxValue, taken_of}
 use Rattle.rank_node.specs.Frames.{after_frame}
 use Rattle.rank_node.specs.declared.frame.Frame.{Frame}
@@ -40,3 +40,10 @@ pub record TookFrom (source : ℕ) (old new : Seat) (answer : Bool) : Type 0 whe
   pub lanes : Takes source frames old.from.items new.from.items
   pub rank : new.node.phase ≡ all_arrived old.node.phase source frames
   pub took : answer ≡ is_some_frame frames
+
+-- A rank took in what the lanes from the ranks below this number brought, from rank 0 on, and answered whether that was
+-- anything.
+abbrev pub TookBelow : ℕ → Seat → Seat → Bool → Type 0
+TookBelow zero old new answer = (new ≡ old) × (answer ≡ false)
+TookBelow (suc k) old new answer =
+    (mid : Seat) × (earlier last : Bool) × TookBelow k old mid earlier × TookFrom k mid new last × (answer ≡ last || earlier)

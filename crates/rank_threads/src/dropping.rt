@@ -4,9 +4,7 @@ ghost use Rattle.rank_threads.specs.Stations.{SameStation};
 
 use crate::lanes_of::take_from;
 use crate::station::Station;
-
-/// How many frames a lane holds.
-const MOST: u32 = 64;
+use metered::limits::MOST_FRAMES;
 
 /// At a crash the frames in the lanes into the rank are dropped, at most as
 /// many as they hold. They count as taken.
@@ -21,7 +19,7 @@ pub fn drop_frames(station: &mut Station<'_>)
 fn drop_from(station: &mut Station<'_>, source: u8)
     ensures { SameStation station.old station.new }
 {
-    for _ in 0..MOST {
+    for _ in 0..MOST_FRAMES {
         if take_from(&mut station.from, source).is_none() {
             break;
         }

@@ -6,13 +6,12 @@ use crate::lanes_of::put_to;
 use crate::phase::Went;
 use crate::seat::Seat;
 use crate::shared::Shared;
+use metered::limits::MOST_FRAMES;
 use std::alloc::AllocError;
 
-/// How many frames a turn puts into one lane at most: as many as it holds.
-const MOST: u32 = 64;
-
 /// Puts what is outgoing, by rising destination, until each lane is full or
-/// nothing is left. Answers whether a frame was put.
+/// nothing is left, and into each lane at most as many frames as it holds.
+/// Answers whether a frame was put.
 pub fn put_out<H>(shared: &Shared<'_, H>, seat: &mut Seat<'_, '_>) -> Result<bool, AllocError>
     ensures { SameSeat seat.old seat.new }
 {
@@ -37,7 +36,7 @@ fn put_all_to<H>(
     ensures { SameSeat seat.old seat.new }
 {
     let mut put = false;
-    for _ in 0..MOST {
+    for _ in 0..MOST_FRAMES {
         match put_to(&mut seat.to, dest, &mut seat.node)? {
             Went::Gone => {
                 seat.tally.count_put();

@@ -1,21 +1,22 @@
 //! Part 1 of a turn: what the lanes bring.
 ghost use Rattle.std.specs.Prelude.{◌≡◌, ◌<◌, IfOk};
 ghost use Rattle.rank_threads.specs.Seats.{SameSeat};
-ghost use Rattle.rank_threads.specs.Taking.{TookFrom};
+ghost use Rattle.rank_threads.specs.Taking.{TookFrom, TookBelow};
 ghost use Rattle.rank_threads.specs.Tally.{woken};
 
 use crate::lanes_of::take_from;
 use crate::seat::Seat;
 use crate::shared::Shared;
+use metered::limits::MOST_FRAMES;
 use std::alloc::AllocError;
 
-/// How many frames a turn takes from one lane: as many as a lane holds.
-const MOST: u32 = 64;
-
-/// Takes what the lanes bring, by rising source, and answers whether a frame
-/// came.
+/// Takes what the lanes bring, by rising source, from each at most as many
+/// frames as it holds, and answers whether a frame came. An `Err` is want of
+/// memory.
+#[tactic(auto, using(crate::proofs::TakingLemmas::took_before, crate::proofs::TakingLemmas::took_next))]
 pub fn take_in<H>(shared: &Shared<'_, H>, seat: &mut Seat<'_, '_>) -> Result<bool, AllocError>
-    ensures { SameSeat seat.old seat.new }
+    ensures took { IfOk result (λ took. TookBelow seat.old.node.size seat.old seat.new took) }
+    ensures same { SameSeat seat.old seat.new }
 {
     let mut took = false;
     for source in 0..seat.node.size {
@@ -35,7 +36,7 @@ fn take_all_from<H>(
     ensures same { SameSeat seat.old seat.new }
 {
     let mut took = false;
-    for _ in 0..MOST {
+    for _ in 0..MOST_FRAMES {
         let Some(frame) = take_from(&mut seat.from, source) else {
             break;
         };

@@ -1,7 +1,7 @@
 //! What a rank is asked for in its life.
-ghost use Rattle.std.specs.Prelude.{◌≡◌, ◌<◌, ◌≤◌, IfOk, OnOk, OnErr};
+ghost use Rattle.std.specs.Prelude.{◌≡◌, ◌<◌, ◌≤◌, true, IfOk, OnOk, OnErr};
 ghost use Rattle.ports.specs.Lanes.{lane_to, put_of};
-ghost use Rattle.rank_threads.specs.Phases.{clock_in, want_in};
+ghost use Rattle.rank_threads.specs.Phases.{clock_in, want_in, is_running, HasImage};
 ghost use Rattle.rank_threads.specs.Putting.{Puts};
 ghost use Rattle.rank_threads.specs.Seats.{SameNode};
 ghost use Rattle.rank_threads.specs.Taking.{arrived};
@@ -87,7 +87,9 @@ impl<'p, 'l> Node<'p, 'l> {
 
     /// Takes an image of a rank that runs, and answers whether it did.
     pub fn image(&mut self) -> Result<bool, NodeFault>
-        ensures { SameNode self.old self.new }
+        ensures running { IfOk result (λ took. took ≡ is_running self.new.phase) }
+        ensures image { IfOk result (λ took. took ≡ true → HasImage self.new.phase) }
+        ensures same { SameNode self.old self.new }
     {
         self.phase.image()
     }

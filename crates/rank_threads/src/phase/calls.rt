@@ -1,5 +1,5 @@
 //! What a rank calls at its logger and its shelf.
-ghost use Rattle.std.specs.Prelude.{◌≡◌, ◌<◌, IfErr};
+ghost use Rattle.std.specs.Prelude.{◌≡◌, ◌<◌, true, IfOk};
 
 use super::Phase;
 use crate::releasing::release_all;
@@ -12,7 +12,7 @@ use std::alloc::AllocError;
 use std::sync::Wait;
 
 impl<'p> Phase<'p> {
-    ghost use Rattle.rank_threads.specs.Phases.{stable_of, SamePhase};
+    ghost use Rattle.rank_threads.specs.Phases.{stable_of, is_running, HasImage, SamePhase};
 
     /// The events of rank `of` whose receiver's clock is above `after`; none
     /// for a rank that is down. An `Err` is want of memory.
@@ -37,7 +37,9 @@ impl<'p> Phase<'p> {
 
     /// Takes an image of a rank that runs, and answers whether it did.
     pub fn image(&mut self) -> Result<bool, NodeFault>
-        ensures { SamePhase self.old self.new }
+        ensures running { IfOk result (λ took. took ≡ is_running self.new) }
+        ensures image { IfOk result (λ took. took ≡ true → HasImage self.new) }
+        ensures same { SamePhase self.old self.new }
     {
         match self {
             Phase::Running(rank) => {

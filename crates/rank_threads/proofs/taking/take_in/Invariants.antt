@@ -1,6 +1,10 @@
 use Rattle.rank_threads.specs.Seats.{SameSeat}
+use Rattle.rank_threads.specs.Taking.{TookBelow}
 use Rattle.rank_threads.proofs.taking.take_in.Given as goal
 
--- the seat stays the same
+-- what the lanes so far brought has arrived, and the seat stays the same
 abbrev pub invariant-loop-source : goal.invariant-loop-source
-invariant-loop-source g l = SameSeat l.fn.seat l.seat
+invariant-loop-source g l = record {
+  so_far : TookBelow l.source l.fn.seat l.seat l.took;
+  same : SameSeat l.fn.seat l.seat;
+}
