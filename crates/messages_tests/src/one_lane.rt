@@ -185,7 +185,7 @@ fn takes_all(rt: &(impl Wait + Abort), rx: Rx) -> Rx
 
 #[test]
 fn frames_go_from_thread_to_thread_in_order(rt: HostRuntime) -> Result<(), Fail> {
-    for room in [1usize, 64] {
+    for room in [1usize, 2, 64] {
         assert!(rt; 1 <= room);
         let (tx, rx) = lane(rt.alloc(), room)?;
         let (tx, rx) = thread::join(

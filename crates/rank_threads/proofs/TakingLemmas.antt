@@ -37,16 +37,21 @@ takes_then source frames more a b c first next = record {
   others = λ k d apart. next.others k d apart ∙ first.others k d apart;
 }
 
--- the last of several frames arrives behind the others
-pub arrived_last : (p : Phase) (source : ℕ) (frames : List Frame) (last : Frame)
-    → all_arrived p source (frames ++ last ∷ []) ≡ arrived (all_arrived p source frames) source last
-arrived_last p source [] last = refl
-arrived_last p source (frame ∷ frames) last = arrived_last (arrived p source frame) source frames last
+-- frames arrive, and then more frames
+arrived_then : (p : Phase) (source : ℕ) (frames more : List Frame)
+    → all_arrived p source (frames ++ more) ≡ all_arrived (all_arrived p source frames) source more
+arrived_then p source [] more = refl
+arrived_then p source (frame ∷ frames) more = arrived_then (arrived p source frame) source frames more
 
--- with a last frame there is some
-pub has_last : (frames : List Frame) (last : Frame) → is_some_frame (frames ++ last ∷ []) ≡ true
-has_last [] last = refl
-has_last (frame ∷ frames) last = refl
+-- with some frames behind others there are some
+some_behind : (frames more : List Frame) → true ≡ is_some_frame more → true ≡ is_some_frame (frames ++ more)
+some_behind [] more some = some
+some_behind (frame ∷ frames) more some = refl
+
+-- with none behind others there are those others
+none_behind : (frames more : List Frame) → false ≡ is_some_frame more → is_some_frame frames ≡ is_some_frame (frames ++ more)
+none_behind [] more none = none
+none_behind (frame ∷ frames) more none = refl
 
 -- what one look at a lane takes
 pub takes_looked : (source : ℕ) (found : Option Frame) (lanes : List RxValue) (d y : RxValue)
@@ -59,24 +64,36 @@ takes_looked source (Some frame) lanes d y some none = takes_at source (frame �
 pub took_nothing : (source : ℕ) (seat : Seat) → TookFrom source seat seat false
 took_nothing source seat = record { frames = []; lanes = takes_none source seat.from.items; rank = refl; took = refl }
 
--- one frame more came
-pub took_one : (source : ℕ) (old mid new : Seat) (took : Bool) (frame : Frame) → TookFrom source old mid took
-    → Takes source (frame ∷ []) mid.from.items new.from.items → new.node.phase ≡ arrived mid.node.phase source frame → TookFrom source old new true
-took_one source old mid new took frame before takes came = record {
-  frames = before.frames ++ frame ∷ [];
-  lanes = takes_then source before.frames (frame ∷ []) old.from.items mid.from.items new.from.items before.lanes takes;
-  rank = came ∙ ap (λ p. arrived p source frame) before.rank ∙ sym (arrived_last old.node.phase source before.frames frame);
-  took = sym (has_last before.frames frame);
+-- one frame came
+pub took_frame : (source : ℕ) (old new : Seat) (frame : Frame) → Takes source (frame ∷ []) old.from.items new.from.items
+    → new.node.phase ≡ arrived old.node.phase source frame → TookFrom source old new true
+took_frame source old new frame takes came = record { frames = frame ∷ []; lanes = takes; rank = came; took = refl }
+
+-- none was there
+pub took_none : (source : ℕ) (old new : Seat) → Takes source [] old.from.items new.from.items → new.node.phase ≡ old.node.phase
+    → TookFrom source old new false
+took_none source old new takes same = record { frames = []; lanes = takes; rank = same; took = refl }
+
+-- some came, behind those before
+pub took_more : (source : ℕ) (old mid new : Seat) (took : Bool) → TookFrom source old mid took → TookFrom source mid new true
+    → TookFrom source old new true
+took_more source old mid new took before here = record {
+  frames = before.frames ++ here.frames;
+  lanes = takes_then source before.frames here.frames old.from.items mid.from.items new.from.items before.lanes here.lanes;
+  rank = here.rank ∙ ap (λ p. all_arrived p source here.frames) before.rank
+      ∙ sym (arrived_then old.node.phase source before.frames here.frames);
+  took = some_behind before.frames here.frames here.took;
 }
 
--- no frame was there any more
-pub took_no_more : (source : ℕ) (old mid new : Seat) (took : Bool) → TookFrom source old mid took
-    → Takes source [] mid.from.items new.from.items → new.node.phase ≡ mid.node.phase → TookFrom source old new took
-took_no_more source old mid new took before takes same = record {
-  frames = before.frames;
-  lanes = rw (← append-nil before.frames) (takes_then source before.frames [] old.from.items mid.from.items new.from.items before.lanes takes);
-  rank = same ∙ before.rank;
-  took = before.took;
+-- none was there behind those before
+pub took_no_more : (source : ℕ) (old mid new : Seat) (took : Bool) → TookFrom source old mid took → TookFrom source mid new false
+    → TookFrom source old new took
+took_no_more source old mid new took before here = record {
+  frames = before.frames ++ here.frames;
+  lanes = takes_then source before.frames here.frames old.from.items mid.from.items new.from.items before.lanes here.lanes;
+  rank = here.rank ∙ ap (λ p. all_arrived p source here.frames) before.rank
+      ∙ sym (arrived_then old.node.phase source before.frames here.frames);
+  took = before.took ∙ none_behind before.frames here.frames here.took;
 }
 
 -- before the first lane nothing came

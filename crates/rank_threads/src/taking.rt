@@ -25,7 +25,7 @@ pub fn take_in<H>(shared: &Shared<'_, H>, seat: &mut Seat<'_, '_>) -> Result<boo
     Ok(took)
 }
 
-#[tactic(auto, using(crate::proofs::TakingLemmas::took_nothing, crate::proofs::TakingLemmas::took_one, crate::proofs::TakingLemmas::took_no_more))]
+#[tactic(auto, using(crate::proofs::TakingLemmas::took_nothing, crate::proofs::TakingLemmas::took_more, crate::proofs::TakingLemmas::took_no_more))]
 fn take_all_from<H>(
     shared: &Shared<'_, H>,
     seat: &mut Seat<'_, '_>,
@@ -37,14 +37,31 @@ fn take_all_from<H>(
 {
     let mut took = false;
     for _ in 0..MOST_FRAMES {
-        let Some(frame) = take_from(&mut seat.from, source) else {
+        if !take_one(shared, seat, source)? {
             break;
-        };
-        wake(shared, seat);
-        seat.node.arrive(source, frame)?;
+        }
         took = true;
     }
     Ok(took)
+}
+
+// The next frame from this rank arrives, where there is one.
+#[tactic(auto, using(crate::proofs::TakingLemmas::took_none, crate::proofs::TakingLemmas::took_frame))]
+fn take_one<H>(
+    shared: &Shared<'_, H>,
+    seat: &mut Seat<'_, '_>,
+    source: u8,
+) -> Result<bool, AllocError>
+    requires { source < seat.old.node.size }
+    ensures took { IfOk result (λ took. TookFrom source seat.old seat.new took) }
+    ensures same { SameSeat seat.old seat.new }
+{
+    let Some(frame) = take_from(&mut seat.from, source) else {
+        return Ok(false);
+    };
+    wake(shared, seat);
+    seat.node.arrive(source, frame)?;
+    Ok(true)
 }
 
 // A frame came. The mark is taken back before anything is done with it.
