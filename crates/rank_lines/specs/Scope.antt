@@ -156,7 +156,7 @@ payload_is_large p = payload_has is_large p
 abbrev pub has_large : Form → Bool
 has_large f = some_expression is_large (arguments_of f)
 
--- the most parentheses open at once, where n are open already
+-- the most parentheses open at once, where n are open already; brackets don't count, and parentheses stay open inside them
 abbrev pub deepest : ℕ → List Token → ℕ
 deepest n [] = n
 deepest n (t.OpenParenthesis ∷ ts) = deepest (n + 1) ts

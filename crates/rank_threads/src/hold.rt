@@ -3,6 +3,6 @@
 /// Is called by a run before each act of a rank, on the rank's own thread.
 pub trait Hold {
     /// `rank` is about to make the act of clock `clock`, a receive or a probe
-    /// that turns out to be blocked too. Internal steps aren't told.
+    /// that turns out to be blocked too. It isn't called for internal steps.
     fn before(&self, rank: u8, clock: u32);
 }
