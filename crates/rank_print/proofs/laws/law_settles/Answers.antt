@@ -1,5 +1,5 @@
 use Rattle.rank_print.proofs.Settled.{is_settled, stays_text, stays_whole, all_are}
-use Rattle.rank_print.proofs.laws.settles.Goals as goal
+use Rattle.rank_print.proofs.laws.law_settles.Goals as goal
 
 pub returns-clause-text : goal.returns-clause-text
 returns-clause-text c = is_settled
