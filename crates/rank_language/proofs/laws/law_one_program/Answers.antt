@@ -1,5 +1,5 @@
 use Rattle.rank_language.proofs.OneProgram as laws
-use Rattle.rank_language.proofs.laws.one_program.Goals as goal
+use Rattle.rank_language.proofs.laws.law_one_program.Goals as goal
 
 pub returns-clause-one : goal.returns-clause-one
 returns-clause-one c = laws.one_program
