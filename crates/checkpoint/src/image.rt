@@ -77,11 +77,11 @@ pub fn encode_parts(
 {
     // what the types of the parts keep
     let program = machine.program();
-    within_table(program);
-    within_program(machine);
-    few_parts(machine);
-    inbox.numbers_rise();
-    inbox.few_packets();
+    law_within_table(program);
+    law_within_program(machine);
+    law_few_parts(machine);
+    inbox.law_numbers_rise();
+    inbox.law_few_packets();
 
     let mut out = Vec::new(alloc);
     put_origin(&mut out, machine.rank(), machine.size())?;
@@ -93,34 +93,34 @@ pub fn encode_parts(
     Ok(out)
 }
 
-// A program's numbers take the bytes of the table.
-fn within_table(program: &Program)
+// A law, for proofs alone: a program's numbers take the bytes of the table.
+fn law_within_table(program: &Program)
     ensures { IsTable program.now }
 {
-    program.is_within_limits();
+    program.law_within_limits();
     let _arrays = program.arrays();
 }
 
-// A machine stands within its program, whose statements are few.
-fn within_program(machine: &Machine<'_>)
+// A law, for proofs alone: a machine stands within its program, whose statements are few.
+fn law_within_program(machine: &Machine<'_>)
     ensures machine { IsMachine machine.now }
     ensures lines { size (tree_of machine.now.program) ≡ length machine.now.program.statements }
     ensures few { length machine.now.program.statements ≤ most_lines }
     ensures position { FitsBytes 2 machine.now.position }
 {
-    machine.is_whole();
+    machine.law_whole();
     let program = machine.program();
-    program.is_within_limits();
+    program.law_within_limits();
     let _statements = program.len();
 }
 
-// A byte holds what is done of a collective, and how many values are gathered.
-fn few_parts(machine: &Machine<'_>)
+// A law, for proofs alone: a byte holds what is done of a collective, and how many values are gathered.
+fn law_few_parts(machine: &Machine<'_>)
     requires { machine.now.store.size ≤ most_ranks }
     ensures done { FitsBytes 1 machine.now.store.done }
     ensures gathered { FitsBytes 1 (length machine.now.store.gathered) }
 {
-    machine.is_whole();
+    machine.law_whole();
 }
 
 // An image, and the bytes behind it.

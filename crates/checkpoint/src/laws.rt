@@ -6,10 +6,10 @@ ghost use Rattle.checkpoint.specs.Legal.{IsImage};
 ghost use Rattle.checkpoint.specs.Spelling.{FitsBytes, spelling};
 ghost use Rattle.checkpoint.specs.Reading.{reading};
 
-/// Bytes that are read are the spelling of their image, which is one of this
-/// program, rank and number of ranks; each such image is read from its
-/// spelling; and cursors aren't in the bytes.
-pub fn images()
+/// A law, for proofs alone: bytes that are read are the spelling of their image,
+/// which is one of this program, rank and number of ranks; each such image is
+/// read from its spelling; and cursors aren't in the bytes.
+pub fn law_images()
     ensures read { (p : ProgramValue) (rank size : ℕ) → FitsBytes 1 rank → FitsBytes 1 size
         → (bytes : List ℕ) (i : ImageValue)
         → ((k : ℕ) → FitsBytes 1 (slice_index bytes k)) → reading p rank size bytes ≡ Ok i

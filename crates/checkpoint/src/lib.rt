@@ -16,6 +16,6 @@ mod writing;
 
 pub use fault::ImageFault;
 pub use image::{Image, decode, encode, encode_parts};
-pub use laws::images;
+pub use laws::law_images;
 pub use memory_shelf::MemoryShelf;
 pub use shelf::{Shelf, ShelfFault};

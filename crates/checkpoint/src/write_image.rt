@@ -88,7 +88,7 @@ fn put_lane(out: &mut Vec<u8, Heap>, l: &Kept) -> Result<(), AllocError>
     ensures spelled { OnOk result (out.new.items ≡ out.old.items ++ lane l.now) }
     ensures stored { OnOk result (IsStored l.now) }
 {
-    l.in_order();
+    l.law_in_order();
     put_u32(out, l.sent())?;
     put_u32(out, l.base())?;
     put_all_kept(out, l)

@@ -1,10 +1,8 @@
 //! Acts, and the runs that are made of them.
-ghost use Rattle.std.specs.Prelude.{◌≡◌, IfOk};
-ghost use Rattle.crash_free.specs.Seen.{act_of};
+ghost use Rattle.std.specs.Prelude.{◌≡◌};
 
 use matching::Context;
 use metered::Heap;
-use std::alloc::AllocError;
 use std::marker::Model;
 
 /// What a rank does that another can see.
@@ -32,37 +30,6 @@ pub enum Act {
     /// A probe that doesn't wait found none.
     Misses,
     Prints(i64),
-}
-
-impl Act {
-    /// The same act, in memory of its own.
-    pub fn copy(&self, alloc: Heap) -> Result<Act, AllocError>
-        ensures { IfOk result (λ copy. act_of copy ≡ act_of self.now) }
-    {
-        Ok(match self {
-            Act::Sends {
-                dest,
-                context,
-                tag,
-                items,
-            } => Act::Sends {
-                dest: *dest,
-                context: *context,
-                tag: *tag,
-                items: items.as_slice().to_vec(alloc)?,
-            },
-            Act::Takes { source, place } => Act::Takes {
-                source: *source,
-                place: *place,
-            },
-            Act::Hits { source, place } => Act::Hits {
-                source: *source,
-                place: *place,
-            },
-            Act::Misses => Act::Misses,
-            Act::Prints(value) => Act::Prints(*value),
-        })
-    }
 }
 
 /// An act of a run, with the rank that made it.
@@ -138,15 +105,5 @@ impl Passed {
             rank,
             act: Act::Prints(value),
         }
-    }
-
-    /// The same, in memory of its own.
-    pub fn copy(&self, alloc: Heap) -> Result<Passed, AllocError>
-        ensures { IfOk result (λ copy. copy ≡ self.now) }
-    {
-        Ok(Passed {
-            rank: self.rank,
-            act: self.act.copy(alloc)?,
-        })
     }
 }

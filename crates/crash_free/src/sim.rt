@@ -15,7 +15,7 @@ use crate::mail::Mail;
 use crate::not_allowed::NotAllowed;
 use metered::Heap;
 use rank_language::Program;
-use rank_machine::laws::asks_its_state;
+use rank_machine::laws::law_asks_its_state;
 use rank_machine::{Machine, Want};
 use std::alloc::AllocError;
 use std::marker::Model;
@@ -89,7 +89,7 @@ impl<'p> Sim<'p> {
         ensures legal { IsLegal (length self.now.machines) result }
     {
         let machine = &self.machines[usize::from(rank)];
-        asks_its_state(machine);
+        law_asks_its_state(machine);
         machine.wants()
     }
 

@@ -184,17 +184,17 @@ impl Inbox {
         &self.accepted
     }
 
-    /// There are no more packets than numbers for them: those of one source
-    /// have numbers of their own.
-    pub fn few_packets(&self)
+    /// A law, for proofs alone: there are no more packets than numbers for
+    /// them, since those of one source have numbers of their own.
+    pub fn law_few_packets(&self)
         ensures { length self.now.packets ≤ length self.now.accepted * (greatest_clock + 1) }
     {
         let _packets = &self.packets;
     }
 
-    /// Of one source the numbers rise along the inbox, and none is above the
-    /// number accepted.
-    pub fn numbers_rise(&self)
+    /// A law, for proofs alone: of one source the numbers rise along the inbox,
+    /// and none is above the number accepted.
+    pub fn law_numbers_rise(&self)
         ensures { IsMailbox self.now }
     {
         let _packets = &self.packets;

@@ -200,9 +200,9 @@ impl Kept {
         self.base
     }
 
-    /// What is kept is by number, from the base to the last one sent, and what
-    /// is held goes on from there.
-    pub fn in_order(&self)
+    /// A law, for proofs alone: what is kept is by number, from the base to the
+    /// last one sent, and what is held goes on from there.
+    pub fn law_in_order(&self)
         ensures { IsBacklog self.now }
     {
         let _base = self.base;

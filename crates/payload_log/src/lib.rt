@@ -6,5 +6,5 @@ mod laws;
 mod payload_log;
 
 pub use backlog::Kept;
-pub use laws::keeps;
+pub use laws::law_keeps;
 pub use payload_log::PayloadLog;

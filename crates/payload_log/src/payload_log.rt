@@ -172,14 +172,14 @@ impl PayloadLog {
         kept.base()
     }
 
-    /// What is kept for a destination is by number, from the one after the base
-    /// to the last one sent, the cursor stands among them or just behind, and
-    /// what is held goes on from the last one sent.
-    pub fn in_order(&self, dest: usize)
+    /// A law, for proofs alone: what is kept for a destination is by number,
+    /// from the one after the base to the last one sent, the cursor stands among
+    /// them or just behind, and what is held goes on from the last one sent.
+    pub fn law_in_order(&self, dest: usize)
         requires { dest < length self.now }
         ensures { IsBacklog (backlog self.now dest) }
     {
         let kept = &self.kept[dest];
-        kept.in_order();
+        kept.law_in_order();
     }
 }

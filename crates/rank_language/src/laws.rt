@@ -11,28 +11,28 @@ ghost use Rattle.rank_language.specs.Program.{ProgramValue, tree_of};
 
 use crate::program::Program;
 
-/// At position 0 the whole program remains.
+/// A law, for proofs alone: at position 0 the whole program remains.
 #[tactic(auto, using(crate::proofs::Places::begins_there))]
-pub fn begins_there(program: &Program)
+pub fn law_begins_there(program: &Program)
     ensures { remaining (tree_of program.now) 0 ≡ tree_of program.now }
 {}
 
-/// Behind the last statement nothing remains.
+/// A law, for proofs alone: behind the last statement nothing remains.
 #[tactic(auto, using(crate::proofs::Places::ends_there))]
-pub fn ends_there(program: &Program)
+pub fn law_ends_there(program: &Program)
     ensures { remaining (tree_of program.now) (size (tree_of program.now)) ≡ done }
 {}
 
-/// A statement resolves, by the tables that it leaves, exactly where each name in it is declared in the sort that is
-/// used there.
+/// A law, for proofs alone: a statement resolves, by the tables that it leaves, exactly where each name in it is
+/// declared in the sort that is used there.
 #[tactic(auto, using(crate::proofs::Declared::undeclared_unresolved))]
-pub fn resolved_where_declared()
+pub fn law_resolved_where_declared()
     ensures { (s : Scope) (f : Form)
         → (form_resolved (after s f) f ≡ None) ↔ (declared_in s f ≡ false) }
 {}
 
-/// A text has one program at the most, and none where it has a fault.
-pub fn one_program()
+/// A law, for proofs alone: a text has one program at the most, and none where it has a fault.
+pub fn law_one_program()
     ensures one { (text : List ℕ) (p q : ProgramValue)
         → IsProgramOf text p → IsProgramOf text q → p ≡ q }
     ensures no_fault { (text : List ℕ) (p : ProgramValue) (line : ℕ) (kind : FaultKind)

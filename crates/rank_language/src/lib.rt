@@ -12,6 +12,8 @@ pub mod statement;
 
 pub use expression::Expression;
 pub use program::Program;
-pub use rank_lines::{Array, FaultKind, ParseFault, ProgramFault, one_reading, program_or_fault};
+pub use rank_lines::{
+    Array, FaultKind, ParseFault, ProgramFault, law_one_reading, law_program_or_fault,
+};
 pub use rank_text::{Name, Operator, Reading, Reduction};
 pub use statement::{Buffer, Choice, Collective, Payload, Statement};

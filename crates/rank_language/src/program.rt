@@ -125,9 +125,9 @@ impl Program {
         &self.arrays
     }
 
-    /// It has no more statements, variables and arrays than a text may declare
-    /// (`metered::limits`).
-    pub fn is_within_limits(&self)
+    /// A law, for proofs alone: it has no more statements, variables and arrays
+    /// than a text may declare (`metered::limits`).
+    pub fn law_within_limits(&self)
         ensures lines { length self.now.statements ≤ most_lines }
         ensures variables { length self.now.variables ≤ most_variables }
         ensures arrays { length self.now.arrays ≤ most_arrays }

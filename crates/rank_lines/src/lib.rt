@@ -15,5 +15,5 @@ mod survey;
 
 pub use draft::{Draft, read};
 pub use fault::{FaultKind, ParseFault, ProgramFault};
-pub use laws::{one_reading, program_or_fault};
+pub use laws::{law_one_reading, law_program_or_fault};
 pub use scope::Array;

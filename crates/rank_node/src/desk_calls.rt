@@ -103,7 +103,7 @@ impl<S: Shelf> Down<S, Desk> {
         ensures err { OnErr result (self.new ≡ self.old) }
         ensures desk { IsSameDesk self.old.desk self.new.desk }
     {
-        self.stable.desk.row_is_short();
+        self.stable.desk.law_row_is_short();
         match logger.fetch(alloc, &mut self.stable.desk, 0) {
             Ok(row) => Ok(row),
             Err(_) => Err(NodeFault::Memory),

@@ -72,7 +72,7 @@ impl<'p, S: Shelf, D> Running<'p, S, D> {
         ensures err { OnErr result (self.new ≡ self.old) }
     {
         self.event_room()?;
-        self.inbox.numbers_rise();
+        self.inbox.law_numbers_rise();
         let packet = self.inbox.get(index);
         let event = naming(Kind::Hit, packet, self.clock + 1);
         self.pending.push_event(event)?;

@@ -158,7 +158,7 @@ impl<'p, S: Shelf, D> Running<'p, S, D> {
             return Ok(Turn::Blocked);
         };
         self.event_room()?;
-        self.inbox.numbers_rise();
+        self.inbox.law_numbers_rise();
         let event = naming(Kind::Reception, self.inbox.get(index), self.clock + 1);
         self.pending.push_event(event)?;
         let packet = self.inbox.take(index);

@@ -3,7 +3,7 @@
 //! [`print`] writes statements as text: one on each line, indented by the blocks that are
 //! open, with a space where the canonical text has one and with no parentheses but those
 //! round an operand that is itself an operation. What it writes of a whole program is a
-//! text of the same statements ([`reads_back`]).
+//! text of the same statements ([`law_reads_back`]).
 #![tactic(auto)]
 
 mod expression;
@@ -11,5 +11,5 @@ pub mod laws;
 mod program;
 mod statement;
 
-pub use laws::{reads_back, settles};
+pub use laws::{law_reads_back, law_settles};
 pub use program::print;

@@ -378,7 +378,7 @@ pub fn form(alloc: Heap, tokens: &[Token]) -> Result<Option<Form>, AllocError>
     form_read(alloc, tokens)
 }
 
-/// No tokens have two forms.
-pub fn one_form()
+/// A law, for proofs alone: no tokens have two forms.
+pub fn law_one_form()
     ensures { (ts : List Token) (f g : forms.Form) → IsForm ts f → IsForm ts g → f ≡ g }
 {}

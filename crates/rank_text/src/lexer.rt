@@ -209,7 +209,7 @@ pub fn tokens(alloc: Heap, line: &[u8]) -> Result<Option<Vec<Token, Heap>>, Allo
     tokens_read(alloc, line)
 }
 
-/// No line has two lists of tokens.
-pub fn one_lexing()
+/// A law, for proofs alone: no line has two lists of tokens.
+pub fn law_one_lexing()
     ensures { (line : List ℕ) (ts us : List token.Token) → Lexes line ts → Lexes line us → ts ≡ us }
 {}

@@ -15,9 +15,9 @@ pub mod words;
 pub mod written;
 
 pub use form::{Choice, Form, Payload};
-pub use forms::one_form;
-pub use lexer::{one_lexing, tokens};
+pub use forms::law_one_form;
+pub use lexer::{law_one_lexing, tokens};
 pub use name::Name;
-pub use reader::{expression, expression_at, one_expression};
+pub use reader::{expression, expression_at, law_one_expression};
 pub use token::{Keyword, Operator, Reading, Reduction, Token};
 pub use written::Written;

@@ -392,7 +392,7 @@ pub fn expression(alloc: Heap, tokens: &[Token]) -> Result<Option<Written>, Allo
     whole_expression(alloc, tokens)
 }
 
-/// No tokens spell two expressions.
-pub fn one_expression()
+/// A law, for proofs alone: no tokens spell two expressions.
+pub fn law_one_expression()
     ensures { (ts : List Token) (a b : Tree) → Spells whole ts a → Spells whole ts b → a ≡ b }
 {}

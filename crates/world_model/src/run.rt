@@ -1,7 +1,7 @@
 //! The run that a world keeps.
 //!
 //! An index answers what would else need a walk of the run.
-ghost use Rattle.std.specs.Prelude.{◌≡◌, ℕ, ◌<◌, [], ◌∷◌, length, drop, replicate, reverse, Some, IfSome, IfNone, IfOk, OnOk, OnErr};
+ghost use Rattle.std.specs.Prelude.{◌≡◌, ℕ, ◌<◌, [], ◌∷◌, length, drop, replicate, Some, IfSome, IfNone, IfOk, OnOk, OnErr};
 ghost use Rattle.crash_free.specs.Runs.{history};
 ghost use Rattle.world_model.specs.RunIndex.{clock_at, none_made};
 
@@ -47,13 +47,6 @@ impl Run {
             acts: Vec::new(alloc),
             index: index_of_none(alloc, ranks)?,
         })
-    }
-
-    /// The acts, the oldest first.
-    pub fn acts(&self) -> &[Passed]
-        ensures { result.now ≡ reverse self.now.acts }
-    {
-        self.acts.as_slice()
     }
 
     /// How many acts a rank made.

@@ -13,7 +13,9 @@ use crate::sim::Sim;
 use matching::{Context, Packet, Selector};
 use metered::Heap;
 use rank_machine::Want;
-use rank_machine::laws::{asks_its_state, makes_its_miss, makes_its_print, makes_its_send};
+use rank_machine::laws::{
+    law_asks_its_state, law_makes_its_miss, law_makes_its_print, law_makes_its_send,
+};
 use std::alloc::AllocError;
 
 impl Sim<'_> {
@@ -34,7 +36,7 @@ impl Sim<'_> {
     {
         let machine = &mut self.machines[usize::from(rank)];
         let made = machine.advance(most);
-        asks_its_state(machine);
+        law_asks_its_state(machine);
         made
     }
 
@@ -46,7 +48,7 @@ impl Sim<'_> {
     {
         self.passed.reserve(1)?;
         let machine = &mut self.machines[usize::from(rank)];
-        makes_its_print(machine);
+        law_makes_its_print(machine);
         machine.did_print();
         self.passed.push_reserved(Passed::prints(rank, value));
         Ok(())
@@ -71,7 +73,7 @@ impl Sim<'_> {
         // the run keeps the items for good, the packet until it is taken
         let packet = packet(self.alloc, rank, context, tag, items.as_slice())?;
         self.mail.post(rank, dest, packet)?;
-        makes_its_send(machine);
+        law_makes_its_send(machine);
         machine.did_send();
         let act = Passed::sends(rank, dest, context, tag, items);
         self.passed.push_reserved(act);
@@ -142,7 +144,7 @@ impl Sim<'_> {
     {
         self.passed.reserve(1)?;
         let machine = &mut self.machines[usize::from(rank)];
-        makes_its_miss(machine);
+        law_makes_its_miss(machine);
         machine.miss();
         self.passed.push_reserved(Passed::misses(rank));
         Ok(())

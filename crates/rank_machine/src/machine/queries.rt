@@ -89,9 +89,9 @@ impl<'p> Machine<'p> {
         self.store.arrays()
     }
 
-    /// Position, status, fault and number of collectives are within their limits, its arrays are as long as its program
-    /// says, and it is within the collective that stands.
-    pub fn is_whole(&self)
+    /// A law, for proofs alone: position, status, fault and number of collectives are within their limits, its arrays are
+    /// as long as its program says, and it is within the collective that stands.
+    pub fn law_whole(&self)
         ensures { IsMachine self.now }
     {
         let _position = self.position;

@@ -88,7 +88,7 @@ impl<'p, S: Shelf, D> Running<'p, S, D> {
         ensures machine { IsShownFound (at_index self.old.inbox.packets index) self.old.machine self.new.machine }
         ensures stays { self.new ≡ after_print self.old self.new.machine }
     {
-        self.inbox.numbers_rise();
+        self.inbox.law_numbers_rise();
         let packet = self.inbox.get(index);
         self.machine.show(packet);
         self.clock += 1;

@@ -37,7 +37,7 @@ impl<'p, S: Shelf, D> Running<'p, S, D> {
         let Some(index) = self.find_fitting(selector, event)? else {
             return Ok(Turn::Blocked);
         };
-        self.inbox.numbers_rise();
+        self.inbox.law_numbers_rise();
         let packet = self.inbox.take(index);
         self.machine.give(packet);
         self.clock += 1;

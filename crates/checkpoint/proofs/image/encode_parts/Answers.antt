@@ -16,13 +16,13 @@ pub returns-clause-reads : goal.returns-clause-reads
 returns-clause-reads c =
     let m = c.args.machine.now in
     let i : ImageValue = record { machine = m; clock = c.args.clock; inbox = c.args.inbox.now; log = c.args.log.now } in
-    let whole = c.within_program.ensures in
+    let whole = c.law_within_program.ensures in
     let written = c.in_ok-put_machine.ensures in
-    let table = subst IsTable c.program-program.ensures c.within_table.ensures in
+    let table = subst IsTable c.program-program.ensures c.law_within_table.ensures in
     let saved = machine_is m whole.machine whole.lines whole.few c.requires.ranks written.gathered written.variables
     written.arrays in
     let stored = subst (All IsStored) c.destinations.ensures c.in_ok-put_lanes.ensures.stored in
-    let is = image_is i c.requires whole.machine table saved c.numbers_rise.ensures c.few_packets.ensures c.in_ok-put_inbox.ensures.packets
+    let is = image_is i c.requires whole.machine table saved c.law_numbers_rise.ensures c.law_few_packets.ensures c.in_ok-put_inbox.ensures.packets
     stored in
     ap (reading m.program m.store.rank m.store.size) (returns-clause-spelled c ∙ sym (spelled_at_rest i))
     ∙ spelled_is_read m.program m.store.rank m.store.size (at_rest i) is

@@ -1,5 +1,0 @@
-use Rattle.rank_machine.proofs.Determined.{inner_wants}
-use Rattle.rank_machine.proofs.laws.inner_is_internal.Goals as goal
-
-pub returns : goal.returns
-returns c = inner_wants
