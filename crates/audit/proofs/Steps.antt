@@ -49,7 +49,7 @@ allowed_did s s' r c w asks allows = go (slice_get s.machines r) (slice_get s'.m
     go (Some m) None a d = absurd d
     go (Some m) (Some m') a d =
         let items = payload (state_of m) in
-        (items, did (meaning w items c) s s' r m m' (subst (λ z. Does (meaning z items c) s r m m' s') a.asked d))
+        (items, did (meaning w items c) s s' r m m' (subst (λ z. Does (meaning z items c) s r m m' s') a.at_want d))
 
 -- a step that leaves the run
 goes_same : (s s' : SimValue) (traces : List TraceValue) → Keeps s traces → s'.program ≡ s.program → s'.run ≡ s.run

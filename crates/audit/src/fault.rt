@@ -1,6 +1,6 @@
 //! Why an outcome isn't confirmed.
 ghost use Rattle.std.specs.Prelude.{◌≡◌};
-ghost use Rattle.audit.specs.Fault.{number_of_audit_fault};
+ghost use Rattle.audit.specs.Fault.{fault_number};
 ghost use Rattle.audit.specs.declared.fault.AuditFault.TheVariants.{Memory};
 
 use std::alloc::{AllocError, AllocFailed};
@@ -33,7 +33,7 @@ pub enum AuditFault {
 impl AuditFault {
     /// The number of the fault, 1 to 6.
     pub fn number(self) -> u8
-        ensures { result ≡ number_of_audit_fault self }
+        ensures { result ≡ fault_number self }
     {
         match self {
             AuditFault::RowLeft => 1,

@@ -15,7 +15,7 @@ use Rattle.matching.specs.Inbox.{Mailbox, IsMailbox, WasAccepted, RisesTo, is_be
 use Rattle.payload_log.specs.Backlog.{Backlog}
 use Rattle.payload_log.specs.Sender.{WasBefore, IsSentBy}
 use Rattle.rank_language.specs.Block.{size}
-use Rattle.rank_language.specs.Program.{ProgramValue, tree_of, AllSized}
+use Rattle.rank_language.specs.Program.{ProgramValue, block_of, AllSized}
 use Rattle.rank_machine.specs.Machine.{MachineValue, IsMachine}
 use Rattle.checkpoint.specs.Image.{ImageValue, call_of, lengths_of, rewound, at_rest}
 use Rattle.checkpoint.specs.Savable.{IsSavable}
@@ -211,7 +211,7 @@ array_row lengths before (zs ∷ arrays) same each =
     )
 
 -- a machine is legal
-pub machine_is : (m : MachineValue) → IsMachine m → size (tree_of m.program) ≡ length m.program.statements
+pub machine_is : (m : MachineValue) → IsMachine m → size (block_of m.program) ≡ length m.program.statements
     → length m.program.statements ≤ most_lines
     → m.store.size ≤ most_ranks → All (FitsSigned w64) m.store.gathered → All (FitsSigned w64) m.store.variables
     → All (All (FitsSigned w64)) m.store.arrays → IsSaved m.program m.store.rank m.store.size m

@@ -2,7 +2,7 @@
 ghost use Rattle.std.specs.Prelude.{◌≡◌, ◌<◌, ◌≤◌, length, Ok, IfOk};
 ghost use Rattle.metered.specs.Limits.{most_ranks, most_lines};
 ghost use Rattle.rank_language.specs.Block.{size};
-ghost use Rattle.rank_language.specs.Program.{tree_of};
+ghost use Rattle.rank_language.specs.Program.{block_of};
 ghost use Rattle.rank_machine.specs.Machine.{IsMachine};
 ghost use Rattle.checkpoint.specs.Image.{at_rest};
 ghost use Rattle.checkpoint.specs.Savable.{IsSavable};
@@ -104,7 +104,7 @@ fn law_within_table(program: &Program)
 // A law, for proofs alone: a machine stands within its program, whose statements are few.
 fn law_within_program(machine: &Machine<'_>)
     ensures machine { IsMachine machine.now }
-    ensures lines { size (tree_of machine.now.program) ≡ length machine.now.program.statements }
+    ensures lines { size (block_of machine.now.program) ≡ length machine.now.program.statements }
     ensures few { length machine.now.program.statements ≤ most_lines }
     ensures position { FitsBytes 2 machine.now.position }
 {

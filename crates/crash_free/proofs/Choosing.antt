@@ -26,8 +26,8 @@ pub wants_it : (m : MachineValue) (w : Want) → Asks m w → (want.Internal ≡
 wants_it m w a no_step = go a.from_state
   where
     go : (asks m ≡ want.Internal) ⊎ (asks m ≡ wants (state_of m)) → wants (state_of m) ≡ w
-    go (inl e) = absurd (no_step (sym e ∙ a.asked))
-    go (inr e) = sym e ∙ a.asked
+    go (inl e) = absurd (no_step (sym e ∙ a.at_want))
+    go (inr e) = sym e ∙ a.at_want
 
 -- the simulation of these parts
 abbrev pub value_of : ProgramValue → List MachineValue → List Passed → SimValue
@@ -44,7 +44,7 @@ pub allowed_step : (program : ProgramValue) (machines : List MachineValue) (C : 
     → Allows (value_of program machines C) r choice.Next (value_of program (slice_set machines r m') C)
 allowed_step program machines C r m m' there a goes =
     allows_at (value_of program machines C) (value_of program (slice_set machines r m') C) r m m' choice.Next there
-    (set_there machines r m' (slice_get_within machines r m there)) (rw a.asked (goes, refl))
+    (set_there machines r m' (slice_get_within machines r m there)) (rw a.at_want (goes, refl))
 
 -- an act that a choice names is allowed where it is free
 pub allowed_act : (program : ProgramValue) (machines : List MachineValue) (C : List Passed) (r : ℕ) (m m' : MachineValue) (c : Choice) (act : Act)
@@ -70,13 +70,13 @@ done_print program machines lanes C r m m' v kept there a made state position st
     let after : IsAfter m (prints v) None m' = record { state = state; position = position; stays = stays } in
     let free : IsFree (wants (state_of m)) (prints v) (inbound_of C r) (history C r) = tt in
     record {
-      allowed = allowed_act program machines C r m m' choice.Next (prints v) there (rw a.asked refl) free after;
+      allowed = allowed_act program machines C r m m' choice.Next (prints v) there (rw a.at_want refl) free after;
       kept = kept_act program machines lanes lanes C r m m' (prints v) kept there made free after (mail_print (length machines) lanes C r v kept.mail);
     }
 
 -- a machine that asks for a probe that doesn't wait may miss
 pub may_miss : (m : MachineValue) (w : Selector) → Asks m (want.TryProbe w) → IsTrying (asks m)
-may_miss m w a = rw a.asked tt
+may_miss m w a = rw a.at_want tt
 
 -- a miss is made
 pub done_miss : (program : ProgramValue) (machines : List MachineValue) (lanes : List (List Slot)) (C : List Passed) (r : ℕ) (m m' : MachineValue)
@@ -88,7 +88,7 @@ done_miss program machines lanes C r m m' w kept there a made state position sta
     let after : IsAfter m misses None m' = record { state = state; position = position; stays = stays } in
     let free : IsFree (wants (state_of m)) misses (inbound_of C r) (history C r) = tt in
     record {
-      allowed = allowed_act program machines C r m m' choice.Miss misses there (rw a.asked refl) free after;
+      allowed = allowed_act program machines C r m m' choice.Miss misses there (rw a.at_want refl) free after;
       kept = kept_act program machines lanes lanes C r m m' misses kept there made free after (mail_miss (length machines) lanes C r kept.mail);
     }
 
@@ -104,7 +104,7 @@ done_send program machines lanes C r m m' dest context tag kept there a receiver
     let after : IsAfter m act None m' = record { state = state; position = position; stays = stays } in
     let free : IsFree (wants (state_of m)) act (inbound_of C r) (history C r) = tt in
     record {
-      allowed = allowed_act program machines C r m m' choice.Next act there (rw a.asked refl) free after;
+      allowed = allowed_act program machines C r m m' choice.Next act there (rw a.at_want refl) free after;
       kept = kept_act program machines lanes _ C r m m' act kept there made free after
           (mail_send (start_of program (length machines)) (length machines) lanes C r dest context tag (payload (state_of m)) kept.simulates.is_run
           kept.mail kept.few

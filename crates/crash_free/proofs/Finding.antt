@@ -159,7 +159,7 @@ found_there program machines lanes C r s i w kept rank source found =
 
 -- for a machine that looks for it, the choice of a message means its act
 means_it : (m : MachineValue) (v : Want) (w : Selector) (act : ℕ → ℕ → Act) (s j : ℕ) → Seeks v w act → Asks m v → meant m (choice.Take s j) ≡ makes (act s j)
-means_it m v w act s j k a = ap (λ u. meaning u (payload (state_of m)) (choice.Take s j)) a.asked ∙ k.means (payload (state_of m)) s j
+means_it m v w act s j k a = ap (λ u. meaning u (payload (state_of m)) (choice.Take s j)) a.at_want ∙ k.means (payload (state_of m)) s j
 
 -- the act that is made of the message that was found
 done_first : (program : ProgramValue) (machines : List MachineValue) (lanes lanes' : List (List Slot)) (C : List Passed) (r s i : ℕ) (m m' : MachineValue)
@@ -343,7 +343,7 @@ source_there now program machines lanes C r source index s i m v w p known found
 
 -- a machine that asks to receive may be given it
 pub may_give : (m : MachineValue) (w : Selector) (p : packet.Message) → Asks m (want.Receive w) → matches w p ≡ true → IsReceiving (asks m) p
-may_give m w p a names = rw a.asked names
+may_give m w p a names = rw a.at_want names
 
 -- What a call knows of a rank that asks for a probe, whether it waits or not.
 pub record Probes (machines : List MachineValue) (r : ℕ) (w : Selector) : Type 0 where
@@ -359,7 +359,7 @@ probes_there machines r w (inr a) = record { want = want.TryProbe w; seeks = try
 
 -- a machine that asks for a probe may be shown it
 pub may_show : (m : MachineValue) (v : Want) (p : packet.Message) → Asks m v → IsShowing v p → IsShowing (asks m) p
-may_show m v p a shows = subst (λ u. IsShowing u p) (sym a.asked) shows
+may_show m v p a shows = subst (λ u. IsShowing u p) (sym a.at_want) shows
 
 -- the act is made of the message that was found, for the source and the index that the call was given
 done_found : (program : ProgramValue) (machines : List MachineValue) (lanes lanes' : List (List Slot)) (C : List Passed) (r source index s i : ℕ)

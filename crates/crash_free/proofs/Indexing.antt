@@ -7,7 +7,7 @@ use Rattle.std.proofs.lemmas.List.{length-set, length_push}
 use Rattle.std.proofs.lemmas.Option.{slice_get_within, slice_get_read}
 use Rattle.matching.specs.Message as packet
 use Rattle.crash_free.specs.Slots.{Slot}
-use Rattle.crash_free.specs.Index.{IndexValue, number_of, AreThere, IsListed, IsListedTwice, IsRising, IsIndex}
+use Rattle.crash_free.specs.Index.{IndexValue, queue_number, AreThere, IsListed, IsListedTwice, IsRising, IsIndex}
 use Rattle.crash_free.specs.Index.{ListsMore}
 use Rattle.crash_free.proofs.Lists.{push_cases}
 use Rattle.crash_free.proofs.Keeping.{set_cases, set_there, set_apart}
@@ -93,5 +93,5 @@ still_listed i q before after kind place there has l = go (cases_eq l.queue q)
 
 -- the queue that a call reads is there
 pub queue_read : (kinds : List (ℕ × ℕ)) (queues : List (List ℕ)) (q kind : ℕ) (before : List ℕ) → AreThere (record { kinds = kinds; queues = queues })
-    → number_of (record { kinds = kinds; queues = queues }) kind ≡ Some q → before ≡ get_or queues q before → slice_get queues q ≡ Some before
+    → queue_number (record { kinds = kinds; queues = queues }) kind ≡ Some q → before ≡ get_or queues q before → slice_get queues q ≡ Some before
 queue_read kinds queues q kind before there number read = slice_get_read queues (length queues) q before refl (there kind q number) read

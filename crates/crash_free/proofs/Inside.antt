@@ -30,4 +30,4 @@ goes_inside program machines C r n m m' there strides =
 pub stands_at : (machines : List MachineValue) (r : ℕ) (m m' : MachineValue) → slice_get machines r ≡ Some m
     → (asks m' ≡ want.Internal) ⊎ (asks m' ≡ wants (state_of m')) → asks m' ≢ want.Internal → StandsAtAct (slice_set machines r m') r
 stands_at machines r m m' there from apart =
-    (asks m', rw (set_there machines r m' (slice_get_within machines r m there)) (record { asked = refl; from_state = from }), apart)
+    (asks m', rw (set_there machines r m' (slice_get_within machines r m there)) (record { at_want = refl; from_state = from }), apart)

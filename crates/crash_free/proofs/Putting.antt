@@ -11,7 +11,7 @@ use Rattle.std.proofs.lemmas.Bool.{ne_eqb, cases_eq}
 use Rattle.std.proofs.lemmas.List.{length_push}
 use Rattle.std.proofs.lemmas.Option.{slice_get_within}
 use Rattle.crash_free.specs.Slots.{Slot}
-use Rattle.crash_free.specs.Index.{IndexValue, number_of, AreThere, IsListed, IsRising, IsIndex}
+use Rattle.crash_free.specs.Index.{IndexValue, queue_number, AreThere, IsListed, IsRising, IsIndex}
 use Rattle.crash_free.specs.Index.{HasQueues, ListsMore}
 use Rattle.crash_free.proofs.Lists.{slice_get-append, push_cases}
 use Rattle.crash_free.proofs.Keeping.{set_cases, set_there}
@@ -119,7 +119,7 @@ at_end [] x = refl
 at_end (y ∷ xs) x = at_end xs x
 
 -- and a place that was put is listed
-pub put_listed : (mid : IndexValue) (q kind place : ℕ) (before after : List ℕ) → number_of mid kind ≡ Some q → slice_get mid.queues q ≡ Some before
+pub put_listed : (mid : IndexValue) (q kind place : ℕ) (before after : List ℕ) → queue_number mid kind ≡ Some q → slice_get mid.queues q ≡ Some before
     → after ≡ before ++ place ∷ [] → IsListed (with_queue mid q after) kind place
 put_listed mid q kind place before after number there e =
     record {
@@ -139,7 +139,7 @@ pub record IsPutIn (i : IndexValue) (kind place : ℕ) (i' : IndexValue) {E : Ty
 -- a place is put in the queue of a kind
 pub put_in : {E : Type 0} (i now : IndexValue) (kinds : List (ℕ × ℕ)) (queues : List (List ℕ)) (q kind place : ℕ) (before after : List ℕ)
     (result : Result (Unit {0}) E) → record { kinds = kinds; queues = queues } ≡ now → AreThere (record { kinds = kinds; queues = queues })
-    → HasQueues i now → number_of now kind ≡ Some q → before ≡ get_or queues q before
+    → HasQueues i now → queue_number now kind ≡ Some q → before ≡ get_or queues q before
     → OnOk result (after ≡ before ++ place ∷ []) → OnErr result (after ≡ before)
     → IsPutIn i kind place (record { kinds = kinds; queues = slice_set queues q after }) result
 put_in {E = E} i now kinds queues q kind place before after result seen there has number read ok err =
@@ -151,8 +151,8 @@ put_in {E = E} i now kinds queues q kind place before after result seen there ha
     mine : HasQueues i mid
     mine = subst (HasQueues i) (sym seen) has
 
-    own : number_of mid kind ≡ Some q
-    own = subst (λ (m : IndexValue). number_of m kind ≡ Some q) (sym seen) number
+    own : queue_number mid kind ≡ Some q
+    own = subst (λ (m : IndexValue). queue_number m kind ≡ Some q) (sym seen) number
 
     slot : slice_get queues q ≡ Some before
     slot = queue_read kinds queues q kind before there own read

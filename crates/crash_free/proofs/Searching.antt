@@ -10,7 +10,7 @@ use Rattle.matching.specs.Message as packet
 use Rattle.matching.specs.Matching.{matches, same_context, allows}
 use Rattle.matching.specs.declared.selector.Selector.{Selector}
 use Rattle.crash_free.specs.Slots.{Slot, passes}
-use Rattle.crash_free.specs.Index.{IndexValue, kind_of, passes_at, number_of, queue_of, IsListed, IsListedTwice, IsRising, IsIndex}
+use Rattle.crash_free.specs.Index.{IndexValue, kind_of, passes_at, queue_number, queue_of, IsListed, IsListedTwice, IsRising, IsIndex}
 use Rattle.crash_free.proofs.SlotLemmas.{both, same_contexts, is_position, no_position}
 
 -- what a place of a list holds is one thing
@@ -87,7 +87,7 @@ none_passes p xs d none (suc n) within k low = at_last (none_passes p xs d none 
 
 -- the number of a queue that is there
 numbered : (i : IndexValue) (kind : ℕ) (places : List ℕ) → queue_of i kind ≡ Some places → (n : ℕ) × (slice_get i.queues n ≡ Some places)
-numbered i kind places e = go (number_of i kind) e
+numbered i kind places e = go (queue_number i kind) e
   where
     go : (o : Option ℕ) → option_and_then (slice_get i.queues) o ≡ Some places → (n : ℕ) × (slice_get i.queues n ≡ Some places)
     go None e = absurd (never e)

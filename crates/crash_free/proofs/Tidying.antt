@@ -5,7 +5,7 @@ use Rattle.std.specs.Prelude.{slice_set, option_to_list}
 use Rattle.std.proofs.lemmas.Option.{get_or_from_slice_get}
 use Rattle.matching.specs.Message as packet
 use Rattle.crash_free.specs.Slots.{Slot}
-use Rattle.crash_free.specs.Index.{IndexValue, number_of, AreThere, IsListed, IsRising, IsIndex, LosesEmpty, IsFrontEmpty}
+use Rattle.crash_free.specs.Index.{IndexValue, queue_number, AreThere, IsListed, IsRising, IsIndex, LosesEmpty, IsFrontEmpty}
 use Rattle.crash_free.proofs.Lists.{push_cases}
 use Rattle.crash_free.proofs.Keeping.{set_cases}
 use Rattle.crash_free.proofs.Indexing.{full, with_queue, still_listed, queue_read}
@@ -53,7 +53,7 @@ tidied i slots q before after index there loses =
 -- a queue that a call reads is tidied
 pub tidied_at : (now : IndexValue) (kinds : List (ℕ × ℕ)) (queues : List (List ℕ)) (slots : List Slot) (q kind : ℕ) (before after : List ℕ)
     → record { kinds = kinds; queues = queues } ≡ now → AreThere (record { kinds = kinds; queues = queues }) → IsIndex now slots
-    → number_of (record { kinds = kinds; queues = queues }) kind ≡ Some q → before ≡ get_or queues q before → LosesEmpty slots before after
+    → queue_number (record { kinds = kinds; queues = queues }) kind ≡ Some q → before ≡ get_or queues q before → LosesEmpty slots before after
     → IsIndex (record { kinds = kinds; queues = slice_set queues q after }) slots
 tidied_at now kinds queues slots q kind before after seen there index number read loses =
     tidied (record { kinds = kinds; queues = queues }) slots q before after (subst (λ i. IsIndex i slots) (sym seen) index)

@@ -28,23 +28,23 @@ pub record IndexValue : Type 0 where
   pub queues : List (List ℕ)
 
 -- which queue is that of a kind, if a message of it was met
-abbrev pub number_of : IndexValue → ℕ → Option ℕ
-number_of i kind = lookup (is_at (nat_cmp kind)) i.kinds
+abbrev pub queue_number : IndexValue → ℕ → Option ℕ
+queue_number i kind = lookup (is_at (nat_cmp kind)) i.kinds
 
 -- the queue of a kind
 abbrev pub queue_of : IndexValue → ℕ → Option (List ℕ)
-queue_of i kind = option_and_then (slice_get i.queues) (number_of i kind)
+queue_of i kind = option_and_then (slice_get i.queues) (queue_number i kind)
 
 -- each kind's queue is there
 abbrev pub AreThere : IndexValue → Type 0
-AreThere i = (kind q : ℕ) → number_of i kind ≡ Some q → q < length i.queues
+AreThere i = (kind q : ℕ) → queue_number i kind ≡ Some q → q < length i.queues
 
 -- the place is in the queue of this kind
 pub record IsListed (i : IndexValue) (kind place : ℕ) : Type 0 where
   pub queue : ℕ
   pub places : List ℕ
   pub index : ℕ
-  pub number : number_of i kind ≡ Some queue
+  pub number : queue_number i kind ≡ Some queue
   pub there : slice_get i.queues queue ≡ Some places
   pub at : slice_get places index ≡ Some place
 
@@ -74,7 +74,7 @@ IsFrontEmpty slots places = IsSomeAnd (slice_get places 0) (λ place. slice_inde
 
 -- the second index has the queues of the first under their kinds, and perhaps an empty one
 pub record HasQueues (i i' : IndexValue) : Type 0 where
-  pub numbers : (kind q : ℕ) → number_of i kind ≡ Some q → number_of i' kind ≡ Some q
+  pub numbers : (kind q : ℕ) → queue_number i kind ≡ Some q → queue_number i' kind ≡ Some q
   pub queues : (i'.queues ≡ i.queues) ⊎ (i'.queues ≡ i.queues ++ [] ∷ [])
 
 -- what is listed in the first index is in the second, and what is an index of slots before a place stays one

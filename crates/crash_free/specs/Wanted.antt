@@ -8,7 +8,7 @@ use Rattle.rank_machine.specs.Machine.{MachineValue, state_of, asks}
 
 -- a machine asks for this, which is to go on or what its state wants
 pub record Asks (m : MachineValue) (w : Want) : Type 0 where
-  pub asked : asks m ≡ w
+  pub at_want : asks m ≡ w
   pub from_state : (asks m ≡ want.Internal) ⊎ (asks m ≡ wants (state_of m))
 
 -- the machine of a rank asks for this

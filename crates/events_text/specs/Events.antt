@@ -13,12 +13,12 @@ use Rattle.text_lines.specs.Numbers.{decimal_of}
 use Rattle.text_lines.specs.Skipped.{is_skipped}
 
 -- a number has 1 to 9 decimal digits
-abbrev pub number_of : List ℕ → Option ℕ
-number_of word = if nat_lt 9 (length word) then None else decimal_of word
+abbrev pub number_in : List ℕ → Option ℕ
+number_in word = if nat_lt 9 (length word) then None else decimal_of word
 
 -- the words are one number
 abbrev pub one_number : List (List ℕ) → Option ℕ
-one_number (w ∷ []) = number_of w
+one_number (w ∷ []) = number_in w
 one_number _ = None
 
 -- both are there
@@ -29,12 +29,12 @@ both _ _ = None
 -- the words are two numbers
 abbrev pub two_numbers : List (List ℕ) → Option (ℕ × ℕ)
 two_numbers [] = None
-two_numbers (w ∷ ws) = both (number_of w) (one_number ws)
+two_numbers (w ∷ ws) = both (number_in w) (one_number ws)
 
 -- the words are three numbers
 abbrev pub three_numbers : List (List ℕ) → Option (ℕ × (ℕ × ℕ))
 three_numbers [] = None
-three_numbers (w ∷ ws) = both (number_of w) (two_numbers ws)
+three_numbers (w ∷ ws) = both (number_in w) (two_numbers ws)
 
 -- the event of one rank that has this name
 abbrev pub rank_event : List ℕ → ℕ → Option WorldEvent
@@ -69,8 +69,8 @@ formed n None = Err BadLine
 formed n (Some e) = within_limit n (Some e)
 
 -- a line's event, or none where the line is skipped, or its lowest fault
-abbrev pub line_of : ℕ → List ℕ → Result (Option WorldEvent) EventsFaultKind
-line_of n line = if is_skipped line then within_limit n None else formed n (event_of (words_of line))
+abbrev pub event_on : ℕ → List ℕ → Result (Option WorldEvent) EventsFaultKind
+event_on n line = if is_skipped line then within_limit n None else formed n (event_of (words_of line))
 
 -- a line's event in front of those of the lines behind it
 abbrev pub onto_event : Option WorldEvent → Result (List WorldEvent) (ℕ × EventsFaultKind) → Result (List WorldEvent) (ℕ × EventsFaultKind)
@@ -81,7 +81,7 @@ onto_event None r = r
 -- the events of lines from number n on, or the first fault and its line
 abbrev pub events_from : ℕ → List (List ℕ) → Result (List WorldEvent) (ℕ × EventsFaultKind)
 events_from n [] = Ok []
-events_from n (l ∷ ls) = elim (line_of n l) [ Err k ↦ Err (n, k) | Ok e ↦ onto_event e (events_from (n + 1) ls) ]
+events_from n (l ∷ ls) = elim (event_on n l) [ Err k ↦ Err (n, k) | Ok e ↦ onto_event e (events_from (n + 1) ls) ]
 
 -- the events of a text, or its first fault and the line
 abbrev pub events_of : List ℕ → Result (List WorldEvent) (ℕ × EventsFaultKind)

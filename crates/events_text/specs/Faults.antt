@@ -4,9 +4,9 @@ use Rattle.events_text.specs.declared.fault.EventsFaultKind.{EventsFaultKind}
 use Rattle.events_text.specs.declared.fault.EventsFaultKind.TheVariants.{BadLine, Limit}
 
 -- the faults are numbered from 1 in this order
-abbrev pub number_of : EventsFaultKind → ℕ
-number_of BadLine = 1
-number_of Limit = 2
+abbrev pub fault_number : EventsFaultKind → ℕ
+fault_number BadLine = 1
+fault_number Limit = 2
 
 -- the fault's name
 abbrev pub name_of : EventsFaultKind → List ℕ

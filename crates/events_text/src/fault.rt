@@ -1,6 +1,6 @@
 //! What is wrong with a text of events.
 ghost use Rattle.std.specs.Prelude.{◌≡◌, Some};
-ghost use Rattle.events_text.specs.Faults.{name_of, number_of};
+ghost use Rattle.events_text.specs.Faults.{name_of, fault_number};
 
 use std::fmt;
 
@@ -24,7 +24,7 @@ pub enum EventsFault {
 impl EventsFaultKind {
     /// The number that the program's messages name, 1 or 2.
     pub fn number(self) -> u8
-        ensures { result ≡ number_of self }
+        ensures { result ≡ fault_number self }
     {
         match self {
             EventsFaultKind::BadLine => 1,

@@ -1,10 +1,10 @@
 //! One line of a text of events.
 ghost use Rattle.std.specs.Prelude.{◌≡◌};
 ghost use Rattle.text_lines.specs.Pieces.{words_of};
-ghost use Rattle.events_text.specs.Events.{event_of, judged_seen, line_of, named_event, one_number, rank_event, three_numbers, two_numbers};
+ghost use Rattle.events_text.specs.Events.{event_of, judged_seen, event_on, named_event, one_number, rank_event, three_numbers, two_numbers};
 
 use crate::fault::EventsFaultKind;
-use crate::number::number_of;
+use crate::number::number_in;
 use metered::limits::MOST_EVENT_LINES;
 use text_lines::{is_skipped, next_word};
 use world_model::WorldEvent;
@@ -16,7 +16,7 @@ fn one_number(line: &[u8]) -> Option<u32>
     let (word, rest) = next_word(line)?;
     match next_word(rest) {
         Some(_) => None,
-        None => number_of(word),
+        None => number_in(word),
     }
 }
 
@@ -25,7 +25,7 @@ fn two_numbers(line: &[u8]) -> Option<(u32, u32)>
     ensures { result ≡ two_numbers (words_of line.now) }
 {
     let (word, rest) = next_word(line)?;
-    let first = number_of(word)?;
+    let first = number_in(word)?;
     let second = one_number(rest)?;
     Some((first, second))
 }
@@ -35,7 +35,7 @@ fn three_numbers(line: &[u8]) -> Option<(u32, (u32, u32))>
     ensures { result ≡ three_numbers (words_of line.now) }
 {
     let (word, rest) = next_word(line)?;
-    let first = number_of(word)?;
+    let first = number_in(word)?;
     let others = two_numbers(rest)?;
     Some((first, others))
 }
@@ -107,7 +107,7 @@ pub(crate) enum Judged {
 
 /// A line's event, or its lowest fault.
 pub(crate) fn judge(number: usize, line: &[u8]) -> Judged
-    ensures { judged_seen result ≡ line_of number line.now }
+    ensures { judged_seen result ≡ event_on number line.now }
 {
     let judged = if is_skipped(line) {
         Judged::Skipped

@@ -3,7 +3,7 @@
 use Rattle.std.proofs.Common.{◌≡◌, ℕ, List, Some, map, ap, ◌∙◌, sym, subst}
 use Rattle.rank_text.specs.Forms.{Form}
 use Rattle.rank_language.specs.Block.{Line, lines_at}
-use Rattle.rank_language.specs.Shape.{step_of, tree_of_steps}
+use Rattle.rank_language.specs.Shape.{step_of, block_of_steps}
 use Rattle.rank_language.specs.Program.{ProgramValue}
 use Rattle.rank_lines.specs.declared.fault.FaultKind.{FaultKind}
 use Rattle.rank_lines.specs.Faults.{IsFaultOf}
@@ -22,7 +22,7 @@ value_with ls xs as' = record { statements = ls; variables = xs; arrays = as' }
 pub one_of_forms : (fs : List Form) (p q : ProgramValue) → IsOfForms fs p → IsOfForms fs q → p ≡ q
 one_of_forms fs p q g h =
     let steps : map step_of p.statements ≡ map step_of q.statements = same_some _ _ (sym g.statements ∙ h.statements) in
-    let lines : p.statements ≡ q.statements = g.targets ∙ ap (λ ss. lines_at 0 (tree_of_steps ss)) steps ∙ sym h.targets in
+    let lines : p.statements ≡ q.statements = g.targets ∙ ap (λ ss. lines_at 0 (block_of_steps ss)) steps ∙ sym h.targets in
     let variables : p.variables ≡ q.variables = g.variables ∙ sym h.variables in
     let arrays : p.arrays ≡ q.arrays = g.arrays ∙ sym h.arrays in
     (ap (λ ls. value_with ls p.variables p.arrays) lines

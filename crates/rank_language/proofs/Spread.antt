@@ -6,7 +6,7 @@ use Rattle.rank_lines.specs.Scope.{Opened, in_if, in_else, in_while, is_empty, i
 use Rattle.rank_language.specs.Placed.{Placed, Simple, Step, does, tests, repeats, otherwise, closes}
 use Rattle.rank_language.specs.Block.{Block, done, plain, if_only, if_else, loop, Line, simple_line}
 use Rattle.rank_language.specs.Block.{if_line, else_line, end_line, while_line, back_line, size, lines_at}
-use Rattle.rank_language.specs.Shape.{Part, fronted, branched, looped, parts, innermost, tree_of_steps}
+use Rattle.rank_language.specs.Shape.{Part, fronted, branched, looped, parts, innermost, block_of_steps}
 use Rattle.rank_language.specs.Ends.{Kind, is_plain, is_if, is_else, is_end, is_while, nearest, farther, target_of, ends_before, line_to, back_at, lines_behind}
 use Rattle.rank_language.proofs.Places.{length-lines_at}
 use Rattle.rank_language.proofs.Loops.{back_seam}
@@ -305,5 +305,5 @@ whole ((true, y) ∷ []) f = absurd f
 whole (p ∷ (q ∷ ps)) f = absurd f
 
 -- a whole program's statements with their targets are the lines of its tree
-pub targeted_lines : (ss : List Step) → Balanced [] ss → targeted 0 ss ≡ lines_at 0 (tree_of_steps ss)
+pub targeted_lines : (ss : List Step) → Balanced [] ss → targeted 0 ss ≡ lines_at 0 (block_of_steps ss)
 targeted_lines ss h = (stand 0 [] ss h).0 ∙ whole (parts ss) (fits [] ss h)

@@ -7,17 +7,17 @@ use Rattle.std.specs.Borrow.{Bor}
 use Rattle.rank_language.specs.declared.statement.Statement.{Statement}
 use Rattle.rank_language.specs.Block.{Line, size, remaining, Leads, lines_at, next_position}
 use Rattle.rank_language.specs.Seen.{line_of, line_in}
-use Rattle.rank_language.specs.Program.{ProgramValue, tree_of, IsPlaced, AllPlaced}
+use Rattle.rank_language.specs.Program.{ProgramValue, block_of, IsPlaced, AllPlaced}
 use Rattle.rank_language.specs.Correct.{IsProgram}
 use Rattle.rank_language.proofs.Places.{leads, length-lines_at}
 use Rattle.rank_language.proofs.Targets.{reaches}
 
 -- a program has as many statements as its tree has lines
-pub statement_count : (p : ProgramValue) → IsProgram p → length p.statements ≡ size (tree_of p)
-statement_count p h = ap length h.shaped ∙ length-lines_at 0 (tree_of p)
+pub statement_count : (p : ProgramValue) → IsProgram p → length p.statements ≡ size (block_of p)
+statement_count p h = ap length h.shaped ∙ length-lines_at 0 (block_of p)
 
 -- a program's line at a position is its tree's
-line_there : (p : ProgramValue) (k : ℕ) (l : Line) → IsProgram p → Some l ≡ slice_get p.statements k → slice_get (lines_at 0 (tree_of p)) k ≡ Some l
+line_there : (p : ProgramValue) (k : ℕ) (l : Line) → IsProgram p → Some l ≡ slice_get p.statements k → slice_get (lines_at 0 (block_of p)) k ≡ Some l
 line_there p k l h q = ap (λ ls. slice_get ls k) (sym h.shaped) ∙ sym q
 
 -- the places in one of the lines are in the tables
@@ -30,15 +30,15 @@ placed_at v a (x ∷ ls) (suc k) l h q = placed_at v a ls k l h.1 q
 
 -- a statement that was found says what remains
 pub found_leads : (p : ProgramValue) (k : ℕ) (r : Option (Bor Statement)) → IsProgram p → line_in r ≡ slice_get p.statements k
-    → IfSome r (λ s. Leads (remaining (tree_of p)) k (line_of s.now))
+    → IfSome r (λ s. Leads (remaining (block_of p)) k (line_of s.now))
 found_leads p k None h q = tt
-found_leads p k (Some s) h q = leads (tree_of p) k (line_of s.now) (line_there p k (line_of s.now) h q)
+found_leads p k (Some s) h q = leads (block_of p) k (line_of s.now) (line_there p k (line_of s.now) h q)
 
 -- a statement that was found leads to a position of the program or behind its last
 pub found_reaches : (p : ProgramValue) (k : ℕ) (r : Option (Bor Statement)) → IsProgram p → line_in r ≡ slice_get p.statements k
-    → IfSome r (λ s. (truth : Bool) → next_position (line_of s.now) k truth ≤ size (tree_of p))
+    → IfSome r (λ s. (truth : Bool) → next_position (line_of s.now) k truth ≤ size (block_of p))
 found_reaches p k None h q = tt
-found_reaches p k (Some s) h q = reaches (tree_of p) k (line_of s.now) (line_there p k (line_of s.now) h q)
+found_reaches p k (Some s) h q = reaches (block_of p) k (line_of s.now) (line_there p k (line_of s.now) h q)
 
 -- each place in a statement that was found is a variable's or an array's
 pub found_placed : (p : ProgramValue) (k : ℕ) (r : Option (Bor Statement)) → IsProgram p → line_in r ≡ slice_get p.statements k
@@ -65,7 +65,7 @@ missing_past (l ∷ ls) (suc k) q = omega (arith, missing_past ls k q)
 
 -- no statement is found exactly where the position is past the last
 pub found_past : (p : ProgramValue) (k : ℕ) (r : Option (Bor Statement)) → IsProgram p → line_in r ≡ slice_get p.statements k
-    → IsNone r ↔ (size (tree_of p) ≤ k)
+    → IsNone r ↔ (size (block_of p) ≤ k)
 found_past p k None h q =
     (λ _. omega (arith, missing_past p.statements k q, statement_count p h), λ _. search rules)
 found_past p k (Some s) h q =

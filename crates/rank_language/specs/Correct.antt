@@ -6,7 +6,7 @@ use Rattle.rank_lines.specs.Faults.{IsText}
 use Rattle.rank_lines.specs.Scope.{nothing_yet, after_all, IsWhole}
 use Rattle.rank_language.specs.Block.{lines_at}
 use Rattle.rank_language.specs.Shape.{step_of}
-use Rattle.rank_language.specs.Program.{ProgramValue, tree_of, AllPlaced, AllSized}
+use Rattle.rank_language.specs.Program.{ProgramValue, block_of, AllPlaced, AllSized}
 use Rattle.rank_language.specs.Named.{forms_of}
 use Rattle.rank_language.specs.Resolved.{all_resolved}
 
@@ -16,13 +16,13 @@ pub record IsOfForms (forms : List Form) (p : ProgramValue) : Type 0 where
   pub variables : p.variables ≡ (after_all nothing_yet forms).variables
   pub arrays : p.arrays ≡ (after_all nothing_yet forms).arrays
   pub statements : all_resolved (after_all nothing_yet forms) forms ≡ Some (map step_of p.statements)
-  pub targets : p.statements ≡ lines_at 0 (tree_of p)
+  pub targets : p.statements ≡ lines_at 0 (block_of p)
 
 -- What holds of every program: its lines are those of its tree, their places are in its tables, there are no more lines, variables
 -- and arrays than a text may have, no array has more items than it may or none, and with names for its places it is the program of a
 -- whole text's statements.
 pub record IsProgram (p : ProgramValue) : Type 0 where
-  pub shaped : p.statements ≡ lines_at 0 (tree_of p)
+  pub shaped : p.statements ≡ lines_at 0 (block_of p)
   pub placed : AllPlaced (length p.variables) (length p.arrays) p.statements
   pub few : length p.statements ≤ most_lines
   pub few_variables : length p.variables ≤ most_variables

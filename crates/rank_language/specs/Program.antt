@@ -8,7 +8,7 @@ use Rattle.rank_language.specs.Placed.{Placed, number, variable, item, reading, 
 use Rattle.rank_language.specs.Placed.{one, all_of, Buffer, into_variable, into_array, declare, declare_array, assign, assign_item}
 use Rattle.rank_language.specs.Placed.{send, receive, probe, try_probe, print, Collective, barrier, broadcast, reduce, collect}
 use Rattle.rank_language.specs.Block.{Block, Line, simple_line, if_line, else_line, end_line, while_line, back_line}
-use Rattle.rank_language.specs.Shape.{step_of, tree_of_steps}
+use Rattle.rank_language.specs.Shape.{step_of, block_of_steps}
 use Rattle.rank_language.specs.Seen.{line_of}
 
 -- A program: its lines in order, the names of its variables, and those of its arrays with their lengths, in the order of declaration.
@@ -17,9 +17,9 @@ pub record ProgramValue : Type 0 where
   pub variables : List (List ℕ)
   pub arrays : List (List ℕ × ℕ)
 
--- the tree that the lines spell
-abbrev pub tree_of : ProgramValue → Block
-tree_of p = tree_of_steps (map step_of p.statements)
+-- the block that the lines spell
+abbrev pub block_of : ProgramValue → Block
+block_of p = block_of_steps (map step_of p.statements)
 
 -- each place in an expression is below the number of variables, or of arrays
 abbrev pub IsWithin : ℕ → ℕ → Placed → Type 0

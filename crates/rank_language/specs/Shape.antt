@@ -49,10 +49,10 @@ abbrev pub innermost : List Part → Block
 innermost [] = done
 innermost (p ∷ ps) = p.1
 
--- the tree of a whole program's lines, whatever they say of where they lead
-abbrev pub tree_of_steps : List Step → Block
-tree_of_steps ss = innermost (parts ss)
+-- the block of a whole program's lines, whatever they say of where they lead
+abbrev pub block_of_steps : List Step → Block
+block_of_steps ss = innermost (parts ss)
 
 -- each line leads where the tree says
 abbrev pub IsShaped : List Line → Type 0
-IsShaped ls = ls ≡ lines_at 0 (tree_of_steps (map step_of ls))
+IsShaped ls = ls ≡ lines_at 0 (block_of_steps (map step_of ls))

@@ -7,20 +7,20 @@ ghost use Rattle.rank_lines.specs.Faults.{IsFaultOf};
 ghost use Rattle.rank_language.specs.Correct.{IsProgramOf};
 ghost use Rattle.rank_language.specs.Resolved.{form_resolved};
 ghost use Rattle.rank_language.specs.Block.{size, remaining, done};
-ghost use Rattle.rank_language.specs.Program.{ProgramValue, tree_of};
+ghost use Rattle.rank_language.specs.Program.{ProgramValue, block_of};
 
 use crate::program::Program;
 
 /// A law, for proofs alone: at position 0 the whole program remains.
 #[tactic(auto, using(crate::proofs::Places::begins_there))]
 pub fn law_begins_there(program: &Program)
-    ensures { remaining (tree_of program.now) 0 ≡ tree_of program.now }
+    ensures { remaining (block_of program.now) 0 ≡ block_of program.now }
 {}
 
 /// A law, for proofs alone: behind the last statement nothing remains.
 #[tactic(auto, using(crate::proofs::Places::ends_there))]
 pub fn law_ends_there(program: &Program)
-    ensures { remaining (tree_of program.now) (size (tree_of program.now)) ≡ done }
+    ensures { remaining (block_of program.now) (size (block_of program.now)) ≡ done }
 {}
 
 /// A law, for proofs alone: a statement resolves, by the tables that it leaves, exactly where each name in it is

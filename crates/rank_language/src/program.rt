@@ -13,7 +13,7 @@ ghost use Rattle.rank_print.specs.Canonical.{program_text};
 ghost use Rattle.std.specs.Prelude.{[], List, Err, IfErr, IfOk, ◌≡◌, ◌<◌, ◌≤◌, IfSome, IsNone, ◌↔◌, length, slice_get, Bool};
 ghost use Rattle.rank_language.specs.Block.{size, remaining, Leads, next_position};
 ghost use Rattle.rank_language.specs.Seen.{line_of, line_in};
-ghost use Rattle.rank_language.specs.Program.{tree_of, AllSized, IsPlaced};
+ghost use Rattle.rank_language.specs.Program.{block_of, AllSized, IsPlaced};
 
 use crate::build::statements_of;
 use crate::name_form::name_forms;
@@ -105,7 +105,7 @@ impl Program {
     /// How many statements it has.
     pub fn len(&self) -> usize
         ensures count { result ≡ length self.now.statements }
-        ensures lines { result ≡ size (tree_of self.now) }
+        ensures lines { result ≡ size (block_of self.now) }
     {
         self.statements.len()
     }
@@ -138,11 +138,11 @@ impl Program {
     /// The statement at a position.
     pub fn statement(&self, position: usize) -> Option<&Statement>
         ensures line { line_in result ≡ slice_get self.now.statements position }
-        ensures there { IfSome result (λ s. Leads (remaining (tree_of self.now)) position (line_of s.now)) }
-        ensures within { IfSome result (λ s. (truth : Bool) → next_position (line_of s.now) position truth ≤ size (tree_of self.now)) }
+        ensures there { IfSome result (λ s. Leads (remaining (block_of self.now)) position (line_of s.now)) }
+        ensures within { IfSome result (λ s. (truth : Bool) → next_position (line_of s.now) position truth ≤ size (block_of self.now)) }
         ensures placed { IfSome result (λ s. IsPlaced (length self.now.variables) (length self.now.arrays) (line_of s.now)) }
         ensures bound { IfSome result (λ _. position < most_lines) }
-        ensures past { IsNone result ↔ (size (tree_of self.now) ≤ position) }
+        ensures past { IsNone result ↔ (size (block_of self.now) ≤ position) }
     {
         self.statements.get(position)
     }

@@ -6,7 +6,7 @@ use Rattle.std.proofs.lemmas.List.{length-map, length-set}
 use Rattle.metered.specs.Limits.{greatest_tag, most_items}
 use Rattle.rank_language.specs.Placed.{declare, declare_array, assign, assign_item, send, receive, probe, try_probe, print, Collective, collect}
 use Rattle.rank_language.specs.Block.{Block, plain, Line, simple_line, if_line, else_line, end_line, while_line, back_line, remaining, size}
-use Rattle.rank_language.specs.Program.{tree_of}
+use Rattle.rank_language.specs.Program.{block_of}
 use Rattle.rank_machine.specs.declared.fault.MachineFault.{MachineFault}
 use Rattle.rank_machine.specs.declared.want.Want.{Want}
 use Rattle.rank_machine.specs.declared.want.Want.TheVariants as want
@@ -83,8 +83,8 @@ no_fault P s b (Some f) none h = absurd (none f h)
 pub calls : (P : Want → Type 0) (m : MachineValue) (c : Collective) → IsAtLine m → line_at m ≡ Some (simple_line (collect c))
     → ((k : MachineFault) → P (want.Faulted k) → ⊥) → P (asks m) → IsCalling P m c
 calls P m c h at none w =
-    let b : Block = remaining (tree_of m.program) m.position in
-    let stands : b ≡ plain (collect c) (remaining (tree_of m.program) (m.position + 1)) = h.leads (simple_line (collect c)) at in
+    let b : Block = remaining (block_of m.program) m.position in
+    let stands : b ≡ plain (collect c) (remaining (block_of m.program) (m.position + 1)) = h.leads (simple_line (collect c)) at in
     let v : P (want_of m.store b m.fault) = subst (λ o. P (asked o m.fault (want_of m.store b m.fault))) at w in
     let k = no_fault P m.store b m.fault none v in
     let u : P (or_fault (collective_want m.store c)) = subst P (ap (want_of m.store b) k ∙ ap (λ z. want_of m.store z None) stands) v in
@@ -97,13 +97,13 @@ pub record IsPart (m : MachineValue) (c : Collective) (call : Call) : Type 0 whe
   pub there : line_at m ≡ Some (simple_line (collect c))
   pub called : called m.store c ≡ Ok call
   pub countable : m.store.finished + 1 ≤ greatest_ordinal
-  pub behind : m.position + 1 ≤ size (tree_of m.program)
+  pub behind : m.position + 1 ≤ size (block_of m.program)
 
 -- the same machine as it was seen at the call
 pub seen_part : (m n : MachineValue) (c : Collective) (call : Call) (k : ℕ) → m ≡ n → IsAtLine n → line_at n ≡ Some (simple_line (collect c))
-    → n.position + 1 ≤ size (tree_of n.program) → called m.store c ≡ Ok call → (k ≡ m.store.finished + 1) × (k ≤ greatest_ordinal) → IsPart m c call
+    → n.position + 1 ≤ size (block_of n.program) → called m.store c ≡ Ok call → (k ≡ m.store.finished + 1) × (k ≤ greatest_ordinal) → IsPart m c call
 seen_part m n c call k v h at l e o =
-    let Behind : MachineValue → Type 0 = λ z. z.position + 1 ≤ size (tree_of z.program) in
+    let Behind : MachineValue → Type 0 = λ z. z.position + 1 ≤ size (block_of z.program) in
     record {
       line = subst IsAtLine (sym v) h;
       there = ap line_at v ∙ at;
@@ -129,7 +129,7 @@ same_count s s' e = sym (length-map s'.arrays length) ∙ ap length e ∙ length
 passed_within : (m : MachineValue) (s : Store) (last : Bool) (p : ℕ) → IsWithinLimits m → Leaves m.store s → m.store.finished + 1 ≤ greatest_ordinal
     → (let s' : Store = if last then counted s else record s { done = s.done + 1 } in length s'.variables ≡ length m.store.variables)
     → (let s' : Store = if last then counted s else record s { done = s.done + 1 } in map length s'.arrays ≡ map length m.store.arrays)
-    → p ≤ size (tree_of m.program)
+    → p ≤ size (block_of m.program)
     → (let s' : Store = if last then counted s else record s { done = s.done + 1 } in IsWithinLimits (record m { store = s'; position = p }))
 passed_within m s true p i k f v a l =
     let a' = same_count m.store s a in
@@ -165,7 +165,7 @@ passed_within m s false p i k f v a l =
 -- so a machine is within its limits after a part
 pub part_within : (m : MachineValue) (s : Store) (call : Call) (p : ℕ) → IsWithinLimits m → Leaves m.store s → m.store.finished + 1 ≤ greatest_ordinal
     → length (passed s call).variables ≡ length m.store.variables → map length (passed s call).arrays ≡ map length m.store.arrays
-    → p ≤ size (tree_of m.program) → IsWithinLimits (record m { store = passed s call; position = p })
+    → p ≤ size (block_of m.program) → IsWithinLimits (record m { store = passed s call; position = p })
 part_within m s call p i k f v a l = passed_within m s (is_last s call) p i k f v a l
 
 -- what is passed has the same variables and arrays
@@ -256,7 +256,7 @@ shows_status m s q x k source tag count = record {
 
 -- so behind such a line it is a machine
 pub plain_machine : (m : MachineValue) (s : Store) (l : Line) (p : ℕ) → IsMachine m → line_at m ≡ Some l → IsNoCollectiveLine l → Shows m.store s
-    → p ≤ size (tree_of m.program) → IsMachine (record m { store = s; position = p })
+    → p ≤ size (block_of m.program) → IsMachine (record m { store = s; position = p })
 plain_machine m s l p i at n k b =
     let w = i.limits in
     let below : s.rank < s.size = rw (k.rank, k.size) w.rank in

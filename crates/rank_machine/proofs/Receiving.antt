@@ -10,7 +10,7 @@ use Rattle.matching.specs.Message as packet
 use Rattle.matching.specs.Message.{IsMessage}
 use Rattle.rank_language.specs.Placed.{Buffer, into_variable, into_array, Choice, receive, Collective, barrier, broadcast, reduce, collect}
 use Rattle.rank_language.specs.Block.{Block, plain, simple_line, remaining, size}
-use Rattle.rank_language.specs.Program.{tree_of}
+use Rattle.rank_language.specs.Program.{block_of}
 use Rattle.rank_machine.specs.declared.call.Call as source_call
 use Rattle.rank_machine.specs.declared.fault.MachineFault.{MachineFault}
 use Rattle.rank_machine.specs.declared.fault.MachineFault.TheVariants.{TooLong, CollectiveMismatch}
@@ -43,7 +43,7 @@ selected_few (Err k) m h b i = absurd i
 -- A receive statement that takes a message: the line that stands, no fault, and a message within the limits of its context.
 pub record IsTaking (m : MachineValue) (c t : Choice) (b : Buffer) (p : packet.Message) : Type 0 where
   pub there : line_at m ≡ Some (simple_line (receive c t b))
-  pub stands : remaining (tree_of m.program) m.position ≡ plain (receive c t b) (remaining (tree_of m.program) (m.position + 1))
+  pub stands : remaining (block_of m.program) m.position ≡ plain (receive c t b) (remaining (block_of m.program) (m.position + 1))
   pub fault : m.fault ≡ None
   pub few : IsFew p
 
@@ -51,8 +51,8 @@ pub record IsTaking (m : MachineValue) (c t : Choice) (b : Buffer) (p : packet.M
 taking : (m : MachineValue) (c t : Choice) (b : Buffer) (p : packet.Message) → IsMessage p → IsAtLine m → line_at m ≡ Some (simple_line (receive c t b))
     → IsReceiving (asks m) p → IsTaking m c t b p
 taking m c t b p h l at i =
-    let r : Block = remaining (tree_of m.program) m.position in
-    let stands : r ≡ plain (receive c t b) (remaining (tree_of m.program) (m.position + 1)) = l.leads (simple_line (receive c t b)) at in
+    let r : Block = remaining (block_of m.program) m.position in
+    let stands : r ≡ plain (receive c t b) (remaining (block_of m.program) (m.position + 1)) = l.leads (simple_line (receive c t b)) at in
     let v : IsReceiving (want_of m.store r m.fault) p = subst (λ o. IsReceiving (asked o m.fault (want_of m.store r m.fault)) p) at i in
     let k = no_fault (λ w. IsReceiving w p) m.store r m.fault (λ f z. z) v in
     let wanted = ap (want_of m.store r) k ∙ ap (λ z. want_of m.store z None) stands in
@@ -68,7 +68,7 @@ seen_taking m n c t b p v h l at i =
 
 -- what it takes its state receives
 receives : (m : MachineValue) (c t : Choice) (b : Buffer) (p : packet.Message) (place : ℕ) → IsTaking m c t b p →
-    received (state_of m) b (remaining (tree_of m.program) (m.position + 1)) p.source (carried p) ≡ next (state_of m) (takes p.source place) (Some (carried p))
+    received (state_of m) b (remaining (block_of m.program) (m.position + 1)) p.source (carried p) ≡ next (state_of m) (takes p.source place) (Some (carried p))
 receives m c t b p place i =
     let a : State = state_of m in
     let act : Act = takes p.source place in
@@ -96,14 +96,14 @@ pub long_state : (m n : MachineValue) (c t : Choice) (b : Buffer) (p : packet.Me
 long_state m n c t b p v i l place =
     let m' : MachineValue = record m { fault = Some TooLong } in
     let Q : MachineValue → Type 0 = λ z. state_of m' ≡ next (state_of z) (takes p.source place) (Some (carried p)) in
-    subst Q v (long_received (state_of m) b (remaining (tree_of m.program) (m.position + 1)) p.source (carried p) l ∙ receives m c t b p place i)
+    subst Q v (long_received (state_of m) b (remaining (block_of m.program) (m.position + 1)) p.source (carried p) l ∙ receives m c t b p place i)
 
 -- and after one that fits
 pub fit_state : (m n : MachineValue) (c t : Choice) (b : Buffer) (p : packet.Message) (s : Store) → m ≡ n → IsTaking m c t b p → length p.items ≤ room m.store b
     → s ≡ with_status p.source (carried p) (written b p.items m.store)
     → (place : ℕ) → state_of (record m { store = s; position = m.position + 1 }) ≡ next (state_of n) (takes p.source place) (Some (carried p))
 fit_state m n c t b p s v i l e place =
-    let r : Block = remaining (tree_of m.program) (m.position + 1) in
+    let r : Block = remaining (block_of m.program) (m.position + 1) in
     let m' : MachineValue = record m { store = s; position = m.position + 1 } in
     let A : Store → Option MachineFault → State = λ s k. record { store = s; rest = r; fault = k } in
     let Q : MachineValue → Type 0 = λ z. state_of m' ≡ next (state_of z) (takes p.source place) (Some (carried p)) in
@@ -145,10 +145,10 @@ writes (into_array p) items s =
 -- after a message that fits it is a machine
 pub fit_machine : (m n : MachineValue) (c t : Choice) (b : Buffer) (p : packet.Message) (s : Store) → m ≡ n → IsMachine m → IsTaking m c t b p
     → s ≡ with_status p.source (carried p) (written b p.items m.store) → map length s.arrays ≡ map length m.store.arrays
-    → p.source < n.store.size → n.position + 1 ≤ size (tree_of n.program) → IsMachine (record m { store = s; position = m.position + 1 })
+    → p.source < n.store.size → n.position + 1 ≤ size (block_of n.program) → IsMachine (record m { store = s; position = m.position + 1 })
 fit_machine m n c t b p s v h i e a q l =
     let Source : MachineValue → Type 0 = λ z. p.source < z.store.size in
-    let Behind : MachineValue → Type 0 = λ z. z.position + 1 ≤ size (tree_of z.program) in
+    let Behind : MachineValue → Type 0 = λ z. z.position + 1 ≤ size (block_of z.program) in
     let W : Store = written b p.items m.store in
     let S : Store = with_status p.source (carried p) W in
     let Lengths : Store → Type 0 = λ z. map length z.arrays ≡ map length m.store.arrays in
@@ -198,12 +198,12 @@ getting m n c call p v i w =
 
 -- the state after it
 collects : (m : MachineValue) (c : Collective) (call : Call) (p : packet.Message) (place : ℕ) → IsPart m c call → m.fault ≡ None →
-    part_taken (state_of m) c (remaining (tree_of m.program) (m.position + 1)) call (items_taken m.store c call p.items)
+    part_taken (state_of m) c (remaining (block_of m.program) (m.position + 1)) call (items_taken m.store c call p.items)
     ≡ next (state_of m) (takes p.source place) (Some (carried p))
 collects m c call p place i f =
     let a : State = state_of m in
     let act : Act = takes p.source place in
-    let r : Block = remaining (tree_of m.program) (m.position + 1) in
+    let r : Block = remaining (block_of m.program) (m.position + 1) in
     let F : Option MachineFault → State = λ k. unless_faulted k a act (Some (carried p)) in
     let R : Block → State = λ r. after_first a r act (Some (carried p)) in
     let C : Valued Call → State = λ v. collected a c r (carried p) v in
@@ -287,8 +287,8 @@ pub refused_state : (m n : MachineValue) (c : Collective) (call : Call) (p : pac
 refused_state m n c call p k s v i w e g place =
     let m' : MachineValue = record m { store = s; fault = Some k } in
     let Q : MachineValue → Type 0 = λ z. state_of m' ≡ next (state_of z) (takes p.source place) (Some (carried p)) in
-    let r : Block = remaining (tree_of m.program) (m.position + 1) in
-    let Of : Store → State = λ z. record { store = z; rest = remaining (tree_of m.program) m.position; fault = Some k } in
+    let r : Block = remaining (block_of m.program) (m.position + 1) in
+    let Of : Store → State = λ z. record { store = z; rest = remaining (block_of m.program) m.position; fault = Some k } in
     let T : Valued (List ℤ) → State = λ v. part_taken (state_of m) c r call v in
     let f = (getting m n c call p v i w).fault in
     subst Q v (ap Of g ∙ ap T (sym e) ∙ collects m c call p place i f)
@@ -330,7 +330,7 @@ pub taken_state : (m n : MachineValue) (c : Collective) (call : Call) (p : packe
 taken_state m n c call p items s last v i w e g f place =
     let o = m.store in
     let t = is_last o call in
-    let at : ℕ → Block = remaining (tree_of m.program) in
+    let at : ℕ → Block = remaining (block_of m.program) in
     let S : Store = passed (kept c items o) call in
     let m' : MachineValue = record m { store = s; position = after_part last m.position } in
     let Q : MachineValue → Type 0 = λ z. state_of m' ≡ next (state_of z) (takes p.source place) (Some (carried p)) in

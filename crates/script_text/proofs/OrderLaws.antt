@@ -13,7 +13,7 @@ use Rattle.script_text.specs.declared.fault.ScriptFaultKind.TheVariants.{BadLine
 use Rattle.script_text.specs.declared.line.ScriptLine.{ScriptLine}
 use Rattle.script_text.specs.Form.{form_of}
 use Rattle.script_text.specs.Orders.{IsOrder}
-use Rattle.script_text.specs.Script.{asked_by, fault_of, first_fault, first_fault_from, holds, is_bad, is_foreign, script_lines}
+use Rattle.script_text.specs.Script.{order_by, fault_of, first_fault, first_fault_from, holds, is_bad, is_foreign, script_lines}
 
 -- where no fault is the lowest, none of the three holds
 none_holds : (bad foreign late : Bool)
@@ -30,15 +30,15 @@ is_order : (ranks : ℕ) (skipped : Bool) (form : Option ScriptLine)
     → IfSome (if skipped then None else form) (IsOrder ranks)
 is_order ranks true form h k = tt
 is_order ranks false None h k = cc
-is_order ranks false (Some asked) h k = record {
+is_order ranks false (Some order) h k = record {
   rank = grind (arith, nat_tests);
   past = grind (arith, nat_tests);
   possible = grind (arith, nat_tests);
 }
 
 -- a line without fault asks for nothing or is an order
-order_asked : (ranks number : ℕ) (line : List ℕ) → fault_of ranks number line ≡ None → IfSome (asked_by line) (IsOrder ranks)
-order_asked ranks number line h =
+order_or_none : (ranks number : ℕ) (line : List ℕ) → fault_of ranks number line ≡ None → IfSome (order_by line) (IsOrder ranks)
+order_or_none ranks number line h =
     let none = none_holds (holds ranks number line BadLine) (holds ranks number line BadRank) (holds ranks number line Limit) h in
     is_order ranks (is_skipped line) (form_of (words_of line)) none.0 none.1
 
@@ -56,34 +56,34 @@ passed number None rest h = (refl, h)
 passed number (Some kind) rest h = cc
 
 -- an order more, or nothing
-one_more : (ranks : ℕ) (asked : Option ScriptLine) (orders : List ScriptLine) → IfSome asked (IsOrder ranks)
-    → All (IsOrder ranks) orders → All (IsOrder ranks) (cons_option asked orders)
+one_more : (ranks : ℕ) (order : Option ScriptLine) (orders : List ScriptLine) → IfSome order (IsOrder ranks)
+    → All (IsOrder ranks) orders → All (IsOrder ranks) (cons_option order orders)
 one_more ranks None orders h k = k
-one_more ranks (Some asked) orders h k = All-cons (IsOrder ranks) asked orders h k
+one_more ranks (Some order) orders h k = All-cons (IsOrder ranks) order orders h k
 
 -- lines without fault ask for orders alone
 orders_from : (ranks number : ℕ) (lines : List (List ℕ)) → first_fault_from ranks number lines ≡ None
-    → All (IsOrder ranks) (filter_map asked_by lines)
+    → All (IsOrder ranks) (filter_map order_by lines)
 orders_from ranks number [] h = All-nil (IsOrder ranks)
 orders_from ranks number (line ∷ lines) h =
     let both = passed number (fault_of ranks number line) (first_fault_from ranks (number + 1) lines) h in
-    one_more ranks (asked_by line) (filter_map asked_by lines) (order_asked ranks number line both.0)
+    one_more ranks (order_by line) (filter_map order_by lines) (order_or_none ranks number line both.0)
     (orders_from ranks (number + 1) lines both.1)
 
 -- a line asks for one order at most
-at_most_one : (asked : Option ScriptLine) (orders : List ScriptLine) → length (cons_option asked orders) ≤ length orders + 1
+at_most_one : (order : Option ScriptLine) (orders : List ScriptLine) → length (cons_option order orders) ≤ length orders + 1
 at_most_one None orders = omega arith
-at_most_one (Some asked) orders = omega arith
+at_most_one (Some order) orders = omega arith
 
 -- lines without fault end before the number of a line is too high
 few_from : (ranks number : ℕ) (lines : List (List ℕ)) → first_fault_from ranks number lines ≡ None → number ≤ most_script_lines + 1
-    → length (filter_map asked_by lines) + number ≤ most_script_lines + 1
+    → length (filter_map order_by lines) + number ≤ most_script_lines + 1
 few_from ranks number [] h k = omega arith
 few_from ranks number (line ∷ lines) h k =
     let both = passed number (fault_of ranks number line) (first_fault_from ranks (number + 1) lines) h in
     let here = not_late ranks number line both.0 in
     let later = few_from ranks (number + 1) lines both.1 (omega (arith, here)) in
-    let more = at_most_one (asked_by line) (filter_map asked_by lines) in
+    let more = at_most_one (order_by line) (filter_map order_by lines) in
     omega (arith, later, more)
 
 -- the lines of a script without fault are orders

@@ -4,10 +4,10 @@ use Rattle.script_text.specs.declared.fault.ScriptFaultKind.{ScriptFaultKind}
 use Rattle.script_text.specs.declared.fault.ScriptFaultKind.TheVariants.{BadLine, BadRank, Limit}
 
 -- the faults are numbered from 1 in this order
-abbrev pub number_of : ScriptFaultKind → ℕ
-number_of BadLine = 1
-number_of BadRank = 2
-number_of Limit = 3
+abbrev pub fault_number : ScriptFaultKind → ℕ
+fault_number BadLine = 1
+fault_number BadRank = 2
+fault_number Limit = 3
 
 -- the fault's name
 abbrev pub name_of : ScriptFaultKind → List ℕ

@@ -11,8 +11,8 @@ use Rattle.script_text.specs.declared.line.ScriptLine.{ScriptLine}
 use Rattle.script_text.specs.Form.{form_of}
 
 -- what a line of the text asks for; a skipped line asks for nothing
-abbrev pub asked_by : List ℕ → Option ScriptLine
-asked_by line = if is_skipped line then None else form_of (words_of line)
+abbrev pub order_by : List ℕ → Option ScriptLine
+order_by line = if is_skipped line then None else form_of (words_of line)
 
 -- a rank can have this clock
 abbrev pub is_clock : ℕ → Bool
@@ -21,17 +21,17 @@ is_clock c = nat_le 1 c && nat_le c greatest_clock
 -- what a line asks for isn't there, or its clock is none of a rank
 abbrev pub is_bad : Option ScriptLine → Bool
 is_bad None = true
-is_bad (Some asked) = not (is_clock asked.clock)
+is_bad (Some order) = not (is_clock order.clock)
 
 -- what a line asks for is asked of no rank of so many
 abbrev pub is_foreign : ℕ → Option ScriptLine → Bool
 is_foreign ranks None = false
-is_foreign ranks (Some asked) = nat_le ranks asked.rank
+is_foreign ranks (Some order) = nat_le ranks order.rank
 
 -- a fault holds of the line of this number in the script of a run of so many ranks
 abbrev pub holds : ℕ → ℕ → List ℕ → ScriptFaultKind → Bool
-holds ranks number line BadLine = not (is_skipped line) && is_bad (asked_by line)
-holds ranks number line BadRank = is_foreign ranks (asked_by line)
+holds ranks number line BadLine = not (is_skipped line) && is_bad (order_by line)
+holds ranks number line BadRank = is_foreign ranks (order_by line)
 holds ranks number line Limit = nat_lt most_script_lines number
 
 -- the lowest fault that holds of a line
@@ -54,8 +54,8 @@ first_fault ranks text = first_fault_from ranks 1 (pieces_of 10 text)
 
 -- what the lines of a text ask for, in their order
 abbrev pub script_lines : List ℕ → List ScriptLine
-script_lines text = filter_map asked_by (pieces_of 10 text)
+script_lines text = filter_map order_by (pieces_of 10 text)
 
 -- what is asked of one rank, in its order
-abbrev pub lines_of : ℕ → List ScriptLine → List ScriptLine
-lines_of rank lines = filter (λ line. line.rank == rank) lines
+abbrev pub orders_of : ℕ → List ScriptLine → List ScriptLine
+orders_of rank lines = filter (λ line. line.rank == rank) lines

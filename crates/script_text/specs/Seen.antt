@@ -14,4 +14,4 @@ form_seen (Some line) = Some (record { order = line.order; rank = kept line.rank
 
 -- the lower fault of what isn't skipped
 abbrev pub form_fault : ℕ → Option ScriptLine → Option ScriptFaultKind
-form_fault ranks asked = if is_bad asked then Some BadLine else (if is_foreign ranks asked then Some BadRank else None)
+form_fault ranks order = if is_bad order then Some BadLine else (if is_foreign ranks order then Some BadRank else None)

@@ -1,6 +1,6 @@
 //! What is wrong with the text of a script.
 ghost use Rattle.std.specs.Prelude.{◌≡◌, Some};
-ghost use Rattle.script_text.specs.Faults.{name_of, number_of};
+ghost use Rattle.script_text.specs.Faults.{name_of, fault_number};
 
 use std::fmt;
 
@@ -33,7 +33,7 @@ pub enum ScriptParseFault {
 impl ScriptFaultKind {
     /// The number that the program's messages name, 1 to 3.
     pub fn number(self) -> u8
-        ensures { result ≡ number_of self }
+        ensures { result ≡ fault_number self }
     {
         match self {
             ScriptFaultKind::BadLine => 1,

@@ -2,7 +2,7 @@
 ghost use Rattle.std.specs.Prelude.{◌≡◌, None, Some, IfOk, IfErr, OnOk};
 ghost use Rattle.text_lines.specs.Pieces.{words_of};
 ghost use Rattle.script_text.specs.Form.{form_of};
-ghost use Rattle.script_text.specs.Script.{asked_by, fault_of};
+ghost use Rattle.script_text.specs.Script.{order_by, fault_of};
 ghost use Rattle.script_text.specs.Seen.{form_fault};
 
 use crate::fault::ScriptFaultKind;
@@ -13,7 +13,7 @@ use text_lines::is_skipped;
 
 /// What a line that isn't skipped asks for in a run of so many ranks.
 fn ask(line: &[u8], ranks: u8) -> Result<ScriptLine, ScriptFaultKind>
-    ensures asked { IfOk result (λ asked. form_of (words_of line.now) ≡ Some asked) }
+    ensures order { IfOk result (λ order. form_of (words_of line.now) ≡ Some order) }
     ensures faultless { OnOk result (form_fault ranks (form_of (words_of line.now)) ≡ None) }
     ensures fault { IfErr result (λ kind. form_fault ranks (form_of (words_of line.now)) ≡ Some kind) }
 {
@@ -40,11 +40,11 @@ pub(crate) fn judge(
     number: usize,
     ranks: u8,
 ) -> Result<Option<ScriptLine>, ScriptFaultKind>
-    ensures asked { IfOk result (λ asked. asked_by line.now ≡ asked) }
+    ensures order { IfOk result (λ order. order_by line.now ≡ order) }
     ensures faultless { OnOk result (fault_of ranks number line.now ≡ None) }
     ensures fault { IfErr result (λ kind. fault_of ranks number line.now ≡ Some kind) }
 {
-    let asked = if is_skipped(line) {
+    let order = if is_skipped(line) {
         None
     } else {
         Some(ask(line, ranks)?)
@@ -52,5 +52,5 @@ pub(crate) fn judge(
     if number > MOST_SCRIPT_LINES {
         return Err(ScriptFaultKind::Limit);
     }
-    Ok(asked)
+    Ok(order)
 }

@@ -25,7 +25,7 @@ impl Model for Script {
 }
 
 impl Script {
-    ghost use Rattle.script_text.specs.Script.{first_fault, lines_of, script_lines};
+    ghost use Rattle.script_text.specs.Script.{first_fault, orders_of, script_lines};
     ghost use Rattle.script_text.specs.declared.fault.ScriptFault.{ScriptFault};
     ghost use Rattle.script_text.specs.declared.fault.ScriptParseFault.TheVariants.{Fault};
 
@@ -55,8 +55,8 @@ impl Script {
         while let Some((line, more)) = next_line(rest) {
             match judge(line, number, ranks) {
                 Ok(None) => {}
-                Ok(Some(asked)) => {
-                    let Ok(()) = lines.push(asked) else {
+                Ok(Some(order)) => {
+                    let Ok(()) = lines.push(order) else {
                         return Err(ScriptParseFault::Memory);
                     };
                 }
@@ -80,7 +80,7 @@ impl Script {
 
     /// What is asked of one rank, in the text's order. An `Err` is want of memory.
     pub fn lines_of(&self, alloc: Heap, rank: u8) -> Result<Vec<ScriptLine, Heap>, AllocError>
-        ensures { IfOk result (λ lines. lines.items ≡ lines_of rank self.now) }
+        ensures { IfOk result (λ lines. lines.items ≡ orders_of rank self.now) }
     {
         self.lines
             .iter()

@@ -15,7 +15,7 @@ use Rattle.plain_logger.specs.declared.call.Reply.TheVariants.{Events}
 use Rattle.std.proofs.lemmas.Option.{get_or_from_slice_get, slice_get_within}
 use Rattle.checkpoint.specs.declared.memory_shelf.MemoryShelf.{MemoryShelf}
 use Rattle.payload_log.specs.Backlog.{new_backlog}
-use Rattle.rank_language.specs.Program.{ProgramValue, tree_of}
+use Rattle.rank_language.specs.Program.{ProgramValue, block_of}
 use Rattle.rank_language.proofs.Places.{begins_there}
 use Rattle.rank_machine.specs.States.{opening, first_store}
 use Rattle.rank_machine.specs.Machine.{state_of}
@@ -240,7 +240,7 @@ happens_can w (Release r) answer w' s f c =
 
 -- a machine at the beginning is in the opening state
 opened : (program : ProgramValue) (n r : ℕ) → state_of (first_image program r n).machine ≡ opening program r n
-opened program n r = ap (λ z. record { store = first_store program r n; rest = z; fault = None }) (begins_there (tree_of program))
+opened program n r = ap (λ z. record { store = first_store program r n; rest = z; fault = None }) (begins_there (block_of program))
 
 -- the beginning of the program goes with no run
 fresh_image : (w : WorldValue) (n r : ℕ) → ImageStands (start_at w n) n [] r (first_image w.program r n)

@@ -1,6 +1,6 @@
 //! Where messages of each kind stand.
 ghost use Rattle.std.specs.Prelude.{◌≡◌, [], Some, IfOk, OnOk, OnErr, option_copied};
-ghost use Rattle.crash_free.specs.Index.{kind_of, number_of, queue_of, IsListed, IsListedTwice, IsIndex, HasQueues, ListsMore};
+ghost use Rattle.crash_free.specs.Index.{kind_of, queue_number, queue_of, IsListed, IsListedTwice, IsIndex, HasQueues, ListsMore};
 
 use crate::mail::queue::Queue;
 use matching::{Context, Packet};
@@ -95,7 +95,7 @@ impl Index {
     // The number of the kind's queue, which is made where there is none.
     #[tactic(auto, using(crate::proofs::Putting::same_queues, crate::proofs::Putting::queue_more, crate::proofs::Putting::queue_more_there))]
     fn number(&mut self, kind: u32) -> Result<usize, AllocError>
-        ensures ok { IfOk result (λ queue. number_of self.new kind ≡ Some queue) }
+        ensures ok { IfOk result (λ queue. queue_number self.new kind ≡ Some queue) }
         ensures queues { HasQueues self.old self.new }
         ensures err { OnErr result (self.new ≡ self.old) }
     {

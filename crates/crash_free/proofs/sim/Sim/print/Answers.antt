@@ -12,7 +12,7 @@ invariant_of-self-2 c =
     let run = reverse s.passed.items in
     let at = found_machine c.args.self.now s.program.now s.machines.items run c.from.result c.args.rank c.index_mut-machine.result.now
     (Print c.args.value) c.self.view_is c.from.ensures c.requires.there c.requires.asks c.index_mut-machine.ensures.value in
-    let made = c.law_makes_its_print.ensures c.args.value at.1.asked in
+    let made = c.law_makes_its_print.ensures c.args.value at.1.at_want in
     let done = done_print s.program.now s.machines.items s.mail run c.args.rank c.index_mut-machine.result.now c.did_print.new.self c.args.value
     c.self.invariant at.0 at.1 made (c.did_print.ensures.state (prints c.args.value) None made) c.did_print.ensures.position c.did_print.ensures.stays in
     let same = to_z-of_z w64 c.args.value c.ranges.value in
@@ -24,7 +24,7 @@ returns-clause-ok c =
     let run = reverse s.passed.items in
     let at = found_machine c.args.self.now s.program.now s.machines.items run c.from.result c.args.rank c.index_mut-machine.result.now
     (Print c.args.value) c.self.view_is c.from.ensures c.requires.there c.requires.asks c.index_mut-machine.ensures.value in
-    let made = c.law_makes_its_print.ensures c.args.value at.1.asked in
+    let made = c.law_makes_its_print.ensures c.args.value at.1.at_want in
     let done = done_print s.program.now s.machines.items s.mail run c.args.rank c.index_mut-machine.result.now c.did_print.new.self c.args.value
     c.self.invariant at.0 at.1 made (c.did_print.ensures.state (prints c.args.value) None made) c.did_print.ensures.position c.did_print.ensures.stays in
     let same = to_z-of_z w64 c.args.value c.ranges.value in

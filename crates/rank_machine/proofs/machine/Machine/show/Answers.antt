@@ -1,5 +1,5 @@
 use Rattle.std.proofs.Common.{true, ◌<◌, sym, refl, subst}
-use Rattle.rank_language.specs.Program.{tree_of}
+use Rattle.rank_language.specs.Program.{block_of}
 use Rattle.rank_machine.specs.Acts.{carried}
 use Rattle.rank_machine.specs.Machine.{MachineValue, asks, IsShowing}
 use Rattle.rank_machine.proofs.Standing.{past_wants_none}
@@ -14,7 +14,7 @@ unreachable-requires c =
     let h = c.in_default.ensures in
     let P : MachineValue → Type 0 = λ v. IsShowing (asks v) c.args.packet.now in
     let w = subst P (sym c.self.view_is) c.requires.showing in
-    past_wants_none (λ u. IsShowing u c.args.packet.now) _ m.fault (tree_of m.program.now) m.position m.store (sym h.line)
+    past_wants_none (λ u. IsShowing u c.args.packet.now) _ m.fault (block_of m.program.now) m.position m.store (sym h.line)
     c.self.invariant.limits.position (h.past.0 refl) (λ f z. z) (λ z. z) (λ z. z) w
 
 pub invariant_of-self : goal.invariant_of-self
