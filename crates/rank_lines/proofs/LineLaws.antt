@@ -17,10 +17,10 @@ use Rattle.rank_text.proofs.LexLaws.{lexed, one_lexing, read_is}
 use Rattle.rank_text.proofs.FormLaws.{form_read, form_spelled}
 use Rattle.rank_lines.specs.Lines.{is_text, is_skipped, is_statement}
 use Rattle.rank_lines.specs.Scope.{Scope, declared_in, is_twice, is_stray, is_over, has_great_number}
-use Rattle.rank_lines.specs.Faults.{number_of, IsLooked, IsFormed, Holds, other_byte, no_word, no_form}
+use Rattle.rank_lines.specs.Faults.{fault_number, IsLooked, IsFormed, Holds, other_byte, no_word, no_form}
 use Rattle.rank_lines.specs.Faults.{unknown_name, known_name, no_block, long_line, late_line, over}
 use Rattle.rank_lines.specs.Faults.{great_number, IsLowest, IsLine, skipped, stated}
-use Rattle.rank_lines.specs.Verdict.{first_of, unless_fault, form_fault, formed, looked, skipped_of, measured, line_of}
+use Rattle.rank_lines.specs.Verdict.{first_of, unless_fault, form_fault, formed, looked, skipped_of, measured, verdict_on}
 
 -- a test that gives false shows that the number isn't below
 ltb-false : (a b : ℕ) → nat_lt a b ≡ false → b ≤ a
@@ -44,17 +44,17 @@ pick a b c d e _ = false
 
 -- the fault's test gives true, and that of no lower one does
 abbrev IsLeast : (a b c d e : Bool) → FaultKind → Type 0
-IsLeast a b c d e k = (pick a b c d e k ≡ true) × ((j : FaultKind) → pick a b c d e j ≡ true → number_of k ≤ number_of j)
+IsLeast a b c d e k = (pick a b c d e k ≡ true) × ((j : FaultKind) → pick a b c d e j ≡ true → fault_number k ≤ fault_number j)
 
 -- where the tests before it give false, a fault whose test gives true is 4 or more
-at_least_4 : (a b c d e : Bool) (j : FaultKind) → pick a b c d e j ≡ true → 4 ≤ number_of j
+at_least_4 : (a b c d e : Bool) (j : FaultKind) → pick a b c d e j ≡ true → 4 ≤ fault_number j
 at_least_4 a b c d e NotText q = absurd cc
 at_least_4 a b c d e NotAStatement q = absurd cc
 at_least_4 a b c d e BadForm q = absurd cc
 at_least_4 a b c d e _ q = omega arith
 
 -- where the tests before it give false, a fault whose test gives true is 5 or more
-at_least_5 : (b c d e : Bool) (j : FaultKind) → pick false b c d e j ≡ true → 5 ≤ number_of j
+at_least_5 : (b c d e : Bool) (j : FaultKind) → pick false b c d e j ≡ true → 5 ≤ fault_number j
 at_least_5 b c d e NotText q = absurd cc
 at_least_5 b c d e NotAStatement q = absurd cc
 at_least_5 b c d e BadForm q = absurd cc
@@ -62,20 +62,20 @@ at_least_5 b c d e Undeclared q = absurd cc
 at_least_5 b c d e _ q = omega arith
 
 -- where the tests before it give false, a fault whose test gives true is 7 or more
-at_least_7 : (c d e : Bool) (j : FaultKind) → pick false false c d e j ≡ true → 7 ≤ number_of j
+at_least_7 : (c d e : Bool) (j : FaultKind) → pick false false c d e j ≡ true → 7 ≤ fault_number j
 at_least_7 c d e BlockStray q = omega arith
 at_least_7 c d e Limit q = omega arith
 at_least_7 c d e NumberRange q = omega arith
 at_least_7 c d e _ q = absurd cc
 
 -- where the tests before it give false, a fault whose test gives true is 8 or more
-at_least_8 : (d e : Bool) (j : FaultKind) → pick false false false d e j ≡ true → 8 ≤ number_of j
+at_least_8 : (d e : Bool) (j : FaultKind) → pick false false false d e j ≡ true → 8 ≤ fault_number j
 at_least_8 d e Limit q = omega arith
 at_least_8 d e NumberRange q = omega arith
 at_least_8 d e _ q = absurd cc
 
 -- where the tests before it give false, a fault whose test gives true is 9 or more
-at_least_9 : (e : Bool) (j : FaultKind) → pick false false false false e j ≡ true → 9 ≤ number_of j
+at_least_9 : (e : Bool) (j : FaultKind) → pick false false false false e j ≡ true → 9 ≤ fault_number j
 at_least_9 e NumberRange q = omega arith
 at_least_9 e _ q = absurd cc
 
@@ -158,7 +158,7 @@ picked_holds d NumberRange q = great_number d q
 picked_holds d _ q = absurd cc
 
 -- faults are numbered from 1
-at_least_1 : (j : FaultKind) → 1 ≤ number_of j
+at_least_1 : (j : FaultKind) → 1 ≤ fault_number j
 at_least_1 NotText = omega arith
 at_least_1 NotAStatement = omega arith
 at_least_1 BadForm = omega arith
@@ -170,7 +170,7 @@ at_least_1 Limit = omega arith
 at_least_1 NumberRange = omega arith
 
 -- a line of characters of text has no fault 1
-not_1 : {s : Scope} {n : ℕ} {line : List ℕ} → is_text line ≡ true → (j : FaultKind) → Holds s n line j → 2 ≤ number_of j
+not_1 : {s : Scope} {n : ℕ} {line : List ℕ} → is_text line ≡ true → (j : FaultKind) → Holds s n line j → 2 ≤ fault_number j
 not_1 p _ (other_byte q) = absurd cc
 not_1 p _ (no_word l q) = omega arith
 not_1 p _ (no_form l q h) = omega arith
@@ -184,7 +184,7 @@ not_1 p _ (great_number b q) = omega arith
 
 -- one that begins with a statement word has no fault 2 either
 not_2 : {s : Scope} {n : ℕ} {line : List ℕ} → is_text line ≡ true → is_statement line ≡ true → (j : FaultKind) → Holds s n line j
-    → 3 ≤ number_of j
+    → 3 ≤ fault_number j
 not_2 p w _ (other_byte q) = absurd cc
 not_2 p w _ (no_word l q) = absurd cc
 not_2 p w _ (no_form l q h) = omega arith
@@ -264,7 +264,7 @@ at_number s n line p h r true q = record {
   holds = late_line (ltb-true most_lines n q);
   lowest = λ j k. (
       let e = only_8 p (λ l. let u = l.not_skipped in cc) j k in
-      subst (λ z. 8 ≤ number_of z) (sym e) (omega arith));
+      subst (λ z. 8 ≤ fault_number z) (sym e) (omega arith));
 }
 at_number s n line p h r false q =
     let unlooked : IsLooked line → ⊥ = λ l. (let u = l.not_skipped in cc) in
@@ -288,7 +288,7 @@ at_length s n line p true q =
       holds = long_line long;
       lowest = λ j k. (
           let e = only_8 p (λ l. let u = l.short in omega arith) j k in
-          subst (λ z. 8 ≤ number_of z) (sym e) (omega arith));
+          subst (λ z. 8 ≤ fault_number z) (sym e) (omega arith));
     }
 at_length s n line p false q = at_skipped s n line p (ltb-false most_line_bytes (length line) q) (is_skipped line) refl
 
@@ -299,5 +299,5 @@ at_text s n line false q = record { holds = other_byte q; lowest = λ j k. at_le
 at_text s n line true q = at_length s n line q (nat_lt most_line_bytes (length line)) refl
 
 -- a line is answered as the relations have it
-pub line_answers : (s : Scope) (n : ℕ) (line : List ℕ) → Answers s n line (line_of s n line)
+pub line_answers : (s : Scope) (n : ℕ) (line : List ℕ) → Answers s n line (verdict_on s n line)
 line_answers s n line = at_text s n line (is_text line) refl

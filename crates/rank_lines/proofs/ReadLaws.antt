@@ -14,7 +14,7 @@ use Rattle.rank_lines.specs.declared.fault.ProgramFault.{ProgramFault}
 use Rattle.rank_lines.specs.Faults.{IsText, IsFaultOf}
 use Rattle.rank_lines.specs.Scope.{Scope, IsWhole, nothing_yet, after, after_all}
 use Rattle.rank_lines.specs.SeenLines.{forms_seen}
-use Rattle.rank_lines.specs.Verdict.{line_of, onto_forms, after_line, statements_of, reading_of}
+use Rattle.rank_lines.specs.Verdict.{verdict_on, onto_forms, after_line, statements_of, reading_of}
 use Rattle.rank_lines.specs.Progress.{Reading, taken, with_line, step, with_front, going, IsLed, Reads}
 use Rattle.rank_lines.proofs.TextLaws.{read_text, read_fault, program_or_fault}
 use Rattle.rank_lines.proofs.LineLaws.{Answers, line_answers}
@@ -63,7 +63,7 @@ goes_by r r' n ls (Ok (Some f)) q =
 -- a line without fault: the rest gives what the whole gave
 pub step_goes : (r r' : Reading) (n : ℕ) (line : List ℕ) (ls : List (List ℕ)) → Ok r' ≡ step r n line
     → going r' (n + 1) ls ≡ going r n (line ∷ ls)
-step_goes r r' n line ls q = goes_by r r' n ls (line_of r.scope n line) (sym q)
+step_goes r r' n line ls q = goes_by r r' n ls (verdict_on r.scope n line) (sym q)
 
 -- each fault ends the text
 stops_by : (r : Reading) (n : ℕ) (ls : List (List ℕ)) (a : Result (Option Form) FaultKind) (k : FaultKind) → step_by r a ≡ Err k
@@ -74,7 +74,7 @@ stops_by r n ls (Ok o) k q = absurd cc
 -- a line at fault ends the text
 pub step_stops : (r : Reading) (n : ℕ) (line : List ℕ) (ls : List (List ℕ)) (k : FaultKind) → Err k ≡ step r n line
     → Err (n, k) ≡ going r n (line ∷ ls)
-step_stops r n line ls k q = stops_by r n ls (line_of r.scope n line) k (sym q)
+step_stops r n line ls k q = stops_by r n ls (verdict_on r.scope n line) k (sym q)
 
 -- a line judged without fault is among the first thousand
 early_by : (s : Scope) (n : ℕ) (line : List ℕ) (a : Result (Option Form) FaultKind) → Answers s n line a → (r r' : Reading)
@@ -84,7 +84,7 @@ early_by s n line (Ok o) h r r' q = in_time h
 
 -- a line without fault is among the first thousand
 pub step_in_time : (r r' : Reading) (n : ℕ) (line : List ℕ) → Ok r' ≡ step r n line → n ≤ most_lines
-step_in_time r r' n line q = early_by r.scope n line (line_of r.scope n line) (line_answers r.scope n line) r r' (sym q)
+step_in_time r r' n line q = early_by r.scope n line (verdict_on r.scope n line) (line_answers r.scope n line) r r' (sym q)
 
 -- a last statement comes after the others
 after_push : (s : Scope) (fs : List Form) (f : Form) → after_all s (fs ++ f ∷ []) ≡ after (after_all s fs) f
@@ -101,7 +101,7 @@ leads_by r r' (Ok (Some f)) q h =
 
 -- and leaves what its statement does
 pub step_leads : (r r' : Reading) (n : ℕ) (line : List ℕ) → Ok r' ≡ step r n line → IsLed r → IsLed r'
-step_leads r r' n line q h = leads_by r r' (line_of r.scope n line) (sym q) h
+step_leads r r' n line q h = leads_by r r' (verdict_on r.scope n line) (sym q) h
 
 -- what is read is the text's statements
 pub program_of : (r : Result Draft ParseFault) (text : List ℕ) → Reads r (reading_of text)

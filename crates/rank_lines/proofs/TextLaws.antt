@@ -10,10 +10,10 @@ use Rattle.rank_lines.specs.declared.fault.FaultKind.TheVariants.{BlockStray, Li
 use Rattle.rank_text.specs.Forms.{Form}
 use Rattle.rank_lines.specs.Lines.{lines_of}
 use Rattle.rank_lines.specs.Scope.{Scope, Opened, nothing_yet, is_empty, after}
-use Rattle.rank_lines.specs.Faults.{number_of, IsClean, IsLowest, IsLine, skipped, stated, AreLines, none}
-use Rattle.rank_lines.specs.Faults.{passed, taken, IsText, HasFirstFault, at_end, here, past_skipped}
+use Rattle.rank_lines.specs.Faults.{fault_number, IsClean, IsLowest, IsLine, skipped, stated, AreLines, none}
+use Rattle.rank_lines.specs.Faults.{skipped_line, taken, IsText, HasFirstFault, at_end, here, past_skipped}
 use Rattle.rank_lines.specs.Faults.{past_stated, IsFaultOf}
-use Rattle.rank_lines.specs.Verdict.{line_of, onto_forms, after_line, statements_of, reading_of}
+use Rattle.rank_lines.specs.Verdict.{verdict_on, onto_forms, after_line, statements_of, reading_of}
 use Rattle.rank_lines.proofs.LineLaws.{form_one, Answers, line_answers}
 
 -- a line with a statement or none has no fault
@@ -32,9 +32,9 @@ line_one (stated d e) (stated d' e') = ap Some (form_one d d').1
 no_fault : {s s' : Scope} {n m k : ℕ} {ls : List (List ℕ)} {fs : List Form} {kind : FaultKind} → AreLines s n ls fs s' m → s'.blocks ≡ []
     → HasFirstFault s n ls k kind → ⊥
 no_fault none e (at_end q) = cc
-no_fault (passed a r) e (here w) = clean_of a _ w.holds
-no_fault (passed a r) e (past_skipped b h) = no_fault r e h
-no_fault (passed a r) e (past_stated b h) = let q = line_one a b in cc
+no_fault (skipped_line a r) e (here w) = clean_of a _ w.holds
+no_fault (skipped_line a r) e (past_skipped b h) = no_fault r e h
+no_fault (skipped_line a r) e (past_stated b h) = let q = line_one a b in cc
 no_fault (taken a r) e (here w) = clean_of a _ w.holds
 no_fault (taken a r) e (past_skipped b h) = let q = line_one a b in cc
 no_fault (taken {s = s} {n = n} {ls = ls} {f = f} a r) e (past_stated {m = m} {f = g} {k = kind} b h) =
@@ -48,9 +48,9 @@ program_or_fault text fs line kind a h = no_fault a.lines a.closed h
 -- lines have one list of statements
 lines_one : {s a b : Scope} {n m k : ℕ} {ls : List (List ℕ)} {fs gs : List Form} → AreLines s n ls fs a m → AreLines s n ls gs b k → fs ≡ gs
 lines_one none none = refl
-lines_one (passed a r) (passed b h) = lines_one r h
-lines_one (passed a r) (taken b h) = let q = line_one a b in cc
-lines_one (taken a r) (passed b h) = let q = line_one a b in cc
+lines_one (skipped_line a r) (skipped_line b h) = lines_one r h
+lines_one (skipped_line a r) (taken b h) = let q = line_one a b in cc
+lines_one (taken a r) (skipped_line b h) = let q = line_one a b in cc
 lines_one (taken {s = s} {n = n} {ls = ls} {f = f} a r) (taken {s' = s'} {m = m} {f = g} {fs = gs} b h) =
     let q : g ≡ f = let p = line_one b a in cc in
     let e = lines_one r (subst (λ z. AreLines (after s z) (n + 1) ls gs s' m) q h) in
@@ -68,7 +68,7 @@ kind_of n =
     else (if eqb n 7 then BlockStray else (if eqb n 8 then Limit else NumberRange)))))))
 
 -- a fault is known by its number
-kind_of_number : (k : FaultKind) → kind_of (number_of k) ≡ k
+kind_of_number : (k : FaultKind) → kind_of (fault_number k) ≡ k
 unfolding kind_of
 kind_of_number NotText = refl
 kind_of_number NotAStatement = refl
@@ -85,7 +85,7 @@ lowest_one : {s : Scope} {n : ℕ} {l : List ℕ} {j k : FaultKind} → IsLowest
 lowest_one {j = j} {k = k} a b =
     let below = a.lowest k b.holds in
     let above = b.lowest j a.holds in
-    let e : number_of j ≡ number_of k = omega arith in
+    let e : fault_number j ≡ fault_number k = omega arith in
     sym (kind_of_number j) ∙ ap kind_of e ∙ kind_of_number k
 
 -- lines have one first fault
@@ -122,7 +122,7 @@ ended s n (b ∷ bs) q = at_end q
 -- a skipped line goes on with the rest
 after_skipped : (s : Scope) (n : ℕ) (l : List ℕ) (ls : List (List ℕ)) → IsLine s n l None → (r : Result (List Form) (ℕ × FaultKind))
     → TextAnswers s (n + 1) ls r → TextAnswers s n (l ∷ ls) (onto_forms None r)
-after_skipped s n l ls a (Ok fs) h = (h.0, h.1, passed a h.2, h.3)
+after_skipped s n l ls a (Ok fs) h = (h.0, h.1, skipped_line a h.2, h.3)
 after_skipped s n l ls a (Err e) h = past_skipped a h
 
 -- so does a statement, with what it leaves
@@ -142,7 +142,7 @@ after_answer s n l ls (Ok (Some f)) a more = after_stated s n l ls f a (statemen
 -- lines are answered as the relations have it
 lines_answer : (s : Scope) (n : ℕ) (ls : List (List ℕ)) → TextAnswers s n ls (statements_of s n ls)
 lines_answer s n [] = ended s n s.blocks refl
-lines_answer s n (l ∷ ls) = after_answer s n l ls (line_of s n l) (line_answers s n l) (λ o. lines_answer (after_line s o) (n + 1) ls)
+lines_answer s n (l ∷ ls) = after_answer s n l ls (verdict_on s n l) (line_answers s n l) (λ o. lines_answer (after_line s o) (n + 1) ls)
 
 -- what is read as statements is a text of them
 pub read_text : (text : List ℕ) (fs : List Form) → reading_of text ≡ Ok fs → IsText text fs

@@ -9,7 +9,7 @@ use Rattle.rank_lines.specs.Scope.{Scope, declared_in, is_twice, is_stray, is_pa
 use Rattle.rank_lines.specs.Scope.{has_great_number, after_all, MayStand, AllMayStand, IsWhole}
 use Rattle.rank_lines.proofs.NameLaws.{tokens_named, form_named}
 use Rattle.rank_lines.specs.Faults.{IsFormed, unknown_name, known_name, no_block, late_line, over}
-use Rattle.rank_lines.specs.Faults.{great_number, IsClean, IsLine, skipped, stated, AreLines, none, passed}
+use Rattle.rank_lines.specs.Faults.{great_number, IsClean, IsLine, skipped, stated, AreLines, none, skipped_line}
 use Rattle.rank_lines.specs.Faults.{taken, IsText}
 
 -- what can't be true is false
@@ -55,19 +55,19 @@ in_time (stated d c) = let h : most_lines < _ → ⊥ = λ k. c _ (late_line k) 
 -- the statements of lines may stand where they do
 lines_stand : {s s' : Scope} {n m : ℕ} {ls : List (List ℕ)} {fs : List Form} → AreLines s n ls fs s' m → AllMayStand s fs
 lines_stand none = tt
-lines_stand (passed a r) = lines_stand r
+lines_stand (skipped_line a r) = lines_stand r
 lines_stand (taken a r) = (line_stands a, lines_stand r)
 
 -- the scope behind lines is what their statements leave
 lines_leave : {s s' : Scope} {n m : ℕ} {ls : List (List ℕ)} {fs : List Form} → AreLines s n ls fs s' m → s' ≡ after_all s fs
 lines_leave none = refl
-lines_leave (passed a r) = lines_leave r
+lines_leave (skipped_line a r) = lines_leave r
 lines_leave (taken a r) = lines_leave r
 
 -- lines have at most as many statements as there are lines up to the thousandth
 lines_few : {s s' : Scope} {n m : ℕ} {ls : List (List ℕ)} {fs : List Form} → AreLines s n ls fs s' m → n ≤ most_lines + 1 → n + length fs ≤ most_lines + 1
 lines_few none h = omega arith
-lines_few (passed a r) h = let k = in_time a in let l = lines_few r (omega arith) in omega arith
+lines_few (skipped_line a r) h = let k = in_time a in let l = lines_few r (omega arith) in omega arith
 lines_few (taken a r) h = let k = in_time a in let l = lines_few r (omega arith) in omega arith
 
 -- the statements of a text are whole

@@ -13,16 +13,16 @@ use Rattle.rank_lines.specs.Lines.{lines_of, is_text, is_skipped, is_statement}
 use Rattle.rank_lines.specs.Scope.{Scope, Opened, nothing_yet, declared_in, is_twice, is_stray, is_over, has_great_number, after}
 
 -- the number of a fault
-abbrev pub number_of : FaultKind → ℕ
-number_of NotText = 1
-number_of NotAStatement = 2
-number_of BadForm = 3
-number_of Undeclared = 4
-number_of DeclaredTwice = 5
-number_of BlockOpen = 6
-number_of BlockStray = 7
-number_of Limit = 8
-number_of NumberRange = 9
+abbrev pub fault_number : FaultKind → ℕ
+fault_number NotText = 1
+fault_number NotAStatement = 2
+fault_number BadForm = 3
+fault_number Undeclared = 4
+fault_number DeclaredTwice = 5
+fault_number BlockOpen = 6
+fault_number BlockStray = 7
+fault_number Limit = 8
+fault_number NumberRange = 9
 
 -- the name of a fault
 abbrev pub name_of : FaultKind → List ℕ
@@ -74,7 +74,7 @@ IsClean s n line = (k : FaultKind) → Holds s n line k → ⊥
 -- A fault holds of the line, and none of a lower number does.
 pub record IsLowest (s : Scope) (n : ℕ) (line : List ℕ) (k : FaultKind) : Type 0 where
   pub holds : Holds s n line k
-  pub lowest : (j : FaultKind) → Holds s n line j → number_of k ≤ number_of j
+  pub lowest : (j : FaultKind) → Holds s n line j → fault_number k ≤ fault_number j
 
 -- A line without fault is skipped, or it has its statement.
 pub data IsLine (s : Scope) (n : ℕ) (line : List ℕ) : Option Form → Type 0 where
@@ -84,7 +84,7 @@ pub data IsLine (s : Scope) (n : ℕ) (line : List ℕ) : Option Form → Type 0
 -- Lines from number n on, after lines that leave the scope s, have these statements, and leave the last scope and number.
 pub data AreLines : Scope → ℕ → List (List ℕ) → List Form → Scope → ℕ → Type 0 where
   none : {s : Scope} {n : ℕ} → AreLines s n [] [] s n
-  passed : {s s' : Scope} {n m : ℕ} {l : List ℕ} {ls : List (List ℕ)} {fs : List Form}
+  skipped_line : {s s' : Scope} {n m : ℕ} {l : List ℕ} {ls : List (List ℕ)} {fs : List Form}
       → IsLine s n l None → AreLines s (n + 1) ls fs s' m → AreLines s n (l ∷ ls) fs s' m
   taken : {s s' : Scope} {n m : ℕ} {l : List ℕ} {ls : List (List ℕ)} {f : Form} {fs : List Form}
       → IsLine s n l (Some f) → AreLines (after s f) (n + 1) ls fs s' m → AreLines s n (l ∷ ls) (f ∷ fs) s' m

@@ -9,7 +9,7 @@ use Rattle.rank_lines.specs.declared.draft.Reader as source_reader
 use Rattle.rank_text.specs.Forms.{Form}
 use Rattle.rank_lines.specs.Scope.{Scope, nothing_yet, after, after_all}
 use Rattle.rank_lines.specs.SeenLines.{scope_seen, forms_seen, arrays_seen}
-use Rattle.rank_lines.specs.Verdict.{line_of, statements_of}
+use Rattle.rank_lines.specs.Verdict.{verdict_on, statements_of}
 
 -- what the statements so far leave, and these statements
 pub record Reading : Type 0 where
@@ -35,7 +35,7 @@ with_line r (Some f) = taken r f
 
 -- a line more, or its lowest fault
 abbrev pub step : Reading → ℕ → List ℕ → Result Reading FaultKind
-step r n line = elim (line_of r.scope n line) [ Err k ↦ Err k | Ok o ↦ Ok (with_line r o) ]
+step r n line = elim (verdict_on r.scope n line) [ Err k ↦ Err k | Ok o ↦ Ok (with_line r o) ]
 
 -- what a turn of the code answers, and the reader that it leaves
 abbrev pub stepped : Option FaultKind → Reading → Result Reading FaultKind

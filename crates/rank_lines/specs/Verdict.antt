@@ -51,8 +51,8 @@ measured s n line =
     if nat_lt most_line_bytes (length line) then Err Limit else (if is_skipped line then skipped_of n else looked s n line)
 
 -- a line's statement, or none where the line is skipped, or its lowest fault
-abbrev pub line_of : Scope → ℕ → List ℕ → Result (Option Form) FaultKind
-line_of s n line = if not (is_text line) then Err NotText else measured s n line
+abbrev pub verdict_on : Scope → ℕ → List ℕ → Result (Option Form) FaultKind
+verdict_on s n line = if not (is_text line) then Err NotText else measured s n line
 
 -- a line's statement in front of those of the lines behind it
 abbrev pub onto_forms : Option Form → Result (List Form) (ℕ × FaultKind) → Result (List Form) (ℕ × FaultKind)
@@ -69,7 +69,7 @@ after_line s (Some f) = after s f
 abbrev pub statements_of : Scope → ℕ → List (List ℕ) → Result (List Form) (ℕ × FaultKind)
 statements_of s n [] = if is_empty s.blocks then Ok [] else Err (n, BlockOpen)
 statements_of s n (l ∷ ls) =
-    elim (line_of s n l) [
+    elim (verdict_on s n l) [
       | Err k ↦ Err (n, k)
       | Ok f ↦ onto_forms f (statements_of (after_line s f) (n + 1) ls)
     ]

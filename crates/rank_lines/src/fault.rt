@@ -1,6 +1,6 @@
 //! What is wrong with a text.
 ghost use Rattle.std.specs.Prelude.{◌≡◌, Some};
-ghost use Rattle.rank_lines.specs.Faults.{name_of, number_of};
+ghost use Rattle.rank_lines.specs.Faults.{name_of, fault_number};
 
 use std::fmt;
 
@@ -45,7 +45,7 @@ pub enum ParseFault {
 impl FaultKind {
     /// From 1 to 9.
     pub fn number(self) -> u8
-        ensures { result ≡ number_of self }
+        ensures { result ≡ fault_number self }
     {
         match self {
             FaultKind::NotText => 1,

@@ -5,7 +5,7 @@ ghost use Rattle.rank_text.specs.SeenForms.{form_seen};
 ghost use Rattle.rank_text.specs.Tokens.{tokens_of};
 ghost use Rattle.rank_lines.specs.Scope.{has_large, is_over};
 ghost use Rattle.rank_lines.specs.SeenLines.{judged_seen, scope_seen};
-ghost use Rattle.rank_lines.specs.Verdict.{form_fault, formed, line_of, skipped_of, unless_fault};
+ghost use Rattle.rank_lines.specs.Verdict.{form_fault, formed, verdict_on, skipped_of, unless_fault};
 
 use crate::bytes::{is_skipped, is_statement, is_text};
 use crate::depth::deepest;
@@ -124,7 +124,7 @@ pub(crate) fn judge(
     number: usize,
     line: &[u8],
 ) -> Result<Judged, AllocError>
-    ensures { IfOk result (λ j. judged_seen j ≡ line_of (scope_seen scope.now) number line.now) }
+    ensures { IfOk result (λ j. judged_seen j ≡ verdict_on (scope_seen scope.now) number line.now) }
 {
     if !is_text(line) {
         return Ok(Judged::Faulty(FaultKind::NotText));
