@@ -18,7 +18,7 @@ use Rattle.rank_machine.specs.Machine.{MachineValue}
 use Rattle.checkpoint.specs.declared.fault.ImageFault.TheVariants.{Version, Field, WrongProgram}
 use Rattle.rank_machine.specs.declared.status.Status.{Status}
 use Rattle.checkpoint.specs.Image.{Standing, machine_of, standing_of, status_of, lengths_of, is_underway}
-use Rattle.checkpoint.specs.Spelling.{FitsBytes, values, origin, lengths, table, fault_number, standing, status, machine}
+use Rattle.checkpoint.specs.Spelling.{FitsBytes, values, origin, lengths, table, fault_field, standing, status, machine}
 use Rattle.checkpoint.specs.Legal.{AreArrays, IsTable, IsStanding, IsStatus, IsSaved}
 use Rattle.checkpoint.specs.Reading.{◌>>=◌, field, where_passed, origin_at, lengths_at, table_at, fault_of, fault_at, standing_at}
 use Rattle.checkpoint.specs.Reading.{status_at, arrays_at, machine_at}
@@ -145,7 +145,7 @@ abbrev is_fault : ℕ → Bool
 is_fault x = x == 0 || (x == 6 || x == 7)
 
 -- a number is that of its fault
-fault_back : (x : ℕ) → IsPassed 1 is_fault x → (fault_number (fault_of x) ≡ x) × IsLeft (fault_of x)
+fault_back : (x : ℕ) → IsPassed 1 is_fault x → (fault_field (fault_of x) ≡ x) × IsLeft (fault_of x)
 fault_back x is = elim (or_cases (x == 0) (x == 6 || x == 7) is.passed) [
   | inl a ↦ let e : x ≡ 0 = eqb-true _ _ a in rw e (refl, tt)
   | inr b ↦ elim (or_cases (x == 6) (x == 7) b) [
@@ -155,7 +155,7 @@ fault_back x is = elim (or_cases (x == 0) (x == 6 || x == 7) is.passed) [
 ]
 
 -- a fault is that of its number
-fault_there : (k : Option MachineFault) → IsLeft k → (fault_of (fault_number k) ≡ k) × IsPassed 1 is_fault (fault_number k)
+fault_there : (k : Option MachineFault) → IsLeft k → (fault_of (fault_field k) ≡ k) × IsPassed 1 is_fault (fault_field k)
 fault_there None is = (refl, record { fits = omega arith; passed = refl })
 fault_there (Some TooLong) is = (refl, record { fits = omega arith; passed = refl })
 fault_there (Some CollectiveMismatch) is = (refl, record { fits = omega arith; passed = refl })
@@ -166,9 +166,9 @@ fault_there (Some BadRank) is = absurd is
 fault_there (Some BadTag) is = absurd is
 
 -- the reader of a fault
-pub fault_reader : IsReader fault_at (λ k. big_bytes 1 (fault_number k)) IsLeft
+pub fault_reader : IsReader fault_at (λ k. big_bytes 1 (fault_field k)) IsLeft
 unfolding fault_at
-fault_reader = seen_as (field_reader 1 Field is_fault) fault_of fault_number IsLeft fault_back fault_there
+fault_reader = seen_as (field_reader 1 Field is_fault) fault_of fault_field IsLeft fault_back fault_there
 
 -- the reader of what the last message was
 pub status_reader : (size : ℕ) → IsReader (status_at size) status (IsStatus size)
@@ -216,12 +216,12 @@ standing_reader statements = record {
       let l3 : FitsBytes 1 s3.item = s3.is in
       let t45 = takes_then s3.rest (values s4.item) s4.rest (big_bytes 4 s5.item) s5.rest s4.took s5.took in
       let t35 = takes_then s2.rest (big_bytes 1 (length s4.item)) s3.rest (values s4.item ++ big_bytes 4 s5.item) s5.rest count t45 in
-      let t25 = takes_then s1.rest (big_bytes 1 (fault_number s2.item)) s2.rest
+      let t25 = takes_then s1.rest (big_bytes 1 (fault_field s2.item)) s2.rest
       (big_bytes 1 (length s4.item) ++ (values s4.item ++ big_bytes 4 s5.item)) s5.rest s2.took t35 in
-      let t15 = takes_then s0.rest (big_bytes 1 s1.item) s1.rest (big_bytes 1 (fault_number s2.item)
+      let t15 = takes_then s0.rest (big_bytes 1 s1.item) s1.rest (big_bytes 1 (fault_field s2.item)
       ++ (big_bytes 1 (length s4.item) ++ (values s4.item ++ big_bytes 4 s5.item))) s5.rest s1.took t25 in
       let t05 = takes_then bytes (big_bytes 2 s0.item) s0.rest
-      (big_bytes 1 s1.item ++ (big_bytes 1 (fault_number s2.item)
+      (big_bytes 1 s1.item ++ (big_bytes 1 (fault_field s2.item)
       ++ (big_bytes 1 (length s4.item) ++ (values s4.item ++ big_bytes 4 s5.item)))) s5.rest s0.took t15 in
       let is : IsStanding statements made = record {
         position = leb-true _ _ s0.is.passed;
@@ -235,10 +235,10 @@ standing_reader statements = record {
       subst (λ (p : Standing × List ℕ). Takes bytes (standing p.0) p.1 × IsStanding statements p.0) same (t05, is);
   again = λ x rest is.
       again_then (field_reader 2 Field (λ x. nat_le x statements)) x.position
-      (big_bytes 1 x.done ++ (big_bytes 1 (fault_number x.fault)
+      (big_bytes 1 x.done ++ (big_bytes 1 (fault_field x.fault)
       ++ (big_bytes 1 (length x.gathered) ++ (values x.gathered ++ big_bytes 4 x.finished)))) rest _ _
       (record { fits = is.word; passed = le-leb _ _ is.position })
-      (again_then (number 1) x.done (big_bytes 1 (fault_number x.fault)
+      (again_then (number 1) x.done (big_bytes 1 (fault_field x.fault)
       ++ (big_bytes 1 (length x.gathered) ++ (values x.gathered ++ big_bytes 4 x.finished))) rest _ _ is.done
       (again_then fault_reader x.fault (big_bytes 1 (length x.gathered) ++ (values x.gathered ++ big_bytes 4 x.finished)) rest _ _
       is.fault

@@ -13,7 +13,7 @@ use Rattle.payload_log.specs.Backlog.{Backlog, from_beginning}
 use Rattle.rank_language.specs.Program.{ProgramValue}
 use Rattle.rank_machine.specs.declared.fault.MachineFault.{MachineFault}
 use Rattle.rank_machine.specs.declared.fault.MachineFault.TheVariants.{TooLong, CollectiveMismatch}
-use Rattle.rank_machine.specs.Faults.{number_of}
+use Rattle.rank_machine.specs.Faults.{fault_number}
 use Rattle.rank_machine.specs.Collectives.{greatest_ordinal}
 use Rattle.rank_machine.specs.Machine.{MachineValue}
 use Rattle.checkpoint.specs.declared.fault.ImageFault.{ImageFault}
@@ -168,12 +168,12 @@ table_at p bytes = do
 
 -- the fault of a number
 abbrev pub fault_of : ℕ → Option MachineFault
-fault_of x = if x == 0 then None else (if x == number_of TooLong then Some TooLong else Some CollectiveMismatch)
+fault_of x = if x == 0 then None else (if x == fault_number TooLong then Some TooLong else Some CollectiveMismatch)
 
 -- a fault that an act left, if one did
 unfoldable pub fault_at : List ℕ → Read (Option MachineFault)
 fault_at bytes = do
-  x ← field 1 Field (λ x. x == 0 || (x == number_of TooLong || x == number_of CollectiveMismatch)) bytes
+  x ← field 1 Field (λ x. x == 0 || (x == fault_number TooLong || x == fault_number CollectiveMismatch)) bytes
   Ok (fault_of x.0, x.1)
 
 -- where a machine stands

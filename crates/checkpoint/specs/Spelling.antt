@@ -9,7 +9,7 @@ use Rattle.matching.specs.Message.{Message}
 use Rattle.payload_log.specs.Backlog.{Backlog}
 use Rattle.rank_language.specs.Program.{ProgramValue}
 use Rattle.rank_machine.specs.declared.fault.MachineFault.{MachineFault}
-use Rattle.rank_machine.specs.Faults.{number_of}
+use Rattle.rank_machine.specs.Faults.{fault_number}
 use Rattle.rank_machine.specs.Machine.{MachineValue}
 use Rattle.matching.specs.Inbox.{Mailbox}
 use Rattle.rank_machine.specs.declared.status.Status.{Status}
@@ -66,14 +66,14 @@ table p =
     ++ lengths p.arrays))
 
 -- the number of the fault that an act left, 0 for none
-abbrev pub fault_number : Option MachineFault → ℕ
-fault_number None = 0
-fault_number (Some k) = number_of k
+abbrev pub fault_field : Option MachineFault → ℕ
+fault_field None = 0
+fault_field (Some k) = fault_number k
 
 -- where the machine stands
 unfoldable pub standing : Standing → List ℕ
 standing s =
-    big_bytes 2 s.position ++ (big_bytes 1 s.done ++ (big_bytes 1 (fault_number s.fault) ++ (big_bytes 1 (length s.gathered)
+    big_bytes 2 s.position ++ (big_bytes 1 s.done ++ (big_bytes 1 (fault_field s.fault) ++ (big_bytes 1 (length s.gathered)
     ++ (values s.gathered ++ big_bytes 4 s.finished))))
 
 -- source, tag and number of items of the last message

@@ -9,7 +9,7 @@ ghost use Rattle.rank_language.specs.Program.{AllSized};
 ghost use Rattle.checkpoint.specs.Image.{standing_of, status_of};
 ghost use Rattle.checkpoint.specs.Legal.{IsTable, IsPacket, IsStored};
 ghost use Rattle.checkpoint.specs.Spelling.{FitsBytes, values, packet, kept, lane, origin, lengths, table};
-ghost use Rattle.checkpoint.specs.Spelling.{fault_number, standing, status, machine, inbox};
+ghost use Rattle.checkpoint.specs.Spelling.{fault_field, standing, status, machine, inbox};
 
 use crate::read_machine::{FORMAT, array_count};
 use crate::writing::{put_tail, put_u8, put_u16, put_u32, put_values};
@@ -148,7 +148,7 @@ pub fn put_table(out: &mut Vec<u8, Heap>, program: &Program) -> Result<(), Alloc
 }
 
 fn fault_byte(fault: Option<MachineFault>) -> u8
-    ensures { result ≡ fault_number fault }
+    ensures { result ≡ fault_field fault }
 {
     match fault {
         None => 0,

@@ -56,7 +56,7 @@ pub fn put_values(out: &mut Vec<u8, Heap>, items: &[i64]) -> Result<(), AllocErr
     Ok(())
 }
 
-fn number_of(context: Context) -> u8
+fn context_byte(context: Context) -> u8
     ensures { result ≡ context_number context }
 {
     match context {
@@ -71,7 +71,7 @@ pub fn put_tail(out: &mut Vec<u8, Heap>, packet: &Packet) -> Result<(), AllocErr
     ensures packet { OnOk result (IsPacket packet.now) }
     ensures spelled { OnOk result (out.new.items ≡ out.old.items ++ tail packet.now) }
 {
-    put_u8(out, number_of(packet.context))?;
+    put_u8(out, context_byte(packet.context))?;
     put_u16(out, packet.tag)?;
     put_u16(out, packet.payload.len() as u16)?;
     put_values(out, &packet.payload)

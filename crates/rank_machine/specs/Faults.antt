@@ -4,14 +4,14 @@ use Rattle.rank_machine.specs.declared.fault.MachineFault.{MachineFault}
 use Rattle.rank_machine.specs.declared.fault.MachineFault.TheVariants.{Overflow, ZeroDivide, Index, BadRank, BadTag, TooLong, CollectiveMismatch}
 
 -- the number of a fault
-abbrev pub number_of : MachineFault → ℕ
-number_of Overflow = 1
-number_of ZeroDivide = 2
-number_of Index = 3
-number_of BadRank = 4
-number_of BadTag = 5
-number_of TooLong = 6
-number_of CollectiveMismatch = 7
+abbrev pub fault_number : MachineFault → ℕ
+fault_number Overflow = 1
+fault_number ZeroDivide = 2
+fault_number Index = 3
+fault_number BadRank = 4
+fault_number BadTag = 5
+fault_number TooLong = 6
+fault_number CollectiveMismatch = 7
 
 -- an act can leave only two faults; the others are faults of an evaluation, which is no step
 abbrev pub IsLeft : Option MachineFault → Type 0
