@@ -9,7 +9,7 @@ use Rattle.matching.specs.declared.packet.Context.{Context}
 use Rattle.matching.specs.declared.packet.Context.TheVariants.{PointToPoint, Collective}
 use Rattle.matching.specs.Message.{Message, least_items, most_items, greatest_tag}
 use Rattle.matching.specs.Inbox.{Mailbox, may_follow}
-use Rattle.payload_log.specs.Backlog.{Backlog}
+use Rattle.payload_log.specs.Backlog.{BacklogValue}
 use Rattle.checkpoint.specs.declared.fault.ImageFault.TheVariants.{Field}
 use Rattle.checkpoint.specs.Spelling.{FitsBytes, values, context_number, tail, packet, kept, lane}
 use Rattle.checkpoint.specs.Legal.{IsTail, IsNextPacket, IsNextKept, IsLane}
@@ -207,11 +207,11 @@ kept_reader rank most base small before = record {
 -- ---- what is kept for a destination
 
 -- a lane with this cursor and what is held
-abbrev with_cursor : Backlog → List ℕ → ℕ → List Message → Backlog × List ℕ
+abbrev with_cursor : BacklogValue → List ℕ → ℕ → List Message → BacklogValue × List ℕ
 with_cursor b rest cursor held = (record b { cursor = cursor; held = held }, rest)
 
 -- a legal lane is read from its bytes
-lane_again : (rank clock : ℕ) → clock ≤ greatest_clock → (b : Backlog) (rest : List ℕ) → IsLane rank clock b
+lane_again : (rank clock : ℕ) → clock ≤ greatest_clock → (b : BacklogValue) (rest : List ℕ) → IsLane rank clock b
     → lane_at rank clock (lane b ++ rest) ≡ Ok (b, rest)
 unfolding lane_at lane
 lane_again rank clock small b rest is =
@@ -230,7 +230,7 @@ lane_reader rank clock small = record {
       let s0 = step (field_reader 4 Field (λ x. nat_le x clock)) bytes _ (b, rest) fits e in
       let s1 = step (field_reader 4 Field (λ x. nat_le x greatest_clock)) s0.rest _ (b, rest) s0.took.fits s0.on in
       let s2 = step (many_reader (kept_reader rank clock s1.item small) (s0.item - s1.item)) s1.rest _ (b, rest) s1.took.fits s1.on in
-      let made : Backlog = record { base = s1.item; sent = s0.item; cursor = s1.item + 1; kept = s2.item; held = [] } in
+      let made : BacklogValue = record { base = s1.item; sent = s0.item; cursor = s1.item + 1; kept = s2.item; held = [] } in
       let same = ok_is (made, s2.rest) (b, rest) s2.on in
       let t1 = takes_then s0.rest (big_bytes 4 s1.item) s1.rest (flat_map kept s2.item) s2.rest s1.took s2.took in
       let t0 = takes_then bytes (big_bytes 4 s0.item) s0.rest (big_bytes 4 s1.item ++ flat_map kept s2.item) s2.rest s0.took t1 in
@@ -242,6 +242,6 @@ lane_reader rank clock small = record {
         held = refl;
         kept = s2.is;
       } in
-      subst (λ (p : Backlog × List ℕ). Takes bytes (lane p.0) p.1 × IsLane rank clock p.0) same (t0, is);
+      subst (λ (p : BacklogValue × List ℕ). Takes bytes (lane p.0) p.1 × IsLane rank clock p.0) same (t0, is);
   again = λ b rest is. lane_again rank clock small b rest is;
 }

@@ -6,7 +6,7 @@ use Rattle.std.proofs.lemmas.List.{append-nil}
 use Rattle.std.proofs.lemmas.List.Kept.{AllPairs-cons}
 use Rattle.metered.specs.Limits.{most_ranks}
 use Rattle.matching.specs.Message.{Message}
-use Rattle.payload_log.specs.Backlog.{Backlog}
+use Rattle.payload_log.specs.Backlog.{BacklogValue}
 use Rattle.payload_log.specs.Sender.{WasBefore, IsSentBy}
 use Rattle.rank_language.specs.Program.{ProgramValue}
 use Rattle.checkpoint.specs.declared.fault.ImageFault.{ImageFault}
@@ -40,7 +40,7 @@ kept_rise rank most base before (m ∷ ms) row =
     AllPairs-cons WasBefore m ms above (kept_rise rank most base (before ++ m ∷ []) ms row.1)
 
 -- what a lane of an image keeps was sent by this rank
-sent_is : (rank clock : ℕ) (b : Backlog) → IsLane rank clock b → IsSentBy rank clock b
+sent_is : (rank clock : ℕ) (b : BacklogValue) → IsLane rank clock b → IsSentBy rank clock b
 sent_is rank clock b is =
     let same : b.kept ++ b.held ≡ b.kept = ap (λ (ms : List Message). b.kept ++ ms) is.held ∙ append-nil b.kept in
     let each = is.kept.each in
@@ -71,7 +71,7 @@ savable_is p rank size i few is =
     }
 
 -- the cursors of an image are at rest
-lanes_stay : (rank clock : ℕ) (before bs : List Backlog) → AllAfter (λ front. IsLane rank clock) before bs → map rewound bs ≡ bs
+lanes_stay : (rank clock : ℕ) (before bs : List BacklogValue) → AllAfter (λ front. IsLane rank clock) before bs → map rewound bs ≡ bs
 lanes_stay rank clock before [] row = refl
 lanes_stay rank clock before (b ∷ bs) row =
     let one : rewound b ≡ b = λ i. record b { cursor = sym row.0.cursor i; held = sym row.0.held i } in

@@ -12,7 +12,7 @@ use Rattle.std.proofs.lemmas.List.{length-map, length_push}
 use Rattle.metered.specs.Limits.{most_ranks, most_lines, most_variables, most_arrays, greatest_clock}
 use Rattle.matching.specs.Message.{Message}
 use Rattle.matching.specs.Inbox.{Mailbox, IsMailbox, WasAccepted, RisesTo, is_below, may_follow}
-use Rattle.payload_log.specs.Backlog.{Backlog}
+use Rattle.payload_log.specs.Backlog.{BacklogValue}
 use Rattle.payload_log.specs.Sender.{WasBefore, IsSentBy}
 use Rattle.rank_language.specs.Block.{size}
 use Rattle.rank_language.specs.Program.{ProgramValue, block_of, AllSized}
@@ -148,7 +148,7 @@ kept_row rank most base before (m ∷ ms) small sources within rises above numbe
     )
 
 -- what is kept for a destination is legal once its cursor is at rest
-lane_is : (rank clock : ℕ) (b : Backlog) → clock ≤ greatest_clock → IsSentBy rank clock b → IsStored b → IsLane rank clock (rewound b)
+lane_is : (rank clock : ℕ) (b : BacklogValue) → clock ≤ greatest_clock → IsSentBy rank clock b → IsStored b → IsLane rank clock (rewound b)
 lane_is rank clock b small sent stored =
     let acts = sent.acts in
     record {
@@ -167,7 +167,7 @@ lane_is rank clock b small sent stored =
     }
 
 -- so is what is kept for each destination
-lane_row : (rank clock : ℕ) (before bs : List Backlog) → clock ≤ greatest_clock → All (IsSentBy rank clock) bs → All IsStored bs
+lane_row : (rank clock : ℕ) (before bs : List BacklogValue) → clock ≤ greatest_clock → All (IsSentBy rank clock) bs → All IsStored bs
     → AllAfter (λ front. IsLane rank clock) before (map rewound bs)
 lane_row rank clock before [] small sent stored = tt
 lane_row rank clock before (b ∷ bs) small sent stored = (

@@ -2,7 +2,7 @@
 use Rattle.std.proofs.Common.{◌≡◌, ℕ, ◌≤◌, Bool, true, false, List, [], ◌∷◌, ◌++◌, length, map, Result, Ok, Err, refl, sym, ap, subst}
 use Rattle.std.proofs.Common.{◌∙◌, arith}
 use Rattle.std.specs.Prelude.{nat_le, ◌==◌, IfOk}
-use Rattle.payload_log.specs.Backlog.{Backlog}
+use Rattle.payload_log.specs.Backlog.{BacklogValue}
 use Rattle.std.specs.List.{flat_map}
 use Rattle.std.proofs.lemmas.Bool.{leb-true, le-leb, eqb-true}
 use Rattle.std.proofs.lemmas.List.{append-nil, nil_from_length}
@@ -170,7 +170,7 @@ is_found p rank size small few bytes (Ok x) view fits given = read_is_spelled p 
 is_found p rank size small few bytes (Err e) view fits given = tt
 
 -- the cursors of lanes aren't in the bytes
-lanes_rest : (log : List Backlog) → flat_map lane (map rewound log) ≡ flat_map lane log
+lanes_rest : (log : List BacklogValue) → flat_map lane (map rewound log) ≡ flat_map lane log
 unfolding lane
 lanes_rest [] = refl
 lanes_rest (b ∷ bs) = ap (λ (rest : List ℕ). lane b ++ rest) (lanes_rest bs)

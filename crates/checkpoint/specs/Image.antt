@@ -2,7 +2,7 @@
 -- Wang and Johnson 2002, "A Survey of Rollback-Recovery Protocols in Message-Passing Systems", section 2).
 use Rattle.std.specs.Prelude.{ℕ, ◌+◌, Bool, ◌&&◌, List, [], length, map, ℤ, nat_lt, ◌==◌, Option}
 use Rattle.matching.specs.Inbox.{Mailbox}
-use Rattle.payload_log.specs.Backlog.{Backlog}
+use Rattle.payload_log.specs.Backlog.{BacklogValue}
 use Rattle.rank_language.specs.Program.{ProgramValue}
 use Rattle.rank_machine.specs.declared.fault.MachineFault.{MachineFault}
 use Rattle.rank_machine.specs.declared.status.Status.{Status}
@@ -15,10 +15,10 @@ pub record ImageValue : Type 0 where
   pub machine : MachineValue
   pub clock : ℕ
   pub inbox : Mailbox
-  pub log : List Backlog
+  pub log : List BacklogValue
 
 -- what is kept for a destination, to be transmitted from its beginning; nothing is held in an image
-abbrev pub rewound : Backlog → Backlog
+abbrev pub rewound : BacklogValue → BacklogValue
 rewound b = record b { cursor = b.base + 1; held = [] }
 
 -- the image as it is read again: of cursors it says nothing

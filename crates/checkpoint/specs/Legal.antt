@@ -6,7 +6,7 @@ use Rattle.metered.specs.Limits as limits
 use Rattle.metered.specs.Limits.{greatest_clock}
 use Rattle.matching.specs.Message.{Message, IsMessage, least_items, most_items, greatest_tag}
 use Rattle.matching.specs.Inbox.{Mailbox, may_follow}
-use Rattle.payload_log.specs.Backlog.{Backlog, IsBacklog}
+use Rattle.payload_log.specs.Backlog.{BacklogValue, IsBacklog}
 use Rattle.rank_language.specs.Program.{ProgramValue}
 use Rattle.rank_machine.specs.Faults.{IsLeft}
 use Rattle.rank_machine.specs.Collectives.{greatest_ordinal}
@@ -46,7 +46,7 @@ pub record IsPacket (m : Message) : Type 0 where
   pub items : All (FitsSigned w64) m.items
 
 -- what is kept for a destination is packets, by number
-pub record IsStored (b : Backlog) : Type 0 where
+pub record IsStored (b : BacklogValue) : Type 0 where
   pub order : IsBacklog b
   pub packets : All IsPacket b.kept
 
@@ -68,7 +68,7 @@ pub record IsNextKept (rank most base : ℕ) (before : List Message) (m : Messag
   pub tail : IsTail rank m.clock (base + length before + 1) m
 
 -- what may be kept for a destination in an image of this clock
-pub record IsLane (rank clock : ℕ) (b : Backlog) : Type 0 where
+pub record IsLane (rank clock : ℕ) (b : BacklogValue) : Type 0 where
   pub sent : b.sent ≤ clock
   pub word : FitsBytes 4 b.sent
   pub base : b.base ≤ greatest_clock

@@ -9,7 +9,7 @@ use Rattle.matching.specs.declared.packet.Context.TheVariants.{PointToPoint, Col
 use Rattle.metered.specs.Limits as limits
 use Rattle.metered.specs.Limits.{greatest_clock}
 use Rattle.matching.specs.Message.{Message, least_items, most_items, greatest_tag}
-use Rattle.payload_log.specs.Backlog.{Backlog, from_beginning}
+use Rattle.payload_log.specs.Backlog.{BacklogValue, from_beginning}
 use Rattle.rank_language.specs.Program.{ProgramValue}
 use Rattle.rank_machine.specs.declared.fault.MachineFault.{MachineFault}
 use Rattle.rank_machine.specs.declared.fault.MachineFault.TheVariants.{TooLong, CollectiveMismatch}
@@ -124,7 +124,7 @@ abbrev pub kept_at : ℕ → ℕ → ℕ → List Message → List ℕ → Read 
 kept_at rank most base before bytes = kept_above rank most (last_clock before) (base + length before + 1) bytes
 
 -- what is kept for a destination, with the cursor right behind the base
-unfoldable pub lane_at : ℕ → ℕ → List ℕ → Read Backlog
+unfoldable pub lane_at : ℕ → ℕ → List ℕ → Read BacklogValue
 lane_at rank clock bytes = do
   sent ← field 4 Field (λ x. nat_le x clock) bytes
   base ← count_at sent.1
@@ -132,7 +132,7 @@ lane_at rank clock bytes = do
   Ok (from_beginning base.0 sent.0 kept.0, kept.1)
 
 -- what is kept for each of so many destinations
-unfoldable pub log_at : ℕ → ℕ → ℕ → List ℕ → Read (List Backlog)
+unfoldable pub log_at : ℕ → ℕ → ℕ → List ℕ → Read (List BacklogValue)
 log_at rank clock size bytes = many_at (λ before. lane_at rank clock) size [] bytes
 
 -- what is accepted of each rank, and the packets that are there

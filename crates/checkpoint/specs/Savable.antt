@@ -1,7 +1,7 @@
 -- Which values can be written as an image of a rank (docs/FORMATS.md, "Images").
 use Rattle.std.specs.Prelude.{◌≡◌, ◌≤◌, [], length, All}
 use Rattle.metered.specs.Limits.{most_ranks, greatest_clock}
-use Rattle.payload_log.specs.Backlog.{Backlog}
+use Rattle.payload_log.specs.Backlog.{BacklogValue}
 use Rattle.payload_log.specs.Sender.{IsSentBy}
 use Rattle.checkpoint.specs.Image.{ImageValue}
 
@@ -13,4 +13,4 @@ pub record IsSavable (i : ImageValue) : Type 0 where
   pub log : length i.log ≡ i.machine.store.size
   pub clock : i.clock ≤ greatest_clock
   pub sent : All (IsSentBy i.machine.store.rank i.clock) i.log
-  pub settled : All (λ (b : Backlog). b.held ≡ []) i.log
+  pub settled : All (λ (b : BacklogValue). b.held ≡ []) i.log

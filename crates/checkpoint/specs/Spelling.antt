@@ -6,7 +6,7 @@ use Rattle.byteorder.specs.Endian.{big_bytes}
 use Rattle.matching.specs.declared.packet.Context.{Context}
 use Rattle.matching.specs.declared.packet.Context.TheVariants.{PointToPoint, Collective}
 use Rattle.matching.specs.Message.{Message}
-use Rattle.payload_log.specs.Backlog.{Backlog}
+use Rattle.payload_log.specs.Backlog.{BacklogValue}
 use Rattle.rank_language.specs.Program.{ProgramValue}
 use Rattle.rank_machine.specs.declared.fault.MachineFault.{MachineFault}
 use Rattle.rank_machine.specs.Faults.{fault_number}
@@ -48,7 +48,7 @@ unfoldable pub kept : Message → List ℕ
 kept m = big_bytes 4 m.clock ++ tail m
 
 -- what is kept for a destination; the cursor isn't in it
-unfoldable pub lane : Backlog → List ℕ
+unfoldable pub lane : BacklogValue → List ℕ
 lane b = big_bytes 4 b.sent ++ (big_bytes 4 b.base ++ flat_map kept b.kept)
 
 -- the format, the rank and the number of ranks

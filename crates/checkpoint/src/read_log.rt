@@ -8,7 +8,7 @@ use crate::fault::ImageFault;
 use crate::reading::{count_of, tail_of, u32_at};
 use matching::Packet;
 use metered::Heap;
-use payload_log::{Kept, PayloadLog};
+use payload_log::{Backlog, PayloadLog};
 use std::collections::VecDeque;
 
 /// A packet that is kept: it was sent after the clock `above`, and not after `most`.
@@ -63,7 +63,7 @@ fn packets_of(
 
 /// What is kept for a destination.
 #[tactic(auto, unfolding(crate::specs::Reading::lane_at, crate::specs::Reading::field))]
-fn lane_of(alloc: Heap, rank: u8, clock: u32, bytes: &[u8]) -> Result<(Kept, &[u8]), ImageFault>
+fn lane_of(alloc: Heap, rank: u8, clock: u32, bytes: &[u8]) -> Result<(Backlog, &[u8]), ImageFault>
     requires { clock ≤ greatest_clock }
     ensures { Gives (λ x. (x.0, x.1.now)) result (lane_at rank clock bytes.now) }
 {
@@ -73,7 +73,7 @@ fn lane_of(alloc: Heap, rank: u8, clock: u32, bytes: &[u8]) -> Result<(Kept, &[u
     }
     let (base, rest) = count_of(rest)?;
     let (packets, rest) = packets_of(alloc, rank, clock, base, sent.saturating_sub(base), rest)?;
-    Ok((Kept::of(base, sent, packets), rest))
+    Ok((Backlog::of(base, sent, packets), rest))
 }
 
 /// What is kept for each destination.

@@ -1,7 +1,7 @@
 //! Reads the header and the machine of an image.
 ghost use Rattle.std.specs.Prelude.{◌≡◌, ◌≤◌, ◌<◌, ◌==◌, nat_le, length, map, IfOk};
 ghost use Rattle.metered.specs.Limits.{greatest_tag, most_items};
-ghost use Rattle.rank_lines.specs.SeenLines.{arrays_seen};
+ghost use Rattle.rank_checker.specs.SeenLines.{arrays_seen};
 ghost use Rattle.rank_language.specs.Program.{AllSized};
 ghost use Rattle.rank_machine.specs.Faults.{IsLeft};
 ghost use Rattle.rank_machine.specs.Collectives.{greatest_ordinal};

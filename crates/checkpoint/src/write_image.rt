@@ -4,7 +4,7 @@ ghost use Rattle.std.specs.Int.{w64};
 ghost use Rattle.std.specs.List.{flat_map};
 ghost use Rattle.byteorder.specs.Endian.{big_bytes};
 ghost use Rattle.metered.specs.Limits.{most_items};
-ghost use Rattle.rank_lines.specs.SeenLines.{arrays_seen};
+ghost use Rattle.rank_checker.specs.SeenLines.{arrays_seen};
 ghost use Rattle.rank_language.specs.Program.{AllSized};
 ghost use Rattle.checkpoint.specs.Image.{standing_of, status_of};
 ghost use Rattle.checkpoint.specs.Legal.{IsTable, IsPacket, IsStored};
@@ -15,7 +15,7 @@ use crate::read_machine::{FORMAT, array_count};
 use crate::writing::{put_tail, put_u8, put_u16, put_u32, put_values};
 use matching::{Inbox, Packet};
 use metered::Heap;
-use payload_log::Kept;
+use payload_log::Backlog;
 use rank_language::{Array, Program};
 use rank_machine::{Items, Machine, MachineFault};
 use std::alloc::AllocError;
@@ -70,7 +70,7 @@ fn put_kept(out: &mut Vec<u8, Heap>, p: &Packet) -> Result<(), AllocError>
     put_tail(out, p)
 }
 
-fn put_all_kept(out: &mut Vec<u8, Heap>, l: &Kept) -> Result<(), AllocError>
+fn put_all_kept(out: &mut Vec<u8, Heap>, l: &Backlog) -> Result<(), AllocError>
     ensures spelled { OnOk result (out.new.items ≡ out.old.items ++ flat_map kept l.now.kept) }
     ensures packets { OnOk result (All IsPacket l.now.kept) }
 {
@@ -84,7 +84,7 @@ fn put_all_kept(out: &mut Vec<u8, Heap>, l: &Kept) -> Result<(), AllocError>
 }
 
 #[tactic(auto, unfolding(crate::specs::Spelling::lane))]
-fn put_lane(out: &mut Vec<u8, Heap>, l: &Kept) -> Result<(), AllocError>
+fn put_lane(out: &mut Vec<u8, Heap>, l: &Backlog) -> Result<(), AllocError>
     ensures spelled { OnOk result (out.new.items ≡ out.old.items ++ lane l.now) }
     ensures stored { OnOk result (IsStored l.now) }
 {
@@ -94,7 +94,7 @@ fn put_lane(out: &mut Vec<u8, Heap>, l: &Kept) -> Result<(), AllocError>
     put_all_kept(out, l)
 }
 
-pub fn put_lanes(out: &mut Vec<u8, Heap>, log: &[Kept]) -> Result<(), AllocError>
+pub fn put_lanes(out: &mut Vec<u8, Heap>, log: &[Backlog]) -> Result<(), AllocError>
     ensures spelled { OnOk result (out.new.items ≡ out.old.items ++ flat_map lane log.now) }
     ensures stored { OnOk result (All IsStored log.now) }
 {

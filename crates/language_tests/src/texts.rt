@@ -2,7 +2,7 @@
 
 use crate::answers::{Row, View, same, shows};
 use metered::Heap;
-use rank_lines::{FaultKind, ParseFault, ProgramFault};
+use rank_checker::{FaultKind, ParseFault, ProgramFault};
 use std::alloc::AllocError;
 use std::process::Abort;
 use std::test::*;

@@ -11,7 +11,7 @@ use Rattle.std.proofs.lemmas.Grind.{common_steps}
 use Rattle.std.proofs.lemmas.List.{drop-take, drop-drop, take-append-le, drop-append-le, length-take, length-drop, length-append, drop_all, take_all}
 use Rattle.metered.specs.Limits.{greatest_clock}
 use Rattle.matching.specs.Message.{Message}
-use Rattle.payload_log.specs.Backlog.{Backlog, AreNumbered, IsBacklog, backlog_of, saved, hold, freed_of, next_number, pruned}
+use Rattle.payload_log.specs.Backlog.{BacklogValue, AreNumbered, IsBacklog, backlog_of, saved, hold, freed_of, next_number, pruned}
 
 -- one more with the next number
 numbered_push : (base : ℕ) (ms : List Message) (m : Message) → AreNumbered base ms → m.number ≡ base + length ms + 1 → AreNumbered base (ms ++ m ∷ [])
@@ -48,15 +48,15 @@ not_above : (a b : ℕ) → b ≤ a → nat_lt a b ≡ false
 not_above a b le = grind (arith, common_steps)
 
 -- a packet that is saved is kept where its number is above the base
-saved_above : (b : Backlog) (m : Message) → b.base < m.number → saved b m ≡ record b { sent = b.sent + 1; kept = b.kept ++ m ∷ [] }
+saved_above : (b : BacklogValue) (m : Message) → b.base < m.number → saved b m ≡ record b { sent = b.sent + 1; kept = b.kept ++ m ∷ [] }
 saved_above b m lt = ap (λ (t : Bool). record b { sent = b.sent + 1; kept = if t then b.kept ++ m ∷ [] else b.kept }) (above b.base m.number lt)
 
 -- and where it is not, the packet is only counted as sent
-saved_below : (b : Backlog) (m : Message) → m.number ≤ b.base → saved b m ≡ record b { sent = b.sent + 1 }
+saved_below : (b : BacklogValue) (m : Message) → m.number ≤ b.base → saved b m ≡ record b { sent = b.sent + 1 }
 saved_below b m le = ap (λ (t : Bool). record b { sent = b.sent + 1; kept = if t then b.kept ++ m ∷ [] else b.kept }) (not_above b.base m.number le)
 
 -- a backlog stays one with a packet that is saved, where what is held goes on from there
-is_backlog_saved : (b : Backlog) (m : Message) (held : List Message) → IsBacklog b → m.number ≡ b.sent + 1 → b.sent + 1 + length held ≤ greatest_clock
+is_backlog_saved : (b : BacklogValue) (m : Message) (held : List Message) → IsBacklog b → m.number ≡ b.sent + 1 → b.sent + 1 + length held ≤ greatest_clock
     → AreNumbered (b.sent + 1) held → IsBacklog (saved (record b { held = held }) m)
 is_backlog_saved b m held is next high numbers = at (cases_lt b.base m.number)
   where
@@ -86,7 +86,7 @@ is_backlog_saved b m held is next high numbers = at (cases_lt b.base m.number)
         })
 
 -- the packet that was held first has the next number, and those behind it go on from there
-pub is_backlog_freed : (b : Backlog) (held : List Message) → b.held ≡ held → 0 < length held → IsBacklog b → IsBacklog (freed_of b held)
+pub is_backlog_freed : (b : BacklogValue) (held : List Message) → b.held ≡ held → 0 < length held → IsBacklog b → IsBacklog (freed_of b held)
 is_backlog_freed b [] e some is = absurd (omega arith)
 is_backlog_freed b (m ∷ ms) e some is =
     let numbers : AreNumbered b.sent (m ∷ ms) = subst (λ l. AreNumbered b.sent l) e is.next in
@@ -94,7 +94,7 @@ is_backlog_freed b (m ∷ ms) e some is =
     is_backlog_saved b m ms is (numbers zero m (omega arith) ∙ omega arith) (omega arith) (numbered_rest b.sent m ms numbers)
 
 -- a backlog stays one with a packet that is held
-pub is_backlog_hold : (b : Backlog) (m : Message) → IsBacklog b → m.number ≡ next_number b → m.number ≤ greatest_clock → IsBacklog (hold b m)
+pub is_backlog_hold : (b : BacklogValue) (m : Message) → IsBacklog b → m.number ≡ next_number b → m.number ≤ greatest_clock → IsBacklog (hold b m)
 is_backlog_hold b m is next high = record {
   kept = is.kept;
   numbered = is.numbered;

@@ -7,7 +7,7 @@ use Rattle.matching.specs.Message.{Message}
 
 -- how many packets were let go, how many were saved in all, the number of the next to transmit, the packets kept, and
 -- the packets held, which come after the saved and aren't transmitted yet
-pub record Backlog : Type 0 where
+pub record BacklogValue : Type 0 where
   pub base : ℕ
   pub sent : ℕ
   pub cursor : ℕ
@@ -15,7 +15,7 @@ pub record Backlog : Type 0 where
   pub held : List Message
 
 -- of packets that stand in one list by number, those up to the last one sent are kept and the others held
-abbrev pub backlog_of : ℕ → ℕ → ℕ → List Message → Backlog
+abbrev pub backlog_of : ℕ → ℕ → ℕ → List Message → BacklogValue
 backlog_of base sent cursor packets = record {
   base = base;
   sent = sent;
@@ -29,7 +29,7 @@ abbrev pub AreNumbered : ℕ → List Message → Type 0
 AreNumbered base ms = (k : ℕ) (d : Message) → k < length ms → (slice_index_or ms k d).number ≡ base + k + 1
 
 -- kept are the packets from the base to the last one sent, and the cursor is above the base and at most one past what there is
-pub record IsBacklog (b : Backlog) : Type 0 where
+pub record IsBacklog (b : BacklogValue) : Type 0 where
   pub kept : length b.kept ≡ b.sent - b.base
   pub numbered : AreNumbered b.base b.kept
   pub above : b.base < b.cursor
@@ -39,60 +39,60 @@ pub record IsBacklog (b : Backlog) : Type 0 where
   pub next : AreNumbered b.sent b.held
 
 -- nothing was saved
-abbrev pub new_backlog : Backlog
+abbrev pub new_backlog : BacklogValue
 new_backlog = record { base = 0; sent = 0; cursor = 1; kept = []; held = [] }
 
 -- the number of the packet that is made next: what is held has numbers too
-abbrev pub next_number : Backlog → ℕ
+abbrev pub next_number : BacklogValue → ℕ
 next_number b = b.sent + length b.held + 1
 
 -- a packet is counted, and kept where its number is above the base
-abbrev pub saved : Backlog → Message → Backlog
+abbrev pub saved : BacklogValue → Message → BacklogValue
 saved b m = record b { sent = b.sent + 1; kept = if nat_lt b.base m.number then b.kept ++ m ∷ [] else b.kept }
 
 -- a packet is held: it goes last, and nothing else changes
-abbrev pub hold : Backlog → Message → Backlog
+abbrev pub hold : BacklogValue → Message → BacklogValue
 hold b m = record b { held = b.held ++ m ∷ [] }
 
 -- the oldest held packet, the first of these, is saved
-abbrev pub freed_of : Backlog → List Message → Backlog
+abbrev pub freed_of : BacklogValue → List Message → BacklogValue
 freed_of b [] = b
 freed_of b (m ∷ ms) = saved (record b { held = ms }) m
 
 -- the oldest held packet is saved, and where none is held nothing changes
-abbrev pub freed : Backlog → Backlog
+abbrev pub freed : BacklogValue → BacklogValue
 freed b = freed_of b b.held
 
 -- the packet at the cursor, if it was sent already
-abbrev pub next_of : Backlog → Option Message
+abbrev pub next_of : BacklogValue → Option Message
 next_of b = slice_get b.kept (b.cursor - (b.base + 1))
 
 -- the packet at the cursor was transmitted
-abbrev pub passed : Backlog → Backlog
+abbrev pub passed : BacklogValue → BacklogValue
 passed b = record b { cursor = b.cursor + 1 }
 
 -- a receiver asks for packets again: the cursor goes back to that number, but never to one that isn't kept
-abbrev pub asked : Backlog → ℕ → Backlog
+abbrev pub asked : BacklogValue → ℕ → BacklogValue
 asked b from = record b { cursor = max (b.base + 1) (min b.cursor from) }
 
 -- a receiver no longer needs the packets up to a number: they go, unless they went before
-abbrev pub pruned : Backlog → ℕ → Backlog
+abbrev pub pruned : BacklogValue → ℕ → BacklogValue
 pruned b upto =
     if nat_lt b.base upto
     then record b { base = upto; cursor = max b.cursor (upto + 1); kept = drop (upto - b.base) b.kept }
     else b
 
 -- of all packets ever saved, as one list by number, the log holds those above the base, and no others; the cursor is above the base
-pub record Keeps (b : Backlog) (all : List Message) : Type 0 where
+pub record Keeps (b : BacklogValue) (all : List Message) : Type 0 where
   pub numbered : AreNumbered 0 all
   pub sent : length all ≡ b.sent
   pub kept : b.kept ≡ drop b.base all
   pub above : b.base < b.cursor
 
 -- what is kept for a destination
-abbrev pub backlog : List Backlog → ℕ → Backlog
+abbrev pub backlog : List BacklogValue → ℕ → BacklogValue
 backlog bs dest = slice_index_or bs dest new_backlog
 
 -- what is kept for a destination, to be transmitted from its beginning; nothing is held
-abbrev pub from_beginning : ℕ → ℕ → List Message → Backlog
+abbrev pub from_beginning : ℕ → ℕ → List Message → BacklogValue
 from_beginning base sent kept = record { base = base; sent = sent; cursor = base + 1; kept = kept; held = [] }

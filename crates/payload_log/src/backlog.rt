@@ -10,7 +10,7 @@ use std::marker::Model;
 /// The packets kept for one destination, from the one after the base on, and
 /// behind them those held, from the one after the last one sent on.
 #[derive(Debug, Drop)]
-pub struct Kept {
+pub struct Backlog {
     base: u32,
     sent: u32,
     // the number of the next packet to transmit
@@ -18,23 +18,23 @@ pub struct Kept {
     packets: VecDeque<Packet, Heap>,
 }
 
-impl Model for Kept {
-    ghost use Rattle.payload_log.specs.Backlog.{Backlog, IsBacklog, backlog_of};
+impl Model for Backlog {
+    ghost use Rattle.payload_log.specs.Backlog.{BacklogValue, IsBacklog, backlog_of};
 
-    ghost Value = { Backlog };
+    ghost Value = { BacklogValue };
 
     ghost view = { λ k. backlog_of k.base k.sent k.cursor k.packets.items };
 
     ghost invariant = { λ k. IsBacklog (backlog_of k.base k.sent k.cursor k.packets.items) };
 }
 
-impl Kept {
+impl Backlog {
     ghost use Rattle.payload_log.specs.Backlog.{IsBacklog, from_beginning, new_backlog, next_number, saved, hold, freed, next_of, passed, asked, pruned};
 
     pub fn new(alloc: Heap) -> Self
         ensures { result ≡ new_backlog }
     {
-        Kept {
+        Backlog {
             base: 0,
             sent: 0,
             cursor: 1,
@@ -48,7 +48,7 @@ impl Kept {
         requires { IsBacklog (from_beginning base sent packets.items) }
         ensures { result ≡ from_beginning base sent packets.items }
     {
-        Kept {
+        Backlog {
             base,
             sent,
             cursor: base + 1,

@@ -5,6 +5,6 @@ mod backlog;
 mod laws;
 mod payload_log;
 
-pub use backlog::Kept;
+pub use backlog::Backlog;
 pub use laws::law_keeps;
 pub use payload_log::PayloadLog;

@@ -3,7 +3,7 @@ ghost use Rattle.std.specs.Prelude.{◌≡◌, ◌+◌, ◌<◌, ◌≤◌, ◌�
 ghost use Rattle.std.specs.Prelude.{replicate, slice_set, slice_get, option_copied, []};
 ghost use Rattle.metered.specs.Limits.{greatest_clock};
 
-use crate::backlog::Kept;
+use crate::backlog::Backlog;
 use matching::Packet;
 use metered::Heap;
 use std::alloc::AllocError;
@@ -13,14 +13,14 @@ use std::marker::Model;
 /// the next one to transmit, and those that it holds back.
 #[derive(Debug, Drop)]
 pub struct PayloadLog {
-    kept: Vec<Kept, Heap>,
+    kept: Vec<Backlog, Heap>,
 }
 
 impl Model for PayloadLog {
     ghost use Rattle.std.specs.Prelude.{List};
-    ghost use Rattle.payload_log.specs.Backlog.{Backlog};
+    ghost use Rattle.payload_log.specs.Backlog.{BacklogValue};
 
-    ghost Value = { List Backlog };
+    ghost Value = { List BacklogValue };
 
     ghost view = { λ l. l.kept.items };
 }
@@ -34,20 +34,20 @@ impl PayloadLog {
     {
         let mut kept = Vec::with_capacity(alloc, size)?;
         for _ in 0..size {
-            kept.push(Kept::new(alloc))?;
+            kept.push(Backlog::new(alloc))?;
         }
         Ok(PayloadLog { kept })
     }
 
     /// The log of what is kept for each destination.
-    pub fn of(kept: Vec<Kept, Heap>) -> PayloadLog
+    pub fn of(kept: Vec<Backlog, Heap>) -> PayloadLog
         ensures { result ≡ kept.items }
     {
         PayloadLog { kept }
     }
 
     /// What is kept for each destination.
-    pub fn destinations(&self) -> &[Kept]
+    pub fn destinations(&self) -> &[Backlog]
         ensures { result.now ≡ self.now }
     {
         &self.kept

@@ -1,13 +1,13 @@
 -- A text has one program at the most: it has one list of statements, those have one list of resolved ones, and these
 -- have one tree, which says where each line leads.
 use Rattle.std.proofs.Common.{◌≡◌, ℕ, List, Some, map, ap, ◌∙◌, sym, subst}
-use Rattle.rank_text.specs.Forms.{Form}
+use Rattle.rank_grammar.specs.Forms.{Form}
 use Rattle.rank_language.specs.Block.{Line, lines_at}
 use Rattle.rank_language.specs.Shape.{step_of, block_of_steps}
 use Rattle.rank_language.specs.Program.{ProgramValue}
-use Rattle.rank_lines.specs.declared.fault.FaultKind.{FaultKind}
-use Rattle.rank_lines.specs.Faults.{IsFaultOf}
-use Rattle.rank_lines.proofs.TextLaws.{one_program as one_list, program_or_fault as list_or_fault}
+use Rattle.rank_checker.specs.declared.fault.FaultKind.{FaultKind}
+use Rattle.rank_checker.specs.Faults.{IsFaultOf}
+use Rattle.rank_checker.proofs.TextLaws.{one_program as one_list, program_or_fault as list_or_fault}
 use Rattle.rank_language.specs.Correct.{IsOfForms, IsProgramOf}
 
 -- options with equal values have one value

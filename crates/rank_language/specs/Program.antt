@@ -1,8 +1,8 @@
 -- A program as a value: its lines, and the names of its variables and arrays (the rank-program text, meaning of one step).
 use Rattle.std.specs.Prelude.{ℕ, ◌<◌, ◌≤◌, List, [], ◌∷◌, map}
 use Rattle.metered.specs.Limits.{most_items}
-use Rattle.rank_lines.specs.declared.scope.Array.{Array}
-use Rattle.rank_lines.specs.SeenLines.{arrays_seen}
+use Rattle.rank_checker.specs.declared.scope.Array.{Array}
+use Rattle.rank_checker.specs.SeenLines.{arrays_seen}
 use Rattle.rank_language.specs.declared.statement.Statement.{Statement}
 use Rattle.rank_language.specs.Placed.{Placed, number, variable, item, reading, negation, operation, Choice, any, value, Payload}
 use Rattle.rank_language.specs.Placed.{one, all_of, Buffer, into_variable, into_array, declare, declare_array, assign, assign_item}

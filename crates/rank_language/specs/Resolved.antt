@@ -1,10 +1,10 @@
 -- What the names of a text stand for: the places of what they declare (the rank-program text, fault Undeclared).
 use Rattle.std.specs.Prelude.{ℕ, pos, List, [], ◌∷◌, Option, Some, None, option_map, map, position}
 use Rattle.std.specs.Str.{bytes_eq}
-use Rattle.rank_text.specs.Tree as text
-use Rattle.rank_text.specs.Forms as line
-use Rattle.rank_text.specs.Forms.{◌>>=◌}
-use Rattle.rank_lines.specs.Scope.{Scope}
+use Rattle.rank_grammar.specs.Tree as text
+use Rattle.rank_grammar.specs.Forms as line
+use Rattle.rank_grammar.specs.Forms.{◌>>=◌}
+use Rattle.rank_checker.specs.Scope.{Scope}
 use Rattle.rank_language.specs.Placed.{Placed, number, variable, item, reading, negation, operation, Choice, any, value}
 use Rattle.rank_language.specs.Placed.{Payload, one, all_of, Buffer, into_variable, into_array}
 use Rattle.rank_language.specs.Placed.{declare, declare_array, assign, assign_item, send, receive, probe, try_probe, print}

@@ -1,7 +1,7 @@
 //! The statements of a text, by place and with where they lead.
 ghost use Rattle.std.specs.Prelude.{◌≡◌, ◌+◌, ◌-◌, ◌^◌, ◌<◌, [], length, All, Some, IfOk, drop, map, option_map, reverse};
-ghost use Rattle.rank_lines.specs.SeenLines.{forms_seen};
-ghost use Rattle.rank_text.specs.SeenForms.{form_seen};
+ghost use Rattle.rank_checker.specs.SeenLines.{forms_seen};
+ghost use Rattle.rank_grammar.specs.SeenForms.{form_seen};
 ghost use Rattle.rank_language.specs.Ends.{ends_before, form_line, kind_of, lines_behind, lines_from, target_of};
 ghost use Rattle.rank_language.specs.Resolvable.{AllResolvable, IsResolvable};
 ghost use Rattle.rank_language.specs.Seen.{line_of};
@@ -11,7 +11,7 @@ use crate::resolve::Tables;
 use crate::resolve_form::resolve_form;
 use crate::statement::Statement;
 use metered::Heap;
-use rank_text::Form;
+use rank_grammar::Form;
 use std::alloc::AllocError;
 
 /// Where a statement leads. Of the blocks that are open behind it, and from then on in front of it, the last entry of

@@ -1,6 +1,6 @@
 //! Expressions as a machine reads them: variables and arrays by their places.
 use metered::Heap;
-use rank_text::{Operator, Reading};
+use rank_grammar::{Operator, Reading};
 
 /// An expression of a program. It has no more nodes than `metered::limits::MOST_NODES`.
 #[derive(Debug, Drop)]

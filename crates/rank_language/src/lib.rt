@@ -12,8 +12,8 @@ pub mod statement;
 
 pub use expression::Expression;
 pub use program::Program;
-pub use rank_lines::{
+pub use rank_checker::{
     Array, FaultKind, ParseFault, ProgramFault, law_one_reading, law_program_or_fault,
 };
-pub use rank_text::{Name, Operator, Reading, Reduction};
+pub use rank_grammar::{Name, Operator, Reading, Reduction};
 pub use statement::{Buffer, Choice, Collective, Payload, Statement};

@@ -1,8 +1,8 @@
 //! Names for the places of a statement.
 ghost use Rattle.std.specs.Prelude.{◌≡◌, ◌<◌, IfOk, length, map};
-ghost use Rattle.rank_text.specs.SeenForms.{choice_of as choice_seen, form_seen, payload_seen};
-ghost use Rattle.rank_text.specs.Tree.{tree_of};
-ghost use Rattle.rank_lines.specs.SeenLines.{forms_seen};
+ghost use Rattle.rank_grammar.specs.SeenForms.{choice_of as choice_seen, form_seen, payload_seen};
+ghost use Rattle.rank_grammar.specs.Tree.{tree_of};
+ghost use Rattle.rank_checker.specs.SeenLines.{forms_seen};
 ghost use Rattle.rank_language.specs.Named.{array_at, buffer_name, choice_named, collective_named, form_named};
 ghost use Rattle.rank_language.specs.Named.{named, payload_named, value_named};
 ghost use Rattle.rank_language.specs.Placed.{declare_array, does, receive, send};
@@ -16,8 +16,8 @@ use crate::expression::Expression;
 use crate::resolve::Tables;
 use crate::statement::{Buffer, Choice, Collective, Payload, Statement};
 use metered::Heap;
-use rank_lines::Array;
-use rank_text::{Form, Name, Written, form};
+use rank_checker::Array;
+use rank_grammar::{Form, Name, Written, form};
 use std::alloc::AllocError;
 
 /// The array at a place.

@@ -1,15 +1,15 @@
 //! Programs: statements in order, each with where it leads to.
 ghost use Rattle.metered.specs.Limits.{most_lines, most_variables, most_arrays};
-ghost use Rattle.rank_text.specs.Forms.{Form};
-ghost use Rattle.rank_lines.specs.declared.fault.ParseFault.TheVariants.{Fault, Memory};
-ghost use Rattle.rank_lines.specs.declared.fault.ProgramFault.{ProgramFault};
-ghost use Rattle.rank_lines.specs.Faults.{IsFaultOf, IsText};
-ghost use Rattle.rank_lines.specs.Progress.{HasTables};
-ghost use Rattle.rank_lines.specs.Scope.{IsWhole};
-ghost use Rattle.rank_lines.specs.SeenLines.{arrays_seen, forms_seen};
+ghost use Rattle.rank_grammar.specs.Forms.{Form};
+ghost use Rattle.rank_checker.specs.declared.fault.ParseFault.TheVariants.{Fault, Memory};
+ghost use Rattle.rank_checker.specs.declared.fault.ProgramFault.{ProgramFault};
+ghost use Rattle.rank_checker.specs.Faults.{IsFaultOf, IsText};
+ghost use Rattle.rank_checker.specs.Progress.{HasTables};
+ghost use Rattle.rank_checker.specs.Scope.{IsWhole};
+ghost use Rattle.rank_checker.specs.SeenLines.{arrays_seen, forms_seen};
 ghost use Rattle.rank_language.specs.Correct.{IsOfForms, IsProgramOf};
 ghost use Rattle.rank_language.specs.Named.{forms_of};
-ghost use Rattle.rank_print.specs.Canonical.{program_text};
+ghost use Rattle.rank_printer.specs.Canonical.{program_text};
 ghost use Rattle.std.specs.Prelude.{[], List, Err, IfErr, IfOk, ◌≡◌, ◌<◌, ◌≤◌, IfSome, IsNone, ◌↔◌, length, slice_get, Bool};
 ghost use Rattle.rank_language.specs.Block.{size, remaining, Leads, next_position};
 ghost use Rattle.rank_language.specs.Seen.{line_of, line_in};
@@ -20,9 +20,9 @@ use crate::name_form::name_forms;
 use crate::resolve::Tables;
 use crate::statement::Statement;
 use metered::Heap;
-use rank_lines::{Array, Draft, ParseFault, ProgramFault, read};
-use rank_print::print;
-use rank_text::Name;
+use rank_checker::{Array, Draft, ParseFault, ProgramFault, read};
+use rank_grammar::Name;
+use rank_printer::print;
 use std::alloc::AllocError;
 use std::marker::Model;
 

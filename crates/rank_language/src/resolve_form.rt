@@ -1,9 +1,9 @@
 //! Places for the names of a statement.
 ghost use Rattle.std.specs.Prelude.{◌≡◌, ℕ, Some, IfOk, true, false, option_map};
-ghost use Rattle.rank_text.specs.SeenForms.{choice_of as choice_seen, form_seen, payload_seen};
-ghost use Rattle.rank_text.specs.Forms.{bcast_form, lone, probe_form, recv_form, reduce_form, try_probe_form};
-ghost use Rattle.rank_text.specs.Tree.{tree_of};
-ghost use Rattle.rank_lines.specs.Scope.{is_declared, choice_declared, choice_is_great, payload_declared, payload_is_great};
+ghost use Rattle.rank_grammar.specs.SeenForms.{choice_of as choice_seen, form_seen, payload_seen};
+ghost use Rattle.rank_grammar.specs.Forms.{bcast_form, lone, probe_form, recv_form, reduce_form, try_probe_form};
+ghost use Rattle.rank_grammar.specs.Tree.{tree_of};
+ghost use Rattle.rank_checker.specs.Scope.{is_declared, choice_declared, choice_is_great, payload_declared, payload_is_great};
 ghost use Rattle.rank_language.specs.Resolvable.{IsResolvable};
 ghost use Rattle.rank_language.specs.Resolved.{buffer_resolved, choice_resolved, form_resolved, payload_resolved};
 ghost use Rattle.rank_language.specs.Ends.{line_to};
@@ -15,7 +15,7 @@ use crate::expression::Expression;
 use crate::resolve::{Declared, Tables, resolve};
 use crate::statement::{Buffer, Choice, Collective, Payload, Statement};
 use metered::Heap;
-use rank_text::{Form, Name, Reduction, Written, form};
+use rank_grammar::{Form, Name, Reduction, Written, form};
 use std::alloc::AllocError;
 
 /// The source or the tag with places for its names.

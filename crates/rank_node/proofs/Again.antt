@@ -2,14 +2,14 @@
 use Rattle.std.specs.Prelude.{◌≡◌, ℕ, zero, suc, true, ◌+◌, ◌<◌, ◌≢◌, List, [], ◌∷◌, length, slice_set, slice_index_or, drop}
 use Rattle.std.proofs.Common.{refl, ap, ◌∙◌, arith}
 use Rattle.std.proofs.lemmas.List.{nil_from_length}
-use Rattle.payload_log.specs.Backlog.{Backlog, backlog}
+use Rattle.payload_log.specs.Backlog.{BacklogValue, backlog}
 use Rattle.std.proofs.Math.Numerals.{add-one}
 use Rattle.plain_logger.specs.Event.{EventValue}
 use Rattle.rank_node.specs.declared.waiting.Waiting.{Waiting}
 use Rattle.rank_node.specs.Waiting.{sends_to, is_settled}
 
 -- where nothing waits, the payload log holds nothing
-pub none_held : (log : List Backlog) (waiting : List Waiting) → ((d : ℕ) → length (backlog log d).held ≡ sends_to d waiting) → waiting ≡ []
+pub none_held : (log : List BacklogValue) (waiting : List Waiting) → ((d : ℕ) → length (backlog log d).held ≡ sends_to d waiting) → waiting ≡ []
     → (d : ℕ) → (backlog log d).held ≡ []
 none_held log waiting held settled d = nil_from_length (backlog log d).held (held d ∙ ap (sends_to d) settled)
 
@@ -19,7 +19,7 @@ settled_nil [] settled = refl
 settled_nil (x ∷ xs) settled = absurd cc
 
 -- a backlog that holds what stood at its place before leaves what is held for each destination
-pub held_stays : (log : List Backlog) (dest : ℕ) (b : Backlog) → b.held ≡ (backlog log dest).held
+pub held_stays : (log : List BacklogValue) (dest : ℕ) (b : BacklogValue) → b.held ≡ (backlog log dest).held
     → (d : ℕ) → (backlog (slice_set log dest b) d).held ≡ (backlog log d).held
 held_stays [] dest b same d = refl
 held_stays (x ∷ log) zero b same zero = same

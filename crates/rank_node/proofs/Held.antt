@@ -6,7 +6,7 @@ use Rattle.std.proofs.lemmas.Bool.{cases_eq, eq-eqb, ne_eqb}
 use Rattle.std.proofs.lemmas.List.{get_or-set_same, get_or-set_other, length_push}
 use Rattle.matching.specs.Message as packet
 use Rattle.plain_logger.specs.Event.{EventValue}
-use Rattle.payload_log.specs.Backlog.{Backlog, backlog, new_backlog, hold, freed, freed_of}
+use Rattle.payload_log.specs.Backlog.{BacklogValue, backlog, new_backlog, hold, freed, freed_of}
 use Rattle.rank_node.specs.declared.waiting.Waiting.{Waiting}
 use Rattle.rank_node.specs.declared.waiting.Waiting.TheVariants.{Event, Send, Line}
 use Rattle.rank_node.specs.Waiting.{Gate, sends_to}
@@ -14,7 +14,7 @@ use Rattle.rank_node.specs.Releasing.{effect_of}
 use Rattle.rank_node.proofs.Gates.{sends_to_push}
 
 -- for each rank as many packets are held as sends to it wait
-abbrev pub Held : List Backlog → List Waiting → Type 0
+abbrev pub Held : List BacklogValue → List Waiting → Type 0
 Held log xs = (d : ℕ) → length (backlog log d).held ≡ sends_to d xs
 
 -- ---- what comes to wait
@@ -28,18 +28,18 @@ pub sends_to_line : (d : ℕ) (xs : List Waiting) (clock : ℕ) (value : ℤ) �
 sends_to_line d xs clock value = (let z = sends_to_push d xs (Line clock value) in omega (arith, z))
 
 -- so as many packets are held as sends wait, as before
-pub held_event : (log : List Backlog) (old new : Gate) (e : EventValue) → new ≡ record { waiting = old.waiting ++ Event e ∷ []; stored = old.stored }
+pub held_event : (log : List BacklogValue) (old new : Gate) (e : EventValue) → new ≡ record { waiting = old.waiting ++ Event e ∷ []; stored = old.stored }
     → Held log old.waiting → Held log new.waiting
 held_event log old new e more h d = h d ∙ sym (ap (λ (g : Gate). sends_to d g.waiting) more ∙ sends_to_event d old.waiting e)
 
 -- and so it is where a line comes to wait
-pub held_line : (log : List Backlog) (old new : Gate) (clock : ℕ) (value : ℤ)
+pub held_line : (log : List BacklogValue) (old new : Gate) (clock : ℕ) (value : ℤ)
     → new ≡ record { waiting = old.waiting ++ Line clock value ∷ []; stored = old.stored }
     → Held log old.waiting → Held log new.waiting
 held_line log old new clock value more h d = h d ∙ sym (ap (λ (g : Gate). sends_to d g.waiting) more ∙ sends_to_line d old.waiting clock value)
 
 -- a send waits, and its packet is held
-pub held_send : (log : List Backlog) (xs : List Waiting) (dest clock : ℕ) (p : packet.Message) → dest < length log
+pub held_send : (log : List BacklogValue) (xs : List Waiting) (dest clock : ℕ) (p : packet.Message) → dest < length log
     → Held log xs → Held (slice_set log dest (hold (backlog log dest) p)) (xs ++ Send dest clock ∷ [])
 held_send log xs dest clock p below h d = go (cases_eq d dest)
   where
@@ -64,20 +64,20 @@ first_send (Send d c ∷ xs) dest clock e = cc
 first_send (Line c v ∷ xs) dest clock e = absurd cc
 
 -- where a send waits first a packet is held for its rank
-pub held_some : (log : List Backlog) (xs : List Waiting) (dest clock : ℕ) → Held log xs → xs ≡ Send dest clock ∷ drop 1 xs → 0 < length (backlog log dest).held
+pub held_some : (log : List BacklogValue) (xs : List Waiting) (dest clock : ℕ) → Held log xs → xs ≡ Send dest clock ∷ drop 1 xs → 0 < length (backlog log dest).held
 held_some log xs dest clock h e =
     (let a = h dest ∙ ap (sends_to dest) e
     ∙ ap (λ b. if b then suc (sends_to dest (drop 1 xs)) else sends_to dest (drop 1 xs)) (eq-eqb dest dest refl) in
     omega (arith, a))
 
 -- a rank for which a packet is held is one of the ranks
-pub held_within : (log : List Backlog) (dest : ℕ) → 0 < length (backlog log dest).held → dest < length log
+pub held_within : (log : List BacklogValue) (dest : ℕ) → 0 < length (backlog log dest).held → dest < length log
 held_within [] dest l = absurd (omega (arith, l))
 held_within (b ∷ log) zero l = omega arith
 held_within (b ∷ log) (suc dest) l = (let z = held_within log dest l in omega (arith, z))
 
 -- a backlog that frees a packet holds one less
-freed_less : (b : Backlog) (n : ℕ) → length b.held ≡ suc n → length (freed b).held ≡ n
+freed_less : (b : BacklogValue) (n : ℕ) → length b.held ≡ suc n → length (freed b).held ≡ n
 freed_less b n e = go b.held e
   where
     go : (ms : List packet.Message) → length ms ≡ suc n → length (freed_of b ms).held ≡ n
@@ -85,7 +85,7 @@ freed_less b n e = go b.held e
     go (m ∷ ms) f = (let z : length ms ≡ n = omega (arith, f) in z)
 
 -- the first send is released, and its packet is held no more
-pub held_release : (log : List Backlog) (xs : List Waiting) (dest clock : ℕ) → dest < length log → Held log xs → xs ≡ Send dest clock ∷ drop 1 xs
+pub held_release : (log : List BacklogValue) (xs : List Waiting) (dest clock : ℕ) → dest < length log → Held log xs → xs ≡ Send dest clock ∷ drop 1 xs
     → Held (slice_set log dest (freed (backlog log dest))) (drop 1 xs)
 held_release log xs dest clock below h s d = go (cases_eq d dest)
   where

@@ -9,7 +9,7 @@ use Rattle.std.proofs.lemmas.List.{length-replicate, get_or_past}
 use Rattle.std.proofs.lemmas.List.Elements.{All-get_or, All-replicate, All-from_get_or}
 use Rattle.metered.specs.Limits.{most_ranks}
 use Rattle.matching.specs.Message.{Message}
-use Rattle.payload_log.specs.Backlog.{Backlog, backlog, new_backlog}
+use Rattle.payload_log.specs.Backlog.{BacklogValue, backlog, new_backlog}
 use Rattle.payload_log.specs.Sender.{IsSentBy}
 use Rattle.rank_language.specs.Program.{ProgramValue}
 use Rattle.checkpoint.specs.Image.{ImageValue, rewound, at_rest}
@@ -32,7 +32,7 @@ first_savable program rank size limit = record {
   log = length-replicate size new_backlog;
   clock = omega arith;
   sent = log_new rank size;
-  settled = All-replicate (λ (b : Backlog). b.held ≡ []) size new_backlog refl;
+  settled = All-replicate (λ (b : BacklogValue). b.held ≡ []) size new_backlog refl;
 }
 
 -- a rank at which nothing waits
@@ -44,21 +44,21 @@ node_savable v is settled = record {
   log = is.log ∙ sym is.machine_size;
   clock = is.clock;
   sent = subst (λ rank. All (IsSentBy rank v.clock) v.log) (sym is.machine_rank) is.sent;
-  settled = All-from_get_or (λ (b : Backlog). b.held ≡ []) v.log new_backlog (λ d below. none_held v.log v.pending is.held settled d);
+  settled = All-from_get_or (λ (b : BacklogValue). b.held ≡ []) v.log new_backlog (λ d below. none_held v.log v.pending is.held settled d);
 }
 
 -- and what an image has holds nothing
-pub savable_held : (log : List Backlog) → All (λ (b : Backlog). b.held ≡ []) log → (d : ℕ) → length (backlog log d).held ≡ 0
+pub savable_held : (log : List BacklogValue) → All (λ (b : BacklogValue). b.held ≡ []) log → (d : ℕ) → length (backlog log d).held ≡ 0
 savable_held log settled d = go (cases_lt d (length log))
   where
     go : (d < length log) ⊎ (length log ≤ d) → length (backlog log d).held ≡ 0
-    go (inl below) = ap (length {A = Message}) (All-get_or (λ (b : Backlog). b.held ≡ []) log d new_backlog below settled)
-    go (inr past) = ap (λ (b : Backlog). length b.held) (get_or_past log d new_backlog past)
+    go (inl below) = ap (length {A = Message}) (All-get_or (λ (b : BacklogValue). b.held ≡ []) log d new_backlog below settled)
+    go (inr past) = ap (λ (b : BacklogValue). length b.held) (get_or_past log d new_backlog past)
 
 -- ---- the bytes
 
 -- cursors aren't in the bytes, nor is what is held
-lanes_rest : (log : List Backlog) → flat_map lane (map rewound log) ≡ flat_map lane log
+lanes_rest : (log : List BacklogValue) → flat_map lane (map rewound log) ≡ flat_map lane log
 unfolding lane
 lanes_rest [] = refl
 lanes_rest (b ∷ log) = ap (λ bytes. lane b ++ bytes) (lanes_rest log)

@@ -10,7 +10,7 @@ use Rattle.std.proofs.Math.Seq.{drop-append_seam}
 use Rattle.std.proofs.lemmas.List.Elements.{All-append, All-drop, All-get_or, All-nil, All-push, All-replicate, All-set, All-take, All-weaker}
 use Rattle.std.proofs.lemmas.List.Quantifiers.{all_pairs_push, all_pairs_remove}
 use Rattle.matching.specs.Message.{Message}
-use Rattle.payload_log.specs.Backlog.{Backlog, backlog, new_backlog, saved, hold, freed, freed_of, passed, asked, pruned}
+use Rattle.payload_log.specs.Backlog.{BacklogValue, backlog, new_backlog, saved, hold, freed, freed_of, passed, asked, pruned}
 use Rattle.payload_log.specs.Sender.{IsSentBy, WasBefore}
 
 -- ---- lists of packets
@@ -22,11 +22,11 @@ record AreSent (rank clock : ℕ) (ms : List Message) : Type 0 where
   within : All (λ (m : Message). m.clock ≤ clock) ms
 
 -- of a backlog they are what is kept and what is held
-are_sent : (rank clock : ℕ) (b : Backlog) → IsSentBy rank clock b → AreSent rank clock (b.kept ++ b.held)
+are_sent : (rank clock : ℕ) (b : BacklogValue) → IsSentBy rank clock b → AreSent rank clock (b.kept ++ b.held)
 are_sent rank clock b is = record { sources = is.sources; rising = is.rising; within = is.within }
 
 -- and where they are, and acts enough, the backlog is sent by the rank
-is_sent_by : (rank clock : ℕ) (b : Backlog) → AreSent rank clock (b.kept ++ b.held) → b.sent + length b.held ≤ clock → IsSentBy rank clock b
+is_sent_by : (rank clock : ℕ) (b : BacklogValue) → AreSent rank clock (b.kept ++ b.held) → b.sent + length b.held ≤ clock → IsSentBy rank clock b
 is_sent_by rank clock b are acts = record { sources = are.sources; rising = are.rising; within = are.within; acts = acts }
 
 -- none
@@ -90,12 +90,12 @@ new_sent : (rank : ℕ) → IsSentBy rank 0 new_backlog
 new_sent rank = is_sent_by rank 0 new_backlog (sent_none rank 0) (omega arith)
 
 -- up to a later clock
-later_sent : (rank c d : ℕ) → c ≤ d → (b : Backlog) → IsSentBy rank c b → IsSentBy rank d b
+later_sent : (rank c d : ℕ) → c ≤ d → (b : BacklogValue) → IsSentBy rank c b → IsSentBy rank d b
 later_sent rank c d le b is =
     is_sent_by rank d b (sent_upto rank c d (b.kept ++ b.held) le (are_sent rank c b is)) (let z = is.acts in omega (arith, z, le))
 
 -- the packet of the next act is saved
-saved_sent : (rank c : ℕ) (b : Backlog) (m : Message) → b.held ≡ [] → m.source ≡ rank → m.clock ≡ c + 1 → IsSentBy rank c b → IsSentBy rank (c + 1) (saved b m)
+saved_sent : (rank c : ℕ) (b : BacklogValue) (m : Message) → b.held ≡ [] → m.source ≡ rank → m.clock ≡ c + 1 → IsSentBy rank c b → IsSentBy rank (c + 1) (saved b m)
 saved_sent rank c b m none own next is =
     is_sent_by rank (c + 1) (saved b m)
     (subst (AreSent rank (c + 1)) (sym (ap (λ h. (saved b m).kept ++ h) none ∙ append-nil (saved b m).kept)) (go (nat_lt b.base m.number)))
@@ -109,14 +109,14 @@ saved_sent rank c b m none own next is =
     go false = sent_upto rank c (c + 1) b.kept (omega arith) kept
 
 -- the packet of the next act is held
-hold_sent : (rank c : ℕ) (b : Backlog) (m : Message) → m.source ≡ rank → m.clock ≡ c + 1 → IsSentBy rank c b → IsSentBy rank (c + 1) (hold b m)
+hold_sent : (rank c : ℕ) (b : BacklogValue) (m : Message) → m.source ≡ rank → m.clock ≡ c + 1 → IsSentBy rank c b → IsSentBy rank (c + 1) (hold b m)
 hold_sent rank c b m own next is =
     is_sent_by rank (c + 1) (hold b m)
     (subst (AreSent rank (c + 1)) (append_assoc b.kept b.held (m ∷ [])) (sent_push rank c (b.kept ++ b.held) m own next (are_sent rank c b is)))
     (let long = length_push b.held m in let z = is.acts in omega (arith, z, long))
 
 -- the oldest of those held is saved
-freed_sent : (rank c : ℕ) (b : Backlog) → IsSentBy rank c b → IsSentBy rank c (freed b)
+freed_sent : (rank c : ℕ) (b : BacklogValue) → IsSentBy rank c b → IsSentBy rank c (freed b)
 freed_sent rank c b is = go b.held (are_sent rank c b is) is.acts
   where
     kept_on : (m : Message) (ms : List Message) → AreSent rank c (b.kept ++ m ∷ ms) → (above : Bool)
@@ -131,7 +131,7 @@ freed_sent rank c b is = go b.held (are_sent rank c b is) is.acts
         (let z : b.sent + 1 + length ms ≤ c = omega (arith, acts) in z)
 
 -- the first of those kept are let go
-pruned_sent : (rank c : ℕ) (b : Backlog) (upto : ℕ) → IsSentBy rank c b → IsSentBy rank c (pruned b upto)
+pruned_sent : (rank c : ℕ) (b : BacklogValue) (upto : ℕ) → IsSentBy rank c b → IsSentBy rank c (pruned b upto)
 pruned_sent rank c b upto is = go (nat_lt b.base upto)
   where
     fewer : (n : ℕ) → AreSent rank c (drop n b.kept ++ b.held)
@@ -148,7 +148,7 @@ pruned_sent rank c b upto is = go (nat_lt b.base upto)
     go false = is
 
 -- a cursor elsewhere
-at_cursor_sent : (rank c : ℕ) (b : Backlog) (cursor : ℕ) → IsSentBy rank c b → IsSentBy rank c (record b { cursor = cursor })
+at_cursor_sent : (rank c : ℕ) (b : BacklogValue) (cursor : ℕ) → IsSentBy rank c b → IsSentBy rank c (record b { cursor = cursor })
 at_cursor_sent rank c b cursor is = is_sent_by rank c (record b { cursor = cursor }) (are_sent rank c b is) is.acts
 
 -- ---- the whole payload log
@@ -158,11 +158,11 @@ pub log_new : (rank n : ℕ) → All (IsSentBy rank 0) (replicate n new_backlog)
 log_new rank n = All-replicate (IsSentBy rank 0) n new_backlog (new_sent rank)
 
 -- an act more was made
-pub log_later : (rank c : ℕ) (log : List Backlog) → All (IsSentBy rank c) log → All (IsSentBy rank (c + 1)) log
+pub log_later : (rank c : ℕ) (log : List BacklogValue) → All (IsSentBy rank c) log → All (IsSentBy rank (c + 1)) log
 log_later rank c log all = All-weaker (IsSentBy rank c) (IsSentBy rank (c + 1)) (later_sent rank c (c + 1) (omega arith)) log all
 
 -- the act saved its packet
-pub log_saved : (rank c : ℕ) (log : List Backlog) (dest : ℕ) (m : Message) → dest < length log → (backlog log dest).held ≡ []
+pub log_saved : (rank c : ℕ) (log : List BacklogValue) (dest : ℕ) (m : Message) → dest < length log → (backlog log dest).held ≡ []
     → m.source ≡ rank → m.clock ≡ c + 1
     → All (IsSentBy rank c) log → All (IsSentBy rank (c + 1)) (slice_set log dest (saved (backlog log dest) m))
 log_saved rank c log dest m below none own next all =
@@ -170,35 +170,35 @@ log_saved rank c log dest m below none own next all =
     (saved_sent rank c (backlog log dest) m none own next (All-get_or (IsSentBy rank c) log dest new_backlog below all)) (log_later rank c log all)
 
 -- the act's packet is held
-pub log_hold : (rank c : ℕ) (log : List Backlog) (dest : ℕ) (m : Message) → dest < length log → m.source ≡ rank → m.clock ≡ c + 1
+pub log_hold : (rank c : ℕ) (log : List BacklogValue) (dest : ℕ) (m : Message) → dest < length log → m.source ≡ rank → m.clock ≡ c + 1
     → All (IsSentBy rank c) log → All (IsSentBy rank (c + 1)) (slice_set log dest (hold (backlog log dest) m))
 log_hold rank c log dest m below own next all =
     All-set (IsSentBy rank (c + 1)) log dest (hold (backlog log dest) m)
     (hold_sent rank c (backlog log dest) m own next (All-get_or (IsSentBy rank c) log dest new_backlog below all)) (log_later rank c log all)
 
 -- a packet that was held is saved
-pub log_freed : (rank c : ℕ) (log : List Backlog) (dest : ℕ) → dest < length log → All (IsSentBy rank c) log
+pub log_freed : (rank c : ℕ) (log : List BacklogValue) (dest : ℕ) → dest < length log → All (IsSentBy rank c) log
     → All (IsSentBy rank c) (slice_set log dest (freed (backlog log dest)))
 log_freed rank c log dest below all =
     All-set (IsSentBy rank c) log dest (freed (backlog log dest))
     (freed_sent rank c (backlog log dest) (All-get_or (IsSentBy rank c) log dest new_backlog below all)) all
 
 -- packets are let go
-pub log_pruned : (rank c : ℕ) (log : List Backlog) (dest upto : ℕ) → dest < length log → All (IsSentBy rank c) log
+pub log_pruned : (rank c : ℕ) (log : List BacklogValue) (dest upto : ℕ) → dest < length log → All (IsSentBy rank c) log
     → All (IsSentBy rank c) (slice_set log dest (pruned (backlog log dest) upto))
 log_pruned rank c log dest upto below all =
     All-set (IsSentBy rank c) log dest (pruned (backlog log dest) upto)
     (pruned_sent rank c (backlog log dest) upto (All-get_or (IsSentBy rank c) log dest new_backlog below all)) all
 
 -- packets are asked for again
-pub log_asked : (rank c : ℕ) (log : List Backlog) (dest from : ℕ) → dest < length log → All (IsSentBy rank c) log
+pub log_asked : (rank c : ℕ) (log : List BacklogValue) (dest from : ℕ) → dest < length log → All (IsSentBy rank c) log
     → All (IsSentBy rank c) (slice_set log dest (asked (backlog log dest) from))
 log_asked rank c log dest from below all =
     All-set (IsSentBy rank c) log dest (asked (backlog log dest) from)
     (at_cursor_sent rank c (backlog log dest) (asked (backlog log dest) from).cursor (All-get_or (IsSentBy rank c) log dest new_backlog below all)) all
 
 -- the packet at the cursor has gone
-pub log_passed : (rank c : ℕ) (log : List Backlog) (dest : ℕ) → dest < length log → All (IsSentBy rank c) log
+pub log_passed : (rank c : ℕ) (log : List BacklogValue) (dest : ℕ) → dest < length log → All (IsSentBy rank c) log
     → All (IsSentBy rank c) (slice_set log dest (passed (backlog log dest)))
 log_passed rank c log dest below all =
     All-set (IsSentBy rank c) log dest (passed (backlog log dest))

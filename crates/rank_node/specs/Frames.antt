@@ -5,7 +5,7 @@ use Rattle.matching.specs.Message.{Message}
 use Rattle.matching.specs.Inbox.{Mailbox, answer_to, after_arrival}
 use Rattle.matching.specs.declared.inbox.Accept.{Accept}
 use Rattle.matching.specs.declared.inbox.Accept.TheVariants as accept
-use Rattle.payload_log.specs.Backlog.{Backlog, backlog, asked, pruned, passed, next_of}
+use Rattle.payload_log.specs.Backlog.{BacklogValue, backlog, asked, pruned, passed, next_of}
 use Rattle.rank_node.specs.declared.due.Due.{Due}
 use Rattle.rank_node.specs.declared.frame.Frame.{Frame}
 use Rattle.rank_node.specs.declared.frame.Frame.TheVariants as frame
@@ -14,7 +14,7 @@ use Rattle.rank_node.specs.declared.turn.Arrived.TheVariants as arrived
 use Rattle.rank_node.specs.Node.{Node, no_due}
 
 -- with this payload log, and all else as it was
-abbrev pub with_log : {S D : Type 0} → Node S D → List Backlog → Node S D
+abbrev pub with_log : {S D : Type 0} → Node S D → List BacklogValue → Node S D
 with_log v log = record v { log = log }
 
 -- with this inbox, and all else as it was

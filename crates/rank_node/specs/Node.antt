@@ -3,7 +3,7 @@
 use Rattle.std.specs.Prelude.{◌≡◌, ℕ, ◌<◌, ◌≤◌, List, [], length, None, replicate, All}
 use Rattle.metered.specs.Limits.{most_ranks, greatest_clock, most_events, most_effects}
 use Rattle.matching.specs.Inbox.{Mailbox}
-use Rattle.payload_log.specs.Backlog.{Backlog, backlog, new_backlog}
+use Rattle.payload_log.specs.Backlog.{BacklogValue, backlog, new_backlog}
 use Rattle.payload_log.specs.Sender.{IsSentBy}
 use Rattle.rank_language.specs.Program.{ProgramValue}
 use Rattle.rank_machine.specs.States.{first_store}
@@ -22,7 +22,7 @@ pub record Node (S D : Type 0) : Type 0 where
   pub clock : ℕ
   pub made : ℕ
   pub inbox : Mailbox
-  pub log : List Backlog
+  pub log : List BacklogValue
   pub pending : List Waiting
   pub stored : ℕ
   pub dues : List Due

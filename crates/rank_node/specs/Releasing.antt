@@ -1,6 +1,6 @@
 -- How a send or a line that waits leaves the gate (output commit: Elnozahy, Alvisi, Wang and Johnson 2002, section 2.4).
 use Rattle.std.specs.Prelude.{◌≡◌, ◌≢◌, ℕ, ℤ, ◌<◌, drop, List, slice_get, slice_set, option_and_then, Option, Some, None}
-use Rattle.payload_log.specs.Backlog.{Backlog, backlog, freed}
+use Rattle.payload_log.specs.Backlog.{BacklogValue, backlog, freed}
 use Rattle.rank_node.specs.declared.waiting.Waiting.{Waiting}
 use Rattle.rank_node.specs.declared.waiting.Waiting.TheVariants as waits
 use Rattle.rank_node.specs.Node.{Node}
@@ -16,7 +16,7 @@ abbrev pub next_effect : {S D : Type 0} → Node S D → Option Waiting
 next_effect v = option_and_then effect_of (slice_get v.pending 0)
 
 -- the payload log after a release: a packet that was held is saved
-abbrev pub released_log : List Backlog → Waiting → List Backlog
+abbrev pub released_log : List BacklogValue → Waiting → List BacklogValue
 released_log log (waits.Event e) = log
 released_log log (waits.Send dest clock) = slice_set log dest (freed (backlog log dest))
 released_log log (waits.Line clock value) = log

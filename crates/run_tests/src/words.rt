@@ -1,7 +1,7 @@
 //! What the words ask for, with what they leave out; and arguments that are no words.
 use crate::scenes::words_of;
+use command_line::{Job, job_of};
 use runner::words_given;
-use runner_words::{Job, job_of};
 use std::alloc::{AllocError, Global};
 use std::env::FillError;
 use std::process::Abort;

@@ -5,7 +5,7 @@ use Rattle.std.proofs.Common.{slice_index_or}
 use Rattle.std.proofs.lemmas.Bool.{eqb-true}
 use Rattle.matching.specs.Message as packet
 use Rattle.matching.specs.Inbox.{Mailbox, accepted_from, with_packet, after_arrival}
-use Rattle.payload_log.specs.Backlog.{Backlog, backlog, new_backlog}
+use Rattle.payload_log.specs.Backlog.{BacklogValue, backlog, new_backlog}
 use Rattle.rank_node.specs.declared.due.Due.{Due}
 use Rattle.rank_node.specs.declared.frame.Frame.{Frame}
 use Rattle.rank_node.specs.declared.frame.Frame.TheVariants as frame
@@ -24,15 +24,15 @@ Images = List (Option ImageValue)
 -- ---- one rank
 
 -- the payload log changes for one destination
-pub bases_with : (images : Images) (r : ℕ) (log : List Backlog) (d : ℕ) (b : Backlog) → b.base ≤ covered images d r → BasesCovered images r log
+pub bases_with : (images : Images) (r : ℕ) (log : List BacklogValue) (d : ℕ) (b : BacklogValue) → b.base ≤ covered images d r → BasesCovered images r log
     → BasesCovered images r (slice_set log d b)
 bases_with images r log d b l c = replaced_keeps (λ e x. x.base ≤ covered images e r) log d b (λ e x ne at. c e x at) (λ x at. l)
 
 -- the base for a destination, where there is one or not
-pub base_at : (images : Images) (r : ℕ) (log : List Backlog) (d : ℕ) → BasesCovered images r log → (backlog log d).base ≤ covered images d r
+pub base_at : (images : Images) (r : ℕ) (log : List BacklogValue) (d : ℕ) → BasesCovered images r log → (backlog log d).base ≤ covered images d r
 base_at images r log d c = go log d (λ b e. c d b e)
   where
-    go : (bs : List Backlog) (i : ℕ) → ((b : Backlog) → slice_get bs i ≡ Some b → b.base ≤ covered images d r)
+    go : (bs : List BacklogValue) (i : ℕ) → ((b : BacklogValue) → slice_get bs i ≡ Some b → b.base ≤ covered images d r)
         → (slice_index_or bs i new_backlog).base ≤ covered images d r
     go [] i f = omega arith
     go (x ∷ bs) zero f = f x refl

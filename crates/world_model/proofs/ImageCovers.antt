@@ -4,7 +4,7 @@ use Rattle.std.proofs.Common.{◌≡◌, ℕ, zero, suc, ◌+◌, ◌<◌, ◌�
 use Rattle.std.proofs.Common.{◌∷◌, Option, Some, None, length, refl, sym, ap, subst, arith, slice_get, slice_set, slice_index}
 use Rattle.checkpoint.specs.Image.{ImageValue, rewound}
 use Rattle.matching.specs.Inbox.{accepted_from}
-use Rattle.payload_log.specs.Backlog.{Backlog}
+use Rattle.payload_log.specs.Backlog.{BacklogValue}
 use Rattle.rank_node.specs.declared.due.Due.{Due}
 use Rattle.rank_node.specs.declared.frame.Frame.{Frame}
 use Rattle.rank_node.specs.declared.frame.Frame.TheVariants as frame
@@ -22,7 +22,7 @@ abbrev GrowImages : Images → Images → Type 0
 GrowImages old new = (r s : ℕ) → covered old r s ≤ covered new r s
 
 -- a base that was covered is so still
-bases_grow : (old new : Images) (s : ℕ) (log : List Backlog) → GrowImages old new → BasesCovered old s log → BasesCovered new s log
+bases_grow : (old new : Images) (s : ℕ) (log : List BacklogValue) → GrowImages old new → BasesCovered old s log → BasesCovered new s log
 bases_grow old new s log g c d b e = (let l = c d b e in let m = g d s in omega (arith, l, m))
 
 -- so is a Kept

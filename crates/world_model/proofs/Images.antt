@@ -2,7 +2,7 @@
 use Rattle.std.proofs.Common.{◌≡◌, ℕ, List, [], map, take, refl, sym, subst, ◌∙◌}
 use Rattle.checkpoint.specs.Image.{rewound}
 use Rattle.matching.specs.Inbox.{Mailbox}
-use Rattle.payload_log.specs.Backlog.{Backlog}
+use Rattle.payload_log.specs.Backlog.{BacklogValue}
 use Rattle.rank_machine.specs.Acts.{Message}
 use Rattle.rank_machine.specs.Machine.{MachineValue}
 use Rattle.rank_machine.specs.States.{State}
@@ -15,17 +15,17 @@ use Rattle.world_model.proofs.In.{StandsIn-frames}
 use Rattle.world_model.proofs.Ranks.{at_run, logs_run, RankStands-settled}
 
 -- the payload log for one destination, where nothing waits
-LogStands-rewound : (r : ℕ) (messages : List Message) (b : Backlog) → LogStands r messages [] b → LogStands r messages [] (rewound b)
+LogStands-rewound : (r : ℕ) (messages : List Message) (b : BacklogValue) → LogStands r messages [] b → LogStands r messages [] (rewound b)
 LogStands-rewound r messages b s = record { sent = s.sent; kept = s.kept; held = refl }
 
 -- the payload log for all
-LogsStand-rewound : (r : ℕ) (h : History) (c : ℕ) (log : List Backlog) → LogsStand r h c [] log → LogsStand r h c [] (map rewound log)
+LogsStand-rewound : (r : ℕ) (h : History) (c : ℕ) (log : List BacklogValue) → LogsStand r h c [] log → LogsStand r h c [] (map rewound log)
 LogsStand-rewound r h c log s d b e =
     let x = get_map rewound log d b e in
     subst (λ z. LogStands r (sends_from 0 d (take c h)) [] z) (sym x.2) (LogStands-rewound r _ x.0 (s d x.0 x.1))
 
 -- where the machine and the inbox stand, cursors don't matter
-StandsIn-rewound : (start : State) (n r : ℕ) (inbound : ℕ → List Message) (h : History) (c : ℕ) (m : MachineValue) (box : Mailbox) (log : List Backlog)
+StandsIn-rewound : (start : State) (n r : ℕ) (inbound : ℕ → List Message) (h : History) (c : ℕ) (m : MachineValue) (box : Mailbox) (log : List BacklogValue)
     → StandsIn start n r inbound h c m box log → StandsIn start n r inbound h c m box (map rewound log)
 StandsIn-rewound start n r inbound h c m box log s =
     StandsIn-frames start n r inbound h c m box box log (map rewound log) s.counted s.inbox (map_length rewound log ∙ s.logged) s

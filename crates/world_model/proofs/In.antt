@@ -2,7 +2,7 @@
 use Rattle.std.proofs.Common.{◌≡◌, ℕ, ◌+◌, ◌<◌, ◌⊎◌, inl, inr, List, [], ◌∷◌, ◌++◌, Option, Some, None, length, take, drop, map, refl, sym, ap}
 use Rattle.std.proofs.Common.{subst, ◌∙◌, arith, length-append}
 use Rattle.matching.specs.Inbox.{Mailbox}
-use Rattle.payload_log.specs.Backlog.{Backlog}
+use Rattle.payload_log.specs.Backlog.{BacklogValue}
 use Rattle.rank_machine.specs.States.{State, Inners, here, on, inner}
 use Rattle.rank_machine.specs.Acts.{Act, Message, Makes, Does, Runs, next}
 use Rattle.rank_machine.specs.Machine.{MachineValue, state_of}
@@ -19,7 +19,7 @@ use Rattle.world_model.proofs.Lists.{take_append, Next, next_of_drop, drop_some}
 
 -- other ranks sent more
 pub StandsIn-longer : (start : State) (n r : ℕ) (inbound inbound' : ℕ → List Message) (h : History)
-    (c : ℕ) (m : MachineValue) (box : Mailbox) (log : List Backlog)
+    (c : ℕ) (m : MachineValue) (box : Mailbox) (log : List BacklogValue)
     → ((s : ℕ) → Grows (inbound s) (inbound' s)) → StandsIn start n r inbound h c m box log → StandsIn start n r inbound' h c m box log
 StandsIn-longer start n r inbound inbound' h c m box log g s =
     record {
@@ -34,7 +34,7 @@ StandsIn-longer start n r inbound inbound' h c m box log g s =
 
 -- the rank itself made more acts, in this life or an earlier one
 pub StandsIn-later : (start : State) (n r : ℕ) (inbound : ℕ → List Message) (h h' extra : History)
-    (c : ℕ) (m : MachineValue) (box : Mailbox) (log : List Backlog)
+    (c : ℕ) (m : MachineValue) (box : Mailbox) (log : List BacklogValue)
     → h' ≡ h ++ extra → StandsIn start n r inbound h c m box log → StandsIn start n r inbound h' c m box log
 StandsIn-later start n r inbound h h' extra c m box log e s =
     record {
@@ -51,7 +51,7 @@ StandsIn-later start n r inbound h h' extra c m box log e s =
     same = ap (λ z. take c z) e ∙ take_append c h extra s.within
 
 -- inner steps of the machine
-pub StandsIn-moved : (start : State) (n r : ℕ) (inbound : ℕ → List Message) (h : History) (c : ℕ) (m m' : MachineValue) (box : Mailbox) (log : List Backlog)
+pub StandsIn-moved : (start : State) (n r : ℕ) (inbound : ℕ → List Message) (h : History) (c : ℕ) (m m' : MachineValue) (box : Mailbox) (log : List BacklogValue)
     → (inner (state_of m) ≡ Some (state_of m')) ⊎ (state_of m' ≡ state_of m) → StandsIn start n r inbound h c m box log
     → StandsIn start n r inbound h c m' box log
 StandsIn-moved start n r inbound h c m m' box log e s =
@@ -71,7 +71,7 @@ StandsIn-moved start n r inbound h c m m' box log e s =
 
 -- frames came or went
 pub StandsIn-frames : (start : State) (n r : ℕ) (inbound : ℕ → List Message) (h : History)
-    (c : ℕ) (m : MachineValue) (box box' : Mailbox) (log log' : List Backlog)
+    (c : ℕ) (m : MachineValue) (box box' : Mailbox) (log log' : List BacklogValue)
     → length box'.accepted ≡ n → InboxStands box' inbound (take c h)
     → length log' ≡ n
     → StandsIn start n r inbound h c m box log → StandsIn start n r inbound h c m box' log'
@@ -88,7 +88,7 @@ StandsIn-frames start n r inbound h c m box box' log log' counted stands logged 
 
 -- The next act of the history: the machine that makes it, with its message, stands one act further.
 pub StandsIn-next : (start : State) (n r : ℕ) (inbound : ℕ → List Message) (h : History)
-    (c : ℕ) (m m' : MachineValue) (box box' : Mailbox) (log log' : List Backlog)
+    (c : ℕ) (m m' : MachineValue) (box box' : Mailbox) (log log' : List BacklogValue)
     (a : Act) (o : Option Message) (rest : History)
     → drop c h ≡ (a, o) ∷ rest
     → Makes (state_of m) a o
@@ -152,7 +152,7 @@ pub record NextAct (h : History) (c : ℕ) (m : MachineValue) : Type 0 where
   pub makes : Makes (state_of m) act message
 
 -- a machine that is behind stands at the next act
-pub next_act : (start : State) (n r : ℕ) (inbound : ℕ → List Message) (h : History) (c : ℕ) (m : MachineValue) (box : Mailbox) (log : List Backlog) (z : State)
+pub next_act : (start : State) (n r : ℕ) (inbound : ℕ → List Message) (h : History) (c : ℕ) (m : MachineValue) (box : Mailbox) (log : List BacklogValue) (z : State)
     → Runs start h z → c < length h → inner (state_of m) ≡ None → StandsIn start n r inbound h c m box log → NextAct h c m
 next_act start n r inbound h c m box log z whole l stop s =
     let d = drop_some c h l in

@@ -4,7 +4,7 @@ use Rattle.std.proofs.Common.{refl, sym, ap, subst, ◌∙◌, arith, slice_get,
 use Rattle.std.proofs.lemmas.Bool.{cases_lt, lt-ltb, le-ltb, ltb-true}
 use Rattle.std.proofs.lemmas.List.{length_push}
 use Rattle.matching.specs.Message as packet
-use Rattle.payload_log.specs.Backlog.{Backlog, saved, hold, freed, freed_of, asked, pruned, passed, next_of}
+use Rattle.payload_log.specs.Backlog.{BacklogValue, saved, hold, freed, freed_of, asked, pruned, passed, next_of}
 use Rattle.rank_machine.specs.Acts.{Message, carried}
 use Rattle.crash_free.specs.Runs.{at_place}
 use Rattle.world_model.specs.Stands.{LogStands, packet_of, packets_from}
@@ -12,7 +12,7 @@ use Rattle.world_model.proofs.Lists.{drop_append, drop_beyond, drop_more, packet
 use Rattle.world_model.proofs.Lists.{get_dropped}
 
 -- one message more was sent, and its packet saved
-pub LogStands-saved : (r : ℕ) (messages later : List Message) (b : Backlog) (p : packet.Message) → p.source ≡ r → p.number ≡ b.sent + 1
+pub LogStands-saved : (r : ℕ) (messages later : List Message) (b : BacklogValue) (p : packet.Message) → p.source ≡ r → p.number ≡ b.sent + 1
     → b.sent ≡ length messages → b.kept ≡ drop b.base (packets_from r 0 messages) → b.held ≡ packets_from r (length messages + 1) later
     → LogStands r (messages ++ carried p ∷ []) later (saved b p)
 LogStands-saved r messages later b p source number sent kept held =
@@ -46,7 +46,7 @@ LogStands-saved r messages later b p source number sent kept held =
         (rw (length_push (packets_from r 0 messages) p) (omega (arith, count, number))))
 
 -- one message more waits, and its packet is held
-pub LogStands-held : (r : ℕ) (messages later : List Message) (b : Backlog) (p : packet.Message) → p.source ≡ r → p.number ≡ b.sent + length b.held + 1
+pub LogStands-held : (r : ℕ) (messages later : List Message) (b : BacklogValue) (p : packet.Message) → p.source ≡ r → p.number ≡ b.sent + length b.held + 1
     → LogStands r messages later b → LogStands r messages (later ++ carried p ∷ []) (hold b p)
 LogStands-held r messages later b p source number s =
     record {
@@ -65,12 +65,12 @@ LogStands-held r messages later b p source number s =
         let z : length messages + length later + 1 ≡ p.number = omega (arith, e, f, number) in z)
 
 -- the message that waits longest: its packet is held first
-pub held_first : (r : ℕ) (messages later : List Message) (b : Backlog) (m : Message) → LogStands r messages (m ∷ later) b
+pub held_first : (r : ℕ) (messages later : List Message) (b : BacklogValue) (m : Message) → LogStands r messages (m ∷ later) b
     → slice_get b.held 0 ≡ Some (packet_of r (length messages + 1) m)
 held_first r messages later b m s = ap (λ z. slice_get z 0) s.held
 
 -- it is released: its packet is saved
-pub LogStands-freed : (r : ℕ) (messages later : List Message) (b : Backlog) (m : Message) → LogStands r messages (m ∷ later) b
+pub LogStands-freed : (r : ℕ) (messages later : List Message) (b : BacklogValue) (m : Message) → LogStands r messages (m ∷ later) b
     → LogStands r (messages ++ m ∷ []) later (freed b)
 LogStands-freed r messages later b m s =
     subst (λ z. LogStands r (messages ++ m ∷ []) later (freed_of b z)) (sym s.held)
@@ -85,15 +85,15 @@ LogStands-freed r messages later b m s =
     refl (ap (λ z. z + 1) (sym s.sent)) s.sent s.kept refl)
 
 -- the cursor moves on
-pub LogStands-passed : (r : ℕ) (messages later : List Message) (b : Backlog) → LogStands r messages later b → LogStands r messages later (passed b)
+pub LogStands-passed : (r : ℕ) (messages later : List Message) (b : BacklogValue) → LogStands r messages later b → LogStands r messages later (passed b)
 LogStands-passed r messages later b s = record { sent = s.sent; kept = s.kept; held = s.held }
 
 -- or goes back
-pub LogStands-asked : (r from : ℕ) (messages later : List Message) (b : Backlog) → LogStands r messages later b → LogStands r messages later (asked b from)
+pub LogStands-asked : (r from : ℕ) (messages later : List Message) (b : BacklogValue) → LogStands r messages later b → LogStands r messages later (asked b from)
 LogStands-asked r from messages later b s = record { sent = s.sent; kept = s.kept; held = s.held }
 
 -- packets go
-pub LogStands-pruned : (r upto : ℕ) (messages later : List Message) (b : Backlog) → LogStands r messages later b → LogStands r messages later (pruned b upto)
+pub LogStands-pruned : (r upto : ℕ) (messages later : List Message) (b : BacklogValue) → LogStands r messages later b → LogStands r messages later (pruned b upto)
 LogStands-pruned r upto messages later b s = go (nat_lt b.base upto) refl
   where
     go : (c : Bool) → nat_lt b.base upto ≡ c
@@ -110,7 +110,7 @@ LogStands-pruned r upto messages later b s = go (nat_lt b.base upto) refl
         }
 
 -- a base is at most what it was, or what the receiver's image has
-pub base_pruned : (b : Backlog) (upto most : ℕ) → b.base ≤ most → upto ≤ most → (pruned b upto).base ≤ most
+pub base_pruned : (b : BacklogValue) (upto most : ℕ) → b.base ≤ most → upto ≤ most → (pruned b upto).base ≤ most
 base_pruned b upto most l m = go (nat_lt b.base upto)
   where
     go : (c : Bool)
@@ -120,7 +120,7 @@ base_pruned b upto most l m = go (nat_lt b.base upto)
     go true = m
 
 -- what goes next is a message that was sent
-pub next_is_real : (r : ℕ) (messages later : List Message) (b : Backlog) (p : packet.Message) → LogStands r messages later b → next_of b ≡ Some p
+pub next_is_real : (r : ℕ) (messages later : List Message) (b : BacklogValue) (p : packet.Message) → LogStands r messages later b → next_of b ≡ Some p
     → (p.source ≡ r) × (at_place messages p.number ≡ Some (carried p))
 next_is_real r messages later b p s e =
     let g = packets_get r 0 messages (b.base + (b.cursor - (b.base + 1))) p

@@ -6,7 +6,7 @@ use Rattle.std.proofs.lemmas.List.{get_or-set_other}
 use Rattle.std.proofs.lemmas.Option.{slice_get_within}
 use Rattle.matching.specs.Message as packet
 use Rattle.matching.specs.Inbox.{after_arrival}
-use Rattle.payload_log.specs.Backlog.{Backlog, backlog, passed, asked, pruned, next_of}
+use Rattle.payload_log.specs.Backlog.{BacklogValue, backlog, passed, asked, pruned, next_of}
 use Rattle.rank_node.specs.declared.due.Due.{Due}
 use Rattle.rank_node.specs.declared.frame.Frame.{Frame}
 use Rattle.rank_node.specs.declared.frame.Frame.TheVariants as frame
@@ -25,7 +25,7 @@ use Rattle.world_model.proofs.OnwardRanks.{WiresGrow, same_wires, valued, OneCha
 -- ---- a frame arrives
 
 -- one backlog above its base in the place of another
-pub above_set : (log : List Backlog) (s : ℕ) (b : Backlog) → b.base < b.cursor → AreAbove log → AreAbove (slice_set log s b)
+pub above_set : (log : List BacklogValue) (s : ℕ) (b : BacklogValue) → b.base < b.cursor → AreAbove log → AreAbove (slice_set log s b)
 above_set [] s b l all d = all d
 above_set (x ∷ log) zero b l all zero = l
 above_set (x ∷ log) zero b l all (suc d) = all (suc d)
@@ -33,7 +33,7 @@ above_set (x ∷ log) (suc s) b l all zero = all 0
 above_set (x ∷ log) (suc s) b l all (suc d) = above_set log s b l (λ e. all (suc e)) d
 
 -- what is let go is below the cursor
-above_pruned : (b : Backlog) (upto : ℕ) → b.base < b.cursor → (pruned b upto).base < (pruned b upto).cursor
+above_pruned : (b : BacklogValue) (upto : ℕ) → b.base < b.cursor → (pruned b upto).base < (pruned b upto).cursor
 above_pruned b upto l = go (nat_lt b.base upto)
   where
     go : (c : Bool) → (if c then record b { base = upto; cursor = max b.cursor (upto + 1); kept = drop (upto - b.base) b.kept } else b).base
@@ -58,7 +58,7 @@ Onward-arrive w s d i answer w' t f k =
     o : RankOnward w d f.before
     o = k.ranks d f.before f.live
 
-    logged : (b : Backlog) → b.base < b.cursor → GetsOn w w' d f.before (valued f.before (with_log f.before.rank (slice_set f.before.rank.log s b)))
+    logged : (b : BacklogValue) → b.base < b.cursor → GetsOn w w' d f.before (valued f.before (with_log f.before.rank (slice_set f.before.rank.log s b)))
     logged b l =
         record {
           clock = o.clock;

@@ -4,7 +4,7 @@ use Rattle.std.proofs.Common.{◌≡◌, ℕ, zero, suc, ◌+◌, ◌⊎◌, inl
 use Rattle.std.proofs.Common.{refl, sym, ap, subst, ◌∙◌, arith, slice_get, slice_index_or}
 use Rattle.std.proofs.lemmas.List.{length-set}
 use Rattle.checkpoint.specs.Image.{ImageValue, rewound}
-use Rattle.payload_log.specs.Backlog.{Backlog}
+use Rattle.payload_log.specs.Backlog.{BacklogValue}
 use Rattle.rank_node.specs.declared.due.Due.{Due}
 use Rattle.rank_node.specs.Node.{no_due}
 use Rattle.rank_node.specs.Image.{image_of, kept_due, kepts_due, after_image}
@@ -62,7 +62,7 @@ Onward-image w r answer w' t f k =
     image_is : (x y : ImageValue) → ◌≡◌ {A = Option ImageValue} (Some x) (Some y) → x ≡ y
     image_is x y e = cc
 
-    image : (q d : ℕ) (i : ImageValue) (b : Backlog)
+    image : (q d : ℕ) (i : ImageValue) (b : BacklogValue)
         → ((q ≡ r) × (Some i ≡ Some (image_of f.before.rank))) ⊎ ((q ≡ r → ⊥) × (slice_get w.images q ≡ Some (Some i)))
         → slice_get i.log d ≡ Some b → b.cursor ≡ b.base + 1
     image q d i b (inr h) is = k.images q d i b h.1 is

@@ -8,7 +8,7 @@ use Rattle.checkpoint.specs.declared.memory_shelf.MemoryShelf.{MemoryShelf}
 use Rattle.plain_logger.specs.Event.{EventValue}
 use Rattle.matching.specs.Inbox.{accepted_from}
 use Rattle.matching.specs.Message as packet
-use Rattle.payload_log.specs.Backlog.{Backlog, backlog, new_backlog, freed, freed_of}
+use Rattle.payload_log.specs.Backlog.{BacklogValue, backlog, new_backlog, freed, freed_of}
 use Rattle.rank_machine.specs.States.{State}
 use Rattle.rank_machine.specs.Acts.{Act}
 use Rattle.rank_node.specs.declared.waiting.Waiting.{Waiting}
@@ -50,7 +50,7 @@ above_new (suc n) zero = omega arith
 above_new (suc n) (suc d) = above_new n d
 
 -- those of an image neither
-above_image : (log : List Backlog) → ((d : ℕ) (b : Backlog) → slice_get log d ≡ Some b → b.cursor ≡ b.base + 1) → AreAbove log
+above_image : (log : List BacklogValue) → ((d : ℕ) (b : BacklogValue) → slice_get log d ≡ Some b → b.cursor ≡ b.base + 1) → AreAbove log
 above_image [] all d = omega arith
 above_image (b ∷ log) all zero = (let e = all 0 b refl in omega (arith, e))
 above_image (b ∷ log) all (suc d) = above_image log (λ k. all (suc k)) d
@@ -195,7 +195,7 @@ Onward-store w r answer w' t t' f k =
 -- ---- a release
 
 -- a packet that is freed leaves base and cursor
-above_freed : (b : Backlog) → b.base < b.cursor → (freed b).base < (freed b).cursor
+above_freed : (b : BacklogValue) → b.base < b.cursor → (freed b).base < (freed b).cursor
 above_freed b l = go b.held
   where
     go : (ms : List packet.Message) → (freed_of b ms).base < (freed_of b ms).cursor
@@ -203,7 +203,7 @@ above_freed b l = go b.held
     go (m ∷ ms) = l
 
 -- the payload log of a release
-above_released : (log : List Backlog) (x : Waiting) → AreAbove log → AreAbove (released_log log x)
+above_released : (log : List BacklogValue) (x : Waiting) → AreAbove log → AreAbove (released_log log x)
 above_released log (waits.Event e) all = all
 above_released log (waits.Send dest clock) all = above_set log dest (freed (backlog log dest)) (above_freed (backlog log dest) (all dest)) all
 above_released log (waits.Line clock value) all = all

@@ -7,7 +7,7 @@ use Rattle.std.proofs.lemmas.Option.{slice_get_within, slice_get-get_or, get_or_
 use Rattle.plain_logger.specs.Event.{EventValue}
 use Rattle.matching.specs.Message as packet
 use Rattle.matching.specs.Inbox.{after_arrival}
-use Rattle.payload_log.specs.Backlog.{Backlog, backlog, asked, pruned, passed, next_of, new_backlog, freed, freed_of}
+use Rattle.payload_log.specs.Backlog.{BacklogValue, backlog, asked, pruned, passed, next_of, new_backlog, freed, freed_of}
 use Rattle.rank_machine.specs.States.{State}
 use Rattle.rank_machine.specs.Acts.{Act, Message, carried, sends, takes, hits, misses, prints}
 use Rattle.rank_node.specs.declared.due.Due.{Due}
@@ -90,7 +90,7 @@ module _ (n : ℕ) (w : WorldValue) (r : ℕ) (v : Live) (s : StandsAt n w) (c :
   log_at d l = (s.ranks r v live).logs d (backlog v.rank.log d)
       (slice_get-get_or v.rank.log d new_backlog (let e = (s.ranks r v live).at.logged in omega (arith, l, e)))
 
-  relogged : (d : ℕ) (b : Backlog)
+  relogged : (d : ℕ) (b : BacklogValue)
       → LogStands r (sends_from 0 d (take v.rank.clock (history w.run r))) (sends_of (length (history w.run r)) d (s.ranks r v live).acts) b
       → RankStands (start_at w n) n w.run r (record { rank = with_log v.rank (slice_set v.rank.log d b); left = v.left })
   relogged d b new =
@@ -258,7 +258,7 @@ Stands-arrive w from r i answer w' s f =
 -- ---- what passes: a store, a release
 
 -- what waits is other, and so are the payload log and the number of stored events
-abbrev pub after_passing : Rank → List Waiting → ℕ → List Backlog → Rank
+abbrev pub after_passing : Rank → List Waiting → ℕ → List BacklogValue → Rank
 after_passing v pending stored log = record {
   stable = v.stable;
   machine = v.machine;
@@ -290,13 +290,13 @@ RankStands-acked start n C r v s pending stored some same low =
     }
 
 -- the payload log when the first act that waits passes
-abbrev pub LogPasses : List Passed → ℕ → ℕ → Waiting → List Backlog → List Backlog → Type 0
+abbrev pub LogPasses : List Passed → ℕ → ℕ → Waiting → List BacklogValue → List BacklogValue → Type 0
 LogPasses C r c x log log' =
     (a : Act) (acts : List Act) → IsFor C r a x → c ≡ length (history C r) + length (a ∷ acts)
     → LogsStand r (history C r) c (a ∷ acts) log → LogsStand r (history (record { rank = r; act = a } ∷ C) r) c acts log'
 
 -- the act that waits longest, and where its rank stands when it has passed
-pub record First (start : ℕ → State) (n : ℕ) (C : List Passed) (r : ℕ) (x : Waiting) (log : List Backlog) (v : Live) : Type 0 where
+pub record First (start : ℕ → State) (n : ℕ) (C : List Passed) (r : ℕ) (x : Waiting) (log : List BacklogValue) (v : Live) : Type 0 where
   pub act : Act
   pub acts : List Act
   pub can : MayMake (start r) (λ q. sent C q r) (history C r) act
@@ -307,7 +307,7 @@ pub record First (start : ℕ → State) (n : ℕ) (C : List Passed) (r : ℕ) (
 
 -- the first of what waits passes
 pub RankStands-passes : (start : ℕ → State) (n : ℕ) (C : List Passed) (r : ℕ) (v : Live) (s : RankStands start n C r v)
-    (x : Waiting) (rest pending : List Waiting) (stored : ℕ) (log : List Backlog)
+    (x : Waiting) (rest pending : List Waiting) (stored : ℕ) (log : List BacklogValue)
     → (v.rank.pending ≡ [] → ⊥)
     → unpassed v.rank ≡ x ∷ rest → drop stored pending ≡ rest → BeginsWithEvents stored pending
     → length log ≡ n → LogPasses C r v.rank.clock x v.rank.log log
@@ -378,7 +378,7 @@ module _ (C : List Passed) (r c : ℕ) (a : Act) (acts : List Act) (counts : c �
   waits_after d = ap (λ z. sends_of z d acts) one_longer
 
   -- where the act sends nothing there
-  pub quiet_there : (d : ℕ) (b : Backlog) → send_at (length (history C r) + 1) d a [] ≡ []
+  pub quiet_there : (d : ℕ) (b : BacklogValue) → send_at (length (history C r) + 1) d a [] ≡ []
       → LogStands r (sends_from 0 d (take c (history C r))) (sends_of (length (history C r)) d (a ∷ acts)) b
       → LogStands r (sends_from 0 d (take c (history (record { rank = r; act = a } ∷ C) r)))
       (sends_of (length (history (record { rank = r; act = a } ∷ C) r)) d acts) b
@@ -390,7 +390,7 @@ module _ (C : List Passed) (r c : ℕ) (a : Act) (acts : List Act) (counts : c �
       (λ z. z ++ sends_of (length (history C r) + 1) d acts) none ∙ sym (waits_after d)) s)
 
   -- where it sends a message there
-  pub message_there : (d : ℕ) (b : Backlog) (m : Message) → send_at (length (history C r) + 1) d a [] ≡ m ∷ []
+  pub message_there : (d : ℕ) (b : BacklogValue) (m : Message) → send_at (length (history C r) + 1) d a [] ≡ m ∷ []
       → LogStands r (sends_from 0 d (take c (history C r))) (sends_of (length (history C r)) d (a ∷ acts)) b
       → LogStands r (sends_from 0 d (take c (history C r))) (m ∷ sends_of (length (history C r) + 1) d acts) b
   message_there d b m one s =
@@ -398,7 +398,7 @@ module _ (C : List Passed) (r c : ℕ) (a : Act) (acts : List Act) (counts : c �
       (send_at-append (length (history C r) + 1) d a [] (sends_of (length (history C r) + 1) d acts) ∙ ap
       (λ z. z ++ sends_of (length (history C r) + 1) d acts) one) s
 
-  pub freed_there : (d : ℕ) (b : Backlog) (m : Message) → send_at (length (history C r) + 1) d a [] ≡ m ∷ []
+  pub freed_there : (d : ℕ) (b : BacklogValue) (m : Message) → send_at (length (history C r) + 1) d a [] ≡ m ∷ []
       → LogStands r (sends_from 0 d (take c (history C r))) (sends_of (length (history C r)) d (a ∷ acts)) b
       → LogStands r (sends_from 0 d (take c (history (record { rank = r; act = a } ∷ C) r)))
       (sends_of (length (history (record { rank = r; act = a } ∷ C) r)) d acts) (freed b)
@@ -432,7 +432,7 @@ drop_first (y ∷ xs) zero x e = (let q : y ≡ x = cc in ap (λ z. z ∷ xs) q 
 drop_first (y ∷ xs) (suc k) x e = drop_first xs k x e ∙ (let z : suc (k + 1) ≡ suc k + 1 = omega arith in ap (λ j. x ∷ drop j (y ∷ xs)) z)
 
 -- an event that passes leaves the payload log
-event_passes : (C : List Passed) (r c : ℕ) (e : EventValue) (log : List Backlog) → LogPasses C r c (waits.Event e) log log
+event_passes : (C : List Passed) (r c : ℕ) (e : EventValue) (log : List BacklogValue) → LogPasses C r c (waits.Event e) log log
 event_passes C r c e log a acts is_for counts logs d b at =
     quiet_there C r c a acts counts d b (event_sends_none _ d _ a _ e is_for) (logs d b at)
 
@@ -550,7 +550,7 @@ missing_default (x ∷ xs) zero d e = absurd cc
 missing_default (x ∷ xs) (suc i) d e = missing_default xs i d e
 
 -- the message of a send that waits
-module _ (C : List Passed) (r c : ℕ) (log : List Backlog) where
+module _ (C : List Passed) (r c : ℕ) (log : List BacklogValue) where
   send_passes : (dest clock : ℕ) → LogPasses C r c (waits.Send dest clock) log (slice_set log dest (freed (backlog log dest)))
   send_passes dest clock (takes s j) acts is_for counts logs = absurd is_for
   send_passes dest clock (hits s j) acts is_for counts logs = absurd is_for
@@ -582,13 +582,13 @@ module _ (C : List Passed) (r c : ℕ) (log : List Backlog) where
   effect_passes (waits.Line clock value) n = line_passes clock value
 
 -- a release keeps the payload log's length
-released_length : (log : List Backlog) (x : Waiting) → length (released_log log x) ≡ length log
+released_length : (log : List BacklogValue) (x : Waiting) → length (released_log log x) ≡ length log
 released_length log (waits.Event e) = refl
 released_length log (waits.Send dest clock) = length-set log dest _
 released_length log (waits.Line clock value) = refl
 
 -- a packet that is freed moves no base
-freed_base : (b : Backlog) → (freed b).base ≡ b.base
+freed_base : (b : BacklogValue) → (freed b).base ≡ b.base
 freed_base b = go b.held
   where
     go : (ms : List packet.Message) → (freed_of b ms).base ≡ b.base
@@ -648,7 +648,7 @@ Stands-release w r answer w' s f =
     -- the act is the one that waited
     sent_is : (dest d : ℕ) (c : Context) (t : ℕ) (items : List ℤ) (act : Act) → d ≡ dest
         → LogsStand r (history w.run r) f.before.rank.clock (sends d c t items ∷ o.acts) f.before.rank.log
-        → (x : Option Backlog) → slice_get f.before.rank.log dest ≡ x
+        → (x : Option BacklogValue) → slice_get f.before.rank.log dest ≡ x
         → option_map (send_of dest) (oldest_held f.before.rank dest) ≡ Some act → act ≡ sends d c t items
     sent_is dest d c t items act same logs None at e =
         let none : oldest_held f.before.rank dest ≡ None = ap (λ z. slice_get z.held 0) (missing_default f.before.rank.log dest new_backlog at) in
@@ -712,7 +712,7 @@ Stands-release w r answer w' s f =
     shown (waits.Send dest clock) (hits s' j) is n q = absurd is
     shown (waits.Send dest clock) misses is n q = absurd is
 
-    covered_bases : RankCovers w.images r f.before → (x : Waiting) → (d : ℕ) (b : Backlog) → slice_get (released_log f.before.rank.log x) d ≡ Some b
+    covered_bases : RankCovers w.images r f.before → (x : Waiting) → (d : ℕ) (b : BacklogValue) → slice_get (released_log f.before.rank.log x) d ≡ Some b
         → b.base ≤ covered w.images d r
     covered_bases c (waits.Event e) = c.bases
     covered_bases c (waits.Line clock value) = c.bases

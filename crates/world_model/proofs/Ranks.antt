@@ -6,7 +6,7 @@ use Rattle.std.proofs.lemmas.List.{append-nil}
 use Rattle.plain_logger.specs.Event.{EventValue}
 use Rattle.plain_logger.specs.History.{above}
 use Rattle.matching.specs.Inbox.{Mailbox}
-use Rattle.payload_log.specs.Backlog.{Backlog, new_backlog}
+use Rattle.payload_log.specs.Backlog.{BacklogValue, new_backlog}
 use Rattle.rank_language.specs.Program.{ProgramValue}
 use Rattle.rank_machine.specs.States.{State, Inners, here, opening}
 use Rattle.rank_machine.specs.Acts.{Act, Message, sends, takes, hits, misses, prints, Makes, next}
@@ -32,7 +32,7 @@ use Rattle.world_model.proofs.In.{StandsIn-longer, StandsIn-later, StandsIn-next
 -- ---- the payload log
 
 -- its rank made more acts, in this life or an earlier one
-pub LogsStand-later : (r : ℕ) (h h' extra : History) (c : ℕ) (log : List Backlog) → h' ≡ h ++ extra → c ≤ length h → LogsStand r h c [] log
+pub LogsStand-later : (r : ℕ) (h h' extra : History) (c : ℕ) (log : List BacklogValue) → h' ≡ h ++ extra → c ≤ length h → LogsStand r h c [] log
     → LogsStand r h' c [] log
 LogsStand-later r h h' extra c log e l s d b at =
     subst (λ z. LogStands r (sends_from 0 d z) [] b) (sym (ap (λ z. take c z) e ∙ take_append c h extra l)) (s d b at)
@@ -208,7 +208,7 @@ ahead start n C r v s some =
     s.all_made
 
 -- the rank with another machine, inbox, payload log or dues, or what is stable, and the same clock
-abbrev pub at_same_clock : Rank → Stored MemoryShelf (Unit {0}) → MachineValue → Mailbox → List Backlog → List Due → Rank
+abbrev pub at_same_clock : Rank → Stored MemoryShelf (Unit {0}) → MachineValue → Mailbox → List BacklogValue → List Due → Rank
 at_same_clock v stable m inbox log dues = record {
   stable = stable;
   machine = m;
@@ -223,7 +223,7 @@ at_same_clock v stable m inbox log dues = record {
 
 -- a rank that makes no act goes with the run still
 pub RankStands-same_clock : (start : ℕ → State) (n : ℕ) (C : List Passed) (r : ℕ) (v : Live) (s : RankStands start n C r v)
-    (stable : Stored MemoryShelf (Unit {0})) (m : MachineValue) (inbox : Mailbox) (log : List Backlog) (dues : List Due)
+    (stable : Stored MemoryShelf (Unit {0})) (m : MachineValue) (inbox : Mailbox) (log : List BacklogValue) (dues : List Due)
     → stable.rank ≡ r → stable.size ≡ n
     → LogsStand r (history C r) v.rank.clock s.acts log
     → StandsIn (start r) n r (λ q. sent C q r) (history (continue C r s.acts) r) v.rank.clock m inbox log
@@ -244,7 +244,7 @@ RankStands-same_clock start n C r v s stable m inbox log dues number size logs a
 -- ---- an act made again
 
 -- the rank after an act whose event, if it is one, is in the row already
-abbrev pub after_again : Rank → MachineValue → Mailbox → List Backlog → Rank
+abbrev pub after_again : Rank → MachineValue → Mailbox → List BacklogValue → Rank
 after_again v m inbox log = record {
   stable = v.stable;
   machine = m;
@@ -259,14 +259,14 @@ after_again v m inbox log = record {
 
 -- A rank that is behind the run makes the run's next act, replayed or again.
 pub RankStands-again : (start : ℕ → State) (n : ℕ) (C : List Passed) (r : ℕ) (v : Live) (s : RankStands start n C r v)
-    (m : MachineValue) (inbox : Mailbox) (log : List Backlog)
+    (m : MachineValue) (inbox : Mailbox) (log : List BacklogValue)
     (a : Act) (o : Option Message) (rest : History) (left : List EventValue)
     → v.rank.pending ≡ []
     → drop v.rank.clock (history C r) ≡ (a, o) ∷ rest
     → Makes (state_of v.rank.machine) a o
     → state_of m ≡ next (state_of v.rank.machine) a o
     → length inbox.accepted ≡ n → InboxStands inbox (λ q. sent C q r) (take v.rank.clock (history C r) ++ (a, o) ∷ [])
-    → length log ≡ n → ((d : ℕ) (b : Backlog) → slice_get log d ≡ Some b → LogStands r (sends_from 0 d (take v.rank.clock (history C r) ++ (a, o) ∷ [])) [] b)
+    → length log ≡ n → ((d : ℕ) (b : BacklogValue) → slice_get log d ≡ Some b → LogStands r (sends_from 0 d (take v.rank.clock (history C r) ++ (a, o) ∷ [])) [] b)
     → left ≡ events_from (v.rank.clock + 1) rest
     → RankStands start n C r (record { rank = after_again v.rank m inbox log; left = left })
 RankStands-again start n C r v s m inbox log a o rest left settled is makes state counted box logged logs now =

@@ -10,7 +10,7 @@ use Rattle.matching.specs.declared.selector.Selector.{Selector}
 use Rattle.matching.specs.Message as packet
 use Rattle.matching.specs.Matching.{matches, is_named}
 use Rattle.matching.specs.Inbox.{Mailbox, without}
-use Rattle.payload_log.specs.Backlog.{Backlog, backlog, saved, new_backlog}
+use Rattle.payload_log.specs.Backlog.{BacklogValue, backlog, saved, new_backlog}
 use Rattle.plain_logger.specs.Event.{EventValue, event_of}
 use Rattle.plain_logger.specs.declared.kind.Kind.{Kind}
 use Rattle.plain_logger.specs.declared.kind.Kind.TheVariants as kind
@@ -56,7 +56,7 @@ sends_next h c d' d context t items o l =
 -- a send that is made again is saved
 pub logs_saved : (r : ℕ) (h : History) (v : Rank) (d : ℕ) (context : Context) (t : ℕ)
     → v.stable.rank ≡ r → v.clock ≤ length h → LogsStand r h v.clock [] v.log
-    → (e : ℕ) (b : Backlog) → slice_get (slice_set v.log d (saved (backlog v.log d) (message_of v d context t))) e ≡ Some b
+    → (e : ℕ) (b : BacklogValue) → slice_get (slice_set v.log d (saved (backlog v.log d) (message_of v d context t))) e ≡ Some b
     → LogStands r (sends_from 0 e (take v.clock h ++ (sends d context t (payload (state_of v.machine)), None) ∷ [])) [] b
 logs_saved r h v d context t number within s =
     replaced_keeps (λ e b. LogStands r (sends_from 0 e (take v.clock h ++ (a, None) ∷ [])) [] b) v.log d (saved (backlog v.log d) p) others own
@@ -70,13 +70,13 @@ logs_saved r h v d context t number within s =
     messages : (e : ℕ) → sends_from 0 e (take v.clock h ++ (a, None) ∷ []) ≡ sends_from 0 e (take v.clock h) ++ cons_if (d == e) (carried p) []
     messages e = sends_next h v.clock d e context t (payload (state_of v.machine)) None within
 
-    others : (e : ℕ) (b : Backlog) → (e ≡ d → ⊥) → slice_get v.log e ≡ Some b → LogStands r (sends_from 0 e (take v.clock h ++ (a, None) ∷ [])) [] b
+    others : (e : ℕ) (b : BacklogValue) → (e ≡ d → ⊥) → slice_get v.log e ≡ Some b → LogStands r (sends_from 0 e (take v.clock h ++ (a, None) ∷ [])) [] b
     others e b ne at =
         subst (λ z. LogStands r z [] b) (sym (messages e ∙ ap (λ z. sends_from 0 e (take v.clock h) ++ cons_if z (carried p) [])
         (ne_eqb d e (λ z. ne (sym z))) ∙ append-nil _))
         (s e b at)
 
-    own : (b : Backlog) → slice_get v.log d ≡ Some b → LogStands r (sends_from 0 d (take v.clock h ++ (a, None) ∷ [])) [] (saved (backlog v.log d) p)
+    own : (b : BacklogValue) → slice_get v.log d ≡ Some b → LogStands r (sends_from 0 d (take v.clock h ++ (a, None) ∷ [])) [] (saved (backlog v.log d) p)
     own b at =
         let is : backlog v.log d ≡ b = get_or_from_slice_get v.log d b new_backlog at in
         let had : LogStands r (sends_from 0 d (take v.clock h)) [] (backlog v.log d) =
@@ -94,7 +94,7 @@ SendsNone a = (c d : ℕ) → send_at c d a [] ≡ []
 -- another act leaves the payload log
 pub logs_quiet : (r : ℕ) (h : History) (v : Rank) (a : Act) (o : Option Message) → SendsNone a
     → LogsStand r h v.clock [] v.log
-    → (e : ℕ) (b : Backlog) → slice_get v.log e ≡ Some b → LogStands r (sends_from 0 e (take v.clock h ++ (a, o) ∷ [])) [] b
+    → (e : ℕ) (b : BacklogValue) → slice_get v.log e ≡ Some b → LogStands r (sends_from 0 e (take v.clock h ++ (a, o) ∷ [])) [] b
 logs_quiet r h v a o none s e b at =
     subst (λ z. LogStands r z [] b) (sym (sends_from-push 0 e (take v.clock h) (a, o) ∙ ap (λ z. sends_from 0 e (take v.clock h) ++ z) (none _ e)
     ∙ append-nil _)) (s e b at)
@@ -190,11 +190,11 @@ module _ (start : ℕ → State) (n : ℕ) (C : List Passed) (r : ℕ) (v : Live
       y.3)
 
   -- a rank that makes the run's next act
-  goes_on : (x : NextAct (history C r) v.rank.clock v.rank.machine) (m : MachineValue) (inbox : Mailbox) (log : List Backlog)
+  goes_on : (x : NextAct (history C r) v.rank.clock v.rank.machine) (m : MachineValue) (inbox : Mailbox) (log : List BacklogValue)
       (a : Act) (o : Option Message) (l : List EventValue)
       → x.act ≡ a → x.message ≡ o → state_of m ≡ next (state_of v.rank.machine) a o
       → length inbox.accepted ≡ n → InboxStands inbox (λ q. sent C q r) (take v.rank.clock (history C r) ++ (a, o) ∷ [])
-      → length log ≡ n → ((d : ℕ) (b : Backlog) → slice_get log d ≡ Some b → LogStands r (sends_from 0 d (take v.rank.clock (history C r) ++ (a, o) ∷ [])) [] b)
+      → length log ≡ n → ((d : ℕ) (b : BacklogValue) → slice_get log d ≡ Some b → LogStands r (sends_from 0 d (take v.rank.clock (history C r) ++ (a, o) ∷ [])) [] b)
       → l ≡ events_from (v.rank.clock + 1) x.rest
       → RankStands start n C r (record { rank = after_again v.rank m inbox log; left = l })
   goes_on x m inbox log a o l ea eo state counted box logged new_logs el =

@@ -7,7 +7,7 @@ use Rattle.std.proofs.lemmas.Bool.{cases_lt, cases_order}
 use Rattle.std.proofs.lemmas.Option.{slice_get-get_or}
 use Rattle.checkpoint.specs.Image.{ImageValue}
 use Rattle.matching.specs.Inbox.{Mailbox}
-use Rattle.payload_log.specs.Backlog.{Backlog, backlog, new_backlog}
+use Rattle.payload_log.specs.Backlog.{BacklogValue, backlog, new_backlog}
 use Rattle.rank_machine.specs.States.{State}
 use Rattle.rank_machine.specs.Acts.{Act, Message, sends, takes, hits, misses, prints, carried}
 use Rattle.rank_machine.specs.Machine.{MachineValue}
@@ -78,7 +78,7 @@ placed_early d c h (suc k) m e l = sent_early 0 d c h k m e (omega (arith, l))
 -- ---- payload logs
 
 -- what was sent above the base is kept, under its number
-kept_above : (r : ℕ) (messages later : List Message) (b : Backlog) (k : ℕ) (m : Message) → LogStands r messages later b → b.base < k
+kept_above : (r : ℕ) (messages later : List Message) (b : BacklogValue) (k : ℕ) (m : Message) → LogStands r messages later b → b.base < k
     → at_place messages k ≡ Some m → (i : ℕ) × (slice_get b.kept i ≡ Some (packet_of r k m))
 kept_above r messages later b zero m s l e = absurd cc
 kept_above r messages later b (suc k) m s l e = (
@@ -91,7 +91,7 @@ kept_above r messages later b (suc k) m s l e = (
 )
 
 -- a holder of which the base is covered retains what is needed: what waits isn't in the run, and nobody needs it
-retains : (s : ℕ) (h : History) (c : ℕ) (acts : List Act) (log : List Backlog) (n r k : ℕ) (m : Message)
+retains : (s : ℕ) (h : History) (c : ℕ) (acts : List Act) (log : List BacklogValue) (n r k : ℕ) (m : Message)
     → LogsStand s h c acts log → length log ≡ n → r < n → at_place (sends_from 0 r h) k ≡ Some m → (backlog log r).base < k → Retains c log s r k m
 retains s h c acts log n r k m i logged lt there above = go (cases_lt c m.clock)
   where
@@ -105,13 +105,13 @@ retains s h c acts log n r k m i logged lt there above = go (cases_lt c m.clock)
         inr (record { packet = packet_of s k m; index = x.0; there = x.1; source = refl; number = refl; content = refl })
 
 -- where the log has no entry for a rank nothing was let go
-none_let_go : (log : List Backlog) (r : ℕ) → length log ≤ r → (backlog log r).base ≡ 0
+none_let_go : (log : List BacklogValue) (r : ℕ) → length log ≤ r → (backlog log r).base ≡ 0
 none_let_go [] r l = refl
 none_let_go (x ∷ xs) zero l = absurd (omega arith)
 none_let_go (x ∷ xs) (suc r) l = none_let_go xs r (omega arith)
 
 -- what is needed is above each base that is covered
-below_needed : (w : WorldValue) (C : List Passed) (s r k : ℕ) (m : Message) (log : List Backlog) → Needed w C s r k m
+below_needed : (w : WorldValue) (C : List Passed) (s r k : ℕ) (m : Message) (log : List BacklogValue) → Needed w C s r k m
     → BasesCovered w.images s log → (backlog log r).base < k
 below_needed w C s r k m log needed bases = go (cases_lt r (length log))
   where
@@ -127,7 +127,7 @@ placed xs x zero e = absurd cc
 placed xs x (suc j) e = omega arith
 
 -- an inbox that goes with a history holds what was accepted and isn't taken
-holds : (start : State) (n r : ℕ) (C : List Passed) (h : History) (c : ℕ) (mv : MachineValue) (box : Mailbox) (log : List Backlog)
+holds : (start : State) (n r : ℕ) (C : List Passed) (h : History) (c : ℕ) (mv : MachineValue) (box : Mailbox) (log : List BacklogValue)
     → StandsIn start n r (λ s. sent C s r) h c mv box log → Holds C r (take c h) box
 holds start n r C h c mv box log i =
     record {

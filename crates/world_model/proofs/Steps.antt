@@ -6,7 +6,7 @@ use Rattle.std.proofs.lemmas.Bool.{cases_lt, le-ltb, le-leb, lt-leb, eq-eqb, ne_
 use Rattle.std.proofs.lemmas.List.{append-nil, length_push, drop-append-le}
 use Rattle.plain_logger.specs.Event.{EventValue}
 use Rattle.matching.specs.Inbox.{Mailbox}
-use Rattle.payload_log.specs.Backlog.{Backlog, backlog, hold, new_backlog}
+use Rattle.payload_log.specs.Backlog.{BacklogValue, backlog, hold, new_backlog}
 use Rattle.ports.specs.declared.line.Line.{Line}
 use Rattle.ports.specs.Console.{is_new, after_line}
 use Rattle.rank_machine.specs.declared.want.Want.{Want}
@@ -109,7 +109,7 @@ caught_up start n C r v w run s left is event =
 -- ---- a new act that waits
 
 -- the rank after an act that waits
-abbrev pub after_act : Rank → MachineValue → ℕ → Mailbox → List Backlog → Waiting → Rank
+abbrev pub after_act : Rank → MachineValue → ℕ → Mailbox → List BacklogValue → Waiting → Rank
 after_act v m made inbox log x = record {
   stable = v.stable;
   machine = m;
@@ -180,7 +180,7 @@ module _ (start : ℕ → State) (n : ℕ) (C : List Passed) (r : ℕ) (v : Live
       ∙ (let z : length (history C r) + length s.acts + 1 ≡ v.rank.clock + 1 = (let y = counts in omega (arith, y)) in
       ap (λ k. sends_of (length (history C r)) d s.acts ++ send_at k d a []) z)
 
-  pub RankStands-waits : (x : Waiting) (made : ℕ) (inbox : Mailbox) (log : List Backlog)
+  pub RankStands-waits : (x : Waiting) (made : ℕ) (inbox : Mailbox) (log : List BacklogValue)
       → IsFor (continue C r s.acts) r a x
       → state_of m ≡ next (state_of v.rank.machine) a o
       → length inbox.accepted ≡ n
@@ -270,7 +270,7 @@ module _ (start : ℕ → State) (n : ℕ) (C : List Passed) (r : ℕ) (v : Live
           ++ cons_if (d == e) (record { clock = v.rank.clock + 1; context = context; tag = t; items = payload (state_of v.rank.machine) }) []
       messages e = sends_more e ∙ ap (λ z. sends_of (length (history C r)) e s.acts ++ send_at (v.rank.clock + 1) e z []) is
 
-      others : (e : ℕ) (b : Backlog) → (e ≡ d → ⊥) → slice_get v.rank.log e ≡ Some b
+      others : (e : ℕ) (b : BacklogValue) → (e ≡ d → ⊥) → slice_get v.rank.log e ≡ Some b
           → LogStands r (sends_from 0 e (take (v.rank.clock + 1) (history C r))) (sends_of (length (history C r)) e (s.acts ++ a ∷ [])) b
       others e b ne at =
           subst (λ z. LogStands r (sends_from 0 e z) (sends_of (length (history C r)) e (s.acts ++ a ∷ [])) b) before_it
@@ -280,7 +280,7 @@ module _ (start : ℕ → State) (n : ℕ) (C : List Passed) (r : ℕ) (v : Live
           (ne_eqb d e (λ z. ne (sym z))) ∙ append-nil _))
           (s.logs e b at))
 
-      own : (b : Backlog) → slice_get v.rank.log d ≡ Some b
+      own : (b : BacklogValue) → slice_get v.rank.log d ≡ Some b
           → LogStands r (sends_from 0 d (take (v.rank.clock + 1) (history C r)))
           (sends_of (length (history C r)) d (s.acts ++ a ∷ [])) (hold (backlog v.rank.log d) p)
       own b at =

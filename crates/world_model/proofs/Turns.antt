@@ -13,7 +13,7 @@ use Rattle.matching.specs.declared.selector.Selector.{Selector}
 use Rattle.matching.specs.Message as packet
 use Rattle.matching.specs.Matching.{matches}
 use Rattle.matching.specs.Inbox.{without}
-use Rattle.payload_log.specs.Backlog.{Backlog, backlog, saved, hold}
+use Rattle.payload_log.specs.Backlog.{BacklogValue, backlog, saved, hold}
 use Rattle.ports.specs.declared.line.Line.{Line}
 use Rattle.ports.specs.Console.{after_line}
 use Rattle.rank_machine.specs.States.{inner}
@@ -279,7 +279,7 @@ module _ (n : ℕ) (w : WorldValue) (r : ℕ) (v : Live) (m : MachineValue) (s :
 
   -- A send or a print that passes the gate: where its rank is behind the run it is the run's next act, made again; else it
   -- goes on the run.
-  effect : (a : Act) (log : List Backlog) (lines : List Line)
+  effect : (a : Act) (log : List BacklogValue) (lines : List Line)
       → v.rank.pending ≡ []
       → ((a' : Act) (o' : Option Message) → Makes (state_of v.rank.machine) a' o' → (a' ≡ a) × (o' ≡ None))
       → inner (state_of v.rank.machine) ≡ None
@@ -287,7 +287,7 @@ module _ (n : ℕ) (w : WorldValue) (r : ℕ) (v : Live) (m : MachineValue) (s :
       → IsEffect a
       → state_of m ≡ next (state_of v.rank.machine) a None
       → length log ≡ n
-      → ((d : ℕ) (b : Backlog) → slice_get log d ≡ Some b → LogStands r (sends_from 0 d (take v.rank.clock (history w.run r) ++ (a, None) ∷ [])) [] b)
+      → ((d : ℕ) (b : BacklogValue) → slice_get log d ≡ Some b → LogStands r (sends_from 0 d (take v.rank.clock (history w.run r) ++ (a, None) ∷ [])) [] b)
       → (slice_get (history w.run r) v.rank.clock ≡ Some (a, None) → lines ≡ w.lines)
       → (v.rank.clock ≡ length (history w.run r) → (q : ℕ) → lines_of q lines ≡ printed (record { rank = r; act = a } ∷ w.run) q)
       → StandsAt n (changed w r (Some (record { rank = after_again v.rank m v.rank.inbox log; left = [] })) w.images w.logger lines

@@ -12,12 +12,12 @@ use Rattle.std.specs.Prelude.{◌≡◌, ℕ, ℤ, pos, zero, suc, ◌<◌, List
 use Rattle.std.proofs.Common.{refl, lit<, arith, inl, inr, ⊎_elim}
 use Rattle.checkpoint.specs.Image.{ImageValue}
 use Rattle.matching.specs.Inbox.{accepted_from}
-use Rattle.payload_log.specs.Backlog.{Backlog, new_backlog}
+use Rattle.payload_log.specs.Backlog.{BacklogValue, new_backlog}
 use Rattle.plain_logger.specs.Event.{event_of}
 use Rattle.plain_logger.specs.declared.kind.Kind.TheVariants as kind
 use Rattle.matching.specs.declared.packet.Context.TheVariants.{PointToPoint}
-use Rattle.rank_text.specs.declared.token.Operator.TheVariants.{Add, Equal}
-use Rattle.rank_text.specs.declared.token.Reading.TheVariants.{Rank}
+use Rattle.rank_grammar.specs.declared.token.Operator.TheVariants.{Add, Equal}
+use Rattle.rank_grammar.specs.declared.token.Reading.TheVariants.{Rank}
 use Rattle.rank_language.specs.Placed.{Placed, number, variable, reading, operation, any, one, into_variable, declare, send, receive, print}
 use Rattle.rank_language.specs.Block.{Block, done, plain, if_else, lines_at}
 use Rattle.rank_language.specs.Program.{ProgramValue}
@@ -150,7 +150,7 @@ not_needed : (i : ImageValue) → accepted_from i.inbox 0 ≡ 1 → Needed (down
 not_needed i accepted n = (let a = n.above in omega (arith, accepted, a))
 
 -- what rank 0 has kept for rank 1 once it sent the message
-abbrev kept : Backlog
+abbrev kept : BacklogValue
 kept = record {
   base = 0;
   sent = 1;

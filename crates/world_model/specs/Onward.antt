@@ -4,7 +4,7 @@ use Rattle.std.specs.Prelude.{◌≡◌, ℕ, ◌+◌, ◌<◌, ◌≤◌, ◌�
 use Rattle.metered.specs.Limits.{greatest_clock}
 use Rattle.checkpoint.specs.Image.{ImageValue}
 use Rattle.matching.specs.Inbox.{accepted_from}
-use Rattle.payload_log.specs.Backlog.{Backlog, backlog}
+use Rattle.payload_log.specs.Backlog.{BacklogValue, backlog}
 use Rattle.rank_node.specs.declared.frame.Frame.{Frame}
 use Rattle.rank_node.specs.declared.frame.Frame.TheVariants as frame
 use Rattle.rank_node.specs.Frames.{due_to}
@@ -26,7 +26,7 @@ Asked w r v s =
     (from : ℕ) × (from ≤ accepted_from v.rank.inbox s + 1) × (((due_to v.rank s).ask ≡ Some from) ⊎ OnWire w r s (frame.Ask from))
 
 -- to each rank, the next packet to transmit isn't one that was let go
-abbrev pub AreAbove : List Backlog → Type 0
+abbrev pub AreAbove : List BacklogValue → Type 0
 AreAbove log = (d : ℕ) → (backlog log d).base < (backlog log d).cursor
 
 -- A live rank can get on: its clock is within its limit, and it transmits nothing that it let go; and where it is behind
@@ -41,7 +41,7 @@ pub record RankOnward (w : WorldValue) (r : ℕ) (v : Live) : Type 0 where
 -- rank can get on.
 pub record Onward (w : WorldValue) : Type 0 where
   pub acts : (r : ℕ) → length (history w.run r) ≤ greatest_clock
-  pub images : (r d : ℕ) (i : ImageValue) (b : Backlog) → slice_get w.images r ≡ Some (Some i) → slice_get i.log d ≡ Some b → b.cursor ≡ b.base + 1
+  pub images : (r d : ℕ) (i : ImageValue) (b : BacklogValue) → slice_get w.images r ≡ Some (Some i) → slice_get i.log d ≡ Some b → b.cursor ≡ b.base + 1
   pub ranks : (r : ℕ) (v : Live) → IsLive w r v → RankOnward w r v
 
 -- the invariant of a world: it goes with its run, and its ranks can get on

@@ -5,7 +5,7 @@ use Rattle.std.specs.Prelude.{◌≡◌, ℕ, ◌<◌, ◌≤◌, ◌⊎◌, fal
 use Rattle.checkpoint.specs.Image.{ImageValue}
 use Rattle.matching.specs.Message as packet
 use Rattle.matching.specs.Inbox.{Mailbox, accepted_from}
-use Rattle.payload_log.specs.Backlog.{Backlog, backlog}
+use Rattle.payload_log.specs.Backlog.{BacklogValue, backlog}
 use Rattle.rank_machine.specs.Acts.{Message, carried}
 use Rattle.rank_node.specs.declared.frame.Frame.{Frame}
 use Rattle.rank_node.specs.declared.frame.Frame.TheVariants as frame
@@ -20,7 +20,7 @@ pub record Needed (w : WorldValue) (C : List Passed) (s r k : ℕ) (m : Message)
   pub above : covered w.images r s < k
 
 -- the payload log keeps this message of rank s, whole, as its kth to r
-pub record KeepsPacket (log : List Backlog) (s r k : ℕ) (m : Message) : Type 0 where
+pub record KeepsPacket (log : List BacklogValue) (s r k : ℕ) (m : Message) : Type 0 where
   pub packet : packet.Message
   pub index : ℕ
   pub there : slice_get (backlog log r).kept index ≡ Some packet
@@ -30,7 +30,7 @@ pub record KeepsPacket (log : List Backlog) (s r k : ℕ) (m : Message) : Type 0
 
 -- Where rank s has this clock and this payload log: it has yet to make the act again that sends the message, or it keeps its
 -- packet.
-abbrev pub Retains : ℕ → List Backlog → ℕ → ℕ → ℕ → Message → Type 0
+abbrev pub Retains : ℕ → List BacklogValue → ℕ → ℕ → ℕ → Message → Type 0
 Retains clock log s r k m = (clock < m.clock) ⊎ KeepsPacket log s r k m
 
 -- Of the messages that were sent to r in the run, the inbox accepted the first from each sender, and of these it holds just

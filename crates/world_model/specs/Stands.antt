@@ -4,7 +4,7 @@ use Rattle.std.specs.Prelude.{◌≡◌, ℕ, ◌+◌, ◌<◌, ◌≤◌, ◌�
 use Rattle.plain_logger.specs.Event.{EventValue}
 use Rattle.matching.specs.Message as packet
 use Rattle.matching.specs.Inbox.{Mailbox, accepted_from}
-use Rattle.payload_log.specs.Backlog.{Backlog}
+use Rattle.payload_log.specs.Backlog.{BacklogValue}
 use Rattle.rank_machine.specs.States.{State, Inners, opening}
 use Rattle.rank_machine.specs.Acts.{Act, Message, sends, takes, hits, misses, prints, carried, Runs}
 use Rattle.rank_machine.specs.Machine.{MachineValue, state_of}
@@ -46,7 +46,7 @@ packets_from r k (m ∷ ms) = packet_of r (k + 1) m ∷ packets_from r (k + 1) m
 
 -- The payload log of rank r for one destination, to which it sent these messages, and then these that wait: it counts the
 -- first, and keeps just those above its base; it holds the others.
-pub record LogStands (r : ℕ) (messages later : List Message) (b : Backlog) : Type 0 where
+pub record LogStands (r : ℕ) (messages later : List Message) (b : BacklogValue) : Type 0 where
   pub sent : b.sent ≡ length messages
   pub kept : b.kept ≡ drop b.base (packets_from r 0 messages)
   pub held : b.held ≡ packets_from r (length messages) later
@@ -57,13 +57,13 @@ sends_of k d [] = []
 sends_of k d (a ∷ acts) = send_at (k + 1) d a (sends_of (k + 1) d acts)
 
 -- The payload log of a rank that has made the first c of its acts in the run, and these after the run.
-abbrev pub LogsStand : ℕ → History → ℕ → List Act → List Backlog → Type 0
-LogsStand r h c acts log = (d : ℕ) (b : Backlog) → slice_get log d ≡ Some b → LogStands r (sends_from 0 d (take c h)) (sends_of (length h) d acts) b
+abbrev pub LogsStand : ℕ → History → ℕ → List Act → List BacklogValue → Type 0
+LogsStand r h c acts log = (d : ℕ) (b : BacklogValue) → slice_get log d ≡ Some b → LogStands r (sends_from 0 d (take c h)) (sends_of (length h) d acts) b
 
 -- A rank r of n, or an image of it, to which others sent what is inbound, has made the first c acts of a history: its
 -- machine and its inbox are where these have led them.
 pub record StandsIn (start : State) (n r : ℕ) (inbound : ℕ → List Message) (h : History) (c : ℕ) (m : MachineValue) (box : Mailbox)
-    (log : List Backlog) : Type 0 where
+    (log : List BacklogValue) : Type 0 where
   pub within : c ≤ length h
   pub after : State
   pub reached : Runs start (take c h) after
@@ -133,8 +133,8 @@ pub record StandsAt (n : ℕ) (w : WorldValue) : Type 0 where
 -- ---- what senders may drop; nothing here names the run
 
 -- no base is above what the image of its destination had accepted
-abbrev pub BasesCovered : List (Option ImageValue) → ℕ → List Backlog → Type 0
-BasesCovered images s log = (d : ℕ) (b : Backlog) → slice_get log d ≡ Some b → b.base ≤ covered images d s
+abbrev pub BasesCovered : List (Option ImageValue) → ℕ → List BacklogValue → Type 0
+BasesCovered images s log = (d : ℕ) (b : BacklogValue) → slice_get log d ≡ Some b → b.base ≤ covered images d s
 
 -- a Kept names at most what the image of its sender had accepted
 abbrev pub KeptCovered : List (Option ImageValue) → ℕ → ℕ → Frame → Type 0

@@ -2,8 +2,8 @@
 use crate::commands::reading::program_in;
 use crate::commands::refusal::Refusal;
 use crate::files::Files;
+use command_line::CheckJob;
 use metered::Heap;
-use runner_words::CheckJob;
 
 /// The canonical text of the program in a file: checking that text gives it again.
 pub fn check_text<'a, F: Files>(

@@ -2,9 +2,9 @@
 use crate::commands::reading::{events_in, program_in};
 use crate::commands::refusal::Refusal;
 use crate::files::Files;
+use command_line::WorldJob;
 use events_text::run_text;
 use metered::Heap;
-use runner_words::WorldJob;
 use world_model::World;
 
 /// The reply to each event, and then the lines of each rank. The program is

@@ -1,0 +1,60 @@
+-- The lines of a text, before their tokens are looked at (the language's own manual, docs/LANGUAGE.md, "Lines").
+use Rattle.std.specs.Prelude.{ℕ, List, [], ◌∷◌, Bool, true, false, ◌&&◌, nat_eq, Option, Some, None, if◌then◌else◌}
+use Rattle.rank_grammar.specs.declared.token.Token.{Token}
+use Rattle.rank_grammar.specs.declared.token.Token.TheVariants as t
+use Rattle.rank_grammar.specs.Tokens.{is_word_byte, is_between, found_in, reserved}
+
+-- a byte in front of the first line
+abbrev pub onto_first : ℕ → List (List ℕ) → List (List ℕ)
+onto_first b [] = (b ∷ []) ∷ []
+onto_first b (l ∷ ls) = (b ∷ l) ∷ ls
+
+-- the lines of a text: cut at each LF; what follows the last LF is a line where it isn't empty
+abbrev pub lines_of : List ℕ → List (List ℕ)
+lines_of [] = []
+lines_of (b ∷ bs) = if nat_eq b 10 then [] ∷ lines_of bs else onto_first b (lines_of bs)
+
+-- the line from its first character on that isn't a space
+abbrev pub without_spaces : List ℕ → List ℕ
+without_spaces [] = []
+without_spaces (b ∷ bs) = if nat_eq b 32 then without_spaces bs else b ∷ bs
+
+-- nothing is left, or what is left begins with `#`
+abbrev pub begins_comment : List ℕ → Bool
+begins_comment [] = true
+begins_comment (b ∷ bs) = nat_eq b 35
+
+-- the line has only spaces, or its first character after spaces is `#`
+abbrev pub is_skipped : List ℕ → Bool
+is_skipped line = begins_comment (without_spaces line)
+
+-- each byte of the line is 0x20 to 0x7E
+abbrev pub is_text : List ℕ → Bool
+is_text [] = true
+is_text (b ∷ bs) = is_between 32 126 b && is_text bs
+
+-- the letters, digits and `_` in front
+abbrev pub front_word : List ℕ → List ℕ
+front_word [] = []
+front_word (b ∷ bs) = if is_word_byte b then b ∷ front_word bs else []
+
+-- the token is a statement word
+abbrev pub is_keyword : Option Token → Bool
+is_keyword (Some (t.Keyword k)) = true
+is_keyword None = false
+is_keyword (Some (t.Reduction r)) = false
+is_keyword (Some (t.Name x)) = false
+is_keyword (Some (t.Number n)) = false
+is_keyword (Some (t.Reading r)) = false
+is_keyword (Some (t.Operator o)) = false
+is_keyword (Some t.OpenParenthesis) = false
+is_keyword (Some t.CloseParenthesis) = false
+is_keyword (Some t.OpenBracket) = false
+is_keyword (Some t.CloseBracket) = false
+is_keyword (Some t.Comma) = false
+is_keyword (Some t.Assign) = false
+is_keyword (Some t.Any) = false
+
+-- the first token of the line is a statement word
+abbrev pub is_statement : List ℕ → Bool
+is_statement line = is_keyword (found_in reserved (front_word (without_spaces line)))

@@ -1,0 +1,384 @@
+//! Reads the statement of a line from its tokens.
+
+ghost use Rattle.std.specs.Prelude.{◌≡◌, List, IfOk, IfSome, Some};
+ghost use Rattle.rank_grammar.specs.declared.token.Token.{Token};
+ghost use Rattle.rank_grammar.specs.Forms as forms;
+ghost use Rattle.rank_grammar.specs.Forms.{IsForm, comma, bracket_assign, bare, lone_name, choice_at, whole_choice, payload_of};
+ghost use Rattle.rank_grammar.specs.Forms.{var_of, array_of, let_of, item_of, if_of, while_of};
+ghost use Rattle.rank_grammar.specs.Forms.{send_of, recv_of, probe_of, try_probe_of, print_of, bcast_of, reduced_of, reduce_of};
+ghost use Rattle.rank_grammar.specs.Forms.{form_with, form_of};
+ghost use Rattle.rank_grammar.specs.SeenForms.{form_in, form_seen, payload_in, choice_in, whole_choice_in, rest_in, lone_in};
+
+use crate::form::{Choice, Form, Payload};
+use crate::name::Name;
+use crate::reader::{expression_at, whole_expression};
+use crate::token::{Keyword, Reduction, Token};
+use metered::Heap;
+use std::alloc::AllocError;
+
+fn after_comma(tokens: &[Token]) -> Option<&[Token]>
+    ensures { rest_in result ≡ comma tokens.now }
+{
+    match tokens {
+        [Token::Comma, rest @ ..] => Some(rest),
+        _ => None,
+    }
+}
+
+fn after_bracket_assign(tokens: &[Token]) -> Option<&[Token]>
+    ensures { rest_in result ≡ bracket_assign tokens.now }
+{
+    match tokens {
+        [Token::CloseBracket, Token::Assign, rest @ ..] => Some(rest),
+        _ => None,
+    }
+}
+
+fn only_name(tokens: &[Token]) -> Option<Name>
+    ensures { lone_in result ≡ lone_name tokens.now }
+{
+    match tokens {
+        [Token::Name(name)] => Some(*name),
+        _ => None,
+    }
+}
+
+fn choice_in_front(alloc: Heap, tokens: &[Token]) -> Result<Option<(Choice, &[Token])>, AllocError>
+    ensures { IfOk result (λ c. choice_in c ≡ choice_at tokens.now) }
+{
+    if let [Token::Any, rest @ ..] = tokens {
+        return Ok(Some((Choice::Any, rest)));
+    }
+    let Some((value, rest)) = expression_at(alloc, tokens)? else {
+        return Ok(None);
+    };
+    Ok(Some((Choice::Value(value), rest)))
+}
+
+fn whole_choice(alloc: Heap, tokens: &[Token]) -> Result<Option<Choice>, AllocError>
+    ensures { IfOk result (λ c. whole_choice_in c ≡ whole_choice tokens.now) }
+{
+    if let [Token::Any] = tokens {
+        return Ok(Some(Choice::Any));
+    }
+    let Some(value) = whole_expression(alloc, tokens)? else {
+        return Ok(None);
+    };
+    Ok(Some(Choice::Value(value)))
+}
+
+fn read_payload(alloc: Heap, tokens: &[Token]) -> Result<Option<Payload>, AllocError>
+    ensures { IfOk result (λ p. payload_in p ≡ payload_of tokens.now) }
+{
+    if let [Token::Name(name)] = tokens {
+        return Ok(Some(Payload::Lone(*name)));
+    }
+    let Some(value) = whole_expression(alloc, tokens)? else {
+        return Ok(None);
+    };
+    Ok(Some(Payload::One(value)))
+}
+
+#[tactic(auto, unfolding(crate::specs::Forms::var_of))]
+fn read_var(tokens: &[Token]) -> Option<Form>
+    ensures { form_in result ≡ var_of tokens.now }
+{
+    let Some(name) = only_name(tokens) else {
+        return None;
+    };
+    Some(Form::Var(name))
+}
+
+#[tactic(auto, unfolding(crate::specs::Forms::array_of))]
+fn read_array(tokens: &[Token]) -> Option<Form>
+    ensures { form_in result ≡ array_of tokens.now }
+{
+    match tokens {
+        [
+            Token::Name(name),
+            Token::OpenBracket,
+            Token::Number(length),
+            Token::CloseBracket,
+        ] => { Some(Form::Array(*name, *length)) }
+        _ => None,
+    }
+}
+
+/// From the index on.
+#[tactic(auto, unfolding(crate::specs::Forms::item_of))]
+fn read_item(alloc: Heap, name: Name, tokens: &[Token]) -> Result<Option<Form>, AllocError>
+    ensures { IfOk result (λ f. form_in f ≡ item_of name tokens.now) }
+{
+    let Some((index, rest)) = expression_at(alloc, tokens)? else {
+        return Ok(None);
+    };
+    let Some(rest) = after_bracket_assign(rest) else {
+        return Ok(None);
+    };
+    let Some(value) = whole_expression(alloc, rest)? else {
+        return Ok(None);
+    };
+    Ok(Some(Form::LetItem(name, index, value)))
+}
+
+#[tactic(auto, unfolding(crate::specs::Forms::let_of))]
+fn read_let(alloc: Heap, tokens: &[Token]) -> Result<Option<Form>, AllocError>
+    ensures { IfOk result (λ f. form_in f ≡ let_of tokens.now) }
+{
+    match tokens {
+        [Token::Name(name), Token::Assign, value @ ..] => {
+            let Some(value) = whole_expression(alloc, value)? else {
+                return Ok(None);
+            };
+            Ok(Some(Form::Let(*name, value)))
+        }
+        [Token::Name(name), Token::OpenBracket, item @ ..] => read_item(alloc, *name, item),
+        _ => Ok(None),
+    }
+}
+
+#[tactic(auto, unfolding(crate::specs::Forms::if_of))]
+fn read_if(alloc: Heap, tokens: &[Token]) -> Result<Option<Form>, AllocError>
+    ensures { IfOk result (λ f. form_in f ≡ if_of tokens.now) }
+{
+    let Some(test) = whole_expression(alloc, tokens)? else {
+        return Ok(None);
+    };
+    Ok(Some(Form::If(test)))
+}
+
+fn read_else(tokens: &[Token]) -> Option<Form>
+    ensures { form_in result ≡ bare forms.else_form tokens.now }
+{
+    match tokens {
+        [] => Some(Form::Else),
+        _ => None,
+    }
+}
+
+fn read_end(tokens: &[Token]) -> Option<Form>
+    ensures { form_in result ≡ bare forms.end_form tokens.now }
+{
+    match tokens {
+        [] => Some(Form::End),
+        _ => None,
+    }
+}
+
+#[tactic(auto, unfolding(crate::specs::Forms::while_of))]
+fn read_while(alloc: Heap, tokens: &[Token]) -> Result<Option<Form>, AllocError>
+    ensures { IfOk result (λ f. form_in f ≡ while_of tokens.now) }
+{
+    let Some(test) = whole_expression(alloc, tokens)? else {
+        return Ok(None);
+    };
+    Ok(Some(Form::While(test)))
+}
+
+#[tactic(auto, unfolding(crate::specs::Forms::send_of))]
+fn read_send(alloc: Heap, tokens: &[Token]) -> Result<Option<Form>, AllocError>
+    ensures { IfOk result (λ f. form_in f ≡ send_of tokens.now) }
+{
+    let Some((dest, rest)) = expression_at(alloc, tokens)? else {
+        return Ok(None);
+    };
+    let Some(rest) = after_comma(rest) else {
+        return Ok(None);
+    };
+    let Some((tag, rest)) = expression_at(alloc, rest)? else {
+        return Ok(None);
+    };
+    let Some(rest) = after_comma(rest) else {
+        return Ok(None);
+    };
+    let Some(payload) = read_payload(alloc, rest)? else {
+        return Ok(None);
+    };
+    Ok(Some(Form::Send(dest, tag, payload)))
+}
+
+#[tactic(auto, unfolding(crate::specs::Forms::recv_of))]
+fn read_recv(alloc: Heap, tokens: &[Token]) -> Result<Option<Form>, AllocError>
+    ensures { IfOk result (λ f. form_in f ≡ recv_of tokens.now) }
+{
+    let Some((source, rest)) = choice_in_front(alloc, tokens)? else {
+        return Ok(None);
+    };
+    let Some(rest) = after_comma(rest) else {
+        return Ok(None);
+    };
+    let Some((tag, rest)) = choice_in_front(alloc, rest)? else {
+        return Ok(None);
+    };
+    let Some(rest) = after_comma(rest) else {
+        return Ok(None);
+    };
+    let Some(buffer) = only_name(rest) else {
+        return Ok(None);
+    };
+    Ok(Some(Form::Recv(source, tag, buffer)))
+}
+
+#[tactic(auto, unfolding(crate::specs::Forms::probe_of))]
+fn read_probe(alloc: Heap, tokens: &[Token]) -> Result<Option<Form>, AllocError>
+    ensures { IfOk result (λ f. form_in f ≡ probe_of tokens.now) }
+{
+    let Some((source, rest)) = choice_in_front(alloc, tokens)? else {
+        return Ok(None);
+    };
+    let Some(rest) = after_comma(rest) else {
+        return Ok(None);
+    };
+    let Some(tag) = whole_choice(alloc, rest)? else {
+        return Ok(None);
+    };
+    Ok(Some(Form::Probe(source, tag)))
+}
+
+#[tactic(auto, unfolding(crate::specs::Forms::try_probe_of))]
+fn read_try_probe(alloc: Heap, tokens: &[Token]) -> Result<Option<Form>, AllocError>
+    ensures { IfOk result (λ f. form_in f ≡ try_probe_of tokens.now) }
+{
+    let Some((source, rest)) = choice_in_front(alloc, tokens)? else {
+        return Ok(None);
+    };
+    let Some(rest) = after_comma(rest) else {
+        return Ok(None);
+    };
+    let Some((tag, rest)) = choice_in_front(alloc, rest)? else {
+        return Ok(None);
+    };
+    let Some(rest) = after_comma(rest) else {
+        return Ok(None);
+    };
+    let Some(flag) = only_name(rest) else {
+        return Ok(None);
+    };
+    Ok(Some(Form::TryProbe(source, tag, flag)))
+}
+
+#[tactic(auto, unfolding(crate::specs::Forms::print_of))]
+fn read_print(alloc: Heap, tokens: &[Token]) -> Result<Option<Form>, AllocError>
+    ensures { IfOk result (λ f. form_in f ≡ print_of tokens.now) }
+{
+    let Some(value) = whole_expression(alloc, tokens)? else {
+        return Ok(None);
+    };
+    Ok(Some(Form::Print(value)))
+}
+
+fn read_barrier(tokens: &[Token]) -> Option<Form>
+    ensures { form_in result ≡ bare forms.barrier_form tokens.now }
+{
+    match tokens {
+        [] => Some(Form::Barrier),
+        _ => None,
+    }
+}
+
+#[tactic(auto, unfolding(crate::specs::Forms::bcast_of))]
+fn read_bcast(alloc: Heap, tokens: &[Token]) -> Result<Option<Form>, AllocError>
+    ensures { IfOk result (λ f. form_in f ≡ bcast_of tokens.now) }
+{
+    let Some((root, rest)) = expression_at(alloc, tokens)? else {
+        return Ok(None);
+    };
+    let Some(rest) = after_comma(rest) else {
+        return Ok(None);
+    };
+    let Some(buffer) = only_name(rest) else {
+        return Ok(None);
+    };
+    Ok(Some(Form::Bcast(root, buffer)))
+}
+
+/// From the root on.
+#[tactic(auto, unfolding(crate::specs::Forms::reduced_of))]
+fn read_reduced(
+    alloc: Heap,
+    reduction: Reduction,
+    tokens: &[Token],
+) -> Result<Option<Form>, AllocError>
+    ensures { IfOk result (λ f. form_in f ≡ reduced_of reduction tokens.now) }
+{
+    let Some((root, rest)) = expression_at(alloc, tokens)? else {
+        return Ok(None);
+    };
+    let Some(rest) = after_comma(rest) else {
+        return Ok(None);
+    };
+    let Some((value, rest)) = expression_at(alloc, rest)? else {
+        return Ok(None);
+    };
+    let Some(rest) = after_comma(rest) else {
+        return Ok(None);
+    };
+    let Some(variable) = only_name(rest) else {
+        return Ok(None);
+    };
+    Ok(Some(Form::Reduce(reduction, root, value, variable)))
+}
+
+#[tactic(auto, unfolding(crate::specs::Forms::reduce_of))]
+fn read_reduce(alloc: Heap, tokens: &[Token]) -> Result<Option<Form>, AllocError>
+    ensures { IfOk result (λ f. form_in f ≡ reduce_of tokens.now) }
+{
+    match tokens {
+        [Token::Reduction(reduction), Token::Comma, rest @ ..] => {
+            read_reduced(alloc, *reduction, rest)
+        }
+        _ => Ok(None),
+    }
+}
+
+/// The form of a statement word with these arguments.
+fn read_arguments(
+    alloc: Heap,
+    word: Keyword,
+    arguments: &[Token],
+) -> Result<Option<Form>, AllocError>
+    ensures { IfOk result (λ f. form_in f ≡ form_with word arguments.now) }
+{
+    match word {
+        Keyword::Var => Ok(read_var(arguments)),
+        Keyword::Array => Ok(read_array(arguments)),
+        Keyword::Let => read_let(alloc, arguments),
+        Keyword::If => read_if(alloc, arguments),
+        Keyword::Else => Ok(read_else(arguments)),
+        Keyword::End => Ok(read_end(arguments)),
+        Keyword::While => read_while(alloc, arguments),
+        Keyword::Send => read_send(alloc, arguments),
+        Keyword::Recv => read_recv(alloc, arguments),
+        Keyword::Print => read_print(alloc, arguments),
+        Keyword::Probe => read_probe(alloc, arguments),
+        Keyword::Iprobe => read_try_probe(alloc, arguments),
+        Keyword::Barrier => Ok(read_barrier(arguments)),
+        Keyword::Bcast => read_bcast(alloc, arguments),
+        Keyword::Reduce => read_reduce(alloc, arguments),
+    }
+}
+
+fn form_read(alloc: Heap, tokens: &[Token]) -> Result<Option<Form>, AllocError>
+    ensures { IfOk result (λ f. form_in f ≡ form_of tokens.now) }
+{
+    match tokens {
+        [Token::Keyword(word), arguments @ ..] => read_arguments(alloc, *word, arguments),
+        _ => Ok(None),
+    }
+}
+
+/// The form of a line's tokens.
+pub fn form(alloc: Heap, tokens: &[Token]) -> Result<Option<Form>, AllocError>
+    ensures reading { IfOk result (λ f. form_in f ≡ form_of tokens.now) }
+    // What is answered is a form of the tokens.
+    ensures found { IfOk result (λ o. IfSome o (λ f. IsForm tokens.now (form_seen f))) }
+    // What has a form is answered.
+    ensures only { IfOk result (λ o. (f : forms.Form) → IsForm tokens.now f → form_in o ≡ Some f) }
+{
+    form_read(alloc, tokens)
+}
+
+/// A law, for proofs alone: no tokens have two forms.
+pub fn law_one_form()
+    ensures { (ts : List Token) (f g : forms.Form) → IsForm ts f → IsForm ts g → f ≡ g }
+{}

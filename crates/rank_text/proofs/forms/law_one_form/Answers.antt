@@ -1,5 +1,0 @@
-use Rattle.rank_text.proofs.FormLaws.{one_form}
-use Rattle.rank_text.proofs.forms.law_one_form.Goals as goal
-
-pub returns : goal.returns
-returns c = one_form
