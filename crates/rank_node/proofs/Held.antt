@@ -64,7 +64,8 @@ first_send (Send d c ∷ xs) dest clock e = cc
 first_send (Line c v ∷ xs) dest clock e = absurd cc
 
 -- where a send waits first a packet is held for its rank
-pub held_some : (log : List BacklogValue) (xs : List Waiting) (dest clock : ℕ) → Held log xs → xs ≡ Send dest clock ∷ drop 1 xs → 0 < length (backlog log dest).held
+pub held_some : (log : List BacklogValue) (xs : List Waiting) (dest clock : ℕ)
+    → Held log xs → xs ≡ Send dest clock ∷ drop 1 xs → 0 < length (backlog log dest).held
 held_some log xs dest clock h e =
     (let a = h dest ∙ ap (sends_to dest) e
     ∙ ap (λ b. if b then suc (sends_to dest (drop 1 xs)) else sends_to dest (drop 1 xs)) (eq-eqb dest dest refl) in

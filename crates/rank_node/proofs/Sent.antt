@@ -95,7 +95,8 @@ later_sent rank c d le b is =
     is_sent_by rank d b (sent_upto rank c d (b.kept ++ b.held) le (are_sent rank c b is)) (let z = is.acts in omega (arith, z, le))
 
 -- the packet of the next act is saved
-saved_sent : (rank c : ℕ) (b : BacklogValue) (m : Message) → b.held ≡ [] → m.source ≡ rank → m.clock ≡ c + 1 → IsSentBy rank c b → IsSentBy rank (c + 1) (saved b m)
+saved_sent : (rank c : ℕ) (b : BacklogValue) (m : Message)
+    → b.held ≡ [] → m.source ≡ rank → m.clock ≡ c + 1 → IsSentBy rank c b → IsSentBy rank (c + 1) (saved b m)
 saved_sent rank c b m none own next is =
     is_sent_by rank (c + 1) (saved b m)
     (subst (AreSent rank (c + 1)) (sym (ap (λ h. (saved b m).kept ++ h) none ∙ append-nil (saved b m).kept)) (go (nat_lt b.base m.number)))

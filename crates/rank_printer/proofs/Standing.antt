@@ -15,8 +15,10 @@ use Rattle.rank_grammar.specs.Forms.{Form, var_form, array_form, let_form, item_
 use Rattle.rank_grammar.specs.Forms.{send_form, recv_form, probe_form, try_probe_form, print_form, barrier_form, bcast_form, reduce_form}
 use Rattle.rank_checker.specs.declared.fault.FaultKind.{FaultKind}
 use Rattle.rank_checker.specs.Lines.{is_statement}
-use Rattle.rank_checker.specs.Faults.{IsFormed, Holds, other_byte, no_word, no_form, unknown_name, known_name, no_block, long_line, late_line, over, great_number}
-use Rattle.rank_checker.specs.Scope.{Scope, Opened, is_name_in, is_variable, is_array, is_declared, all_declared, choice_declared, payload_declared, declared_in}
+use Rattle.rank_checker.specs.Faults.{IsFormed, Holds, other_byte, no_word, no_form, unknown_name, known_name}
+use Rattle.rank_checker.specs.Faults.{no_block, long_line, late_line, over, great_number}
+use Rattle.rank_checker.specs.Scope.{Scope, Opened, is_name_in, is_variable, is_array, is_declared}
+use Rattle.rank_checker.specs.Scope.{all_declared, choice_declared, payload_declared, declared_in}
 use Rattle.rank_checker.specs.Scope.{is_twice, is_stray, nodes, is_large, choice_is_large, payload_is_large, has_large, deepest, is_past_table, is_over}
 use Rattle.rank_checker.specs.Scope.{is_great, choice_is_great, payload_is_great, has_great_number, other_branch, outer, after, MayStand}
 use Rattle.rank_checker.proofs.LineLaws.{form_one}

@@ -21,8 +21,10 @@ pub fn settle<W: Wait, H>(
     seat: &mut Seat<'_, '_>,
     is_imaged: bool,
 ) -> Result<(), NodeFault>
-    ensures image { result ≡ Ok tt → is_imaged ≡ true → seat.new.tally.is_spent ≡ false → is_running seat.new.node.phase ≡ true → HasImage seat.new.node.phase }
-    ensures used { result ≡ Ok tt → is_imaged ≡ true → seat.new.tally.is_spent ≡ false → is_running seat.new.node.phase ≡ true → seat.new.plan ≡ drop 1 seat.old.plan }
+    ensures image { result ≡ Ok tt → is_imaged ≡ true → seat.new.tally.is_spent ≡ false
+        → is_running seat.new.node.phase ≡ true → HasImage seat.new.node.phase }
+    ensures used { result ≡ Ok tt → is_imaged ≡ true → seat.new.tally.is_spent ≡ false
+        → is_running seat.new.node.phase ≡ true → seat.new.plan ≡ drop 1 seat.old.plan }
     ensures unasked { is_imaged ≡ false → seat.new.plan ≡ seat.old.plan }
     ensures same { SameSeat seat.old seat.new }
 {

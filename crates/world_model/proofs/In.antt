@@ -51,7 +51,8 @@ StandsIn-later start n r inbound h h' extra c m box log e s =
     same = ap (λ z. take c z) e ∙ take_append c h extra s.within
 
 -- inner steps of the machine
-pub StandsIn-moved : (start : State) (n r : ℕ) (inbound : ℕ → List Message) (h : History) (c : ℕ) (m m' : MachineValue) (box : Mailbox) (log : List BacklogValue)
+pub StandsIn-moved : (start : State) (n r : ℕ) (inbound : ℕ → List Message) (h : History) (c : ℕ) (m m' : MachineValue)
+    (box : Mailbox) (log : List BacklogValue)
     → (inner (state_of m) ≡ Some (state_of m')) ⊎ (state_of m' ≡ state_of m) → StandsIn start n r inbound h c m box log
     → StandsIn start n r inbound h c m' box log
 StandsIn-moved start n r inbound h c m m' box log e s =
@@ -152,7 +153,8 @@ pub record NextAct (h : History) (c : ℕ) (m : MachineValue) : Type 0 where
   pub makes : Makes (state_of m) act message
 
 -- a machine that is behind stands at the next act
-pub next_act : (start : State) (n r : ℕ) (inbound : ℕ → List Message) (h : History) (c : ℕ) (m : MachineValue) (box : Mailbox) (log : List BacklogValue) (z : State)
+pub next_act : (start : State) (n r : ℕ) (inbound : ℕ → List Message) (h : History) (c : ℕ) (m : MachineValue)
+    (box : Mailbox) (log : List BacklogValue) (z : State)
     → Runs start h z → c < length h → inner (state_of m) ≡ None → StandsIn start n r inbound h c m box log → NextAct h c m
 next_act start n r inbound h c m box log z whole l stop s =
     let d = drop_some c h l in

@@ -93,7 +93,8 @@ pub LogStands-asked : (r from : ℕ) (messages later : List Message) (b : Backlo
 LogStands-asked r from messages later b s = record { sent = s.sent; kept = s.kept; held = s.held }
 
 -- packets go
-pub LogStands-pruned : (r upto : ℕ) (messages later : List Message) (b : BacklogValue) → LogStands r messages later b → LogStands r messages later (pruned b upto)
+pub LogStands-pruned : (r upto : ℕ) (messages later : List Message) (b : BacklogValue)
+    → LogStands r messages later b → LogStands r messages later (pruned b upto)
 LogStands-pruned r upto messages later b s = go (nat_lt b.base upto) refl
   where
     go : (c : Bool) → nat_lt b.base upto ≡ c

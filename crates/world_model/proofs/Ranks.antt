@@ -266,7 +266,8 @@ pub RankStands-again : (start : ℕ → State) (n : ℕ) (C : List Passed) (r : 
     → Makes (state_of v.rank.machine) a o
     → state_of m ≡ next (state_of v.rank.machine) a o
     → length inbox.accepted ≡ n → InboxStands inbox (λ q. sent C q r) (take v.rank.clock (history C r) ++ (a, o) ∷ [])
-    → length log ≡ n → ((d : ℕ) (b : BacklogValue) → slice_get log d ≡ Some b → LogStands r (sends_from 0 d (take v.rank.clock (history C r) ++ (a, o) ∷ [])) [] b)
+    → length log ≡ n → ((d : ℕ) (b : BacklogValue) → slice_get log d ≡ Some b
+    → LogStands r (sends_from 0 d (take v.rank.clock (history C r) ++ (a, o) ∷ [])) [] b)
     → left ≡ events_from (v.rank.clock + 1) rest
     → RankStands start n C r (record { rank = after_again v.rank m inbox log; left = left })
 RankStands-again start n C r v s m inbox log a o rest left settled is makes state counted box logged logs now =

@@ -194,7 +194,8 @@ module _ (start : ℕ → State) (n : ℕ) (C : List Passed) (r : ℕ) (v : Live
       (a : Act) (o : Option Message) (l : List EventValue)
       → x.act ≡ a → x.message ≡ o → state_of m ≡ next (state_of v.rank.machine) a o
       → length inbox.accepted ≡ n → InboxStands inbox (λ q. sent C q r) (take v.rank.clock (history C r) ++ (a, o) ∷ [])
-      → length log ≡ n → ((d : ℕ) (b : BacklogValue) → slice_get log d ≡ Some b → LogStands r (sends_from 0 d (take v.rank.clock (history C r) ++ (a, o) ∷ [])) [] b)
+      → length log ≡ n → ((d : ℕ) (b : BacklogValue) → slice_get log d ≡ Some b
+      → LogStands r (sends_from 0 d (take v.rank.clock (history C r) ++ (a, o) ∷ [])) [] b)
       → l ≡ events_from (v.rank.clock + 1) x.rest
       → RankStands start n C r (record { rank = after_again v.rank m inbox log; left = l })
   goes_on x m inbox log a o l ea eo state counted box logged new_logs el =
