@@ -13,7 +13,7 @@ use Rattle.rank_machine.specs.Wants.{wants}
 use Rattle.rank_machine.specs.Machine.{MachineValue, state_of}
 use Rattle.crash_free.specs.Runs.{Passed, history, printed, prints_from, IsRun}
 use Rattle.crash_free.specs.Sim.{SimValue, Simulates, start_of}
-use Rattle.crash_free.specs.Wanted.{Asks, AsksAt}
+use Rattle.crash_free.specs.Wanted.{Wants, WantsAt}
 use Rattle.crash_free.proofs.Lists.{history-other}
 use Rattle.crash_free.proofs.Choosing.{wants_it}
 use Rattle.audit.specs.declared.outcome.End.{End}
@@ -31,7 +31,7 @@ history_beyond start n (p ∷ C) r run beyond =
     history-other C p r (λ own. omega (arith, own, low, beyond)) ∙ history_beyond start n C r run.0 beyond
 
 -- a machine that asks for what a rank that ended so may want stands where it may
-machine_ended : (e : End) (m : MachineValue) (w : Want) → Asks m w → MayWant e w → MayWant e (wants (state_of m))
+machine_ended : (e : End) (m : MachineValue) (w : Want) → Wants m w → MayWant e w → MayWant e (wants (state_of m))
 machine_ended end.Halted m w a may = wants_it m w a (λ q. absurd (clash q may)) ∙ may
   where
     clash : want.Internal ≡ w → w ≡ want.Halted → ⊥
@@ -44,11 +44,11 @@ machine_ended end.Stalled m w a may = subst IsWaiting (sym (wants_it m w a (λ q
 machine_ended end.Unfinished m w a may = tt
 
 -- a rank of a simulation has ended so
-rank_ended : (s : SimValue) (r : ℕ) (e : End) (w : Want) → Simulates s → AsksAt s.machines r w → MayWant e w
+rank_ended : (s : SimValue) (r : ℕ) (e : End) (w : Want) → Simulates s → WantsAt s.machines r w → MayWant e w
     → HasEnded (start_of s.program (length s.machines) r) (history s.run r) e
-rank_ended s r e w simulates asks may = go (slice_get s.machines r) refl asks
+rank_ended s r e w simulates wanted may = go (slice_get s.machines r) refl wanted
   where
-    go : (o : Option MachineValue) → slice_get s.machines r ≡ o → IsSomeAnd o (λ m. Asks m w)
+    go : (o : Option MachineValue) → slice_get s.machines r ≡ o → IsSomeAnd o (λ m. Wants m w)
         → HasEnded (start_of s.program (length s.machines) r) (history s.run r) e
     go None there a = absurd a
     go (Some m) there a =

@@ -17,7 +17,7 @@ use Rattle.crash_free.specs.declared.choice.Choice.TheVariants as choice
 use Rattle.crash_free.specs.Runs.{at_place, history, sent, looked_up}
 use Rattle.crash_free.specs.Sim.{SimValue, Simulates, Meaning, ended, other, own_step, makes, meaning, meant, Does, Allows}
 use Rattle.crash_free.specs.Inside.{GoesInside}
-use Rattle.crash_free.specs.Wanted.{Asks, AsksAt}
+use Rattle.crash_free.specs.Wanted.{Wants, WantsAt}
 use Rattle.crash_free.proofs.Lists.{history-own, history-other}
 use Rattle.crash_free.proofs.Keeping.{set_cases}
 use Rattle.audit.specs.Rows.{event_at}
@@ -40,10 +40,10 @@ did own_step s s' r m m' d = (ap (λ (v : SimValue). v.program) d.1, ap (λ (v :
 did (makes act) s s' r m m' d = (ap (λ (v : SimValue). v.program) d.2, ap (λ (v : SimValue). v.run) d.2)
 
 -- what was allowed was done as the want and the choice say
-allowed_did : (s s' : SimValue) (r : ℕ) (c : Choice) (w : Want) → AsksAt s.machines r w → Allows s r c s' → (items : List ℤ) × Did (meaning w items c) s r s'
-allowed_did s s' r c w asks allows = go (slice_get s.machines r) (slice_get s'.machines r) asks allows
+allowed_did : (s s' : SimValue) (r : ℕ) (c : Choice) (w : Want) → WantsAt s.machines r w → Allows s r c s' → (items : List ℤ) × Did (meaning w items c) s r s'
+allowed_did s s' r c w wanted allows = go (slice_get s.machines r) (slice_get s'.machines r) wanted allows
   where
-    go : (o o' : Option MachineValue) → IsSomeAnd o (λ m. Asks m w) → IsSomeAnd o (λ m. IsSomeAnd o' (λ m'. Does (meant m c) s r m m' s'))
+    go : (o o' : Option MachineValue) → IsSomeAnd o (λ m. Wants m w) → IsSomeAnd o (λ m. IsSomeAnd o' (λ m'. Does (meant m c) s r m m' s'))
         → (items : List ℤ) × Did (meaning w items c) s r s'
     go None o' a d = absurd a
     go (Some m) None a d = absurd d
@@ -93,27 +93,27 @@ goes_inside s s' traces r steps kept inside simulates = goes_same s s' traces ke
 
 -- a send
 pub goes_send : (s s' : SimValue) (traces : List TraceValue) (r : ℕ) (w : Want) (d c : ℕ) (t : TraceValue) → Keeps s traces → slice_get traces r ≡ Some t
-    → AsksAt s.machines r w → IsSendTo d w → Allows s r choice.Next s'
+    → WantsAt s.machines r w → IsSendTo d w → Allows s r choice.Next s'
     → length s'.machines ≡ length s.machines → Simulates s' → c ≡ t.clock + 1 → GoesTo s s' (slice_set traces r (with_send t c d))
-goes_send s s' traces r (want.Send dest context tag) d c t kept there asks to allows size simulates next =
-    let found = allowed_did s s' r choice.Next (want.Send dest context tag) asks allows in
+goes_send s s' traces r (want.Send dest context tag) d c t kept there wanted to allows size simulates next =
+    let found = allowed_did s s' r choice.Next (want.Send dest context tag) wanted allows in
     let made = found.1 in
     rw to (goes_act s s' traces r (sends dest context tag found.0) (with_send t c dest) kept made.0 made.1 size simulates
     (IsTrace-send (length s.machines) (history s.run r) t dest c context tag found.0 None next (kept.each r t there)))
-goes_send s s' traces r (want.Receive selector) d c t kept there asks to allows size simulates next = absurd to
-goes_send s s' traces r (want.Probe selector) d c t kept there asks to allows size simulates next = absurd to
-goes_send s s' traces r (want.TryProbe selector) d c t kept there asks to allows size simulates next = absurd to
-goes_send s s' traces r (want.Print value) d c t kept there asks to allows size simulates next = absurd to
-goes_send s s' traces r want.Internal d c t kept there asks to allows size simulates next = absurd to
-goes_send s s' traces r want.Halted d c t kept there asks to allows size simulates next = absurd to
-goes_send s s' traces r (want.Faulted fault) d c t kept there asks to allows size simulates next = absurd to
+goes_send s s' traces r (want.Receive selector) d c t kept there wanted to allows size simulates next = absurd to
+goes_send s s' traces r (want.Probe selector) d c t kept there wanted to allows size simulates next = absurd to
+goes_send s s' traces r (want.TryProbe selector) d c t kept there wanted to allows size simulates next = absurd to
+goes_send s s' traces r (want.Print value) d c t kept there wanted to allows size simulates next = absurd to
+goes_send s s' traces r want.Internal d c t kept there wanted to allows size simulates next = absurd to
+goes_send s s' traces r want.Halted d c t kept there wanted to allows size simulates next = absurd to
+goes_send s s' traces r (want.Faulted fault) d c t kept there wanted to allows size simulates next = absurd to
 
 -- a print
 pub goes_print : (s s' : SimValue) (traces : List TraceValue) (r : ℕ) (value : ℤ) (c : ℕ) (t : TraceValue) → Keeps s traces → slice_get traces r ≡ Some t
-    → AsksAt s.machines r (want.Print value) → Allows s r choice.Next s'
+    → WantsAt s.machines r (want.Print value) → Allows s r choice.Next s'
     → length s'.machines ≡ length s.machines → Simulates s' → c ≡ t.clock + 1 → GoesTo s s' (slice_set traces r (with_line t c value))
-goes_print s s' traces r value c t kept there asks allows size simulates next =
-    let made = (allowed_did s s' r choice.Next (want.Print value) asks allows).1 in
+goes_print s s' traces r value c t kept there wanted allows size simulates next =
+    let made = (allowed_did s s' r choice.Next (want.Print value) wanted allows).1 in
     goes_act s s' traces r (prints value) (with_line t c value) kept made.0 made.1 size simulates
     (IsTrace-line (length s.machines) (history s.run r) t c value None next (kept.each r t there))
 
@@ -178,10 +178,10 @@ repeated s s' r c (want.Faulted fault) k sender sc x items suits repeats names d
 -- a reception, a hit or a miss
 pub goes_event : (s s' : SimValue) (traces : List TraceValue) (r : ℕ) (w : Want) (x : Choice) (e : EventValue) (t : TraceValue)
     → Keeps s traces → slice_get traces r ≡ Some t
-    → AsksAt s.machines r w → Suits w e.kind → Repeats s.run r e x → IsEvent e → Allows s r x s'
+    → WantsAt s.machines r w → Suits w e.kind → Repeats s.run r e x → IsEvent e → Allows s r x s'
     → length s'.machines ≡ length s.machines → Simulates s' → e.receiver_clock ≡ t.clock + 1 → GoesTo s s' (slice_set traces r (with_event t e))
-goes_event s s' traces r w x e t kept there asks suits repeats is allows size simulates next =
-    let found = allowed_did s s' r x w asks allows in
+goes_event s s' traces r w x e t kept there wanted suits repeats is allows size simulates next =
+    let found = allowed_did s s' r x w wanted allows in
     let made = repeated s s' r e.receiver_clock w e.kind e.sender e.sender_clock x found.0 suits repeats is.message found.1 in
     goes_act s s' traces r made.act (with_event t e) kept made.program made.run size simulates
     (IsTrace-event (length s.machines) (history s.run r) t made.act (looked_up (λ q. sent s.run q r) made.act) e
@@ -214,31 +214,31 @@ read_twice traces r k t t1 low at is1 is =
 
 -- what a call has to show of a send that was allowed
 pub sent_one : (s s' : SimValue) (traces : List TraceValue) (r : ℕ) (w : Want) (d c k : ℕ) (t t1 new : TraceValue) → Keeps s traces
-    → r < length s.machines → k ≡ r → t1 ≡ get_or traces k t1 → t ≡ get_or traces k t → AsksAt s.machines r w → IsSendTo d w → Allows s r choice.Next s'
+    → r < length s.machines → k ≡ r → t1 ≡ get_or traces k t1 → t ≡ get_or traces k t → WantsAt s.machines r w → IsSendTo d w → Allows s r choice.Next s'
     → length s'.machines ≡ length s.machines → Simulates s' → c ≡ t1.clock + 1 → new ≡ with_send t c d → GoesTo s s' (slice_set traces k new)
-sent_one s s' traces r w d c k t t1 new kept low at is1 is asks to allows size simulates next noted =
+sent_one s s' traces r w d c k t t1 new kept low at is1 is wanted to allows size simulates next noted =
     let wide = kept.width in
     let both = read_twice traces r k t t1 (omega (arith, low, wide)) at is1 is in
-    rw (at, noted) (goes_send s s' traces r w d c t kept both.0 asks to allows size simulates (next ∙ ap (λ n. n + 1) both.1))
+    rw (at, noted) (goes_send s s' traces r w d c t kept both.0 wanted to allows size simulates (next ∙ ap (λ n. n + 1) both.1))
 
 -- of a print
 pub printed_one : (s s' : SimValue) (traces : List TraceValue) (r : ℕ) (value : ℤ) (c k : ℕ) (t t1 new : TraceValue) → Keeps s traces
-    → r < length s.machines → k ≡ r → t1 ≡ get_or traces k t1 → t ≡ get_or traces k t → AsksAt s.machines r (want.Print value) → Allows s r choice.Next s'
+    → r < length s.machines → k ≡ r → t1 ≡ get_or traces k t1 → t ≡ get_or traces k t → WantsAt s.machines r (want.Print value) → Allows s r choice.Next s'
     → length s'.machines ≡ length s.machines → Simulates s' → c ≡ t1.clock + 1 → new ≡ with_line t c value → GoesTo s s' (slice_set traces k new)
-printed_one s s' traces r value c k t t1 new kept low at is1 is asks allows size simulates next noted =
+printed_one s s' traces r value c k t t1 new kept low at is1 is wanted allows size simulates next noted =
     let wide = kept.width in
     let both = read_twice traces r k t t1 (omega (arith, low, wide)) at is1 is in
-    rw (at, noted) (goes_print s s' traces r value c t kept both.0 asks allows size simulates (next ∙ ap (λ n. n + 1) both.1))
+    rw (at, noted) (goes_print s s' traces r value c t kept both.0 wanted allows size simulates (next ∙ ap (λ n. n + 1) both.1))
 
 -- of a reception, a hit or a miss
 pub repeated_one : (s s' : SimValue) (traces : List TraceValue) (r : ℕ) (w : Want) (x : Choice) (e : EventValue) (k : ℕ) (t t1 new : TraceValue)
-    → Keeps s traces → r < length s.machines → k ≡ r → t1 ≡ get_or traces k t1 → t ≡ get_or traces k t → AsksAt s.machines r w
+    → Keeps s traces → r < length s.machines → k ≡ r → t1 ≡ get_or traces k t1 → t ≡ get_or traces k t → WantsAt s.machines r w
     → Suits w e.kind → Repeats s.run r e x → IsEvent e → Allows s r x s'
     → length s'.machines ≡ length s.machines → Simulates s' → e.receiver_clock ≡ t1.clock + 1 → new ≡ with_event t e → GoesTo s s' (slice_set traces k new)
-repeated_one s s' traces r w x e k t t1 new kept low at is1 is asks suits repeats event allows size simulates next noted =
+repeated_one s s' traces r w x e k t t1 new kept low at is1 is wanted suits repeats event allows size simulates next noted =
     let wide = kept.width in
     let both = read_twice traces r k t t1 (omega (arith, low, wide)) at is1 is in
-    rw (at, noted) (goes_event s s' traces r w x e t kept both.0 asks suits repeats event allows size simulates (next ∙ ap (λ n. n + 1) both.1))
+    rw (at, noted) (goes_event s s' traces r w x e t kept both.0 wanted suits repeats event allows size simulates (next ∙ ap (λ n. n + 1) both.1))
 
 -- nothing happens
 pub goes_nowhere : (s : SimValue) (traces : List TraceValue) → Keeps s traces → GoesTo s s traces

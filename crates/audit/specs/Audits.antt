@@ -9,7 +9,7 @@ use Rattle.crash_free.specs.declared.choice.Choice.{Choice}
 use Rattle.crash_free.specs.declared.choice.Choice.TheVariants as choice
 use Rattle.crash_free.specs.Runs.{Passed, at_place, history, sent, printed}
 use Rattle.crash_free.specs.Sim.{SimValue, Simulates}
-use Rattle.crash_free.specs.Wanted.{AsksAt}
+use Rattle.crash_free.specs.Wanted.{WantsAt}
 use Rattle.audit.specs.declared.outcome.End.{End}
 use Rattle.audit.specs.Outcome.{OutcomeValue, lines_of, MayWant}
 use Rattle.audit.specs.Rows.{row}
@@ -72,7 +72,7 @@ HasLines s o r = lines_of r o.lines ≡ printed s.run r
 
 -- the machine of this rank asks for what a rank may want that ended as the outcome says
 abbrev pub HasEnd : SimValue → OutcomeValue → ℕ → Type 0
-HasEnd s o r = (e : End) → slice_get o.ends r ≡ Some e → (w : Want) × AsksAt s.machines r w × MayWant e w
+HasEnd s o r = (e : End) → slice_get o.ends r ≡ Some e → (w : Want) × WantsAt s.machines r w × MayWant e w
 
 -- of this rank the simulation has come to the outcome
 pub record IsReached (s : SimValue) (o : OutcomeValue) (r : ℕ) : Type 0 where

@@ -31,12 +31,12 @@ empty_trace n = record { clock = 0; sent = replicate n []; row = []; lines = [] 
 -- with a send to this rank at this clock
 abbrev pub with_send : TraceValue → ℕ → ℕ → TraceValue
 with_send t clock dest =
-    record { clock = clock; sent = slice_set t.sent dest (slice_index_or t.sent dest [] ++ clock ∷ []); row = t.row; lines = t.lines }
+    record t { clock = clock; sent = slice_set t.sent dest (slice_index_or t.sent dest [] ++ clock ∷ []) }
 
 -- with this event
 abbrev pub with_event : TraceValue → EventValue → TraceValue
-with_event t event = record { clock = event.receiver_clock; sent = t.sent; row = t.row ++ event ∷ []; lines = t.lines }
+with_event t event = record t { clock = event.receiver_clock; row = t.row ++ event ∷ [] }
 
 -- with a line at this clock
 abbrev pub with_line : TraceValue → ℕ → ℤ → TraceValue
-with_line t clock value = record { clock = clock; sent = t.sent; row = t.row; lines = t.lines ++ (clock, value) ∷ [] }
+with_line t clock value = record t { clock = clock; lines = t.lines ++ (clock, value) ∷ [] }

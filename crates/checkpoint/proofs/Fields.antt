@@ -20,7 +20,7 @@ use Rattle.checkpoint.specs.declared.fault.ImageFault.{ImageFault}
 use Rattle.checkpoint.specs.declared.fault.ImageFault.TheVariants.{Short}
 use Rattle.checkpoint.specs.Spelling.{FitsBytes, value, values}
 use Rattle.checkpoint.specs.Legal.{AllAfter, IsRow, AreValues}
-use Rattle.checkpoint.specs.Reading.{Read, ◌>>=◌, number_at, field, where_passed, many_at, value_at, values_at}
+use Rattle.checkpoint.specs.Reading.{Read, ◌>>=◌, number_at, field, where_holds, many_at, value_at, values_at}
 
 -- each number is a byte
 abbrev pub IsBytes : List ℕ → Type 0
@@ -147,7 +147,7 @@ pub record IsPassed (n : ℕ) (passes : ℕ → Bool) (x : ℕ) : Type 0 where
   pub passed : passes x ≡ true
 
 -- where nothing is a fault, the test was passed
-passed_ok : {A : Type 0} (b : Bool) (d : ImageFault) (x y : A) → where_passed b d x ≡ Ok y → (b ≡ true) × (x ≡ y)
+passed_ok : {A : Type 0} (b : Bool) (d : ImageFault) (x y : A) → where_holds b d x ≡ Ok y → (b ≡ true) × (x ≡ y)
 passed_ok true d x y e = (refl, cc)
 passed_ok false d x y e = absurd cc
 
@@ -156,11 +156,11 @@ pub field_reader : (n : ℕ) (fault : ImageFault) (passes : ℕ → Bool) → Is
 unfolding field
 field_reader n fault passes = record {
   takes = λ bytes x rest fits e.
-      let s = step (number n) bytes (λ p. where_passed (passes p.0) fault p) (x, rest) fits e in
+      let s = step (number n) bytes (λ p. where_holds (passes p.0) fault p) (x, rest) fits e in
       let g = passed_ok (passes s.item) fault (s.item, s.rest) (x, rest) s.on in
       subst (λ (p : ℕ × List ℕ). Takes bytes (big_bytes n p.0) p.1 × IsPassed n passes p.0) g.1
       (s.took, record { fits = s.is; passed = g.0 });
-  again = λ x rest is. ap (λ (r : Read ℕ). r >>= λ p. where_passed (passes p.0) fault p) (number_again n x rest is.fits)
+  again = λ x rest is. ap (λ (r : Read ℕ). r >>= λ p. where_holds (passes p.0) fault p) (number_again n x rest is.fits)
       ∙ rw is.passed refl;
 }
 
@@ -171,7 +171,7 @@ abbrev bits_at : ℕ → List ℕ → Read ℤ
 bits_at n bytes = number_at n bytes >>= λ x. Ok (cast_signed w64 x.0, x.1)
 
 -- what is answered is what was made
-pub ok_is : {A : Type 0} (x y : A) → where_passed true Short x ≡ Ok y → x ≡ y
+pub ok_is : {A : Type 0} (x y : A) → where_holds true Short x ≡ Ok y → x ≡ y
 ok_is x y e = cc
 
 -- what 8 bytes hold are 64 bits
@@ -201,7 +201,7 @@ bits_again : (n : ℕ) → n ≡ 8 → (x : ℤ) (rest : List ℕ) → FitsSigne
 bits_again n e x rest is =
     let small : cast_unsigned w64 x < 256 ^ n = widen n (cast_unsigned w64 x) e (Fits-lt-pow (of_z_fits w64 x is)) in
     ap (λ (r : Read ℕ). r >>= λ p. Ok (cast_signed w64 p.0, p.1)) (number_again n (cast_unsigned w64 x) rest small)
-    ∙ ap (λ (z : ℤ). where_passed true Short (z, rest)) (to_z-of_z w64 x is)
+    ∙ ap (λ (z : ℤ). where_holds true Short (z, rest)) (to_z-of_z w64 x is)
 
 -- the reader of a value
 pub value_reader : IsReader value_at value (FitsSigned w64)
@@ -237,10 +237,10 @@ many_again_step : {A : Type 0} (read : List A → List ℕ → Read A) (text : A
     (before items : List A) (rest : List ℕ) → AllAfter Is before items → many_at read (length items) before (flat_map text items ++ rest)
     ≡ Ok (before ++ items, rest)
 unfolding many_at
-many_again_step read text Is reader before [] rest is = ap (λ (xs : List _). where_passed true Short (xs, rest)) (sym (append-nil before))
+many_again_step read text Is reader before [] rest is = ap (λ (xs : List _). where_holds true Short (xs, rest)) (sym (append-nil before))
 many_again_step read text Is reader before (x ∷ xs) rest is =
     let more = many_again_step read text Is reader (before ++ x ∷ []) xs rest is.1
-    ∙ ap (λ (ys : List _). where_passed true Short (ys, rest)) (append_assoc before (x ∷ []) xs) in
+    ∙ ap (λ (ys : List _). where_holds true Short (ys, rest)) (append_assoc before (x ∷ []) xs) in
     ap (λ (b : List ℕ). read before b >>= λ item. many_at read (length xs) (before ++ item.0 ∷ []) item.1)
     (ap (λ (b : List ℕ). b ++ rest) (flat_map-cons text x xs))
     ∙ again_then (reader before) x (flat_map text xs) rest (λ item. many_at read (length xs) (before ++ item.0 ∷ []) item.1)
@@ -278,5 +278,5 @@ seen_as {A = A} {B = B} {text = text} reader f g Is' to from = record {
       (subst (λ (x : A). Takes bytes (text x) s.rest) (sym t.0) s.took, t.1);
   again = λ y rest is.
       let t = from y is in
-      again_last reader (g y) rest (λ x. Ok (f x.0, x.1)) (Ok (y, rest)) t.1 (ap (λ (z : B). where_passed true Short (z, rest)) t.0);
+      again_last reader (g y) rest (λ x. Ok (f x.0, x.1)) (Ok (y, rest)) t.1 (ap (λ (z : B). where_holds true Short (z, rest)) t.0);
 }

@@ -2,7 +2,7 @@
 use Rattle.std.proofs.Common.{◌≡◌, ℕ, zero, suc, ◌-◌, ◌+◌, ◌≤◌, ◌<◌, List, [], ◌∷◌, ◌++◌, length, Ok, Err, refl, sym, ◌∙◌, arith}
 use Rattle.checkpoint.specs.declared.fault.ImageFault.{ImageFault}
 use Rattle.checkpoint.specs.declared.fault.ImageFault.TheVariants.{Version, Short, Long, Field, WrongProgram, Memory}
-use Rattle.matching.specs.Message.{Message}
+use Rattle.matching.specs.PacketValue.{PacketValue}
 use Rattle.payload_log.specs.Backlog.{AreNumbered}
 use Rattle.checkpoint.specs.Reading.{Read, Fails, many_at, last_clock}
 
@@ -47,13 +47,13 @@ is_done read front count i bytes total le so_far =
     sym so_far ∙ one
 
 -- the clock of the last message
-pub last_clock-push : (ms : List Message) (m : Message) → last_clock (ms ++ m ∷ []) ≡ m.clock
+pub last_clock-push : (ms : List PacketValue) (m : PacketValue) → last_clock (ms ++ m ∷ []) ≡ m.clock
 last_clock-push [] m = refl
 last_clock-push (n ∷ []) m = refl
 last_clock-push (n ∷ o ∷ ms) m = last_clock-push (o ∷ ms) m
 
 -- one message more has the next number
-pub numbered_push : (base : ℕ) (ms : List Message) (m : Message) → AreNumbered base ms → m.number ≡ base + length ms + 1
+pub numbered_push : (base : ℕ) (ms : List PacketValue) (m : PacketValue) → AreNumbered base ms → m.number ≡ base + length ms + 1
     → AreNumbered base (ms ++ m ∷ [])
 numbered_push base [] m all e zero d lt = omega (arith, e)
 numbered_push base [] m all e (suc k) d lt = absurd (omega (arith, lt))

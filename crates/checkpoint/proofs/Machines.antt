@@ -20,7 +20,7 @@ use Rattle.rank_machine.specs.declared.status.Status.{Status}
 use Rattle.checkpoint.specs.Image.{Standing, machine_of, standing_of, status_of, lengths_of, is_underway}
 use Rattle.checkpoint.specs.Spelling.{FitsBytes, values, origin, lengths, table, fault_field, standing, status, machine}
 use Rattle.checkpoint.specs.Legal.{AreArrays, IsTable, IsStanding, IsStatus, IsSaved}
-use Rattle.checkpoint.specs.Reading.{◌>>=◌, field, where_passed, origin_at, lengths_at, table_at, fault_of, fault_at, standing_at}
+use Rattle.checkpoint.specs.Reading.{◌>>=◌, field, where_holds, origin_at, lengths_at, table_at, fault_of, fault_at, standing_at}
 use Rattle.checkpoint.specs.Reading.{status_at, arrays_at, machine_at}
 use Rattle.checkpoint.proofs.Fields.{IsBytes, Takes, takes_then, IsReader, IsPassed, step, again_then, again_last, ok_is, number}
 use Rattle.checkpoint.proofs.Fields.{field_reader, many_reader, values_reader, seen_as}
@@ -255,7 +255,7 @@ arrays_reader lengths = many_reader (λ before. values_reader (slice_index lengt
 -- ---- the machine
 
 -- where nothing is a fault, the test was passed
-passed : {A : Type 0} (b : Bool) (x y : A) → where_passed b Field x ≡ Ok y → (b ≡ true) × (x ≡ y)
+passed : {A : Type 0} (b : Bool) (x y : A) → where_holds b Field x ≡ Ok y → (b ≡ true) × (x ≡ y)
 passed true x y e = (refl, cc)
 passed false x y e = absurd cc
 
@@ -271,7 +271,7 @@ machine_again m rest is =
     is.status
     (again_then (values_reader (length m.program.variables)) m.store.variables (flat_map values m.store.arrays) rest _ _ is.variables
     (again_last (arrays_reader (lengths_of m.program)) m.store.arrays rest _ _ is.arrays
-    (ap (λ (b : Bool). where_passed b Field (m, rest)) (passes m is.stage)))))
+    (ap (λ (b : Bool). where_holds b Field (m, rest)) (passes m is.stage)))))
 
 -- a legal machine by its own program, rank and number of ranks
 saved_itself : (p : ProgramValue) (rank size : ℕ) (m : MachineValue) → IsSaved p rank size m → IsSaved m.program m.store.rank m.store.size m

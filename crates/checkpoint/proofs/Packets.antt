@@ -7,13 +7,13 @@ use Rattle.byteorder.specs.Endian.{big_bytes}
 use Rattle.metered.specs.Limits.{greatest_clock}
 use Rattle.matching.specs.declared.packet.Context.{Context}
 use Rattle.matching.specs.declared.packet.Context.TheVariants.{PointToPoint, Collective}
-use Rattle.matching.specs.Message.{Message, least_items, most_items, greatest_tag}
+use Rattle.matching.specs.PacketValue.{PacketValue, least_items, most_items, greatest_tag}
 use Rattle.matching.specs.Inbox.{Mailbox, may_follow}
 use Rattle.payload_log.specs.Backlog.{BacklogValue}
 use Rattle.checkpoint.specs.declared.fault.ImageFault.TheVariants.{Field}
 use Rattle.checkpoint.specs.Spelling.{FitsBytes, values, context_number, tail, packet, kept, lane}
 use Rattle.checkpoint.specs.Legal.{IsTail, IsNextPacket, IsNextKept, IsLane}
-use Rattle.checkpoint.specs.Reading.{where_passed, context_of, context_at, tail_at, packet_at, last_clock, kept_above, kept_at, lane_at}
+use Rattle.checkpoint.specs.Reading.{where_holds, context_of, context_at, tail_at, packet_at, last_clock, kept_above, kept_at, lane_at}
 use Rattle.checkpoint.proofs.Fields.{Takes, takes_then, IsReader, IsPassed, step, again_then, again_last, ok_is, field_reader, many_reader}
 use Rattle.checkpoint.proofs.Fields.{values_reader, seen_as}
 
@@ -43,7 +43,7 @@ least_most PointToPoint = (omega arith, omega arith)
 least_most Collective = (omega arith, omega arith)
 
 -- a legal message by its own numbers
-own : (source clock number : ℕ) (m : Message) → IsTail source clock number m → IsTail m.source m.clock m.number m
+own : (source clock number : ℕ) (m : PacketValue) → IsTail source clock number m → IsTail m.source m.clock m.number m
 own source clock number m is = record {
   from = refl;
   at = refl;
@@ -55,7 +55,7 @@ own source clock number m is = record {
 }
 
 -- a legal message is read from its tail
-tail_again : (m : Message) (rest : List ℕ) → IsTail m.source m.clock m.number m
+tail_again : (m : PacketValue) (rest : List ℕ) → IsTail m.source m.clock m.number m
     → tail_at m.source m.clock m.number (tail m ++ rest) ≡ Ok (m, rest)
 unfolding tail_at tail
 tail_again m rest is =
@@ -78,7 +78,7 @@ tail_reader source clock number = record {
       let s2 = step (field_reader 2 Field (λ x. nat_le (least_items s0.item) x && nat_le x (most_items s0.item))) s1.rest _ (m, rest)
       s1.took.fits s1.on in
       let s3 = step (values_reader s2.item) s2.rest _ (m, rest) s2.took.fits s2.on in
-      let made : Message = record { source = source; clock = clock; number = number; context = s0.item; tag = s1.item; items = s3.item } in
+      let made : PacketValue = record { source = source; clock = clock; number = number; context = s0.item; tag = s1.item; items = s3.item } in
       let same = ok_is (made, s3.rest) (m, rest) s3.on in
       let count : Takes s1.rest (big_bytes 2 (length s3.item)) s2.rest = subst (λ (n : ℕ). Takes s1.rest (big_bytes 2 n) s2.rest)
       (sym s3.is.count) s2.took in
@@ -98,7 +98,7 @@ tail_reader source clock number = record {
         most = omega (arith, high, s3.is.count);
         items = record { count = refl; each = s3.is.each };
       } in
-      subst (λ (p : Message × List ℕ). Takes bytes (tail p.0) p.1 × IsTail source clock number p.0) same (t0, is);
+      subst (λ (p : PacketValue × List ℕ). Takes bytes (tail p.0) p.1 × IsTail source clock number p.0) same (t0, is);
   again = λ m rest is. rw (← is.from, ← is.at, ← is.numbered) (tail_again m rest (own source clock number m is));
 }
 
@@ -109,11 +109,11 @@ pub word : (x : ℕ) → x ≤ greatest_clock → x < 256 ^ 4
 word x l = omega (arith, l)
 
 -- an inbox of these packets and counts
-abbrev box_of : List Message → List ℕ → Mailbox
+abbrev box_of : List PacketValue → List ℕ → Mailbox
 box_of before accepted = record { packets = before; accepted = accepted }
 
 -- what was read is a packet with its bytes
-packet_taken : (size : ℕ) (accepted : List ℕ) (before : List Message) (bytes : List ℕ) (source clock number : ℕ) (m : Message)
+packet_taken : (size : ℕ) (accepted : List ℕ) (before : List PacketValue) (bytes : List ℕ) (source clock number : ℕ) (m : PacketValue)
     (rest : List ℕ) → source ≡ m.source → clock ≡ m.clock → number ≡ m.number →
     Takes bytes (big_bytes 1 source ++ (big_bytes 4 clock ++ (big_bytes 4 number ++ tail m))) rest → source < size → FitsBytes 1 source
     → 1 ≤ clock → clock ≤ greatest_clock → FitsBytes 4 number → may_follow (box_of before accepted) source number ≡ true →
@@ -136,7 +136,7 @@ packet_taken size accepted before bytes source clock number m rest e0 e1 e2 t be
     )
 
 -- the reader of a packet behind others
-pub packet_reader : (size : ℕ) (accepted : List ℕ) (before : List Message)
+pub packet_reader : (size : ℕ) (accepted : List ℕ) (before : List PacketValue)
     → IsReader (packet_at size accepted before) packet (IsNextPacket size accepted before)
 unfolding packet_at packet
 packet_reader size accepted before = record {
@@ -170,7 +170,7 @@ packet_reader size accepted before = record {
 -- ---- packets that are kept
 
 -- what was read is a kept packet with its bytes
-kept_taken : (rank most base : ℕ) (before : List Message) (bytes : List ℕ) (clock : ℕ) (m : Message) (rest : List ℕ) → clock ≡ m.clock
+kept_taken : (rank most base : ℕ) (before : List PacketValue) (bytes : List ℕ) (clock : ℕ) (m : PacketValue) (rest : List ℕ) → clock ≡ m.clock
     → Takes bytes (big_bytes 4 clock ++ tail m) rest → last_clock before < clock → clock ≤ most → FitsBytes 4 clock →
     IsTail rank clock (base + length before + 1) m → Takes bytes (kept m) rest × IsNextKept rank most base before m
 unfolding kept tail
@@ -188,7 +188,7 @@ kept_taken rank most base before bytes clock m rest e t rises within small is =
     (took, record { rises = omega (arith, e, rises); within = omega (arith, e, within); clock = omega (arith, e, small); tail = own_clock })
 
 -- the reader of a kept packet behind others
-pub kept_reader : (rank most base : ℕ) → most ≤ greatest_clock → (before : List Message)
+pub kept_reader : (rank most base : ℕ) → most ≤ greatest_clock → (before : List PacketValue)
     → IsReader (kept_at rank most base before) kept (IsNextKept rank most base before)
 unfolding kept_above kept
 kept_reader rank most base small before = record {
@@ -207,7 +207,7 @@ kept_reader rank most base small before = record {
 -- ---- what is kept for a destination
 
 -- a lane with this cursor and what is held
-abbrev with_cursor : BacklogValue → List ℕ → ℕ → List Message → BacklogValue × List ℕ
+abbrev with_cursor : BacklogValue → List ℕ → ℕ → List PacketValue → BacklogValue × List ℕ
 with_cursor b rest cursor held = (record b { cursor = cursor; held = held }, rest)
 
 -- a legal lane is read from its bytes
@@ -220,7 +220,7 @@ lane_again rank clock small b rest is =
     (again_then (field_reader 4 Field (λ x. nat_le x greatest_clock)) b.base (flat_map kept b.kept) rest _ _
     (record { fits = word b.base is.base; passed = le-leb _ _ is.base })
     (again_last (many_reader (kept_reader rank clock b.base small) (b.sent - b.base)) b.kept rest _ _ is.kept
-    (λ i. where_passed true Field (with_cursor b rest (sym is.cursor i) (sym is.held i)))))
+    (λ i. where_holds true Field (with_cursor b rest (sym is.cursor i) (sym is.held i)))))
 
 -- the reader of a lane
 pub lane_reader : (rank clock : ℕ) → clock ≤ greatest_clock → IsReader (lane_at rank clock) lane (IsLane rank clock)

@@ -5,7 +5,7 @@ use Rattle.std.specs.Prelude.{AllPairs, IfOk}
 use Rattle.std.proofs.lemmas.List.{append-nil}
 use Rattle.std.proofs.lemmas.List.Kept.{AllPairs-cons}
 use Rattle.metered.specs.Limits.{most_ranks}
-use Rattle.matching.specs.Message.{Message}
+use Rattle.matching.specs.PacketValue.{PacketValue}
 use Rattle.payload_log.specs.Backlog.{BacklogValue}
 use Rattle.payload_log.specs.Sender.{WasBefore, IsSentBy}
 use Rattle.rank_language.specs.Program.{ProgramValue}
@@ -19,8 +19,8 @@ use Rattle.checkpoint.proofs.Loop.{last_clock-push}
 use Rattle.checkpoint.proofs.Rows.{all_of_row}
 
 -- each kept packet was sent after those before
-above_last : (rank most base : ℕ) (before ms : List Message) → AllAfter (IsNextKept rank most base) before ms
-    → All (λ (m : Message). last_clock before < m.clock) ms
+above_last : (rank most base : ℕ) (before ms : List PacketValue) → AllAfter (IsNextKept rank most base) before ms
+    → All (λ (m : PacketValue). last_clock before < m.clock) ms
 above_last rank most base before [] row k d low = absurd (omega (arith, low))
 above_last rank most base before (m ∷ ms) row zero d low = row.0.rises
 above_last rank most base before (m ∷ ms) row (suc k) d low =
@@ -30,7 +30,7 @@ above_last rank most base before (m ∷ ms) row (suc k) d low =
     omega (arith, rises, last, after)
 
 -- their clocks rise
-kept_rise : (rank most base : ℕ) (before ms : List Message) → AllAfter (IsNextKept rank most base) before ms → AllPairs WasBefore ms
+kept_rise : (rank most base : ℕ) (before ms : List PacketValue) → AllAfter (IsNextKept rank most base) before ms → AllPairs WasBefore ms
 kept_rise rank most base before [] row = λ i j d first low. absurd (omega (arith, low))
 kept_rise rank most base before (m ∷ ms) row =
     let last = last_clock-push before m in
@@ -42,15 +42,15 @@ kept_rise rank most base before (m ∷ ms) row =
 -- what a lane of an image keeps was sent by this rank
 sent_is : (rank clock : ℕ) (b : BacklogValue) → IsLane rank clock b → IsSentBy rank clock b
 sent_is rank clock b is =
-    let same : b.kept ++ b.held ≡ b.kept = ap (λ (ms : List Message). b.kept ++ ms) is.held ∙ append-nil b.kept in
+    let same : b.kept ++ b.held ≡ b.kept = ap (λ (ms : List PacketValue). b.kept ++ ms) is.held ∙ append-nil b.kept in
     let each = is.kept.each in
-    let none : length b.held ≡ 0 = ap (length {A = Message}) is.held in
+    let none : length b.held ≡ 0 = ap (length {A = PacketValue}) is.held in
     let sent = is.sent in
     record {
-      sources = subst (All (λ (m : Message). m.source ≡ rank)) (sym same)
+      sources = subst (All (λ (m : PacketValue). m.source ≡ rank)) (sym same)
           (all_of_row (IsNextKept rank clock b.base) (λ m. m.source ≡ rank) (λ before m next. next.tail.from) [] b.kept each);
       rising = subst (AllPairs WasBefore) (sym same) (kept_rise rank clock b.base [] b.kept each);
-      within = subst (All (λ (m : Message). m.clock ≤ clock)) (sym same)
+      within = subst (All (λ (m : PacketValue). m.clock ≤ clock)) (sym same)
           (all_of_row (IsNextKept rank clock b.base) (λ m. m.clock ≤ clock) (λ before m next. next.within) [] b.kept each);
       acts = omega (arith, none, sent);
     }

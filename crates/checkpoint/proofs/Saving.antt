@@ -10,7 +10,7 @@ use Rattle.std.specs.List.{list_all, AllByRecursion}
 use Rattle.std.proofs.lemmas.Bool.{le-leb, lt-ltb, eqb-true, and_from}
 use Rattle.std.proofs.lemmas.List.{length-map, length_push}
 use Rattle.metered.specs.Limits.{most_ranks, most_lines, most_variables, most_arrays, greatest_clock}
-use Rattle.matching.specs.Message.{Message}
+use Rattle.matching.specs.PacketValue.{PacketValue}
 use Rattle.matching.specs.Inbox.{Mailbox, IsMailbox, WasAccepted, RisesTo, is_below, may_follow}
 use Rattle.payload_log.specs.Backlog.{BacklogValue}
 use Rattle.payload_log.specs.Sender.{WasBefore, IsSentBy}
@@ -34,7 +34,7 @@ values_are : (zs : List ℤ) (n : ℕ) → length zs ≡ n → All (FitsSigned w
 values_are zs n count each = record { count = count; each = row_of (FitsSigned w64) [] zs each }
 
 -- a packet has a legal tail
-tail_is : (m : Message) → IsPacket m → IsTail m.source m.clock m.number m
+tail_is : (m : PacketValue) → IsPacket m → IsTail m.source m.clock m.number m
 tail_is m is = record {
   from = refl;
   at = refl;
@@ -48,7 +48,7 @@ tail_is m is = record {
 -- ---- the inbox
 
 -- an earlier packet doesn't stand in the way of a later one
-earlier_is_below : (m n : Message) → RisesTo m n → is_below n.source n.number m ≡ true
+earlier_is_below : (m n : PacketValue) → RisesTo m n → is_below n.source n.number m ≡ true
 earlier_is_below m n rises = at (m.source == n.source) refl
   where
     at : (b : Bool) → (m.source == n.source) ≡ b → is_below n.source n.number m ≡ true
@@ -56,16 +56,16 @@ earlier_is_below m n rises = at (m.source == n.source) refl
     at true e = rw (e, lt-ltb _ _ (rises (eqb-true _ _ e))) refl
 
 -- a test that each item passes
-list_all-each : (p : Message → Bool) (ms : List Message) → All (λ m. p m ≡ true) ms → list_all p ms ≡ true
+list_all-each : (p : PacketValue → Bool) (ms : List PacketValue) → All (λ m. p m ≡ true) ms → list_all p ms ≡ true
 list_all-each p [] each = refl
 list_all-each p (m ∷ ms) each = rw (each zero m (omega arith), list_all-each p ms (all_rest (λ x. p x ≡ true) m ms each)) refl
 
 -- an inbox of these packets and counts
-abbrev box_of : List Message → List ℕ → Mailbox
+abbrev box_of : List PacketValue → List ℕ → Mailbox
 box_of packets accepted = record { packets = packets; accepted = accepted }
 
 -- a packet may stand behind those of its source with lower numbers
-may_stand : (accepted : List ℕ) (before : List Message) (m : Message) → WasAccepted accepted m → 1 ≤ m.number
+may_stand : (accepted : List ℕ) (before : List PacketValue) (m : PacketValue) → WasAccepted accepted m → 1 ≤ m.number
     → All (λ n. RisesTo n m) before
     → may_follow (box_of before accepted) m.source m.number ≡ true
 may_stand accepted before m was low rises =
@@ -76,7 +76,7 @@ may_stand accepted before m was low rises =
     and_from _ _ numbered lower
 
 -- a packet of the inbox is legal behind those before it
-next_packet : (size : ℕ) (accepted : List ℕ) (before : List Message) (m : Message) → length accepted ≡ size → size ≤ most_ranks
+next_packet : (size : ℕ) (accepted : List ℕ) (before : List PacketValue) (m : PacketValue) → length accepted ≡ size → size ≤ most_ranks
     → WasAccepted accepted m → IsPacket m → All (λ n. RisesTo n m) before → IsNextPacket size accepted before m
 next_packet size accepted before m count few was is rises = record {
   source = omega (arith, count, was.source);
@@ -89,7 +89,7 @@ next_packet size accepted before m count few was is rises = record {
 }
 
 -- so are all packets
-packet_row : (size : ℕ) (accepted : List ℕ) (before ms : List Message) → length accepted ≡ size → size ≤ most_ranks
+packet_row : (size : ℕ) (accepted : List ℕ) (before ms : List PacketValue) → length accepted ≡ size → size ≤ most_ranks
     → All (WasAccepted accepted) ms → All IsPacket ms → AllPairs RisesTo (before ++ ms) → AllAfter (IsNextPacket size accepted) before ms
 packet_row size accepted before [] count few was are rises = tt
 packet_row size accepted before (m ∷ ms) count few was are rises =
@@ -113,9 +113,9 @@ inbox_is size b count few is many are = record {
 -- ---- the payload log
 
 -- packets that rise by clock and number are legal each behind those before it
-kept_row : (rank most base : ℕ) (before ms : List Message) → most ≤ greatest_clock → All (λ (m : Message). m.source ≡ rank) ms
-    → All (λ (m : Message). m.clock ≤ most) ms → AllPairs WasBefore ms → All (λ (m : Message). last_clock before < m.clock) ms
-    → ((k : ℕ) (d : Message) → k < length ms → (get_or ms k d).number ≡ base + length before + k + 1)
+kept_row : (rank most base : ℕ) (before ms : List PacketValue) → most ≤ greatest_clock → All (λ (m : PacketValue). m.source ≡ rank) ms
+    → All (λ (m : PacketValue). m.clock ≤ most) ms → AllPairs WasBefore ms → All (λ (m : PacketValue). last_clock before < m.clock) ms
+    → ((k : ℕ) (d : PacketValue) → k < length ms → (get_or ms k d).number ≡ base + length before + k + 1)
     → All IsPacket ms → AllAfter (IsNextKept rank most base) before ms
 kept_row rank most base before [] small sources within rises above numbers are = tt
 kept_row rank most base before (m ∷ ms) small sources within rises above numbers are =
@@ -141,8 +141,8 @@ kept_row rank most base before (m ∷ ms) small sources within rises above numbe
     let last = last_clock-push before m in
     let first = pairs_first WasBefore m ms rises in (
       here,
-      kept_row rank most base (before ++ m ∷ []) ms small (all_rest (λ (x : Message). x.source ≡ rank) m ms sources)
-          (all_rest (λ (x : Message). x.clock ≤ most) m ms within) (pairs_rest WasBefore m ms rises)
+      kept_row rank most base (before ++ m ∷ []) ms small (all_rest (λ (x : PacketValue). x.source ≡ rank) m ms sources)
+          (all_rest (λ (x : PacketValue). x.clock ≤ most) m ms within) (pairs_rest WasBefore m ms rises)
           (λ k d inside. let after = first k d inside in omega (arith, after, last))
           (λ k d inside. numbers (suc k) d (omega (arith, inside)) ∙ omega (arith, longer)) (all_rest IsPacket m ms are),
     )
@@ -159,8 +159,8 @@ lane_is rank clock b small sent stored =
       held = refl;
       kept = record {
         count = stored.order.kept;
-        each = kept_row rank clock b.base [] b.kept small (all_front (λ (m : Message). m.source ≡ rank) b.kept b.held sent.sources)
-            (all_front (λ (m : Message). m.clock ≤ clock) b.kept b.held sent.within) (pairs_front WasBefore b.kept b.held sent.rising)
+        each = kept_row rank clock b.base [] b.kept small (all_front (λ (m : PacketValue). m.source ≡ rank) b.kept b.held sent.sources)
+            (all_front (λ (m : PacketValue). m.clock ≤ clock) b.kept b.held sent.within) (pairs_front WasBefore b.kept b.held sent.rising)
             (λ k d inside. let is = stored.packets k d inside in is.message.clock_low) (λ k d inside. stored.order.numbered k d inside
             ∙ omega arith) stored.packets;
       };

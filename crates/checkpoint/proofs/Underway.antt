@@ -15,7 +15,7 @@ use Rattle.checkpoint.specs.declared.fault.ImageFault.{ImageFault}
 use Rattle.checkpoint.specs.declared.fault.ImageFault.TheVariants.{Version, Short, Long, Field, WrongProgram, Memory}
 use Rattle.checkpoint.specs.Image.{Standing, call_of, is_underway, lengths_of, machine_of}
 use Rattle.checkpoint.specs.Spelling.{FitsBytes}
-use Rattle.checkpoint.specs.Reading.{Fails, ◌>>=◌, where_passed, where_underway, standing_at, status_at, values_at, arrays_at, machine_at}
+use Rattle.checkpoint.specs.Reading.{Fails, ◌>>=◌, where_holds, where_underway, standing_at, status_at, values_at, arrays_at, machine_at}
 
 -- ---- few parts
 
@@ -127,7 +127,7 @@ too_many m more = fails m (λ is. let most = room_suffices m.store (call_of m) i
 -- ---- a machine that is refused
 
 -- a test that is passed is no fault
-no_fault : {A : Type 0} {Z : Type 0} (e : ImageFault) (x : A) (r : Result Z ImageFault) → Fails e (where_passed true Field x) → Fails e r
+no_fault : {A : Type 0} {Z : Type 0} (e : ImageFault) (x : A) (r : Result Z ImageFault) → Fails e (where_holds true Field x) → Fails e r
 no_fault Version x r bad = absurd cc
 no_fault Short x r bad = absurd cc
 no_fault Long x r bad = absurd cc
@@ -136,8 +136,8 @@ no_fault WrongProgram x r bad = absurd cc
 no_fault Memory x r bad = tt
 
 -- the fault of one test is that of another
-one_fault : {A : Type 0} {Z : Type 0} (e : ImageFault) (x : A) (z : Z) → Fails e (where_passed false Field x)
-    → Fails e (where_passed false Field z)
+one_fault : {A : Type 0} {Z : Type 0} (e : ImageFault) (x : A) (z : Z) → Fails e (where_holds false Field x)
+    → Fails e (where_holds false Field z)
 one_fault Version x z bad = absurd cc
 one_fault Short x z bad = absurd cc
 one_fault Long x z bad = absurd cc
@@ -147,10 +147,10 @@ one_fault Memory x z bad = tt
 
 -- where so many values have no room among the ranks, the machine is refused
 room_fails : {A : Type 0} (e : ImageFault) (m : MachineValue) (rest : List ℕ) (x : A)
-    → Fails e (where_passed (nat_le (length m.store.gathered) m.store.size) Field x) → Fails e (where_underway m rest)
+    → Fails e (where_holds (nat_le (length m.store.gathered) m.store.size) Field x) → Fails e (where_underway m rest)
 room_fails e m rest x failed = at (nat_le (length m.store.gathered) m.store.size) refl failed
   where
-    at : (b : Bool) → nat_le (length m.store.gathered) m.store.size ≡ b → Fails e (where_passed b Field x)
+    at : (b : Bool) → nat_le (length m.store.gathered) m.store.size ≡ b → Fails e (where_holds b Field x)
         → Fails e (where_underway m rest)
     at true within failed = no_fault e x (where_underway m rest) failed
     at false over failed = rw (too_many m (leb-false _ _ over)) (one_fault e x (m, rest) failed)
@@ -160,7 +160,7 @@ pub refused : {A : Type 0} (p : ProgramValue) (rank size : ℕ) (bytes : List �
     (standing : Standing × List ℕ) (status : Status × List ℕ) (variables : List ℤ × List ℕ) (arrays : List (List ℤ) × List ℕ)
     → standing_at (length p.statements) bytes ≡ Ok standing → status_at size standing.1 ≡ Ok status
     → values_at (length p.variables) status.1 ≡ Ok variables → arrays_at (lengths_of p) variables.1 ≡ Ok arrays
-    → Fails e (where_passed (nat_le (length standing.0.gathered) size) Field x) → Fails e (machine_at p rank size bytes)
+    → Fails e (where_holds (nat_le (length standing.0.gathered) size) Field x) → Fails e (machine_at p rank size bytes)
 unfolding machine_at
 refused p rank size bytes e x standing status variables arrays at_standing at_status at_variables at_arrays failed =
     rw (at_standing, at_status, at_variables, at_arrays)

@@ -15,7 +15,7 @@ use Rattle.checkpoint.specs.declared.fault.ImageFault.TheVariants.{Field, Long}
 use Rattle.checkpoint.specs.Image.{ImageValue, rewound, at_rest}
 use Rattle.checkpoint.specs.Spelling.{FitsBytes, packet, lane, origin, table, machine, inbox, spelling}
 use Rattle.checkpoint.specs.Legal.{IsRow, IsLane, IsSavedInbox, IsImage}
-use Rattle.checkpoint.specs.Reading.{Read, Gives, ◌>>=◌, where_passed, count_at, log_at, inbox_at, image_at, reading}
+use Rattle.checkpoint.specs.Reading.{Read, Gives, ◌>>=◌, where_holds, count_at, log_at, inbox_at, image_at, reading}
 use Rattle.checkpoint.proofs.Fields.{IsBytes, Takes, takes_then, IsReader, IsPassed, step, again_then, again_last, ok_is, number}
 use Rattle.checkpoint.proofs.Fields.{field_reader, many_reader}
 use Rattle.checkpoint.proofs.Packets.{word, packet_reader, lane_reader}
@@ -135,7 +135,7 @@ unfolding spelling
 spelling_is p rank size i is = rw (← is.machine.program, ← is.machine.own, ← is.machine.ranks) refl
 
 -- where nothing is a fault, no bytes are left
-ended : {A : Type 0} (b : Bool) (x y : A) → where_passed b Long x ≡ Ok y → (b ≡ true) × (x ≡ y)
+ended : {A : Type 0} (b : Bool) (x y : A) → where_holds b Long x ≡ Ok y → (b ≡ true) × (x ≡ y)
 ended true x y e = (refl, cc)
 ended false x y e = absurd cc
 
@@ -159,8 +159,8 @@ unfolding reading
 spelled_is_read p rank size i is =
     let again = image_again p rank size i [] is in
     let same : spelling i ≡ spelled p rank size i ++ [] = sym (spelling_is p rank size i is) ∙ sym (append-nil (spelled p rank size i)) in
-    ap (λ (b : List ℕ). image_at p rank size b >>= λ x. where_passed (length x.1 == 0) Long x.0) same
-    ∙ ap (λ (r : Read ImageValue). r >>= λ x. where_passed (length x.1 == 0) Long x.0) again
+    ap (λ (b : List ℕ). image_at p rank size b >>= λ x. where_holds (length x.1 == 0) Long x.0) same
+    ∙ ap (λ (r : Read ImageValue). r >>= λ x. where_holds (length x.1 == 0) Long x.0) again
 
 -- what a call read is spelled so
 pub is_found : {X : Type 0} (p : ProgramValue) (rank size : ℕ) → FitsBytes 1 rank → FitsBytes 1 size

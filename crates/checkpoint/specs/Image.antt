@@ -23,7 +23,7 @@ rewound b = record b { cursor = b.base + 1; held = [] }
 
 -- the image as it is read again: of cursors it says nothing
 abbrev pub at_rest : ImageValue → ImageValue
-at_rest i = record { machine = i.machine; clock = i.clock; inbox = i.inbox; log = map rewound i.log }
+at_rest i = record i { log = map rewound i.log }
 
 -- Where a machine stands: its position, the acts done in the collective there, the fault that an act left, the values
 -- gathered there, and how many collectives it has finished.

@@ -4,7 +4,7 @@ use Rattle.std.specs.List.{AllByRecursion}
 use Rattle.std.specs.Int.{w64}
 use Rattle.metered.specs.Limits as limits
 use Rattle.metered.specs.Limits.{greatest_clock}
-use Rattle.matching.specs.Message.{Message, IsMessage, least_items, most_items, greatest_tag}
+use Rattle.matching.specs.PacketValue.{PacketValue, IsPacketValue, least_items, most_items, greatest_tag}
 use Rattle.matching.specs.Inbox.{Mailbox, may_follow}
 use Rattle.payload_log.specs.Backlog.{BacklogValue, IsBacklog}
 use Rattle.rank_language.specs.Program.{ProgramValue}
@@ -31,7 +31,7 @@ abbrev pub AreValues : ℕ → List ℤ → Type 0
 AreValues n zs = IsRow (λ before. FitsSigned w64) n zs
 
 -- a message of this source, clock and number, within the limits of its context
-pub record IsTail (source clock number : ℕ) (m : Message) : Type 0 where
+pub record IsTail (source clock number : ℕ) (m : PacketValue) : Type 0 where
   pub from : m.source ≡ source
   pub at : m.clock ≡ clock
   pub numbered : m.number ≡ number
@@ -41,8 +41,8 @@ pub record IsTail (source clock number : ℕ) (m : Message) : Type 0 where
   pub items : AreValues (length m.items) m.items
 
 -- a message of a packet: its numbers are within their limits, and its items in the range of i64
-pub record IsPacket (m : Message) : Type 0 where
-  pub message : IsMessage m
+pub record IsPacket (m : PacketValue) : Type 0 where
+  pub message : IsPacketValue m
   pub items : All (FitsSigned w64) m.items
 
 -- what is kept for a destination is packets, by number
@@ -51,7 +51,7 @@ pub record IsStored (b : BacklogValue) : Type 0 where
   pub packets : All IsPacket b.kept
 
 -- a packet that may stand in the inbox behind these
-pub record IsNextPacket (size : ℕ) (accepted : List ℕ) (before : List Message) (m : Message) : Type 0 where
+pub record IsNextPacket (size : ℕ) (accepted : List ℕ) (before : List PacketValue) (m : PacketValue) : Type 0 where
   pub source : m.source < size
   pub byte : FitsBytes 1 m.source
   pub clock_low : 1 ≤ m.clock
@@ -61,7 +61,7 @@ pub record IsNextPacket (size : ℕ) (accepted : List ℕ) (before : List Messag
   pub tail : IsTail m.source m.clock m.number m
 
 -- a packet that may be kept behind these
-pub record IsNextKept (rank most base : ℕ) (before : List Message) (m : Message) : Type 0 where
+pub record IsNextKept (rank most base : ℕ) (before : List PacketValue) (m : PacketValue) : Type 0 where
   pub rises : last_clock before < m.clock
   pub within : m.clock ≤ most
   pub clock : FitsBytes 4 m.clock

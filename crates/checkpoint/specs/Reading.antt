@@ -8,7 +8,7 @@ use Rattle.matching.specs.declared.packet.Context.{Context}
 use Rattle.matching.specs.declared.packet.Context.TheVariants.{PointToPoint, Collective}
 use Rattle.metered.specs.Limits as limits
 use Rattle.metered.specs.Limits.{greatest_clock}
-use Rattle.matching.specs.Message.{Message, least_items, most_items, greatest_tag}
+use Rattle.matching.specs.PacketValue.{PacketValue, least_items, most_items, greatest_tag}
 use Rattle.payload_log.specs.Backlog.{BacklogValue, from_beginning}
 use Rattle.rank_language.specs.Program.{ProgramValue}
 use Rattle.rank_machine.specs.declared.fault.MachineFault.{MachineFault}
@@ -51,14 +51,14 @@ abbrev pub number_at : ℕ → List ℕ → Read ℕ
 number_at n bytes = if nat_lt (length bytes) n then Err Short else Ok (big_number n bytes, drop n bytes)
 
 -- this, where the test passes
-abbrev pub where_passed : {A : Type 0} → Bool → ImageFault → A → Result A ImageFault
-where_passed b fault x = if b then Ok x else Err fault
+abbrev pub where_holds : {A : Type 0} → Bool → ImageFault → A → Result A ImageFault
+where_holds b fault x = if b then Ok x else Err fault
 
 -- a number that passes a test
 unfoldable pub field : ℕ → ImageFault → (ℕ → Bool) → List ℕ → Read ℕ
 field n fault passes bytes = do
   x ← number_at n bytes
-  where_passed (passes x.0) fault x
+  where_holds (passes x.0) fault x
 
 -- n items one after the other, behind those that were read; what an item may be can depend on these
 unfoldable pub many_at : {A : Type 0} → (List A → List ℕ → Read A) → ℕ → List A → List ℕ → Read (List A)
@@ -91,7 +91,7 @@ context_at bytes = do
   Ok (context_of x.0, x.1)
 
 -- the message of this source, clock and number whose tail stands here
-unfoldable pub tail_at : ℕ → ℕ → ℕ → List ℕ → Read Message
+unfoldable pub tail_at : ℕ → ℕ → ℕ → List ℕ → Read PacketValue
 tail_at source clock number bytes = do
   context ← context_at bytes
   tag ← field 2 Field (λ x. nat_le x (greatest_tag context.0)) context.1
@@ -100,7 +100,7 @@ tail_at source clock number bytes = do
   Ok (record { source = source; clock = clock; number = number; context = context.0; tag = tag.0; items = items.0 }, items.1)
 
 -- a packet of the inbox, behind these
-unfoldable pub packet_at : ℕ → List ℕ → List Message → List ℕ → Read Message
+unfoldable pub packet_at : ℕ → List ℕ → List PacketValue → List ℕ → Read PacketValue
 packet_at size accepted before bytes = do
   source ← field 1 Field (λ x. nat_lt x size) bytes
   clock ← field 4 Field (λ x. nat_le 1 x && nat_le x greatest_clock) source.1
@@ -108,19 +108,19 @@ packet_at size accepted before bytes = do
   tail_at source.0 clock.0 number.0 number.1
 
 -- the clock of the last message, 0 where there is none
-abbrev pub last_clock : List Message → ℕ
+abbrev pub last_clock : List PacketValue → ℕ
 last_clock [] = 0
 last_clock (m ∷ []) = m.clock
 last_clock (m ∷ n ∷ ms) = last_clock (n ∷ ms)
 
 -- a packet of this number that is kept: its clock is above this, and not above the image's
-unfoldable pub kept_above : ℕ → ℕ → ℕ → ℕ → List ℕ → Read Message
+unfoldable pub kept_above : ℕ → ℕ → ℕ → ℕ → List ℕ → Read PacketValue
 kept_above rank most above number bytes = do
   clock ← field 4 Field (λ x. nat_lt above x && nat_le x most) bytes
   tail_at rank clock.0 number clock.1
 
 -- a packet that is kept behind these: its number is the next, and its clock is above theirs
-abbrev pub kept_at : ℕ → ℕ → ℕ → List Message → List ℕ → Read Message
+abbrev pub kept_at : ℕ → ℕ → ℕ → List PacketValue → List ℕ → Read PacketValue
 kept_at rank most base before bytes = kept_above rank most (last_clock before) (base + length before + 1) bytes
 
 -- what is kept for a destination, with the cursor right behind the base
@@ -210,7 +210,7 @@ arrays_at lengths bytes = many_at (λ before. values_at (slice_index lengths (le
 
 -- this machine, where it can have done and gathered so much of the collective at its position
 abbrev pub where_underway : MachineValue → List ℕ → Read MachineValue
-where_underway m rest = where_passed (is_underway m) Field (m, rest)
+where_underway m rest = where_holds (is_underway m) Field (m, rest)
 
 -- A machine of this program, rank and number of ranks. What is done and gathered of a collective is looked at behind the last item:
 -- its root may read any of them.
@@ -237,4 +237,4 @@ image_at p rank size bytes = do
 unfoldable pub reading : ProgramValue → ℕ → ℕ → List ℕ → Result ImageValue ImageFault
 reading p rank size bytes = do
   image ← image_at p rank size bytes
-  where_passed (length image.1 == 0) Long image.0
+  where_holds (length image.1 == 0) Long image.0

@@ -5,7 +5,7 @@ use Rattle.std.specs.Int.{w64, cast_unsigned}
 use Rattle.byteorder.specs.Endian.{big_bytes}
 use Rattle.matching.specs.declared.packet.Context.{Context}
 use Rattle.matching.specs.declared.packet.Context.TheVariants.{PointToPoint, Collective}
-use Rattle.matching.specs.Message.{Message}
+use Rattle.matching.specs.PacketValue.{PacketValue}
 use Rattle.payload_log.specs.Backlog.{BacklogValue}
 use Rattle.rank_language.specs.Program.{ProgramValue}
 use Rattle.rank_machine.specs.declared.fault.MachineFault.{MachineFault}
@@ -36,15 +36,15 @@ context_number PointToPoint = 0
 context_number Collective = 1
 
 -- what stands of a packet after its envelope's numbers
-unfoldable pub tail : Message → List ℕ
+unfoldable pub tail : PacketValue → List ℕ
 tail m = big_bytes 1 (context_number m.context) ++ (big_bytes 2 m.tag ++ (big_bytes 2 (length m.items) ++ values m.items))
 
 -- a packet of the inbox
-unfoldable pub packet : Message → List ℕ
+unfoldable pub packet : PacketValue → List ℕ
 packet m = big_bytes 1 m.source ++ (big_bytes 4 m.clock ++ (big_bytes 4 m.number ++ tail m))
 
 -- a packet that is kept; its source and number follow from where it stands
-unfoldable pub kept : Message → List ℕ
+unfoldable pub kept : PacketValue → List ℕ
 kept m = big_bytes 4 m.clock ++ tail m
 
 -- what is kept for a destination; the cursor isn't in it

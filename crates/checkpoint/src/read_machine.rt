@@ -6,7 +6,7 @@ ghost use Rattle.rank_language.specs.Program.{AllSized};
 ghost use Rattle.rank_machine.specs.Faults.{IsLeft};
 ghost use Rattle.rank_machine.specs.Collectives.{greatest_ordinal};
 ghost use Rattle.checkpoint.specs.declared.fault.ImageFault.TheVariants.{WrongProgram, Field};
-ghost use Rattle.checkpoint.specs.Reading.{Gives, field, where_passed, origin_at, lengths_at, table_at};
+ghost use Rattle.checkpoint.specs.Reading.{Gives, field, where_holds, origin_at, lengths_at, table_at};
 ghost use Rattle.checkpoint.specs.Reading.{fault_at, standing_at, status_at, arrays_at, machine_at};
 ghost use Rattle.checkpoint.specs.Seen.{standing_seen};
 
@@ -195,7 +195,7 @@ fn arrays_of<'b>(
 // The values gathered, with room for as many as ranks. More can't have been gathered.
 fn gathered_of(alloc: Heap, size: u8, values: &[i64]) -> Result<Gathered, ImageFault>
     ensures { Gives (λ g. g) result
-        (where_passed (nat_le (length values.now) size) Field (record { room = size; values = values.now })) }
+        (where_holds (nat_le (length values.now) size) Field (record { room = size; values = values.now })) }
 {
     let room = usize::from(size);
     if values.len() > room {

@@ -9,7 +9,7 @@ use Rattle.rank_machine.specs.declared.want.Want.{Want}
 use Rattle.rank_machine.specs.declared.want.Want.TheVariants as want
 use Rattle.rank_machine.specs.Wants.{wants, payload, IsLegal}
 use Rattle.rank_machine.specs.Acts.{Act, sends, misses, prints, Makes, next}
-use Rattle.rank_machine.specs.Machine.{MachineValue, state_of, asks, GoesOn, next_of, IsTrying, KeepsRank}
+use Rattle.rank_machine.specs.Machine.{MachineValue, state_of, machine_want, GoesOn, next_of, IsTrying, KeepsRank}
 use Rattle.crash_free.specs.declared.choice.Choice.{Choice}
 use Rattle.crash_free.specs.declared.choice.Choice.TheVariants as choice
 use Rattle.crash_free.specs.Runs.{Passed, history, looked_up, IsFree}
@@ -17,15 +17,15 @@ use Rattle.std.proofs.lemmas.List.{reverse-append}
 use Rattle.std.specs.Prelude.{reverse}
 use Rattle.crash_free.specs.Sim.{SimValue, start_of, makes, meant, inbound_of, IsAfter, IsFreeAt, Does, Allows}
 use Rattle.crash_free.specs.Slots.{Slot, IsKept}
-use Rattle.crash_free.specs.Wanted.{Asks, AsksAt}
+use Rattle.crash_free.specs.Wanted.{Wants, WantsAt}
 use Rattle.crash_free.proofs.MailLemmas.{mail_print, mail_miss, mail_send, with_slot}
 use Rattle.crash_free.proofs.Keeping.{set_there, kept_act}
 
 -- what a machine asks for that is no step of its own its state wants
-pub wants_it : (m : MachineValue) (w : Want) → Asks m w → (want.Internal ≡ w → ⊥) → wants (state_of m) ≡ w
+pub wants_it : (m : MachineValue) (w : Want) → Wants m w → (want.Internal ≡ w → ⊥) → wants (state_of m) ≡ w
 wants_it m w a no_step = go a.from_state
   where
-    go : (asks m ≡ want.Internal) ⊎ (asks m ≡ wants (state_of m)) → wants (state_of m) ≡ w
+    go : (machine_want m ≡ want.Internal) ⊎ (machine_want m ≡ wants (state_of m)) → wants (state_of m) ≡ w
     go (inl e) = absurd (no_step (sym e ∙ a.at_want))
     go (inr e) = sym e ∙ a.at_want
 
@@ -40,7 +40,7 @@ allows_at s s' r m m' c there there' does = rw (there, there') does
 
 -- the step that a machine asks for is allowed
 pub allowed_step : (program : ProgramValue) (machines : List MachineValue) (C : List Passed) (r : ℕ) (m m' : MachineValue)
-    → slice_get machines r ≡ Some m → Asks m want.Internal → GoesOn m m'
+    → slice_get machines r ≡ Some m → Wants m want.Internal → GoesOn m m'
     → Allows (value_of program machines C) r choice.Next (value_of program (slice_set machines r m') C)
 allowed_step program machines C r m m' there a goes =
     allows_at (value_of program machines C) (value_of program (slice_set machines r m') C) r m m' choice.Next there
@@ -63,7 +63,7 @@ pub record IsDone (program : ProgramValue) (machines : List MachineValue) (lanes
 
 -- a print is made
 pub done_print : (program : ProgramValue) (machines : List MachineValue) (lanes : List (List Slot)) (C : List Passed) (r : ℕ) (m m' : MachineValue) (v : ℤ)
-    → IsKept program machines lanes C → slice_get machines r ≡ Some m → Asks m (want.Print v)
+    → IsKept program machines lanes C → slice_get machines r ≡ Some m → Wants m (want.Print v)
     → Makes (state_of m) (prints v) None → state_of m' ≡ next (state_of m) (prints v) None → m'.position ≡ next_of m → KeepsRank m m'
     → IsDone program machines lanes C r m' choice.Next (prints v)
 done_print program machines lanes C r m m' v kept there a made state position stays =
@@ -75,13 +75,13 @@ done_print program machines lanes C r m m' v kept there a made state position st
     }
 
 -- a machine that asks for a probe that doesn't wait may miss
-pub may_miss : (m : MachineValue) (w : Selector) → Asks m (want.TryProbe w) → IsTrying (asks m)
+pub may_miss : (m : MachineValue) (w : Selector) → Wants m (want.TryProbe w) → IsTrying (machine_want m)
 may_miss m w a = rw a.at_want tt
 
 -- a miss is made
 pub done_miss : (program : ProgramValue) (machines : List MachineValue) (lanes : List (List Slot)) (C : List Passed) (r : ℕ) (m m' : MachineValue)
     (w : Selector)
-    → IsKept program machines lanes C → slice_get machines r ≡ Some m → Asks m (want.TryProbe w)
+    → IsKept program machines lanes C → slice_get machines r ≡ Some m → Wants m (want.TryProbe w)
     → Makes (state_of m) misses None → state_of m' ≡ next (state_of m) misses None → m'.position ≡ next_of m → KeepsRank m m'
     → IsDone program machines lanes C r m' choice.Miss misses
 done_miss program machines lanes C r m m' w kept there a made state position stays =
@@ -95,7 +95,7 @@ done_miss program machines lanes C r m m' w kept there a made state position sta
 -- a send is made, and its message has a slot
 pub done_send : (program : ProgramValue) (machines : List MachineValue) (lanes : List (List Slot)) (C : List Passed) (r : ℕ) (m m' : MachineValue)
     (dest : ℕ) (context : Context) (tag : ℕ)
-    → IsKept program machines lanes C → slice_get machines r ≡ Some m → Asks m (want.Send dest context tag) → dest < length machines
+    → IsKept program machines lanes C → slice_get machines r ≡ Some m → Wants m (want.Send dest context tag) → dest < length machines
     → Makes (state_of m) (sends dest context tag (payload (state_of m))) None
     → state_of m' ≡ next (state_of m) (sends dest context tag (payload (state_of m))) None → m'.position ≡ next_of m → KeepsRank m m'
     → IsDone program machines (with_slot lanes r dest context tag (payload (state_of m))) C r m' choice.Next (sends dest context tag (payload (state_of m)))
@@ -112,8 +112,8 @@ done_send program machines lanes C r m m' dest context tag kept there a receiver
     }
 
 -- what the machine of a rank asks for
-pub asks_there : (machines : List MachineValue) (r : ℕ) (w : Want) (m : MachineValue) → AsksAt machines r w → slice_get machines r ≡ Some m → Asks m w
-asks_there machines r w m asks there = subst (λ o. IsSomeAnd o (λ x. Asks x w)) there asks
+pub wants_there : (machines : List MachineValue) (r : ℕ) (w : Want) (m : MachineValue) → WantsAt machines r w → slice_get machines r ≡ Some m → Wants m w
+wants_there machines r w m machine_want there = subst (λ o. IsSomeAnd o (λ x. Wants x w)) there machine_want
 
 -- the machine that a call reads is its rank's
 pub read_machine : (now : SimValue) (program : ProgramValue) (machines : List MachineValue) (C : List Passed) (k r : ℕ) (m : MachineValue)
@@ -126,11 +126,11 @@ read_machine now program machines C k r m seen place low read =
 
 -- and asks for what the call asks
 pub found_machine : (now : SimValue) (program : ProgramValue) (machines : List MachineValue) (C : List Passed) (k r : ℕ) (m : MachineValue) (w : Want)
-    → value_of program machines C ≡ now → k ≡ r → r < length now.machines → AsksAt now.machines r w → m ≡ get_or machines k m
-    → (slice_get machines r ≡ Some m) × Asks m w
-found_machine now program machines C k r m w seen place low asks read =
+    → value_of program machines C ≡ now → k ≡ r → r < length now.machines → WantsAt now.machines r w → m ≡ get_or machines k m
+    → (slice_get machines r ≡ Some m) × Wants m w
+found_machine now program machines C k r m w seen place low machine_want read =
     let there = read_machine now program machines C k r m seen place low read in
-    (there, asks_there machines r w m (subst (λ (s : SimValue). AsksAt s.machines r w) (sym seen) asks) there)
+    (there, wants_there machines r w m (subst (λ (s : SimValue). WantsAt s.machines r w) (sym seen) machine_want) there)
 
 -- what it wants names ranks that there are
 pub legal_there : (now : SimValue) (program : ProgramValue) (machines : List MachineValue) (lanes : List (List Slot)) (C : List Passed) (k r : ℕ)

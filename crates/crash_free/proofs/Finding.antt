@@ -5,7 +5,7 @@ use Rattle.std.proofs.Common.{slice_get, ◌⊎◌, inl, inr, true, Ok, Err}
 use Rattle.std.specs.Prelude.{position, IsSomeAnd, IsSome}
 use Rattle.std.proofs.lemmas.Option.{slice_get_within, get_or_from_slice_get}
 use Rattle.matching.specs.declared.selector.Selector.{Selector}
-use Rattle.matching.specs.Message as packet
+use Rattle.matching.specs.PacketValue as packet
 use Rattle.matching.specs.Matching.{matches}
 use Rattle.rank_language.specs.Program.{ProgramValue}
 use Rattle.rank_language.specs.Placed.{Buffer, declare, declare_array, assign, assign_item, send, receive, probe, try_probe, print, Collective, collect}
@@ -19,7 +19,7 @@ use Rattle.rank_machine.specs.States.{State}
 use Rattle.rank_machine.specs.Wants.{wants, payload}
 use Rattle.rank_machine.specs.Acts.{Act, Message, carried, sends, takes, hits, misses, prints, Matches, Fits, Makes}
 use Rattle.rank_machine.specs.Acts.{after_receive, after_probe, after_try_probe, collected, after_collect, after_first, unless_faulted, next}
-use Rattle.rank_machine.specs.Machine.{MachineValue, state_of, asks, IsReceiving, IsShowing, KeepsRank}
+use Rattle.rank_machine.specs.Machine.{MachineValue, state_of, machine_want, IsReceiving, IsShowing, KeepsRank}
 use Rattle.crash_free.specs.declared.choice.Choice.{Choice}
 use Rattle.crash_free.specs.declared.choice.Choice.TheVariants as choice
 use Rattle.crash_free.specs.declared.not_allowed.NotAllowed.{NotAllowed}
@@ -29,12 +29,12 @@ use Rattle.std.proofs.lemmas.Bool.{cases_lt}
 use Rattle.std.proofs.lemmas.List.Quantifiers.{position-Some}
 use Rattle.crash_free.specs.Sim.{SimValue, start_of, Meaning, makes, meaning, meant, inbound_of, position_after_act, IsAfter, IsRefused, Refuses}
 use Rattle.crash_free.specs.Slots.{Slot, packet_of, passes, lane, IsMail, IsKept}
-use Rattle.crash_free.specs.Wanted.{Asks, AsksAt, ProbesAt}
+use Rattle.crash_free.specs.Wanted.{Wants, WantsAt, ProbesAt}
 use Rattle.crash_free.proofs.Taking.{no_history}
 use Rattle.crash_free.proofs.SlotLemmas.{eligible_first, first_eligible, packet_first}
 use Rattle.crash_free.proofs.MailLemmas.{mail_take, mail_hit, with_emptied}
 use Rattle.crash_free.proofs.Keeping.{kept_act}
-use Rattle.crash_free.proofs.Choosing.{wants_it, value_of, allowed_act, IsDone, asks_there}
+use Rattle.crash_free.proofs.Choosing.{wants_it, value_of, allowed_act, IsDone, wants_there}
 
 -- what an act makes of a rank doesn't depend on its message's clock: so of a receive
 receive_clock : (a : State) (b : Buffer) (r : Block) (act : Act) (m : Message) (c : ℕ)
@@ -152,19 +152,19 @@ found_eligible program machines lanes C r s i w kept rank source found =
 -- the slot that was found holds a packet
 pub found_there : (program : ProgramValue) (machines : List MachineValue) (lanes : List (List Slot)) (C : List Passed) (r s i : ℕ) (w : Selector)
     → IsKept program machines lanes C → r < length machines → s < length machines → position (passes w) (lane lanes s r) ≡ Some i
-    → (p : packet.Message) × (slice_get (lane lanes s r) i ≡ Some (Some p)) × (p.source ≡ s)
+    → (p : packet.PacketValue) × (slice_get (lane lanes s r) i ≡ Some (Some p)) × (p.source ≡ s)
 found_there program machines lanes C r s i w kept rank source found =
     let e = found_eligible program machines lanes C r s i w kept rank source found in
     (packet_of s e.message, ap (λ xs. slice_get xs i) (kept.mail.each r s rank source) ∙ packet_first (inbound_of C r) (history C r) s i w e, refl)
 
 -- for a machine that looks for it, the choice of a message means its act
-means_it : (m : MachineValue) (v : Want) (w : Selector) (act : ℕ → ℕ → Act) (s j : ℕ) → Seeks v w act → Asks m v → meant m (choice.Take s j) ≡ makes (act s j)
+means_it : (m : MachineValue) (v : Want) (w : Selector) (act : ℕ → ℕ → Act) (s j : ℕ) → Seeks v w act → Wants m v → meant m (choice.Take s j) ≡ makes (act s j)
 means_it m v w act s j k a = ap (λ u. meaning u (payload (state_of m)) (choice.Take s j)) a.at_want ∙ k.means (payload (state_of m)) s j
 
 -- the act that is made of the message that was found
 done_first : (program : ProgramValue) (machines : List MachineValue) (lanes lanes' : List (List Slot)) (C : List Passed) (r s i : ℕ) (m m' : MachineValue)
-    (v : Want) (w : Selector) (act : ℕ → ℕ → Act) (p : packet.Message)
-    → Seeks v w act → IsKept program machines lanes C → slice_get machines r ≡ Some m → Asks m v → s < length machines
+    (v : Want) (w : Selector) (act : ℕ → ℕ → Act) (p : packet.PacketValue)
+    → Seeks v w act → IsKept program machines lanes C → slice_get machines r ≡ Some m → Wants m v → s < length machines
     → position (passes w) (lane lanes s r) ≡ Some i → slice_get (lane lanes s r) i ≡ Some (Some p)
     → ((place : ℕ) → state_of m' ≡ next (state_of m) (act p.source place) (Some (carried p)))
     → m'.position ≡ position_after_act m (act s (suc i)) m'.fault → KeepsRank m m'
@@ -220,7 +220,7 @@ refused_at s r m c M why there means refused = rw (there, means) refused
 -- where nothing was found nothing may be taken or hit
 not_eligible : (program : ProgramValue) (machines : List MachineValue) (lanes : List (List Slot)) (C : List Passed) (r s j : ℕ) (m : MachineValue)
     (v : Want) (w : Selector) (act : ℕ → ℕ → Act)
-    → Seeks v w act → IsKept program machines lanes C → slice_get machines r ≡ Some m → Asks m v
+    → Seeks v w act → IsKept program machines lanes C → slice_get machines r ≡ Some m → Wants m v
     → (s < length machines → (i : ℕ) → i + 1 ≡ j → position (passes w) (lane lanes s r) ≢ Some i)
     → Refuses (value_of program machines C) r (choice.Take s j) refusal.NotEligible
 not_eligible program machines lanes C r s j m v w act k kept there a none =
@@ -261,7 +261,7 @@ pub record Sought (now : SimValue) (program : ProgramValue) (machines : List Mac
   pub seen : value_of program machines C ≡ now
   pub kept : IsKept program machines lanes C
   pub rank : r < length now.machines
-  pub asks : AsksAt now.machines r v
+  pub wanted : WantsAt now.machines r v
 
 -- what was found by a call, for the source and the index that it was given
 pub record Found (machines : List MachineValue) (lanes : List (List Slot)) (r : ℕ) (w : Selector) (source index s i : ℕ) : Type 0 where
@@ -278,10 +278,10 @@ pub refuses_take : (now : SimValue) (program : ProgramValue) (machines : List Ma
     → Refuses now r (choice.Take s j) refusal.NotEligible
 refuses_take now program machines lanes C r s j v w act k known none =
     let rank = subst (λ (s : SimValue). r < length s.machines) (sym known.seen) known.rank in
-    let asks = subst (λ (s : SimValue). AsksAt s.machines r v) (sym known.seen) known.asks in
+    let wanted = subst (λ (s : SimValue). WantsAt s.machines r v) (sym known.seen) known.wanted in
     let m = machine_of machines r rank in
     subst (λ z. Refuses z r (choice.Take s j) refusal.NotEligible) known.seen
-    (not_eligible program machines lanes C r s j m.0 v w act k known.kept m.1 (asks_there machines r v m.0 asks m.1) none)
+    (not_eligible program machines lanes C r s j m.0 v w act k known.kept m.1 (wants_there machines r v m.0 machine_want m.1) none)
 
 -- where it was found memory may want
 pub refuses_memory : (now : SimValue) (program : ProgramValue) (machines : List MachineValue) (lanes : List (List Slot)) (C : List Passed)
@@ -305,7 +305,7 @@ refuses_memory now program machines lanes C r source index s i v w act k known f
 
     at : (m : MachineValue) × (slice_get machines r ≡ Some m) → Refuses (value_of program machines C) r (choice.Take source index) refusal.Memory
     at m =
-        let a = asks_there machines r v m.0 (subst (λ (s : SimValue). AsksAt s.machines r v) (sym known.seen) known.asks) m.1 in
+        let a = wants_there machines r v m.0 (subst (λ (s : SimValue). WantsAt s.machines r v) (sym known.seen) known.wanted) m.1 in
         let wanted = wants_it m.0 v a k.no_step in
         refused_at (value_of program machines C) r m.0 (choice.Take source index) (makes (act source index)) refusal.Memory m.1
         (means_it m.0 v w act source index k a)
@@ -321,7 +321,7 @@ slot_there now program machines lanes C r source index s i v w known found =
     rw p.1 refl
 
 -- the packet that was found is one that the selector names
-pub packet_matches : (xs : List Slot) (i : ℕ) (w : Selector) (p : packet.Message) → position (passes w) xs ≡ Some i → slice_get xs i ≡ Some (Some p)
+pub packet_matches : (xs : List Slot) (i : ℕ) (w : Selector) (p : packet.PacketValue) → position (passes w) xs ≡ Some i → slice_get xs i ≡ Some (Some p)
     → matches w p ≡ true
 packet_matches xs i w p first slot =
     let all = position-Some (passes w) xs i None first in
@@ -329,7 +329,7 @@ packet_matches xs i w p first slot =
 
 -- and its source is a rank, as its slot is that of a message of one
 pub source_there : (now : SimValue) (program : ProgramValue) (machines : List MachineValue) (lanes : List (List Slot)) (C : List Passed)
-    (r source index s i : ℕ) (m : MachineValue) (v : Want) (w : Selector) (p : packet.Message)
+    (r source index s i : ℕ) (m : MachineValue) (v : Want) (w : Selector) (p : packet.PacketValue)
     → Sought now program machines lanes C r v → Found machines lanes r w source index s i → slice_get machines r ≡ Some m
     → slice_get (lane lanes s r) i ≡ Some (Some p) → p.source < m.store.size
 source_there now program machines lanes C r source index s i m v w p known found there slot =
@@ -342,29 +342,29 @@ source_there now program machines lanes C r source index s i m v w p known found
     some_same e = cc
 
 -- a machine that asks to receive may be given it
-pub may_give : (m : MachineValue) (w : Selector) (p : packet.Message) → Asks m (want.Receive w) → matches w p ≡ true → IsReceiving (asks m) p
+pub may_give : (m : MachineValue) (w : Selector) (p : packet.PacketValue) → Wants m (want.Receive w) → matches w p ≡ true → IsReceiving (machine_want m) p
 may_give m w p a names = rw a.at_want names
 
 -- What a call knows of a rank that asks for a probe, whether it waits or not.
 pub record Probes (machines : List MachineValue) (r : ℕ) (w : Selector) : Type 0 where
   pub want : Want
   pub seeks : Seeks want w hits
-  pub shows : (p : packet.Message) → matches w p ≡ true → IsShowing want p
-  pub asks : AsksAt machines r want
+  pub shows : (p : packet.PacketValue) → matches w p ≡ true → IsShowing want p
+  pub wanted : WantsAt machines r want
 
 -- a rank that asks for a probe is known as one, whether the probe waits or not
 pub probes_there : (machines : List MachineValue) (r : ℕ) (w : Selector) → ProbesAt machines r w → Probes machines r w
-probes_there machines r w (inl a) = record { want = want.Probe w; seeks = probing w; shows = λ p names. names; asks = a }
-probes_there machines r w (inr a) = record { want = want.TryProbe w; seeks = trying w; shows = λ p names. names; asks = a }
+probes_there machines r w (inl a) = record { want = want.Probe w; seeks = probing w; shows = λ p names. names; wanted = a }
+probes_there machines r w (inr a) = record { want = want.TryProbe w; seeks = trying w; shows = λ p names. names; wanted = a }
 
 -- a machine that asks for a probe may be shown it
-pub may_show : (m : MachineValue) (v : Want) (p : packet.Message) → Asks m v → IsShowing v p → IsShowing (asks m) p
+pub may_show : (m : MachineValue) (v : Want) (p : packet.PacketValue) → Wants m v → IsShowing v p → IsShowing (machine_want m) p
 may_show m v p a shows = subst (λ u. IsShowing u p) (sym a.at_want) shows
 
 -- the act is made of the message that was found, for the source and the index that the call was given
 done_found : (program : ProgramValue) (machines : List MachineValue) (lanes lanes' : List (List Slot)) (C : List Passed) (r source index s i : ℕ)
-    (m m' : MachineValue) (v : Want) (w : Selector) (act : ℕ → ℕ → Act) (p : packet.Message)
-    → Seeks v w act → IsKept program machines lanes C → slice_get machines r ≡ Some m → Asks m v → Found machines lanes r w source index s i
+    (m m' : MachineValue) (v : Want) (w : Selector) (act : ℕ → ℕ → Act) (p : packet.PacketValue)
+    → Seeks v w act → IsKept program machines lanes C → slice_get machines r ≡ Some m → Wants m v → Found machines lanes r w source index s i
     → slice_get (lane lanes s r) i ≡ Some (Some p)
     → ((place : ℕ) → state_of m' ≡ next (state_of m) (act p.source place) (Some (carried p)))
     → m'.position ≡ position_after_act m (act s (suc i)) m'.fault → KeepsRank m m'
@@ -378,8 +378,8 @@ done_found program machines lanes lanes' C r source index s i m m' v w act p k k
 
 -- the message that was found is received
 pub done_take : (program : ProgramValue) (machines : List MachineValue) (lanes : List (List Slot)) (C : List Passed) (r source index s i : ℕ)
-    (m m' : MachineValue) (w : Selector) (p : packet.Message)
-    → IsKept program machines lanes C → slice_get machines r ≡ Some m → Asks m (want.Receive w) → Found machines lanes r w source index s i
+    (m m' : MachineValue) (w : Selector) (p : packet.PacketValue)
+    → IsKept program machines lanes C → slice_get machines r ≡ Some m → Wants m (want.Receive w) → Found machines lanes r w source index s i
     → slice_get (lane lanes s r) i ≡ Some (Some p)
     → ((place : ℕ) → state_of m' ≡ next (state_of m) (takes p.source place) (Some (carried p)))
     → m'.position ≡ position_after_act m (takes s (suc i)) m'.fault → KeepsRank m m'
@@ -390,8 +390,8 @@ done_take program machines lanes C r source index s i m m' w p kept there a foun
 
 -- the message that was found is hit, and stays
 pub done_hit : (program : ProgramValue) (machines : List MachineValue) (lanes : List (List Slot)) (C : List Passed) (r source index s i : ℕ)
-    (m m' : MachineValue) (v : Want) (w : Selector) (p : packet.Message)
-    → Seeks v w hits → IsKept program machines lanes C → slice_get machines r ≡ Some m → Asks m v → Found machines lanes r w source index s i
+    (m m' : MachineValue) (v : Want) (w : Selector) (p : packet.PacketValue)
+    → Seeks v w hits → IsKept program machines lanes C → slice_get machines r ≡ Some m → Wants m v → Found machines lanes r w source index s i
     → slice_get (lane lanes s r) i ≡ Some (Some p)
     → ((place : ℕ) → state_of m' ≡ next (state_of m) (hits p.source place) (Some (carried p)))
     → m'.position ≡ position_after_act m (hits s (suc i)) m'.fault → KeepsRank m m'

@@ -5,7 +5,7 @@ use Rattle.std.specs.Prelude.{slice_set}
 use Rattle.std.proofs.lemmas.Bool.{cases_eq}
 use Rattle.std.proofs.lemmas.List.{length-set, length_push}
 use Rattle.std.proofs.lemmas.Option.{slice_get_within, slice_get_read}
-use Rattle.matching.specs.Message as packet
+use Rattle.matching.specs.PacketValue as packet
 use Rattle.crash_free.specs.Slots.{Slot}
 use Rattle.crash_free.specs.Index.{IndexValue, queue_number, AreThere, IsListed, IsListedTwice, IsRising, IsIndex}
 use Rattle.crash_free.specs.Index.{ListsMore}
@@ -14,11 +14,11 @@ use Rattle.crash_free.proofs.Keeping.{set_cases, set_there, set_apart}
 use Rattle.crash_free.proofs.Searching.{one_there}
 
 -- no slot that holds a message is empty
-pub full : (m : packet.Message) → Some m ≡ None → ⊥
+pub full : (m : packet.PacketValue) → Some m ≡ None → ⊥
 full m e = cc
 
 -- one more slot, whose message is listed
-pub index_longer : (i : IndexValue) (slots : List Slot) (m : packet.Message) → IsIndex i slots → IsListedTwice i m.context m.tag (length slots)
+pub index_longer : (i : IndexValue) (slots : List Slot) (m : packet.PacketValue) → IsIndex i slots → IsListedTwice i m.context m.tag (length slots)
     → IsIndex i (slots ++ Some m ∷ [])
 index_longer i slots m index twice =
     record {
@@ -26,12 +26,12 @@ index_longer i slots m index twice =
       rising = λ q places there. longer places (index.rising q places there);
     }
   where
-    go : (place : ℕ) (x : packet.Message) → (slice_get slots place ≡ Some (Some x)) ⊎ ((place ≡ length slots) × (Some x ≡ Some m))
+    go : (place : ℕ) (x : packet.PacketValue) → (slice_get slots place ≡ Some (Some x)) ⊎ ((place ≡ length slots) × (Some x ≡ Some m))
         → IsListedTwice i x.context x.tag place
     go place x (inl old) = index.listed place x old
     go place x (inr new) =
         let same : x ≡ m = one_there x m refl new.1 in
-        subst (λ (z : packet.Message). IsListedTwice i z.context z.tag place) (sym same) (subst (λ k. IsListedTwice i m.context m.tag k) (sym new.0) twice)
+        subst (λ (z : packet.PacketValue). IsListedTwice i z.context z.tag place) (sym same) (subst (λ k. IsListedTwice i m.context m.tag k) (sym new.0) twice)
 
     longer : (places : List ℕ) → IsRising (length slots) places → IsRising (length (slots ++ Some m ∷ [])) places
     longer places r = record {
@@ -40,12 +40,12 @@ index_longer i slots m index twice =
     }
 
 -- a message that was listed gets its slot
-pub slot_listed : (i i' : IndexValue) (slots now : List Slot) (seen m : packet.Message) (place : ℕ) → IsIndex i slots → ListsMore i place i'
+pub slot_listed : (i i' : IndexValue) (slots now : List Slot) (seen m : packet.PacketValue) (place : ℕ) → IsIndex i slots → ListsMore i place i'
     → IsListedTwice i' seen.context seen.tag place → seen ≡ m → place ≡ length slots → now ≡ slots → IsIndex i' (now ++ Some m ∷ [])
 slot_listed i i' slots now seen m place index more twice same last unchanged =
     subst (λ xs. IsIndex i' (xs ++ Some m ∷ [])) (sym unchanged)
     (index_longer i' slots m (more.index slots (sym last) index)
-    (subst (λ (z : packet.Message). IsListedTwice i' z.context z.tag (length slots)) same (subst (IsListedTwice i' seen.context seen.tag) last twice)))
+    (subst (λ (z : packet.PacketValue). IsListedTwice i' z.context z.tag (length slots)) same (subst (IsListedTwice i' seen.context seen.tag) last twice)))
 
 -- one slot emptied
 pub index_emptied : (i : IndexValue) (slots : List Slot) (k : ℕ) → IsIndex i slots → IsIndex i (slice_set slots k None)
@@ -55,7 +55,7 @@ index_emptied i slots k index =
       rising = λ q places there. subst (λ n. IsRising n places) (sym (length-set slots k None)) (index.rising q places there);
     }
   where
-    go : (place : ℕ) (m : packet.Message) → ((k ≡ place) × (Some m ≡ None)) ⊎ ((k ≡ place → ⊥) × (slice_get slots place ≡ Some (Some m)))
+    go : (place : ℕ) (m : packet.PacketValue) → ((k ≡ place) × (Some m ≡ None)) ⊎ ((k ≡ place → ⊥) × (slice_get slots place ≡ Some (Some m)))
         → IsListedTwice i m.context m.tag place
     go place m (inl h) = absurd (full m h.1)
     go place m (inr h) = index.listed place m h.1

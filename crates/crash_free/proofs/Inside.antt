@@ -6,7 +6,7 @@ use Rattle.std.proofs.lemmas.Option.{slice_get_within}
 use Rattle.rank_language.specs.Program.{ProgramValue}
 use Rattle.rank_machine.specs.declared.want.Want.TheVariants as want
 use Rattle.rank_machine.specs.Wants.{wants}
-use Rattle.rank_machine.specs.Machine.{MachineValue, state_of, asks, Strides}
+use Rattle.rank_machine.specs.Machine.{MachineValue, state_of, machine_want, Strides}
 use Rattle.crash_free.specs.Runs.{Passed}
 use Rattle.crash_free.specs.Wanted.{StandsAtAct}
 use Rattle.crash_free.specs.Inside.{GoesInside}
@@ -28,6 +28,6 @@ goes_inside program machines C r n m m' there strides =
 
 -- a machine that asks for no step of its own stands at an act, or has ended
 pub stands_at : (machines : List MachineValue) (r : ℕ) (m m' : MachineValue) → slice_get machines r ≡ Some m
-    → (asks m' ≡ want.Internal) ⊎ (asks m' ≡ wants (state_of m')) → asks m' ≢ want.Internal → StandsAtAct (slice_set machines r m') r
+    → (machine_want m' ≡ want.Internal) ⊎ (machine_want m' ≡ wants (state_of m')) → machine_want m' ≢ want.Internal → StandsAtAct (slice_set machines r m') r
 stands_at machines r m m' there from apart =
-    (asks m', rw (set_there machines r m' (slice_get_within machines r m there)) (record { at_want = refl; from_state = from }), apart)
+    (machine_want m', rw (set_there machines r m' (slice_get_within machines r m there)) (record { at_want = refl; from_state = from }), apart)

@@ -6,7 +6,7 @@ use Rattle.std.specs.Prelude.{position, option_and_then}
 use Rattle.std.proofs.lemmas.Bool.{eqb-true, false≢true, cases_eq, cases_lt}
 use Rattle.std.proofs.lemmas.List.Quantifiers.{position-Some}
 use Rattle.std.proofs.lemmas.Option.{slice_get_within, get_or_from_slice_get, slice_get-get_or}
-use Rattle.matching.specs.Message as packet
+use Rattle.matching.specs.PacketValue as packet
 use Rattle.matching.specs.Matching.{matches, same_context, allows}
 use Rattle.matching.specs.declared.selector.Selector.{Selector}
 use Rattle.crash_free.specs.Slots.{Slot, passes}
@@ -21,7 +21,7 @@ one_there x y e f = some_same (sym e ∙ f)
     some_same q = cc
 
 -- a message that the selector names is of the selector's kind
-named_kind : (w : Selector) (i : IndexValue) (m : packet.Message) (place : ℕ) → matches w m ≡ true → IsListedTwice i m.context m.tag place
+named_kind : (w : Selector) (i : IndexValue) (m : packet.PacketValue) (place : ℕ) → matches w m ≡ true → IsListedTwice i m.context m.tag place
     → IsListed i (kind_of w.context w.tag) place
 named_kind w i m place e twice = by_tag w.tag r.1
   where
@@ -39,7 +39,7 @@ named_kind w i m place e twice = by_tag w.tag r.1
 
 -- a slot that passes holds a message that the selector names
 passing : (w : Selector) (slots : List Slot) (place : ℕ) → passes_at w slots place ≡ true
-    → (m : packet.Message) × (slice_get slots place ≡ Some (Some m)) × (matches w m ≡ true)
+    → (m : packet.PacketValue) × (slice_get slots place ≡ Some (Some m)) × (matches w m ≡ true)
 passing w [] place e = absurd (false≢true e)
 passing w (None ∷ slots) zero e = absurd (false≢true e)
 passing w (Some m ∷ slots) zero e = (m, refl, e)

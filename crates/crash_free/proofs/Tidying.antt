@@ -3,7 +3,7 @@ use Rattle.std.proofs.Common.{◌≡◌, ℕ, zero, suc, ◌<◌, List, [], ◌�
 use Rattle.std.proofs.Common.{subst, arith, slice_get, get_or, ◌⊎◌, inl, inr}
 use Rattle.std.specs.Prelude.{slice_set, option_to_list}
 use Rattle.std.proofs.lemmas.Option.{get_or_from_slice_get}
-use Rattle.matching.specs.Message as packet
+use Rattle.matching.specs.PacketValue as packet
 use Rattle.crash_free.specs.Slots.{Slot}
 use Rattle.crash_free.specs.Index.{IndexValue, queue_number, AreThere, IsListed, IsRising, IsIndex, LosesEmpty, IsFrontEmpty}
 use Rattle.crash_free.proofs.Lists.{push_cases}
@@ -33,7 +33,7 @@ tidied i slots q before after index there loses =
       rising = λ k ys e. at (set_cases i.queues q after k ys e);
     }
   where
-    kept : (place : ℕ) (m : packet.Message) → slice_get slots place ≡ Some (Some m) → (j : ℕ) → slice_get before j ≡ Some place
+    kept : (place : ℕ) (m : packet.PacketValue) → slice_get slots place ≡ Some (Some m) → (j : ℕ) → slice_get before j ≡ Some place
         → (k : ℕ) × (slice_get after k ≡ Some place)
     kept place m e j f = by_part (append_cases loses.lost after j place (subst (λ xs. slice_get xs j ≡ Some place) loses.parts f))
       where
@@ -41,7 +41,7 @@ tidied i slots q before after index there loses =
         by_part (inl lost) = absurd (full m (sym (get_or_from_slice_get slots place (Some m) None e) ∙ loses.empty j place lost))
         by_part (inr left) = left
 
-    on : (kind place : ℕ) (m : packet.Message) → slice_get slots place ≡ Some (Some m) → IsListed i kind place → IsListed (with_queue i q after) kind place
+    on : (kind place : ℕ) (m : packet.PacketValue) → slice_get slots place ≡ Some (Some m) → IsListed i kind place → IsListed (with_queue i q after) kind place
     on kind place m e l = still_listed i q before after kind place there (kept place m e) l
 
     at : {k : ℕ} {ys : List ℕ} → ((q ≡ k) × (ys ≡ after)) ⊎ ((q ≡ k → ⊥) × (slice_get i.queues k ≡ Some ys)) → IsRising (length slots) ys

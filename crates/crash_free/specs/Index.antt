@@ -8,7 +8,7 @@ use Rattle.std.specs.BTreeMap.{is_at}
 use Rattle.matching.specs.declared.packet.Context.{Context}
 use Rattle.matching.specs.declared.packet.Context.TheVariants.{PointToPoint, Collective}
 use Rattle.matching.specs.declared.selector.Selector.{Selector}
-use Rattle.matching.specs.Message as packet
+use Rattle.matching.specs.PacketValue as packet
 use Rattle.crash_free.specs.Slots.{Slot, passes}
 
 -- the number of a kind
@@ -59,7 +59,7 @@ pub record IsRising (n : ℕ) (places : List ℕ) : Type 0 where
 
 -- each message that isn't taken is in the queues of its kinds, and in each queue places rise
 pub record IsIndex (i : IndexValue) (slots : List Slot) : Type 0 where
-  pub listed : (place : ℕ) (m : packet.Message) → slice_get slots place ≡ Some (Some m) → IsListedTwice i m.context m.tag place
+  pub listed : (place : ℕ) (m : packet.PacketValue) → slice_get slots place ≡ Some (Some m) → IsListedTwice i m.context m.tag place
   pub rising : (q : ℕ) (places : List ℕ) → slice_get i.queues q ≡ Some places → IsRising (length slots) places
 
 -- the second list is the first without some at its front, at which slots are empty

@@ -8,7 +8,7 @@ use Rattle.rank_machine.specs.declared.want.Want.TheVariants as want
 use Rattle.rank_machine.specs.States.{State, Inners, opening, first_store}
 use Rattle.rank_machine.specs.Wants.{wants, payload}
 use Rattle.rank_machine.specs.Acts.{Act, Message, sends, takes, hits, misses, prints, Runs, next}
-use Rattle.rank_machine.specs.Machine.{MachineValue, state_of, asks, GoesOn, next_of, received_at, KeepsRank}
+use Rattle.rank_machine.specs.Machine.{MachineValue, state_of, machine_want, GoesOn, next_of, received_at, KeepsRank}
 use Rattle.crash_free.specs.declared.choice.Choice.{Choice}
 use Rattle.crash_free.specs.declared.choice.Choice.TheVariants as choice
 use Rattle.crash_free.specs.declared.not_allowed.NotAllowed.{NotAllowed}
@@ -82,7 +82,7 @@ meaning (want.TryProbe selector) items choice.Miss = makes misses
 
 -- what a choice is for a machine
 abbrev pub meant : MachineValue → Choice → Meaning
-meant m c = meaning (asks m) (payload (state_of m)) c
+meant m c = meaning (machine_want m) (payload (state_of m)) c
 
 -- what each sender sent to a rank
 abbrev pub inbound_of : List Passed → ℕ → ℕ → List Message
@@ -104,11 +104,11 @@ pub record IsAfter (m : MachineValue) (act : Act) (message : Option Message) (m'
 
 -- the simulation with this machine for a rank
 abbrev pub with_machine : SimValue → ℕ → MachineValue → SimValue
-with_machine s r m = record { program = s.program; machines = slice_set s.machines r m; run = s.run }
+with_machine s r m = record s { machines = slice_set s.machines r m }
 
 -- the simulation with this machine for a rank, after this act of the rank
 abbrev pub with_act : SimValue → ℕ → MachineValue → Act → SimValue
-with_act s r m act = record { program = s.program; machines = slice_set s.machines r m; run = record { rank = r; act = act } ∷ s.run }
+with_act s r m act = record s { machines = slice_set s.machines r m; run = record { rank = r; act = act } ∷ s.run }
 
 -- an act that a rank may make next: what it takes or hits is eligible
 abbrev pub IsFreeAt : SimValue → ℕ → MachineValue → Act → Type 0

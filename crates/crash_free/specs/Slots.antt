@@ -2,7 +2,7 @@
 -- message that the one sent to the other, of which those taken are empty.
 use Rattle.std.specs.Prelude.{◌≡◌, ℕ, ◌+◌, ◌*◌, ◌<◌, ◌≤◌, Bool, true, false, List, [], ◌∷◌, Option, Some, None, length, slice_index_or, slice_get}
 use Rattle.metered.specs.Limits.{most_ranks}
-use Rattle.matching.specs.Message as packet
+use Rattle.matching.specs.PacketValue as packet
 use Rattle.matching.specs.Matching.{matches}
 use Rattle.matching.specs.declared.selector.Selector.{Selector}
 use Rattle.rank_language.specs.Program.{ProgramValue}
@@ -13,10 +13,10 @@ use Rattle.crash_free.specs.Sim.{Simulates}
 
 -- a message that isn't taken, as a packet, or nothing
 abbrev pub Slot : Type 0
-Slot = Option packet.Message
+Slot = Option packet.PacketValue
 
 -- the packet of a message; nothing looks at its clock and number
-abbrev pub packet_of : ℕ → Message → packet.Message
+abbrev pub packet_of : ℕ → Message → packet.PacketValue
 packet_of s m = record { source = s; clock = 1; number = 1; context = m.context; tag = m.tag; items = m.items }
 
 -- the slot of a message, which is empty where it is taken

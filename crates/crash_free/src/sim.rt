@@ -4,7 +4,7 @@ ghost use Rattle.metered.specs.Limits.{most_ranks};
 ghost use Rattle.rank_machine.specs.Wants.{IsLegal};
 ghost use Rattle.crash_free.specs.Sim.{Simulates, CollectivesAgree, Allows, Refuses, AllowsAll, StopsAt, are_of_ranks, AreBegun};
 ghost use Rattle.crash_free.specs.Inside.{GoesInside};
-ghost use Rattle.crash_free.specs.Wanted.{AsksAt, StandsAtAct};
+ghost use Rattle.crash_free.specs.Wanted.{WantsAt, StandsAtAct};
 
 mod acts;
 mod opening;
@@ -15,7 +15,7 @@ use crate::mail::Mail;
 use crate::not_allowed::NotAllowed;
 use metered::Heap;
 use rank_language::Program;
-use rank_machine::laws::law_asks_its_state;
+use rank_machine::laws::law_wants_of_its_state;
 use rank_machine::{Machine, Want};
 use std::alloc::AllocError;
 use std::marker::Model;
@@ -85,11 +85,11 @@ impl<'p> Sim<'p> {
     /// What the rank wants.
     pub fn wants(&self, rank: u8) -> Want
         requires { rank < length self.now.machines }
-        ensures asks { AsksAt self.now.machines rank result }
+        ensures wanted { WantsAt self.now.machines rank result }
         ensures legal { IsLegal (length self.now.machines) result }
     {
         let machine = &self.machines[usize::from(rank)];
-        law_asks_its_state(machine);
+        law_wants_of_its_state(machine);
         machine.wants()
     }
 

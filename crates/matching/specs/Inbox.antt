@@ -5,13 +5,13 @@ use Rattle.std.specs.Prelude.{length, ◌==◌, nat_le, nat_lt, if◌then◌else
 use Rattle.std.specs.Prelude.{All, AllPairs}
 use Rattle.std.specs.List.{list_all}
 use Rattle.metered.specs.Limits.{greatest_clock}
-use Rattle.matching.specs.Message.{Message}
+use Rattle.matching.specs.PacketValue.{PacketValue}
 use Rattle.matching.specs.declared.inbox.Accept.{Accept}
 use Rattle.matching.specs.declared.inbox.Accept.TheVariants.{Accepted, Repeated, Gap}
 
 -- the packets in order of acceptance, and for each source how many of its packets were accepted
 pub record Mailbox : Type 0 where
-  pub packets : List Message
+  pub packets : List PacketValue
   pub accepted : List ℕ
 
 -- how many packets of this source were accepted
@@ -19,21 +19,21 @@ abbrev pub accepted_from : Mailbox → ℕ → ℕ
 accepted_from box source = slice_index box.accepted source
 
 -- a packet is repeated where its number isn't above the count of its source, accepted where it is the next, and else comes over a gap
-abbrev pub answer_to : Mailbox → Message → Accept
+abbrev pub answer_to : Mailbox → PacketValue → Accept
 answer_to box m =
     if nat_le m.number (accepted_from box m.source) then Repeated
     else (if m.number == accepted_from box m.source + 1 then Accepted else Gap)
 
 -- the inbox with this packet last, and counted
-abbrev pub with_packet : Mailbox → Message → Mailbox
+abbrev pub with_packet : Mailbox → PacketValue → Mailbox
 with_packet box m = record { packets = box.packets ++ m ∷ []; accepted = slice_set box.accepted m.source m.number }
 
 -- an arrival leaves the inbox as it was, unless the packet's number is the next of its source
-abbrev pub after_arrival : Mailbox → Message → Mailbox
+abbrev pub after_arrival : Mailbox → PacketValue → Mailbox
 after_arrival box m = if m.number == accepted_from box m.source + 1 then with_packet box m else box
 
 -- the inbox after these arrivals, in their order
-abbrev pub after_arrivals : Mailbox → List Message → Mailbox
+abbrev pub after_arrivals : Mailbox → List PacketValue → Mailbox
 after_arrivals box [] = box
 after_arrivals box (m ∷ ms) = after_arrivals (after_arrival box m) ms
 
@@ -42,12 +42,12 @@ abbrev pub without : Mailbox → ℕ → Mailbox
 without box index = record { packets = remove box.packets index; accepted = box.accepted }
 
 -- the message's source is a rank, and its number isn't above what was accepted from there
-pub record WasAccepted (accepted : List ℕ) (m : Message) : Type 0 where
+pub record WasAccepted (accepted : List ℕ) (m : PacketValue) : Type 0 where
   pub source : m.source < length accepted
   pub number : m.number ≤ slice_index accepted m.source
 
 -- of one source the earlier packet has the lower number
-abbrev pub RisesTo : Message → Message → Type 0
+abbrev pub RisesTo : PacketValue → PacketValue → Type 0
 RisesTo m n = m.source ≡ n.source → m.number < n.number
 
 -- each packet was accepted, the numbers of one source rise, and no number passes the greatest
@@ -57,7 +57,7 @@ pub record IsMailbox (box : Mailbox) : Type 0 where
   pub counts : All (λ n. n ≤ greatest_clock) box.accepted
 
 -- a packet of this source has a lower number
-abbrev pub is_below : ℕ → ℕ → Message → Bool
+abbrev pub is_below : ℕ → ℕ → PacketValue → Bool
 is_below source number m = not (m.source == source) || nat_lt m.number number
 
 -- a packet with this source and number can stand behind those of the inbox: it was accepted, and those of its source
@@ -67,5 +67,5 @@ may_follow box source number =
     (nat_le 1 number && nat_le number (accepted_from box source)) && list_all (is_below source number) box.packets
 
 -- the inbox with this packet last; it was counted before
-abbrev pub with_last : Mailbox → Message → Mailbox
+abbrev pub with_last : Mailbox → PacketValue → Mailbox
 with_last box m = record { packets = box.packets ++ m ∷ []; accepted = box.accepted }

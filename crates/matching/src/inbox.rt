@@ -4,7 +4,7 @@ ghost use Rattle.std.specs.Prelude.{Some, true, IfOk, IfErr, IfSome, OnOk, OnErr
 ghost use Rattle.std.specs.Bool.{OnTrue};
 ghost use Rattle.std.specs.List.{list_all};
 ghost use Rattle.metered.specs.Limits.{greatest_clock};
-ghost use Rattle.matching.specs.Message.{Message};
+ghost use Rattle.matching.specs.PacketValue.{PacketValue};
 ghost use Rattle.matching.specs.Matching.{matches, is_named};
 ghost use Rattle.matching.specs.Inbox.{RisesTo, is_below};
 
@@ -123,7 +123,7 @@ impl Inbox {
     pub fn find(&self, selector: &Selector) -> Option<usize>
         ensures first { result ≡ position (matches selector.now) self.now.packets }
         ensures within { IfSome result (λ i. i < length self.now.packets) }
-        ensures fits { IfSome result (λ i. (m : Message) → slice_get self.now.packets i ≡ Some m → matches selector.now m ≡ true) }
+        ensures fits { IfSome result (λ i. (m : PacketValue) → slice_get self.now.packets i ≡ Some m → matches selector.now m ≡ true) }
     {
         self.packets
             .iter()
@@ -135,7 +135,7 @@ impl Inbox {
     pub fn find_named(&self, source: u8, clock: u32) -> Option<usize>
         ensures first { result ≡ position (is_named source clock) self.now.packets }
         ensures within { IfSome result (λ i. i < length self.now.packets) }
-        ensures fits { IfSome result (λ i. (m : Message) → slice_get self.now.packets i ≡ Some m → is_named source clock m ≡ true) }
+        ensures fits { IfSome result (λ i. (m : PacketValue) → slice_get self.now.packets i ≡ Some m → is_named source clock m ≡ true) }
     {
         self.packets
             .iter()

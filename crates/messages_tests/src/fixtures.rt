@@ -1,6 +1,6 @@
 //! What the tests are made of: packets, items and bytes.
 ghost use Rattle.std.specs.Prelude.{◌≡◌, ◌≤◌, length, IfOk};
-ghost use Rattle.matching.specs.Message.{least_items, most_items, greatest_tag};
+ghost use Rattle.matching.specs.PacketValue.{least_items, most_items, greatest_tag};
 
 use matching::{Context, Packet};
 use metered::Heap;

@@ -10,33 +10,33 @@ use Rattle.std.proofs.lemmas.Bool.{lt-ltb, cases_lt}
 use Rattle.std.proofs.lemmas.Grind.{common_steps}
 use Rattle.std.proofs.lemmas.List.{drop-take, drop-drop, take-append-le, drop-append-le, length-take, length-drop, length-append, drop_all, take_all}
 use Rattle.metered.specs.Limits.{greatest_clock}
-use Rattle.matching.specs.Message.{Message}
+use Rattle.matching.specs.PacketValue.{PacketValue}
 use Rattle.payload_log.specs.Backlog.{BacklogValue, AreNumbered, IsBacklog, backlog_of, saved, hold, freed_of, next_number, pruned}
 
 -- one more with the next number
-numbered_push : (base : ℕ) (ms : List Message) (m : Message) → AreNumbered base ms → m.number ≡ base + length ms + 1 → AreNumbered base (ms ++ m ∷ [])
+numbered_push : (base : ℕ) (ms : List PacketValue) (m : PacketValue) → AreNumbered base ms → m.number ≡ base + length ms + 1 → AreNumbered base (ms ++ m ∷ [])
 numbered_push base ms m each next = λ k d low. grind (arith, common_steps, each)
 
 -- all but the first
-numbered_rest : (base : ℕ) (m : Message) (ms : List Message) → AreNumbered base (m ∷ ms) → AreNumbered (base + 1) ms
+numbered_rest : (base : ℕ) (m : PacketValue) (ms : List PacketValue) → AreNumbered base (m ∷ ms) → AreNumbered (base + 1) ms
 numbered_rest base m ms each = λ k d low. each (suc k) d (omega (arith, low)) ∙ omega arith
 
 -- the first of the rest goes to the front
-take-seam : (n : ℕ) (ps : List Message) (m : Message) (ms : List Message) → drop n ps ≡ m ∷ ms → take (suc n) ps ≡ take n ps ++ m ∷ []
+take-seam : (n : ℕ) (ps : List PacketValue) (m : PacketValue) (ms : List PacketValue) → drop n ps ≡ m ∷ ms → take (suc n) ps ≡ take n ps ++ m ∷ []
 take-seam zero [] m ms e = absurd cc
 take-seam zero (p ∷ ps) m ms e = cc
 take-seam (suc n) [] m ms e = absurd cc
 take-seam (suc n) (p ∷ ps) m ms e = ap (λ l. p ∷ l) (take-seam n ps m ms e)
 
 -- and those behind it are the rest
-drop-seam : (n : ℕ) (ps : List Message) (m : Message) (ms : List Message) → drop n ps ≡ m ∷ ms → drop (suc n) ps ≡ ms
+drop-seam : (n : ℕ) (ps : List PacketValue) (m : PacketValue) (ms : List PacketValue) → drop n ps ≡ m ∷ ms → drop (suc n) ps ≡ ms
 drop-seam zero [] m ms e = absurd cc
 drop-seam zero (p ∷ ps) m ms e = cc
 drop-seam (suc n) [] m ms e = absurd cc
 drop-seam (suc n) (p ∷ ps) m ms e = drop-seam n ps m ms e
 
 -- all the packets of a list are kept
-length_kept : (base sent cursor : ℕ) (ps : List Message) → IsBacklog (backlog_of base sent cursor ps) → sent - base ≤ length ps
+length_kept : (base sent cursor : ℕ) (ps : List PacketValue) → IsBacklog (backlog_of base sent cursor ps) → sent - base ≤ length ps
 length_kept base sent cursor ps is = let short = length-take (sent - base) ps in let all = is.kept in omega arith
 
 -- a test of numbers that is passed, or not
@@ -48,15 +48,15 @@ not_above : (a b : ℕ) → b ≤ a → nat_lt a b ≡ false
 not_above a b le = grind (arith, common_steps)
 
 -- a packet that is saved is kept where its number is above the base
-saved_above : (b : BacklogValue) (m : Message) → b.base < m.number → saved b m ≡ record b { sent = b.sent + 1; kept = b.kept ++ m ∷ [] }
+saved_above : (b : BacklogValue) (m : PacketValue) → b.base < m.number → saved b m ≡ record b { sent = b.sent + 1; kept = b.kept ++ m ∷ [] }
 saved_above b m lt = ap (λ (t : Bool). record b { sent = b.sent + 1; kept = if t then b.kept ++ m ∷ [] else b.kept }) (above b.base m.number lt)
 
 -- and where it is not, the packet is only counted as sent
-saved_below : (b : BacklogValue) (m : Message) → m.number ≤ b.base → saved b m ≡ record b { sent = b.sent + 1 }
+saved_below : (b : BacklogValue) (m : PacketValue) → m.number ≤ b.base → saved b m ≡ record b { sent = b.sent + 1 }
 saved_below b m le = ap (λ (t : Bool). record b { sent = b.sent + 1; kept = if t then b.kept ++ m ∷ [] else b.kept }) (not_above b.base m.number le)
 
 -- a backlog stays one with a packet that is saved, where what is held goes on from there
-is_backlog_saved : (b : BacklogValue) (m : Message) (held : List Message) → IsBacklog b → m.number ≡ b.sent + 1 → b.sent + 1 + length held ≤ greatest_clock
+is_backlog_saved : (b : BacklogValue) (m : PacketValue) (held : List PacketValue) → IsBacklog b → m.number ≡ b.sent + 1 → b.sent + 1 + length held ≤ greatest_clock
     → AreNumbered (b.sent + 1) held → IsBacklog (saved (record b { held = held }) m)
 is_backlog_saved b m held is next high numbers = at (cases_lt b.base m.number)
   where
@@ -86,7 +86,7 @@ is_backlog_saved b m held is next high numbers = at (cases_lt b.base m.number)
         })
 
 -- the packet that was held first has the next number, and those behind it go on from there
-pub is_backlog_freed : (b : BacklogValue) (held : List Message) → b.held ≡ held → 0 < length held → IsBacklog b → IsBacklog (freed_of b held)
+pub is_backlog_freed : (b : BacklogValue) (held : List PacketValue) → b.held ≡ held → 0 < length held → IsBacklog b → IsBacklog (freed_of b held)
 is_backlog_freed b [] e some is = absurd (omega arith)
 is_backlog_freed b (m ∷ ms) e some is =
     let numbers : AreNumbered b.sent (m ∷ ms) = subst (λ l. AreNumbered b.sent l) e is.next in
@@ -94,7 +94,7 @@ is_backlog_freed b (m ∷ ms) e some is =
     is_backlog_saved b m ms is (numbers zero m (omega arith) ∙ omega arith) (omega arith) (numbered_rest b.sent m ms numbers)
 
 -- a backlog stays one with a packet that is held
-pub is_backlog_hold : (b : BacklogValue) (m : Message) → IsBacklog b → m.number ≡ next_number b → m.number ≤ greatest_clock → IsBacklog (hold b m)
+pub is_backlog_hold : (b : BacklogValue) (m : PacketValue) → IsBacklog b → m.number ≡ next_number b → m.number ≤ greatest_clock → IsBacklog (hold b m)
 is_backlog_hold b m is next high = record {
   kept = is.kept;
   numbered = is.numbered;
@@ -106,7 +106,7 @@ is_backlog_hold b m is next high = record {
 }
 
 -- a packet that goes last is held
-pub hold_at_end : (base sent cursor : ℕ) (ps : List Message) (m : Message) → IsBacklog (backlog_of base sent cursor ps)
+pub hold_at_end : (base sent cursor : ℕ) (ps : List PacketValue) (m : PacketValue) → IsBacklog (backlog_of base sent cursor ps)
     → backlog_of base sent cursor (ps ++ m ∷ []) ≡ hold (backlog_of base sent cursor ps) m
 hold_at_end base sent cursor ps m is =
     let short = length_kept base sent cursor ps is in
@@ -119,7 +119,7 @@ hold_at_end base sent cursor ps m is =
     }
 
 -- whether there is memory or not, a backlog stays one
-pub is_backlog_pushed : (base sent cursor : ℕ) (ps qs : List Message) (m : Message) (pushed : Bool) → IsBacklog (backlog_of base sent cursor ps)
+pub is_backlog_pushed : (base sent cursor : ℕ) (ps qs : List PacketValue) (m : PacketValue) (pushed : Bool) → IsBacklog (backlog_of base sent cursor ps)
     → m.number ≡ next_number (backlog_of base sent cursor ps) → m.number ≤ greatest_clock
     → qs ≡ (if pushed then ps ++ m ∷ [] else ps) → IsBacklog (backlog_of base sent cursor qs)
 is_backlog_pushed base sent cursor ps qs m true is next high same =
@@ -128,7 +128,7 @@ is_backlog_pushed base sent cursor ps qs m true is next high same =
 is_backlog_pushed base sent cursor ps qs m false is next high same = subst (λ l. IsBacklog (backlog_of base sent cursor l)) (sym same) is
 
 -- where the base isn't past the last one sent, what is held first is kept where it stands
-pub freed_in_place : (base sent cursor : ℕ) (ps : List Message) (held : List Message) → drop (sent - base) ps ≡ held → 0 < length held
+pub freed_in_place : (base sent cursor : ℕ) (ps : List PacketValue) (held : List PacketValue) → drop (sent - base) ps ≡ held → 0 < length held
     → AreNumbered sent (drop (sent - base) ps) → base ≤ sent
     → backlog_of base (sent + 1) cursor ps ≡ freed_of (backlog_of base sent cursor ps) held
 freed_in_place base sent cursor ps [] e some numbers low = absurd (omega arith)
@@ -146,7 +146,7 @@ freed_in_place base sent cursor ps (m ∷ ms) e some numbers low =
     ∙ sym (saved_above (record (backlog_of base sent cursor ps) { held = ms }) m (omega arith))
 
 -- where it is past it, nothing is kept, and what is held first goes
-pub freed_at_front : (base sent cursor : ℕ) (ps : List Message) (held : List Message) → drop (sent - base) ps ≡ held → 0 < length held
+pub freed_at_front : (base sent cursor : ℕ) (ps : List PacketValue) (held : List PacketValue) → drop (sent - base) ps ≡ held → 0 < length held
     → AreNumbered sent (drop (sent - base) ps) → sent < base
     → backlog_of base (sent + 1) cursor (drop 1 ps) ≡ freed_of (backlog_of base sent cursor ps) held
 freed_at_front base sent cursor ps [] e some numbers low = absurd (omega arith)
@@ -165,13 +165,13 @@ freed_at_front base sent cursor ps (m ∷ ms) e some numbers low =
     ∙ sym (saved_below (record (backlog_of base sent cursor ps) { held = ms }) m (omega arith))
 
 -- a packet that is saved where none is held
-pub is_backlog_kept : (base sent cursor number : ℕ) (ps qs : List Message) (m : Message) → IsBacklog (backlog_of base sent cursor ps)
+pub is_backlog_kept : (base sent cursor number : ℕ) (ps qs : List PacketValue) (m : PacketValue) → IsBacklog (backlog_of base sent cursor ps)
     → drop (sent - base) ps ≡ [] → m.number ≡ sent + 1 → number ≡ m.number → number ≤ greatest_clock → base < number → qs ≡ ps ++ m ∷ []
     → IsBacklog (backlog_of base number cursor qs)
 is_backlog_kept base sent cursor number ps qs m is none next same high lt pushed =
     let n = sent - base in
     let b = backlog_of base sent cursor ps in
-    let all : length ps ≤ n = let left = sym (length-drop n ps) ∙ ap (length {A = Message}) none in omega arith in
+    let all : length ps ≤ n = let left = sym (length-drop n ps) ∙ ap (length {A = PacketValue}) none in omega arith in
     let long = length-append ps (m ∷ []) in
     let still = is_backlog_saved b m [] is next (omega arith) (λ k d low. absurd (omega arith)) in
     let more : backlog_of base number cursor qs ≡ record b { sent = sent + 1; kept = take n ps ++ m ∷ []; held = [] } = λ i. record {
@@ -184,7 +184,7 @@ is_backlog_kept base sent cursor number ps qs m is none next same high lt pushed
     subst IsBacklog (sym (more ∙ sym (saved_above (record b { held = [] }) m (omega arith)))) still
 
 -- and one that was let go before it is saved
-pub is_backlog_let_go : (base sent cursor number : ℕ) (ps : List Message) (m : Message) → IsBacklog (backlog_of base sent cursor ps)
+pub is_backlog_let_go : (base sent cursor number : ℕ) (ps : List PacketValue) (m : PacketValue) → IsBacklog (backlog_of base sent cursor ps)
     → drop (sent - base) ps ≡ [] → m.number ≡ sent + 1 → number ≡ m.number → number ≤ greatest_clock → number ≤ base
     → IsBacklog (backlog_of base number cursor ps)
 is_backlog_let_go base sent cursor number ps m is none next same high le =
@@ -201,7 +201,7 @@ is_backlog_let_go base sent cursor number ps m is none next same high le =
     subst IsBacklog (sym (more ∙ sym (saved_below (record b { held = [] }) m (omega arith)))) still
 
 -- the kept packets up to a number go
-kept_after : (base sent upto : ℕ) (ps : List Message) → base < upto
+kept_after : (base sent upto : ℕ) (ps : List PacketValue) → base < upto
     → take (sent - upto) (drop (min (sent - base) (upto - base)) ps) ≡ drop (upto - base) (take (sent - base) ps)
 kept_after base sent upto ps lt = at (cases_lt sent upto)
   where
@@ -216,14 +216,14 @@ kept_after base sent upto ps lt = at (cases_lt sent upto)
         ap (λ k. take (sent - upto) (drop k ps)) some ∙ sym (drop-take (upto - base) (sent - upto) ps) ∙ ap (λ k. drop (upto - base) (take k ps)) both
 
 -- and those held stay
-held_after : (base sent upto : ℕ) (ps : List Message) → base < upto
+held_after : (base sent upto : ℕ) (ps : List PacketValue) → base < upto
     → drop (sent - upto) (drop (min (sent - base) (upto - base)) ps) ≡ drop (sent - base) ps
 held_after base sent upto ps lt =
     let all : min (sent - base) (upto - base) + (sent - upto) ≡ sent - base = omega arith in
     drop-drop (sent - upto) (min (sent - base) (upto - base)) ps ∙ ap (λ k. drop k ps) all
 
 -- so where the kept packets up to a number go from the front of the list, it is the pruned backlog
-pub pruned_front : (base sent cursor upto last : ℕ) (ps qs : List Message) → base < upto → last ≡ max cursor (upto + 1)
+pub pruned_front : (base sent cursor upto last : ℕ) (ps qs : List PacketValue) → base < upto → last ≡ max cursor (upto + 1)
     → qs ≡ drop (min (sent - base) (upto - base)) ps
     → backlog_of upto sent last qs ≡ pruned (backlog_of base sent cursor ps) upto
 pruned_front base sent cursor upto last ps qs lt moved gone =

@@ -3,7 +3,7 @@
 use Rattle.std.specs.Prelude.{◌≡◌, ℕ, ◌+◌, ◌-◌, ◌<◌, ◌≤◌, List, [], ◌∷◌, ◌++◌, length, nat_lt, if◌then◌else◌, take, drop, min, max}
 use Rattle.std.specs.Prelude.{slice_index_or, slice_get, Option}
 use Rattle.metered.specs.Limits.{greatest_clock}
-use Rattle.matching.specs.Message.{Message}
+use Rattle.matching.specs.PacketValue.{PacketValue}
 
 -- how many packets were let go, how many were saved in all, the number of the next to transmit, the packets kept, and
 -- the packets held, which come after the saved and aren't transmitted yet
@@ -11,11 +11,11 @@ pub record BacklogValue : Type 0 where
   pub base : ℕ
   pub sent : ℕ
   pub cursor : ℕ
-  pub kept : List Message
-  pub held : List Message
+  pub kept : List PacketValue
+  pub held : List PacketValue
 
 -- of packets that stand in one list by number, those up to the last one sent are kept and the others held
-abbrev pub backlog_of : ℕ → ℕ → ℕ → List Message → BacklogValue
+abbrev pub backlog_of : ℕ → ℕ → ℕ → List PacketValue → BacklogValue
 backlog_of base sent cursor packets = record {
   base = base;
   sent = sent;
@@ -25,8 +25,8 @@ backlog_of base sent cursor packets = record {
 }
 
 -- the message at each place has the next number
-abbrev pub AreNumbered : ℕ → List Message → Type 0
-AreNumbered base ms = (k : ℕ) (d : Message) → k < length ms → (slice_index_or ms k d).number ≡ base + k + 1
+abbrev pub AreNumbered : ℕ → List PacketValue → Type 0
+AreNumbered base ms = (k : ℕ) (d : PacketValue) → k < length ms → (slice_index_or ms k d).number ≡ base + k + 1
 
 -- kept are the packets from the base to the last one sent, and the cursor is above the base and at most one past what there is
 pub record IsBacklog (b : BacklogValue) : Type 0 where
@@ -47,15 +47,15 @@ abbrev pub next_number : BacklogValue → ℕ
 next_number b = b.sent + length b.held + 1
 
 -- a packet is counted, and kept where its number is above the base
-abbrev pub saved : BacklogValue → Message → BacklogValue
+abbrev pub saved : BacklogValue → PacketValue → BacklogValue
 saved b m = record b { sent = b.sent + 1; kept = if nat_lt b.base m.number then b.kept ++ m ∷ [] else b.kept }
 
 -- a packet is held: it goes last, and nothing else changes
-abbrev pub hold : BacklogValue → Message → BacklogValue
+abbrev pub hold : BacklogValue → PacketValue → BacklogValue
 hold b m = record b { held = b.held ++ m ∷ [] }
 
 -- the oldest held packet, the first of these, is saved
-abbrev pub freed_of : BacklogValue → List Message → BacklogValue
+abbrev pub freed_of : BacklogValue → List PacketValue → BacklogValue
 freed_of b [] = b
 freed_of b (m ∷ ms) = saved (record b { held = ms }) m
 
@@ -64,7 +64,7 @@ abbrev pub freed : BacklogValue → BacklogValue
 freed b = freed_of b b.held
 
 -- the packet at the cursor, if it was sent already
-abbrev pub next_of : BacklogValue → Option Message
+abbrev pub next_of : BacklogValue → Option PacketValue
 next_of b = slice_get b.kept (b.cursor - (b.base + 1))
 
 -- the packet at the cursor was transmitted
@@ -83,7 +83,7 @@ pruned b upto =
     else b
 
 -- of all packets ever saved, as one list by number, the log holds those above the base, and no others; the cursor is above the base
-pub record Keeps (b : BacklogValue) (all : List Message) : Type 0 where
+pub record Keeps (b : BacklogValue) (all : List PacketValue) : Type 0 where
   pub numbered : AreNumbered 0 all
   pub sent : length all ≡ b.sent
   pub kept : b.kept ≡ drop b.base all
@@ -94,5 +94,5 @@ abbrev pub backlog : List BacklogValue → ℕ → BacklogValue
 backlog bs dest = slice_index_or bs dest new_backlog
 
 -- what is kept for a destination, to be transmitted from its beginning; nothing is held
-abbrev pub from_beginning : ℕ → ℕ → List Message → BacklogValue
+abbrev pub from_beginning : ℕ → ℕ → List PacketValue → BacklogValue
 from_beginning base sent kept = record { base = base; sent = sent; cursor = base + 1; kept = kept; held = [] }

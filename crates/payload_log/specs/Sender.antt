@@ -1,17 +1,17 @@
 -- What a rank keeps for one destination when it has made so many acts (sender-based message logging: Alvisi and Marzullo
 -- 1998).
 use Rattle.std.specs.Prelude.{◌≡◌, ℕ, ◌+◌, ◌<◌, ◌≤◌, ◌++◌, length, All, AllPairs}
-use Rattle.matching.specs.Message.{Message}
+use Rattle.matching.specs.PacketValue.{PacketValue}
 use Rattle.payload_log.specs.Backlog.{BacklogValue}
 
 -- the earlier message was sent by an earlier act
-abbrev pub WasBefore : Message → Message → Type 0
+abbrev pub WasBefore : PacketValue → PacketValue → Type 0
 WasBefore m n = m.clock < n.clock
 
 -- Every packet that is kept or held was sent by this rank, by an act of its own up to this clock; each packet that was
 -- ever sent took an act.
 pub record IsSentBy (rank clock : ℕ) (b : BacklogValue) : Type 0 where
-  pub sources : All (λ (m : Message). m.source ≡ rank) (b.kept ++ b.held)
+  pub sources : All (λ (m : PacketValue). m.source ≡ rank) (b.kept ++ b.held)
   pub rising : AllPairs WasBefore (b.kept ++ b.held)
-  pub within : All (λ (m : Message). m.clock ≤ clock) (b.kept ++ b.held)
+  pub within : All (λ (m : PacketValue). m.clock ≤ clock) (b.kept ++ b.held)
   pub acts : b.sent + length b.held ≤ clock

@@ -2,7 +2,7 @@
 -- docs/LANGUAGE.md, "Statements"). A new form is added to `arguments_of`, and each of them then looks at its arguments.
 use Rattle.std.specs.Prelude.{ℕ, List, [], ◌∷◌, Bool, true, false, ◌&&◌, ◌||◌}
 use Rattle.rank_grammar.specs.Tree.{Tree, number}
-use Rattle.rank_grammar.specs.Forms.{Choice, any, value, Payload, lone, one}
+use Rattle.rank_grammar.specs.Forms.{Pattern, any, value, Payload, lone, one}
 use Rattle.rank_grammar.specs.Forms.{Form, var_form, array_form, let_form, item_form, if_form, else_form, end_form, while_form}
 use Rattle.rank_grammar.specs.Forms.{send_form, recv_form, probe_form, try_probe_form, print_form}
 use Rattle.rank_grammar.specs.Forms.{barrier_form, bcast_form, reduce_form}
@@ -13,7 +13,7 @@ pub data Argument : Type 0 where
   array_name : (name : List ℕ) → Argument
   either_name : (name : List ℕ) → Argument
   expression : (e : Tree) → Argument
-  choice : (c : Choice) → Argument
+  pattern : (c : Pattern) → Argument
   payload : (p : Payload) → Argument
 
 -- the arguments of a statement in order: an array's length is the expression of its number, and a name that is declared is none
@@ -27,9 +27,9 @@ arguments_of else_form = []
 arguments_of end_form = []
 arguments_of (while_form e) = expression e ∷ []
 arguments_of (send_form d g p) = expression d ∷ expression g ∷ payload p ∷ []
-arguments_of (recv_form c g x) = choice c ∷ choice g ∷ either_name x ∷ []
-arguments_of (probe_form c g) = choice c ∷ choice g ∷ []
-arguments_of (try_probe_form c g x) = choice c ∷ choice g ∷ variable_name x ∷ []
+arguments_of (recv_form c g x) = pattern c ∷ pattern g ∷ either_name x ∷ []
+arguments_of (probe_form c g) = pattern c ∷ pattern g ∷ []
+arguments_of (try_probe_form c g x) = pattern c ∷ pattern g ∷ variable_name x ∷ []
 arguments_of (print_form e) = expression e ∷ []
 arguments_of barrier_form = []
 arguments_of (bcast_form e x) = expression e ∷ either_name x ∷ []
@@ -45,9 +45,9 @@ abbrev pub each_argument : (Argument → Bool) → List Argument → Bool
 each_argument test arguments = each_after true test arguments
 
 -- the source or tag is an expression that passes the test
-abbrev pub choice_has : (Tree → Bool) → Choice → Bool
-choice_has test any = false
-choice_has test (value e) = test e
+abbrev pub pattern_has : (Tree → Bool) → Pattern → Bool
+pattern_has test any = false
+pattern_has test (value e) = test e
 
 -- the payload is an expression that passes the test
 abbrev pub payload_has : (Tree → Bool) → Payload → Bool
@@ -61,7 +61,7 @@ some_after before test (variable_name x ∷ rest) = some_after before test rest
 some_after before test (array_name x ∷ rest) = some_after before test rest
 some_after before test (either_name x ∷ rest) = some_after before test rest
 some_after before test (expression e ∷ rest) = some_after (before || test e) test rest
-some_after before test (choice c ∷ rest) = some_after (before || choice_has test c) test rest
+some_after before test (pattern c ∷ rest) = some_after (before || pattern_has test c) test rest
 some_after before test (payload p ∷ rest) = some_after (before || payload_has test p) test rest
 
 -- an expression among the arguments passes the test

@@ -7,14 +7,14 @@ use Rattle.rank_grammar.specs.declared.token.Token.{Token}
 use Rattle.rank_grammar.specs.declared.token.Token.TheVariants as t
 use Rattle.rank_grammar.specs.Lexes.{IsName}
 use Rattle.rank_grammar.specs.Tree.{Tree, number, variable, item, reading, negation, operation}
-use Rattle.rank_grammar.specs.Forms.{Choice, any, value, Payload, lone, one}
+use Rattle.rank_grammar.specs.Forms.{Pattern, any, value, Payload, lone, one}
 use Rattle.rank_grammar.specs.Forms.{Form, var_form, array_form, let_form, item_form, if_form, else_form, end_form, while_form}
 use Rattle.rank_grammar.specs.Forms.{send_form, recv_form, probe_form, try_probe_form, print_form}
 use Rattle.rank_grammar.specs.Forms.{barrier_form, bcast_form, reduce_form}
 use Rattle.metered.specs.Limits.{most_lines, most_variables, most_arrays, most_items, most_blocks, most_name_bytes}
 use Rattle.metered.specs.Limits.{most_nodes, most_parentheses}
-use Rattle.rank_checker.specs.Arguments.{Argument, variable_name, array_name, either_name, expression, choice, payload}
-use Rattle.rank_checker.specs.Arguments.{arguments_of, each_argument, choice_has, payload_has, some_expression}
+use Rattle.rank_checker.specs.Arguments.{Argument, variable_name, array_name, either_name, expression, pattern, payload}
+use Rattle.rank_checker.specs.Arguments.{arguments_of, each_argument, pattern_has, payload_has, some_expression}
 
 -- a block that is open: the first part of an `if`, the part after its `else`, or a `while`
 pub data Opened : Type 0 where
@@ -59,9 +59,9 @@ all_declared s (negation e) = all_declared s e
 all_declared s (operation o a b) = all_declared s a && all_declared s b
 
 -- each name in a source or tag is declared
-abbrev pub choice_declared : Scope → Choice → Bool
-choice_declared s any = true
-choice_declared s (value e) = all_declared s e
+abbrev pub pattern_declared : Scope → Pattern → Bool
+pattern_declared s any = true
+pattern_declared s (value e) = all_declared s e
 
 -- a lone name is a variable or an array, and each name in another payload is declared in its sort
 abbrev pub payload_declared : Scope → Payload → Bool
@@ -74,7 +74,7 @@ argument_declared s (variable_name x) = is_variable s x
 argument_declared s (array_name x) = is_array s x
 argument_declared s (either_name x) = is_declared s x
 argument_declared s (expression e) = all_declared s e
-argument_declared s (choice c) = choice_declared s c
+argument_declared s (pattern c) = pattern_declared s c
 argument_declared s (payload p) = payload_declared s p
 
 -- each name in a statement is declared in the sort that is used there
@@ -145,8 +145,8 @@ abbrev pub is_large : Tree → Bool
 is_large e = nat_lt most_nodes (nodes e)
 
 -- the source or tag has too many
-abbrev pub choice_is_large : Choice → Bool
-choice_is_large c = choice_has is_large c
+abbrev pub pattern_is_large : Pattern → Bool
+pattern_is_large c = pattern_has is_large c
 
 -- the payload is an expression that has too many
 abbrev pub payload_is_large : Payload → Bool
@@ -212,8 +212,8 @@ is_great (negation e) = is_great e
 is_great (operation o a b) = is_great a || is_great b
 
 -- a number of the source or tag is above it
-abbrev pub choice_is_great : Choice → Bool
-choice_is_great c = choice_has is_great c
+abbrev pub pattern_is_great : Pattern → Bool
+pattern_is_great c = pattern_has is_great c
 
 -- a number of the payload is above it
 abbrev pub payload_is_great : Payload → Bool

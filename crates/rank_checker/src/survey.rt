@@ -1,8 +1,8 @@
 //! One walk over a statement's arguments: are its names declared, its expressions small, its numbers readable?
 ghost use Rattle.std.specs.Prelude.{◌≡◌, OnOk, IfOk, true, false, ◌&&◌, ◌||◌};
-ghost use Rattle.rank_grammar.specs.SeenForms.{choice_of, form_seen, payload_seen};
+ghost use Rattle.rank_grammar.specs.SeenForms.{pattern_of, form_seen, payload_seen};
 ghost use Rattle.rank_grammar.specs.Tree.{tree_of};
-ghost use Rattle.rank_checker.specs.Scope.{all_declared, choice_declared, choice_is_great, choice_is_large, declared_in};
+ghost use Rattle.rank_checker.specs.Scope.{all_declared, pattern_declared, pattern_is_great, pattern_is_large, declared_in};
 ghost use Rattle.rank_checker.specs.Scope.{has_great_number, has_large, is_array, is_declared, is_great, is_large};
 ghost use Rattle.rank_checker.specs.Scope.{is_variable, payload_declared, payload_is_great, payload_is_large};
 ghost use Rattle.rank_checker.specs.SeenLines.{scope_seen};
@@ -10,7 +10,7 @@ ghost use Rattle.rank_checker.specs.SeenLines.{scope_seen};
 use crate::scope::Scope;
 use metered::Heap;
 use metered::limits::MOST_NODES;
-use rank_grammar::{Choice, Form, Name, Payload, Written};
+use rank_grammar::{Pattern, Form, Name, Payload, Written};
 use std::alloc::AllocError;
 
 /// The greatest number of a program.
@@ -57,15 +57,15 @@ impl Survey {
         self.declared = self.declared && scope.is_declared(name);
     }
 
-    fn choice(&mut self, alloc: Heap, scope: &Scope, choice: &Choice) -> Result<(), AllocError>
+    fn pattern(&mut self, alloc: Heap, scope: &Scope, pattern: &Pattern) -> Result<(), AllocError>
         ensures declared { OnOk result (self.new.declared
-            ≡ (self.old.declared && choice_declared (scope_seen scope.now) (choice_of choice.now))) }
-        ensures large { OnOk result (self.new.large ≡ (self.old.large || choice_is_large (choice_of choice.now))) }
-        ensures great { OnOk result (self.new.great ≡ (self.old.great || choice_is_great (choice_of choice.now))) }
+            ≡ (self.old.declared && pattern_declared (scope_seen scope.now) (pattern_of pattern.now))) }
+        ensures large { OnOk result (self.new.large ≡ (self.old.large || pattern_is_large (pattern_of pattern.now))) }
+        ensures great { OnOk result (self.new.great ≡ (self.old.great || pattern_is_great (pattern_of pattern.now))) }
     {
-        match choice {
-            Choice::Any => Ok(()),
-            Choice::Value(expression) => self.expression(alloc, scope, expression),
+        match pattern {
+            Pattern::Any => Ok(()),
+            Pattern::Value(expression) => self.expression(alloc, scope, expression),
         }
     }
 
@@ -89,19 +89,19 @@ impl Survey {
         &mut self,
         alloc: Heap,
         scope: &Scope,
-        source: &Choice,
-        tag: &Choice,
+        source: &Pattern,
+        tag: &Pattern,
     ) -> Result<(), AllocError>
         ensures declared { OnOk result (self.new.declared
-            ≡ ((self.old.declared && choice_declared (scope_seen scope.now) (choice_of source.now))
-            && choice_declared (scope_seen scope.now) (choice_of tag.now))) }
+            ≡ ((self.old.declared && pattern_declared (scope_seen scope.now) (pattern_of source.now))
+            && pattern_declared (scope_seen scope.now) (pattern_of tag.now))) }
         ensures large { OnOk result (self.new.large
-            ≡ ((self.old.large || choice_is_large (choice_of source.now)) || choice_is_large (choice_of tag.now))) }
+            ≡ ((self.old.large || pattern_is_large (pattern_of source.now)) || pattern_is_large (pattern_of tag.now))) }
         ensures great { OnOk result (self.new.great
-            ≡ ((self.old.great || choice_is_great (choice_of source.now)) || choice_is_great (choice_of tag.now))) }
+            ≡ ((self.old.great || pattern_is_great (pattern_of source.now)) || pattern_is_great (pattern_of tag.now))) }
     {
-        self.choice(alloc, scope, source)?;
-        self.choice(alloc, scope, tag)
+        self.pattern(alloc, scope, source)?;
+        self.pattern(alloc, scope, tag)
     }
 
     /// Root and buffer of a broadcast.

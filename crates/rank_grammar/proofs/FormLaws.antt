@@ -14,13 +14,13 @@ use Rattle.rank_grammar.specs.declared.form.Form as source_form
 use Rattle.rank_grammar.specs.Tree.{Tree}
 use Rattle.rank_grammar.specs.Grammar.{Spells, whole}
 use Rattle.rank_grammar.specs.Reader.{expression_at, whole_expression}
-use Rattle.rank_grammar.specs.Forms.{Choice, value, Payload, one}
+use Rattle.rank_grammar.specs.Forms.{Pattern, value, Payload, one}
 use Rattle.rank_grammar.specs.Forms.{Form, let_form, item_form, if_form, while_form}
 use Rattle.rank_grammar.specs.Forms.{send_form, recv_form, probe_form, try_probe_form, print_form, bcast_form, reduce_form}
-use Rattle.rank_grammar.specs.Forms.{IsChoice, is_any, is_value, IsNoName, IsPayload, is_lone, is_one}
+use Rattle.rank_grammar.specs.Forms.{IsPattern, is_any, is_value, IsNoName, IsPayload, is_lone, is_one}
 use Rattle.rank_grammar.specs.Forms.{IsForm, is_var, is_array, is_let, is_let_item, is_if, is_else, is_end, is_while}
 use Rattle.rank_grammar.specs.Forms.{is_send, is_recv, is_probe, is_try_probe, is_print, is_barrier, is_bcast, is_reduce}
-use Rattle.rank_grammar.specs.Forms.{◌>>=◌, comma, bracket_assign, lone_name, choice_at, whole_choice, payload_of}
+use Rattle.rank_grammar.specs.Forms.{◌>>=◌, comma, bracket_assign, lone_name, pattern_at, whole_pattern, payload_of}
 use Rattle.rank_grammar.specs.Forms.{var_of, array_of, let_of, item_of, if_of, while_of}
 use Rattle.rank_grammar.specs.Forms.{send_of, recv_of, probe_of, try_probe_of, print_of, bcast_of, reduced_of, reduce_of, form_of}
 use Rattle.rank_grammar.specs.SeenForms.{form_in, form_seen}
@@ -35,9 +35,9 @@ of_one (t.Name x ∷ []) h q = absurd h
 of_one (t.Name x ∷ (y ∷ ts)) h q = ap (λ o. o >>= (λ e. Some (one e))) q
 of_one (_ ∷ ts) h q = ap (λ o. o >>= (λ e. Some (one e))) q
 
--- an expression before a comma is the choice in front
+-- an expression before a comma is the pattern in front
 of_value : (ts rest : List Token) {e : Tree} → expression_at (ts ++ t.Comma ∷ rest) ≡ Some (e, t.Comma ∷ rest)
-    → choice_at (ts ++ t.Comma ∷ rest) ≡ Some (value e, t.Comma ∷ rest)
+    → pattern_at (ts ++ t.Comma ∷ rest) ≡ Some (value e, t.Comma ∷ rest)
 of_value [] rest q = ap (λ o. o >>= (λ e. Some (value e.0, e.1))) q
 of_value (t.Any ∷ ts) rest q = cc
 of_value (_ ∷ ts) rest q = ap (λ o. o >>= (λ e. Some (value e.0, e.1))) q
@@ -47,22 +47,22 @@ payload_read : {ts : List Token} {p : Payload} → IsPayload ts p → payload_of
 payload_read is_lone = refl
 payload_read (is_one {ts} {e} h d) = of_one ts h (read_whole ts e d)
 
--- what is a choice is read as that choice, up to the comma
-choice_read : {ts : List Token} {c : Choice} → IsChoice ts c → (rest : List Token) → choice_at (ts ++ t.Comma ∷ rest) ≡ Some (c, t.Comma ∷ rest)
-choice_read is_any rest = refl
-choice_read (is_value {ts} d) rest = of_value ts rest (complete d (t.Comma ∷ rest) tt)
+-- what is a pattern is read as that pattern, up to the comma
+pattern_read : {ts : List Token} {c : Pattern} → IsPattern ts c → (rest : List Token) → pattern_at (ts ++ t.Comma ∷ rest) ≡ Some (c, t.Comma ∷ rest)
+pattern_read is_any rest = refl
+pattern_read (is_value {ts} d) rest = of_value ts rest (complete d (t.Comma ∷ rest) tt)
 
--- an expression is the choice of its tokens
-of_whole : (ts : List Token) {e : Tree} → whole_expression ts ≡ Some e → whole_choice ts ≡ Some (value e)
+-- an expression is the pattern of its tokens
+of_whole : (ts : List Token) {e : Tree} → whole_expression ts ≡ Some e → whole_pattern ts ≡ Some (value e)
 of_whole [] q = ap (λ o. o >>= (λ e. Some (value e))) q
 of_whole (t.Any ∷ []) q = cc
 of_whole (t.Any ∷ (y ∷ ts)) q = ap (λ o. o >>= (λ e. Some (value e))) q
 of_whole (_ ∷ ts) q = ap (λ o. o >>= (λ e. Some (value e))) q
 
--- what is a choice and nothing more is read as that choice
-whole_choice_read : {ts : List Token} {c : Choice} → IsChoice ts c → whole_choice ts ≡ Some c
-whole_choice_read is_any = refl
-whole_choice_read (is_value {ts} {e} d) = of_whole ts (read_whole ts e d)
+-- what is a pattern and nothing more is read as that pattern
+whole_pattern_read : {ts : List Token} {c : Pattern} → IsPattern ts c → whole_pattern ts ≡ Some c
+whole_pattern_read is_any = refl
+whole_pattern_read (is_value {ts} {e} d) = of_whole ts (read_whole ts e d)
 
 -- what has a form is read as that form
 pub form_read : {ts : List Token} {f : Form} → IsForm ts f → form_of ts ≡ Some f
@@ -84,16 +84,16 @@ form_read (is_send {ds} {gs} {ps} {d} {g} {p} dd dg dp) =
     ∙ ap (λ o. o >>= (λ g. comma g.1 >>= (λ vs. payload_of vs >>= (λ p. Some (send_form d g.0 p))))) (complete dg (t.Comma ∷ ps) tt)
     ∙ ap (λ o. o >>= (λ p. Some (send_form d g p))) (payload_read dp)
 form_read (is_recv {ss} {gs} {s} {g} {x} ds dg) =
-    ap (λ o. o >>= (λ s. comma s.1 >>= (λ us. choice_at us >>= (λ g. comma g.1 >>= (λ vs. lone_name vs >>= (λ x. Some (recv_form s.0 g.0 x)))))))
-    (choice_read ds (gs ++ t.Comma ∷ (t.Name x ∷ [])))
-    ∙ ap (λ o. o >>= (λ g. comma g.1 >>= (λ vs. lone_name vs >>= (λ x. Some (recv_form s g.0 x))))) (choice_read dg (t.Name x ∷ []))
+    ap (λ o. o >>= (λ s. comma s.1 >>= (λ us. pattern_at us >>= (λ g. comma g.1 >>= (λ vs. lone_name vs >>= (λ x. Some (recv_form s.0 g.0 x)))))))
+    (pattern_read ds (gs ++ t.Comma ∷ (t.Name x ∷ [])))
+    ∙ ap (λ o. o >>= (λ g. comma g.1 >>= (λ vs. lone_name vs >>= (λ x. Some (recv_form s g.0 x))))) (pattern_read dg (t.Name x ∷ []))
 form_read (is_probe {ss} {gs} {s} {g} ds dg) =
-    ap (λ o. o >>= (λ s. comma s.1 >>= (λ us. whole_choice us >>= (λ g. Some (probe_form s.0 g))))) (choice_read ds gs)
-    ∙ ap (λ o. o >>= (λ g. Some (probe_form s g))) (whole_choice_read dg)
+    ap (λ o. o >>= (λ s. comma s.1 >>= (λ us. whole_pattern us >>= (λ g. Some (probe_form s.0 g))))) (pattern_read ds gs)
+    ∙ ap (λ o. o >>= (λ g. Some (probe_form s g))) (whole_pattern_read dg)
 form_read (is_try_probe {ss} {gs} {s} {g} {x} ds dg) =
-    ap (λ o. o >>= (λ s. comma s.1 >>= (λ us. choice_at us >>= (λ g. comma g.1 >>= (λ vs. lone_name vs >>= (λ x. Some (try_probe_form s.0 g.0 x)))))))
-    (choice_read ds (gs ++ t.Comma ∷ (t.Name x ∷ [])))
-    ∙ ap (λ o. o >>= (λ g. comma g.1 >>= (λ vs. lone_name vs >>= (λ x. Some (try_probe_form s g.0 x))))) (choice_read dg (t.Name x ∷ []))
+    ap (λ o. o >>= (λ s. comma s.1 >>= (λ us. pattern_at us >>= (λ g. comma g.1 >>= (λ vs. lone_name vs >>= (λ x. Some (try_probe_form s.0 g.0 x)))))))
+    (pattern_read ds (gs ++ t.Comma ∷ (t.Name x ∷ [])))
+    ∙ ap (λ o. o >>= (λ g. comma g.1 >>= (λ vs. lone_name vs >>= (λ x. Some (try_probe_form s g.0 x))))) (pattern_read dg (t.Name x ∷ []))
 form_read (is_print {ts} {e} d) = ap (λ o. o >>= (λ e. Some (print_form e))) (read_whole ts e d)
 form_read is_barrier = refl
 form_read (is_bcast {rs} {root} {x} d) =
@@ -159,30 +159,30 @@ send_spelled ts =
     given (payload_of vs) vs d g (t.Keyword k.Send ∷ ts) (payload_spelled vs) (λ p dp.
     subst (λ z. IsForm (t.Keyword k.Send ∷ z) (send_form d g p)) (sym (q ∙ ap (λ z. ds ++ t.Comma ∷ z) r)) (is_send dd dg dp))))
 
--- the tokens begin with the choice, where there is one, and end with what is behind it
-abbrev ChoiceIs : Option (Choice × List Token) → List Token → Type 0
-ChoiceIs None ts = Unit {0}
-ChoiceIs (Some c) ts = (us : List Token) × IsChoice us c.0 × (ts ≡ us ++ c.1)
+-- the tokens begin with the pattern, where there is one, and end with what is behind it
+abbrev PatternIs : Option (Pattern × List Token) → List Token → Type 0
+PatternIs None ts = Unit {0}
+PatternIs (Some c) ts = (us : List Token) × IsPattern us c.0 × (ts ≡ us ++ c.1)
 
--- an expression in front is a choice in front
-valued : (o : Option (Tree × List Token)) (ts : List Token) → ReadIs o [] ts → ChoiceIs (o >>= (λ e. Some (value e.0, e.1))) ts
+-- an expression in front is a pattern in front
+valued : (o : Option (Tree × List Token)) (ts : List Token) → ReadIs o [] ts → PatternIs (o >>= (λ e. Some (value e.0, e.1))) ts
 valued None ts h = tt
 valued (Some e) ts h = (h.0, is_value h.1, h.2)
 
--- what is read as the choice in front is one
-choice_spelled : (ts : List Token) → ChoiceIs (choice_at ts) ts
-choice_spelled [] = tt
-choice_spelled (t.Any ∷ ts) = (t.Any ∷ [], is_any, refl)
-choice_spelled (token ∷ ts) = valued (expression_at (token ∷ ts)) (token ∷ ts) (sound (token ∷ ts))
+-- what is read as the pattern in front is one
+pattern_spelled : (ts : List Token) → PatternIs (pattern_at ts) ts
+pattern_spelled [] = tt
+pattern_spelled (t.Any ∷ ts) = (t.Any ∷ [], is_any, refl)
+pattern_spelled (token ∷ ts) = valued (expression_at (token ∷ ts)) (token ∷ ts) (sound (token ∷ ts))
 
--- a choice, a comma and more
-choice_comma : (o : Option (Choice × List Token)) (ts : List Token) (next : Choice → List Token → Option Form) (all : List Token)
-    → ChoiceIs o ts
-    → ((c : Choice) (ds us : List Token) → IsChoice ds c → ts ≡ ds ++ t.Comma ∷ us → FormIs (next c us) all)
+-- a pattern, a comma and more
+pattern_comma : (o : Option (Pattern × List Token)) (ts : List Token) (next : Pattern → List Token → Option Form) (all : List Token)
+    → PatternIs o ts
+    → ((c : Pattern) (ds us : List Token) → IsPattern ds c → ts ≡ ds ++ t.Comma ∷ us → FormIs (next c us) all)
     → FormIs (o >>= (λ d. comma d.1 >>= (λ us. next d.0 us))) all
-choice_comma None ts next all h build = tt
-choice_comma (Some (c, (t.Comma ∷ us))) ts next all h build = build c h.0 us h.1 h.2
-choice_comma (Some (c, _)) ts next all h build = tt
+pattern_comma None ts next all h build = tt
+pattern_comma (Some (c, (t.Comma ∷ us))) ts next all h build = build c h.0 us h.1 h.2
+pattern_comma (Some (c, _)) ts next all h build = tt
 
 -- a name and nothing more
 last_name : (vs : List Token) (make : List ℕ → Form) (all : List Token)
@@ -195,10 +195,10 @@ last_name _ make all build = tt
 recv_spelled : (ts : List Token) → FormIs (form_of (t.Keyword k.Recv ∷ ts)) (t.Keyword k.Recv ∷ ts)
 unfolding recv_of
 recv_spelled ts =
-    choice_comma (choice_at ts) ts
-    (λ s us. choice_at us >>= (λ g. comma g.1 >>= (λ vs. lone_name vs >>= (λ x. Some (recv_form s g.0 x)))))
-    (t.Keyword k.Recv ∷ ts) (choice_spelled ts) (λ s ds us dd q.
-    choice_comma (choice_at us) us (λ g vs. lone_name vs >>= (λ x. Some (recv_form s g x))) (t.Keyword k.Recv ∷ ts) (choice_spelled us) (λ g gs vs dg r.
+    pattern_comma (pattern_at ts) ts
+    (λ s us. pattern_at us >>= (λ g. comma g.1 >>= (λ vs. lone_name vs >>= (λ x. Some (recv_form s g.0 x)))))
+    (t.Keyword k.Recv ∷ ts) (pattern_spelled ts) (λ s ds us dd q.
+    pattern_comma (pattern_at us) us (λ g vs. lone_name vs >>= (λ x. Some (recv_form s g x))) (t.Keyword k.Recv ∷ ts) (pattern_spelled us) (λ g gs vs dg r.
     last_name vs (recv_form s g) (t.Keyword k.Recv ∷ ts) (λ x l.
     subst (λ z. IsForm (t.Keyword k.Recv ∷ z) (recv_form s g x)) (sym (q ∙ ap (λ z. ds ++ t.Comma ∷ z) (r ∙ ap (λ z. gs ++ t.Comma ∷ z) l))) (is_recv dd dg))))
 
@@ -206,43 +206,43 @@ recv_spelled ts =
 try_probe_spelled : (ts : List Token) → FormIs (form_of (t.Keyword k.Iprobe ∷ ts)) (t.Keyword k.Iprobe ∷ ts)
 unfolding try_probe_of
 try_probe_spelled ts =
-    choice_comma (choice_at ts) ts
-    (λ s us. choice_at us >>= (λ g. comma g.1 >>= (λ vs. lone_name vs >>= (λ x. Some (try_probe_form s g.0 x)))))
-    (t.Keyword k.Iprobe ∷ ts) (choice_spelled ts) (λ s ds us dd q.
-    choice_comma (choice_at us) us (λ g vs. lone_name vs >>= (λ x. Some (try_probe_form s g x))) (t.Keyword k.Iprobe ∷ ts) (choice_spelled us) (λ g gs vs dg r.
+    pattern_comma (pattern_at ts) ts
+    (λ s us. pattern_at us >>= (λ g. comma g.1 >>= (λ vs. lone_name vs >>= (λ x. Some (try_probe_form s g.0 x)))))
+    (t.Keyword k.Iprobe ∷ ts) (pattern_spelled ts) (λ s ds us dd q.
+    pattern_comma (pattern_at us) us (λ g vs. lone_name vs >>= (λ x. Some (try_probe_form s g x))) (t.Keyword k.Iprobe ∷ ts) (pattern_spelled us) (λ g gs vs dg r.
     last_name vs (try_probe_form s g) (t.Keyword k.Iprobe ∷ ts) (λ x l.
     subst (λ z. IsForm (t.Keyword k.Iprobe ∷ z) (try_probe_form s g x))
     (sym (q ∙ ap (λ z. ds ++ t.Comma ∷ z) (r ∙ ap (λ z. gs ++ t.Comma ∷ z) l))) (is_try_probe dd dg))))
 
--- the tokens are the choice, where there is one
-abbrev WholeChoiceIs : Option Choice → List Token → Type 0
-WholeChoiceIs None ts = Unit {0}
-WholeChoiceIs (Some c) ts = IsChoice ts c
+-- the tokens are the pattern, where there is one
+abbrev WholePatternIs : Option Pattern → List Token → Type 0
+WholePatternIs None ts = Unit {0}
+WholePatternIs (Some c) ts = IsPattern ts c
 
--- an expression of all of the tokens is a choice of all of them
-whole_valued : (o : Option Tree) (ts : List Token) → AloneIs o ts → WholeChoiceIs (o >>= (λ e. Some (value e))) ts
+-- an expression of all of the tokens is a pattern of all of them
+whole_valued : (o : Option Tree) (ts : List Token) → AloneIs o ts → WholePatternIs (o >>= (λ e. Some (value e))) ts
 whole_valued None ts h = tt
 whole_valued (Some e) ts h = is_value h
 
--- what is read as a choice and nothing more is one
-whole_choice_spelled : (ts : List Token) → WholeChoiceIs (whole_choice ts) ts
-whole_choice_spelled [] = tt
-whole_choice_spelled (t.Any ∷ []) = is_any
-whole_choice_spelled (t.Any ∷ (y ∷ ts)) = whole_valued (whole_expression (t.Any ∷ (y ∷ ts))) (t.Any ∷ (y ∷ ts)) (whole_spelled (t.Any ∷ (y ∷ ts)))
-whole_choice_spelled (token ∷ ts) = whole_valued (whole_expression (token ∷ ts)) (token ∷ ts) (whole_spelled (token ∷ ts))
+-- what is read as a pattern and nothing more is one
+whole_pattern_spelled : (ts : List Token) → WholePatternIs (whole_pattern ts) ts
+whole_pattern_spelled [] = tt
+whole_pattern_spelled (t.Any ∷ []) = is_any
+whole_pattern_spelled (t.Any ∷ (y ∷ ts)) = whole_valued (whole_expression (t.Any ∷ (y ∷ ts))) (t.Any ∷ (y ∷ ts)) (whole_spelled (t.Any ∷ (y ∷ ts)))
+whole_pattern_spelled (token ∷ ts) = whole_valued (whole_expression (token ∷ ts)) (token ∷ ts) (whole_spelled (token ∷ ts))
 
--- a choice and nothing more
-last_choice : (o : Option Choice) (us : List Token) (make : Choice → Form) (all : List Token) → WholeChoiceIs o us
-    → ((g : Choice) → IsChoice us g → IsForm all (make g)) → FormIs (o >>= (λ g. Some (make g))) all
-last_choice None us make all h build = tt
-last_choice (Some g) us make all h build = build g h
+-- a pattern and nothing more
+last_pattern : (o : Option Pattern) (us : List Token) (make : Pattern → Form) (all : List Token) → WholePatternIs o us
+    → ((g : Pattern) → IsPattern us g → IsForm all (make g)) → FormIs (o >>= (λ g. Some (make g))) all
+last_pattern None us make all h build = tt
+last_pattern (Some g) us make all h build = build g h
 
 -- what is read as a probe is one
 probe_spelled : (ts : List Token) → FormIs (form_of (t.Keyword k.Probe ∷ ts)) (t.Keyword k.Probe ∷ ts)
 unfolding probe_of
 probe_spelled ts =
-    choice_comma (choice_at ts) ts (λ s us. whole_choice us >>= (λ g. Some (probe_form s g))) (t.Keyword k.Probe ∷ ts) (choice_spelled ts) (λ s ds us dd q.
-    last_choice (whole_choice us) us (probe_form s) (t.Keyword k.Probe ∷ ts) (whole_choice_spelled us) (λ g dg.
+    pattern_comma (pattern_at ts) ts (λ s us. whole_pattern us >>= (λ g. Some (probe_form s g))) (t.Keyword k.Probe ∷ ts) (pattern_spelled ts) (λ s ds us dd q.
+    last_pattern (whole_pattern us) us (probe_form s) (t.Keyword k.Probe ∷ ts) (whole_pattern_spelled us) (λ g dg.
     subst (λ z. IsForm (t.Keyword k.Probe ∷ z) (probe_form s g)) (sym q) (is_probe dd dg)))
 
 -- an expression, a bracket and `=`, and more

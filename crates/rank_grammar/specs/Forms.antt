@@ -10,9 +10,9 @@ use Rattle.rank_grammar.specs.Grammar.{Spells, whole}
 use Rattle.rank_grammar.specs.Reader.{expression_at, whole_expression}
 
 -- the source or the tag of a receive or a probe: any, or the value of an expression
-pub data Choice : Type 0 where
-  any : Choice
-  value : (e : Tree) → Choice
+pub data Pattern : Type 0 where
+  any : Pattern
+  value : (e : Tree) → Pattern
 
 -- what a send gives: a lone name, which is an array or a variable, or the value of another expression
 pub data Payload : Type 0 where
@@ -30,18 +30,18 @@ pub data Form : Type 0 where
   end_form : Form
   while_form : (e : Tree) → Form
   send_form : (dest tag : Tree) (p : Payload) → Form
-  recv_form : (source tag : Choice) (buffer : List ℕ) → Form
-  probe_form : (source tag : Choice) → Form
-  try_probe_form : (source tag : Choice) (flag : List ℕ) → Form
+  recv_form : (source tag : Pattern) (buffer : List ℕ) → Form
+  probe_form : (source tag : Pattern) → Form
+  try_probe_form : (source tag : Pattern) (flag : List ℕ) → Form
   print_form : (e : Tree) → Form
   barrier_form : Form
   bcast_form : (root : Tree) (buffer : List ℕ) → Form
   reduce_form : (reduction : Reduction) (root e : Tree) (x : List ℕ) → Form
 
--- a choice is written `any`, or as an expression
-pub data IsChoice : List Token → Choice → Type 0 where
-  is_any : IsChoice (t.Any ∷ []) any
-  is_value : {ts : List Token} {e : Tree} → Spells whole ts e → IsChoice ts (value e)
+-- a pattern is written `any`, or as an expression
+pub data IsPattern : List Token → Pattern → Type 0 where
+  is_any : IsPattern (t.Any ∷ []) any
+  is_value : {ts : List Token} {e : Tree} → Spells whole ts e → IsPattern ts (value e)
 
 -- the tokens are not one name by itself
 abbrev pub IsNoName : List Token → Type 0
@@ -71,14 +71,14 @@ pub data IsForm : List Token → Form → Type 0 where
   is_send : {ds gs ps : List Token} {d g : Tree} {p : Payload}
       → Spells whole ds d → Spells whole gs g → IsPayload ps p
       → IsForm (t.Keyword k.Send ∷ (ds ++ t.Comma ∷ (gs ++ t.Comma ∷ ps))) (send_form d g p)
-  is_recv : {ss gs : List Token} {s g : Choice} {x : List ℕ}
-      → IsChoice ss s → IsChoice gs g
+  is_recv : {ss gs : List Token} {s g : Pattern} {x : List ℕ}
+      → IsPattern ss s → IsPattern gs g
       → IsForm (t.Keyword k.Recv ∷ (ss ++ t.Comma ∷ (gs ++ t.Comma ∷ (t.Name x ∷ [])))) (recv_form s g x)
-  is_probe : {ss gs : List Token} {s g : Choice}
-      → IsChoice ss s → IsChoice gs g
+  is_probe : {ss gs : List Token} {s g : Pattern}
+      → IsPattern ss s → IsPattern gs g
       → IsForm (t.Keyword k.Probe ∷ (ss ++ t.Comma ∷ gs)) (probe_form s g)
-  is_try_probe : {ss gs : List Token} {s g : Choice} {x : List ℕ}
-      → IsChoice ss s → IsChoice gs g
+  is_try_probe : {ss gs : List Token} {s g : Pattern} {x : List ℕ}
+      → IsPattern ss s → IsPattern gs g
       → IsForm (t.Keyword k.Iprobe ∷ (ss ++ t.Comma ∷ (gs ++ t.Comma ∷ (t.Name x ∷ [])))) (try_probe_form s g x)
   is_print : {ts : List Token} {e : Tree} → Spells whole ts e → IsForm (t.Keyword k.Print ∷ ts) (print_form e)
   is_barrier : IsForm (t.Keyword k.Barrier ∷ []) barrier_form
@@ -112,17 +112,17 @@ abbrev pub lone_name : List Token → Option (List ℕ)
 lone_name (t.Name x ∷ []) = Some x
 lone_name _ = None
 
--- the choice in front, and the tokens after it
-abbrev pub choice_at : List Token → Option (Choice × List Token)
-choice_at (t.Any ∷ ts) = Some (any, ts)
-choice_at ts = do
+-- the pattern in front, and the tokens after it
+abbrev pub pattern_at : List Token → Option (Pattern × List Token)
+pattern_at (t.Any ∷ ts) = Some (any, ts)
+pattern_at ts = do
   e ← expression_at ts
   Some (value e.0, e.1)
 
--- the choice that all of the tokens are
-abbrev pub whole_choice : List Token → Option Choice
-whole_choice (t.Any ∷ []) = Some any
-whole_choice ts = do
+-- the pattern that all of the tokens are
+abbrev pub whole_pattern : List Token → Option Pattern
+whole_pattern (t.Any ∷ []) = Some any
+whole_pattern ts = do
   e ← whole_expression ts
   Some (value e)
 
@@ -190,9 +190,9 @@ send_of ts = do
 -- the form of `recv` with these arguments
 unfoldable pub recv_of : List Token → Option Form
 recv_of ts = do
-  s ← choice_at ts
+  s ← pattern_at ts
   us ← comma s.1
-  g ← choice_at us
+  g ← pattern_at us
   vs ← comma g.1
   x ← lone_name vs
   Some (recv_form s.0 g.0 x)
@@ -200,17 +200,17 @@ recv_of ts = do
 -- the form of `probe` with these arguments
 unfoldable pub probe_of : List Token → Option Form
 probe_of ts = do
-  s ← choice_at ts
+  s ← pattern_at ts
   us ← comma s.1
-  g ← whole_choice us
+  g ← whole_pattern us
   Some (probe_form s.0 g)
 
 -- the form of `iprobe` with these arguments
 unfoldable pub try_probe_of : List Token → Option Form
 try_probe_of ts = do
-  s ← choice_at ts
+  s ← pattern_at ts
   us ← comma s.1
-  g ← choice_at us
+  g ← pattern_at us
   vs ← comma g.1
   x ← lone_name vs
   Some (try_probe_form s.0 g.0 x)

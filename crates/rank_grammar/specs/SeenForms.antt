@@ -3,18 +3,18 @@ use Rattle.std.specs.Prelude.{ℕ, List, Option, Some, None}
 use Rattle.std.specs.Borrow.{Bor}
 use Rattle.rank_grammar.specs.declared.name.Name.{Name}
 use Rattle.rank_grammar.specs.declared.token.Token.{Token}
-use Rattle.rank_grammar.specs.declared.form.Choice as source_choice
+use Rattle.rank_grammar.specs.declared.form.Pattern as source_pattern
 use Rattle.rank_grammar.specs.declared.form.Payload as source_payload
 use Rattle.rank_grammar.specs.declared.form.Form as source_form
 use Rattle.rank_grammar.specs.Tree.{tree_of}
-use Rattle.rank_grammar.specs.Forms.{Choice, any, value, Payload, lone, one}
+use Rattle.rank_grammar.specs.Forms.{Pattern, any, value, Payload, lone, one}
 use Rattle.rank_grammar.specs.Forms.{Form, var_form, array_form, let_form, item_form, if_form, else_form, end_form, while_form}
 use Rattle.rank_grammar.specs.Forms.{send_form, recv_form, probe_form, try_probe_form, print_form, barrier_form, bcast_form, reduce_form}
 
 -- a source or a tag
-abbrev pub choice_of : source_choice.Choice → Choice
-choice_of source_choice.TheVariants.Any = any
-choice_of (source_choice.TheVariants.Value e) = value (tree_of e)
+abbrev pub pattern_of : source_pattern.Pattern → Pattern
+pattern_of source_pattern.TheVariants.Any = any
+pattern_of (source_pattern.TheVariants.Value e) = value (tree_of e)
 
 -- what a send gives
 abbrev pub payload_seen : source_payload.Payload → Payload
@@ -32,9 +32,9 @@ form_seen source_form.TheVariants.Else = else_form
 form_seen source_form.TheVariants.End = end_form
 form_seen (source_form.TheVariants.While e) = while_form (tree_of e)
 form_seen (source_form.TheVariants.Send d g p) = send_form (tree_of d) (tree_of g) (payload_seen p)
-form_seen (source_form.TheVariants.Recv s g x) = recv_form (choice_of s) (choice_of g) x
-form_seen (source_form.TheVariants.Probe s g) = probe_form (choice_of s) (choice_of g)
-form_seen (source_form.TheVariants.TryProbe s g x) = try_probe_form (choice_of s) (choice_of g) x
+form_seen (source_form.TheVariants.Recv s g x) = recv_form (pattern_of s) (pattern_of g) x
+form_seen (source_form.TheVariants.Probe s g) = probe_form (pattern_of s) (pattern_of g)
+form_seen (source_form.TheVariants.TryProbe s g x) = try_probe_form (pattern_of s) (pattern_of g) x
 form_seen (source_form.TheVariants.Print e) = print_form (tree_of e)
 form_seen source_form.TheVariants.Barrier = barrier_form
 form_seen (source_form.TheVariants.Bcast e x) = bcast_form (tree_of e) x
@@ -50,15 +50,15 @@ abbrev pub payload_in : Option source_payload.Payload → Option Payload
 payload_in None = None
 payload_in (Some p) = Some (payload_seen p)
 
--- the choice in front, and the tokens after it
-abbrev pub choice_in : Option (source_choice.Choice × Bor (List Token)) → Option (Choice × List Token)
-choice_in None = None
-choice_in (Some c) = Some (choice_of c.0, c.1.now)
+-- the pattern in front, and the tokens after it
+abbrev pub pattern_in : Option (source_pattern.Pattern × Bor (List Token)) → Option (Pattern × List Token)
+pattern_in None = None
+pattern_in (Some c) = Some (pattern_of c.0, c.1.now)
 
--- the choice that all of the tokens are
-abbrev pub whole_choice_in : Option source_choice.Choice → Option Choice
-whole_choice_in None = None
-whole_choice_in (Some c) = Some (choice_of c)
+-- the pattern that all of the tokens are
+abbrev pub whole_pattern_in : Option source_pattern.Pattern → Option Pattern
+whole_pattern_in None = None
+whole_pattern_in (Some c) = Some (pattern_of c)
 
 -- the tokens that are left
 abbrev pub rest_in : Option (Bor (List Token)) → Option (List Token)

@@ -6,7 +6,7 @@ use crate::written::Written;
 
 /// The source or the tag of a receive or a probe.
 #[derive(Debug, Drop)]
-pub enum Choice {
+pub enum Pattern {
     Any,
     Value(Written),
 }
@@ -37,11 +37,11 @@ pub enum Form {
     /// Destination, tag and payload.
     Send(Written, Written, Payload),
     /// Source, tag and buffer.
-    Recv(Choice, Choice, Name),
+    Recv(Pattern, Pattern, Name),
     /// Source and tag.
-    Probe(Choice, Choice),
+    Probe(Pattern, Pattern),
     /// Source, tag and flag.
-    TryProbe(Choice, Choice, Name),
+    TryProbe(Pattern, Pattern, Name),
     Print(Written),
     Barrier,
     /// Root and buffer.

@@ -3,13 +3,13 @@
 ghost use Rattle.std.specs.Prelude.{◌≡◌, List, IfOk, IfSome, Some};
 ghost use Rattle.rank_grammar.specs.declared.token.Token.{Token};
 ghost use Rattle.rank_grammar.specs.Forms as forms;
-ghost use Rattle.rank_grammar.specs.Forms.{IsForm, comma, bracket_assign, bare, lone_name, choice_at, whole_choice, payload_of};
+ghost use Rattle.rank_grammar.specs.Forms.{IsForm, comma, bracket_assign, bare, lone_name, pattern_at, whole_pattern, payload_of};
 ghost use Rattle.rank_grammar.specs.Forms.{var_of, array_of, let_of, item_of, if_of, while_of};
 ghost use Rattle.rank_grammar.specs.Forms.{send_of, recv_of, probe_of, try_probe_of, print_of, bcast_of, reduced_of, reduce_of};
 ghost use Rattle.rank_grammar.specs.Forms.{form_with, form_of};
-ghost use Rattle.rank_grammar.specs.SeenForms.{form_in, form_seen, payload_in, choice_in, whole_choice_in, rest_in, lone_in};
+ghost use Rattle.rank_grammar.specs.SeenForms.{form_in, form_seen, payload_in, pattern_in, whole_pattern_in, rest_in, lone_in};
 
-use crate::form::{Choice, Form, Payload};
+use crate::form::{Pattern, Form, Payload};
 use crate::name::Name;
 use crate::reader::{expression_at, whole_expression};
 use crate::token::{Keyword, Reduction, Token};
@@ -43,28 +43,28 @@ fn only_name(tokens: &[Token]) -> Option<Name>
     }
 }
 
-fn choice_in_front(alloc: Heap, tokens: &[Token]) -> Result<Option<(Choice, &[Token])>, AllocError>
-    ensures { IfOk result (λ c. choice_in c ≡ choice_at tokens.now) }
+fn pattern_in_front(alloc: Heap, tokens: &[Token]) -> Result<Option<(Pattern, &[Token])>, AllocError>
+    ensures { IfOk result (λ c. pattern_in c ≡ pattern_at tokens.now) }
 {
     if let [Token::Any, rest @ ..] = tokens {
-        return Ok(Some((Choice::Any, rest)));
+        return Ok(Some((Pattern::Any, rest)));
     }
     let Some((value, rest)) = expression_at(alloc, tokens)? else {
         return Ok(None);
     };
-    Ok(Some((Choice::Value(value), rest)))
+    Ok(Some((Pattern::Value(value), rest)))
 }
 
-fn whole_choice(alloc: Heap, tokens: &[Token]) -> Result<Option<Choice>, AllocError>
-    ensures { IfOk result (λ c. whole_choice_in c ≡ whole_choice tokens.now) }
+fn whole_pattern(alloc: Heap, tokens: &[Token]) -> Result<Option<Pattern>, AllocError>
+    ensures { IfOk result (λ c. whole_pattern_in c ≡ whole_pattern tokens.now) }
 {
     if let [Token::Any] = tokens {
-        return Ok(Some(Choice::Any));
+        return Ok(Some(Pattern::Any));
     }
     let Some(value) = whole_expression(alloc, tokens)? else {
         return Ok(None);
     };
-    Ok(Some(Choice::Value(value)))
+    Ok(Some(Pattern::Value(value)))
 }
 
 fn read_payload(alloc: Heap, tokens: &[Token]) -> Result<Option<Payload>, AllocError>
@@ -201,13 +201,13 @@ fn read_send(alloc: Heap, tokens: &[Token]) -> Result<Option<Form>, AllocError>
 fn read_recv(alloc: Heap, tokens: &[Token]) -> Result<Option<Form>, AllocError>
     ensures { IfOk result (λ f. form_in f ≡ recv_of tokens.now) }
 {
-    let Some((source, rest)) = choice_in_front(alloc, tokens)? else {
+    let Some((source, rest)) = pattern_in_front(alloc, tokens)? else {
         return Ok(None);
     };
     let Some(rest) = after_comma(rest) else {
         return Ok(None);
     };
-    let Some((tag, rest)) = choice_in_front(alloc, rest)? else {
+    let Some((tag, rest)) = pattern_in_front(alloc, rest)? else {
         return Ok(None);
     };
     let Some(rest) = after_comma(rest) else {
@@ -223,13 +223,13 @@ fn read_recv(alloc: Heap, tokens: &[Token]) -> Result<Option<Form>, AllocError>
 fn read_probe(alloc: Heap, tokens: &[Token]) -> Result<Option<Form>, AllocError>
     ensures { IfOk result (λ f. form_in f ≡ probe_of tokens.now) }
 {
-    let Some((source, rest)) = choice_in_front(alloc, tokens)? else {
+    let Some((source, rest)) = pattern_in_front(alloc, tokens)? else {
         return Ok(None);
     };
     let Some(rest) = after_comma(rest) else {
         return Ok(None);
     };
-    let Some(tag) = whole_choice(alloc, rest)? else {
+    let Some(tag) = whole_pattern(alloc, rest)? else {
         return Ok(None);
     };
     Ok(Some(Form::Probe(source, tag)))
@@ -239,13 +239,13 @@ fn read_probe(alloc: Heap, tokens: &[Token]) -> Result<Option<Form>, AllocError>
 fn read_try_probe(alloc: Heap, tokens: &[Token]) -> Result<Option<Form>, AllocError>
     ensures { IfOk result (λ f. form_in f ≡ try_probe_of tokens.now) }
 {
-    let Some((source, rest)) = choice_in_front(alloc, tokens)? else {
+    let Some((source, rest)) = pattern_in_front(alloc, tokens)? else {
         return Ok(None);
     };
     let Some(rest) = after_comma(rest) else {
         return Ok(None);
     };
-    let Some((tag, rest)) = choice_in_front(alloc, rest)? else {
+    let Some((tag, rest)) = pattern_in_front(alloc, rest)? else {
         return Ok(None);
     };
     let Some(rest) = after_comma(rest) else {

@@ -10,13 +10,13 @@ use Rattle.rank_grammar.specs.Tree as text
 use Rattle.rank_grammar.specs.Forms as line
 use Rattle.rank_grammar.specs.Forms.{Form, ◌>>=◌}
 use Rattle.rank_checker.specs.Scope.{Scope}
-use Rattle.rank_language.specs.Placed.{Placed, number, variable, item, reading, negation, operation, Choice, any, value}
+use Rattle.rank_language.specs.Placed.{Placed, number, variable, item, reading, negation, operation, Pattern, any, value}
 use Rattle.rank_language.specs.Placed.{Payload, one, all_of, Buffer, into_variable, into_array}
 use Rattle.rank_language.specs.Placed.{declare, declare_array, assign, assign_item, send, receive, probe, try_probe, print}
 use Rattle.rank_language.specs.Placed.{barrier, broadcast, reduce, collect, Step, does, tests, repeats, otherwise, closes}
-use Rattle.rank_language.specs.Resolved.{place_in, variable_place, array_place, resolved, choice_resolved}
+use Rattle.rank_language.specs.Resolved.{place_in, variable_place, array_place, resolved, pattern_resolved}
 use Rattle.rank_language.specs.Resolved.{payload_resolved, buffer_resolved, form_resolved, all_resolved}
-use Rattle.rank_language.specs.Named.{variable_name, array_at, named, choice_named, value_named, payload_named, buffer_name, form_named}
+use Rattle.rank_language.specs.Named.{variable_name, array_at, named, pattern_named, value_named, payload_named, buffer_name, form_named}
 use Rattle.rank_language.proofs.Options.{mapped, gone_on, either_from}
 use Rattle.rank_printer.specs.Canonical.{canonical_payload, canonical, all_canonical}
 
@@ -72,13 +72,13 @@ tree_back s (text.operation o a b) t h =
     subst (λ z. named s z ≡ text.operation o a b) r
     (ap (λ y. text.operation o y (named s right)) (tree_back s a left g) ∙ ap (text.operation o a) (tree_back s b right i))
 
--- a choice is got back
-choice_back : (s : Scope) (c : line.Choice) (t : Choice) → choice_resolved s c ≡ Some t → choice_named s t ≡ c
-choice_back s line.any t h =
-    let q : any ≡ t = cc in subst (λ z. choice_named s z ≡ line.any) q refl
-choice_back s (line.value e) t h =
+-- a pattern is got back
+pattern_back : (s : Scope) (c : line.Pattern) (t : Pattern) → pattern_resolved s c ≡ Some t → pattern_named s t ≡ c
+pattern_back s line.any t h =
+    let q : any ≡ t = cc in subst (λ z. pattern_named s z ≡ line.any) q refl
+pattern_back s (line.value e) t h =
     let (a, g, q) = mapped value (resolved s e) t h in
-    subst (λ z. choice_named s z ≡ line.value e) q (ap line.value (tree_back s e a g))
+    subst (λ z. pattern_named s z ≡ line.value e) q (ap line.value (tree_back s e a g))
 
 -- a value that is sent is got back
 value_back : (s : Scope) (e : text.Tree) (t : Placed) → resolved s e ≡ Some t → value_named s t ≡ canonical_payload (line.one e)
@@ -188,28 +188,28 @@ form_back s (line.send_form d g p) t l h =
     ∙ ap (λ z. line.send_form d z (payload_named s w)) (tree_back s g y b)
     ∙ ap (line.send_form d g) (payload_back s p w c))
 form_back s (line.recv_form r g x) t l h =
-    let (c, a, i) = gone_on _ (choice_resolved s r) t h in
-    let (y, b, j) = gone_on _ (choice_resolved s g) t i in
+    let (c, a, i) = gone_on _ (pattern_resolved s r) t h in
+    let (y, b, j) = gone_on _ (pattern_resolved s g) t i in
     let (w, e, k) = gone_on _ (buffer_resolved s x) t j in
     let q : does (receive c y w) ≡ t = cc in
     subst (λ z. form_named s z ≡ line.recv_form r g x) q
-    (ap (λ z. line.recv_form z (choice_named s y) (buffer_name s w)) (choice_back s r c a)
-    ∙ ap (λ z. line.recv_form r z (buffer_name s w)) (choice_back s g y b)
+    (ap (λ z. line.recv_form z (pattern_named s y) (buffer_name s w)) (pattern_back s r c a)
+    ∙ ap (λ z. line.recv_form r z (buffer_name s w)) (pattern_back s g y b)
     ∙ ap (line.recv_form r g) (buffer_back s x w e))
 form_back s (line.probe_form r g) t l h =
-    let (c, a, i) = gone_on _ (choice_resolved s r) t h in
-    let (y, b, j) = gone_on _ (choice_resolved s g) t i in
+    let (c, a, i) = gone_on _ (pattern_resolved s r) t h in
+    let (y, b, j) = gone_on _ (pattern_resolved s g) t i in
     let q : does (probe c y) ≡ t = cc in
     subst (λ z. form_named s z ≡ line.probe_form r g) q
-    (ap (λ z. line.probe_form z (choice_named s y)) (choice_back s r c a) ∙ ap (line.probe_form r) (choice_back s g y b))
+    (ap (λ z. line.probe_form z (pattern_named s y)) (pattern_back s r c a) ∙ ap (line.probe_form r) (pattern_back s g y b))
 form_back s (line.try_probe_form r g x) t l h =
-    let (c, a, i) = gone_on _ (choice_resolved s r) t h in
-    let (y, b, j) = gone_on _ (choice_resolved s g) t i in
+    let (c, a, i) = gone_on _ (pattern_resolved s r) t h in
+    let (y, b, j) = gone_on _ (pattern_resolved s g) t i in
     let (p, e, k) = gone_on _ (variable_place s x) t j in
     let q : does (try_probe c y p) ≡ t = cc in
     subst (λ z. form_named s z ≡ line.try_probe_form r g x) q
-    (ap (λ z. line.try_probe_form z (choice_named s y) (variable_name s p)) (choice_back s r c a)
-    ∙ ap (λ z. line.try_probe_form r z (variable_name s p)) (choice_back s g y b)
+    (ap (λ z. line.try_probe_form z (pattern_named s y) (variable_name s p)) (pattern_back s r c a)
+    ∙ ap (λ z. line.try_probe_form r z (variable_name s p)) (pattern_back s g y b)
     ∙ ap (line.try_probe_form r g) (name_back s.variables x p e))
 form_back s (line.print_form e) t l h =
     let (a, g, q) = mapped (λ v. does (print v)) (resolved s e) t h in

@@ -3,12 +3,12 @@
 use Rattle.std.proofs.Common.{◌≡◌, ℕ, List, map, Bool, true, false, ◌&&◌, ◌||◌, Option, Some, None, option_map, ◌↔◌, refl, ap, ◌∙◌, sym}
 use Rattle.std.specs.Option.{is_some}
 use Rattle.rank_grammar.specs.Tree.{Tree, number, variable, item, reading, negation, operation}
-use Rattle.rank_grammar.specs.Forms.{Choice, any, value, Payload, lone, one}
+use Rattle.rank_grammar.specs.Forms.{Pattern, any, value, Payload, lone, one}
 use Rattle.rank_grammar.specs.Forms.{Form, var_form, array_form, let_form, item_form, if_form, else_form, end_form, while_form, ◌>>=◌}
 use Rattle.rank_grammar.specs.Forms.{send_form, recv_form, probe_form, try_probe_form, print_form, barrier_form, bcast_form, reduce_form}
-use Rattle.rank_checker.specs.Scope.{Scope, is_name_in, is_variable, is_array, is_declared, all_declared, choice_declared, payload_declared, declared_in, after}
+use Rattle.rank_checker.specs.Scope.{Scope, is_name_in, is_variable, is_array, is_declared, all_declared, pattern_declared, payload_declared, declared_in, after}
 use Rattle.rank_language.specs.Resolved.{place_in, variable_place, array_place, either_place, resolved}
-use Rattle.rank_language.specs.Resolved.{choice_resolved, payload_resolved, buffer_resolved, form_resolved}
+use Rattle.rank_language.specs.Resolved.{pattern_resolved, payload_resolved, buffer_resolved, form_resolved}
 use Rattle.rank_language.proofs.Names.{place_of_named, place_of_other}
 use Rattle.rank_language.proofs.Whole.{named_last, array_last}
 
@@ -57,10 +57,10 @@ tree_some s (operation o a b) =
     ∙ ap (λ z. is_some (resolved s a) && z) (tree_some s b)
     ∙ two_some _ (resolved s a) (resolved s b)
 
--- a choice resolves exactly where its names are declared
-choice_some : (s : Scope) (c : Choice) → choice_declared s c ≡ is_some (choice_resolved s c)
-choice_some s any = refl
-choice_some s (value e) = tree_some s e ∙ mapped_some _ (resolved s e)
+-- a pattern resolves exactly where its names are declared
+pattern_some : (s : Scope) (c : Pattern) → pattern_declared s c ≡ is_some (pattern_resolved s c)
+pattern_some s any = refl
+pattern_some s (value e) = tree_some s e ∙ mapped_some _ (resolved s e)
 
 -- a name stands for something exactly where it has one of two places
 either_some : {A : Type 0} (f g : ℕ → A) (o q : Option ℕ) → (is_some o || is_some q) ≡ is_some (either_place f g o q)
@@ -117,19 +117,19 @@ form_some s (send_form d t p) =
     ∙ ap (λ z. is_some (resolved s d) && is_some (resolved s t) && z) (payload_some s p)
     ∙ three_some _ (resolved s d) (resolved s t) (payload_resolved s p)
 form_some s (recv_form c t x) =
-    ap (λ z. z && choice_declared s t && is_declared s x) (choice_some s c)
-    ∙ ap (λ z. is_some (choice_resolved s c) && z && is_declared s x) (choice_some s t)
-    ∙ ap (λ z. is_some (choice_resolved s c) && is_some (choice_resolved s t) && z) (declared_some _ _ s x)
-    ∙ three_some _ (choice_resolved s c) (choice_resolved s t) (buffer_resolved s x)
+    ap (λ z. z && pattern_declared s t && is_declared s x) (pattern_some s c)
+    ∙ ap (λ z. is_some (pattern_resolved s c) && z && is_declared s x) (pattern_some s t)
+    ∙ ap (λ z. is_some (pattern_resolved s c) && is_some (pattern_resolved s t) && z) (declared_some _ _ s x)
+    ∙ three_some _ (pattern_resolved s c) (pattern_resolved s t) (buffer_resolved s x)
 form_some s (probe_form c t) =
-    ap (λ z. z && choice_declared s t) (choice_some s c)
-    ∙ ap (λ z. is_some (choice_resolved s c) && z) (choice_some s t)
-    ∙ two_some _ (choice_resolved s c) (choice_resolved s t)
+    ap (λ z. z && pattern_declared s t) (pattern_some s c)
+    ∙ ap (λ z. is_some (pattern_resolved s c) && z) (pattern_some s t)
+    ∙ two_some _ (pattern_resolved s c) (pattern_resolved s t)
 form_some s (try_probe_form c t x) =
-    ap (λ z. z && choice_declared s t && is_variable s x) (choice_some s c)
-    ∙ ap (λ z. is_some (choice_resolved s c) && z && is_variable s x) (choice_some s t)
-    ∙ ap (λ z. is_some (choice_resolved s c) && is_some (choice_resolved s t) && z) (placed_some s.variables x)
-    ∙ three_some _ (choice_resolved s c) (choice_resolved s t) (variable_place s x)
+    ap (λ z. z && pattern_declared s t && is_variable s x) (pattern_some s c)
+    ∙ ap (λ z. is_some (pattern_resolved s c) && z && is_variable s x) (pattern_some s t)
+    ∙ ap (λ z. is_some (pattern_resolved s c) && is_some (pattern_resolved s t) && z) (placed_some s.variables x)
+    ∙ three_some _ (pattern_resolved s c) (pattern_resolved s t) (variable_place s x)
 form_some s (print_form e) = tree_some s e ∙ mapped_some _ (resolved s e)
 form_some s barrier_form = refl
 form_some s (bcast_form r x) =

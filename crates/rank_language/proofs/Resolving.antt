@@ -8,14 +8,14 @@ use Rattle.rank_grammar.specs.Tree as text
 use Rattle.rank_grammar.specs.Forms as line
 use Rattle.rank_grammar.specs.Forms.{Form, ◌>>=◌}
 use Rattle.rank_checker.specs.Scope.{Scope}
-use Rattle.rank_language.specs.Placed.{Placed, number, variable, item, reading, negation, operation, Choice, any, value}
+use Rattle.rank_language.specs.Placed.{Placed, number, variable, item, reading, negation, operation, Pattern, any, value}
 use Rattle.rank_language.specs.Placed.{Payload, one, all_of, Buffer, into_variable, into_array}
 use Rattle.rank_language.specs.Placed.{declare, declare_array, assign, assign_item, send, receive, probe, try_probe, print}
 use Rattle.rank_language.specs.Placed.{barrier, broadcast, reduce, collect, Step, does, tests, repeats, otherwise, closes}
 use Rattle.rank_language.specs.Block.{Line}
 use Rattle.rank_language.specs.Shape.{step_of}
-use Rattle.rank_language.specs.Program.{IsWithin, IsChoiceWithin, IsPayloadWithin, IsBufferWithin, IsPlaced, AllPlaced}
-use Rattle.rank_language.specs.Resolved.{place_in, variable_place, array_place, resolved, choice_resolved}
+use Rattle.rank_language.specs.Program.{IsWithin, IsPatternWithin, IsPayloadWithin, IsBufferWithin, IsPlaced, AllPlaced}
+use Rattle.rank_language.specs.Resolved.{place_in, variable_place, array_place, resolved, pattern_resolved}
 use Rattle.rank_language.specs.Resolved.{payload_resolved, buffer_resolved, form_resolved, all_resolved}
 use Rattle.rank_language.specs.Ends.{kind_of, target_of, ends_before, ends_from, line_to, lines_behind, form_line, lines_from}
 use Rattle.rank_language.proofs.Loops.{behind-steps, behind-placed}
@@ -63,13 +63,13 @@ resolved_within s (text.operation o a b) t h =
     let r : operation o left right ≡ t = cc in
     subst (IsWithin _ _) r (resolved_within s a left g, resolved_within s b right i)
 
--- each place in a resolved choice is in a table
-choice_within : (s : Scope) (c : line.Choice) (t : Choice) → choice_resolved s c ≡ Some t → IsChoiceWithin (length s.variables) (length s.arrays) t
-choice_within s line.any t h =
-    let q : any ≡ t = cc in subst (IsChoiceWithin _ _) q tt
-choice_within s (line.value e) t h =
+-- each place in a resolved pattern is in a table
+pattern_within : (s : Scope) (c : line.Pattern) (t : Pattern) → pattern_resolved s c ≡ Some t → IsPatternWithin (length s.variables) (length s.arrays) t
+pattern_within s line.any t h =
+    let q : any ≡ t = cc in subst (IsPatternWithin _ _) q tt
+pattern_within s (line.value e) t h =
     let (a, g, q) = mapped value (resolved s e) t h in
-    subst (IsChoiceWithin _ _) q (resolved_within s e a g)
+    subst (IsPatternWithin _ _) q (resolved_within s e a g)
 
 -- each place in a resolved payload is in a table
 payload_within : (s : Scope) (p : line.Payload) (t : Payload) → payload_resolved s p ≡ Some t → IsPayloadWithin (length s.variables) (length s.arrays) t
@@ -129,24 +129,24 @@ becomes s (line.send_form d g p) t h =
     subst (Becomes s (line.send_form d g p)) q
     (record { kind = refl; within = λ n. (resolved_within s d destination a, resolved_within s g tag b, payload_within s p payload c) })
 becomes s (line.recv_form r g x) t h =
-    let (source, a, i) = gone_on _ (choice_resolved s r) t h in
-    let (tag, b, j) = gone_on _ (choice_resolved s g) t i in
+    let (source, a, i) = gone_on _ (pattern_resolved s r) t h in
+    let (tag, b, j) = gone_on _ (pattern_resolved s g) t i in
     let (buffer, c, k) = gone_on _ (buffer_resolved s x) t j in
     let q : does (receive source tag buffer) ≡ t = cc in
     subst (Becomes s (line.recv_form r g x)) q
-    (record { kind = refl; within = λ n. (choice_within s r source a, choice_within s g tag b, buffer_within s x buffer c) })
+    (record { kind = refl; within = λ n. (pattern_within s r source a, pattern_within s g tag b, buffer_within s x buffer c) })
 becomes s (line.probe_form r g) t h =
-    let (source, a, i) = gone_on _ (choice_resolved s r) t h in
-    let (tag, b, j) = gone_on _ (choice_resolved s g) t i in
+    let (source, a, i) = gone_on _ (pattern_resolved s r) t h in
+    let (tag, b, j) = gone_on _ (pattern_resolved s g) t i in
     let q : does (probe source tag) ≡ t = cc in
-    subst (Becomes s (line.probe_form r g)) q (record { kind = refl; within = λ n. (choice_within s r source a, choice_within s g tag b) })
+    subst (Becomes s (line.probe_form r g)) q (record { kind = refl; within = λ n. (pattern_within s r source a, pattern_within s g tag b) })
 becomes s (line.try_probe_form r g x) t h =
-    let (source, a, i) = gone_on _ (choice_resolved s r) t h in
-    let (tag, b, j) = gone_on _ (choice_resolved s g) t i in
+    let (source, a, i) = gone_on _ (pattern_resolved s r) t h in
+    let (tag, b, j) = gone_on _ (pattern_resolved s g) t i in
     let (flag, c, k) = gone_on _ (variable_place s x) t j in
     let q : does (try_probe source tag flag) ≡ t = cc in
     subst (Becomes s (line.try_probe_form r g x)) q
-    (record { kind = refl; within = λ n. (choice_within s r source a, choice_within s g tag b, place_below s.variables x flag c) })
+    (record { kind = refl; within = λ n. (pattern_within s r source a, pattern_within s g tag b, place_below s.variables x flag c) })
 becomes s (line.print_form e) t h =
     let (a, g, q) = mapped (λ v. does (print v)) (resolved s e) t h in
     subst (Becomes s (line.print_form e)) q (record { kind = refl; within = λ n. resolved_within s e a g })

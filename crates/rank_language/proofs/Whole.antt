@@ -6,10 +6,10 @@ use Rattle.std.specs.Str.{bytes_eq}
 use Rattle.std.proofs.lemmas.Slice.Eq.{bytes_eq-Decides}
 use Rattle.std.proofs.lemmas.Bool.Decides.{nat_tests}
 use Rattle.rank_grammar.specs.Tree.{Tree, number, variable, item, reading, negation, operation}
-use Rattle.rank_grammar.specs.Forms.{Choice, any, value, Payload, lone, one}
+use Rattle.rank_grammar.specs.Forms.{Pattern, any, value, Payload, lone, one}
 use Rattle.rank_grammar.specs.Forms.{Form, var_form, array_form, let_form, item_form, if_form, else_form, end_form, while_form}
 use Rattle.rank_grammar.specs.Forms.{send_form, recv_form, probe_form, try_probe_form, print_form, barrier_form, bcast_form, reduce_form}
-use Rattle.rank_checker.specs.Scope.{Scope, nothing_yet, is_name_in, is_variable, is_array, is_declared, all_declared, choice_declared}
+use Rattle.rank_checker.specs.Scope.{Scope, nothing_yet, is_name_in, is_variable, is_array, is_declared, all_declared, pattern_declared}
 use Rattle.rank_checker.specs.Scope.{payload_declared, declared_in, is_stray, is_past_table, after, after_all, AllMayStand, IsWhole}
 use Rattle.rank_language.specs.Placed.{Step}
 use Rattle.rank_language.specs.Program.{AllSized}
@@ -47,10 +47,10 @@ tree_grows s t g (operation o d e) h =
     let (a, b) = both (all_declared s d) (all_declared s e) h in
     joined (all_declared t d) (all_declared t e) (tree_grows s t g d a) (tree_grows s t g e b)
 
--- a choice's names stay declared
-choice_grows : (s t : Scope) → Grows s t → (c : Choice) → choice_declared s c ≡ true → choice_declared t c ≡ true
-choice_grows s t g any h = refl
-choice_grows s t g (value e) h = tree_grows s t g e h
+-- a pattern's names stay declared
+pattern_grows : (s t : Scope) → Grows s t → (c : Pattern) → pattern_declared s c ≡ true → pattern_declared t c ≡ true
+pattern_grows s t g any h = refl
+pattern_grows s t g (value e) h = tree_grows s t g e h
 
 -- a payload's names stay declared
 payload_grows : (s t : Scope) → Grows s t → (p : Payload) → payload_declared s p ≡ true → payload_declared t p ≡ true
@@ -79,18 +79,18 @@ form_grows s t g (send_form d e p) h =
     joined (all_declared t d && all_declared t e) (payload_declared t p)
     (joined (all_declared t d) (all_declared t e) (tree_grows s t g d a) (tree_grows s t g e b)) (payload_grows s t g p c)
 form_grows s t g (recv_form r e x) h =
-    let (ab, c) = both (choice_declared s r && choice_declared s e) (is_declared s x) h in
-    let (a, b) = both (choice_declared s r) (choice_declared s e) ab in
-    joined (choice_declared t r && choice_declared t e) (is_declared t x)
-    (joined (choice_declared t r) (choice_declared t e) (choice_grows s t g r a) (choice_grows s t g e b)) (declared_grows s t g x c)
+    let (ab, c) = both (pattern_declared s r && pattern_declared s e) (is_declared s x) h in
+    let (a, b) = both (pattern_declared s r) (pattern_declared s e) ab in
+    joined (pattern_declared t r && pattern_declared t e) (is_declared t x)
+    (joined (pattern_declared t r) (pattern_declared t e) (pattern_grows s t g r a) (pattern_grows s t g e b)) (declared_grows s t g x c)
 form_grows s t g (probe_form r e) h =
-    let (a, b) = both (choice_declared s r) (choice_declared s e) h in
-    joined (choice_declared t r) (choice_declared t e) (choice_grows s t g r a) (choice_grows s t g e b)
+    let (a, b) = both (pattern_declared s r) (pattern_declared s e) h in
+    joined (pattern_declared t r) (pattern_declared t e) (pattern_grows s t g r a) (pattern_grows s t g e b)
 form_grows s t g (try_probe_form r e x) h =
-    let (ab, c) = both (choice_declared s r && choice_declared s e) (is_variable s x) h in
-    let (a, b) = both (choice_declared s r) (choice_declared s e) ab in
-    joined (choice_declared t r && choice_declared t e) (is_variable t x)
-    (joined (choice_declared t r) (choice_declared t e) (choice_grows s t g r a) (choice_grows s t g e b)) (g.variables x c)
+    let (ab, c) = both (pattern_declared s r && pattern_declared s e) (is_variable s x) h in
+    let (a, b) = both (pattern_declared s r) (pattern_declared s e) ab in
+    joined (pattern_declared t r && pattern_declared t e) (is_variable t x)
+    (joined (pattern_declared t r) (pattern_declared t e) (pattern_grows s t g r a) (pattern_grows s t g e b)) (g.variables x c)
 form_grows s t g (print_form e) h = tree_grows s t g e h
 form_grows s t g barrier_form h = refl
 form_grows s t g (bcast_form r x) h =

@@ -3,7 +3,7 @@ use Rattle.std.specs.Prelude.{ℕ, List, [], map, slice_index_or, unsigned_abs}
 use Rattle.rank_grammar.specs.Tree as text
 use Rattle.rank_grammar.specs.Forms as line
 use Rattle.rank_checker.specs.Scope.{Scope}
-use Rattle.rank_language.specs.Placed.{Placed, number, variable, item, reading, negation, operation, Choice, any, value}
+use Rattle.rank_language.specs.Placed.{Placed, number, variable, item, reading, negation, operation, Pattern, any, value}
 use Rattle.rank_language.specs.Placed.{Payload, one, all_of, Buffer, into_variable, into_array}
 use Rattle.rank_language.specs.Placed.{declare, declare_array, assign, assign_item, send, receive, probe, try_probe, print}
 use Rattle.rank_language.specs.Placed.{Collective, barrier, broadcast, reduce, collect, Step, does, tests, repeats, otherwise, closes}
@@ -28,9 +28,9 @@ named s (negation e) = text.negation (named s e)
 named s (operation o a b) = text.operation o (named s a) (named s b)
 
 -- a source or a tag with names for its places
-abbrev pub choice_named : Scope → Choice → line.Choice
-choice_named s any = line.any
-choice_named s (value e) = line.value (named s e)
+abbrev pub pattern_named : Scope → Pattern → line.Pattern
+pattern_named s any = line.any
+pattern_named s (value e) = line.value (named s e)
 
 -- a value that is sent: a variable by itself is written as a lone name
 abbrev pub value_named : Scope → Placed → line.Payload
@@ -64,9 +64,9 @@ form_named s (does (declare_array p)) = line.array_form (array_at s p).0 (array_
 form_named s (does (assign p e)) = line.let_form (variable_name s p) (named s e)
 form_named s (does (assign_item p i e)) = line.item_form (array_at s p).0 (named s i) (named s e)
 form_named s (does (send d t p)) = line.send_form (named s d) (named s t) (payload_named s p)
-form_named s (does (receive c t b)) = line.recv_form (choice_named s c) (choice_named s t) (buffer_name s b)
-form_named s (does (probe c t)) = line.probe_form (choice_named s c) (choice_named s t)
-form_named s (does (try_probe c t p)) = line.try_probe_form (choice_named s c) (choice_named s t) (variable_name s p)
+form_named s (does (receive c t b)) = line.recv_form (pattern_named s c) (pattern_named s t) (buffer_name s b)
+form_named s (does (probe c t)) = line.probe_form (pattern_named s c) (pattern_named s t)
+form_named s (does (try_probe c t p)) = line.try_probe_form (pattern_named s c) (pattern_named s t) (variable_name s p)
 form_named s (does (print e)) = line.print_form (named s e)
 form_named s (does (collect c)) = collective_named s c
 form_named s (tests e) = line.if_form (named s e)

@@ -14,9 +14,9 @@ pub data Placed : Type 0 where
   operation : (o : Operator) (a b : Placed) → Placed
 
 -- the source or the tag that a receive or a probe asks for
-pub data Choice : Type 0 where
-  any : Choice
-  value : (e : Placed) → Choice
+pub data Pattern : Type 0 where
+  any : Pattern
+  value : (e : Placed) → Pattern
 
 -- what a send gives: one item, or all items of an array
 pub data Payload : Type 0 where
@@ -42,9 +42,9 @@ pub data Simple : Type 0 where
   assign : (place : ℕ) (e : Placed) → Simple
   assign_item : (place : ℕ) (index e : Placed) → Simple
   send : (destination tag : Placed) (payload : Payload) → Simple
-  receive : (source tag : Choice) (buffer : Buffer) → Simple
-  probe : (source tag : Choice) → Simple
-  try_probe : (source tag : Choice) (flag : ℕ) → Simple
+  receive : (source tag : Pattern) (buffer : Buffer) → Simple
+  probe : (source tag : Pattern) → Simple
+  try_probe : (source tag : Pattern) (flag : ℕ) → Simple
   print : (e : Placed) → Simple
   collect : (c : Collective) → Simple
 

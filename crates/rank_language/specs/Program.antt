@@ -4,7 +4,7 @@ use Rattle.metered.specs.Limits.{most_items}
 use Rattle.rank_checker.specs.declared.scope.Array.{Array}
 use Rattle.rank_checker.specs.SeenLines.{arrays_seen}
 use Rattle.rank_language.specs.declared.statement.Statement.{Statement}
-use Rattle.rank_language.specs.Placed.{Placed, number, variable, item, reading, negation, operation, Choice, any, value, Payload}
+use Rattle.rank_language.specs.Placed.{Placed, number, variable, item, reading, negation, operation, Pattern, any, value, Payload}
 use Rattle.rank_language.specs.Placed.{one, all_of, Buffer, into_variable, into_array, declare, declare_array, assign, assign_item}
 use Rattle.rank_language.specs.Placed.{send, receive, probe, try_probe, print, Collective, barrier, broadcast, reduce, collect}
 use Rattle.rank_language.specs.Block.{Block, Line, simple_line, if_line, else_line, end_line, while_line, back_line}
@@ -30,10 +30,10 @@ IsWithin v a (reading r) = Unit {0}
 IsWithin v a (negation e) = IsWithin v a e
 IsWithin v a (operation o e f) = IsWithin v a e × IsWithin v a f
 
--- each place in a choice is
-abbrev pub IsChoiceWithin : ℕ → ℕ → Choice → Type 0
-IsChoiceWithin v a any = Unit {0}
-IsChoiceWithin v a (value e) = IsWithin v a e
+-- each place in a pattern is
+abbrev pub IsPatternWithin : ℕ → ℕ → Pattern → Type 0
+IsPatternWithin v a any = Unit {0}
+IsPatternWithin v a (value e) = IsWithin v a e
 
 -- each place in a payload is
 abbrev pub IsPayloadWithin : ℕ → ℕ → Payload → Type 0
@@ -58,9 +58,9 @@ IsPlaced v a (simple_line (declare_array p)) = p < a
 IsPlaced v a (simple_line (assign p e)) = (p < v) × IsWithin v a e
 IsPlaced v a (simple_line (assign_item p i e)) = (p < a) × IsWithin v a i × IsWithin v a e
 IsPlaced v a (simple_line (send d t p)) = IsWithin v a d × IsWithin v a t × IsPayloadWithin v a p
-IsPlaced v a (simple_line (receive s t b)) = IsChoiceWithin v a s × IsChoiceWithin v a t × IsBufferWithin v a b
-IsPlaced v a (simple_line (probe s t)) = IsChoiceWithin v a s × IsChoiceWithin v a t
-IsPlaced v a (simple_line (try_probe s t p)) = IsChoiceWithin v a s × IsChoiceWithin v a t × (p < v)
+IsPlaced v a (simple_line (receive s t b)) = IsPatternWithin v a s × IsPatternWithin v a t × IsBufferWithin v a b
+IsPlaced v a (simple_line (probe s t)) = IsPatternWithin v a s × IsPatternWithin v a t
+IsPlaced v a (simple_line (try_probe s t p)) = IsPatternWithin v a s × IsPatternWithin v a t × (p < v)
 IsPlaced v a (simple_line (print e)) = IsWithin v a e
 IsPlaced v a (simple_line (collect c)) = IsCollectiveWithin v a c
 IsPlaced v a (if_line e q) = IsWithin v a e

@@ -5,7 +5,7 @@ use Rattle.rank_grammar.specs.Tree as text
 use Rattle.rank_grammar.specs.Forms as line
 use Rattle.rank_grammar.specs.Forms.{◌>>=◌}
 use Rattle.rank_checker.specs.Scope.{Scope}
-use Rattle.rank_language.specs.Placed.{Placed, number, variable, item, reading, negation, operation, Choice, any, value}
+use Rattle.rank_language.specs.Placed.{Placed, number, variable, item, reading, negation, operation, Pattern, any, value}
 use Rattle.rank_language.specs.Placed.{Payload, one, all_of, Buffer, into_variable, into_array}
 use Rattle.rank_language.specs.Placed.{declare, declare_array, assign, assign_item, send, receive, probe, try_probe, print}
 use Rattle.rank_language.specs.Placed.{barrier, broadcast, reduce, collect, Step, does, tests, repeats, otherwise, closes}
@@ -38,9 +38,9 @@ resolved s (text.operation o a b) = do
   Some (operation o left right)
 
 -- a source or a tag with places for its names
-abbrev pub choice_resolved : Scope → line.Choice → Option Choice
-choice_resolved s line.any = Some any
-choice_resolved s (line.value e) = option_map value (resolved s e)
+abbrev pub pattern_resolved : Scope → line.Pattern → Option Pattern
+pattern_resolved s line.any = Some any
+pattern_resolved s (line.value e) = option_map value (resolved s e)
 
 -- what a name by itself stands for: one thing where it is a variable, another where it is an array
 abbrev pub either_place : {A : Type 0} → (ℕ → A) → (ℕ → A) → Option ℕ → Option ℕ → Option A
@@ -79,17 +79,17 @@ form_resolved s (line.send_form d t p) = do
   payload ← payload_resolved s p
   Some (does (send destination tag payload))
 form_resolved s (line.recv_form c t x) = do
-  source ← choice_resolved s c
-  tag ← choice_resolved s t
+  source ← pattern_resolved s c
+  tag ← pattern_resolved s t
   buffer ← buffer_resolved s x
   Some (does (receive source tag buffer))
 form_resolved s (line.probe_form c t) = do
-  source ← choice_resolved s c
-  tag ← choice_resolved s t
+  source ← pattern_resolved s c
+  tag ← pattern_resolved s t
   Some (does (probe source tag))
 form_resolved s (line.try_probe_form c t x) = do
-  source ← choice_resolved s c
-  tag ← choice_resolved s t
+  source ← pattern_resolved s c
+  tag ← pattern_resolved s t
   flag ← variable_place s x
   Some (does (try_probe source tag flag))
 form_resolved s (line.print_form e) = option_map (λ v. does (print v)) (resolved s e)

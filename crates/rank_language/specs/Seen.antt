@@ -3,12 +3,12 @@ use Rattle.std.specs.Prelude.{Option, Some, None}
 use Rattle.std.specs.Borrow.{Bor}
 use Rattle.rank_language.specs.declared.expression.Expression.{Expression}
 use Rattle.rank_language.specs.declared.expression.Expression.TheVariants as made
-use Rattle.rank_language.specs.declared.statement.Choice as source_choice
+use Rattle.rank_language.specs.declared.statement.Pattern as source_pattern
 use Rattle.rank_language.specs.declared.statement.Payload as source_payload
 use Rattle.rank_language.specs.declared.statement.Buffer as source_buffer
 use Rattle.rank_language.specs.declared.statement.Collective as source_collective
 use Rattle.rank_language.specs.declared.statement.Statement as source_statement
-use Rattle.rank_language.specs.Placed.{Placed, number, variable, item, reading, negation, operation, Choice, any, value, Payload}
+use Rattle.rank_language.specs.Placed.{Placed, number, variable, item, reading, negation, operation, Pattern, any, value, Payload}
 use Rattle.rank_language.specs.Placed.{one, all_of, Buffer, into_variable, into_array, declare, declare_array, assign, assign_item}
 use Rattle.rank_language.specs.Placed.{send, receive, probe, try_probe, print, Collective, barrier, broadcast, reduce, collect}
 use Rattle.rank_language.specs.Block.{Line, simple_line, if_line, else_line, end_line, while_line, back_line}
@@ -22,10 +22,10 @@ placed_of (made.Reading r) = reading r
 placed_of (made.Negation' l e) = negation (placed_of e)
 placed_of (made.Operation' o l a m b) = operation o (placed_of a) (placed_of b)
 
--- a choice without where it lies
-abbrev pub choice_of : source_choice.Choice → Choice
-choice_of source_choice.TheVariants.Any = any
-choice_of (source_choice.TheVariants.Value e) = value (placed_of e)
+-- a pattern without where it lies
+abbrev pub pattern_of : source_pattern.Pattern → Pattern
+pattern_of source_pattern.TheVariants.Any = any
+pattern_of (source_pattern.TheVariants.Value e) = value (placed_of e)
 
 -- a payload without where it lies
 abbrev pub payload_of : source_payload.Payload → Payload
@@ -55,9 +55,9 @@ line_of source_statement.TheVariants.EndIf = end_line
 line_of (source_statement.TheVariants.While e q) = while_line (placed_of e) q
 line_of (source_statement.TheVariants.EndWhile q) = back_line q
 line_of (source_statement.TheVariants.Send d t p) = simple_line (send (placed_of d) (placed_of t) (payload_of p))
-line_of (source_statement.TheVariants.Receive s t b) = simple_line (receive (choice_of s) (choice_of t) (buffer_of b))
-line_of (source_statement.TheVariants.Probe s t) = simple_line (probe (choice_of s) (choice_of t))
-line_of (source_statement.TheVariants.TryProbe s t p) = simple_line (try_probe (choice_of s) (choice_of t) p)
+line_of (source_statement.TheVariants.Receive s t b) = simple_line (receive (pattern_of s) (pattern_of t) (buffer_of b))
+line_of (source_statement.TheVariants.Probe s t) = simple_line (probe (pattern_of s) (pattern_of t))
+line_of (source_statement.TheVariants.TryProbe s t p) = simple_line (try_probe (pattern_of s) (pattern_of t) p)
 line_of (source_statement.TheVariants.Print e) = simple_line (print (placed_of e))
 line_of (source_statement.TheVariants.Collect c) = simple_line (collect (collective_of c))
 

@@ -1,20 +1,20 @@
 //! Names for the places of a statement.
 ghost use Rattle.std.specs.Prelude.{◌≡◌, ◌<◌, IfOk, length, map};
-ghost use Rattle.rank_grammar.specs.SeenForms.{choice_of as choice_seen, form_seen, payload_seen};
+ghost use Rattle.rank_grammar.specs.SeenForms.{pattern_of as pattern_seen, form_seen, payload_seen};
 ghost use Rattle.rank_grammar.specs.Tree.{tree_of};
 ghost use Rattle.rank_checker.specs.SeenLines.{forms_seen};
-ghost use Rattle.rank_language.specs.Named.{array_at, buffer_name, choice_named, collective_named, form_named};
+ghost use Rattle.rank_language.specs.Named.{array_at, buffer_name, pattern_named, collective_named, form_named};
 ghost use Rattle.rank_language.specs.Named.{named, payload_named, value_named};
 ghost use Rattle.rank_language.specs.Placed.{declare_array, does, receive, send};
 ghost use Rattle.rank_language.specs.Program.{AllPlaced, IsPlaced, IsWithin};
-ghost use Rattle.rank_language.specs.Program.{IsBufferWithin, IsChoiceWithin, IsCollectiveWithin, IsPayloadWithin};
-ghost use Rattle.rank_language.specs.Seen.{buffer_of, choice_of, collective_of, line_of, payload_of, placed_of};
+ghost use Rattle.rank_language.specs.Program.{IsBufferWithin, IsPatternWithin, IsCollectiveWithin, IsPayloadWithin};
+ghost use Rattle.rank_language.specs.Seen.{buffer_of, pattern_of, collective_of, line_of, payload_of, placed_of};
 ghost use Rattle.rank_language.specs.SeenTables.{tables_seen};
 ghost use Rattle.rank_language.specs.Shape.{step_of};
 
 use crate::expression::Expression;
 use crate::resolve::Tables;
-use crate::statement::{Buffer, Choice, Collective, Payload, Statement};
+use crate::statement::{Buffer, Pattern, Collective, Payload, Statement};
 use metered::Heap;
 use rank_checker::Array;
 use rank_grammar::{Form, Name, Written, form};
@@ -55,13 +55,13 @@ fn name(alloc: Heap, tables: Tables<'_>, expression: &Expression) -> Result<Writ
 }
 
 /// The source or the tag with names for its places.
-fn name_choice(alloc: Heap, tables: Tables<'_>, choice: &Choice) -> Result<form::Choice, AllocError>
-    requires { IsChoiceWithin (length (tables_seen tables).variables) (length (tables_seen tables).arrays) (choice_of choice.now) }
-    ensures { IfOk result (λ c. choice_seen c ≡ choice_named (tables_seen tables.entry) (choice_of choice.now)) }
+fn name_pattern(alloc: Heap, tables: Tables<'_>, pattern: &Pattern) -> Result<form::Pattern, AllocError>
+    requires { IsPatternWithin (length (tables_seen tables).variables) (length (tables_seen tables).arrays) (pattern_of pattern.now) }
+    ensures { IfOk result (λ c. pattern_seen c ≡ pattern_named (tables_seen tables.entry) (pattern_of pattern.now)) }
 {
-    match choice {
-        Choice::Any => Ok(form::Choice::Any),
-        Choice::Value(expression) => Ok(form::Choice::Value(name(alloc, tables, expression)?)),
+    match pattern {
+        Pattern::Any => Ok(form::Pattern::Any),
+        Pattern::Value(expression) => Ok(form::Pattern::Value(name(alloc, tables, expression)?)),
     }
 }
 
@@ -144,19 +144,19 @@ fn name_send(
 fn name_receive(
     alloc: Heap,
     tables: Tables<'_>,
-    source: &Choice,
-    tag: &Choice,
+    source: &Pattern,
+    tag: &Pattern,
     buffer: &Buffer,
 ) -> Result<Form, AllocError>
-    requires source { IsChoiceWithin (length (tables_seen tables).variables) (length (tables_seen tables).arrays) (choice_of source.now) }
-    requires tag { IsChoiceWithin (length (tables_seen tables).variables) (length (tables_seen tables).arrays) (choice_of tag.now) }
+    requires source { IsPatternWithin (length (tables_seen tables).variables) (length (tables_seen tables).arrays) (pattern_of source.now) }
+    requires tag { IsPatternWithin (length (tables_seen tables).variables) (length (tables_seen tables).arrays) (pattern_of tag.now) }
     requires buffer { IsBufferWithin (length (tables_seen tables).variables) (length (tables_seen tables).arrays) (buffer_of buffer.now) }
     ensures { IfOk result (λ f. form_seen f
-        ≡ form_named (tables_seen tables.entry) (does (receive (choice_of source.now) (choice_of tag.now) (buffer_of buffer.now)))) }
+        ≡ form_named (tables_seen tables.entry) (does (receive (pattern_of source.now) (pattern_of tag.now) (buffer_of buffer.now)))) }
 {
     Ok(Form::Recv(
-        name_choice(alloc, tables, source)?,
-        name_choice(alloc, tables, tag)?,
+        name_pattern(alloc, tables, source)?,
+        name_pattern(alloc, tables, tag)?,
         name_buffer(tables, buffer),
     ))
 }
@@ -226,12 +226,12 @@ pub(crate) fn name_form(
             buffer,
         } => name_receive(alloc, tables, source, tag, buffer),
         Statement::Probe { source, tag } => Ok(Form::Probe(
-            name_choice(alloc, tables, source)?,
-            name_choice(alloc, tables, tag)?,
+            name_pattern(alloc, tables, source)?,
+            name_pattern(alloc, tables, tag)?,
         )),
         Statement::TryProbe { source, tag, flag } => Ok(Form::TryProbe(
-            name_choice(alloc, tables, source)?,
-            name_choice(alloc, tables, tag)?,
+            name_pattern(alloc, tables, source)?,
+            name_pattern(alloc, tables, tag)?,
             tables.variables[*flag],
         )),
         Statement::Print(value) => Ok(Form::Print(name(alloc, tables, value)?)),

@@ -1,36 +1,36 @@
 //! Places for the names of a statement.
 ghost use Rattle.std.specs.Prelude.{◌≡◌, ℕ, Some, IfOk, true, false, option_map};
-ghost use Rattle.rank_grammar.specs.SeenForms.{choice_of as choice_seen, form_seen, payload_seen};
+ghost use Rattle.rank_grammar.specs.SeenForms.{pattern_of as pattern_seen, form_seen, payload_seen};
 ghost use Rattle.rank_grammar.specs.Forms.{bcast_form, lone, probe_form, recv_form, reduce_form, try_probe_form};
 ghost use Rattle.rank_grammar.specs.Tree.{tree_of};
-ghost use Rattle.rank_checker.specs.Scope.{is_declared, choice_declared, choice_is_great, payload_declared, payload_is_great};
+ghost use Rattle.rank_checker.specs.Scope.{is_declared, pattern_declared, pattern_is_great, payload_declared, payload_is_great};
 ghost use Rattle.rank_language.specs.Resolvable.{IsResolvable};
-ghost use Rattle.rank_language.specs.Resolved.{buffer_resolved, choice_resolved, form_resolved, payload_resolved};
+ghost use Rattle.rank_language.specs.Resolved.{buffer_resolved, pattern_resolved, form_resolved, payload_resolved};
 ghost use Rattle.rank_language.specs.Ends.{line_to};
 ghost use Rattle.rank_language.specs.Placed.{collect, does};
-ghost use Rattle.rank_language.specs.Seen.{buffer_of, choice_of, collective_of, line_of, payload_of};
+ghost use Rattle.rank_language.specs.Seen.{buffer_of, pattern_of, collective_of, line_of, payload_of};
 ghost use Rattle.rank_language.specs.SeenTables.{tables_seen};
 
 use crate::expression::Expression;
 use crate::resolve::{Declared, Tables, resolve};
-use crate::statement::{Buffer, Choice, Collective, Payload, Statement};
+use crate::statement::{Buffer, Pattern, Collective, Payload, Statement};
 use metered::Heap;
 use rank_grammar::{Form, Name, Reduction, Written, form};
 use std::alloc::AllocError;
 
 /// The source or the tag with places for its names.
-pub(crate) fn resolve_choice(
+pub(crate) fn resolve_pattern(
     alloc: Heap,
     tables: Tables<'_>,
-    choice: &form::Choice,
-) -> Result<Choice, AllocError>
-    requires declared { choice_declared (tables_seen tables) (choice_seen choice.now) ≡ true }
-    requires fitting { choice_is_great (choice_seen choice.now) ≡ false }
-    ensures { IfOk result (λ c. choice_resolved (tables_seen tables.entry) (choice_seen choice.now) ≡ Some (choice_of c)) }
+    pattern: &form::Pattern,
+) -> Result<Pattern, AllocError>
+    requires declared { pattern_declared (tables_seen tables) (pattern_seen pattern.now) ≡ true }
+    requires fitting { pattern_is_great (pattern_seen pattern.now) ≡ false }
+    ensures { IfOk result (λ c. pattern_resolved (tables_seen tables.entry) (pattern_seen pattern.now) ≡ Some (pattern_of c)) }
 {
-    match choice {
-        form::Choice::Any => Ok(Choice::Any),
-        form::Choice::Value(written) => Ok(Choice::Value(resolve(alloc, tables, written)?)),
+    match pattern {
+        form::Pattern::Any => Ok(Pattern::Any),
+        form::Pattern::Value(written) => Ok(Pattern::Value(resolve(alloc, tables, written)?)),
     }
 }
 
@@ -76,18 +76,18 @@ pub(crate) fn resolve_payload(
 fn resolve_receive(
     alloc: Heap,
     tables: Tables<'_>,
-    source: &form::Choice,
-    tag: &form::Choice,
+    source: &form::Pattern,
+    tag: &form::Pattern,
     buffer: Name,
 ) -> Result<Statement, AllocError>
-    requires resolvable { IsResolvable (tables_seen tables) (recv_form (choice_seen source.now) (choice_seen tag.now) buffer) }
+    requires resolvable { IsResolvable (tables_seen tables) (recv_form (pattern_seen source.now) (pattern_seen tag.now) buffer) }
     ensures { (target : ℕ) → IfOk result (λ statement.
-        option_map (line_to target) (form_resolved (tables_seen tables.entry) (recv_form (choice_seen source.now) (choice_seen tag.now) buffer))
+        option_map (line_to target) (form_resolved (tables_seen tables.entry) (recv_form (pattern_seen source.now) (pattern_seen tag.now) buffer))
         ≡ Some (line_of statement)) }
 {
     Ok(Statement::Receive {
-        source: resolve_choice(alloc, tables, source)?,
-        tag: resolve_choice(alloc, tables, tag)?,
+        source: resolve_pattern(alloc, tables, source)?,
+        tag: resolve_pattern(alloc, tables, tag)?,
         buffer: resolve_buffer(tables, buffer),
     })
 }
@@ -96,17 +96,17 @@ fn resolve_receive(
 fn resolve_probe(
     alloc: Heap,
     tables: Tables<'_>,
-    source: &form::Choice,
-    tag: &form::Choice,
+    source: &form::Pattern,
+    tag: &form::Pattern,
 ) -> Result<Statement, AllocError>
-    requires resolvable { IsResolvable (tables_seen tables) (probe_form (choice_seen source.now) (choice_seen tag.now)) }
+    requires resolvable { IsResolvable (tables_seen tables) (probe_form (pattern_seen source.now) (pattern_seen tag.now)) }
     ensures { (target : ℕ) → IfOk result (λ statement.
-        option_map (line_to target) (form_resolved (tables_seen tables.entry) (probe_form (choice_seen source.now) (choice_seen tag.now)))
+        option_map (line_to target) (form_resolved (tables_seen tables.entry) (probe_form (pattern_seen source.now) (pattern_seen tag.now)))
         ≡ Some (line_of statement)) }
 {
     Ok(Statement::Probe {
-        source: resolve_choice(alloc, tables, source)?,
-        tag: resolve_choice(alloc, tables, tag)?,
+        source: resolve_pattern(alloc, tables, source)?,
+        tag: resolve_pattern(alloc, tables, tag)?,
     })
 }
 
@@ -114,18 +114,18 @@ fn resolve_probe(
 fn resolve_try_probe(
     alloc: Heap,
     tables: Tables<'_>,
-    source: &form::Choice,
-    tag: &form::Choice,
+    source: &form::Pattern,
+    tag: &form::Pattern,
     flag: Name,
 ) -> Result<Statement, AllocError>
-    requires resolvable { IsResolvable (tables_seen tables) (try_probe_form (choice_seen source.now) (choice_seen tag.now) flag) }
+    requires resolvable { IsResolvable (tables_seen tables) (try_probe_form (pattern_seen source.now) (pattern_seen tag.now) flag) }
     ensures { (target : ℕ) → IfOk result (λ statement.
-        option_map (line_to target) (form_resolved (tables_seen tables.entry) (try_probe_form (choice_seen source.now) (choice_seen tag.now) flag))
+        option_map (line_to target) (form_resolved (tables_seen tables.entry) (try_probe_form (pattern_seen source.now) (pattern_seen tag.now) flag))
         ≡ Some (line_of statement)) }
 {
     Ok(Statement::TryProbe {
-        source: resolve_choice(alloc, tables, source)?,
-        tag: resolve_choice(alloc, tables, tag)?,
+        source: resolve_pattern(alloc, tables, source)?,
+        tag: resolve_pattern(alloc, tables, tag)?,
         flag: tables.variable(flag),
     })
 }

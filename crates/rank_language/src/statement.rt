@@ -8,7 +8,7 @@ use rank_grammar::Reduction;
 
 /// The source or the tag that a receive or a probe asks for.
 #[derive(Debug, Drop)]
-pub enum Choice {
+pub enum Pattern {
     Any,
     Value(Expression),
 }
@@ -76,19 +76,19 @@ pub enum Statement {
         payload: Payload,
     },
     Receive {
-        source: Choice,
-        tag: Choice,
+        source: Pattern,
+        tag: Pattern,
         buffer: Buffer,
     },
     /// It shows the packet that a receive would take, and leaves it.
     Probe {
-        source: Choice,
-        tag: Choice,
+        source: Pattern,
+        tag: Pattern,
     },
     /// A probe that doesn't wait: the variable `flag`, by its place, gets 1 where a packet is shown, else 0.
     TryProbe {
-        source: Choice,
-        tag: Choice,
+        source: Pattern,
+        tag: Pattern,
         flag: usize,
     },
     Print(Expression),

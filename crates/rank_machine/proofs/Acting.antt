@@ -14,7 +14,7 @@ use Rattle.rank_machine.specs.Values.{Store, Valued, ◌>>=◌}
 use Rattle.rank_machine.specs.Collectives.{Call, called, part_of, is_last, counted, passed, greatest_ordinal}
 use Rattle.rank_machine.specs.Acts.{Message, with_variable, with_status}
 use Rattle.rank_machine.specs.Wants.{part_want, collective_want, or_fault, want_of}
-use Rattle.rank_machine.specs.Machine.{MachineValue, line_at, asked, asks, next_of, call_at, HasStage, IsAtLine, IsWithinLimits, IsMachine}
+use Rattle.rank_machine.specs.Machine.{MachineValue, line_at, machine_want_at, machine_want, next_of, call_at, HasStage, IsAtLine, IsWithinLimits, IsMachine}
 use Rattle.rank_machine.proofs.Going.{IsNoCollectiveLine, after_part}
 use Rattle.rank_machine.proofs.Stages.{fresh}
 
@@ -81,11 +81,11 @@ no_fault P s b (Some f) none h = absurd (none f h)
 
 -- what a machine asks for at a collective, where it is an act
 pub calls : (P : Want → Type 0) (m : MachineValue) (c : Collective) → IsAtLine m → line_at m ≡ Some (simple_line (collect c))
-    → ((k : MachineFault) → P (want.Faulted k) → ⊥) → P (asks m) → IsCalling P m c
+    → ((k : MachineFault) → P (want.Faulted k) → ⊥) → P (machine_want m) → IsCalling P m c
 calls P m c h at none w =
     let b : Block = remaining (block_of m.program) m.position in
     let stands : b ≡ plain (collect c) (remaining (block_of m.program) (m.position + 1)) = h.leads (simple_line (collect c)) at in
-    let v : P (want_of m.store b m.fault) = subst (λ o. P (asked o m.fault (want_of m.store b m.fault))) at w in
+    let v : P (want_of m.store b m.fault) = subst (λ o. P (machine_want_at o m.fault (want_of m.store b m.fault))) at w in
     let k = no_fault P m.store b m.fault none v in
     let u : P (or_fault (collective_want m.store c)) = subst P (ap (want_of m.store b) k ∙ ap (λ z. want_of m.store z None) stands) v in
     let call = was_called P m.store c (called m.store c) none u in

@@ -4,9 +4,9 @@ use Rattle.std.proofs.Common.{◌≡◌, ◌≤◌, length, Ok, Err, Option, Som
 use Rattle.metered.specs.Limits as limits
 use Rattle.matching.specs.declared.packet.Context.TheVariants.{PointToPoint}
 use Rattle.matching.specs.declared.selector.Selector.{Selector}
-use Rattle.matching.specs.Message as packet
-use Rattle.matching.specs.Message.{IsMessage, most_items, greatest_tag}
-use Rattle.rank_language.specs.Placed.{Choice, declare, declare_array, assign, assign_item, send, receive, probe, try_probe, print, Collective, collect}
+use Rattle.matching.specs.PacketValue as packet
+use Rattle.matching.specs.PacketValue.{IsPacketValue, most_items, greatest_tag}
+use Rattle.rank_language.specs.Placed.{Pattern, declare, declare_array, assign, assign_item, send, receive, probe, try_probe, print, Collective, collect}
 use Rattle.rank_language.specs.Block.{Block, done, plain, if_only, if_else, loop}
 use Rattle.rank_machine.specs.declared.fault.MachineFault.{MachineFault}
 use Rattle.rank_machine.specs.declared.want.Want.{Want}
@@ -14,9 +14,9 @@ use Rattle.rank_machine.specs.declared.want.Want.TheVariants as want
 use Rattle.rank_machine.specs.Values.{Store, Valued, ◌>>=◌, value, rank_in}
 use Rattle.rank_machine.specs.Collectives.{Call, called, Part, gives, gets, ends, part_of, ended}
 use Rattle.rank_machine.specs.States.{item_value}
-use Rattle.rank_machine.specs.Wants.{tag_in, items_of, choice_value, where_named, selector_of, part_want, collective_want, or_fault, want_of, wants}
-use Rattle.rank_machine.specs.Machine.{MachineValue, state_of, line_at, asks, IsShowing}
-use Rattle.rank_machine.proofs.Going.{asks_only}
+use Rattle.rank_machine.specs.Wants.{tag_in, items_of, pattern_value, where_named, selector_of, part_want, collective_want, or_fault, want_of, wants}
+use Rattle.rank_machine.specs.Machine.{MachineValue, state_of, line_at, machine_want, IsShowing}
+use Rattle.rank_machine.proofs.Going.{wants_only}
 use Rattle.rank_machine.proofs.Making.{named}
 
 -- a probe that is wanted names just messages between two ranks
@@ -36,11 +36,11 @@ follows P (Ok x) f h = h x
 follows P (Err k) f h = tt
 
 -- a source and a tag name messages between two ranks
-pub selects : (s : Store) (c t : Choice) → IfOk (selector_of s c t) (λ w. w.context ≡ PointToPoint)
+pub selects : (s : Store) (c t : Pattern) → IfOk (selector_of s c t) (λ w. w.context ≡ PointToPoint)
 selects s c t =
     let P : Selector → Type 0 = λ w. w.context ≡ PointToPoint in
-    follows P (choice_value s c) _
-    (λ x. follows P (choice_value s t) _
+    follows P (pattern_value s c) _
+    (λ x. follows P (pattern_value s t) _
     (λ y. follows P (where_named (rank_in s.size) x) _ (λ source. follows P (where_named tag_in y) _ (λ tag. refl))))
 
 -- what asks for nothing but its own selector, or faults
@@ -86,16 +86,16 @@ wants_between s (if_else e y o r) None = unasked (value s e) _ (λ z. tt)
 wants_between s (loop e y r) None = unasked (value s e) _ (λ z. tt)
 
 -- such a message's tag and number of items are within their limits
-pub record IsFew (m : packet.Message) : Type 0 where
+pub record IsFew (m : packet.PacketValue) : Type 0 where
   pub tag : m.tag ≤ limits.greatest_tag
   pub count : length m.items ≤ limits.most_items
 
 -- one between two ranks is such
-pub few : (m : packet.Message) → IsMessage m → m.context ≡ PointToPoint → IsFew m
+pub few : (m : packet.PacketValue) → IsPacketValue m → m.context ≡ PointToPoint → IsFew m
 few m h e = record { tag = subst (λ c. m.tag ≤ greatest_tag c) e h.tag; count = subst (λ c. length m.items ≤ most_items c) e h.most }
 
 -- so a message that is shown to a probe, or to a try of one, is within those limits
-shown_of : (w : Want) (m : packet.Message) → IsMessage m → IsBetween w → IsShowing w m → IsFew m
+shown_of : (w : Want) (m : packet.PacketValue) → IsPacketValue m → IsBetween w → IsShowing w m → IsFew m
 shown_of (want.Probe w) m h b i = few m h ((named w m i).0 ∙ b)
 shown_of (want.TryProbe w) m h b i = few m h ((named w m i).0 ∙ b)
 shown_of want.Internal m h b i = absurd i
@@ -106,6 +106,6 @@ shown_of want.Halted m h b i = absurd i
 shown_of (want.Faulted k) m h b i = absurd i
 
 -- a message that a machine may be shown is one of these
-pub shown_few : (m : MachineValue) (p : packet.Message) → IsMessage p → IsShowing (asks m) p → IsFew p
+pub shown_few : (m : MachineValue) (p : packet.PacketValue) → IsPacketValue p → IsShowing (machine_want m) p → IsFew p
 shown_few m p h i =
-    shown_of (wants (state_of m)) p h (wants_between m.store (state_of m).rest m.fault) (asks_only (λ w. IsShowing w p) (line_at m) m.fault _ (λ z. z) i)
+    shown_of (wants (state_of m)) p h (wants_between m.store (state_of m).rest m.fault) (wants_only (λ w. IsShowing w p) (line_at m) m.fault _ (λ z. z) i)

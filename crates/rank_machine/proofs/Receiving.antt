@@ -6,9 +6,9 @@ use Rattle.std.proofs.lemmas.List.{length-set}
 use Rattle.std.proofs.lemmas.Bool.Decides.{nat_tests}
 use Rattle.matching.specs.declared.packet.Context.TheVariants.{PointToPoint}
 use Rattle.matching.specs.declared.selector.Selector.{Selector}
-use Rattle.matching.specs.Message as packet
-use Rattle.matching.specs.Message.{IsMessage}
-use Rattle.rank_language.specs.Placed.{Buffer, into_variable, into_array, Choice, receive, Collective, barrier, broadcast, reduce, collect}
+use Rattle.matching.specs.PacketValue as packet
+use Rattle.matching.specs.PacketValue.{IsPacketValue}
+use Rattle.rank_language.specs.Placed.{Buffer, into_variable, into_array, Pattern, receive, Collective, barrier, broadcast, reduce, collect}
 use Rattle.rank_language.specs.Block.{Block, plain, simple_line, remaining, size}
 use Rattle.rank_language.specs.Program.{block_of}
 use Rattle.rank_machine.specs.declared.call.Call as source_call
@@ -23,7 +23,7 @@ use Rattle.rank_machine.specs.States.{State}
 use Rattle.rank_machine.specs.Wants.{selector_of, part_want, receive_want, or_fault, want_of}
 use Rattle.rank_machine.specs.Acts.{Act, Message, carried, takes, room, written, with_status, received, kept}
 use Rattle.rank_machine.specs.Acts.{fitting, items_taken, part_taken, collected, after_first, unless_faulted, next}
-use Rattle.rank_machine.specs.Machine.{MachineValue, state_of, line_at, asked, asks, IsReceiving, IsAtLine, IsMachine}
+use Rattle.rank_machine.specs.Machine.{MachineValue, state_of, line_at, machine_want_at, machine_want, IsReceiving, IsAtLine, IsMachine}
 use Rattle.rank_machine.proofs.Lines.{never}
 use Rattle.rank_machine.proofs.Making.{named}
 use Rattle.rank_machine.proofs.Between.{IsFew, few, selects}
@@ -35,39 +35,39 @@ use Rattle.rank_machine.proofs.Acting.{IsCalling, no_fault, calls, call_stage, I
 use Rattle.rank_machine.proofs.Acting.{part_ahead, part_is, same_line, Shows, plain_machine}
 
 -- what a receive statement names is between two ranks, so the message that it takes has few items
-selected_few : (v : Valued Selector) (m : packet.Message) → IsMessage m → IfOk v (λ w. w.context ≡ PointToPoint)
+selected_few : (v : Valued Selector) (m : packet.PacketValue) → IsPacketValue m → IfOk v (λ w. w.context ≡ PointToPoint)
     → IsReceiving (or_fault (v >>= (λ w. Ok (want.Receive w)))) m → IsFew m
 selected_few (Ok w) m h b i = few m h ((named w m i).0 ∙ b)
 selected_few (Err k) m h b i = absurd i
 
 -- A receive statement that takes a message: the line that stands, no fault, and a message within the limits of its context.
-pub record IsTaking (m : MachineValue) (c t : Choice) (b : Buffer) (p : packet.Message) : Type 0 where
+pub record IsTaking (m : MachineValue) (c t : Pattern) (b : Buffer) (p : packet.PacketValue) : Type 0 where
   pub there : line_at m ≡ Some (simple_line (receive c t b))
   pub stands : remaining (block_of m.program) m.position ≡ plain (receive c t b) (remaining (block_of m.program) (m.position + 1))
   pub fault : m.fault ≡ None
   pub few : IsFew p
 
 -- a machine that asks for a message at a receive statement has no fault, and takes a message between two ranks
-taking : (m : MachineValue) (c t : Choice) (b : Buffer) (p : packet.Message) → IsMessage p → IsAtLine m → line_at m ≡ Some (simple_line (receive c t b))
-    → IsReceiving (asks m) p → IsTaking m c t b p
+taking : (m : MachineValue) (c t : Pattern) (b : Buffer) (p : packet.PacketValue) → IsPacketValue p → IsAtLine m → line_at m ≡ Some (simple_line (receive c t b))
+    → IsReceiving (machine_want m) p → IsTaking m c t b p
 taking m c t b p h l at i =
     let r : Block = remaining (block_of m.program) m.position in
     let stands : r ≡ plain (receive c t b) (remaining (block_of m.program) (m.position + 1)) = l.leads (simple_line (receive c t b)) at in
-    let v : IsReceiving (want_of m.store r m.fault) p = subst (λ o. IsReceiving (asked o m.fault (want_of m.store r m.fault)) p) at i in
+    let v : IsReceiving (want_of m.store r m.fault) p = subst (λ o. IsReceiving (machine_want_at o m.fault (want_of m.store r m.fault)) p) at i in
     let k = no_fault (λ w. IsReceiving w p) m.store r m.fault (λ f z. z) v in
     let wanted = ap (want_of m.store r) k ∙ ap (λ z. want_of m.store z None) stands in
     let u : IsReceiving (or_fault (receive_want m.store c t)) p = subst (λ w. IsReceiving w p) wanted v in
     record { there = at; stands = stands; fault = k; few = selected_few (selector_of m.store c t) p h (selects m.store c t) u }
 
 -- the same machine as it was seen at the call
-pub seen_taking : (m n : MachineValue) (c t : Choice) (b : Buffer) (p : packet.Message) → m ≡ n → IsMessage p → IsAtLine n
-    → line_at n ≡ Some (simple_line (receive c t b)) → IsReceiving (asks n) p → IsTaking m c t b p
+pub seen_taking : (m n : MachineValue) (c t : Pattern) (b : Buffer) (p : packet.PacketValue) → m ≡ n → IsPacketValue p → IsAtLine n
+    → line_at n ≡ Some (simple_line (receive c t b)) → IsReceiving (machine_want n) p → IsTaking m c t b p
 seen_taking m n c t b p v h l at i =
-    let P : MachineValue → Type 0 = λ z. IsReceiving (asks z) p in
+    let P : MachineValue → Type 0 = λ z. IsReceiving (machine_want z) p in
     taking m c t b p h (subst IsAtLine (sym v) l) (ap line_at v ∙ at) (subst P (sym v) i)
 
 -- what it takes its state receives
-receives : (m : MachineValue) (c t : Choice) (b : Buffer) (p : packet.Message) (place : ℕ) → IsTaking m c t b p →
+receives : (m : MachineValue) (c t : Pattern) (b : Buffer) (p : packet.PacketValue) (place : ℕ) → IsTaking m c t b p →
     received (state_of m) b (remaining (block_of m.program) (m.position + 1)) p.source (carried p) ≡ next (state_of m) (takes p.source place) (Some (carried p))
 receives m c t b p place i =
     let a : State = state_of m in
@@ -91,7 +91,7 @@ fit_received a b r q x l =
     rw e refl
 
 -- so a machine stands for the state after a message that is too long
-pub long_state : (m n : MachineValue) (c t : Choice) (b : Buffer) (p : packet.Message) → m ≡ n → IsTaking m c t b p → room m.store b < length p.items
+pub long_state : (m n : MachineValue) (c t : Pattern) (b : Buffer) (p : packet.PacketValue) → m ≡ n → IsTaking m c t b p → room m.store b < length p.items
     → (place : ℕ) → state_of (record m { fault = Some TooLong }) ≡ next (state_of n) (takes p.source place) (Some (carried p))
 long_state m n c t b p v i l place =
     let m' : MachineValue = record m { fault = Some TooLong } in
@@ -99,7 +99,7 @@ long_state m n c t b p v i l place =
     subst Q v (long_received (state_of m) b (remaining (block_of m.program) (m.position + 1)) p.source (carried p) l ∙ receives m c t b p place i)
 
 -- and after one that fits
-pub fit_state : (m n : MachineValue) (c t : Choice) (b : Buffer) (p : packet.Message) (s : Store) → m ≡ n → IsTaking m c t b p → length p.items ≤ room m.store b
+pub fit_state : (m n : MachineValue) (c t : Pattern) (b : Buffer) (p : packet.PacketValue) (s : Store) → m ≡ n → IsTaking m c t b p → length p.items ≤ room m.store b
     → s ≡ with_status p.source (carried p) (written b p.items m.store)
     → (place : ℕ) → state_of (record m { store = s; position = m.position + 1 }) ≡ next (state_of n) (takes p.source place) (Some (carried p))
 fit_state m n c t b p s v i l e place =
@@ -143,7 +143,7 @@ writes (into_array p) items s =
     record { rank = refl; size = refl; source = refl; tag = refl; count = refl; finished = refl; done = refl; gathered = refl; variables = refl }
 
 -- after a message that fits it is a machine
-pub fit_machine : (m n : MachineValue) (c t : Choice) (b : Buffer) (p : packet.Message) (s : Store) → m ≡ n → IsMachine m → IsTaking m c t b p
+pub fit_machine : (m n : MachineValue) (c t : Pattern) (b : Buffer) (p : packet.PacketValue) (s : Store) → m ≡ n → IsMachine m → IsTaking m c t b p
     → s ≡ with_status p.source (carried p) (written b p.items m.store) → map length s.arrays ≡ map length m.store.arrays
     → p.source < n.store.size → n.position + 1 ≤ size (block_of n.program) → IsMachine (record m { store = s; position = m.position + 1 })
 fit_machine m n c t b p s v h i e a q l =
@@ -169,14 +169,14 @@ fit_machine m n c t b p s v h i e a q l =
     subst Result (sym e) (plain_machine m S (simple_line (receive c t b)) (m.position + 1) h i.there tt shown (subst Behind (sym v) l))
 
 -- a part that asks for a reception gets
-gets_part : (s : Store) (c : Collective) (call : Call) (p : packet.Message) (x : Part) → IsReceiving (or_fault (part_want s c call x)) p
+gets_part : (s : Store) (c : Collective) (call : Call) (p : packet.PacketValue) (x : Part) → IsReceiving (or_fault (part_want s c call x)) p
     → (q : ℕ) × (x ≡ gets q)
 gets_part s c call p (gives d) h = absurd h
 gets_part s c call p (gets q) h = (q, refl)
 gets_part s c call p ends h = absurd (never (λ w. IsReceiving w p) (ended s c call) _ (λ k z. z) (λ s' z. z) h)
 
 -- a machine that asks for a reception at a collective stands at a part of its call
-pub takes_call : (m : MachineValue) (c : Collective) (p : packet.Message) → IsAtLine m → line_at m ≡ Some (simple_line (collect c)) → IsReceiving (asks m) p
+pub takes_call : (m : MachineValue) (c : Collective) (p : packet.PacketValue) → IsAtLine m → line_at m ≡ Some (simple_line (collect c)) → IsReceiving (machine_want m) p
     → IsCalling (λ w. IsReceiving w p) m c
 takes_call m c p h at w = calls (λ w. IsReceiving w p) m c h at (λ k z. z) w
 
@@ -187,9 +187,9 @@ record IsGetting (m : MachineValue) (call : Call) : Type 0 where
   part : part_of m.store call ≡ gets source
 
 -- a machine that asks for a message at a collective has no fault, and its part gets
-getting : (m n : MachineValue) (c : Collective) (call : Call) (p : packet.Message) → m ≡ n → IsPart m c call → IsReceiving (asks n) p → IsGetting m call
+getting : (m n : MachineValue) (c : Collective) (call : Call) (p : packet.PacketValue) → m ≡ n → IsPart m c call → IsReceiving (machine_want n) p → IsGetting m call
 getting m n c call p v i w =
-    let P : MachineValue → Type 0 = λ z. IsReceiving (asks z) p in
+    let P : MachineValue → Type 0 = λ z. IsReceiving (machine_want z) p in
     let a = takes_call m c p i.line i.there (subst P (sym v) w) in
     let same : a.call ≡ call = (let q : Ok a.call ≡ Ok call = sym a.called ∙ i.called in cc) in
     let Q : Call → Type 0 = λ z. IsReceiving (or_fault (part_want m.store c z (part_of m.store z))) p in
@@ -197,7 +197,7 @@ getting m n c call p v i w =
     record { fault = a.fault; source = g.0; part = g.1 }
 
 -- the state after it
-collects : (m : MachineValue) (c : Collective) (call : Call) (p : packet.Message) (place : ℕ) → IsPart m c call → m.fault ≡ None →
+collects : (m : MachineValue) (c : Collective) (call : Call) (p : packet.PacketValue) (place : ℕ) → IsPart m c call → m.fault ≡ None →
     part_taken (state_of m) c (remaining (block_of m.program) (m.position + 1)) call (items_taken m.store c call p.items)
     ≡ next (state_of m) (takes p.source place) (Some (carried p))
 collects m c call p place i f =
@@ -281,8 +281,8 @@ refused_machine m c call packet k s i e g =
     })
 
 -- and it stands for the state after that
-pub refused_state : (m n : MachineValue) (c : Collective) (call : Call) (p : packet.Message) (k : MachineFault) (s : Store) → m ≡ n → IsPart m c call
-    → IsReceiving (asks n) p → items_taken m.store c call p.items ≡ Err k → s ≡ m.store
+pub refused_state : (m n : MachineValue) (c : Collective) (call : Call) (p : packet.PacketValue) (k : MachineFault) (s : Store) → m ≡ n → IsPart m c call
+    → IsReceiving (machine_want n) p → items_taken m.store c call p.items ≡ Err k → s ≡ m.store
     → (place : ℕ) → state_of (record m { store = s; fault = Some k }) ≡ next (state_of n) (takes p.source place) (Some (carried p))
 refused_state m n c call p k s v i w e g place =
     let m' : MachineValue = record m { store = s; fault = Some k } in
@@ -302,8 +302,8 @@ leaves (broadcast e b) items s =
 leaves (reduce f e v p) items s = record { rank = refl; size = refl; source = refl; tag = refl; count = refl; finished = refl }
 
 -- after a packet that is taken it is a machine
-pub taken_machine : (m n : MachineValue) (c : Collective) (call : Call) (p : packet.Message) (items : List ℤ) (s : Store) (last : Bool) → m ≡ n → IsMachine m
-    → IsPart m c call → IsReceiving (asks n) p → items_taken m.store c call p.items ≡ Ok items → s ≡ passed (kept c items m.store) call
+pub taken_machine : (m n : MachineValue) (c : Collective) (call : Call) (p : packet.PacketValue) (items : List ℤ) (s : Store) (last : Bool) → m ≡ n → IsMachine m
+    → IsPart m c call → IsReceiving (machine_want n) p → items_taken m.store c call p.items ≡ Ok items → s ≡ passed (kept c items m.store) call
     → length s.variables ≡ length m.store.variables → map length s.arrays ≡ map length m.store.arrays → is_last m.store call ≡ last
     → IsMachine (record m { store = s; position = after_part last m.position })
 taken_machine m n c call p items s last v h i w e g variables lengths f =
@@ -323,8 +323,8 @@ taken_machine m n c call p items s last v h i w e g variables lengths f =
     subst IsMachine (sym (part_is m s S call last g f)) there
 
 -- and it stands for the state after that
-pub taken_state : (m n : MachineValue) (c : Collective) (call : Call) (p : packet.Message) (items : List ℤ) (s : Store) (last : Bool) → m ≡ n
-    → IsPart m c call → IsReceiving (asks n) p → items_taken m.store c call p.items ≡ Ok items → s ≡ passed (kept c items m.store) call
+pub taken_state : (m n : MachineValue) (c : Collective) (call : Call) (p : packet.PacketValue) (items : List ℤ) (s : Store) (last : Bool) → m ≡ n
+    → IsPart m c call → IsReceiving (machine_want n) p → items_taken m.store c call p.items ≡ Ok items → s ≡ passed (kept c items m.store) call
     → is_last m.store call ≡ last → (place : ℕ)
     → state_of (record m { store = s; position = after_part last m.position }) ≡ next (state_of n) (takes p.source place) (Some (carried p))
 taken_state m n c call p items s last v i w e g f place =

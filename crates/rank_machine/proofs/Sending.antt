@@ -6,7 +6,7 @@ use Rattle.rank_machine.specs.Values.{Store}
 use Rattle.rank_machine.specs.Collectives.{Call, Part, gives, gets, ends, part_of, is_last, passed, ended}
 use Rattle.rank_machine.specs.Wants.{IsSend, part_want, or_fault}
 use Rattle.rank_machine.specs.Acts.{Act, Message, Makes, next}
-use Rattle.rank_machine.specs.Machine.{MachineValue, state_of, line_at, asks, IsAtLine, IsMachine}
+use Rattle.rank_machine.specs.Machine.{MachineValue, state_of, line_at, machine_want, IsAtLine, IsMachine}
 use Rattle.rank_machine.proofs.Lines.{never}
 use Rattle.rank_machine.proofs.Going.{after_part, part_acts}
 use Rattle.rank_machine.proofs.Stages.{sent_stage}
@@ -19,11 +19,11 @@ gives_part s c call (gets q) h = absurd h
 gives_part s c call ends h = absurd (never IsSend (ended s c call) _ (λ k z. z) (λ s' z. z) h)
 
 -- a machine that asks for a send at a collective stands at a part of its call
-pub sends_call : (m : MachineValue) (c : Collective) → IsAtLine m → line_at m ≡ Some (simple_line (collect c)) → IsSend (asks m) → IsCalling IsSend m c
+pub sends_call : (m : MachineValue) (c : Collective) → IsAtLine m → line_at m ≡ Some (simple_line (collect c)) → IsSend (machine_want m) → IsCalling IsSend m c
 sends_call m c h at w = calls IsSend m c h at (λ k z. z) w
 
 -- one that gives
-gives_call : (m : MachineValue) (c : Collective) (call : Call) → IsPart m c call → IsSend (asks m) → (d : ℕ) × (part_of m.store call ≡ gives d)
+gives_call : (m : MachineValue) (c : Collective) (call : Call) → IsPart m c call → IsSend (machine_want m) → (d : ℕ) × (part_of m.store call ≡ gives d)
 gives_call m c call p w =
     let a = sends_call m c p.line p.there w in
     let same : a.call ≡ call = (let q : Ok a.call ≡ Ok call = sym a.called ∙ p.called in cc) in
@@ -31,7 +31,7 @@ gives_call m c call p w =
     gives_part m.store c call (part_of m.store call) (subst P same a.part)
 
 -- after the send it is a machine
-sent_machine : (m : MachineValue) (c : Collective) (call : Call) → IsMachine m → IsPart m c call → IsSend (asks m)
+sent_machine : (m : MachineValue) (c : Collective) (call : Call) → IsMachine m → IsPart m c call → IsSend (machine_want m)
     → IsMachine (record m { store = passed m.store call; position = after_part (is_last m.store call) m.position })
 sent_machine m c call i p w =
     let s = m.store in
@@ -47,19 +47,19 @@ sent_machine m c call i p w =
     }
 
 -- with this store, and by whether the part was the last
-pub sent_is_machine : (m n : MachineValue) (c : Collective) (call : Call) (s : Store) (last : Bool) → m ≡ n → IsMachine m → IsPart m c call → IsSend (asks n)
+pub sent_is_machine : (m n : MachineValue) (c : Collective) (call : Call) (s : Store) (last : Bool) → m ≡ n → IsMachine m → IsPart m c call → IsSend (machine_want n)
     → s ≡ passed m.store call → is_last m.store call ≡ last → IsMachine (record m { store = s; position = after_part last m.position })
 sent_is_machine m n c call s last v i p w e f =
-    let P : MachineValue → Type 0 = λ z. IsSend (asks z) in
+    let P : MachineValue → Type 0 = λ z. IsSend (machine_want z) in
     subst IsMachine (sym (part_is m s (passed m.store call) call last e f)) (sent_machine m c call i p (subst P (sym v) w))
 
 -- and it stands for the state after the send
-pub sent_state : (m n : MachineValue) (c : Collective) (call : Call) (s : Store) (last : Bool) → m ≡ n → IsPart m c call → IsSend (asks n)
+pub sent_state : (m n : MachineValue) (c : Collective) (call : Call) (s : Store) (last : Bool) → m ≡ n → IsPart m c call → IsSend (machine_want n)
     → s ≡ passed m.store call → is_last m.store call ≡ last
     → (act : Act) (message : Option Message) → Makes (state_of n) act message
     → state_of (record m { store = s; position = after_part last m.position }) ≡ next (state_of n) act message
 sent_state m n c call s last v p w e f =
-    let P : MachineValue → Type 0 = λ z. IsSend (asks z) in
+    let P : MachineValue → Type 0 = λ z. IsSend (machine_want z) in
     let m' : MachineValue = record m { store = s; position = after_part last m.position } in
     let Q : MachineValue → Type 0 =
     λ z. (act : Act) (message : Option Message) → Makes (state_of z) act message → state_of m' ≡ next (state_of z) act message

@@ -5,42 +5,42 @@ use Rattle.std.proofs.Common.{ap, sym, subst, ◌∙◌}
 use Rattle.std.proofs.lemmas.Option.{slice_get-get_or, slice_get_within}
 use Rattle.matching.specs.Inbox.{Mailbox, IsMailbox}
 use Rattle.matching.specs.declared.selector.Selector.{Selector}
-use Rattle.matching.specs.Message.{Message}
+use Rattle.matching.specs.PacketValue.{PacketValue}
 use Rattle.matching.specs.Matching.{matches}
 use Rattle.rank_machine.specs.Acts as acts
 use Rattle.rank_machine.specs.Machine.{MachineValue, state_of, next_of, received_at, KeepsRank}
 use Rattle.rank_node.specs.Steps.{at_index, found, TakesFound, IsShownFound, TriesFound, WasShown}
 
 -- the packet at the first index that the selector names is the one found
-pub found-at : (s : Selector) (ms : List Message) (i : ℕ) (m : Message) → Some i ≡ position (matches s) ms → slice_get ms i ≡ Some m → found s ms ≡ Some (i, m)
+pub found-at : (s : Selector) (ms : List PacketValue) (i : ℕ) (m : PacketValue) → Some i ≡ position (matches s) ms → slice_get ms i ≡ Some m → found s ms ≡ Some (i, m)
 found-at s ms i m first there =
     ap (option_and_then (at_index ms)) (sym first) ∙ ap (option_and_then (λ packet. Some (i, packet))) there
 
 -- a machine that was given the packet found took what was found
-pub takes_found : (s : Selector) (ms : List Message) (i : ℕ) (m : Message) (old new : MachineValue)
+pub takes_found : (s : Selector) (ms : List PacketValue) (i : ℕ) (m : PacketValue) (old new : MachineValue)
     → Some i ≡ position (matches s) ms → slice_get ms i ≡ Some m
     → ((place : ℕ) → state_of new ≡ acts.next (state_of old) (acts.takes m.source place) (Some (acts.carried m)))
     → new.position ≡ received_at old new.fault → KeepsRank old new
     → TakesFound (found s ms) old new
 takes_found s ms i m old new first there state position stays =
-    let P : Option (ℕ × Message) → Type 0 = λ f. TakesFound f old new in
+    let P : Option (ℕ × PacketValue) → Type 0 = λ f. TakesFound f old new in
     subst P (sym (found-at s ms i m first there)) (record { state = state; position = position; stays = stays })
 
 -- a probe that was shown the packet at an index was shown what is at that index
-pub was_shown : (ms : List Message) (i : ℕ) (m : Message) (old new : MachineValue) → slice_get ms i ≡ Some m
+pub was_shown : (ms : List PacketValue) (i : ℕ) (m : PacketValue) (old new : MachineValue) → slice_get ms i ≡ Some m
     → ((place : ℕ) → state_of new ≡ acts.next (state_of old) (acts.hits m.source place) (Some (acts.carried m)))
     → new.position ≡ next_of old → KeepsRank old new
     → IsShownFound (at_index ms i) old new × TriesFound (at_index ms i) old new
 was_shown ms i m old new there state position stays =
-    let P : Option (ℕ × Message) → Type 0 = λ f. IsShownFound f old new × TriesFound f old new in
+    let P : Option (ℕ × PacketValue) → Type 0 = λ f. IsShownFound f old new × TriesFound f old new in
     let at : Some (i, m) ≡ at_index ms i = sym (ap (option_and_then (λ packet. Some (i, packet))) there) in
     let shown : WasShown m old new = record { state = state; position = position; stays = stays } in
     subst P at (shown, shown)
 
 -- a packet that lies in the inbox was sent by one of the ranks
-pub accepted_source : (box : Mailbox) (i : ℕ) (m : Message) → IsMailbox box → slice_get box.packets i ≡ Some m → m.source < length box.accepted
+pub accepted_source : (box : Mailbox) (i : ℕ) (m : PacketValue) → IsMailbox box → slice_get box.packets i ≡ Some m → m.source < length box.accepted
 accepted_source box i m is there =
     let within = slice_get_within box.packets i m there in
     let same : Some m ≡ Some (slice_index_or box.packets i m) = sym there ∙ slice_get-get_or box.packets i m within in
     let own : slice_index_or box.packets i m ≡ m = cc in
-    subst (λ (x : Message). x.source < length box.accepted) own (is.each i m within).source
+    subst (λ (x : PacketValue). x.source < length box.accepted) own (is.each i m within).source

@@ -4,7 +4,7 @@ use Rattle.std.proofs.Common.{◌≡◌, ℕ, zero, suc, ◌+◌, ◌<◌, ◌�
 use Rattle.std.proofs.Common.{length, drop, Some, slice_get, option_and_then, refl, sym, ap, subst, ◌∙◌, arith, slice_set}
 use Rattle.std.proofs.lemmas.Bool.{cases_eq, eq-eqb, ne_eqb}
 use Rattle.std.proofs.lemmas.List.{get_or-set_same, get_or-set_other, length_push}
-use Rattle.matching.specs.Message as packet
+use Rattle.matching.specs.PacketValue as packet
 use Rattle.plain_logger.specs.Event.{EventValue}
 use Rattle.payload_log.specs.Backlog.{BacklogValue, backlog, new_backlog, hold, freed, freed_of}
 use Rattle.rank_node.specs.declared.waiting.Waiting.{Waiting}
@@ -39,7 +39,7 @@ pub held_line : (log : List BacklogValue) (old new : Gate) (clock : ℕ) (value 
 held_line log old new clock value more h d = h d ∙ sym (ap (λ (g : Gate). sends_to d g.waiting) more ∙ sends_to_line d old.waiting clock value)
 
 -- a send waits, and its packet is held
-pub held_send : (log : List BacklogValue) (xs : List Waiting) (dest clock : ℕ) (p : packet.Message) → dest < length log
+pub held_send : (log : List BacklogValue) (xs : List Waiting) (dest clock : ℕ) (p : packet.PacketValue) → dest < length log
     → Held log xs → Held (slice_set log dest (hold (backlog log dest) p)) (xs ++ Send dest clock ∷ [])
 held_send log xs dest clock p below h d = go (cases_eq d dest)
   where
@@ -81,7 +81,7 @@ held_within (b ∷ log) (suc dest) l = (let z = held_within log dest l in omega 
 freed_less : (b : BacklogValue) (n : ℕ) → length b.held ≡ suc n → length (freed b).held ≡ n
 freed_less b n e = go b.held e
   where
-    go : (ms : List packet.Message) → length ms ≡ suc n → length (freed_of b ms).held ≡ n
+    go : (ms : List packet.PacketValue) → length ms ≡ suc n → length (freed_of b ms).held ≡ n
     go [] f = absurd (omega (arith, f))
     go (m ∷ ms) f = (let z : length ms ≡ n = omega (arith, f) in z)
 

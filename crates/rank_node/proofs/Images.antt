@@ -8,7 +8,7 @@ use Rattle.std.proofs.Math.Numerals.{add-one}
 use Rattle.std.proofs.lemmas.List.{length-replicate, get_or_past}
 use Rattle.std.proofs.lemmas.List.Elements.{All-get_or, All-replicate, All-from_get_or}
 use Rattle.metered.specs.Limits.{most_ranks}
-use Rattle.matching.specs.Message.{Message}
+use Rattle.matching.specs.PacketValue.{PacketValue}
 use Rattle.payload_log.specs.Backlog.{BacklogValue, backlog, new_backlog}
 use Rattle.payload_log.specs.Sender.{IsSentBy}
 use Rattle.rank_language.specs.Program.{ProgramValue}
@@ -52,7 +52,7 @@ pub savable_held : (log : List BacklogValue) → All (λ (b : BacklogValue). b.h
 savable_held log settled d = go (cases_lt d (length log))
   where
     go : (d < length log) ⊎ (length log ≤ d) → length (backlog log d).held ≡ 0
-    go (inl below) = ap (length {A = Message}) (All-get_or (λ (b : BacklogValue). b.held ≡ []) log d new_backlog below settled)
+    go (inl below) = ap (length {A = PacketValue}) (All-get_or (λ (b : BacklogValue). b.held ≡ []) log d new_backlog below settled)
     go (inr past) = ap (λ (b : BacklogValue). length b.held) (get_or_past log d new_backlog past)
 
 -- ---- the bytes

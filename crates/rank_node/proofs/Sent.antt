@@ -9,17 +9,17 @@ use Rattle.std.proofs.lemmas.List.{length-drop, length-append, length_push, get_
 use Rattle.std.proofs.Math.Seq.{drop-append_seam}
 use Rattle.std.proofs.lemmas.List.Elements.{All-append, All-drop, All-get_or, All-nil, All-push, All-replicate, All-set, All-take, All-weaker}
 use Rattle.std.proofs.lemmas.List.Quantifiers.{all_pairs_push, all_pairs_remove}
-use Rattle.matching.specs.Message.{Message}
+use Rattle.matching.specs.PacketValue.{PacketValue}
 use Rattle.payload_log.specs.Backlog.{BacklogValue, backlog, new_backlog, saved, hold, freed, freed_of, passed, asked, pruned}
 use Rattle.payload_log.specs.Sender.{IsSentBy, WasBefore}
 
 -- ---- lists of packets
 
 -- so many packets of a rank stand in a list, of rising clocks up to this one
-record AreSent (rank clock : ℕ) (ms : List Message) : Type 0 where
-  sources : All (λ (m : Message). m.source ≡ rank) ms
+record AreSent (rank clock : ℕ) (ms : List PacketValue) : Type 0 where
+  sources : All (λ (m : PacketValue). m.source ≡ rank) ms
   rising : AllPairs WasBefore ms
-  within : All (λ (m : Message). m.clock ≤ clock) ms
+  within : All (λ (m : PacketValue). m.clock ≤ clock) ms
 
 -- of a backlog they are what is kept and what is held
 are_sent : (rank clock : ℕ) (b : BacklogValue) → IsSentBy rank clock b → AreSent rank clock (b.kept ++ b.held)
@@ -32,55 +32,55 @@ is_sent_by rank clock b are acts = record { sources = are.sources; rising = are.
 -- none
 sent_none : (rank clock : ℕ) → AreSent rank clock []
 sent_none rank clock = record {
-  sources = All-nil (λ (m : Message). m.source ≡ rank);
+  sources = All-nil (λ (m : PacketValue). m.source ≡ rank);
   rising = λ i j d before below. absurd (omega (arith, below));
-  within = All-nil (λ (m : Message). m.clock ≤ clock);
+  within = All-nil (λ (m : PacketValue). m.clock ≤ clock);
 }
 
 -- up to a later clock
-sent_upto : (rank c d : ℕ) (ms : List Message) → c ≤ d → AreSent rank c ms → AreSent rank d ms
+sent_upto : (rank c d : ℕ) (ms : List PacketValue) → c ≤ d → AreSent rank c ms → AreSent rank d ms
 sent_upto rank c d ms le are = record {
   sources = are.sources;
   rising = are.rising;
-  within = All-weaker (λ (m : Message). m.clock ≤ c) (λ (m : Message). m.clock ≤ d) (λ m l. omega (arith, l, le)) ms are.within;
+  within = All-weaker (λ (m : PacketValue). m.clock ≤ c) (λ (m : PacketValue). m.clock ≤ d) (λ m l. omega (arith, l, le)) ms are.within;
 }
 
 -- the packet of the next act goes last
-sent_push : (rank c : ℕ) (ms : List Message) (m : Message) → m.source ≡ rank → m.clock ≡ c + 1 → AreSent rank c ms → AreSent rank (c + 1) (ms ++ m ∷ [])
+sent_push : (rank c : ℕ) (ms : List PacketValue) (m : PacketValue) → m.source ≡ rank → m.clock ≡ c + 1 → AreSent rank c ms → AreSent rank (c + 1) (ms ++ m ∷ [])
 sent_push rank c ms m own next are = record {
-  sources = All-push (λ (x : Message). x.source ≡ rank) ms m are.sources own;
+  sources = All-push (λ (x : PacketValue). x.source ≡ rank) ms m are.sources own;
   rising = all_pairs_push WasBefore ms m are.rising (λ k d low. (let z = are.within k d low in omega (arith, z, next)));
-  within = All-push (λ (x : Message). x.clock ≤ c + 1) ms m
-      (All-weaker (λ (x : Message). x.clock ≤ c) (λ (x : Message). x.clock ≤ c + 1) (λ x l. omega (arith, l)) ms are.within) (omega (arith, next));
+  within = All-push (λ (x : PacketValue). x.clock ≤ c + 1) ms m
+      (All-weaker (λ (x : PacketValue). x.clock ≤ c) (λ (x : PacketValue). x.clock ≤ c + 1) (λ x l. omega (arith, l)) ms are.within) (omega (arith, next));
 }
 
 -- the first of them go
-sent_drop : (rank c n : ℕ) (ms : List Message) → AreSent rank c ms → AreSent rank c (drop n ms)
+sent_drop : (rank c n : ℕ) (ms : List PacketValue) → AreSent rank c ms → AreSent rank c (drop n ms)
 sent_drop rank c n ms are = record {
-  sources = All-drop (λ (m : Message). m.source ≡ rank) n ms are.sources;
+  sources = All-drop (λ (m : PacketValue). m.source ≡ rank) n ms are.sources;
   rising = λ i j d before below. step i j d before (let long = length-drop n ms in omega (arith, below, long));
-  within = All-drop (λ (m : Message). m.clock ≤ c) n ms are.within;
+  within = All-drop (λ (m : PacketValue). m.clock ≤ c) n ms are.within;
 }
   where
-    step : (i j : ℕ) (d : Message) → i < j → n + j < length ms → WasBefore (slice_index_or (drop n ms) i d) (slice_index_or (drop n ms) j d)
+    step : (i j : ℕ) (d : PacketValue) → i < j → n + j < length ms → WasBefore (slice_index_or (drop n ms) i d) (slice_index_or (drop n ms) j d)
     step i j d before below =
         subst (λ m. WasBefore m (slice_index_or (drop n ms) j d)) (sym (get_or-drop n ms i d))
         (subst (λ m. WasBefore (slice_index_or ms (n + i) d) m) (sym (get_or-drop n ms j d))
         (are.rising (n + i) (n + j) d (omega (arith, before)) below))
 
 -- one of them goes
-sent_without : (rank c : ℕ) (ms : List Message) (m : Message) (ns : List Message) → AreSent rank c (ms ++ m ∷ ns) → AreSent rank c (ms ++ ns)
+sent_without : (rank c : ℕ) (ms : List PacketValue) (m : PacketValue) (ns : List PacketValue) → AreSent rank c (ms ++ m ∷ ns) → AreSent rank c (ms ++ ns)
 sent_without rank c ms m ns are = subst (AreSent rank c) (seam ms) (record {
-  sources = removed (λ (x : Message). x.source ≡ rank) are.sources;
+  sources = removed (λ (x : PacketValue). x.source ≡ rank) are.sources;
   rising = all_pairs_remove WasBefore (ms ++ m ∷ ns) (length ms) (let z = length-append ms (m ∷ ns) in omega (arith, z)) are.rising;
-  within = removed (λ (x : Message). x.clock ≤ c) are.within;
+  within = removed (λ (x : PacketValue). x.clock ≤ c) are.within;
 })
   where
-    seam : (xs : List Message) → remove (xs ++ m ∷ ns) (length xs) ≡ xs ++ ns
+    seam : (xs : List PacketValue) → remove (xs ++ m ∷ ns) (length xs) ≡ xs ++ ns
     seam [] = refl
     seam (x ∷ xs) = ap (λ ys. x ∷ ys) (seam xs)
 
-    removed : (P : Message → Type 0) → All P (ms ++ m ∷ ns) → All P (remove (ms ++ m ∷ ns) (length ms))
+    removed : (P : PacketValue → Type 0) → All P (ms ++ m ∷ ns) → All P (remove (ms ++ m ∷ ns) (length ms))
     removed P all = All-append P _ _ (All-take P (length ms) (ms ++ m ∷ ns) all) (All-drop P (suc (length ms)) (ms ++ m ∷ ns) all)
 
 -- ---- one backlog
@@ -95,7 +95,7 @@ later_sent rank c d le b is =
     is_sent_by rank d b (sent_upto rank c d (b.kept ++ b.held) le (are_sent rank c b is)) (let z = is.acts in omega (arith, z, le))
 
 -- the packet of the next act is saved
-saved_sent : (rank c : ℕ) (b : BacklogValue) (m : Message)
+saved_sent : (rank c : ℕ) (b : BacklogValue) (m : PacketValue)
     → b.held ≡ [] → m.source ≡ rank → m.clock ≡ c + 1 → IsSentBy rank c b → IsSentBy rank (c + 1) (saved b m)
 saved_sent rank c b m none own next is =
     is_sent_by rank (c + 1) (saved b m)
@@ -110,7 +110,7 @@ saved_sent rank c b m none own next is =
     go false = sent_upto rank c (c + 1) b.kept (omega arith) kept
 
 -- the packet of the next act is held
-hold_sent : (rank c : ℕ) (b : BacklogValue) (m : Message) → m.source ≡ rank → m.clock ≡ c + 1 → IsSentBy rank c b → IsSentBy rank (c + 1) (hold b m)
+hold_sent : (rank c : ℕ) (b : BacklogValue) (m : PacketValue) → m.source ≡ rank → m.clock ≡ c + 1 → IsSentBy rank c b → IsSentBy rank (c + 1) (hold b m)
 hold_sent rank c b m own next is =
     is_sent_by rank (c + 1) (hold b m)
     (subst (AreSent rank (c + 1)) (append_assoc b.kept b.held (m ∷ [])) (sent_push rank c (b.kept ++ b.held) m own next (are_sent rank c b is)))
@@ -120,12 +120,12 @@ hold_sent rank c b m own next is =
 freed_sent : (rank c : ℕ) (b : BacklogValue) → IsSentBy rank c b → IsSentBy rank c (freed b)
 freed_sent rank c b is = go b.held (are_sent rank c b is) is.acts
   where
-    kept_on : (m : Message) (ms : List Message) → AreSent rank c (b.kept ++ m ∷ ms) → (above : Bool)
+    kept_on : (m : PacketValue) (ms : List PacketValue) → AreSent rank c (b.kept ++ m ∷ ms) → (above : Bool)
         → AreSent rank c ((if above then b.kept ++ m ∷ [] else b.kept) ++ ms)
     kept_on m ms are true = subst (AreSent rank c) (sym (append_assoc b.kept (m ∷ []) ms)) are
     kept_on m ms are false = sent_without rank c b.kept m ms are
 
-    go : (held : List Message) → AreSent rank c (b.kept ++ held) → b.sent + length held ≤ c → IsSentBy rank c (freed_of b held)
+    go : (held : List PacketValue) → AreSent rank c (b.kept ++ held) → b.sent + length held ≤ c → IsSentBy rank c (freed_of b held)
     go [] are acts = is
     go (m ∷ ms) are acts =
         is_sent_by rank c (saved (record b { held = ms }) m) (kept_on m ms are (nat_lt b.base m.number))
@@ -163,7 +163,7 @@ pub log_later : (rank c : ℕ) (log : List BacklogValue) → All (IsSentBy rank 
 log_later rank c log all = All-weaker (IsSentBy rank c) (IsSentBy rank (c + 1)) (later_sent rank c (c + 1) (omega arith)) log all
 
 -- the act saved its packet
-pub log_saved : (rank c : ℕ) (log : List BacklogValue) (dest : ℕ) (m : Message) → dest < length log → (backlog log dest).held ≡ []
+pub log_saved : (rank c : ℕ) (log : List BacklogValue) (dest : ℕ) (m : PacketValue) → dest < length log → (backlog log dest).held ≡ []
     → m.source ≡ rank → m.clock ≡ c + 1
     → All (IsSentBy rank c) log → All (IsSentBy rank (c + 1)) (slice_set log dest (saved (backlog log dest) m))
 log_saved rank c log dest m below none own next all =
@@ -171,7 +171,7 @@ log_saved rank c log dest m below none own next all =
     (saved_sent rank c (backlog log dest) m none own next (All-get_or (IsSentBy rank c) log dest new_backlog below all)) (log_later rank c log all)
 
 -- the act's packet is held
-pub log_hold : (rank c : ℕ) (log : List BacklogValue) (dest : ℕ) (m : Message) → dest < length log → m.source ≡ rank → m.clock ≡ c + 1
+pub log_hold : (rank c : ℕ) (log : List BacklogValue) (dest : ℕ) (m : PacketValue) → dest < length log → m.source ≡ rank → m.clock ≡ c + 1
     → All (IsSentBy rank c) log → All (IsSentBy rank (c + 1)) (slice_set log dest (hold (backlog log dest) m))
 log_hold rank c log dest m below own next all =
     All-set (IsSentBy rank (c + 1)) log dest (hold (backlog log dest) m)

@@ -1,7 +1,7 @@
 -- Frames between ranks: what an arrival does, and what goes out next (a restarted receiver asks each sender for what it
 -- lacks, and an image lets senders drop what it has: MPICH-V2).
 use Rattle.std.specs.Prelude.{ℕ, List, Option, Some, None, slice_set, slice_index_or, ◌==◌, if◌then◌else◌}
-use Rattle.matching.specs.Message.{Message}
+use Rattle.matching.specs.PacketValue.{PacketValue}
 use Rattle.matching.specs.Inbox.{Mailbox, answer_to, after_arrival}
 use Rattle.matching.specs.declared.inbox.Accept.{Accept}
 use Rattle.matching.specs.declared.inbox.Accept.TheVariants as accept
@@ -48,13 +48,13 @@ abbrev pub due_to : {S D : Type 0} → Node S D → ℕ → Due
 due_to v dest = slice_index_or v.dues dest no_due
 
 -- a due Kept goes before the next packet
-abbrev pub after_ask : Option ℕ → Option Message → Option Frame
+abbrev pub after_ask : Option ℕ → Option PacketValue → Option Frame
 after_ask (Some number) next = Some (frame.Kept number)
 after_ask None (Some packet) = Some (frame.Data packet)
 after_ask None None = None
 
 -- a due Ask goes first, else a due Kept, else the next packet
-abbrev pub first_of : Option ℕ → Option ℕ → Option Message → Option Frame
+abbrev pub first_of : Option ℕ → Option ℕ → Option PacketValue → Option Frame
 first_of (Some number) kept next = Some (frame.Ask number)
 first_of None kept next = after_ask kept next
 

@@ -1,7 +1,7 @@
 -- A rank that starts again and replays its events (replay of determinants: Alvisi and Marzullo 1998, section 3).
 use Rattle.std.specs.Prelude.{◌≡◌, ℕ, ◌+◌, nat_lt, ◌==◌, ℤ, Bool, true, false, if◌then◌else◌, List, [], ◌∷◌, map, Option, Some, None, option_and_then, position}
 use Rattle.std.specs.Prelude.{Result, Ok, Err}
-use Rattle.matching.specs.Message.{Message}
+use Rattle.matching.specs.PacketValue.{PacketValue}
 use Rattle.matching.specs.Matching.{matches, is_named}
 use Rattle.matching.specs.Inbox.{without}
 use Rattle.matching.specs.declared.selector.Selector.{Selector}
@@ -11,7 +11,7 @@ use Rattle.plain_logger.specs.declared.kind.Kind.{Kind}
 use Rattle.plain_logger.specs.declared.kind.Kind.TheVariants as kind
 use Rattle.rank_machine.specs.declared.want.Want.{Want}
 use Rattle.rank_machine.specs.declared.want.Want.TheVariants as want
-use Rattle.rank_machine.specs.Machine.{MachineValue, asks, GoesOn}
+use Rattle.rank_machine.specs.Machine.{MachineValue, machine_want, GoesOn}
 use Rattle.checkpoint.specs.Image.{ImageValue}
 use Rattle.rank_node.specs.declared.turn.Turn.{Turn}
 use Rattle.rank_node.specs.declared.turn.Turn.TheVariants.{Moved, Blocked, Held, Ended}
@@ -54,7 +54,7 @@ left_of i row = above i.clock row
 -- ---- a step of the replay
 
 -- the packet that the event names, with its index
-abbrev pub named : {S D : Type 0} → Node S D → EventValue → Option (ℕ × Message)
+abbrev pub named : {S D : Type 0} → Node S D → EventValue → Option (ℕ × PacketValue)
 named v e = option_and_then (at_index v.inbox.packets) (position (is_named e.sender e.sender_clock) v.inbox.packets)
 
 -- the next act is the event's
@@ -66,24 +66,24 @@ abbrev pub is_before : {S D : Type 0} → Node S D → EventValue → Bool
 is_before v e = nat_lt (v.clock + 1) e.receiver_clock
 
 -- the named packet is taken or shown; it isn't there yet, or it is none that the selector names
-abbrev pub named_turn : Selector → Option (ℕ × Message) → Result Turn NodeFault
+abbrev pub named_turn : Selector → Option (ℕ × PacketValue) → Result Turn NodeFault
 named_turn selector None = Ok Blocked
 named_turn selector (Some f) = if matches selector f.1 then Ok Moved else Err fault.Replay
 
 -- a receive replays a reception
-abbrev pub receive_turn : Selector → Option (ℕ × Message) → Kind → Result Turn NodeFault
+abbrev pub receive_turn : Selector → Option (ℕ × PacketValue) → Kind → Result Turn NodeFault
 receive_turn selector f kind.Reception = named_turn selector f
 receive_turn selector f kind.Hit = Err fault.Replay
 receive_turn selector f kind.Miss = Err fault.Replay
 
 -- a blocking probe replays a hit
-abbrev pub probe_turn : Selector → Option (ℕ × Message) → Kind → Result Turn NodeFault
+abbrev pub probe_turn : Selector → Option (ℕ × PacketValue) → Kind → Result Turn NodeFault
 probe_turn selector f kind.Reception = Err fault.Replay
 probe_turn selector f kind.Hit = named_turn selector f
 probe_turn selector f kind.Miss = Err fault.Replay
 
 -- a probe that doesn't wait replays a hit or a miss; a miss misses, whatever is there
-abbrev pub try_turn : Selector → Option (ℕ × Message) → Kind → Result Turn NodeFault
+abbrev pub try_turn : Selector → Option (ℕ × PacketValue) → Kind → Result Turn NodeFault
 try_turn selector f kind.Reception = Err fault.Replay
 try_turn selector f kind.Hit = named_turn selector f
 try_turn selector f kind.Miss = Ok Moved
@@ -101,7 +101,7 @@ replay_turn_at v e (want.Faulted k) = Ok Ended
 
 -- what a step does where this event is the next, by what the machine wants
 abbrev pub replay_turn_of : {S D : Type 0} → Node S D → EventValue → Result Turn NodeFault
-replay_turn_of v e = replay_turn_at v e (asks v.machine)
+replay_turn_of v e = replay_turn_at v e (machine_want v.machine)
 
 -- whether a step of the replay takes memory: a send does and a print may, and nothing else
 abbrev pub replay_takes_memory_at : Want → Bool
@@ -116,24 +116,24 @@ replay_takes_memory_at (want.Faulted k) = false
 
 -- whether the replay of this rank's step takes memory
 abbrev pub replay_takes_memory : {S D : Type 0} → Node S D → Bool
-replay_takes_memory v = replay_takes_memory_at (asks v.machine)
+replay_takes_memory v = replay_takes_memory_at (machine_want v.machine)
 
 -- after a replayed reception the packet has left the inbox; the event is in the row already, so nothing waits
 abbrev pub after_replayed_reception : {S D : Type 0} → Node S D → MachineValue → ℕ → Node S D
 after_replayed_reception v machine index = record v { machine = machine; clock = v.clock + 1; inbox = without v.inbox index }
 
 -- a replayed receive takes the packet that is named, and where it isn't there nothing changes
-abbrev pub taken_named : {S D : Type 0} → Node S D → MachineValue → Option (ℕ × Message) → Node S D
+abbrev pub taken_named : {S D : Type 0} → Node S D → MachineValue → Option (ℕ × PacketValue) → Node S D
 taken_named v machine None = v
 taken_named v machine (Some f) = after_replayed_reception v machine f.0
 
 -- after a replayed hit or miss the clock is the next, as after a print
-abbrev pub shown_named : {S D : Type 0} → Node S D → MachineValue → Option (ℕ × Message) → Node S D
+abbrev pub shown_named : {S D : Type 0} → Node S D → MachineValue → Option (ℕ × PacketValue) → Node S D
 shown_named v machine None = v
 shown_named v machine (Some f) = after_print v machine
 
 -- a probe that doesn't wait is shown the named packet, or misses
-abbrev pub tried_named : {S D : Type 0} → Node S D → MachineValue → Option (ℕ × Message) → Kind → Node S D
+abbrev pub tried_named : {S D : Type 0} → Node S D → MachineValue → Option (ℕ × PacketValue) → Kind → Node S D
 tried_named v machine f kind.Reception = v
 tried_named v machine f kind.Hit = shown_named v machine f
 tried_named v machine f kind.Miss = after_print v machine
@@ -151,10 +151,10 @@ replayed_at v e (want.Faulted k) machine = v
 
 -- the rank after its step, where that was not refused and the machine is then this one
 abbrev pub after_replay : {S D : Type 0} → Node S D → EventValue → MachineValue → Node S D
-after_replay v e machine = replayed_at v e (asks v.machine) machine
+after_replay v e machine = replayed_at v e (machine_want v.machine) machine
 
 -- the machine's probe that doesn't wait is shown the named packet, or misses
-abbrev pub TriesNamed : Option (ℕ × Message) → Kind → MachineValue → MachineValue → Type 0
+abbrev pub TriesNamed : Option (ℕ × PacketValue) → Kind → MachineValue → MachineValue → Type 0
 TriesNamed f kind.Reception old new = new ≡ old
 TriesNamed f kind.Hit old new = IsShownFound f old new
 TriesNamed f kind.Miss old new = Missed old new
@@ -172,7 +172,7 @@ ReplayStepAt v e (want.Faulted k) machine = machine ≡ v.machine
 
 -- the machine makes just the step that this rank wants
 abbrev pub ReplayStep : {S D : Type 0} → Node S D → EventValue → MachineValue → Type 0
-ReplayStep v e machine = ReplayStepAt v e (asks v.machine) machine
+ReplayStep v e machine = ReplayStepAt v e (machine_want v.machine) machine
 
 -- the machine has moved
 abbrev pub has_moved : Turn → Bool
@@ -209,4 +209,4 @@ ShowsReplayAt shows v (want.Faulted k) old new = new ≡ old
 
 -- what a step of the replay shows
 abbrev pub ShowsReplay : {S D C : Type 0} → (C → ℕ → ℕ → ℤ → C → Type 0) → Node S D → C → C → Type 0
-ShowsReplay shows v old new = ShowsReplayAt shows v (asks v.machine) old new
+ShowsReplay shows v old new = ShowsReplayAt shows v (machine_want v.machine) old new

@@ -6,7 +6,7 @@ use Rattle.std.specs.Prelude.{List, [], ◌∷◌, ◌++◌, Option, Some, None,
 use Rattle.matching.specs.declared.packet.Context.{Context}
 use Rattle.matching.specs.declared.selector.Selector.{Selector}
 use Rattle.metered.specs.Limits.{greatest_clock, most_events}
-use Rattle.matching.specs.Message.{Message}
+use Rattle.matching.specs.PacketValue.{PacketValue}
 use Rattle.matching.specs.Matching.{matches}
 use Rattle.matching.specs.Inbox.{without}
 use Rattle.payload_log.specs.Backlog.{backlog, saved, hold, next_number}
@@ -17,7 +17,7 @@ use Rattle.rank_machine.specs.declared.want.Want.{Want}
 use Rattle.rank_machine.specs.declared.want.Want.TheVariants as want
 use Rattle.rank_machine.specs.Wants.{payload}
 use Rattle.rank_machine.specs.Acts as acts
-use Rattle.rank_machine.specs.Machine.{MachineValue, state_of, asks, next_of, received_at, GoesOn, KeepsRank}
+use Rattle.rank_machine.specs.Machine.{MachineValue, state_of, machine_want, next_of, received_at, GoesOn, KeepsRank}
 use Rattle.rank_node.specs.declared.turn.Turn.{Turn}
 use Rattle.rank_node.specs.declared.turn.Turn.TheVariants.{Moved, Blocked, Held, Ended}
 use Rattle.rank_node.specs.declared.fault.NodeFault.{NodeFault}
@@ -28,11 +28,11 @@ use Rattle.rank_node.specs.Node.{Node}
 use Rattle.rank_node.specs.Waiting.{has_room, is_settled}
 
 -- the packet at an index, with the index
-abbrev pub at_index : List Message → ℕ → Option (ℕ × Message)
+abbrev pub at_index : List PacketValue → ℕ → Option (ℕ × PacketValue)
 at_index packets index = option_and_then (λ packet. Some (index, packet)) (slice_get packets index)
 
 -- the first packet in order of acceptance that the selector names, with its index
-abbrev pub found : Selector → List Message → Option (ℕ × Message)
+abbrev pub found : Selector → List PacketValue → Option (ℕ × PacketValue)
 found selector packets = option_and_then (at_index packets) (position (matches selector) packets)
 
 -- a send or a print is held where as many effects wait as may, and a receive or blocking probe is blocked where no packet matches
@@ -48,7 +48,7 @@ turn_at v (want.Faulted k) = Ended
 
 -- what a step of this rank does, where it isn't refused
 abbrev pub turn_of : {S D : Type 0} → Node S D → Turn
-turn_of v = turn_at v (asks v.machine)
+turn_of v = turn_at v (machine_want v.machine)
 
 -- an act that would pass the greatest clock is refused
 abbrev pub clock_refusal : {S D : Type 0} → Node S D → Option NodeFault
@@ -71,7 +71,7 @@ refusal_at v (want.Faulted k) = None
 
 -- why the step of this rank is refused by name, if it is
 abbrev pub refusal_of : {S D : Type 0} → Node S D → Option NodeFault
-refusal_of v = refusal_at v (asks v.machine)
+refusal_of v = refusal_at v (machine_want v.machine)
 
 -- whether a step takes memory: an act does, and a step of the machine's own, a held or blocked one and the end don't
 abbrev pub takes_memory_at : {S D : Type 0} → Node S D → Want → Bool
@@ -86,10 +86,10 @@ takes_memory_at v (want.Faulted k) = false
 
 -- whether the step of this rank takes memory
 abbrev pub takes_memory : {S D : Type 0} → Node S D → Bool
-takes_memory v = takes_memory_at v (asks v.machine)
+takes_memory v = takes_memory_at v (machine_want v.machine)
 
 -- the packet of the send that stands has the next clock, the next number of its pair of ranks, and the machine's items
-abbrev pub message_of : {S D : Type 0} → Node S D → ℕ → Context → ℕ → Message
+abbrev pub message_of : {S D : Type 0} → Node S D → ℕ → Context → ℕ → PacketValue
 message_of v dest context tag = record {
   source = v.stable.rank;
   clock = v.clock + 1;
@@ -146,7 +146,7 @@ abbrev pub with_event : {S D : Type 0} → Node S D → Kind → ℕ → ℕ →
 with_event v what sender sender_clock = v.pending ++ waits.Event (event_of what sender sender_clock (v.clock + 1)) ∷ []
 
 -- after a reception the packet has left the inbox, and one event more waits
-abbrev pub after_reception : {S D : Type 0} → Node S D → MachineValue → ℕ → Message → Node S D
+abbrev pub after_reception : {S D : Type 0} → Node S D → MachineValue → ℕ → PacketValue → Node S D
 after_reception v machine index packet = record v {
   machine = machine;
   clock = v.clock + 1;
@@ -165,17 +165,17 @@ after_probe v machine what sender sender_clock = record v {
 }
 
 -- a receive takes what was found, and where nothing was nothing changes
-abbrev pub received : {S D : Type 0} → Node S D → MachineValue → Option (ℕ × Message) → Node S D
+abbrev pub received : {S D : Type 0} → Node S D → MachineValue → Option (ℕ × PacketValue) → Node S D
 received v machine None = v
 received v machine (Some f) = after_reception v machine f.0 f.1
 
 -- a blocking probe shows what was found, and where nothing was nothing changes
-abbrev pub probed : {S D : Type 0} → Node S D → MachineValue → Option (ℕ × Message) → Node S D
+abbrev pub probed : {S D : Type 0} → Node S D → MachineValue → Option (ℕ × PacketValue) → Node S D
 probed v machine None = v
 probed v machine (Some f) = after_probe v machine kind.Hit f.1.source f.1.clock
 
 -- a probe that doesn't wait hits what was found, and misses where nothing was
-abbrev pub tried : {S D : Type 0} → Node S D → MachineValue → Option (ℕ × Message) → Node S D
+abbrev pub tried : {S D : Type 0} → Node S D → MachineValue → Option (ℕ × PacketValue) → Node S D
 tried v machine None = after_probe v machine kind.Miss 0 0
 tried v machine (Some f) = after_probe v machine kind.Hit f.1.source f.1.clock
 
@@ -192,7 +192,7 @@ step_at v (want.Faulted k) machine = v
 
 -- the rank after its step, where that was not refused and the machine is then this one
 abbrev pub after_step : {S D : Type 0} → Node S D → MachineValue → Node S D
-after_step v machine = step_at v (asks v.machine) machine
+after_step v machine = step_at v (machine_want v.machine) machine
 
 -- The machine's first statement made the act that it wanted, and its line leads on.
 pub record DidAct (old new : MachineValue) : Type 0 where
@@ -201,13 +201,13 @@ pub record DidAct (old new : MachineValue) : Type 0 where
   pub stays : KeepsRank old new
 
 -- The machine's receive took this packet.
-pub record Took (packet : Message) (old new : MachineValue) : Type 0 where
+pub record Took (packet : PacketValue) (old new : MachineValue) : Type 0 where
   pub state : (place : ℕ) → state_of new ≡ acts.next (state_of old) (acts.takes packet.source place) (Some (acts.carried packet))
   pub position : new.position ≡ received_at old new.fault
   pub stays : KeepsRank old new
 
 -- The machine's probe was shown this packet.
-pub record WasShown (packet : Message) (old new : MachineValue) : Type 0 where
+pub record WasShown (packet : PacketValue) (old new : MachineValue) : Type 0 where
   pub state : (place : ℕ) → state_of new ≡ acts.next (state_of old) (acts.hits packet.source place) (Some (acts.carried packet))
   pub position : new.position ≡ next_of old
   pub stays : KeepsRank old new
@@ -219,17 +219,17 @@ pub record Missed (old new : MachineValue) : Type 0 where
   pub stays : KeepsRank old new
 
 -- a receive takes what was found, and where nothing was the machine stays
-abbrev pub TakesFound : Option (ℕ × Message) → MachineValue → MachineValue → Type 0
+abbrev pub TakesFound : Option (ℕ × PacketValue) → MachineValue → MachineValue → Type 0
 TakesFound None old new = new ≡ old
 TakesFound (Some f) old new = Took f.1 old new
 
 -- a blocking probe is shown what was found, and where nothing was the machine stays
-abbrev pub IsShownFound : Option (ℕ × Message) → MachineValue → MachineValue → Type 0
+abbrev pub IsShownFound : Option (ℕ × PacketValue) → MachineValue → MachineValue → Type 0
 IsShownFound None old new = new ≡ old
 IsShownFound (Some f) old new = WasShown f.1 old new
 
 -- a probe that doesn't wait is shown what was found, and misses where nothing was
-abbrev pub TriesFound : Option (ℕ × Message) → MachineValue → MachineValue → Type 0
+abbrev pub TriesFound : Option (ℕ × PacketValue) → MachineValue → MachineValue → Type 0
 TriesFound None old new = Missed old new
 TriesFound (Some f) old new = WasShown f.1 old new
 
@@ -246,7 +246,7 @@ MachineStepAt v (want.Faulted k) machine = machine ≡ v.machine
 
 -- the machine makes just the step that this rank wants
 abbrev pub MachineStep : {S D : Type 0} → Node S D → MachineValue → Type 0
-MachineStep v machine = MachineStepAt v (asks v.machine) machine
+MachineStep v machine = MachineStepAt v (machine_want v.machine) machine
 
 -- a print that passes at once is shown with the next clock, and nothing else is
 abbrev pub ShowsAt : {S D C : Type 0} → (C → ℕ → ℕ → ℤ → C → Type 0) → Node S D → Want → C → C → Type 0
@@ -261,4 +261,4 @@ ShowsAt shows v (want.Faulted k) old new = new ≡ old
 
 -- what the step of this rank shows
 abbrev pub ShowsStep : {S D C : Type 0} → (C → ℕ → ℕ → ℤ → C → Type 0) → Node S D → C → C → Type 0
-ShowsStep shows v old new = ShowsAt shows v (asks v.machine) old new
+ShowsStep shows v old new = ShowsAt shows v (machine_want v.machine) old new

@@ -2,7 +2,7 @@
 ghost use Rattle.std.specs.Prelude.{◌≡◌, ◌<◌, is_some, position, slice_get, option_copied, IfOk, IfSome};
 ghost use Rattle.matching.specs.Matching.{matches};
 ghost use Rattle.payload_log.specs.Backlog.{backlog};
-ghost use Rattle.rank_machine.specs.Machine.{state_of, asks};
+ghost use Rattle.rank_machine.specs.Machine.{state_of, machine_want};
 ghost use Rattle.rank_machine.specs.Wants.{IsSend, payload};
 
 use crate::fault::NodeFault;
@@ -55,7 +55,7 @@ impl<'p, S: Shelf, D> Running<'p, S, D> {
 
     /// The items of the send that stands, in memory of their own.
     pub fn payload(&self) -> Result<Vec<i64, Heap>, AllocError>
-        requires { IsSend (asks self.now.machine) }
+        requires { IsSend (machine_want self.now.machine) }
         ensures { IfOk result (λ items. items.items ≡ payload (state_of self.now.machine)) }
     {
         self.machine.payload(self.alloc)

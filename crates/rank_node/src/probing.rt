@@ -1,7 +1,7 @@
 //! The probes of a rank that runs. A packet that a probe is shown stays in the inbox.
 ghost use Rattle.std.specs.Prelude.{◌≡◌, ◌≢◌, ◌<◌, Some, true, length, slice_get, IfOk, IfErr, OnOk, OnErr, IsErrOf};
-ghost use Rattle.matching.specs.Message.{Message};
-ghost use Rattle.rank_machine.specs.Machine.{asks, IsShowing, IsTrying};
+ghost use Rattle.matching.specs.PacketValue.{PacketValue};
+ghost use Rattle.rank_machine.specs.Machine.{machine_want, IsShowing, IsTrying};
 
 use crate::events::{missing, naming};
 use crate::fault::NodeFault;
@@ -18,7 +18,7 @@ impl<'p, S: Shelf, D> Running<'p, S, D> {
 
     // The blocking probe that stands.
     pub(crate) fn probe(&mut self, selector: &Selector) -> Result<Turn, NodeFault>
-        requires { asks self.old.machine ≡ Want.Probe selector.now }
+        requires { machine_want self.old.machine ≡ Want.Probe selector.now }
         ensures turn { IfOk result (λ turn. turn ≡ turn_at self.old (Want.Probe selector.now)) }
         ensures ok { OnOk result (self.new ≡ step_at self.old (Want.Probe selector.now) self.new.machine) }
         ensures machine { OnOk result (MachineStepAt self.old (Want.Probe selector.now) self.new.machine) }
@@ -38,7 +38,7 @@ impl<'p, S: Shelf, D> Running<'p, S, D> {
 
     // The probe that stands and doesn't wait.
     pub(crate) fn try_probe(&mut self, selector: &Selector) -> Result<Turn, NodeFault>
-        requires { asks self.old.machine ≡ Want.TryProbe selector.now }
+        requires { machine_want self.old.machine ≡ Want.TryProbe selector.now }
         ensures turn { IfOk result (λ turn. turn ≡ turn_at self.old (Want.TryProbe selector.now)) }
         ensures ok { OnOk result (self.new ≡ step_at self.old (Want.TryProbe selector.now) self.new.machine) }
         ensures machine { OnOk result (MachineStepAt self.old (Want.TryProbe selector.now) self.new.machine) }
@@ -60,7 +60,7 @@ impl<'p, S: Shelf, D> Running<'p, S, D> {
     #[tactic(auto, using(crate::proofs::Held::sends_to_event))]
     fn hit(&mut self, index: usize) -> Result<(), NodeFault>
         requires within { index < length self.old.inbox.packets }
-        requires fits { (m : Message) → slice_get self.old.inbox.packets index ≡ Some m → IsShowing (asks self.old.machine) m }
+        requires fits { (m : PacketValue) → slice_get self.old.inbox.packets index ≡ Some m → IsShowing (machine_want self.old.machine) m }
         ensures probed { OnOk result (self.new ≡ probed self.old self.new.machine (at_index self.old.inbox.packets index)) }
         ensures tried { OnOk result (self.new ≡ tried self.old self.new.machine (at_index self.old.inbox.packets index)) }
         ensures is_shown { OnOk result (IsShownFound (at_index self.old.inbox.packets index) self.old.machine self.new.machine) }
@@ -85,7 +85,7 @@ impl<'p, S: Shelf, D> Running<'p, S, D> {
     // No packet is there that could be shown.
     #[tactic(auto, using(crate::proofs::Held::sends_to_event))]
     fn miss(&mut self) -> Result<(), NodeFault>
-        requires { IsTrying (asks self.old.machine) }
+        requires { IsTrying (machine_want self.old.machine) }
         ensures ok { OnOk result (self.new ≡ tried self.old self.new.machine None) }
         ensures machine { OnOk result (TriesFound None self.old.machine self.new.machine) }
         ensures stable { self.new.stable ≡ self.old.stable }

@@ -2,9 +2,9 @@
 ghost use Rattle.std.specs.Prelude.{◌≡◌, ◌≢◌, ◌<◌, ◌≤◌, [], Some, None, Ok, Err, true, is_some};
 ghost use Rattle.std.specs.Prelude.{length, slice_get, if◌then◌else◌, IfOk, IfErr, IfSome, OnOk, OnErr, IsErrOf};
 ghost use Rattle.metered.specs.Limits.{greatest_clock};
-ghost use Rattle.matching.specs.Message.{Message};
+ghost use Rattle.matching.specs.PacketValue.{PacketValue};
 ghost use Rattle.matching.specs.Matching.{matches};
-ghost use Rattle.rank_machine.specs.Machine.{asks};
+ghost use Rattle.rank_machine.specs.Machine.{machine_want};
 
 mod prints;
 mod probes;
@@ -84,7 +84,7 @@ impl<'p, S: Shelf, D> Running<'p, S, D> {
         ensures within { IfOk result (λ found. IfSome found (λ index. index < length self.now.inbox.packets)) }
         ensures is_named { IfOk result (λ found. IfSome found (λ index. named self.now event ≡ at_index self.now.inbox.packets index)) }
         ensures fits { IfOk result (λ found. IfSome found (λ index.
-            (m : Message) → slice_get self.now.inbox.packets index ≡ Some m → matches selector.now m ≡ true)) }
+            (m : PacketValue) → slice_get self.now.inbox.packets index ≡ Some m → matches selector.now m ≡ true)) }
 
         ensures refused { IfErr result (λ e. named_turn selector.now (named self.now event) ≡ Err e) }
         ensures replay { IfErr result (λ e. e ≡ NodeFault.Replay) }

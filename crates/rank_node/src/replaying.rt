@@ -1,7 +1,7 @@
 //! A rank that replays its events.
 ghost use Rattle.std.specs.Prelude.{◌≡◌, ◌≢◌, ◌≤◌, [], length, Ok, Err};
 ghost use Rattle.metered.specs.Limits.{most_events};
-ghost use Rattle.rank_machine.specs.Machine.{asks};
+ghost use Rattle.rank_machine.specs.Machine.{machine_want};
 
 mod frames;
 mod stepping;
@@ -90,7 +90,7 @@ impl<'p, S: Shelf, D> Replaying<'p, S, D> {
 
     /// What its machine wants next.
     pub fn wants(&self) -> Want
-        ensures { result ≡ asks self.now.node.machine }
+        ensures { result ≡ machine_want self.now.node.machine }
     {
         self.running.wants()
     }

@@ -1,7 +1,7 @@
 //! A rank that runs.
 ghost use Rattle.std.specs.Prelude.{◌≡◌, ◌<◌, ◌≤◌, length, replicate, IfOk, IfErr, None};
 ghost use Rattle.metered.specs.Limits.{most_events, most_ranks};
-ghost use Rattle.rank_machine.specs.Machine.{asks};
+ghost use Rattle.rank_machine.specs.Machine.{machine_want};
 ghost use Rattle.checkpoint.specs.Savable.{IsSavable};
 ghost use Rattle.rank_node.specs.Image.{first_image};
 
@@ -146,7 +146,7 @@ impl<'p, S: Shelf, D> Running<'p, S, D> {
 
     /// What its machine wants next.
     pub fn wants(&self) -> Want
-        ensures { result ≡ asks self.now.machine }
+        ensures { result ≡ machine_want self.now.machine }
     {
         self.machine.wants()
     }

@@ -3,7 +3,7 @@ ghost use Rattle.std.specs.Prelude.{◌≡◌, ◌≢◌, ℕ, ◌+◌, ◌<◌,
 ghost use Rattle.metered.specs.Limits.{greatest_clock, most_events};
 ghost use Rattle.payload_log.specs.Backlog.{backlog, next_number};
 ghost use Rattle.rank_machine.specs.Wants.{IsLegal};
-ghost use Rattle.rank_machine.specs.Machine.{asks};
+ghost use Rattle.rank_machine.specs.Machine.{machine_want};
 
 use crate::events::naming;
 use crate::fault::NodeFault;
@@ -52,7 +52,7 @@ impl<'p, S: Shelf, D> Running<'p, S, D> {
     }
 
     fn send(&mut self, dest: u8, context: Context, tag: u16) -> Result<Turn, NodeFault>
-        requires stands { asks self.old.machine ≡ Want.Send dest context tag }
+        requires stands { machine_want self.old.machine ≡ Want.Send dest context tag }
         requires legal { IsLegal self.old.machine.store.size (Want.Send dest context tag) }
         ensures turn { IfOk result (λ turn. turn ≡ turn_at self.old (Want.Send dest context tag)) }
         ensures ok { OnOk result (self.new ≡ step_at self.old (Want.Send dest context tag) self.new.machine) }
@@ -100,7 +100,7 @@ impl<'p, S: Shelf, D> Running<'p, S, D> {
 
     // The send that stands passes: its packet goes to the payload log.
     fn pass_send(&mut self, dest: u8, packet: Packet) -> Result<(), NodeFault>
-        requires stands { asks self.old.machine ≡ Want.Send dest packet.context packet.tag }
+        requires stands { machine_want self.old.machine ≡ Want.Send dest packet.context packet.tag }
         requires there { dest < self.old.stable.size }
         requires clock { self.old.clock < greatest_clock }
         requires settled { is_settled self.old.pending ≡ true }
@@ -121,7 +121,7 @@ impl<'p, S: Shelf, D> Running<'p, S, D> {
     // The send that stands waits: the payload log holds its packet.
     #[tactic(auto, using(crate::proofs::Held::held_send))]
     fn wait_send(&mut self, dest: u8, packet: Packet) -> Result<(), NodeFault>
-        requires stands { asks self.old.machine ≡ Want.Send dest packet.context packet.tag }
+        requires stands { machine_want self.old.machine ≡ Want.Send dest packet.context packet.tag }
         requires there { dest < self.old.stable.size }
         requires clock { self.old.clock < greatest_clock }
         requires room { has_room self.old.pending ≡ true }
@@ -143,7 +143,7 @@ impl<'p, S: Shelf, D> Running<'p, S, D> {
 
     #[tactic(auto, using(crate::proofs::Held::sends_to_event))]
     fn receive(&mut self, selector: &Selector) -> Result<Turn, NodeFault>
-        requires { asks self.old.machine ≡ Want.Receive selector.now }
+        requires { machine_want self.old.machine ≡ Want.Receive selector.now }
         ensures turn { IfOk result (λ turn. turn ≡ turn_at self.old (Want.Receive selector.now)) }
         ensures ok { OnOk result (self.new ≡ step_at self.old (Want.Receive selector.now) self.new.machine) }
         ensures machine { OnOk result (MachineStepAt self.old (Want.Receive selector.now) self.new.machine) }
@@ -170,7 +170,7 @@ impl<'p, S: Shelf, D> Running<'p, S, D> {
 
     #[tactic(auto, using(crate::proofs::Held::sends_to_line))]
     fn print<C: Screen>(&mut self, screen: &mut C, value: i64) -> Result<Turn, NodeFault>
-        requires { asks self.old.machine ≡ Want.Print value }
+        requires { machine_want self.old.machine ≡ Want.Print value }
         ensures turn { IfOk result (λ turn. turn ≡ turn_at self.old (Want.Print value)) }
         ensures ok { OnOk result (self.new ≡ step_at self.old (Want.Print value) self.new.machine) }
         ensures machine { OnOk result (MachineStepAt self.old (Want.Print value) self.new.machine) }

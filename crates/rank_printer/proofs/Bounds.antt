@@ -16,14 +16,14 @@ use Rattle.rank_grammar.specs.declared.token.Reduction.TheVariants as reduces
 use Rattle.rank_grammar.specs.declared.token.Token.{Token}
 use Rattle.rank_grammar.specs.declared.token.Token.TheVariants as t
 use Rattle.rank_grammar.specs.Tree.{Tree, number, variable, item, reading, negation, operation}
-use Rattle.rank_grammar.specs.Forms.{Choice, any, value, Payload, lone, one}
+use Rattle.rank_grammar.specs.Forms.{Pattern, any, value, Payload, lone, one}
 use Rattle.rank_grammar.specs.Forms.{Form, var_form, array_form, let_form, item_form, if_form, else_form, end_form, while_form}
 use Rattle.rank_grammar.specs.Forms.{send_form, recv_form, probe_form, try_probe_form, print_form, barrier_form, bcast_form, reduce_form}
 use Rattle.rank_checker.specs.Scope.{nodes, deepest}
 use Rattle.rank_printer.specs.Canonical.{operator_text, reading_text, is_operation, operand_text, expression_text}
-use Rattle.rank_printer.specs.Canonical.{choice_text, payload_text, reduction_text, form_text, indentation}
-use Rattle.rank_printer.proofs.PrintedTokens.{operand_tokens, expression_tokens, choice_tokens, payload_tokens, form_tokens}
-use Rattle.rank_printer.proofs.Fitting.{IsPlain, IsFit, ChoiceFits, PayloadFits, FormFits}
+use Rattle.rank_printer.specs.Canonical.{pattern_text, payload_text, reduction_text, form_text, indentation}
+use Rattle.rank_printer.proofs.PrintedTokens.{operand_tokens, expression_tokens, pattern_tokens, payload_tokens, form_tokens}
+use Rattle.rank_printer.proofs.Fitting.{IsPlain, IsFit, PatternFits, PayloadFits, FormFits}
 
 -- in front of tokens that nest at most k deep the tokens don't nest deeper, where k is so much more than what is open
 abbrev Shallow : ℕ → List Token → Type 0
@@ -76,9 +76,9 @@ fit_shallow : (e : Tree) → IsFit e → Shallow most_parentheses (expression_to
 fit_shallow e h = wider (nodes e) most_parentheses (expression_tokens e) h.1 (expression_shallow e)
 
 -- a source or a tag
-choice_shallow : (c : Choice) → ChoiceFits c → Shallow most_parentheses (choice_tokens c)
-choice_shallow any h = λ k n us p d. d
-choice_shallow (value e) h = fit_shallow e h
+pattern_shallow : (c : Pattern) → PatternFits c → Shallow most_parentheses (pattern_tokens c)
+pattern_shallow any h = λ k n us p d. d
+pattern_shallow (value e) h = fit_shallow e h
 
 -- what a send gives
 payload_shallow : (p : Payload) → PayloadFits p → Shallow most_parentheses (payload_tokens p)
@@ -117,10 +117,10 @@ form_shallow (while_form e) h = alone (expression_tokens e) (fit_shallow e h)
 form_shallow (send_form d g p) h =
     three_shallow (expression_tokens d) (expression_tokens g) (payload_tokens p) (fit_shallow d h.0) (fit_shallow g h.1) (payload_shallow p h.2)
 form_shallow (recv_form s g x) h =
-    three_shallow (choice_tokens s) (choice_tokens g) (t.Name x ∷ []) (choice_shallow s h.0) (choice_shallow g h.1) (λ k n us p d. d)
-form_shallow (probe_form s g) h = two_shallow (choice_tokens s) (choice_tokens g) (choice_shallow s h.0) (choice_shallow g h.1)
+    three_shallow (pattern_tokens s) (pattern_tokens g) (t.Name x ∷ []) (pattern_shallow s h.0) (pattern_shallow g h.1) (λ k n us p d. d)
+form_shallow (probe_form s g) h = two_shallow (pattern_tokens s) (pattern_tokens g) (pattern_shallow s h.0) (pattern_shallow g h.1)
 form_shallow (try_probe_form s g x) h =
-    three_shallow (choice_tokens s) (choice_tokens g) (t.Name x ∷ []) (choice_shallow s h.0) (choice_shallow g h.1) (λ k n us p d. d)
+    three_shallow (pattern_tokens s) (pattern_tokens g) (t.Name x ∷ []) (pattern_shallow s h.0) (pattern_shallow g h.1) (λ k n us p d. d)
 form_shallow (print_form e) h = alone (expression_tokens e) (fit_shallow e h)
 form_shallow barrier_form h = none_open
 form_shallow (bcast_form r x) h = two_shallow (expression_tokens r) (t.Name x ∷ []) (fit_shallow r h.0) (λ k n us p d. d)
@@ -197,9 +197,9 @@ fit_length : (e : Tree) → IsFit e → length (expression_text e) ≤ 1280
 fit_length e h = omega (arith, expression_length e h.0, h.1)
 
 -- a source or a tag takes no more than an expression may
-choice_length : (c : Choice) → ChoiceFits c → length (choice_text c) ≤ 1280
-choice_length any h = omega arith
-choice_length (value e) h = fit_length e h
+pattern_length : (c : Pattern) → PatternFits c → length (pattern_text c) ≤ 1280
+pattern_length any h = omega arith
+pattern_length (value e) h = fit_length e h
 
 -- so does what a send gives
 payload_length : (p : Payload) → PayloadFits p → length (payload_text p) ≤ 1280
@@ -239,11 +239,11 @@ form_length (send_form d g p) h =
       payload_length p h.2,
     )
 form_length (recv_form s g x) h =
-    omega (arith, three_length (codes "recv ") (choice_text s) (choice_text g) x, choice_length s h.0, choice_length g h.1, h.2.1)
+    omega (arith, three_length (codes "recv ") (pattern_text s) (pattern_text g) x, pattern_length s h.0, pattern_length g h.1, h.2.1)
 form_length (probe_form s g) h =
-    omega (arith, between_length (codes "probe " ++ choice_text s) (codes ", ") (choice_text g), choice_length s h.0, choice_length g h.1)
+    omega (arith, between_length (codes "probe " ++ pattern_text s) (codes ", ") (pattern_text g), pattern_length s h.0, pattern_length g h.1)
 form_length (try_probe_form s g x) h =
-    omega (arith, three_length (codes "iprobe ") (choice_text s) (choice_text g) x, choice_length s h.0, choice_length g h.1, h.2.1)
+    omega (arith, three_length (codes "iprobe ") (pattern_text s) (pattern_text g) x, pattern_length s h.0, pattern_length g h.1, h.2.1)
 form_length (print_form e) h = omega (arith, fit_length e h)
 form_length barrier_form h = omega arith
 form_length (bcast_form r x) h = omega (arith, between_length (codes "bcast " ++ expression_text r) (codes ", ") x, fit_length r h.0, h.1.1)

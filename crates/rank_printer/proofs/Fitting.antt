@@ -3,7 +3,7 @@ use Rattle.std.proofs.Common.{ℕ, ◌^◌, ◌<◌, ◌≤◌, List, length}
 use Rattle.metered.specs.Limits.{most_name_bytes, most_nodes}
 use Rattle.rank_grammar.specs.Lexes.{IsName}
 use Rattle.rank_grammar.specs.Tree.{Tree, number, variable, item, reading, negation, operation}
-use Rattle.rank_grammar.specs.Forms.{Choice, any, value, Payload, lone, one}
+use Rattle.rank_grammar.specs.Forms.{Pattern, any, value, Payload, lone, one}
 use Rattle.rank_grammar.specs.Forms.{Form, var_form, array_form, let_form, item_form, if_form, else_form, end_form, while_form}
 use Rattle.rank_grammar.specs.Forms.{send_form, recv_form, probe_form, try_probe_form, print_form, barrier_form, bcast_form, reduce_form}
 use Rattle.rank_checker.specs.Scope.{nodes}
@@ -26,9 +26,9 @@ abbrev pub IsFit : Tree → Type 0
 IsFit e = IsPlain e × (nodes e ≤ most_nodes)
 
 -- the same of a source or a tag
-abbrev pub ChoiceFits : Choice → Type 0
-ChoiceFits any = Unit {0}
-ChoiceFits (value e) = IsFit e
+abbrev pub PatternFits : Pattern → Type 0
+PatternFits any = Unit {0}
+PatternFits (value e) = IsFit e
 
 -- of what a send gives
 abbrev pub PayloadFits : Payload → Type 0
@@ -46,9 +46,9 @@ FormFits else_form = Unit {0}
 FormFits end_form = Unit {0}
 FormFits (while_form e) = IsFit e
 FormFits (send_form d g p) = IsFit d × IsFit g × PayloadFits p
-FormFits (recv_form s g x) = ChoiceFits s × ChoiceFits g × IsShortName x
-FormFits (probe_form s g) = ChoiceFits s × ChoiceFits g
-FormFits (try_probe_form s g x) = ChoiceFits s × ChoiceFits g × IsShortName x
+FormFits (recv_form s g x) = PatternFits s × PatternFits g × IsShortName x
+FormFits (probe_form s g) = PatternFits s × PatternFits g
+FormFits (try_probe_form s g x) = PatternFits s × PatternFits g × IsShortName x
 FormFits (print_form e) = IsFit e
 FormFits barrier_form = Unit {0}
 FormFits (bcast_form r x) = IsFit r × IsShortName x

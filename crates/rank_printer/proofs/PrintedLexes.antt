@@ -27,13 +27,13 @@ use Rattle.rank_grammar.specs.Lexes.{is_open_parenthesis, is_close_parenthesis, 
 use Rattle.rank_grammar.specs.Lexes.{is_less, is_greater, is_equal, is_not_equal, is_less_equal, is_greater_equal}
 use Rattle.rank_grammar.specs.Grammar.{minus}
 use Rattle.rank_grammar.specs.Tree.{Tree, number, variable, item, reading, negation, operation}
-use Rattle.rank_grammar.specs.Forms.{Choice, any, value, Payload, lone, one}
+use Rattle.rank_grammar.specs.Forms.{Pattern, any, value, Payload, lone, one}
 use Rattle.rank_grammar.specs.Forms.{Form, var_form, array_form, let_form, item_form, if_form, else_form, end_form, while_form}
 use Rattle.rank_grammar.specs.Forms.{send_form, recv_form, probe_form, try_probe_form, print_form, barrier_form, bcast_form, reduce_form}
 use Rattle.rank_printer.specs.Canonical.{operator_text, reading_text, is_operation, operand_text, expression_text}
-use Rattle.rank_printer.specs.Canonical.{choice_text, payload_text, reduction_text, form_text, indentation}
-use Rattle.rank_printer.proofs.PrintedTokens.{operand_tokens, expression_tokens, choice_tokens, payload_tokens, form_tokens}
-use Rattle.rank_printer.proofs.Fitting.{IsShortName, IsPlain, ChoiceFits, PayloadFits, FormFits}
+use Rattle.rank_printer.specs.Canonical.{pattern_text, payload_text, reduction_text, form_text, indentation}
+use Rattle.rank_printer.proofs.PrintedTokens.{operand_tokens, expression_tokens, pattern_tokens, payload_tokens, form_tokens}
+use Rattle.rank_printer.proofs.Fitting.{IsShortName, IsPlain, PatternFits, PayloadFits, FormFits}
 
 -- the byte may go on with a word, a number or a sign
 abbrev goes_on : ℕ → Bool
@@ -284,10 +284,10 @@ expression_reads (operation o a b) h =
     (wrapped_reads (is_operation b) (expression_text b) (expression_tokens b) (expression_reads b h.1))
 
 -- a source or a tag
-choice_reads : (c : Choice) → ChoiceFits c → Reads (choice_text c) (choice_tokens c)
+pattern_reads : (c : Pattern) → PatternFits c → Reads (pattern_text c) (pattern_tokens c)
 unfolding control_words message_words reading_words argument_words
-choice_reads any h = word_reads (codes "any") t.Any (refl, (refl, (refl, tt))) refl
-choice_reads (value e) h = expression_reads e h.0
+pattern_reads any h = word_reads (codes "any") t.Any (refl, (refl, (refl, tt))) refl
+pattern_reads (value e) h = expression_reads e h.0
 
 -- what a send gives
 payload_reads : (p : Payload) → PayloadFits p → Reads (payload_text p) (payload_tokens p)
@@ -440,14 +440,14 @@ form_reads (send_form d g p) h =
     three_reads (codes "send ") (expression_text d) (expression_text g) (payload_text p) (t.Keyword k.Send) (expression_tokens d)
     (expression_tokens g) (payload_tokens p) send_closed (expression_reads d h.0.0) (expression_reads g h.1.0) (payload_reads p h.2)
 form_reads (recv_form s g x) h =
-    three_reads (codes "recv ") (choice_text s) (choice_text g) x (t.Keyword k.Recv) (choice_tokens s) (choice_tokens g) (t.Name x ∷ [])
-    recv_closed (choice_reads s h.0) (choice_reads g h.1) (name_reads x h.2)
+    three_reads (codes "recv ") (pattern_text s) (pattern_text g) x (t.Keyword k.Recv) (pattern_tokens s) (pattern_tokens g) (t.Name x ∷ [])
+    recv_closed (pattern_reads s h.0) (pattern_reads g h.1) (name_reads x h.2)
 form_reads (probe_form s g) h =
-    two_reads (codes "probe ") (choice_text s) (choice_text g) (t.Keyword k.Probe) (choice_tokens s) (choice_tokens g)
-    probe_closed (choice_reads s h.0) (choice_reads g h.1)
+    two_reads (codes "probe ") (pattern_text s) (pattern_text g) (t.Keyword k.Probe) (pattern_tokens s) (pattern_tokens g)
+    probe_closed (pattern_reads s h.0) (pattern_reads g h.1)
 form_reads (try_probe_form s g x) h =
-    three_reads (codes "iprobe ") (choice_text s) (choice_text g) x (t.Keyword k.Iprobe) (choice_tokens s) (choice_tokens g) (t.Name x ∷ [])
-    try_probe_closed (choice_reads s h.0) (choice_reads g h.1) (name_reads x h.2)
+    three_reads (codes "iprobe ") (pattern_text s) (pattern_text g) x (t.Keyword k.Iprobe) (pattern_tokens s) (pattern_tokens g) (t.Name x ∷ [])
+    try_probe_closed (pattern_reads s h.0) (pattern_reads g h.1) (name_reads x h.2)
 form_reads (print_form e) h =
     closed_then (codes "print ") (expression_text e) (t.Keyword k.Print ∷ []) (expression_tokens e) print_closed (expression_reads e h.0)
 form_reads barrier_form h = barrier_reads

@@ -14,10 +14,10 @@ use Rattle.rank_grammar.specs.Tree.{Tree, number, variable, item, reading, negat
 use Rattle.rank_grammar.specs.Grammar.{strength, minus, whole, atom}
 use Rattle.rank_grammar.specs.Grammar.{Spells, is_number, is_variable, is_reading, is_item, in_parentheses, is_atom, negated, is_unary}
 use Rattle.rank_grammar.specs.Grammar.{multiplied, is_product, added, is_sum, compared}
-use Rattle.rank_grammar.specs.Forms.{Choice, any, value, Payload, lone, one}
+use Rattle.rank_grammar.specs.Forms.{Pattern, any, value, Payload, lone, one}
 use Rattle.rank_grammar.specs.Forms.{Form, var_form, array_form, let_form, item_form, if_form, else_form, end_form, while_form}
 use Rattle.rank_grammar.specs.Forms.{send_form, recv_form, probe_form, try_probe_form, print_form, barrier_form, bcast_form, reduce_form}
-use Rattle.rank_grammar.specs.Forms.{IsChoice, is_any, is_value, IsNoName, IsPayload, is_lone, is_one}
+use Rattle.rank_grammar.specs.Forms.{IsPattern, is_any, is_value, IsNoName, IsPayload, is_lone, is_one}
 use Rattle.rank_grammar.specs.Forms.{IsForm, is_var, is_array, is_let, is_let_item, is_if, is_else, is_end, is_while}
 use Rattle.rank_grammar.specs.Forms.{is_send, is_recv, is_probe, is_try_probe, is_print, is_barrier, is_bcast, is_reduce}
 use Rattle.rank_printer.specs.Canonical.{is_operation, IsCanonicalPayload, IsCanonical}
@@ -36,9 +36,9 @@ expression_tokens (negation e) = minus ∷ operand_tokens e (expression_tokens e
 expression_tokens (operation o a b) = operand_tokens a (expression_tokens a) ++ t.Operator o ∷ operand_tokens b (expression_tokens b)
 
 -- the tokens of a source or a tag
-abbrev pub choice_tokens : Choice → List Token
-choice_tokens any = t.Any ∷ []
-choice_tokens (value e) = expression_tokens e
+abbrev pub pattern_tokens : Pattern → List Token
+pattern_tokens any = t.Any ∷ []
+pattern_tokens (value e) = expression_tokens e
 
 -- the tokens of what a send gives
 abbrev pub payload_tokens : Payload → List Token
@@ -58,10 +58,10 @@ form_tokens end_form = t.Keyword k.End ∷ []
 form_tokens (while_form e) = t.Keyword k.While ∷ expression_tokens e
 form_tokens (send_form d g p) =
     t.Keyword k.Send ∷ (expression_tokens d ++ t.Comma ∷ (expression_tokens g ++ t.Comma ∷ payload_tokens p))
-form_tokens (recv_form s g x) = t.Keyword k.Recv ∷ (choice_tokens s ++ t.Comma ∷ (choice_tokens g ++ t.Comma ∷ (t.Name x ∷ [])))
-form_tokens (probe_form s g) = t.Keyword k.Probe ∷ (choice_tokens s ++ t.Comma ∷ choice_tokens g)
+form_tokens (recv_form s g x) = t.Keyword k.Recv ∷ (pattern_tokens s ++ t.Comma ∷ (pattern_tokens g ++ t.Comma ∷ (t.Name x ∷ [])))
+form_tokens (probe_form s g) = t.Keyword k.Probe ∷ (pattern_tokens s ++ t.Comma ∷ pattern_tokens g)
 form_tokens (try_probe_form s g x) =
-    t.Keyword k.Iprobe ∷ (choice_tokens s ++ t.Comma ∷ (choice_tokens g ++ t.Comma ∷ (t.Name x ∷ [])))
+    t.Keyword k.Iprobe ∷ (pattern_tokens s ++ t.Comma ∷ (pattern_tokens g ++ t.Comma ∷ (t.Name x ∷ [])))
 form_tokens (print_form e) = t.Keyword k.Print ∷ expression_tokens e
 form_tokens barrier_form = t.Keyword k.Barrier ∷ []
 form_tokens (bcast_form r x) = t.Keyword k.Bcast ∷ (expression_tokens r ++ t.Comma ∷ (t.Name x ∷ []))
@@ -100,9 +100,9 @@ mutual
   operand_spells (operation o a b) d = in_parentheses d
 
 -- a source or a tag
-choice_spells : (c : Choice) → IsChoice (choice_tokens c) c
-choice_spells any = is_any
-choice_spells (value e) = is_value (expression_spells e)
+pattern_spells : (c : Pattern) → IsPattern (pattern_tokens c) c
+pattern_spells any = is_any
+pattern_spells (value e) = is_value (expression_spells e)
 
 -- an operation is more than a name
 operation_no_name : (xs ys : List Token) (o : Operator) → IsNoName (xs ++ t.Operator o ∷ ys)
@@ -136,9 +136,9 @@ form_spells else_form c = is_else
 form_spells end_form c = is_end
 form_spells (while_form e) c = is_while (expression_spells e)
 form_spells (send_form d g p) c = is_send (expression_spells d) (expression_spells g) (payload_spells p c)
-form_spells (recv_form s g x) c = is_recv (choice_spells s) (choice_spells g)
-form_spells (probe_form s g) c = is_probe (choice_spells s) (choice_spells g)
-form_spells (try_probe_form s g x) c = is_try_probe (choice_spells s) (choice_spells g)
+form_spells (recv_form s g x) c = is_recv (pattern_spells s) (pattern_spells g)
+form_spells (probe_form s g) c = is_probe (pattern_spells s) (pattern_spells g)
+form_spells (try_probe_form s g x) c = is_try_probe (pattern_spells s) (pattern_spells g)
 form_spells (print_form e) c = is_print (expression_spells e)
 form_spells barrier_form c = is_barrier
 form_spells (bcast_form r x) c = is_bcast (expression_spells r)

@@ -10,7 +10,7 @@ use Rattle.std.proofs.lemmas.Bool.Decides.{nat_tests}
 use Rattle.metered.specs.Limits.{most_lines, most_blocks, most_name_bytes, most_nodes, most_parentheses}
 use Rattle.rank_grammar.specs.declared.token.Token.{Token}
 use Rattle.rank_grammar.specs.Tree.{Tree, number, variable, item, reading, negation, operation}
-use Rattle.rank_grammar.specs.Forms.{Choice, any, value, Payload, lone, one}
+use Rattle.rank_grammar.specs.Forms.{Pattern, any, value, Payload, lone, one}
 use Rattle.rank_grammar.specs.Forms.{Form, var_form, array_form, let_form, item_form, if_form, else_form, end_form, while_form}
 use Rattle.rank_grammar.specs.Forms.{send_form, recv_form, probe_form, try_probe_form, print_form, barrier_form, bcast_form, reduce_form}
 use Rattle.rank_checker.specs.declared.fault.FaultKind.{FaultKind}
@@ -18,12 +18,12 @@ use Rattle.rank_checker.specs.Lines.{is_statement}
 use Rattle.rank_checker.specs.Faults.{IsFormed, Holds, other_byte, no_word, no_form, unknown_name, known_name}
 use Rattle.rank_checker.specs.Faults.{no_block, long_line, late_line, over, great_number}
 use Rattle.rank_checker.specs.Scope.{Scope, Opened, is_name_in, is_variable, is_array, is_declared}
-use Rattle.rank_checker.specs.Scope.{all_declared, choice_declared, payload_declared, declared_in}
-use Rattle.rank_checker.specs.Scope.{is_twice, is_stray, nodes, is_large, choice_is_large, payload_is_large, has_large, deepest, is_past_table, is_over}
-use Rattle.rank_checker.specs.Scope.{is_great, choice_is_great, payload_is_great, has_great_number, other_branch, outer, after, MayStand}
+use Rattle.rank_checker.specs.Scope.{all_declared, pattern_declared, payload_declared, declared_in}
+use Rattle.rank_checker.specs.Scope.{is_twice, is_stray, nodes, is_large, pattern_is_large, payload_is_large, has_large, deepest, is_past_table, is_over}
+use Rattle.rank_checker.specs.Scope.{is_great, pattern_is_great, payload_is_great, has_great_number, other_branch, outer, after, MayStand}
 use Rattle.rank_checker.proofs.LineLaws.{form_one}
 use Rattle.rank_printer.specs.Canonical.{depth_of, depth_after}
-use Rattle.rank_printer.proofs.Fitting.{IsShortName, IsPlain, IsFit, ChoiceFits, PayloadFits, FormFits}
+use Rattle.rank_printer.proofs.Fitting.{IsShortName, IsPlain, IsFit, PatternFits, PayloadFits, FormFits}
 
 -- each name is a name that isn't too long
 abbrev pub AllShort : List (List ℕ) → Type 0
@@ -93,10 +93,10 @@ fit_of : (s : Scope) (e : Tree) → IsNamedWell s → all_declared s e ≡ true 
 fit_of s e h d l g = (plain_of s e h d g, few_nodes (nodes e) l)
 
 -- a source or a tag fits, as its expression does
-choice_fits : (s : Scope) (c : Choice) → IsNamedWell s → choice_declared s c ≡ true → choice_is_large c ≡ false → choice_is_great c ≡ false
-    → ChoiceFits c
-choice_fits s any h d l g = tt
-choice_fits s (value e) h d l g = fit_of s e h d l g
+pattern_fits : (s : Scope) (c : Pattern) → IsNamedWell s → pattern_declared s c ≡ true → pattern_is_large c ≡ false → pattern_is_great c ≡ false
+    → PatternFits c
+pattern_fits s any h d l g = tt
+pattern_fits s (value e) h d l g = fit_of s e h d l g
 
 -- so does what a send gives
 payload_fits : (s : Scope) (p : Payload) → IsNamedWell s → payload_declared s p ≡ true → payload_is_large p ≡ false → payload_is_great p ≡ false
@@ -138,22 +138,22 @@ fits_of s (send_form d g p) h m =
     let j = or_fails (is_great d) (is_great g) i.0 in
     (fit_of s d h b.0 k.0 j.0, fit_of s g h b.1 k.1 j.1, payload_fits s p h a.1 l.1 i.1)
 fits_of s (recv_form c g x) h m =
-    let a = and_parts (choice_declared s c && choice_declared s g) (is_declared s x) m.declared in
-    let b = and_parts (choice_declared s c) (choice_declared s g) a.0 in
-    let l = or_fails (choice_is_large c) (choice_is_large g) m.sized in
-    let j = or_fails (choice_is_great c) (choice_is_great g) m.fitting in
-    (choice_fits s c h b.0 l.0 j.0, choice_fits s g h b.1 l.1 j.1, declared_short s x h a.1)
+    let a = and_parts (pattern_declared s c && pattern_declared s g) (is_declared s x) m.declared in
+    let b = and_parts (pattern_declared s c) (pattern_declared s g) a.0 in
+    let l = or_fails (pattern_is_large c) (pattern_is_large g) m.sized in
+    let j = or_fails (pattern_is_great c) (pattern_is_great g) m.fitting in
+    (pattern_fits s c h b.0 l.0 j.0, pattern_fits s g h b.1 l.1 j.1, declared_short s x h a.1)
 fits_of s (probe_form c g) h m =
-    let a = and_parts (choice_declared s c) (choice_declared s g) m.declared in
-    let l = or_fails (choice_is_large c) (choice_is_large g) m.sized in
-    let j = or_fails (choice_is_great c) (choice_is_great g) m.fitting in
-    (choice_fits s c h a.0 l.0 j.0, choice_fits s g h a.1 l.1 j.1)
+    let a = and_parts (pattern_declared s c) (pattern_declared s g) m.declared in
+    let l = or_fails (pattern_is_large c) (pattern_is_large g) m.sized in
+    let j = or_fails (pattern_is_great c) (pattern_is_great g) m.fitting in
+    (pattern_fits s c h a.0 l.0 j.0, pattern_fits s g h a.1 l.1 j.1)
 fits_of s (try_probe_form c g x) h m =
-    let a = and_parts (choice_declared s c && choice_declared s g) (is_variable s x) m.declared in
-    let b = and_parts (choice_declared s c) (choice_declared s g) a.0 in
-    let l = or_fails (choice_is_large c) (choice_is_large g) m.sized in
-    let j = or_fails (choice_is_great c) (choice_is_great g) m.fitting in
-    (choice_fits s c h b.0 l.0 j.0, choice_fits s g h b.1 l.1 j.1, variable_short s x h a.1)
+    let a = and_parts (pattern_declared s c && pattern_declared s g) (is_variable s x) m.declared in
+    let b = and_parts (pattern_declared s c) (pattern_declared s g) a.0 in
+    let l = or_fails (pattern_is_large c) (pattern_is_large g) m.sized in
+    let j = or_fails (pattern_is_great c) (pattern_is_great g) m.fitting in
+    (pattern_fits s c h b.0 l.0 j.0, pattern_fits s g h b.1 l.1 j.1, variable_short s x h a.1)
 fits_of s (print_form e) h m = fit_of s e h m.declared m.sized m.fitting
 fits_of s barrier_form h m = tt
 fits_of s (bcast_form r x) h m =

@@ -9,7 +9,7 @@ use Rattle.rank_grammar.specs.declared.token.Reading.TheVariants as reads
 use Rattle.rank_grammar.specs.Tree.{Tree, number, variable, item, reading, negation, operation}
 use Rattle.rank_grammar.specs.declared.token.Reduction.{Reduction}
 use Rattle.rank_grammar.specs.declared.token.Reduction.TheVariants as reduces
-use Rattle.rank_grammar.specs.Forms.{Choice, any, value, Payload, lone, one}
+use Rattle.rank_grammar.specs.Forms.{Pattern, any, value, Payload, lone, one}
 use Rattle.rank_grammar.specs.Forms.{Form, var_form, array_form, let_form, item_form, if_form, else_form, end_form, while_form}
 use Rattle.rank_grammar.specs.Forms.{send_form, recv_form, probe_form, try_probe_form, print_form, barrier_form, bcast_form, reduce_form}
 
@@ -58,9 +58,9 @@ expression_text (negation e) = codes "-" ++ operand_text e (expression_text e)
 expression_text (operation o a b) = operand_text a (expression_text a) ++ operator_text o ++ operand_text b (expression_text b)
 
 -- a source or a tag
-abbrev pub choice_text : Choice → List ℕ
-choice_text any = codes "any"
-choice_text (value e) = expression_text e
+abbrev pub pattern_text : Pattern → List ℕ
+pattern_text any = codes "any"
+pattern_text (value e) = expression_text e
 
 -- what a send gives
 abbrev pub payload_text : Payload → List ℕ
@@ -84,9 +84,9 @@ form_text else_form = codes "else"
 form_text end_form = codes "end"
 form_text (while_form e) = codes "while " ++ expression_text e
 form_text (send_form d g p) = codes "send " ++ expression_text d ++ codes ", " ++ expression_text g ++ codes ", " ++ payload_text p
-form_text (recv_form s g x) = codes "recv " ++ choice_text s ++ codes ", " ++ choice_text g ++ codes ", " ++ x
-form_text (probe_form s g) = codes "probe " ++ choice_text s ++ codes ", " ++ choice_text g
-form_text (try_probe_form s g x) = codes "iprobe " ++ choice_text s ++ codes ", " ++ choice_text g ++ codes ", " ++ x
+form_text (recv_form s g x) = codes "recv " ++ pattern_text s ++ codes ", " ++ pattern_text g ++ codes ", " ++ x
+form_text (probe_form s g) = codes "probe " ++ pattern_text s ++ codes ", " ++ pattern_text g
+form_text (try_probe_form s g x) = codes "iprobe " ++ pattern_text s ++ codes ", " ++ pattern_text g ++ codes ", " ++ x
 form_text (print_form e) = codes "print " ++ expression_text e
 form_text barrier_form = codes "barrier"
 form_text (bcast_form r x) = codes "bcast " ++ expression_text r ++ codes ", " ++ x

@@ -3,21 +3,21 @@
 ghost use Rattle.std.specs.Prelude.{◌≡◌, ◌++◌, OnOk, codes};
 ghost use Rattle.rank_grammar.specs.Forms.{array_form, bcast_form, item_form, let_form, probe_form, recv_form};
 ghost use Rattle.rank_grammar.specs.Forms.{reduce_form, send_form, try_probe_form, var_form};
-ghost use Rattle.rank_grammar.specs.SeenForms.{choice_of, form_seen, payload_seen};
+ghost use Rattle.rank_grammar.specs.SeenForms.{pattern_of, form_seen, payload_seen};
 ghost use Rattle.rank_grammar.specs.Tree.{tree_of};
-ghost use Rattle.rank_printer.specs.Canonical.{choice_text, expression_text, form_text, payload_text, reduction_text};
+ghost use Rattle.rank_printer.specs.Canonical.{pattern_text, expression_text, form_text, payload_text, reduction_text};
 
 use crate::expression::{put_expression, put_number};
 use metered::Heap;
-use rank_grammar::{Choice, Form, Name, Payload, Reduction, Written};
+use rank_grammar::{Pattern, Form, Name, Payload, Reduction, Written};
 use std::alloc::AllocError;
 
-fn put_choice(alloc: Heap, text: &mut Vec<u8, Heap>, choice: &Choice) -> Result<(), AllocError>
-    ensures { OnOk result (text.new.items ≡ text.old.items ++ choice_text (choice_of choice.now)) }
+fn put_pattern(alloc: Heap, text: &mut Vec<u8, Heap>, pattern: &Pattern) -> Result<(), AllocError>
+    ensures { OnOk result (text.new.items ≡ text.old.items ++ pattern_text (pattern_of pattern.now)) }
 {
-    match choice {
-        Choice::Any => text.extend_from_slice(b"any".as_slice()),
-        Choice::Value(value) => put_expression(alloc, text, value),
+    match pattern {
+        Pattern::Any => text.extend_from_slice(b"any".as_slice()),
+        Pattern::Value(value) => put_expression(alloc, text, value),
     }
 }
 
@@ -122,32 +122,32 @@ fn put_send(
 }
 
 /// Writes a source and a tag, with a comma between them.
-fn put_choices(
+fn put_patterns(
     alloc: Heap,
     text: &mut Vec<u8, Heap>,
-    source: &Choice,
-    tag: &Choice,
+    source: &Pattern,
+    tag: &Pattern,
 ) -> Result<(), AllocError>
     ensures { OnOk result (text.new.items
-        ≡ text.old.items ++ (choice_text (choice_of source.now) ++ codes ", " ++ choice_text (choice_of tag.now))) }
+        ≡ text.old.items ++ (pattern_text (pattern_of source.now) ++ codes ", " ++ pattern_text (pattern_of tag.now))) }
 {
-    put_choice(alloc, text, source)?;
+    put_pattern(alloc, text, source)?;
     put_comma(text)?;
-    put_choice(alloc, text, tag)
+    put_pattern(alloc, text, tag)
 }
 
 fn put_receive(
     alloc: Heap,
     text: &mut Vec<u8, Heap>,
-    source: &Choice,
-    tag: &Choice,
+    source: &Pattern,
+    tag: &Pattern,
     buffer: &Name,
 ) -> Result<(), AllocError>
     ensures { OnOk result (text.new.items
-        ≡ text.old.items ++ form_text (recv_form (choice_of source.now) (choice_of tag.now) buffer.now)) }
+        ≡ text.old.items ++ form_text (recv_form (pattern_of source.now) (pattern_of tag.now) buffer.now)) }
 {
     text.extend_from_slice(b"recv ".as_slice())?;
-    put_choices(alloc, text, source, tag)?;
+    put_patterns(alloc, text, source, tag)?;
     put_comma(text)?;
     text.extend_from_slice(buffer.as_bytes())
 }
@@ -155,28 +155,28 @@ fn put_receive(
 fn put_probe(
     alloc: Heap,
     text: &mut Vec<u8, Heap>,
-    source: &Choice,
-    tag: &Choice,
+    source: &Pattern,
+    tag: &Pattern,
 ) -> Result<(), AllocError>
     ensures { OnOk result (text.new.items
-        ≡ text.old.items ++ form_text (probe_form (choice_of source.now) (choice_of tag.now))) }
+        ≡ text.old.items ++ form_text (probe_form (pattern_of source.now) (pattern_of tag.now))) }
 {
     text.extend_from_slice(b"probe ".as_slice())?;
-    put_choices(alloc, text, source, tag)
+    put_patterns(alloc, text, source, tag)
 }
 
 fn put_try_probe(
     alloc: Heap,
     text: &mut Vec<u8, Heap>,
-    source: &Choice,
-    tag: &Choice,
+    source: &Pattern,
+    tag: &Pattern,
     flag: &Name,
 ) -> Result<(), AllocError>
     ensures { OnOk result (text.new.items
-        ≡ text.old.items ++ form_text (try_probe_form (choice_of source.now) (choice_of tag.now) flag.now)) }
+        ≡ text.old.items ++ form_text (try_probe_form (pattern_of source.now) (pattern_of tag.now) flag.now)) }
 {
     text.extend_from_slice(b"iprobe ".as_slice())?;
-    put_choices(alloc, text, source, tag)?;
+    put_patterns(alloc, text, source, tag)?;
     put_comma(text)?;
     text.extend_from_slice(flag.as_bytes())
 }

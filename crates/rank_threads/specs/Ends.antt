@@ -4,7 +4,7 @@ use Rattle.audit.specs.declared.outcome.End.{End}
 use Rattle.audit.specs.declared.outcome.End.TheVariants as end
 use Rattle.rank_machine.specs.declared.want.Want.{Want}
 use Rattle.rank_machine.specs.declared.want.Want.TheVariants as want
-use Rattle.rank_machine.specs.Machine.{asks}
+use Rattle.rank_machine.specs.Machine.{machine_want}
 use Rattle.rank_threads.specs.declared.phase.Phase.{Phase}
 use Rattle.rank_threads.specs.declared.phase.Phase.TheVariants as phase
 
@@ -21,7 +21,7 @@ end_at (want.Print value) = end.Unfinished
 
 -- a rank that replays hasn't come to the end of its row, and one that is down is nowhere
 abbrev pub end_in : Phase → End
-end_in (phase.Running v) = end_at (asks v.machine)
+end_in (phase.Running v) = end_at (machine_want v.machine)
 end_in (phase.Replaying r) = end.Unfinished
 end_in (phase.Down s) = end.Unfinished
 

@@ -8,7 +8,7 @@ use Rattle.event_logger.specs.Desks.{DeskValue, IsSameDesk}
 use Rattle.plain_logger.specs.Event.{EventValue}
 use Rattle.rank_language.specs.Program.{ProgramValue}
 use Rattle.rank_machine.specs.declared.want.Want.{Want}
-use Rattle.rank_machine.specs.Machine.{asks}
+use Rattle.rank_machine.specs.Machine.{machine_want}
 use Rattle.rank_node.specs.Image.{BeginsAgain, image_of}
 use Rattle.rank_node.specs.Node.{opening}
 use Rattle.rank_node.specs.Replay.{Replay}
@@ -31,8 +31,8 @@ clock_in (phase.Down s) = 0
 
 -- what the rank's machine wants; nothing where the rank is down
 abbrev pub want_in : Phase → Option Want
-want_in (phase.Running v) = Some (asks v.machine)
-want_in (phase.Replaying r) = Some (asks r.node.machine)
+want_in (phase.Running v) = Some (machine_want v.machine)
+want_in (phase.Replaying r) = Some (machine_want r.node.machine)
 want_in (phase.Down s) = None
 
 -- the same desk, whatever it has been asked, and the same rank of as many

@@ -4,7 +4,7 @@ use Rattle.std.proofs.Common.{refl, sym, ap, subst, ◌∙◌, arith, slice_get,
 use Rattle.std.proofs.lemmas.Bool.{cases_eq, cases_lt, cases_Bool, eqb-true}
 use Rattle.std.proofs.lemmas.List.{get_or-set_same, get_or-set_other, length-set}
 use Rattle.std.proofs.lemmas.Option.{slice_get_within}
-use Rattle.matching.specs.Message as packet
+use Rattle.matching.specs.PacketValue as packet
 use Rattle.matching.specs.Inbox.{Mailbox, accepted_from, with_packet, after_arrival}
 use Rattle.rank_machine.specs.Acts.{Message, carried}
 use Rattle.crash_free.specs.Runs.{History, at_place, taken}
@@ -22,7 +22,7 @@ place_within xs zero m e = absurd cc
 place_within xs (suc j) m e = let l = slice_get_within xs j m e in omega (arith, l)
 
 -- a packet with the next number is accepted
-pub InboxStands-accepted : (box : Mailbox) (inbound : ℕ → List Message) (h : History) (p : packet.Message)
+pub InboxStands-accepted : (box : Mailbox) (inbound : ℕ → List Message) (h : History) (p : packet.PacketValue)
     → p.source < length box.accepted → p.number ≡ accepted_from box p.source + 1 → at_place (inbound p.source) p.number ≡ Some (carried p)
     → InboxStands box inbound h → InboxStands (with_packet box p) inbound h
 InboxStands-accepted box inbound h p within next_one real i =
@@ -77,11 +77,11 @@ InboxStands-accepted box inbound h p within next_one real i =
             (cases_lt j p.number)
 
     each : (s j : ℕ) → 1 ≤ j → taken h s j ≡ false → (j ≤ accepted_from box s) ⊎ ((s ≡ p.source) × (j ≡ p.number))
-        → (k : ℕ) × (q : packet.Message) × (slice_get (box.packets ++ p ∷ []) k ≡ Some q) × (q.source ≡ s) × (q.number ≡ j)
+        → (k : ℕ) × (q : packet.PacketValue) × (slice_get (box.packets ++ p ∷ []) k ≡ Some q) × (q.source ≡ s) × (q.number ≡ j)
     each s j one t (inl l) = let x = i.each s j one l t in (x.0, x.1, slice_get-append box.packets (p ∷ []) x.0 x.1 x.2, x.3, x.4)
     each s j one t (inr e) = (length box.packets, p, get_last box.packets p, sym e.0, sym e.1)
 
-    rising : (k l : ℕ) (q q' : packet.Message) → k < l → q.source ≡ q'.source → (slice_get box.packets k ≡ Some q) ⊎ ((k ≡ length box.packets) × (q ≡ p))
+    rising : (k l : ℕ) (q q' : packet.PacketValue) → k < l → q.source ≡ q'.source → (slice_get box.packets k ≡ Some q) ⊎ ((k ≡ length box.packets) × (q ≡ p))
         → (slice_get box.packets l ≡ Some q') ⊎ ((l ≡ length box.packets) × (q' ≡ p)) → q.number < q'.number
     rising k l q q' lt s (inl e) (inl e') = i.rising k l q q' lt e e' s
     rising k l q q' lt s (inl e) (inr e') =
@@ -99,7 +99,7 @@ InboxStands-accepted box inbound h p within next_one real i =
         subst (λ z. accepted_from (with_packet box p) z ≤ length (inbound z)) (sym e) (rw now w)
 
 -- a packet arrives
-pub InboxStands-arrived : (box : Mailbox) (inbound : ℕ → List Message) (h : History) (p : packet.Message)
+pub InboxStands-arrived : (box : Mailbox) (inbound : ℕ → List Message) (h : History) (p : packet.PacketValue)
     → p.source < length box.accepted → at_place (inbound p.source) p.number ≡ Some (carried p)
     → InboxStands box inbound h → InboxStands (after_arrival box p) inbound h
 InboxStands-arrived box inbound h p within real i = go (p.number == accepted_from box p.source + 1) (λ e. eqb-true p.number (accepted_from box p.source + 1) e)
@@ -109,7 +109,7 @@ InboxStands-arrived box inbound h p within real i = go (p.number == accepted_fro
     go false e = i
 
 -- the count of sources stays
-pub after_arrival_counts : (box : Mailbox) (p : packet.Message) → length (after_arrival box p).accepted ≡ length box.accepted
+pub after_arrival_counts : (box : Mailbox) (p : packet.PacketValue) → length (after_arrival box p).accepted ≡ length box.accepted
 after_arrival_counts box p = go (p.number == accepted_from box p.source + 1)
   where
     go : (b : Bool) → length (if b then with_packet box p else box).accepted ≡ length box.accepted

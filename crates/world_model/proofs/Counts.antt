@@ -8,10 +8,10 @@ use Rattle.plain_logger.specs.Event.{EventValue, event_of}
 use Rattle.plain_logger.specs.declared.kind.Kind.{Kind}
 use Rattle.plain_logger.specs.declared.kind.Kind.TheVariants as kind
 use Rattle.plain_logger.specs.declared.call.Reply.TheVariants.{Length, Full, Order}
-use Rattle.matching.specs.Message as packet
+use Rattle.matching.specs.PacketValue as packet
 use Rattle.metered.specs.Limits.{greatest_clock, most_events}
 use Rattle.matching.specs.Matching.{matches}
-use Rattle.rank_machine.specs.Machine.{MachineValue, asks}
+use Rattle.rank_machine.specs.Machine.{MachineValue, machine_want}
 use Rattle.rank_machine.specs.declared.want.Want.{Want}
 use Rattle.rank_machine.specs.declared.want.Want.TheVariants as want
 use Rattle.rank_node.specs.Waiting.{is_settled, event_in, events_in, has_room}
@@ -111,24 +111,24 @@ module _ (v : Live) (m : MachineValue) (left : List EventValue)
   probe_counts : (w : Kind) (s c : ℕ) → event_refusal v.rank ≡ None → RankCounts (record { rank = after_probe v.rank m w s c; left = left }) events
   probe_counts w s c e = (let z = one_more (event_of w s c (v.rank.clock + 1)) (allowed_few e) in record { made = z.0; few = z.1 })
 
-  receive_counts : (f : ℕ × packet.Message) → event_refusal v.rank ≡ None → RankCounts (record { rank = after_reception v.rank m f.0 f.1; left = left }) events
+  receive_counts : (f : ℕ × packet.PacketValue) → event_refusal v.rank ≡ None → RankCounts (record { rank = after_reception v.rank m f.0 f.1; left = left }) events
   receive_counts f e = (let z = one_more (event_of kind.Reception f.1.source f.1.clock (v.rank.clock + 1)) (allowed_few e) in record { made = z.0; few = z.1 })
 
-  received_counts : (o : Option ℕ) → (if is_some o then event_refusal v.rank else None) ≡ None → (f : Option (ℕ × packet.Message))
+  received_counts : (o : Option ℕ) → (if is_some o then event_refusal v.rank else None) ≡ None → (f : Option (ℕ × packet.PacketValue))
       → f ≡ option_and_then (at_index v.rank.inbox.packets) o
       → RankCounts (record { rank = received v.rank m f; left = left }) events
   received_counts o e None q = stays
   received_counts None e (Some f) q = absurd cc
   received_counts (Some i) e (Some f) q = receive_counts f e
 
-  probed_counts : (o : Option ℕ) → (if is_some o then event_refusal v.rank else None) ≡ None → (f : Option (ℕ × packet.Message))
+  probed_counts : (o : Option ℕ) → (if is_some o then event_refusal v.rank else None) ≡ None → (f : Option (ℕ × packet.PacketValue))
       → f ≡ option_and_then (at_index v.rank.inbox.packets) o
       → RankCounts (record { rank = probed v.rank m f; left = left }) events
   probed_counts o e None q = stays
   probed_counts None e (Some f) q = absurd cc
   probed_counts (Some i) e (Some f) q = probe_counts kind.Hit f.1.source f.1.clock e
 
-  tried_counts : event_refusal v.rank ≡ None → (f : Option (ℕ × packet.Message)) → RankCounts (record { rank = tried v.rank m f; left = left }) events
+  tried_counts : event_refusal v.rank ≡ None → (f : Option (ℕ × packet.PacketValue)) → RankCounts (record { rank = tried v.rank m f; left = left }) events
   tried_counts e None = probe_counts kind.Miss 0 0 e
   tried_counts e (Some f) = probe_counts kind.Hit f.1.source f.1.clock e
 
@@ -161,15 +161,15 @@ module _ (v : Live) (m : MachineValue) (left : List EventValue)
   print_counts : RankCounts (record { rank = after_print v.rank m; left = left }) events
   print_counts = record { made = k.made; few = k.few }
 
-  taken_counts : (f : Option (ℕ × packet.Message)) → RankCounts (record { rank = taken_named v.rank m f; left = left }) events
+  taken_counts : (f : Option (ℕ × packet.PacketValue)) → RankCounts (record { rank = taken_named v.rank m f; left = left }) events
   taken_counts None = stays
   taken_counts (Some f) = record { made = k.made; few = k.few }
 
-  shown_counts : (f : Option (ℕ × packet.Message)) → RankCounts (record { rank = shown_named v.rank m f; left = left }) events
+  shown_counts : (f : Option (ℕ × packet.PacketValue)) → RankCounts (record { rank = shown_named v.rank m f; left = left }) events
   shown_counts None = stays
   shown_counts (Some f) = print_counts
 
-  tried_named_counts : (f : Option (ℕ × packet.Message)) (w : Kind) → RankCounts (record { rank = tried_named v.rank m f w; left = left }) events
+  tried_named_counts : (f : Option (ℕ × packet.PacketValue)) (w : Kind) → RankCounts (record { rank = tried_named v.rank m f w; left = left }) events
   tried_named_counts f kind.Hit = shown_counts f
   tried_named_counts f kind.Miss = print_counts
   tried_named_counts f kind.Reception = stays
@@ -193,10 +193,10 @@ one u x events h e = (let q : u ≡ x = cc in subst (λ z. RankCounts z events) 
 pub Counts-step : (w : WorldValue) (r : ℕ) (answer : Reply) (w' : WorldValue) → ((v : Live) → IsLive w r v → v.rank.stored ≤ length v.rank.pending)
     → Counts w → StepFollows w r answer w' → Counts w'
 Counts-step w r answer w' low c f =
-    Counts-rank w w' r (Some (record { rank = step_at f.before.rank (asks f.before.rank.machine) f.machine; left = [] })) (ap (λ z. z.ranks) f.after)
+    Counts-rank w w' r (Some (record { rank = step_at f.before.rank (machine_want f.before.rank.machine) f.machine; left = [] })) (ap (λ z. z.ranks) f.after)
     (ap (λ z. z.logger.rows) f.after)
     (λ x events e there. one _ x events (step_counts f.before f.machine [] events (c.ranks r f.before events f.live there) (low f.before f.live)
-    (asks f.before.rank.machine) f.allowed) e) c
+    (machine_want f.before.rank.machine) f.allowed) e) c
 
 -- a step of the replay
 pub Counts-replay : (w : WorldValue) (r : ℕ) (answer : Reply) (w' : WorldValue) → ((v : Live) → IsLive w r v → v.rank.stored ≤ length v.rank.pending)
@@ -204,7 +204,7 @@ pub Counts-replay : (w : WorldValue) (r : ℕ) (answer : Reply) (w' : WorldValue
 Counts-replay w r answer w' low c f =
     Counts-rank w w' r _ (ap (λ z. z.ranks) f.after) (ap (λ z. z.logger.rows) f.after)
     (λ x events e there. one _ x events (replay_counts f.before f.machine _ events (c.ranks r f.before events f.live there)
-    (low f.before f.live) f.event (asks f.before.rank.machine)) e) c
+    (low f.before f.live) f.event (machine_want f.before.rank.machine)) e) c
 
 -- ---- frames, images, crashes
 

@@ -3,7 +3,7 @@ use Rattle.std.proofs.Common.{◌≡◌, ℕ, zero, suc, ◌+◌, ◌<◌, ◌�
 use Rattle.std.proofs.Common.{◌∷◌, ◌++◌, Option, Some, None, length, map, refl, sym, ap, subst, arith, slice_get, slice_set, slice_index}
 use Rattle.std.proofs.Common.{slice_index_or}
 use Rattle.std.proofs.lemmas.Bool.{eqb-true}
-use Rattle.matching.specs.Message as packet
+use Rattle.matching.specs.PacketValue as packet
 use Rattle.matching.specs.Inbox.{Mailbox, accepted_from, with_packet, after_arrival}
 use Rattle.payload_log.specs.Backlog.{BacklogValue, backlog, new_backlog}
 use Rattle.rank_node.specs.declared.due.Due.{Due}
@@ -39,7 +39,7 @@ base_at images r log d c = go log d (λ b e. c d b e)
     go (x ∷ bs) (suc i) f = go bs i f
 
 -- an inbox that accepts counts more
-pub arrival_more : (box : Mailbox) (p : packet.Message) (s : ℕ) → accepted_from box s ≤ accepted_from (after_arrival box p) s
+pub arrival_more : (box : Mailbox) (p : packet.PacketValue) (s : ℕ) → accepted_from box s ≤ accepted_from (after_arrival box p) s
 arrival_more box p s = go (p.number == accepted_from box p.source + 1) (λ e. eqb-true p.number (accepted_from box p.source + 1) e)
   where
     set_more : (xs : List ℕ) (i k n : ℕ) → n ≡ slice_index xs i + 1 → slice_index xs k ≤ slice_index (slice_set xs i n) k

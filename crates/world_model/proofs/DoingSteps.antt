@@ -9,7 +9,7 @@ use Rattle.rank_machine.specs.Acts.{Act, sends, prints}
 use Rattle.rank_machine.specs.declared.want.Want.{Want}
 use Rattle.rank_machine.specs.declared.want.Want.TheVariants as want
 use Rattle.rank_machine.specs.Wants.{payload}
-use Rattle.rank_machine.specs.Machine.{asks, state_of}
+use Rattle.rank_machine.specs.Machine.{machine_want, state_of}
 use Rattle.rank_node.specs.declared.fault.NodeFault.{NodeFault}
 use Rattle.rank_node.specs.declared.fault.NodeFault.TheVariants.{Replay}
 use Rattle.rank_node.specs.declared.turn.Turn.{Turn}
@@ -76,7 +76,7 @@ pub step_some : (w w' : WorldValue) (r : ℕ) (x : Rank) (t : Turn) → Stands w
     → slice_get w.ranks r ≡ Some (at_work x) → is_some (refusal_of x) ≡ false
     → AtRank w.ranks r (λ v. t ≡ turn_of v.rank)
     → AtRank w.ranks r (λ v. (y : Option Live) × IsStep v y w.lines w'.lines × (w'.ranks ≡ slice_set w.ranks r y))
-    → w'.run ≡ passed_at w.run r (x.clock + 1) (effect_at x (asks x.machine) (turn_of x))
+    → w'.run ≡ passed_at w.run r (x.clock + 1) (effect_at x (machine_want x.machine) (turn_of x))
     → w'.program ≡ w.program → w'.images ≡ w.images → w'.logger ≡ w.logger → w'.wires ≡ w.wires
     → Follows w (Step r) (stepped t) w'
 step_some w w' r x t s at none turned step run program images logger wires = turn_cases (Step r) w w' t (inl follows)
@@ -90,8 +90,8 @@ step_some w w' r x t s at none turned step run program images logger wires = tur
     number : x.stable.rank ≡ r
     number = (s.run.ranks r (record { rank = x; left = [] }) at).number
 
-    lines : w'.lines ≡ lines_after w.lines r x (asks x.machine) (turn_of x)
-    lines = is.1.shown ∙ ap (λ z. lines_after w.lines z x (asks x.machine) (turn_of x)) number
+    lines : w'.lines ≡ lines_after w.lines r x (machine_want x.machine) (turn_of x)
+    lines = is.1.shown ∙ ap (λ z. lines_after w.lines z x (machine_want x.machine) (turn_of x)) number
 
     follows : StepFollows w r (stepped t) w'
     follows = record {
@@ -127,7 +127,7 @@ effect_takes v want.Halted a e = absurd cc
 effect_takes v (want.Faulted k) a e = absurd cc
 
 -- a send that moves takes memory
-pub send_takes : (v : Rank) (d t : ℕ) (c : Context) → want.Send d c t ≡ asks v.machine → turn.Moved ≡ turn_of v → takes_memory v ≡ true
+pub send_takes : (v : Rank) (d t : ℕ) (c : Context) → want.Send d c t ≡ machine_want v.machine → turn.Moved ≡ turn_of v → takes_memory v ≡ true
 send_takes v d t c e moved = subst (λ w. takes_memory_at v w ≡ true) e (go (has_room v.pending) (moved ∙ ap (λ w. turn_at v w) (sym e)))
   where
     go : (b : Bool) → turn.Moved ≡ (if b then turn.Moved else turn.Held) → b ≡ true
@@ -135,9 +135,9 @@ send_takes v d t c e moved = subst (λ w. takes_memory_at v w ≡ true) e (go (h
     go false e = absurd cc
 
 -- so does any step with an effect
-pub pass_takes : (x : Rank) (o : Option Act) → o ≡ effect_at x (asks x.machine) (turn_of x) → IsSome o → takes_memory x ≡ true
+pub pass_takes : (x : Rank) (o : Option Act) → o ≡ effect_at x (machine_want x.machine) (turn_of x) → IsSome o → takes_memory x ≡ true
 pass_takes x None e i = absurd cc
-pass_takes x (Some a) e i = effect_takes x (asks x.machine) a e
+pass_takes x (Some a) e i = effect_takes x (machine_want x.machine) a e
 
 -- what takes memory at a rank
 pub takes_at : (ranks : List (Option Live)) (r : ℕ) (x : Rank) → slice_get ranks r ≡ Some (at_work x) → takes_memory x ≡ true
@@ -206,7 +206,7 @@ replay_fits w r s h =
     let v = live_at w.ranks r _ h in
     subst (λ z. IsSomeAnd z (λ y. IsSomeAnd y IsFitting)) (sym v.1)
     (λ e rest left. (
-    let g = replays (start_at w (size w)) (size w) w.run r v.0 s.run.is_run (s.run.ranks r v.0 v.1) e rest left (asks v.0.rank.machine) refl in
+    let g = replays (start_at w (size w)) (size w) w.run r v.0 s.run.is_run (s.run.ranks r v.0 v.1) e rest left (machine_want v.0.rank.machine) refl in
     (g.turn, g.turned)))
 
 -- a print that is replayed moves
@@ -258,10 +258,10 @@ replay_some w w' r t s step shows run program images logger wires = turn_cases (
     shown : ShowsReplay Shows x.0.rank w.lines w'.lines
     shown = subst (λ z. IsSomeAnd z (λ y. IsSomeAnd y (λ (u : Live). ShowsReplay Shows u.rank w.lines w'.lines))) x.1 shows
 
-    lines : w'.lines ≡ lines_after w.lines r x.0.rank (asks x.0.rank.machine) t
+    lines : w'.lines ≡ lines_after w.lines r x.0.rank (machine_want x.0.rank.machine) t
     lines =
-        shown_again x.0.rank (asks x.0.rank.machine) x.2.1.event t w.lines w'.lines none x.2.1.turned shown
-        ∙ ap (λ z. lines_after w.lines z x.0.rank (asks x.0.rank.machine) t) k.number
+        shown_again x.0.rank (machine_want x.0.rank.machine) x.2.1.event t w.lines w'.lines none x.2.1.turned shown
+        ∙ ap (λ z. lines_after w.lines z x.0.rank (machine_want x.0.rank.machine) t) k.number
 
     follows : ReplayFollows w r (stepped t) w'
     follows = record {
@@ -276,7 +276,7 @@ replay_some w w' r t s step shows run program images logger wires = turn_cases (
       steps = x.2.1.steps;
       answered = refl;
       after = same_world w' _ program (x.2.2 ∙ ap (λ z. slice_set w.ranks r z) x.2.1.after) images logger wires lines
-          (run ∙ sym (passed_again w.run r x.0.rank.clock (effect_at x.0.rank (asks x.0.rank.machine) t) behind_run));
+          (run ∙ sym (passed_again w.run r x.0.rank.clock (effect_at x.0.rank (machine_want x.0.rank.machine) t) behind_run));
     }
 
 -- where memory ends a replayed step could happen, and takes memory

@@ -11,8 +11,8 @@ use Rattle.rank_machine.specs.declared.want.Want.TheVariants as want
 use Rattle.rank_machine.specs.States.{State, inner}
 use Rattle.rank_machine.specs.Wants.{wants, payload}
 use Rattle.rank_machine.specs.Acts.{Act, Message, sends, takes, hits, misses, prints, Fits, Matches}
-use Rattle.rank_machine.specs.Machine.{MachineValue, state_of, asks}
-use Rattle.rank_machine.proofs.Making.{asks_or}
+use Rattle.rank_machine.specs.Machine.{MachineValue, state_of, machine_want}
+use Rattle.rank_machine.proofs.Making.{wants_or}
 use Rattle.rank_machine.proofs.Determined.{inner_wants}
 use Rattle.crash_free.specs.Runs.{Passed, History, history, sent, looked_up, IsRun}
 use Rattle.crash_free.proofs.Lists.{history-own, history-other, push_cases}
@@ -90,12 +90,12 @@ fits_ended k items a o (inl e) f = subst (λ z. Fits z items a o) e f
 fits_ended k items a o (inr e) f = subst (λ z. Fits z items a o) e.1 f
 
 -- what a state wants that its machine asks for, where that isn't to go on
-pub wanted : (m : MachineValue) (w : Want) → asks m ≡ w → (w ≡ want.Internal → ⊥) → wants (state_of m) ≡ w
+pub wanted : (m : MachineValue) (w : Want) → machine_want m ≡ w → (w ≡ want.Internal → ⊥) → wants (state_of m) ≡ w
 wanted m w e ne =
-    ⊎_elim (λ (internal : asks m ≡ want.Internal). absurd (ne (sym e ∙ internal))) (λ (same : asks m ≡ wants (state_of m)). sym same ∙ e) (asks_or m)
+    ⊎_elim (λ (internal : machine_want m ≡ want.Internal). absurd (ne (sym e ∙ internal))) (λ (same : machine_want m ≡ wants (state_of m)). sym same ∙ e) (wants_or m)
 
 -- it has no inner step
-pub stopped : (m : MachineValue) (w : Want) → asks m ≡ w → (w ≡ want.Internal → ⊥) → inner (state_of m) ≡ None
+pub stopped : (m : MachineValue) (w : Want) → machine_want m ≡ w → (w ≡ want.Internal → ⊥) → inner (state_of m) ≡ None
 stopped m w e ne = go (inner (state_of m)) refl
   where
     go : (o : Option State) → inner (state_of m) ≡ o → inner (state_of m) ≡ None

@@ -7,7 +7,7 @@ use Rattle.std.proofs.lemmas.List.Quantifiers.{position-Some}
 use Rattle.matching.specs.declared.packet.Context.{Context}
 use Rattle.matching.specs.declared.packet.Context.TheVariants.{PointToPoint, Collective}
 use Rattle.matching.specs.declared.selector.Selector.{Selector}
-use Rattle.matching.specs.Message as packet
+use Rattle.matching.specs.PacketValue as packet
 use Rattle.matching.specs.Matching.{matches, same_context, allows}
 use Rattle.matching.specs.Inbox.{Mailbox, accepted_from, without}
 use Rattle.rank_machine.specs.Acts.{Act, Message, carried, takes, IsNamed, Matches}
@@ -54,7 +54,7 @@ allowed None x i = refl
 allowed (Some y) x i = eq-eqb y x (sym i)
 
 -- a message that a selector names is one whose packet the machine's test accepts
-pub matches_if_named : (w : Selector) (p : packet.Message) → Matches w p.source (carried p) → matches w p ≡ true
+pub matches_if_named : (w : Selector) (p : packet.PacketValue) → Matches w p.source (carried p) → matches w p ≡ true
 matches_if_named w p m =
     rw (same_contexts p.context w.context m.0, allowed w.source p.source m.1, allowed w.tag p.tag m.2) refl
 
@@ -76,20 +76,20 @@ named None n h = tt
 named (Some x) n h = sym (eqb-true x n h)
 
 -- and the selector names the message of each packet that the test accepts
-pub named_if_matches : (w : Selector) (p : packet.Message) → matches w p ≡ true → Matches w p.source (carried p)
+pub named_if_matches : (w : Selector) (p : packet.PacketValue) → matches w p ≡ true → Matches w p.source (carried p)
 named_if_matches w p h =
     let r = both (same_context w.context p.context && allows w.source p.source) (allows w.tag p.tag) h in
     let q = both (same_context w.context p.context) (allows w.source p.source) r.0 in
     (contexts_same w.context p.context q.0, named w.source p.source q.1, named w.tag p.tag r.1)
 
 -- what `find` gives: the first packet that the selector names, at its index
-pub record Found (w : Selector) (packets : List packet.Message) (k : ℕ) (p : packet.Message) : Type 0 where
+pub record Found (w : Selector) (packets : List packet.PacketValue) (k : ℕ) (p : packet.PacketValue) : Type 0 where
   pub at : slice_get packets k ≡ Some p
   pub matching : Matches w p.source (carried p)
-  pub first : (l : ℕ) (q : packet.Message) → l < k → slice_get packets l ≡ Some q → Matches w q.source (carried q) → ⊥
+  pub first : (l : ℕ) (q : packet.PacketValue) → l < k → slice_get packets l ≡ Some q → Matches w q.source (carried q) → ⊥
 
 -- the packet at the first index that the machine's test accepts is what `find` gives
-pub found_at : (w : Selector) (packets : List packet.Message) (k : ℕ) (p : packet.Message) → position (matches w) packets ≡ Some k
+pub found_at : (w : Selector) (packets : List packet.PacketValue) (k : ℕ) (p : packet.PacketValue) → position (matches w) packets ≡ Some k
     → slice_get packets k ≡ Some p → Found w packets k p
 found_at w packets k p e at =
     let f = position-Some (matches w) packets k p e in
@@ -102,7 +102,7 @@ found_at w packets k p e at =
     }
 
 -- two places with packets of one source have two numbers
-two_numbers : (box : Mailbox) (inbound : ℕ → List Message) (h : History) → InboxStands box inbound h → (k l : ℕ) (p q : packet.Message) → (k ≡ l → ⊥)
+two_numbers : (box : Mailbox) (inbound : ℕ → List Message) (h : History) → InboxStands box inbound h → (k l : ℕ) (p q : packet.PacketValue) → (k ≡ l → ⊥)
     → slice_get box.packets k ≡ Some p → slice_get box.packets l ≡ Some q → p.source ≡ q.source → p.number ≡ q.number → ⊥
 two_numbers box inbound h i k l p q ne e f s n =
     ⊎_elim (λ same. ne same)
@@ -110,7 +110,7 @@ two_numbers box inbound h i k l p q ne e f s n =
     (cases_order k l)
 
 -- the packet that `find` gives is eligible
-pub found_is_eligible : (w : Selector) (box : Mailbox) (inbound : ℕ → List Message) (h : History) (k : ℕ) (p : packet.Message)
+pub found_is_eligible : (w : Selector) (box : Mailbox) (inbound : ℕ → List Message) (h : History) (k : ℕ) (p : packet.PacketValue)
     → InboxStands box inbound h → Found w box.packets k p → IsEligible inbound h p.source p.number w
 found_is_eligible w box inbound h k p i f =
     record {
@@ -121,7 +121,7 @@ found_is_eligible w box inbound h k p i f =
       not_overtaking = λ j m l e c. go j m l e c (cases_Bool (taken h p.source j));
     }
   where
-    clash : (j l : ℕ) (m : Message) (q : packet.Message) → j < p.number → slice_get box.packets l ≡ Some q → q.source ≡ p.source → q.number ≡ j
+    clash : (j l : ℕ) (m : Message) (q : packet.PacketValue) → j < p.number → slice_get box.packets l ≡ Some q → q.source ≡ p.source → q.number ≡ j
         → at_place (inbound p.source) j ≡ Some m → Matches w p.source m → ⊥
     clash j l m q lt e s n g c =
         let same : carried q ≡ m =
@@ -189,7 +189,7 @@ or_false_parts true c e = absurd cc
 or_false_parts false c e = (refl, e)
 
 -- the act that takes the packet at k
-pub InboxStands-taken : (box : Mailbox) (inbound : ℕ → List Message) (h : History) (k : ℕ) (p : packet.Message) (o : Option Message)
+pub InboxStands-taken : (box : Mailbox) (inbound : ℕ → List Message) (h : History) (k : ℕ) (p : packet.PacketValue) (o : Option Message)
     → slice_get box.packets k ≡ Some p → InboxStands box inbound h
     → InboxStands (without box k) inbound (h ++ (takes p.source p.number, o) ∷ [])
 InboxStands-taken box inbound h k p o at i =
@@ -212,12 +212,12 @@ InboxStands-taken box inbound h k p o at i =
         let b = i.accepted k p at in
         subst (λ z. z ≤ accepted_from box s) en (subst (λ z. p.number ≤ accepted_from box z) es b)
 
-    place : (l : ℕ) (q : packet.Message) → slice_get (remove box.packets k) l ≡ Some q → (l' : ℕ) × (slice_get box.packets l' ≡ Some q) × (l' ≡ k → ⊥)
+    place : (l : ℕ) (q : packet.PacketValue) → slice_get (remove box.packets k) l ≡ Some q → (l' : ℕ) × (slice_get box.packets l' ≡ Some q) × (l' ≡ k → ⊥)
     place l q e =
         let r = get-removed box.packets k l q e in
         (r.0, r.1, λ z. ⊎_elim (λ x. omega (arith, x.0, x.1, z)) (λ x. omega (arith, x.0, x.1, z)) r.2)
 
-    still_free : (l : ℕ) (q : packet.Message) → slice_get (remove box.packets k) l ≡ Some q
+    still_free : (l : ℕ) (q : packet.PacketValue) → slice_get (remove box.packets k) l ≡ Some q
         → taken (h ++ (takes p.source p.number, o) ∷ []) q.source q.number ≡ false
     still_free l q e =
         let r = place l q e in
@@ -231,7 +231,7 @@ InboxStands-taken box inbound h k p o at i =
         (cases_Bool (taken (h ++ (takes p.source p.number, o) ∷ []) q.source q.number))
 
     each : (s j : ℕ) → 1 ≤ j → j ≤ accepted_from box s → taken (h ++ (takes p.source p.number, o) ∷ []) s j ≡ false
-        → (l : ℕ) × (q : packet.Message) × (slice_get (remove box.packets k) l ≡ Some q) × (q.source ≡ s) × (q.number ≡ j)
+        → (l : ℕ) × (q : packet.PacketValue) × (slice_get (remove box.packets k) l ≡ Some q) × (q.source ≡ s) × (q.number ≡ j)
     each s j one lt t =
         let t' : (taken h s j || takes_it s j (takes p.source p.number)) ≡ false = sym (taken-push h (takes p.source p.number, o) s j) ∙ t in
         let parts = or_false_parts (taken h s j) (takes_it s j (takes p.source p.number)) t' in
@@ -244,7 +244,7 @@ InboxStands-taken box inbound h k p o at i =
         let y = get-kept box.packets k x.0 x.1 x.2 ne in
         (y.0, x.1, y.1, x.3, x.4)
 
-    rising : (l l' : ℕ) (q q' : packet.Message) → l < l' → slice_get (remove box.packets k) l ≡ Some q → slice_get (remove box.packets k) l' ≡ Some q'
+    rising : (l l' : ℕ) (q q' : packet.PacketValue) → l < l' → slice_get (remove box.packets k) l ≡ Some q → slice_get (remove box.packets k) l' ≡ Some q'
         → q.source ≡ q'.source → q.number < q'.number
     rising l l' q q' lt e e' s =
         let r = get-removed box.packets k l q e in

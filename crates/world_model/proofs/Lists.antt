@@ -1,7 +1,7 @@
 -- Lists: beginnings and ends, and the packets of messages.
 use Rattle.std.proofs.Common.{◌≡◌, ℕ, zero, suc, ◌+◌, ◌<◌, ◌≤◌, List, [], ◌∷◌, ◌++◌, Some, length, take, drop, map, refl, sym, ap, subst, ◌∙◌}
 use Rattle.std.proofs.Common.{arith, slice_get, replicate}
-use Rattle.matching.specs.Message as packet
+use Rattle.matching.specs.PacketValue as packet
 use Rattle.rank_machine.specs.Acts.{Message}
 use Rattle.world_model.specs.Stands.{packet_of, packets_from}
 
@@ -104,7 +104,7 @@ packets_length r k [] = refl
 packets_length r k (x ∷ ms) = ap suc (packets_length r (k + 1) ms)
 
 -- each packet is the one of its message
-pub packets_get : (r k : ℕ) (ms : List Message) (i : ℕ) (p : packet.Message) → slice_get (packets_from r k ms) i ≡ Some p
+pub packets_get : (r k : ℕ) (ms : List Message) (i : ℕ) (p : packet.PacketValue) → slice_get (packets_from r k ms) i ≡ Some p
     → (m : Message) × (slice_get ms i ≡ Some m) × (p ≡ packet_of r (k + i + 1) m)
 packets_get r k [] i p e = absurd cc
 packets_get r k (x ∷ ms) zero p e =

@@ -3,7 +3,7 @@ use Rattle.std.proofs.Common.{◌≡◌, ℕ, zero, suc, ◌+◌, ◌-◌, ◌<�
 use Rattle.std.proofs.Common.{refl, sym, ap, subst, ◌∙◌, arith, slice_get, nat_lt, if◌then◌else◌}
 use Rattle.std.proofs.lemmas.Bool.{cases_lt, lt-ltb, le-ltb, ltb-true}
 use Rattle.std.proofs.lemmas.List.{length_push}
-use Rattle.matching.specs.Message as packet
+use Rattle.matching.specs.PacketValue as packet
 use Rattle.payload_log.specs.Backlog.{BacklogValue, saved, hold, freed, freed_of, asked, pruned, passed, next_of}
 use Rattle.rank_machine.specs.Acts.{Message, carried}
 use Rattle.crash_free.specs.Runs.{at_place}
@@ -12,7 +12,7 @@ use Rattle.world_model.proofs.Lists.{drop_append, drop_beyond, drop_more, packet
 use Rattle.world_model.proofs.Lists.{get_dropped}
 
 -- one message more was sent, and its packet saved
-pub LogStands-saved : (r : ℕ) (messages later : List Message) (b : BacklogValue) (p : packet.Message) → p.source ≡ r → p.number ≡ b.sent + 1
+pub LogStands-saved : (r : ℕ) (messages later : List Message) (b : BacklogValue) (p : packet.PacketValue) → p.source ≡ r → p.number ≡ b.sent + 1
     → b.sent ≡ length messages → b.kept ≡ drop b.base (packets_from r 0 messages) → b.held ≡ packets_from r (length messages + 1) later
     → LogStands r (messages ++ carried p ∷ []) later (saved b p)
 LogStands-saved r messages later b p source number sent kept held =
@@ -46,7 +46,7 @@ LogStands-saved r messages later b p source number sent kept held =
         (rw (length_push (packets_from r 0 messages) p) (omega (arith, count, number))))
 
 -- one message more waits, and its packet is held
-pub LogStands-held : (r : ℕ) (messages later : List Message) (b : BacklogValue) (p : packet.Message) → p.source ≡ r → p.number ≡ b.sent + length b.held + 1
+pub LogStands-held : (r : ℕ) (messages later : List Message) (b : BacklogValue) (p : packet.PacketValue) → p.source ≡ r → p.number ≡ b.sent + length b.held + 1
     → LogStands r messages later b → LogStands r messages (later ++ carried p ∷ []) (hold b p)
 LogStands-held r messages later b p source number s =
     record {
@@ -121,7 +121,7 @@ base_pruned b upto most l m = go (nat_lt b.base upto)
     go true = m
 
 -- what goes next is a message that was sent
-pub next_is_real : (r : ℕ) (messages later : List Message) (b : BacklogValue) (p : packet.Message) → LogStands r messages later b → next_of b ≡ Some p
+pub next_is_real : (r : ℕ) (messages later : List Message) (b : BacklogValue) (p : packet.PacketValue) → LogStands r messages later b → next_of b ≡ Some p
     → (p.source ≡ r) × (at_place messages p.number ≡ Some (carried p))
 next_is_real r messages later b p s e =
     let g = packets_get r 0 messages (b.base + (b.cursor - (b.base + 1))) p

@@ -4,7 +4,7 @@ use Rattle.std.proofs.Common.{◌∷◌, ◌++◌, Option, Some, None, length, d
 use Rattle.std.proofs.lemmas.Bool.{cases_eq}
 use Rattle.std.proofs.lemmas.List.{get_or-set_other}
 use Rattle.std.proofs.lemmas.Option.{slice_get_within}
-use Rattle.matching.specs.Message as packet
+use Rattle.matching.specs.PacketValue as packet
 use Rattle.matching.specs.Inbox.{after_arrival}
 use Rattle.payload_log.specs.Backlog.{BacklogValue, backlog, passed, asked, pruned, next_of}
 use Rattle.rank_node.specs.declared.due.Due.{Due}
@@ -154,7 +154,7 @@ module _ (w w' : WorldValue) (s d : ℕ) (of_s : List (List Frame)) (frames : Li
           (on.0, on.1, (on.2.0, there, on.2.2), on.3)
 
 -- an Ask that is due goes next
-ask_next : (a b : Option ℕ) (o : Option packet.Message) (from : ℕ) (f : Frame) → a ≡ Some from → first_of a b o ≡ Some f → f ≡ frame.Ask from
+ask_next : (a b : Option ℕ) (o : Option packet.PacketValue) (from : ℕ) (f : Frame) → a ≡ Some from → first_of a b o ≡ Some f → f ≡ frame.Ask from
 ask_next (Some x) b o from f e h = (let q : x ≡ from = cc in let z : frame.Ask x ≡ f = cc in sym z ∙ ap frame.Ask q)
 ask_next None b o from f e h = absurd cc
 

@@ -7,7 +7,7 @@ use Rattle.checkpoint.specs.Image.{ImageValue}
 use Rattle.checkpoint.specs.declared.memory_shelf.MemoryShelf.{MemoryShelf}
 use Rattle.plain_logger.specs.Event.{EventValue}
 use Rattle.matching.specs.Inbox.{accepted_from}
-use Rattle.matching.specs.Message as packet
+use Rattle.matching.specs.PacketValue as packet
 use Rattle.payload_log.specs.Backlog.{BacklogValue, backlog, new_backlog, freed, freed_of}
 use Rattle.rank_machine.specs.States.{State}
 use Rattle.rank_machine.specs.Acts.{Act}
@@ -198,7 +198,7 @@ Onward-store w r answer w' t t' f k =
 above_freed : (b : BacklogValue) → b.base < b.cursor → (freed b).base < (freed b).cursor
 above_freed b l = go b.held
   where
-    go : (ms : List packet.Message) → (freed_of b ms).base < (freed_of b ms).cursor
+    go : (ms : List packet.PacketValue) → (freed_of b ms).base < (freed_of b ms).cursor
     go [] = l
     go (m ∷ ms) = l
 

@@ -9,13 +9,13 @@ use Rattle.plain_logger.specs.declared.kind.Kind.{Kind}
 use Rattle.plain_logger.specs.declared.kind.Kind.TheVariants as kind
 use Rattle.matching.specs.declared.packet.Context.{Context}
 use Rattle.matching.specs.declared.selector.Selector.{Selector}
-use Rattle.matching.specs.Message as packet
+use Rattle.matching.specs.PacketValue as packet
 use Rattle.matching.specs.Matching.{matches}
 use Rattle.payload_log.specs.Backlog.{backlog, saved, hold}
 use Rattle.rank_machine.specs.declared.want.Want.{Want}
 use Rattle.rank_machine.specs.declared.want.Want.TheVariants as want
 use Rattle.rank_machine.specs.Acts.{Act}
-use Rattle.rank_machine.specs.Machine.{MachineValue, asks}
+use Rattle.rank_machine.specs.Machine.{MachineValue, machine_want}
 use Rattle.rank_node.specs.declared.fault.NodeFault.TheVariants as fault
 use Rattle.rank_node.specs.declared.turn.Turn.{Turn}
 use Rattle.rank_node.specs.declared.turn.Turn.TheVariants as turn
@@ -82,17 +82,17 @@ turned_hold v m d c t =
     }
 
 -- a named packet that is taken
-turned_taken : (v : Rank) (m : MachineValue) (o : Option (ℕ × packet.Message)) → Turned v (taken_named v m o)
+turned_taken : (v : Rank) (m : MachineValue) (o : Option (ℕ × packet.PacketValue)) → Turned v (taken_named v m o)
 turned_taken v m None = turned_not v
 turned_taken v m (Some f) = turned_act v (taken_named v m (Some f)) refl refl refl refl
 
 -- a named packet that is shown
-turned_shown : (v : Rank) (m : MachineValue) (o : Option (ℕ × packet.Message)) → Turned v (shown_named v m o)
+turned_shown : (v : Rank) (m : MachineValue) (o : Option (ℕ × packet.PacketValue)) → Turned v (shown_named v m o)
 turned_shown v m None = turned_not v
 turned_shown v m (Some f) = turned_print v m
 
 -- a probe that doesn't wait
-turned_tried : (v : Rank) (m : MachineValue) (o : Option (ℕ × packet.Message)) (k : Kind) → Turned v (tried_named v m o k)
+turned_tried : (v : Rank) (m : MachineValue) (o : Option (ℕ × packet.PacketValue)) (k : Kind) → Turned v (tried_named v m o k)
 turned_tried v m o kind.Hit = turned_shown v m o
 turned_tried v m o kind.Miss = turned_print v m
 turned_tried v m o kind.Reception = turned_not v
@@ -184,7 +184,7 @@ stepped_receive : (v : Rank) (s : Selector) (m : MachineValue) → refusal_at v 
     → Stepped v (step_at v (want.Receive s) m) (want.Receive s) (turn_at v (want.Receive s))
 stepped_receive v s m e = go (position (matches s) v.inbox.packets) e
   where
-    at : (o : Option (ℕ × packet.Message)) → event_refusal v ≡ None → Stepped v (received v m o) (want.Receive s) (turn_at v (want.Receive s))
+    at : (o : Option (ℕ × packet.PacketValue)) → event_refusal v ≡ None → Stepped v (received v m o) (want.Receive s) (turn_at v (want.Receive s))
     at None f = stepped_not v (want.Receive s) (turn_at v (want.Receive s)) refl
     at (Some g) f =
         stepped_act v (after_reception v m g.0 g.1) (want.Receive s) (turn_at v (want.Receive s))
@@ -200,7 +200,7 @@ stepped_probe : (v : Rank) (s : Selector) (m : MachineValue) → refusal_at v (w
     → Stepped v (step_at v (want.Probe s) m) (want.Probe s) (turn_at v (want.Probe s))
 stepped_probe v s m e = go (position (matches s) v.inbox.packets) e
   where
-    at : (o : Option (ℕ × packet.Message)) → event_refusal v ≡ None → Stepped v (probed v m o) (want.Probe s) (turn_at v (want.Probe s))
+    at : (o : Option (ℕ × packet.PacketValue)) → event_refusal v ≡ None → Stepped v (probed v m o) (want.Probe s) (turn_at v (want.Probe s))
     at None f = stepped_not v (want.Probe s) (turn_at v (want.Probe s)) refl
     at (Some g) f =
         stepped_act v (after_probe v m kind.Hit g.1.source g.1.clock) (want.Probe s) (turn_at v (want.Probe s))
@@ -216,7 +216,7 @@ stepped_try : (v : Rank) (s : Selector) (m : MachineValue) → refusal_at v (wan
     → Stepped v (step_at v (want.TryProbe s) m) (want.TryProbe s) (turn_at v (want.TryProbe s))
 stepped_try v s m e = at (found s v.inbox.packets)
   where
-    at : (o : Option (ℕ × packet.Message)) → Stepped v (tried v m o) (want.TryProbe s) turn.Moved
+    at : (o : Option (ℕ × packet.PacketValue)) → Stepped v (tried v m o) (want.TryProbe s) turn.Moved
     at None =
         stepped_act v (after_probe v m kind.Miss 0 0) (want.TryProbe s) turn.Moved
         (turned_act v (after_probe v m kind.Miss 0 0) refl refl refl refl) refl (unspent_event v e)
@@ -286,21 +286,21 @@ pub Onward-replay : (w : WorldValue) (r : ℕ) (answer : Reply) (w' : WorldValue
 Onward-replay w r answer w' t t' f k =
     onward_turned w w' r f.before
     (record {
-      rank = replayed_at f.before.rank f.event (asks f.before.rank.machine) f.machine;
-      left = left_after (asks f.before.rank.machine) f.turn f.event f.rest;
+      rank = replayed_at f.before.rank f.event (machine_want f.before.rank.machine) f.machine;
+      left = left_after (machine_want f.before.rank.machine) f.turn f.event f.rest;
     })
-    (effect_at f.before.rank (asks f.before.rank.machine) f.turn) t' f.live
+    (effect_at f.before.rank (machine_want f.before.rank.machine) f.turn) t' f.live
     (ap (λ z. z.ranks) f.after) (ap (λ z. z.images) f.after) (ap (λ z. z.wires) f.after)
     (ap (λ z. z.run) f.after) turned few
-    (λ a e. replayed_passes f.before.rank f.event (asks f.before.rank.machine) f.machine f.turn a e) k
+    (λ a e. replayed_passes f.before.rank f.event (machine_want f.before.rank.machine) f.machine f.turn a e) k
   where
-    turned : Turned f.before.rank (replayed_at f.before.rank f.event (asks f.before.rank.machine) f.machine)
-    turned = turned_replayed f.before.rank f.event (asks f.before.rank.machine) f.machine
+    turned : Turned f.before.rank (replayed_at f.before.rank f.event (machine_want f.before.rank.machine) f.machine)
+    turned = turned_replayed f.before.rank f.event (machine_want f.before.rank.machine) f.machine
 
     is_behind : f.before.rank.clock < length (history w.run r)
     is_behind = behind (start_at w (size w)) (size w) w.run r f.before t.run.is_run (t.run.ranks r f.before f.live) f.event f.rest f.replaying
 
-    few : (replayed_at f.before.rank f.event (asks f.before.rank.machine) f.machine).clock ≤ greatest_clock
+    few : (replayed_at f.before.rank f.event (machine_want f.before.rank.machine) f.machine).clock ≤ greatest_clock
     few =
         let l = k.acts r in
         let b = is_behind in
@@ -309,21 +309,21 @@ Onward-replay w r answer w' t t' f k =
 -- a step that isn't: it isn't refused, so its clock stays within the greatest
 pub Onward-step : (w : WorldValue) (r : ℕ) (answer : Reply) (w' : WorldValue) → Stands w' → StepFollows w r answer w' → Onward w → Onward w'
 Onward-step w r answer w' t f k =
-    onward_turned w w' r f.before (record { rank = step_at f.before.rank (asks f.before.rank.machine) f.machine; left = [] })
-    (effect_at f.before.rank (asks f.before.rank.machine) (turn_at f.before.rank (asks f.before.rank.machine))) t f.live
+    onward_turned w w' r f.before (record { rank = step_at f.before.rank (machine_want f.before.rank.machine) f.machine; left = [] })
+    (effect_at f.before.rank (machine_want f.before.rank.machine) (turn_at f.before.rank (machine_want f.before.rank.machine))) t f.live
     (ap (λ z. z.ranks) f.after) (ap (λ z. z.images) f.after) (ap (λ z. z.wires) f.after) (ap (λ z. z.run) f.after) stepped.turned few stepped.passes k
   where
-    stepped : Stepped f.before.rank (step_at f.before.rank (asks f.before.rank.machine) f.machine) (asks f.before.rank.machine)
-        (turn_at f.before.rank (asks f.before.rank.machine))
-    stepped = stepped_all f.before.rank (asks f.before.rank.machine) f.machine f.allowed
+    stepped : Stepped f.before.rank (step_at f.before.rank (machine_want f.before.rank.machine) f.machine) (machine_want f.before.rank.machine)
+        (turn_at f.before.rank (machine_want f.before.rank.machine))
+    stepped = stepped_all f.before.rank (machine_want f.before.rank.machine) f.machine f.allowed
 
     below : (c : ℕ) → c ≤ greatest_clock → c ≢ greatest_clock → c < greatest_clock
     below c l ne = ⊎_elim (λ z. z) (λ z. absurd (ne (omega (arith, l, z)))) (cases_lt c greatest_clock)
 
-    few : (step_at f.before.rank (asks f.before.rank.machine) f.machine).clock ≤ greatest_clock
+    few : (step_at f.before.rank (machine_want f.before.rank.machine) f.machine).clock ≤ greatest_clock
     few =
         let c = (k.ranks r f.before f.live).clock in
-        let one : ((step_at f.before.rank (asks f.before.rank.machine) f.machine).clock ≡ f.before.rank.clock)
-        ⊎ ((step_at f.before.rank (asks f.before.rank.machine) f.machine).clock ≡ f.before.rank.clock + 1) = stepped.turned.clock in
+        let one : ((step_at f.before.rank (machine_want f.before.rank.machine) f.machine).clock ≡ f.before.rank.clock)
+        ⊎ ((step_at f.before.rank (machine_want f.before.rank.machine) f.machine).clock ≡ f.before.rank.clock + 1) = stepped.turned.clock in
         ⊎_elim (λ same. omega (arith, same, c))
         (λ ne. (let l = below f.before.rank.clock c ne in ⊎_elim (λ e. omega (arith, e, c)) (λ e. omega (arith, e, l)) one)) stepped.unspent

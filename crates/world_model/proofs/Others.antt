@@ -5,7 +5,7 @@ use Rattle.std.proofs.Common.{slice_index_or, option_and_then, option_map, ℤ}
 use Rattle.std.proofs.lemmas.List.{length-set, append-nil, length_push}
 use Rattle.std.proofs.lemmas.Option.{slice_get_within, slice_get-get_or, get_or_from_slice_get}
 use Rattle.plain_logger.specs.Event.{EventValue}
-use Rattle.matching.specs.Message as packet
+use Rattle.matching.specs.PacketValue as packet
 use Rattle.matching.specs.Inbox.{after_arrival}
 use Rattle.payload_log.specs.Backlog.{BacklogValue, backlog, asked, pruned, passed, next_of, new_backlog, freed, freed_of}
 use Rattle.rank_machine.specs.States.{State}
@@ -122,13 +122,13 @@ module _ (n : ℕ) (w : WorldValue) (r : ℕ) (v : Live) (s : StandsAt n w) (c :
   outgoing_fine : (d : ℕ) (f : Frame) → d < n → outgoing_of v.rank d ≡ Some f → IsReal w.run r d f × KeptCovered w.images r d f
   outgoing_fine d f l e = go (due_to v.rank d).ask (due_to v.rank d).kept (next_of (backlog v.rank.log d)) (due_covered d) refl e
     where
-      real : (p : packet.Message) → next_of (backlog v.rank.log d) ≡ Some p → (p.source ≡ r) × (at_place (sent w.run r d) p.number ≡ Some (carried p))
+      real : (p : packet.PacketValue) → next_of (backlog v.rank.log d) ≡ Some p → (p.source ≡ r) × (at_place (sent w.run r d) p.number ≡ Some (carried p))
       real p g =
           let x = next_is_real r (sends_from 0 d (take v.rank.clock (history w.run r)))
           (sends_of (length (history w.run r)) d (s.ranks r v live).acts) (backlog v.rank.log d) p (log_at d l) g in
           (x.0, placed_in_all d v.rank.clock (history w.run r) p.number (carried p) x.1)
 
-      go : (a b : Option ℕ) (o : Option packet.Message) → DueCovered w.images r d b → next_of (backlog v.rank.log d) ≡ o → first_of a b o ≡ Some f
+      go : (a b : Option ℕ) (o : Option packet.PacketValue) → DueCovered w.images r d b → next_of (backlog v.rank.log d) ≡ o → first_of a b o ≡ Some f
           → IsReal w.run r d f × KeptCovered w.images r d f
       go (Some x) b o u q h = (let z : frame.Ask x ≡ f = cc in subst (λ y. IsReal w.run r d y × KeptCovered w.images r d y) z (tt, tt))
       go None (Some x) o u q h = (let z : frame.Kept x ≡ f = cc in subst (λ y. IsReal w.run r d y × KeptCovered w.images r d y) z (tt, u))
@@ -591,7 +591,7 @@ released_length log (waits.Line clock value) = refl
 freed_base : (b : BacklogValue) → (freed b).base ≡ b.base
 freed_base b = go b.held
   where
-    go : (ms : List packet.Message) → (freed_of b ms).base ≡ b.base
+    go : (ms : List packet.PacketValue) → (freed_of b ms).base ≡ b.base
     go [] = refl
     go (m ∷ ms) = refl
 

@@ -2,7 +2,7 @@
 use Rattle.std.proofs.Common.{◌≡◌, ℕ, Bool, true, false, List, length, Result, Ok, Err, refl, sym, ap, ◌∙◌}
 use Rattle.checkpoint.specs.declared.fault.ImageFault.{ImageFault}
 use Rattle.checkpoint.specs.Image.{ImageValue, lengths_of}
-use Rattle.checkpoint.specs.Reading.{◌>>=◌, where_passed, standing_at, status_at, values_at, arrays_at, machine_at}
+use Rattle.checkpoint.specs.Reading.{◌>>=◌, where_holds, standing_at, status_at, values_at, arrays_at, machine_at}
 use Rattle.checkpoint.specs.Reading.{origin_at, table_at, count_at, inbox_at, log_at, image_at, reading}
 use Rattle.rank_language.specs.Program.{ProgramValue}
 use Rattle.rank_machine.specs.Machine.{MachineValue}
@@ -14,7 +14,7 @@ then_ok (Ok x) f y e = (x, refl, e)
 then_ok (Err k) f y e = absurd cc
 
 -- what passed a test is what was tested
-passed_is : {A : Type 0} (b : Bool) (fault : ImageFault) (x y : A) → where_passed b fault x ≡ Ok y → x ≡ y
+passed_is : {A : Type 0} (b : Bool) (fault : ImageFault) (x y : A) → where_holds b fault x ≡ Ok y → x ≡ y
 passed_is true fault x y e = cc
 passed_is false fault x y e = absurd cc
 

@@ -7,7 +7,7 @@ use Rattle.std.proofs.lemmas.Option.{get_or_from_slice_get}
 use Rattle.std.proofs.lemmas.List.Quantifiers.{position-Some}
 use Rattle.matching.specs.declared.packet.Context.{Context}
 use Rattle.matching.specs.declared.selector.Selector.{Selector}
-use Rattle.matching.specs.Message as packet
+use Rattle.matching.specs.PacketValue as packet
 use Rattle.matching.specs.Matching.{matches, is_named}
 use Rattle.matching.specs.Inbox.{Mailbox, without}
 use Rattle.payload_log.specs.Backlog.{BacklogValue, backlog, saved, new_backlog}
@@ -19,7 +19,7 @@ use Rattle.rank_machine.specs.declared.want.Want.TheVariants as want
 use Rattle.rank_machine.specs.States.{State, inner}
 use Rattle.rank_machine.specs.Wants.{payload}
 use Rattle.rank_machine.specs.Acts.{Act, Message, sends, takes, hits, misses, prints, carried, Fits, Makes, Matches, next}
-use Rattle.rank_machine.specs.Machine.{MachineValue, state_of, asks}
+use Rattle.rank_machine.specs.Machine.{MachineValue, state_of, machine_want}
 use Rattle.rank_node.specs.declared.fault.NodeFault.TheVariants as fault
 use Rattle.rank_node.specs.declared.turn.Turn.{Turn}
 use Rattle.rank_node.specs.declared.turn.Turn.TheVariants.{Moved, Blocked}
@@ -61,7 +61,7 @@ pub logs_saved : (r : ℕ) (h : History) (v : Rank) (d : ℕ) (context : Context
 logs_saved r h v d context t number within s =
     replaced_keeps (λ e b. LogStands r (sends_from 0 e (take v.clock h ++ (a, None) ∷ [])) [] b) v.log d (saved (backlog v.log d) p) others own
   where
-    p : packet.Message
+    p : packet.PacketValue
     p = message_of v d context t
 
     a : Act
@@ -102,17 +102,17 @@ logs_quiet r h v a o none s e b at =
 -- ---- the packet that an event names
 
 -- what an event names
-named_parts : (source clock : ℕ) (p : packet.Message) → is_named source clock p ≡ true → (p.source ≡ source) × (p.clock ≡ clock)
+named_parts : (source clock : ℕ) (p : packet.PacketValue) → is_named source clock p ≡ true → (p.source ≡ source) × (p.clock ≡ clock)
 named_parts source clock p e = (let x = and_parts (p.source == source) (p.clock == clock) e in (eqb-true p.source source x.0, eqb-true p.clock clock x.1))
 
 -- in an inbox that stands, the packet of this source and clock is the message of that clock, with its place
-pub record IsOf (s j : ℕ) (m : Message) (p : packet.Message) : Type 0 where
+pub record IsOf (s j : ℕ) (m : Message) (p : packet.PacketValue) : Type 0 where
   pub source : p.source ≡ s
   pub number : p.number ≡ j
   pub message : carried p ≡ m
 
 -- a source and a clock name one message
-pub one_message : (C : List Passed) (r : ℕ) (box : Mailbox) (acts : History) (i s j : ℕ) (m : Message) (p : packet.Message)
+pub one_message : (C : List Passed) (r : ℕ) (box : Mailbox) (acts : History) (i s j : ℕ) (m : Message) (p : packet.PacketValue)
     → InboxStands box (λ q. sent C q r) acts → slice_get box.packets i ≡ Some p → p.source ≡ s → p.clock ≡ m.clock → at_place (sent C s r) j ≡ Some m
     → IsOf s j m p
 one_message C r box acts i s j m p stands at source clock there =
@@ -208,7 +208,7 @@ module _ (start : ℕ → State) (n : ℕ) (C : List Passed) (r : ℕ) (v : Live
       → InboxStands v.rank.inbox (λ q. sent C q r) (take v.rank.clock (history C r) ++ (a, o) ∷ [])
   quietly a o f = InboxStands-noted v.rank.inbox (λ q. sent C q r) (take v.rank.clock (history C r)) (a, o) f at.inbox
 
-  sending : (d : ℕ) (c : Context) (t : ℕ) → asks v.rank.machine ≡ want.Send d c t → Goes (want.Send d c t)
+  sending : (d : ℕ) (c : Context) (t : ℕ) → machine_want v.rank.machine ≡ want.Send d c t → Goes (want.Send d c t)
   sending d c t is =
       let x = next_is (stopped v.rank.machine (want.Send d c t) is (λ z. cc)) in
       let f = fits_send d c t (payload (state_of v.rank.machine)) x.act x.message
@@ -229,7 +229,7 @@ module _ (start : ℕ → State) (n : ℕ) (C : List Passed) (r : ℕ) (v : Live
             (logs_saved r (history C r) v.rank d c t s.number at.within logs) b.0;
       }
 
-  printing : (z : ℤ) → asks v.rank.machine ≡ want.Print z → Goes (want.Print z)
+  printing : (z : ℤ) → machine_want v.rank.machine ≡ want.Print z → Goes (want.Print z)
   printing z is =
       let x = next_is (stopped v.rank.machine (want.Print z) is (λ y. cc)) in
       let f = fits_print z (payload (state_of v.rank.machine)) x.act x.message
@@ -246,7 +246,7 @@ module _ (start : ℕ → State) (n : ℕ) (C : List Passed) (r : ℕ) (v : Live
             (logs_quiet r (history C r) v.rank (prints z) None (λ c d. refl) logs) b.0;
       }
 
-  missing : (selector : Selector) → asks v.rank.machine ≡ want.TryProbe selector → (x : NextAct (history C r) v.rank.clock v.rank.machine)
+  missing : (selector : Selector) → machine_want v.rank.machine ≡ want.TryProbe selector → (x : NextAct (history C r) v.rank.clock v.rank.machine)
       → x.act ≡ misses → x.message ≡ None → Goes (want.TryProbe selector)
   missing selector is x ea eo =
       let y = now x (event_of kind.Miss 0 0 (v.rank.clock + 1)) (ap (λ z. event_at (v.rank.clock + 1) z x.message) ea) in
@@ -268,17 +268,17 @@ module _ (start : ℕ → State) (n : ℕ) (C : List Passed) (r : ℕ) (v : Live
       }
 
   -- the packet that the event names, if it is there
-  named_is : (i : ℕ) (p : packet.Message) → named v.rank e ≡ Some (i, p)
+  named_is : (i : ℕ) (p : packet.PacketValue) → named v.rank e ≡ Some (i, p)
       → (slice_get v.rank.inbox.packets i ≡ Some p) × (p.source ≡ e.sender) × (p.clock ≡ e.sender_clock)
   named_is i p is = go (position (is_named e.sender e.sender_clock) v.rank.inbox.packets) refl is
     where
-      at_it : (k : ℕ) (o : Option packet.Message) → slice_get v.rank.inbox.packets k ≡ o
+      at_it : (k : ℕ) (o : Option packet.PacketValue) → slice_get v.rank.inbox.packets k ≡ o
           → position (is_named e.sender e.sender_clock) v.rank.inbox.packets ≡ Some k
-          → option_and_then {U = ℕ × packet.Message} (λ q. Some (k, q)) o ≡ Some (i, p)
+          → option_and_then {U = ℕ × packet.PacketValue} (λ q. Some (k, q)) o ≡ Some (i, p)
           → (slice_get v.rank.inbox.packets i ≡ Some p) × (p.source ≡ e.sender) × (p.clock ≡ e.sender_clock)
       at_it k None f g h = absurd cc
       at_it k (Some q) f g h =
-          let both : ◌≡◌ {A = ℕ × packet.Message} (k, q) (i, p) = cc in
+          let both : ◌≡◌ {A = ℕ × packet.PacketValue} (k, q) (i, p) = cc in
           let ek : k ≡ i = ap (λ z. z.0) both in
           let eq : q ≡ p = ap (λ z. z.1) both in
           let there : slice_get v.rank.inbox.packets k ≡ Some p = f ∙ ap Some eq in
@@ -297,7 +297,7 @@ module _ (start : ℕ → State) (n : ℕ) (C : List Passed) (r : ℕ) (v : Live
   is_now_true k source clock ee = ap (λ z. is_now v.rank z) ee ∙ eq-eqb (v.rank.clock + 1) (v.rank.clock + 1) refl
 
   -- the packet of the next act, where it is there
-  packet_is : (i source place : ℕ) (m : Message) (p : packet.Message) → named v.rank e ≡ Some (i, p) → (k : Kind)
+  packet_is : (i source place : ℕ) (m : Message) (p : packet.PacketValue) → named v.rank e ≡ Some (i, p) → (k : Kind)
       → e ≡ event_of k source m.clock (v.rank.clock + 1) → at_place (sent C source r) place ≡ Some m
       → (slice_get v.rank.inbox.packets i ≡ Some p) × IsOf source place m p
   packet_is i source place m p f k ee there =
@@ -307,12 +307,12 @@ module _ (start : ℕ → State) (n : ℕ) (C : List Passed) (r : ℕ) (v : Live
             (x.2 ∙ ap (λ z. z.sender_clock) ee) there,
       )
 
-  names_it : (selector : Selector) (source place : ℕ) (m : Message) (p : packet.Message) → IsOf source place m p → Matches selector source m
+  names_it : (selector : Selector) (source place : ℕ) (m : Message) (p : packet.PacketValue) → IsOf source place m p → Matches selector source m
       → matches selector p ≡ true
   names_it selector source place m p is fits =
       matches_if_named selector p (subst (λ z. Matches selector z (carried p)) (sym is.source) (subst (λ z. Matches selector source z) (sym is.message) fits))
 
-  receiving : (selector : Selector) → asks v.rank.machine ≡ want.Receive selector → Goes (want.Receive selector)
+  receiving : (selector : Selector) → machine_want v.rank.machine ≡ want.Receive selector → Goes (want.Receive selector)
   receiving selector is =
       act (fits_receive selector (payload (state_of v.rank.machine)) x.act x.message
       (subst (λ z. Fits z (payload (state_of v.rank.machine)) x.act x.message) (wanted v.rank.machine (want.Receive selector) is (λ z. cc)) x.makes))
@@ -331,14 +331,14 @@ module _ (start : ℕ → State) (n : ℕ) (C : List Passed) (r : ℕ) (v : Live
               now x (event_of kind.Reception f.source f.message.clock (v.rank.clock + 1))
               (ap (λ z. event_at (v.rank.clock + 1) z x.message) f.act ∙ ap (λ z. event_at (v.rank.clock + 1) (takes f.source f.place) z) f.found)
 
-          turned_by : (o : Option (ℕ × packet.Message)) → e ≡ event_of kind.Reception f.source f.message.clock (v.rank.clock + 1) → named v.rank e ≡ o
+          turned_by : (o : Option (ℕ × packet.PacketValue)) → e ≡ event_of kind.Reception f.source f.message.clock (v.rank.clock + 1) → named v.rank e ≡ o
               → replay_turn_at v.rank e (want.Receive selector) ≡ named_turn selector o
           turned_by o ee eo =
               ap (λ b. if b then receive_turn selector (named v.rank e) e.kind else Err fault.Replay) (is_now_true kind.Reception f.source f.message.clock ee)
               ∙ ap (λ k. receive_turn selector (named v.rank e) k) (ap (λ z. z.kind) ee) ∙ ap (λ z. named_turn selector z) eo
 
           go : e ≡ event_of kind.Reception f.source f.message.clock (v.rank.clock + 1) → rest ≡ events_from (v.rank.clock + 1) x.rest
-              → (o : Option (ℕ × packet.Message)) → named v.rank e ≡ o → Goes (want.Receive selector)
+              → (o : Option (ℕ × packet.PacketValue)) → named v.rank e ≡ o → Goes (want.Receive selector)
           go ee er None eo = record {
             turn = Blocked;
             turned = turned_by None ee eo;
@@ -368,7 +368,7 @@ module _ (start : ℕ → State) (n : ℕ) (C : List Passed) (r : ℕ) (v : Live
 
   -- a hit is shown the packet that the event names
   shown_goes : (x : NextAct (history C r) v.rank.clock v.rank.machine) (selector : Selector) (f : FitsHits selector x.act x.message)
-      (m : MachineValue) (g : ℕ × packet.Message)
+      (m : MachineValue) (g : ℕ × packet.PacketValue)
       → rest ≡ events_from (v.rank.clock + 1) x.rest → IsOf f.source f.place f.message g.1 → WasShown g.1 v.rank.machine m
       → RankStands start n C r (record { rank = shown_named v.rank m (Some g); left = rest })
   shown_goes x selector f m g er k did =
@@ -389,7 +389,7 @@ module _ (start : ℕ → State) (n : ℕ) (C : List Passed) (r : ℕ) (v : Live
       → at_place (sent C f.source r) f.place ≡ Some f.message
   hit_there x selector f = sym (ap (λ a. looked_up (λ q. sent C q r) a) f.act) ∙ looked x ∙ f.found
 
-  probing : (selector : Selector) → asks v.rank.machine ≡ want.Probe selector → Goes (want.Probe selector)
+  probing : (selector : Selector) → machine_want v.rank.machine ≡ want.Probe selector → Goes (want.Probe selector)
   probing selector is =
       act (fits_probe selector (payload (state_of v.rank.machine)) x.act x.message
       (subst (λ z. Fits z (payload (state_of v.rank.machine)) x.act x.message) (wanted v.rank.machine (want.Probe selector) is (λ z. cc)) x.makes))
@@ -400,14 +400,14 @@ module _ (start : ℕ → State) (n : ℕ) (C : List Passed) (r : ℕ) (v : Live
       act : FitsHits selector x.act x.message → Goes (want.Probe selector)
       act f = go (hit_now x selector f).0 (hit_now x selector f).1 (named v.rank e) refl
         where
-          turned_by : (o : Option (ℕ × packet.Message)) → e ≡ event_of kind.Hit f.source f.message.clock (v.rank.clock + 1) → named v.rank e ≡ o
+          turned_by : (o : Option (ℕ × packet.PacketValue)) → e ≡ event_of kind.Hit f.source f.message.clock (v.rank.clock + 1) → named v.rank e ≡ o
               → replay_turn_at v.rank e (want.Probe selector) ≡ named_turn selector o
           turned_by o ee eo =
               ap (λ b. if b then probe_turn selector (named v.rank e) e.kind else Err fault.Replay) (is_now_true kind.Hit f.source f.message.clock ee)
               ∙ ap (λ k. probe_turn selector (named v.rank e) k) (ap (λ z. z.kind) ee) ∙ ap (λ z. named_turn selector z) eo
 
           go : e ≡ event_of kind.Hit f.source f.message.clock (v.rank.clock + 1) → rest ≡ events_from (v.rank.clock + 1) x.rest
-              → (o : Option (ℕ × packet.Message)) → named v.rank e ≡ o → Goes (want.Probe selector)
+              → (o : Option (ℕ × packet.PacketValue)) → named v.rank e ≡ o → Goes (want.Probe selector)
           go ee er None eo = record {
             turn = Blocked;
             turned = turned_by None ee eo;
@@ -428,7 +428,7 @@ module _ (start : ℕ → State) (n : ℕ) (C : List Passed) (r : ℕ) (v : Live
                     (λ m did. shown_goes x selector f m g er k.1 did);
               }
 
-  trying : (selector : Selector) → asks v.rank.machine ≡ want.TryProbe selector → Goes (want.TryProbe selector)
+  trying : (selector : Selector) → machine_want v.rank.machine ≡ want.TryProbe selector → Goes (want.TryProbe selector)
   trying selector is =
       ⊎_elim (λ f. act f) (λ f. missing selector is x f.0 f.1)
       (fits_try selector (payload (state_of v.rank.machine)) x.act x.message
@@ -440,7 +440,7 @@ module _ (start : ℕ → State) (n : ℕ) (C : List Passed) (r : ℕ) (v : Live
       act : FitsHits selector x.act x.message → Goes (want.TryProbe selector)
       act f = go (hit_now x selector f).0 (hit_now x selector f).1 (named v.rank e) refl
         where
-          turned_by : (o : Option (ℕ × packet.Message)) → e ≡ event_of kind.Hit f.source f.message.clock (v.rank.clock + 1) → named v.rank e ≡ o
+          turned_by : (o : Option (ℕ × packet.PacketValue)) → e ≡ event_of kind.Hit f.source f.message.clock (v.rank.clock + 1) → named v.rank e ≡ o
               → replay_turn_at v.rank e (want.TryProbe selector) ≡ named_turn selector o
           turned_by o ee eo =
               ap (λ b. if b then try_turn selector (named v.rank e) e.kind else Err fault.Replay) (is_now_true kind.Hit f.source f.message.clock ee)
@@ -450,7 +450,7 @@ module _ (start : ℕ → State) (n : ℕ) (C : List Passed) (r : ℕ) (v : Live
           kinds ee = ap (λ z. z.kind) ee
 
           go : e ≡ event_of kind.Hit f.source f.message.clock (v.rank.clock + 1) → rest ≡ events_from (v.rank.clock + 1) x.rest
-              → (o : Option (ℕ × packet.Message)) → named v.rank e ≡ o → Goes (want.TryProbe selector)
+              → (o : Option (ℕ × packet.PacketValue)) → named v.rank e ≡ o → Goes (want.TryProbe selector)
           go ee er None eo = record {
             turn = Blocked;
             turned = turned_by None ee eo;
@@ -486,7 +486,7 @@ module _ (start : ℕ → State) (n : ℕ) (C : List Passed) (r : ℕ) (v : Live
   }
 
   -- each step of a rank in replay is one that it may make: it is never refused, and keeps the rank with the run
-  pub replays : (w : Want) → asks v.rank.machine ≡ w → Goes w
+  pub replays : (w : Want) → machine_want v.rank.machine ≡ w → Goes w
   replays want.Internal is = going
   replays (want.Send d c t) is = sending d c t is
   replays (want.Receive selector) is = receiving selector is

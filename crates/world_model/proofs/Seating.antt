@@ -6,14 +6,14 @@ use Rattle.checkpoint.specs.Reading.{reading}
 use Rattle.checkpoint.specs.Shelf.{image_bytes}
 use Rattle.checkpoint.specs.declared.fault.ImageFault.{ImageFault}
 use Rattle.checkpoint.specs.declared.memory_shelf.MemoryShelf.{MemoryShelf}
-use Rattle.matching.specs.Message as packet
+use Rattle.matching.specs.PacketValue as packet
 use Rattle.plain_logger.specs.Event.{EventValue}
 use Rattle.plain_logger.specs.declared.kind.Kind.{Kind}
 use Rattle.plain_logger.specs.declared.kind.Kind.TheVariants as kind
 use Rattle.rank_language.specs.Program.{ProgramValue}
 use Rattle.rank_machine.specs.declared.want.Want.{Want}
 use Rattle.rank_machine.specs.declared.want.Want.TheVariants as want
-use Rattle.rank_machine.specs.Machine.{MachineValue, asks}
+use Rattle.rank_machine.specs.Machine.{MachineValue, machine_want}
 use Rattle.rank_node.specs.declared.fault.NodeFault.{NodeFault}
 use Rattle.rank_node.specs.declared.fault.NodeFault.TheVariants.{NotSettled, Shelf, Image, Replay, ClockSpent, Log, Memory}
 use Rattle.rank_node.specs.Image.{image_of, image_on, begins_at, where_read, IsImaged, BeginsAgain, Reads}
@@ -30,17 +30,17 @@ use Rattle.world_model.proofs.Reading.{read_program}
 -- ---- the machine keeps its program
 
 -- a receive takes what was found
-may_take : (f : Option (ℕ × packet.Message)) (m m' : MachineValue) → TakesFound f m m' → m'.program ≡ m.program
+may_take : (f : Option (ℕ × packet.PacketValue)) (m m' : MachineValue) → TakesFound f m m' → m'.program ≡ m.program
 may_take None m m' s = ap (λ (z : MachineValue). z.program) s
 may_take (Some f) m m' s = s.stays.program
 
 -- a blocking probe is shown it
-may_show : (f : Option (ℕ × packet.Message)) (m m' : MachineValue) → IsShownFound f m m' → m'.program ≡ m.program
+may_show : (f : Option (ℕ × packet.PacketValue)) (m m' : MachineValue) → IsShownFound f m m' → m'.program ≡ m.program
 may_show None m m' s = ap (λ (z : MachineValue). z.program) s
 may_show (Some f) m m' s = s.stays.program
 
 -- a probe that doesn't wait is shown what the event names, or misses
-may_try_named : (f : Option (ℕ × packet.Message)) (k : Kind) (m m' : MachineValue) → TriesNamed f k m m' → m'.program ≡ m.program
+may_try_named : (f : Option (ℕ × packet.PacketValue)) (k : Kind) (m m' : MachineValue) → TriesNamed f k m m' → m'.program ≡ m.program
 may_try_named f kind.Reception m m' s = ap (λ (z : MachineValue). z.program) s
 may_try_named f kind.Hit m m' s = may_show f m m' s
 may_try_named f kind.Miss m m' s = s.stays.program
@@ -69,7 +69,7 @@ of_replay p r n v x some stable s o = go v.left refl
   where
     go : (left : List EventValue) → v.left ≡ left → IsOf p r n x.node
     go [] e = absurd (some e)
-    go (e ∷ rest) is = of_again p r n v.node x.node stable (replay_program_at v.node e (asks v.node.machine) x.node.machine (s e rest is)) o
+    go (e ∷ rest) is = of_again p r n v.node x.node stable (replay_program_at v.node e (machine_want v.node.machine) x.node.machine (s e rest is)) o
 
 -- ---- images
 

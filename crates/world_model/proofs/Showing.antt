@@ -4,7 +4,7 @@ use Rattle.ports.specs.declared.line.Line.{Line}
 use Rattle.ports.specs.Console.{after_line}
 use Rattle.rank_machine.specs.declared.want.Want.{Want}
 use Rattle.rank_machine.specs.declared.want.Want.TheVariants as want
-use Rattle.rank_machine.specs.Machine.{asks}
+use Rattle.rank_machine.specs.Machine.{machine_want}
 use Rattle.rank_node.specs.declared.turn.Turn.TheVariants.{Moved, Held}
 use Rattle.rank_node.specs.declared.waiting.Waiting.{Waiting}
 use Rattle.rank_node.specs.declared.waiting.Waiting.TheVariants as waits
@@ -45,8 +45,8 @@ shown_at v want.Halted old new e = e
 shown_at v (want.Faulted k) old new e = e
 
 -- what a step shows
-pub shown_step : (v : Rank) (old new : List Line) → ShowsStep Shows v old new → new ≡ lines_after old v.stable.rank v (asks v.machine) (turn_of v)
-shown_step v old new e = shown_at v (asks v.machine) old new e
+pub shown_step : (v : Rank) (old new : List Line) → ShowsStep Shows v old new → new ≡ lines_after old v.stable.rank v (machine_want v.machine) (turn_of v)
+shown_step v old new e = shown_at v (machine_want v.machine) old new e
 
 -- what a release shows
 pub shown_effect : (v : Rank) (x : Waiting) (old new : List Line) → ShowsEffect Shows v (Some x) old new → new ≡ lines_released old v.stable.rank x

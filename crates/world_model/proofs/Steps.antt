@@ -14,7 +14,7 @@ use Rattle.rank_machine.specs.declared.want.Want.TheVariants as want
 use Rattle.rank_machine.specs.States.{State}
 use Rattle.rank_machine.specs.Wants.{wants, payload}
 use Rattle.rank_machine.specs.Acts.{Act, Message, sends, takes, hits, misses, prints, Fits, Makes, Runs, next}
-use Rattle.rank_machine.specs.Machine.{MachineValue, state_of, asks}
+use Rattle.rank_machine.specs.Machine.{MachineValue, state_of, machine_want}
 use Rattle.crash_free.specs.Runs.{Passed, History, history, sent, sends_from, send_at, prints_from, print_at, printed, cons_if, looked_up, IsFree}
 use Rattle.crash_free.specs.Runs.{MayMake, IsRun, continue}
 use Rattle.crash_free.proofs.Lists.{history-own}
@@ -29,7 +29,7 @@ use Rattle.rank_node.specs.Waiting.{effects, BeginsWithEvents}
 use Rattle.rank_node.specs.declared.waiting.Waiting.TheVariants as waits
 use Rattle.rank_node.specs.Steps.{message_of, after_hold, after_wait}
 use Rattle.matching.specs.declared.packet.Context.{Context}
-use Rattle.matching.specs.Message as packet
+use Rattle.matching.specs.PacketValue as packet
 use Rattle.world_model.proofs.Rows.{IsEffect, event_sends_none, effect_takes_none}
 use Rattle.world_model.proofs.Inboxes.{InboxStands-noted}
 use Rattle.world_model.proofs.Places.{replaced_keeps}
@@ -83,7 +83,7 @@ no_internal w i e = subst (λ z. IsEventWant z) e i
 
 -- A rank with nothing left to replay that stands at a receive or a probe has made all its acts in the run, and those that it owes.
 pub caught_up : (start : ℕ → State) (n : ℕ) (C : List Passed) (r : ℕ) (v : Live) (w : Want) → IsRun start n C → (s : RankStands start n C r v) → v.left ≡ []
-    → asks v.rank.machine ≡ w → IsEventWant w → v.rank.clock ≡ length (history (continue C r s.acts) r)
+    → machine_want v.rank.machine ≡ w → IsEventWant w → v.rank.clock ≡ length (history (continue C r s.acts) r)
 caught_up start n C r v w run s left is event =
     ⊎_elim (λ (settled : v.rank.pending ≡ []). go (RankStands-settled start n C r v s settled) (cases_lt v.rank.clock (length (history C r))))
     (λ all. all) s.all_made
@@ -261,7 +261,7 @@ module _ (start : ℕ → State) (n : ℕ) (C : List Passed) (r : ℕ) (v : Live
       (replaced_keeps (λ e b. LogStands r (sends_from 0 e (take (v.rank.clock + 1) (history C r)))
       (sends_of (length (history C r)) e (s.acts ++ a ∷ [])) b) v.rank.log d (hold (backlog v.rank.log d) p) others own)
     where
-      p : packet.Message
+      p : packet.PacketValue
       p = message_of v.rank d context t
 
       messages : (e : ℕ)

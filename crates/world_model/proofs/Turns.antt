@@ -10,7 +10,7 @@ use Rattle.plain_logger.specs.declared.kind.Kind.{Kind}
 use Rattle.plain_logger.specs.declared.kind.Kind.TheVariants as kind
 use Rattle.matching.specs.declared.packet.Context.{Context}
 use Rattle.matching.specs.declared.selector.Selector.{Selector}
-use Rattle.matching.specs.Message as packet
+use Rattle.matching.specs.PacketValue as packet
 use Rattle.matching.specs.Matching.{matches}
 use Rattle.matching.specs.Inbox.{without}
 use Rattle.payload_log.specs.Backlog.{BacklogValue, backlog, saved, hold}
@@ -19,7 +19,7 @@ use Rattle.ports.specs.Console.{after_line}
 use Rattle.rank_machine.specs.States.{inner}
 use Rattle.rank_machine.specs.Wants.{wants, payload}
 use Rattle.rank_machine.specs.Acts.{Act, Message, sends, takes, hits, misses, prints, carried, Fits, Makes, Runs, next}
-use Rattle.rank_machine.specs.Machine.{MachineValue, state_of, asks}
+use Rattle.rank_machine.specs.Machine.{MachineValue, state_of, machine_want}
 use Rattle.rank_machine.specs.declared.want.Want.{Want}
 use Rattle.rank_machine.specs.declared.want.Want.TheVariants as want
 use Rattle.rank_machine.proofs.Making.{makes_sent, makes_printed}
@@ -84,15 +84,15 @@ module _ (images : List (Option ImageValue)) (r : ℕ) (v : Live) (m : MachineVa
   print_covers : RankCovers images r (record { rank = after_print v.rank m; left = left })
   print_covers = record { bases = c.bases; dues = c.dues; since = c.since }
 
-  taken_covers : (o : Option (ℕ × packet.Message)) → RankCovers images r (record { rank = taken_named v.rank m o; left = left })
+  taken_covers : (o : Option (ℕ × packet.PacketValue)) → RankCovers images r (record { rank = taken_named v.rank m o; left = left })
   taken_covers None = same_covers
   taken_covers (Some f) = record { bases = c.bases; dues = c.dues; since = c.since }
 
-  shown_covers : (o : Option (ℕ × packet.Message)) → RankCovers images r (record { rank = shown_named v.rank m o; left = left })
+  shown_covers : (o : Option (ℕ × packet.PacketValue)) → RankCovers images r (record { rank = shown_named v.rank m o; left = left })
   shown_covers None = same_covers
   shown_covers (Some f) = print_covers
 
-  tried_covers : (o : Option (ℕ × packet.Message)) (k : Kind) → RankCovers images r (record { rank = tried_named v.rank m o k; left = left })
+  tried_covers : (o : Option (ℕ × packet.PacketValue)) (k : Kind) → RankCovers images r (record { rank = tried_named v.rank m o k; left = left })
   tried_covers o kind.Hit = shown_covers o
   tried_covers o kind.Miss = print_covers
   tried_covers o kind.Reception = same_covers
@@ -107,15 +107,15 @@ module _ (images : List (Option ImageValue)) (r : ℕ) (v : Live) (m : MachineVa
   replay_covers e want.Halted = same_covers
   replay_covers e (want.Faulted k) = same_covers
 
-  received_covers : (o : Option (ℕ × packet.Message)) → RankCovers images r (record { rank = received v.rank m o; left = left })
+  received_covers : (o : Option (ℕ × packet.PacketValue)) → RankCovers images r (record { rank = received v.rank m o; left = left })
   received_covers None = same_covers
   received_covers (Some f) = record { bases = c.bases; dues = c.dues; since = c.since }
 
-  probed_covers : (o : Option (ℕ × packet.Message)) → RankCovers images r (record { rank = probed v.rank m o; left = left })
+  probed_covers : (o : Option (ℕ × packet.PacketValue)) → RankCovers images r (record { rank = probed v.rank m o; left = left })
   probed_covers None = same_covers
   probed_covers (Some f) = record { bases = c.bases; dues = c.dues; since = c.since }
 
-  tried_new_covers : (o : Option (ℕ × packet.Message)) → RankCovers images r (record { rank = tried v.rank m o; left = left })
+  tried_new_covers : (o : Option (ℕ × packet.PacketValue)) → RankCovers images r (record { rank = tried v.rank m o; left = left })
   tried_new_covers None = record { bases = c.bases; dues = c.dues; since = c.since }
   tried_new_covers (Some f) = record { bases = c.bases; dues = c.dues; since = c.since }
 
@@ -153,29 +153,29 @@ Stands-replay w r answer w' s f =
     subst (λ z. Goes z) (sym f.after)
     (record {
       run =
-          resized w (after_turn w r f.before f.turn (replayed_at f.before.rank f.event (asks f.before.rank.machine) f.machine)
-          (left_after (asks f.before.rank.machine) f.turn f.event f.rest)) (length-set w.ranks r _)
+          resized w (after_turn w r f.before f.turn (replayed_at f.before.rank f.event (machine_want f.before.rank.machine) f.machine)
+          (left_after (machine_want f.before.rank.machine) f.turn f.event f.rest)) (length-set w.ranks r _)
           (subst (λ z. StandsAt (size w) (changed w r (Some v) w.images w.logger z
-          (passed_at w.run r (f.before.rank.clock + 1) (effect_at f.before.rank (asks f.before.rank.machine) f.turn))))
-          (sym (lines_same (asks f.before.rank.machine) f.turn refl))
+          (passed_at w.run r (f.before.rank.clock + 1) (effect_at f.before.rank (machine_want f.before.rank.machine) f.turn))))
+          (sym (lines_same (machine_want f.before.rank.machine) f.turn refl))
           (subst (λ z. StandsAt (size w) (changed w r (Some v) w.images w.logger w.lines z))
-          (sym (passed_again w.run r f.before.rank.clock (effect_at f.before.rank (asks f.before.rank.machine) f.turn) is_behind))
+          (sym (passed_again w.run r f.before.rank.clock (effect_at f.before.rank (machine_want f.before.rank.machine) f.turn) is_behind))
           (Stands-rank (size w) w r (Some v) w.logger s.run refl
           (λ u e. (let q : v ≡ u = cc in subst (λ z. RankStands (start_at w (size w)) (size w) w.run r z) q stands)))));
       covers =
-          Covers-rank w (after_turn w r f.before f.turn (replayed_at f.before.rank f.event (asks f.before.rank.machine) f.machine)
-          (left_after (asks f.before.rank.machine) f.turn f.event f.rest)) r (Some v) refl refl refl
+          Covers-rank w (after_turn w r f.before f.turn (replayed_at f.before.rank f.event (machine_want f.before.rank.machine) f.machine)
+          (left_after (machine_want f.before.rank.machine) f.turn f.event f.rest)) r (Some v) refl refl refl
           (λ u e. (let q : v ≡ u = cc in subst (λ z. RankCovers w.images r z) q
-          (replay_covers w.images r f.before f.machine (left_after (asks f.before.rank.machine) f.turn f.event f.rest)
-          (s.covers.ranks r f.before f.live) f.event (asks f.before.rank.machine)))) s.covers;
+          (replay_covers w.images r f.before f.machine (left_after (machine_want f.before.rank.machine) f.turn f.event f.rest)
+          (s.covers.ranks r f.before f.live) f.event (machine_want f.before.rank.machine)))) s.covers;
     })
   where
     v : Live
     v =
         record {
-          rank = replayed_at f.before.rank f.event (asks f.before.rank.machine) f.machine;
+          rank = replayed_at f.before.rank f.event (machine_want f.before.rank.machine) f.machine;
           left = left_after
-              (asks f.before.rank.machine) f.turn f.event f.rest;
+              (machine_want f.before.rank.machine) f.turn f.event f.rest;
         }
 
     k : RankStands (start_at w (size w)) (size w) w.run r f.before
@@ -184,8 +184,8 @@ Stands-replay w r answer w' s f =
     settled : f.before.rank.pending ≡ []
     settled = settled_in (start_at w (size w)) (size w) w.run r f.before s.run.is_run (s.run.ranks r f.before f.live) f.event f.rest f.replaying
 
-    goes : StepGoes (start_at w (size w)) (size w) w.run r f.before s.run.is_run k f.event f.rest f.replaying (asks f.before.rank.machine)
-    goes = replays (start_at w (size w)) (size w) w.run r f.before s.run.is_run k f.event f.rest f.replaying (asks f.before.rank.machine) refl
+    goes : StepGoes (start_at w (size w)) (size w) w.run r f.before s.run.is_run k f.event f.rest f.replaying (machine_want f.before.rank.machine)
+    goes = replays (start_at w (size w)) (size w) w.run r f.before s.run.is_run k f.event f.rest f.replaying (machine_want f.before.rank.machine) refl
 
     is_behind : f.before.rank.clock < length (history w.run r)
     is_behind = behind (start_at w (size w)) (size w) w.run r f.before s.run.is_run k f.event f.rest f.replaying
@@ -195,19 +195,19 @@ Stands-replay w r answer w' s f =
 
     stands : RankStands (start_at w (size w)) (size w) w.run r
         (record {
-          rank = replayed_at f.before.rank f.event (asks f.before.rank.machine) f.machine;
-          left = left_after (asks f.before.rank.machine) f.turn f.event f.rest;
+          rank = replayed_at f.before.rank f.event (machine_want f.before.rank.machine) f.machine;
+          left = left_after (machine_want f.before.rank.machine) f.turn f.event f.rest;
         })
     stands =
         subst (λ t. RankStands (start_at w (size w)) (size w) w.run r
         (record {
-          rank = replayed_at f.before.rank f.event (asks f.before.rank.machine) f.machine;
+          rank = replayed_at f.before.rank f.event (machine_want f.before.rank.machine) f.machine;
           left = left_after
-              (asks f.before.rank.machine) t f.event f.rest;
+              (machine_want f.before.rank.machine) t f.event f.rest;
         })) same_turn
         (goes.stands f.machine f.steps)
 
-    printed_again : (z : ℤ) → asks f.before.rank.machine ≡ want.Print z → after_line w.lines r (f.before.rank.clock + 1) z ≡ w.lines
+    printed_again : (z : ℤ) → machine_want f.before.rank.machine ≡ want.Print z → after_line w.lines r (f.before.rank.clock + 1) z ≡ w.lines
     printed_again z is =
         let x = next_is (start_at w (size w)) (size w) w.run r f.before s.run.is_run k f.event f.rest f.replaying
         (stopped f.before.rank.machine (want.Print z) is (λ y. cc)) in
@@ -218,7 +218,7 @@ Stands-replay w r answer w' s f =
         (subst (λ a. slice_get (history w.run r) f.before.rank.clock ≡ Some (a, x.message)) g.0
         (next_of_drop f.before.rank.clock (history w.run r) (x.act, x.message) x.rest x.is_next).there)
 
-    lines_same : (x : Want) (t : Turn) → asks f.before.rank.machine ≡ x → lines_after w.lines r f.before.rank x t ≡ w.lines
+    lines_same : (x : Want) (t : Turn) → machine_want f.before.rank.machine ≡ x → lines_after w.lines r f.before.rank x t ≡ w.lines
     lines_same (want.Print z) Moved is =
         ap (λ z'. if is_settled z' then after_line w.lines r (f.before.rank.clock + 1) z else w.lines) settled ∙ printed_again z is
     lines_same (want.Print z) Blocked is = refl
@@ -388,7 +388,7 @@ module _ (n : ℕ) (w : WorldValue) (r : ℕ) (v : Live) (m : MachineValue) (s :
       go (inl l) = repeats l
       go (inr l) = passes (let i = (at settled).within in omega (arith, l, i))
 
-  sending : (d : ℕ) (c : Context) (t : ℕ) → asks v.rank.machine ≡ want.Send d c t → DidAct v.rank.machine m → v.rank.pending ≡ []
+  sending : (d : ℕ) (c : Context) (t : ℕ) → machine_want v.rank.machine ≡ want.Send d c t → DidAct v.rank.machine m → v.rank.pending ≡ []
       → StandsAt n (changed w r (Some (record { rank = after_send v.rank m d c t; left = [] })) w.images w.logger w.lines
       (passed_at w.run r (v.rank.clock + 1) (Some (sends d c t (payload (state_of v.rank.machine))))))
   sending d c t e did settled =
@@ -403,7 +403,7 @@ module _ (n : ℕ) (w : WorldValue) (r : ℕ) (v : Live) (m : MachineValue) (s :
       (λ z. refl)
       (λ clock q. s.lines q ∙ sym (printed_same w.run r q (sends d c t (payload (state_of v.rank.machine))) refl))
 
-  printing : (x : ℤ) → asks v.rank.machine ≡ want.Print x → DidAct v.rank.machine m → v.rank.pending ≡ []
+  printing : (x : ℤ) → machine_want v.rank.machine ≡ want.Print x → DidAct v.rank.machine m → v.rank.pending ≡ []
       → StandsAt n (changed w r (Some (record { rank = after_print v.rank m; left = [] })) w.images w.logger
       (after_line w.lines r (v.rank.clock + 1) x) (passed_at w.run r (v.rank.clock + 1) (Some (prints x))))
   printing x e did settled =
@@ -423,7 +423,7 @@ module _ (n : ℕ) (w : WorldValue) (r : ℕ) (v : Live) (m : MachineValue) (s :
   all_made : (v.rank.pending ≡ [] → ⊥) → v.rank.clock ≡ length (history (continue w.run r (s.ranks r v live).acts) r)
   all_made some = ⊎_elim (λ z. absurd (some z)) (λ z. z) (s.ranks r v live).all_made
 
-  holding : (d : ℕ) (c : Context) (t : ℕ) → asks v.rank.machine ≡ want.Send d c t → DidAct v.rank.machine m → (v.rank.pending ≡ [] → ⊥)
+  holding : (d : ℕ) (c : Context) (t : ℕ) → machine_want v.rank.machine ≡ want.Send d c t → DidAct v.rank.machine m → (v.rank.pending ≡ [] → ⊥)
       → StandsAt n (changed w r (Some (record { rank = after_hold v.rank m d c t; left = [] })) w.images w.logger w.lines w.run)
   holding d c t e did some =
       alone (after_hold v.rank m d c t)
@@ -434,7 +434,7 @@ module _ (n : ℕ) (w : WorldValue) (r : ℕ) (v : Live) (m : MachineValue) (s :
       d c t refl (did.state (sends d c t (payload (state_of v.rank.machine))) None (makes_sent v.rank.machine d c t e))
       (length-set v.rank.log d _ ∙ (s.ranks r v live).at.logged))
 
-  waiting : (x : ℤ) → asks v.rank.machine ≡ want.Print x → DidAct v.rank.machine m → (v.rank.pending ≡ [] → ⊥)
+  waiting : (x : ℤ) → machine_want v.rank.machine ≡ want.Print x → DidAct v.rank.machine m → (v.rank.pending ≡ [] → ⊥)
       → StandsAt n (changed w r (Some (record { rank = after_wait v.rank m x; left = [] })) w.images w.logger w.lines w.run)
   waiting x e did some =
       alone (after_wait v.rank m x)
@@ -444,13 +444,13 @@ module _ (n : ℕ) (w : WorldValue) (r : ℕ) (v : Live) (m : MachineValue) (s :
       x refl (did.state (prints x) None (makes_printed v.rank.machine x e)))
 
   -- a new reception, hit or miss
-  eventful : (x : Want) → asks v.rank.machine ≡ x → IsEventWant x → v.rank.clock ≡ length (history (continue w.run r (s.ranks r v live).acts) r)
+  eventful : (x : Want) → machine_want v.rank.machine ≡ x → IsEventWant x → v.rank.clock ≡ length (history (continue w.run r (s.ranks r v live).acts) r)
   eventful x e i = caught_up (start_at w n) n w.run r v x s.is_run (s.ranks r v live) running e i
 
   h : History
   h = history (continue w.run r (s.ranks r v live).acts) r
 
-  inbox_now : (x : Want) → asks v.rank.machine ≡ x → IsEventWant x
+  inbox_now : (x : Want) → machine_want v.rank.machine ≡ x → IsEventWant x
       → InboxStands v.rank.inbox (λ q. sent w.run q r) (history (continue w.run r (s.ranks r v live).acts) r)
   inbox_now x e i =
       subst (λ z. InboxStands v.rank.inbox (λ q. sent w.run q r) z)
@@ -458,7 +458,7 @@ module _ (n : ℕ) (w : WorldValue) (r : ℕ) (v : Live) (m : MachineValue) (s :
       (sym (eventful x e i)) (take_whole (history (continue w.run r (s.ranks r v live).acts) r)))
       (s.ranks r v live).at.inbox
 
-  receiving : (selector : Selector) → asks v.rank.machine ≡ want.Receive selector → (i : ℕ) (p : packet.Message)
+  receiving : (selector : Selector) → machine_want v.rank.machine ≡ want.Receive selector → (i : ℕ) (p : packet.PacketValue)
       → position (matches selector) v.rank.inbox.packets ≡ Some i → slice_get v.rank.inbox.packets i ≡ Some p
       → event_refusal v.rank ≡ None → Took p v.rank.machine m
       → StandsAt n (changed w r (Some (record { rank = after_reception v.rank m i p; left = [] })) w.images w.logger w.lines w.run)
@@ -484,7 +484,7 @@ module _ (n : ℕ) (w : WorldValue) (r : ℕ) (v : Live) (m : MachineValue) (s :
       wants_it = wanted v.rank.machine (want.Receive selector) e (λ z. cc)
 
   -- a hit, of a probe of either kind
-  hitting : (x : Want) (selector : Selector) → asks v.rank.machine ≡ x → (x ≡ want.Probe selector) ⊎ (x ≡ want.TryProbe selector) → (i : ℕ) (p : packet.Message)
+  hitting : (x : Want) (selector : Selector) → machine_want v.rank.machine ≡ x → (x ≡ want.Probe selector) ⊎ (x ≡ want.TryProbe selector) → (i : ℕ) (p : packet.PacketValue)
       → position (matches selector) v.rank.inbox.packets ≡ Some i → slice_get v.rank.inbox.packets i ≡ Some p
       → event_refusal v.rank ≡ None → WasShown p v.rank.machine m
       → StandsAt n (changed w r (Some (record { rank = after_probe v.rank m kind.Hit p.source p.clock; left = [] })) w.images w.logger w.lines w.run)
@@ -514,7 +514,7 @@ module _ (n : ℕ) (w : WorldValue) (r : ℕ) (v : Live) (m : MachineValue) (s :
       here : Found selector v.rank.inbox.packets i p
       here = found_at selector v.rank.inbox.packets i p first there
 
-  missing : (selector : Selector) → asks v.rank.machine ≡ want.TryProbe selector → event_refusal v.rank ≡ None → Missed v.rank.machine m
+  missing : (selector : Selector) → machine_want v.rank.machine ≡ want.TryProbe selector → event_refusal v.rank ≡ None → Missed v.rank.machine m
       → StandsAt n (changed w r (Some (record { rank = after_probe v.rank m kind.Miss 0 0; left = [] })) w.images w.logger w.lines w.run)
   missing selector e allowed did =
       alone (after_probe v.rank m kind.Miss 0 0)
@@ -531,7 +531,7 @@ module _ (n : ℕ) (w : WorldValue) (r : ℕ) (v : Live) (m : MachineValue) (s :
       makes = subst (λ z. Fits z (payload (state_of v.rank.machine)) misses None) (sym (wanted v.rank.machine (want.TryProbe selector) e (λ z. cc))) tt
 
   -- what is found, if anything is
-  finding : (selector : Selector) → asks v.rank.machine ≡ want.Receive selector → (o : Option ℕ) → position (matches selector) v.rank.inbox.packets ≡ o
+  finding : (selector : Selector) → machine_want v.rank.machine ≡ want.Receive selector → (o : Option ℕ) → position (matches selector) v.rank.inbox.packets ≡ o
       → (if is_some o then event_refusal v.rank else None) ≡ None
       → TakesFound (option_and_then (at_index v.rank.inbox.packets) o) v.rank.machine m
       → StandsAt n (changed w r (Some (record { rank = received v.rank m (option_and_then (at_index v.rank.inbox.packets) o); left = [] }))
@@ -539,14 +539,14 @@ module _ (n : ℕ) (w : WorldValue) (r : ℕ) (v : Live) (m : MachineValue) (s :
   finding selector e None there allowed steps = Stands-still
   finding selector e (Some i) there allowed steps = go (slice_get v.rank.inbox.packets i) refl steps
     where
-      go : (o : Option packet.Message) → slice_get v.rank.inbox.packets i ≡ o
-          → TakesFound (option_and_then {U = ℕ × packet.Message} (λ p. Some (i, p)) o) v.rank.machine m
-          → StandsAt n (changed w r (Some (record { rank = received v.rank m (option_and_then {U = ℕ × packet.Message} (λ p. Some (i, p)) o); left = [] }))
+      go : (o : Option packet.PacketValue) → slice_get v.rank.inbox.packets i ≡ o
+          → TakesFound (option_and_then {U = ℕ × packet.PacketValue} (λ p. Some (i, p)) o) v.rank.machine m
+          → StandsAt n (changed w r (Some (record { rank = received v.rank m (option_and_then {U = ℕ × packet.PacketValue} (λ p. Some (i, p)) o); left = [] }))
           w.images w.logger w.lines w.run)
       go None f t = Stands-still
       go (Some p) f t = receiving selector e i p there f allowed t
 
-  probing : (selector : Selector) → asks v.rank.machine ≡ want.Probe selector → (o : Option ℕ) → position (matches selector) v.rank.inbox.packets ≡ o
+  probing : (selector : Selector) → machine_want v.rank.machine ≡ want.Probe selector → (o : Option ℕ) → position (matches selector) v.rank.inbox.packets ≡ o
       → (if is_some o then event_refusal v.rank else None) ≡ None
       → IsShownFound (option_and_then (at_index v.rank.inbox.packets) o) v.rank.machine m
       → StandsAt n (changed w r (Some (record { rank = probed v.rank m (option_and_then (at_index v.rank.inbox.packets) o); left = [] }))
@@ -554,14 +554,14 @@ module _ (n : ℕ) (w : WorldValue) (r : ℕ) (v : Live) (m : MachineValue) (s :
   probing selector e None there allowed steps = Stands-still
   probing selector e (Some i) there allowed steps = go (slice_get v.rank.inbox.packets i) refl steps
     where
-      go : (o : Option packet.Message) → slice_get v.rank.inbox.packets i ≡ o
-          → IsShownFound (option_and_then {U = ℕ × packet.Message} (λ p. Some (i, p)) o) v.rank.machine m
-          → StandsAt n (changed w r (Some (record { rank = probed v.rank m (option_and_then {U = ℕ × packet.Message} (λ p. Some (i, p)) o); left = [] }))
+      go : (o : Option packet.PacketValue) → slice_get v.rank.inbox.packets i ≡ o
+          → IsShownFound (option_and_then {U = ℕ × packet.PacketValue} (λ p. Some (i, p)) o) v.rank.machine m
+          → StandsAt n (changed w r (Some (record { rank = probed v.rank m (option_and_then {U = ℕ × packet.PacketValue} (λ p. Some (i, p)) o); left = [] }))
           w.images w.logger w.lines w.run)
       go None f t = Stands-still
       go (Some p) f t = hitting (want.Probe selector) selector e (inl refl) i p there f allowed t
 
-  trying : (selector : Selector) → asks v.rank.machine ≡ want.TryProbe selector → (o : Option ℕ) → position (matches selector) v.rank.inbox.packets ≡ o
+  trying : (selector : Selector) → machine_want v.rank.machine ≡ want.TryProbe selector → (o : Option ℕ) → position (matches selector) v.rank.inbox.packets ≡ o
       → event_refusal v.rank ≡ None
       → TriesFound (option_and_then (at_index v.rank.inbox.packets) o) v.rank.machine m
       → StandsAt n (changed w r (Some (record { rank = tried v.rank m (option_and_then (at_index v.rank.inbox.packets) o); left = [] }))
@@ -569,15 +569,15 @@ module _ (n : ℕ) (w : WorldValue) (r : ℕ) (v : Live) (m : MachineValue) (s :
   trying selector e None there allowed steps = missing selector e allowed steps
   trying selector e (Some i) there allowed steps = go (slice_get v.rank.inbox.packets i) refl steps
     where
-      go : (o : Option packet.Message) → slice_get v.rank.inbox.packets i ≡ o
-          → TriesFound (option_and_then {U = ℕ × packet.Message} (λ p. Some (i, p)) o) v.rank.machine m
-          → StandsAt n (changed w r (Some (record { rank = tried v.rank m (option_and_then {U = ℕ × packet.Message} (λ p. Some (i, p)) o); left = [] }))
+      go : (o : Option packet.PacketValue) → slice_get v.rank.inbox.packets i ≡ o
+          → TriesFound (option_and_then {U = ℕ × packet.PacketValue} (λ p. Some (i, p)) o) v.rank.machine m
+          → StandsAt n (changed w r (Some (record { rank = tried v.rank m (option_and_then {U = ℕ × packet.PacketValue} (λ p. Some (i, p)) o); left = [] }))
           w.images w.logger w.lines w.run)
       go None f t = missing selector e allowed t
       go (Some p) f t = hitting (want.TryProbe selector) selector e (inr refl) i p there f allowed t
 
   -- a step that isn't refused
-  pub stepping : (x : Want) → asks v.rank.machine ≡ x → refusal_at v.rank x ≡ None → MachineStepAt v.rank x m
+  pub stepping : (x : Want) → machine_want v.rank.machine ≡ x → refusal_at v.rank x ≡ None → MachineStepAt v.rank x m
       → StandsAt n (changed w r (Some (record { rank = step_at v.rank x m; left = [] })) w.images w.logger
       (lines_after w.lines r v.rank x (turn_at v.rank x))
       (passed_at w.run r (v.rank.clock + 1) (effect_at v.rank x (turn_at v.rank x))))
@@ -628,15 +628,15 @@ Stands-step w r answer w' s f =
     subst (λ z. Goes z) (sym f.after)
     (record {
       run =
-          resized w (after_turn w r f.before (turn_at f.before.rank (asks f.before.rank.machine))
-          (step_at f.before.rank (asks f.before.rank.machine) f.machine) []) (length-set w.ranks r _)
+          resized w (after_turn w r f.before (turn_at f.before.rank (machine_want f.before.rank.machine))
+          (step_at f.before.rank (machine_want f.before.rank.machine) f.machine) []) (length-set w.ranks r _)
           (stepping (size w) w r f.before f.machine s.run f.live (slice_get_within w.ranks r (Some f.before) f.live) f.running
-          (asks f.before.rank.machine) refl f.allowed f.steps);
+          (machine_want f.before.rank.machine) refl f.allowed f.steps);
       covers =
-          Covers-rank w (after_turn w r f.before (turn_at f.before.rank (asks f.before.rank.machine))
-          (step_at f.before.rank (asks f.before.rank.machine) f.machine) []) r
-          (Some (record { rank = step_at f.before.rank (asks f.before.rank.machine) f.machine; left = [] })) refl refl refl
-          (λ u e. (let q : record { rank = step_at f.before.rank (asks f.before.rank.machine) f.machine; left = [] } ≡ u = cc in
+          Covers-rank w (after_turn w r f.before (turn_at f.before.rank (machine_want f.before.rank.machine))
+          (step_at f.before.rank (machine_want f.before.rank.machine) f.machine) []) r
+          (Some (record { rank = step_at f.before.rank (machine_want f.before.rank.machine) f.machine; left = [] })) refl refl refl
+          (λ u e. (let q : record { rank = step_at f.before.rank (machine_want f.before.rank.machine) f.machine; left = [] } ≡ u = cc in
           subst (λ z. RankCovers w.images r z) q (step_covers w.images r f.before f.machine [] (s.covers.ranks r f.before f.live)
-          (asks f.before.rank.machine)))) s.covers;
+          (machine_want f.before.rank.machine)))) s.covers;
     })

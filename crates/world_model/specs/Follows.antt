@@ -4,7 +4,7 @@ use Rattle.std.specs.Prelude.{◌≡◌, ◌≢◌, ℕ, ℤ, Bool, false, ◌+�
 use Rattle.std.specs.Prelude.{slice_get, slice_set, if◌then◌else◌}
 use Rattle.checkpoint.specs.Image.{ImageValue}
 use Rattle.checkpoint.specs.declared.memory_shelf.MemoryShelf.{MemoryShelf}
-use Rattle.matching.specs.Message as packet
+use Rattle.matching.specs.PacketValue as packet
 use Rattle.payload_log.specs.Backlog.{backlog}
 use Rattle.plain_logger.specs.Event.{EventValue}
 use Rattle.plain_logger.specs.History.{Answers}
@@ -14,7 +14,7 @@ use Rattle.rank_machine.specs.declared.want.Want.{Want}
 use Rattle.rank_machine.specs.declared.want.Want.TheVariants as want
 use Rattle.rank_machine.specs.Wants.{payload}
 use Rattle.rank_machine.specs.Acts.{Act, sends, prints}
-use Rattle.rank_machine.specs.Machine.{MachineValue, state_of, asks}
+use Rattle.rank_machine.specs.Machine.{MachineValue, state_of, machine_want}
 use Rattle.rank_node.specs.declared.turn.Turn.{Turn}
 use Rattle.rank_node.specs.declared.turn.Turn.TheVariants as turn
 use Rattle.rank_node.specs.declared.turn.Arrived.{Arrived}
@@ -117,8 +117,8 @@ lines_after lines r v (want.Faulted fault) t = lines
 abbrev pub after_turn : WorldValue → ℕ → Live → Turn → Rank → List EventValue → WorldValue
 after_turn w r before t rank left = record w {
   ranks = slice_set w.ranks r (Some (record { rank = rank; left = left }));
-  lines = lines_after w.lines r before.rank (asks before.rank.machine) t;
-  run = passed_at w.run r (before.rank.clock + 1) (effect_at before.rank (asks before.rank.machine) t);
+  lines = lines_after w.lines r before.rank (machine_want before.rank.machine) t;
+  run = passed_at w.run r (before.rank.clock + 1) (effect_at before.rank (machine_want before.rank.machine) t);
 }
 
 -- A step of a rank that replays nothing: the machine makes the step that it wants, unless it is blocked or held or has
@@ -145,7 +145,7 @@ pub record ReplayFollows (w : WorldValue) (r : ℕ) (answer : Reply) (w' : World
   pub machine : MachineValue
   pub steps : ReplayStep before.rank event machine
   pub answered : answer ≡ stepped turn
-  pub after : w' ≡ after_turn w r before turn (after_replay before.rank event machine) (left_after (asks before.rank.machine) turn event rest)
+  pub after : w' ≡ after_turn w r before turn (after_replay before.rank event machine) (left_after (machine_want before.rank.machine) turn event rest)
 
 -- the reply to a frame that was put, by its index
 abbrev pub put_as : ℕ → Frame → Reply
@@ -249,11 +249,11 @@ pub record RestartFollows (w : WorldValue) (r : ℕ) (answer : Reply) (w' : Worl
   }
 
 -- the oldest held packet for a rank
-abbrev pub oldest_held : Rank → ℕ → Option packet.Message
+abbrev pub oldest_held : Rank → ℕ → Option packet.PacketValue
 oldest_held v dest = slice_get (backlog v.log dest).held 0
 
 -- the send of a packet
-abbrev pub send_of : ℕ → packet.Message → Act
+abbrev pub send_of : ℕ → packet.PacketValue → Act
 send_of dest p = sends dest p.context p.tag p.items
 
 -- the act of an effect: a send of the packet that the payload log holds longest for its destination, or a print

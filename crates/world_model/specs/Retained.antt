@@ -3,7 +3,7 @@
 -- Wang and Johnson 2002, section 3). This is what the contracts of the world promise after each event, beside the headline.
 use Rattle.std.specs.Prelude.{◌≡◌, ℕ, ◌<◌, ◌≤◌, ◌⊎◌, false, List, length, take, Some, slice_get}
 use Rattle.checkpoint.specs.Image.{ImageValue}
-use Rattle.matching.specs.Message as packet
+use Rattle.matching.specs.PacketValue as packet
 use Rattle.matching.specs.Inbox.{Mailbox, accepted_from}
 use Rattle.payload_log.specs.Backlog.{BacklogValue, backlog}
 use Rattle.rank_machine.specs.Acts.{Message, carried}
@@ -21,7 +21,7 @@ pub record Needed (w : WorldValue) (C : List Passed) (s r k : ℕ) (m : Message)
 
 -- the payload log keeps this message of rank s, whole, as its kth to r
 pub record KeepsPacket (log : List BacklogValue) (s r k : ℕ) (m : Message) : Type 0 where
-  pub packet : packet.Message
+  pub packet : packet.PacketValue
   pub index : ℕ
   pub there : slice_get (backlog log r).kept index ≡ Some packet
   pub source : packet.source ≡ s
@@ -37,12 +37,12 @@ Retains clock log s r k m = (clock < m.clock) ⊎ KeepsPacket log s r k m
 -- those that these acts of r don't take, each once.
 pub record Holds (C : List Passed) (r : ℕ) (acts : History) (box : Mailbox) : Type 0 where
   pub within : (s : ℕ) → accepted_from box s ≤ length (sent C s r)
-  pub just : (i : ℕ) (p : packet.Message) → slice_get box.packets i ≡ Some p
+  pub just : (i : ℕ) (p : packet.PacketValue) → slice_get box.packets i ≡ Some p
       → (1 ≤ p.number) × (p.number ≤ accepted_from box p.source) × (taken acts p.source p.number ≡ false)
       × (at_place (sent C p.source r) p.number ≡ Some (carried p))
   pub all : (s k : ℕ) → 1 ≤ k → k ≤ accepted_from box s → taken acts s k ≡ false
-      → (i : ℕ) × (p : packet.Message) × (slice_get box.packets i ≡ Some p) × (p.source ≡ s) × (p.number ≡ k)
-  pub once : (i j : ℕ) (p q : packet.Message) → slice_get box.packets i ≡ Some p → slice_get box.packets j ≡ Some q
+      → (i : ℕ) × (p : packet.PacketValue) × (slice_get box.packets i ≡ Some p) × (p.source ≡ s) × (p.number ≡ k)
+  pub once : (i j : ℕ) (p q : packet.PacketValue) → slice_get box.packets i ≡ Some p → slice_get box.packets j ≡ Some q
       → p.source ≡ q.source → p.number ≡ q.number → i ≡ j
 
 -- The inbox of a live rank goes with its first acts, as many as its clock says, in a run where the rank is: the run that

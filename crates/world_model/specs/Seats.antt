@@ -7,7 +7,7 @@ use Rattle.plain_logger.specs.History.{StateValue, reply_of}
 use Rattle.plain_logger.specs.declared.call.Call.TheVariants.{Append}
 use Rattle.plain_logger.specs.declared.call.Reply.TheVariants.{Length}
 use Rattle.rank_language.specs.Program.{ProgramValue}
-use Rattle.rank_machine.specs.Machine.{MachineValue, asks}
+use Rattle.rank_machine.specs.Machine.{MachineValue, machine_want}
 use Rattle.rank_node.specs.declared.turn.Turn.{Turn}
 use Rattle.rank_node.specs.Image.{begins_at, image_of, after_image, with_shelf}
 use Rattle.rank_node.specs.Replay.{Replay, restarted, left_of, replay_turn_of, after_replay, left_after, ReplayStep}
@@ -108,7 +108,7 @@ pub record IsStep (v : Live) (x : Option Live) (lines lines' : List Line) : Type
   pub machine : MachineValue
   pub steps : MachineStep v.rank machine
   pub after : x ≡ with_rank_value v (after_step v.rank machine)
-  pub shown : lines' ≡ lines_after lines v.rank.stable.rank v.rank (asks v.rank.machine) (turn_of v.rank)
+  pub shown : lines' ≡ lines_after lines v.rank.stable.rank v.rank (machine_want v.rank.machine) (turn_of v.rank)
 
 -- The rank replayed a step, and its machine is then this one.
 pub record IsReplayed (v : Live) (turn : Turn) (x : Option Live) : Type 0 where
@@ -118,7 +118,7 @@ pub record IsReplayed (v : Live) (turn : Turn) (x : Option Live) : Type 0 where
   pub turned : replay_turn_of v.rank event ≡ Ok turn
   pub machine : MachineValue
   pub steps : ReplayStep v.rank event machine
-  pub after : x ≡ Some (record { rank = after_replay v.rank event machine; left = left_after (asks v.rank.machine) turn event rest })
+  pub after : x ≡ Some (record { rank = after_replay v.rank event machine; left = left_after (machine_want v.rank.machine) turn event rest })
 
 -- the rank r of n started again at this image, or at the beginning of the program, with these events in its row
 pub record IsRestarted (program : ProgramValue) (n r : ℕ) (image : Option ImageValue) (row : List EventValue) (x : Option Live) : Type 0 where

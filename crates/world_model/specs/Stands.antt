@@ -2,7 +2,7 @@
 -- That the world stands for its run, and that nothing needed is gone, follow from it.
 use Rattle.std.specs.Prelude.{◌≡◌, ℕ, ◌+◌, ◌<◌, ◌≤◌, ◌⊎◌, true, false, List, [], ◌∷◌, length, take, drop, Option, Some, None, slice_get}
 use Rattle.plain_logger.specs.Event.{EventValue}
-use Rattle.matching.specs.Message as packet
+use Rattle.matching.specs.PacketValue as packet
 use Rattle.matching.specs.Inbox.{Mailbox, accepted_from}
 use Rattle.payload_log.specs.Backlog.{BacklogValue}
 use Rattle.rank_machine.specs.States.{State, Inners, opening}
@@ -25,22 +25,22 @@ use Rattle.world_model.specs.Counts.{Counts}
 -- The inbox of a rank with this history, to which each sender sent what is inbound: each packet is what was sent under
 -- its number, isn't taken and was accepted; what was accepted and isn't taken is there, in the order of its numbers.
 pub record InboxStands (box : Mailbox) (inbound : ℕ → List Message) (h : History) : Type 0 where
-  pub real : (k : ℕ) (p : packet.Message) → slice_get box.packets k ≡ Some p → at_place (inbound p.source) p.number ≡ Some (carried p)
-  pub untaken : (k : ℕ) (p : packet.Message) → slice_get box.packets k ≡ Some p → taken h p.source p.number ≡ false
-  pub accepted : (k : ℕ) (p : packet.Message) → slice_get box.packets k ≡ Some p → p.number ≤ accepted_from box p.source
+  pub real : (k : ℕ) (p : packet.PacketValue) → slice_get box.packets k ≡ Some p → at_place (inbound p.source) p.number ≡ Some (carried p)
+  pub untaken : (k : ℕ) (p : packet.PacketValue) → slice_get box.packets k ≡ Some p → taken h p.source p.number ≡ false
+  pub accepted : (k : ℕ) (p : packet.PacketValue) → slice_get box.packets k ≡ Some p → p.number ≤ accepted_from box p.source
   pub each : (s j : ℕ) → 1 ≤ j → j ≤ accepted_from box s → taken h s j ≡ false
-      → (k : ℕ) × (p : packet.Message) × (slice_get box.packets k ≡ Some p) × (p.source ≡ s) × (p.number ≡ j)
-  pub rising : (k l : ℕ) (p q : packet.Message) → k < l → slice_get box.packets k ≡ Some p → slice_get box.packets l ≡ Some q
+      → (k : ℕ) × (p : packet.PacketValue) × (slice_get box.packets k ≡ Some p) × (p.source ≡ s) × (p.number ≡ j)
+  pub rising : (k l : ℕ) (p q : packet.PacketValue) → k < l → slice_get box.packets k ≡ Some p → slice_get box.packets l ≡ Some q
       → p.source ≡ q.source → p.number < q.number
   pub taken_accepted : (s j : ℕ) → taken h s j ≡ true → j ≤ accepted_from box s
   pub within : (s : ℕ) → accepted_from box s ≤ length (inbound s)
 
 -- the packet of the message that rank r sent as its jth to some rank
-abbrev pub packet_of : ℕ → ℕ → Message → packet.Message
+abbrev pub packet_of : ℕ → ℕ → Message → packet.PacketValue
 packet_of r j m = record { source = r; clock = m.clock; number = j; context = m.context; tag = m.tag; items = m.items }
 
 -- the packets of messages before which k were sent
-abbrev pub packets_from : ℕ → ℕ → List Message → List packet.Message
+abbrev pub packets_from : ℕ → ℕ → List Message → List packet.PacketValue
 packets_from r k [] = []
 packets_from r k (m ∷ ms) = packet_of r (k + 1) m ∷ packets_from r (k + 1) ms
 

@@ -1,6 +1,6 @@
 //! Steps of one rank that the outcome has.
 ghost use Rattle.std.specs.Prelude.{◌≡◌, ◌<◌, ◌≤◌, length, IfSome, IfOk, OnOk, IsTrue, is_ok};
-ghost use Rattle.crash_free.specs.Wanted.{AsksAt};
+ghost use Rattle.crash_free.specs.Wanted.{WantsAt};
 ghost use Rattle.audit.specs.Audits.{Keeps, GoesTo, IsSendTo, Suits, Repeats};
 
 use crate::auditor::{Auditor, Goal};
@@ -47,7 +47,7 @@ impl Auditor<'_> {
         requires rank { rank < length self.old.sim.machines }
         requires dest { dest < length self.old.sim.machines }
         requires keeps { Keeps self.old.sim self.old.traces.items }
-        requires asks { AsksAt self.old.sim.machines rank want }
+        requires wanted { WantsAt self.old.sim.machines rank want }
         requires sends { IsSendTo dest want }
         ensures { OnOk result (GoesTo self.old.sim self.new.sim self.new.traces.items) }
     {
@@ -66,7 +66,7 @@ impl Auditor<'_> {
     fn print(&mut self, rank: u8, value: i64) -> Result<bool, AllocError>
         requires rank { rank < length self.old.sim.machines }
         requires keeps { Keeps self.old.sim self.old.traces.items }
-        requires asks { AsksAt self.old.sim.machines rank (Want.Print value) }
+        requires wanted { WantsAt self.old.sim.machines rank (Want.Print value) }
         ensures { OnOk result (GoesTo self.old.sim self.new.sim self.new.traces.items) }
     {
         let place = usize::from(rank);
@@ -84,7 +84,7 @@ impl Auditor<'_> {
     fn choose(&mut self, rank: u8, want: Want, event: Event) -> Result<bool, AllocError>
         requires rank { rank < length self.old.sim.machines }
         requires keeps { Keeps self.old.sim self.old.traces.items }
-        requires asks { AsksAt self.old.sim.machines rank want }
+        requires wanted { WantsAt self.old.sim.machines rank want }
         ensures { OnOk result (GoesTo self.old.sim self.new.sim self.new.traces.items) }
     {
         if !suits(&want, event.kind()) {

@@ -1,10 +1,10 @@
 //! The steps and acts of one rank.
 ghost use Rattle.std.specs.Prelude.{◌≡◌, ℕ, ◌<◌, ◌≤◌, IfOk, IfErr, OnOk, OnErr, length};
-ghost use Rattle.matching.specs.Message.{least_items, most_items, greatest_tag};
+ghost use Rattle.matching.specs.PacketValue.{least_items, most_items, greatest_tag};
 ghost use Rattle.rank_machine.specs.Wants.{IsLegal};
 ghost use Rattle.crash_free.specs.Sim.{Allows, Refuses};
 ghost use Rattle.crash_free.specs.Inside.{GoesInside};
-ghost use Rattle.crash_free.specs.Wanted.{AsksAt, ProbesAt, TriesAt, StandsAtAct};
+ghost use Rattle.crash_free.specs.Wanted.{WantsAt, ProbesAt, TriesAt, StandsAtAct};
 
 use crate::act::Passed;
 use crate::choice::Choice;
@@ -14,14 +14,14 @@ use matching::{Context, Packet, Selector};
 use metered::Heap;
 use rank_machine::Want;
 use rank_machine::laws::{
-    law_asks_its_state, law_makes_its_miss, law_makes_its_print, law_makes_its_send,
+    law_wants_of_its_state, law_makes_its_miss, law_makes_its_print, law_makes_its_send,
 };
 use std::alloc::AllocError;
 
 impl Sim<'_> {
     pub(super) fn go_on(&mut self, rank: u8)
         requires there { rank < length self.old.machines }
-        requires asks { AsksAt self.old.machines rank Want.Internal }
+        requires wanted { WantsAt self.old.machines rank Want.Internal }
         ensures allowed { Allows self.old rank Choice.Next self.new }
     {
         let machine = &mut self.machines[usize::from(rank)];
@@ -36,13 +36,13 @@ impl Sim<'_> {
     {
         let machine = &mut self.machines[usize::from(rank)];
         let made = machine.advance(most);
-        law_asks_its_state(machine);
+        law_wants_of_its_state(machine);
         made
     }
 
     pub(super) fn print(&mut self, rank: u8, value: i64) -> Result<(), AllocError>
         requires there { rank < length self.old.machines }
-        requires asks { AsksAt self.old.machines rank (Want.Print value) }
+        requires wanted { WantsAt self.old.machines rank (Want.Print value) }
         ensures ok { OnOk result (Allows self.old rank Choice.Next self.new) }
         ensures err { OnErr result (self.new ≡ self.old) }
     {
@@ -62,7 +62,7 @@ impl Sim<'_> {
         tag: u16,
     ) -> Result<(), AllocError>
         requires there { rank < length self.old.machines }
-        requires asks { AsksAt self.old.machines rank (Want.Send dest context tag) }
+        requires wanted { WantsAt self.old.machines rank (Want.Send dest context tag) }
         requires legal { IsLegal (length self.old.machines) (Want.Send dest context tag) }
         ensures ok { OnOk result (Allows self.old rank Choice.Next self.new) }
         ensures err { OnErr result (self.new ≡ self.old) }
@@ -88,7 +88,7 @@ impl Sim<'_> {
         index: u64,
     ) -> Result<(), NotAllowed>
         requires there { rank < length self.old.machines }
-        requires asks { AsksAt self.old.machines rank (Want.Receive selector.now) }
+        requires wanted { WantsAt self.old.machines rank (Want.Receive selector.now) }
         ensures ok { OnOk result (Allows self.old rank (Choice.Take source index) self.new) }
         ensures refused { IfErr result (λ why. Refuses self.old rank (Choice.Take source index) why) }
         ensures err { OnErr result (self.new ≡ self.old) }
@@ -117,7 +117,7 @@ impl Sim<'_> {
         index: u64,
     ) -> Result<(), NotAllowed>
         requires there { rank < length self.old.machines }
-        requires asks { ProbesAt self.old.machines rank selector.now }
+        requires wanted { ProbesAt self.old.machines rank selector.now }
         ensures ok { OnOk result (Allows self.old rank (Choice.Take source index) self.new) }
         ensures refused { IfErr result (λ why. Refuses self.old rank (Choice.Take source index) why) }
         ensures err { OnErr result (self.new ≡ self.old) }
@@ -138,7 +138,7 @@ impl Sim<'_> {
 
     pub(super) fn miss(&mut self, rank: u8) -> Result<(), AllocError>
         requires there { rank < length self.old.machines }
-        requires asks { TriesAt self.old.machines rank }
+        requires wanted { TriesAt self.old.machines rank }
         ensures ok { OnOk result (Allows self.old rank Choice.Miss self.new) }
         ensures err { OnErr result (self.new ≡ self.old) }
     {

@@ -1,7 +1,7 @@
 //! The probes of a machine: what they show, and that they show nothing.
 ghost use Rattle.std.specs.Prelude.{◌≡◌, ◌<◌, ℕ, Some, None};
 ghost use Rattle.rank_machine.specs.Acts.{next, hits, misses, carried};
-ghost use Rattle.rank_machine.specs.Machine.{state_of, asks, next_of, IsShowing, IsTrying, KeepsRank};
+ghost use Rattle.rank_machine.specs.Machine.{state_of, machine_want, next_of, IsShowing, IsTrying, KeepsRank};
 
 use crate::machine::Machine;
 use matching::Packet;
@@ -11,7 +11,7 @@ impl Machine<'_> {
     /// The probe that it wants is shown the packet, which stays where it is. The packet's source has to be a rank, so that
     /// the status always names one.
     pub fn show(&mut self, packet: &Packet)
-        requires showing { IsShowing (asks self.old) packet.now }
+        requires showing { IsShowing (machine_want self.old) packet.now }
         requires source { packet.now.source < self.old.store.size }
         ensures state { (place : ℕ) → state_of self.new ≡ next (state_of self.old) (hits packet.now.source place) (Some (carried packet.now)) }
         ensures position { self.new.position ≡ next_of self.old }
@@ -44,7 +44,7 @@ impl Machine<'_> {
 
     /// The probe that it wants, one that doesn't wait, is shown no packet.
     pub fn miss(&mut self)
-        requires { IsTrying (asks self.old) }
+        requires { IsTrying (machine_want self.old) }
         ensures state { state_of self.new ≡ next (state_of self.old) misses None }
         ensures position { self.new.position ≡ next_of self.old }
         ensures stays { KeepsRank self.old self.new }

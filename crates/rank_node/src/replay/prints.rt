@@ -1,6 +1,6 @@
 //! The prints of a rank that replays.
 ghost use Rattle.std.specs.Prelude.{◌≡◌, ◌≢◌, Ok, Err, IfOk, IfErr, OnOk, OnErr};
-ghost use Rattle.rank_machine.specs.Machine.{asks};
+ghost use Rattle.rank_machine.specs.Machine.{machine_want};
 
 use crate::fault::NodeFault;
 use crate::running::Running;
@@ -20,7 +20,7 @@ impl<'p, S: Shelf, D> Running<'p, S, D> {
         value: i64,
         event: Event,
     ) -> Result<Turn, NodeFault>
-        requires { asks self.old.machine ≡ Want.Print value }
+        requires { machine_want self.old.machine ≡ Want.Print value }
         ensures turn { IfOk result (λ turn. replay_turn_at self.old event (Want.Print value) ≡ Ok turn) }
         ensures ok { OnOk result (self.new ≡ replayed_at self.old event (Want.Print value) self.new.machine) }
         ensures machine { OnOk result (ReplayStepAt self.old event (Want.Print value) self.new.machine) }

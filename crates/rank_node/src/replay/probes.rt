@@ -1,8 +1,8 @@
 //! The probes of a rank that replays.
 ghost use Rattle.std.specs.Prelude.{◌≡◌, ◌<◌, Some, Ok, Err, length, slice_get, IfOk, IfErr, OnOk, OnErr};
 ghost use Rattle.metered.specs.Limits.{greatest_clock};
-ghost use Rattle.matching.specs.Message.{Message};
-ghost use Rattle.rank_machine.specs.Machine.{asks, IsShowing};
+ghost use Rattle.matching.specs.PacketValue.{PacketValue};
+ghost use Rattle.rank_machine.specs.Machine.{machine_want, IsShowing};
 
 use crate::fault::NodeFault;
 use crate::running::Running;
@@ -22,7 +22,7 @@ impl<'p, S: Shelf, D> Running<'p, S, D> {
         selector: &Selector,
         event: Event,
     ) -> Result<Turn, NodeFault>
-        requires { asks self.old.machine ≡ Want.Probe selector.now }
+        requires { machine_want self.old.machine ≡ Want.Probe selector.now }
         ensures turn { IfOk result (λ turn. replay_turn_at self.old event (Want.Probe selector.now) ≡ Ok turn) }
         ensures ok { OnOk result (self.new ≡ replayed_at self.old event (Want.Probe selector.now) self.new.machine) }
         ensures machine { OnOk result (ReplayStepAt self.old event (Want.Probe selector.now) self.new.machine) }
@@ -47,7 +47,7 @@ impl<'p, S: Shelf, D> Running<'p, S, D> {
     // The probe that stands and doesn't wait is shown the packet that the
     // event names, or misses where the event is a miss, whatever lies there.
     pub(crate) fn try_named(&mut self, selector: &Selector, event: Event) -> Result<Turn, NodeFault>
-        requires { asks self.old.machine ≡ Want.TryProbe selector.now }
+        requires { machine_want self.old.machine ≡ Want.TryProbe selector.now }
         ensures turn { IfOk result (λ turn. replay_turn_at self.old event (Want.TryProbe selector.now) ≡ Ok turn) }
         ensures ok { OnOk result (self.new ≡ replayed_at self.old event (Want.TryProbe selector.now) self.new.machine) }
         ensures machine { OnOk result (ReplayStepAt self.old event (Want.TryProbe selector.now) self.new.machine) }
@@ -83,7 +83,7 @@ impl<'p, S: Shelf, D> Running<'p, S, D> {
     fn show_again(&mut self, index: usize)
         requires clock { self.old.clock < greatest_clock }
         requires within { index < length self.old.inbox.packets }
-        requires fits { (m : Message) → slice_get self.old.inbox.packets index ≡ Some m → IsShowing (asks self.old.machine) m }
+        requires fits { (m : PacketValue) → slice_get self.old.inbox.packets index ≡ Some m → IsShowing (machine_want self.old.machine) m }
         ensures shown { self.new ≡ shown_named self.old self.new.machine (at_index self.old.inbox.packets index) }
         ensures machine { IsShownFound (at_index self.old.inbox.packets index) self.old.machine self.new.machine }
         ensures stays { self.new ≡ after_print self.old self.new.machine }

@@ -1,7 +1,7 @@
 //! The sends of a rank that replays.
 ghost use Rattle.std.specs.Prelude.{◌≡◌, ◌≢◌, [], Ok, Err, IfOk, IfErr, OnOk, OnErr};
 ghost use Rattle.rank_machine.specs.Wants.{IsLegal};
-ghost use Rattle.rank_machine.specs.Machine.{asks};
+ghost use Rattle.rank_machine.specs.Machine.{machine_want};
 
 use crate::fault::NodeFault;
 use crate::running::Running;
@@ -23,7 +23,7 @@ impl<'p, S: Shelf, D> Running<'p, S, D> {
         event: Event,
     ) -> Result<Turn, NodeFault>
         requires settled { self.old.pending ≡ [] }
-        requires stands { asks self.old.machine ≡ Want.Send dest context tag }
+        requires stands { machine_want self.old.machine ≡ Want.Send dest context tag }
         requires legal { IsLegal self.old.machine.store.size (Want.Send dest context tag) }
         ensures turn { IfOk result (λ turn. replay_turn_at self.old event (Want.Send dest context tag) ≡ Ok turn) }
         ensures ok { OnOk result (self.new ≡ replayed_at self.old event (Want.Send dest context tag) self.new.machine) }

@@ -1,7 +1,7 @@
 //! Steps of its own that a rank that replays makes in succession.
 ghost use Rattle.std.specs.Prelude.{◌≡◌, ◌≢◌, ◌<◌, ◌≤◌};
 ghost use Rattle.rank_machine.specs.declared.want.Want.TheVariants.{Internal};
-ghost use Rattle.rank_machine.specs.Machine.{asks, Strides};
+ghost use Rattle.rank_machine.specs.Machine.{machine_want, Strides};
 ghost use Rattle.rank_node.specs.Steps.{with_machine};
 
 use crate::replaying::Replaying;
@@ -14,7 +14,7 @@ impl<'p, S: Shelf, D> Replaying<'p, S, D> {
         ensures ok { self.new ≡ record { node = with_machine self.old.node self.new.node.machine; left = self.old.left } }
         ensures machine { Strides result self.old.node.machine self.new.node.machine }
         ensures most { result ≤ most }
-        ensures stands { result < most → asks self.new.node.machine ≢ Internal }
+        ensures stands { result < most → machine_want self.new.node.machine ≢ Internal }
     {
         self.running.stride(most)
     }

@@ -1,7 +1,7 @@
 //! Steps of the ranks at work.
 ghost use Rattle.std.specs.Prelude.{◌≡◌, ◌<◌, true, length, option_map, slice_get, IsSomeAnd, IfOk, OnErr};
 ghost use Rattle.crash_free.specs.Seen.{act_of};
-ghost use Rattle.rank_machine.specs.Machine.{asks};
+ghost use Rattle.rank_machine.specs.Machine.{machine_want};
 ghost use Rattle.rank_node.specs.Steps.{turn_of, takes_memory};
 ghost use Rattle.world_model.specs.Follows.{effect_at, stepped};
 
@@ -71,7 +71,7 @@ impl<'p> Parts<'p> {
 /// a print.
 #[tactic(auto, using(crate::proofs::DoingSteps::unmoved, crate::proofs::DoingSteps::waits_behind, crate::proofs::DoingSteps::send_takes))]
 fn effect_of(running: &Running<'_, MemoryShelf, ()>) -> Result<Option<Act>, AllocError>
-    ensures effect { IfOk result (λ act. option_map act_of act ≡ effect_at running.now (asks running.now.machine) (turn_of running.now)) }
+    ensures effect { IfOk result (λ act. option_map act_of act ≡ effect_at running.now (machine_want running.now.machine) (turn_of running.now)) }
     ensures memory { OnErr result (takes_memory running.now ≡ true) }
 {
     let Turn::Moved = running.turn() else {

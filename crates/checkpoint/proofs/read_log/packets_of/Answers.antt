@@ -1,6 +1,6 @@
 use Rattle.std.proofs.Common.{◌≡◌, ◌+◌, [], ℕ, Ok, ap, sym, ◌∙◌, subst}
 use Rattle.std.proofs.lemmas.List.{length_push}
-use Rattle.matching.specs.Message.{Message}
+use Rattle.matching.specs.PacketValue.{PacketValue}
 use Rattle.std.proofs.lemmas.Result.{err_from_is_err_and}
 use Rattle.checkpoint.specs.Reading.{Fails, many_at, kept_at, kept_above, last_clock}
 use Rattle.checkpoint.proofs.Loop.{goes_on, ends, is_done, last_clock-push, numbered_push}
@@ -35,7 +35,7 @@ loop-place-preserved c =
       count = rw pushed (length_push ms m ∙ ap (λ n. n + 1) i.count);
       numbered = rw pushed (numbered_push c.args.base ms m i.numbered (c.in_ok-packet.ensures.number ∙ ap (λ n. c.args.base + n + 1)
           (sym i.count)));
-      above = ap (λ (x : Message). x.clock) c.packet.view_is ∙ sym (ap last_clock pushed ∙ last_clock-push ms m);
+      above = ap (λ (x : PacketValue). x.clock) c.packet.view_is ∙ sym (ap last_clock pushed ∙ last_clock-push ms m);
     }
 
 pub returns-clause-read : goal.returns-clause-read

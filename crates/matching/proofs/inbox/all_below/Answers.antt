@@ -1,6 +1,6 @@
 use Rattle.std.proofs.Common.{◌<◌, ◌-◌, ◌+◌, length, sym, ap, ◌∙◌, arith}
 use Rattle.std.specs.Prelude.{nat_lt}
-use Rattle.matching.specs.Message.{Message}
+use Rattle.matching.specs.PacketValue.{PacketValue}
 use Rattle.matching.proofs.Following.{NoneFrom, last_decides, none_decides}
 use Rattle.matching.proofs.inbox.all_below.Goals as goal
 
@@ -10,9 +10,9 @@ returns-then-packet-source c =
     let i = length ms - 1 - c.loop-behind.behind in
     let within : i < length ms = omega (arith, c.loop-behind-test.true) in
     let here = c.packet.view_is ∙ c.index-packets-packets.is in
-    let own = sym (ap (λ (m : Message). m.source) here) ∙ c.if-packet-source.true in
+    let own = sym (ap (λ (m : PacketValue). m.source) here) ∙ c.if-packet-source.true in
     let none : NoneFrom c.args.source (i + 1) ms = λ k d low inside. c.loop-behind.invariant k d (omega arith) inside in
-    ap (λ (m : Message). nat_lt m.number c.args.number) here
+    ap (λ (m : PacketValue). nat_lt m.number c.args.number) here
     ∙ sym (last_decides c.args.source c.args.number i ms c.index-packets-packets.result c.requires within own none)
 
 pub returns : goal.returns

@@ -10,5 +10,5 @@ returns c =
     let next = sym c.receiver_clock.ensures.value ∙ c.if-receiver_clock-clock.false ∙ c.in-Some-next_clock.ensures in
     repeated_one c.args.self.now.sim c.act.new.self c.args.self.now.traces.items c.args.rank c.args.want c.in-Some.choice c.args.event c.from-place.result
     c.index_mut.result.now c.index.result.now c.note_event.new.self c.requires.keeps c.requires.rank c.from-place.ensures c.index.ensures
-    c.index_mut.ensures.value c.requires.asks suits c.in-Some.ensures c.receiver_clock.ensures.event (on_ok c.act.result _ was c.act.ensures.ok)
+    c.index_mut.ensures.value c.requires.wanted suits c.in-Some.ensures c.receiver_clock.ensures.event (on_ok c.act.result _ was c.act.ensures.ok)
     c.act.ensures.ranks c.act.ensures.stands next c.in_ok-note_event.ensures

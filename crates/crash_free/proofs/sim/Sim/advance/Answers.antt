@@ -27,4 +27,4 @@ returns-clause-stops c = λ less.
     let there = read_machine c.args.self.now s.program.now s.machines.items (reverse s.passed.items) c.from.result c.args.rank
     c.index_mut-machine.result.now c.self.view_is c.from.ensures c.requires.there c.index_mut-machine.ensures.value in
     rw c.from.ensures (stands_at s.machines.items c.args.rank c.index_mut-machine.result.now c.advance-made.new.self there
-    c.law_asks_its_state.ensures (c.advance-made.ensures.stands less))
+    c.law_wants_of_its_state.ensures (c.advance-made.ensures.stands less))

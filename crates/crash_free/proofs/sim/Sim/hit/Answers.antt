@@ -10,9 +10,9 @@ pub returns-in_default-clause-refused : goal.returns-in_default-clause-refused
 returns-in_default-clause-refused c =
     let s = c.self.inside in
     let run = reverse s.passed.items in
-    let p = probes_there c.args.self.now.machines c.args.rank c.args.selector.now c.requires.asks in
+    let p = probes_there c.args.self.now.machines c.args.rank c.args.selector.now c.requires.wanted in
     let known : Sought c.args.self.now s.program.now s.machines.items s.mail run c.args.rank p.want =
-    record { seen = c.self.view_is; kept = c.self.invariant; rank = c.requires.there; asks = p.asks } in
+    record { seen = c.self.view_is; kept = c.self.invariant; rank = c.requires.there; wanted = p.wanted } in
     let ranks : c.ranks-ranks.result ≡ length s.machines.items = c.ranks-ranks.ensures.value ∙ ap (λ (v : SimValue). length v.machines) (sym c.self.view_is) in
     refuses_take c.args.self.now s.program.now s.machines.items s.mail run c.args.rank c.args.source c.args.index p.want c.args.selector.now hits p.seeks known
     (λ low. c.in_default.ensures.none refl (rw ranks low))
@@ -21,9 +21,9 @@ pub returns-then-is_err-clause-refused : goal.returns-then-is_err-clause-refused
 returns-then-is_err-clause-refused c =
     let s = c.self.inside in
     let run = reverse s.passed.items in
-    let p = probes_there c.args.self.now.machines c.args.rank c.args.selector.now c.requires.asks in
+    let p = probes_there c.args.self.now.machines c.args.rank c.args.selector.now c.requires.wanted in
     let known : Sought c.args.self.now s.program.now s.machines.items s.mail run c.args.rank p.want =
-    record { seen = c.self.view_is; kept = c.self.invariant; rank = c.requires.there; asks = p.asks } in
+    record { seen = c.self.view_is; kept = c.self.invariant; rank = c.requires.there; wanted = p.wanted } in
     let ranks : c.ranks-ranks.result ≡ length s.machines.items = c.ranks-ranks.ensures.value ∙ ap (λ (v : SimValue). length v.machines) (sym c.self.view_is) in
     let found : Found s.machines.items s.mail c.args.rank c.args.selector.now c.args.source c.args.index c.in-Some.source c.in-Some.place =
     record {
@@ -39,9 +39,9 @@ pub look-packet-requires-clause-there : goal.look-packet-requires-clause-there
 look-packet-requires-clause-there c =
     let s = c.self.inside in
     let run = reverse s.passed.items in
-    let p = probes_there c.args.self.now.machines c.args.rank c.args.selector.now c.requires.asks in
+    let p = probes_there c.args.self.now.machines c.args.rank c.args.selector.now c.requires.wanted in
     let known : Sought c.args.self.now s.program.now s.machines.items s.mail run c.args.rank p.want =
-    record { seen = c.self.view_is; kept = c.self.invariant; rank = c.requires.there; asks = p.asks } in
+    record { seen = c.self.view_is; kept = c.self.invariant; rank = c.requires.there; wanted = p.wanted } in
     let ranks : c.ranks-ranks.result ≡ length s.machines.items = c.ranks-ranks.ensures.value ∙ ap (λ (v : SimValue). length v.machines) (sym c.self.view_is) in
     let found : Found s.machines.items s.mail c.args.rank c.args.selector.now c.args.source c.args.index c.in-Some.source c.in-Some.place =
     record {
@@ -57,9 +57,9 @@ pub show-requires : goal.show-requires
 show-requires c =
     let s = c.self.inside in
     let run = reverse s.passed.items in
-    let p = probes_there c.args.self.now.machines c.args.rank c.args.selector.now c.requires.asks in
+    let p = probes_there c.args.self.now.machines c.args.rank c.args.selector.now c.requires.wanted in
     let known : Sought c.args.self.now s.program.now s.machines.items s.mail run c.args.rank p.want =
-    record { seen = c.self.view_is; kept = c.self.invariant; rank = c.requires.there; asks = p.asks } in
+    record { seen = c.self.view_is; kept = c.self.invariant; rank = c.requires.there; wanted = p.wanted } in
     let ranks : c.ranks-ranks.result ≡ length s.machines.items = c.ranks-ranks.ensures.value ∙ ap (λ (v : SimValue). length v.machines) (sym c.self.view_is) in
     let found : Found s.machines.items s.mail c.args.rank c.args.selector.now c.args.source c.args.index c.in-Some.source c.in-Some.place =
     record {
@@ -69,7 +69,7 @@ show-requires c =
       first = c.in-Some.ensures.first;
     } in
     let at = found_machine c.args.self.now s.program.now s.machines.items run c.from.result c.args.rank c.index_mut-machine.result.now
-    p.want c.self.view_is c.from.ensures c.requires.there p.asks c.index_mut-machine.ensures.value in
+    p.want c.self.view_is c.from.ensures c.requires.there p.wanted c.index_mut-machine.ensures.value in
     record {
       showing = may_show c.index_mut-machine.result.now p.want c.look-packet.result.now at.1
           (p.shows c.look-packet.result.now (packet_matches _ c.in-Some.place c.args.selector.now c.look-packet.result.now found.first c.look-packet.ensures));
@@ -81,9 +81,9 @@ pub invariant_of-self-2 : goal.invariant_of-self-2
 invariant_of-self-2 c =
     let s = c.self.inside in
     let run = reverse s.passed.items in
-    let p = probes_there c.args.self.now.machines c.args.rank c.args.selector.now c.requires.asks in
+    let p = probes_there c.args.self.now.machines c.args.rank c.args.selector.now c.requires.wanted in
     let known : Sought c.args.self.now s.program.now s.machines.items s.mail run c.args.rank p.want =
-    record { seen = c.self.view_is; kept = c.self.invariant; rank = c.requires.there; asks = p.asks } in
+    record { seen = c.self.view_is; kept = c.self.invariant; rank = c.requires.there; wanted = p.wanted } in
     let ranks : c.ranks-ranks.result ≡ length s.machines.items = c.ranks-ranks.ensures.value ∙ ap (λ (v : SimValue). length v.machines) (sym c.self.view_is) in
     let found : Found s.machines.items s.mail c.args.rank c.args.selector.now c.args.source c.args.index c.in-Some.source c.in-Some.place =
     record {
@@ -93,7 +93,7 @@ invariant_of-self-2 c =
       first = c.in-Some.ensures.first;
     } in
     let at = found_machine c.args.self.now s.program.now s.machines.items run c.from.result c.args.rank c.index_mut-machine.result.now
-    p.want c.self.view_is c.from.ensures c.requires.there p.asks c.index_mut-machine.ensures.value in
+    p.want c.self.view_is c.from.ensures c.requires.there p.wanted c.index_mut-machine.ensures.value in
     let done = done_hit s.program.now s.machines.items s.mail run c.args.rank c.args.source c.args.index c.in-Some.source c.in-Some.place
     c.index_mut-machine.result.now
     c.show.new.self p.want c.args.selector.now c.look-packet.result.now p.seeks c.self.invariant at.0 at.1 found c.look-packet.ensures c.show.ensures.state
@@ -105,9 +105,9 @@ pub returns-clause-ok : goal.returns-clause-ok
 returns-clause-ok c =
     let s = c.self.inside in
     let run = reverse s.passed.items in
-    let p = probes_there c.args.self.now.machines c.args.rank c.args.selector.now c.requires.asks in
+    let p = probes_there c.args.self.now.machines c.args.rank c.args.selector.now c.requires.wanted in
     let known : Sought c.args.self.now s.program.now s.machines.items s.mail run c.args.rank p.want =
-    record { seen = c.self.view_is; kept = c.self.invariant; rank = c.requires.there; asks = p.asks } in
+    record { seen = c.self.view_is; kept = c.self.invariant; rank = c.requires.there; wanted = p.wanted } in
     let ranks : c.ranks-ranks.result ≡ length s.machines.items = c.ranks-ranks.ensures.value ∙ ap (λ (v : SimValue). length v.machines) (sym c.self.view_is) in
     let found : Found s.machines.items s.mail c.args.rank c.args.selector.now c.args.source c.args.index c.in-Some.source c.in-Some.place =
     record {
@@ -117,7 +117,7 @@ returns-clause-ok c =
       first = c.in-Some.ensures.first;
     } in
     let at = found_machine c.args.self.now s.program.now s.machines.items run c.from.result c.args.rank c.index_mut-machine.result.now
-    p.want c.self.view_is c.from.ensures c.requires.there p.asks c.index_mut-machine.ensures.value in
+    p.want c.self.view_is c.from.ensures c.requires.there p.wanted c.index_mut-machine.ensures.value in
     let done = done_hit s.program.now s.machines.items s.mail run c.args.rank c.args.source c.args.index c.in-Some.source c.in-Some.place
     c.index_mut-machine.result.now
     c.show.new.self p.want c.args.selector.now c.look-packet.result.now p.seeks c.self.invariant at.0 at.1 found c.look-packet.ensures c.show.ensures.state

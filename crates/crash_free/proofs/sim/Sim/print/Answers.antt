@@ -11,7 +11,7 @@ invariant_of-self-2 c =
     let s = c.self.inside in
     let run = reverse s.passed.items in
     let at = found_machine c.args.self.now s.program.now s.machines.items run c.from.result c.args.rank c.index_mut-machine.result.now
-    (Print c.args.value) c.self.view_is c.from.ensures c.requires.there c.requires.asks c.index_mut-machine.ensures.value in
+    (Print c.args.value) c.self.view_is c.from.ensures c.requires.there c.requires.wanted c.index_mut-machine.ensures.value in
     let made = c.law_makes_its_print.ensures c.args.value at.1.at_want in
     let done = done_print s.program.now s.machines.items s.mail run c.args.rank c.index_mut-machine.result.now c.did_print.new.self c.args.value
     c.self.invariant at.0 at.1 made (c.did_print.ensures.state (prints c.args.value) None made) c.did_print.ensures.position c.did_print.ensures.stays in
@@ -23,7 +23,7 @@ returns-clause-ok c =
     let s = c.self.inside in
     let run = reverse s.passed.items in
     let at = found_machine c.args.self.now s.program.now s.machines.items run c.from.result c.args.rank c.index_mut-machine.result.now
-    (Print c.args.value) c.self.view_is c.from.ensures c.requires.there c.requires.asks c.index_mut-machine.ensures.value in
+    (Print c.args.value) c.self.view_is c.from.ensures c.requires.there c.requires.wanted c.index_mut-machine.ensures.value in
     let made = c.law_makes_its_print.ensures c.args.value at.1.at_want in
     let done = done_print s.program.now s.machines.items s.mail run c.args.rank c.index_mut-machine.result.now c.did_print.new.self c.args.value
     c.self.invariant at.0 at.1 made (c.did_print.ensures.state (prints c.args.value) None made) c.did_print.ensures.position c.did_print.ensures.stays in

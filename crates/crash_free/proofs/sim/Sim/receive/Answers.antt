@@ -12,7 +12,7 @@ returns-in_default-clause-refused c =
     let s = c.self.inside in
     let run = reverse s.passed.items in
     let known : Sought c.args.self.now s.program.now s.machines.items s.mail run c.args.rank (Receive c.args.selector.now) =
-    record { seen = c.self.view_is; kept = c.self.invariant; rank = c.requires.there; asks = c.requires.asks } in
+    record { seen = c.self.view_is; kept = c.self.invariant; rank = c.requires.there; wanted = c.requires.wanted } in
     let ranks : c.ranks-ranks.result ≡ length s.machines.items = c.ranks-ranks.ensures.value ∙ ap (λ (v : SimValue). length v.machines) (sym c.self.view_is) in
     refuses_take c.args.self.now s.program.now s.machines.items s.mail run c.args.rank c.args.source c.args.index
     (Receive c.args.selector.now) c.args.selector.now takes (receiving c.args.selector.now) known
@@ -23,7 +23,7 @@ returns-then-is_err-clause-refused c =
     let s = c.self.inside in
     let run = reverse s.passed.items in
     let known : Sought c.args.self.now s.program.now s.machines.items s.mail run c.args.rank (Receive c.args.selector.now) =
-    record { seen = c.self.view_is; kept = c.self.invariant; rank = c.requires.there; asks = c.requires.asks } in
+    record { seen = c.self.view_is; kept = c.self.invariant; rank = c.requires.there; wanted = c.requires.wanted } in
     let ranks : c.ranks-ranks.result ≡ length s.machines.items = c.ranks-ranks.ensures.value ∙ ap (λ (v : SimValue). length v.machines) (sym c.self.view_is) in
     let found : Found s.machines.items s.mail c.args.rank c.args.selector.now c.args.source c.args.index c.in-Some.source c.in-Some.place =
     record {
@@ -40,7 +40,7 @@ take-packet-requires-clause-there c =
     let s = c.self.inside in
     let run = reverse s.passed.items in
     let known : Sought c.args.self.now s.program.now s.machines.items s.mail run c.args.rank (Receive c.args.selector.now) =
-    record { seen = c.self.view_is; kept = c.self.invariant; rank = c.requires.there; asks = c.requires.asks } in
+    record { seen = c.self.view_is; kept = c.self.invariant; rank = c.requires.there; wanted = c.requires.wanted } in
     let ranks : c.ranks-ranks.result ≡ length s.machines.items = c.ranks-ranks.ensures.value ∙ ap (λ (v : SimValue). length v.machines) (sym c.self.view_is) in
     let found : Found s.machines.items s.mail c.args.rank c.args.selector.now c.args.source c.args.index c.in-Some.source c.in-Some.place =
     record {
@@ -57,7 +57,7 @@ give-requires c =
     let s = c.self.inside in
     let run = reverse s.passed.items in
     let known : Sought c.args.self.now s.program.now s.machines.items s.mail run c.args.rank (Receive c.args.selector.now) =
-    record { seen = c.self.view_is; kept = c.self.invariant; rank = c.requires.there; asks = c.requires.asks } in
+    record { seen = c.self.view_is; kept = c.self.invariant; rank = c.requires.there; wanted = c.requires.wanted } in
     let ranks : c.ranks-ranks.result ≡ length s.machines.items = c.ranks-ranks.ensures.value ∙ ap (λ (v : SimValue). length v.machines) (sym c.self.view_is) in
     let found : Found s.machines.items s.mail c.args.rank c.args.selector.now c.args.source c.args.index c.in-Some.source c.in-Some.place =
     record {
@@ -67,7 +67,7 @@ give-requires c =
       first = c.in-Some.ensures.first;
     } in
     let at = found_machine c.args.self.now s.program.now s.machines.items run c.from.result c.args.rank c.index_mut-machine.result.now
-    (Receive c.args.selector.now) c.self.view_is c.from.ensures c.requires.there c.requires.asks c.index_mut-machine.ensures.value in
+    (Receive c.args.selector.now) c.self.view_is c.from.ensures c.requires.there c.requires.wanted c.index_mut-machine.ensures.value in
     record {
       receiving = may_give c.index_mut-machine.result.now c.args.selector.now c.take-packet.result at.1
           (packet_matches _ c.in-Some.place c.args.selector.now c.take-packet.result found.first c.take-packet.ensures.packet);
@@ -80,7 +80,7 @@ invariant_of-self-2 c =
     let s = c.self.inside in
     let run = reverse s.passed.items in
     let known : Sought c.args.self.now s.program.now s.machines.items s.mail run c.args.rank (Receive c.args.selector.now) =
-    record { seen = c.self.view_is; kept = c.self.invariant; rank = c.requires.there; asks = c.requires.asks } in
+    record { seen = c.self.view_is; kept = c.self.invariant; rank = c.requires.there; wanted = c.requires.wanted } in
     let ranks : c.ranks-ranks.result ≡ length s.machines.items = c.ranks-ranks.ensures.value ∙ ap (λ (v : SimValue). length v.machines) (sym c.self.view_is) in
     let found : Found s.machines.items s.mail c.args.rank c.args.selector.now c.args.source c.args.index c.in-Some.source c.in-Some.place =
     record {
@@ -90,7 +90,7 @@ invariant_of-self-2 c =
       first = c.in-Some.ensures.first;
     } in
     let at = found_machine c.args.self.now s.program.now s.machines.items run c.from.result c.args.rank c.index_mut-machine.result.now
-    (Receive c.args.selector.now) c.self.view_is c.from.ensures c.requires.there c.requires.asks c.index_mut-machine.ensures.value in
+    (Receive c.args.selector.now) c.self.view_is c.from.ensures c.requires.there c.requires.wanted c.index_mut-machine.ensures.value in
     let done = done_take s.program.now s.machines.items s.mail run c.args.rank c.args.source c.args.index c.in-Some.source c.in-Some.place
     c.index_mut-machine.result.now
     c.give.new.self c.args.selector.now c.take-packet.result c.self.invariant at.0 at.1 found c.take-packet.ensures.packet c.give.ensures.state
@@ -103,7 +103,7 @@ returns-clause-ok c =
     let s = c.self.inside in
     let run = reverse s.passed.items in
     let known : Sought c.args.self.now s.program.now s.machines.items s.mail run c.args.rank (Receive c.args.selector.now) =
-    record { seen = c.self.view_is; kept = c.self.invariant; rank = c.requires.there; asks = c.requires.asks } in
+    record { seen = c.self.view_is; kept = c.self.invariant; rank = c.requires.there; wanted = c.requires.wanted } in
     let ranks : c.ranks-ranks.result ≡ length s.machines.items = c.ranks-ranks.ensures.value ∙ ap (λ (v : SimValue). length v.machines) (sym c.self.view_is) in
     let found : Found s.machines.items s.mail c.args.rank c.args.selector.now c.args.source c.args.index c.in-Some.source c.in-Some.place =
     record {
@@ -113,7 +113,7 @@ returns-clause-ok c =
       first = c.in-Some.ensures.first;
     } in
     let at = found_machine c.args.self.now s.program.now s.machines.items run c.from.result c.args.rank c.index_mut-machine.result.now
-    (Receive c.args.selector.now) c.self.view_is c.from.ensures c.requires.there c.requires.asks c.index_mut-machine.ensures.value in
+    (Receive c.args.selector.now) c.self.view_is c.from.ensures c.requires.there c.requires.wanted c.index_mut-machine.ensures.value in
     let done = done_take s.program.now s.machines.items s.mail run c.args.rank c.args.source c.args.index c.in-Some.source c.in-Some.place
     c.index_mut-machine.result.now
     c.give.new.self c.args.selector.now c.take-packet.result c.self.invariant at.0 at.1 found c.take-packet.ensures.packet c.give.ensures.state

@@ -10,7 +10,7 @@ invariant_of-self-2 c =
     let s = c.self.inside in
     let run = reverse s.passed.items in
     let at = found_machine c.args.self.now s.program.now s.machines.items run c.from.result c.args.rank c.index_mut-machine.result.now
-    (Send c.args.dest c.args.context c.args.tag) c.self.view_is c.from.ensures c.requires.there c.requires.asks c.index_mut-machine.ensures.value in
+    (Send c.args.dest c.args.context c.args.tag) c.self.view_is c.from.ensures c.requires.there c.requires.wanted c.index_mut-machine.ensures.value in
     let legal : c.args.dest < length s.machines.items = rw (ap (λ (v : SimValue). length v.machines) c.self.view_is) c.requires.legal.0 in
     let made = c.law_makes_its_send.ensures c.args.dest c.args.context c.args.tag at.1.at_want in
     let done = done_send s.program.now s.machines.items s.mail run c.args.rank c.index_mut-machine.result.now c.did_send.new.self c.args.dest c.args.context
@@ -33,7 +33,7 @@ returns-clause-ok c =
     let s = c.self.inside in
     let run = reverse s.passed.items in
     let at = found_machine c.args.self.now s.program.now s.machines.items run c.from.result c.args.rank c.index_mut-machine.result.now
-    (Send c.args.dest c.args.context c.args.tag) c.self.view_is c.from.ensures c.requires.there c.requires.asks c.index_mut-machine.ensures.value in
+    (Send c.args.dest c.args.context c.args.tag) c.self.view_is c.from.ensures c.requires.there c.requires.wanted c.index_mut-machine.ensures.value in
     let legal : c.args.dest < length s.machines.items = rw (ap (λ (v : SimValue). length v.machines) c.self.view_is) c.requires.legal.0 in
     let made = c.law_makes_its_send.ensures c.args.dest c.args.context c.args.tag at.1.at_want in
     let done = done_send s.program.now s.machines.items s.mail run c.args.rank c.index_mut-machine.result.now c.did_send.new.self c.args.dest c.args.context

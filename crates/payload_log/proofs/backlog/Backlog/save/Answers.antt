@@ -1,5 +1,5 @@
 use Rattle.std.proofs.Common.{◌≡◌, ◌+◌, [], ap, sym, subst, ◌∙◌}
-use Rattle.matching.specs.Message.{Message}
+use Rattle.matching.specs.PacketValue.{PacketValue}
 use Rattle.payload_log.specs.Backlog.{BacklogValue, IsBacklog, backlog_of}
 use Rattle.payload_log.specs.declared.backlog.Backlog.TheInside.{Inside}
 use Rattle.payload_log.proofs.BacklogLemmas.{is_backlog_kept, is_backlog_let_go}
@@ -12,7 +12,7 @@ invariant_of-self-2 c =
     let number = c.packet.inside.number in
     let b = backlog_of k.base k.sent k.cursor k.packets.items in
     let none : b.held ≡ [] = ap (λ (d : BacklogValue). d.held) c.self.view_is ∙ c.requires.none_held in
-    let is : number ≡ c.args.packet.number = ap (λ (m : Message). m.number) c.packet.view_is in
+    let is : number ≡ c.args.packet.number = ap (λ (m : PacketValue). m.number) c.packet.view_is in
     let next = c.requires.next ∙ ap (λ (d : BacklogValue). d.sent + 1) (sym c.self.view_is) in
     elim c.if-self-number.branch [
       | then-self-number+in_default w ↦ subst (λ (z : Inside). IsBacklog (backlog_of z.base number z.cursor z.packets.items)) (sym w.self-inside-is)

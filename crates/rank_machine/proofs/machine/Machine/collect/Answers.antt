@@ -1,5 +1,5 @@
 use Rattle.std.proofs.Common.{◌≡◌, ℤ, List, Ok, Err, refl, sym, ap, subst, ◌∙◌}
-use Rattle.matching.specs.Message.{Message}
+use Rattle.matching.specs.PacketValue.{PacketValue}
 use Rattle.rank_language.specs.Seen.{collective_of}
 use Rattle.rank_machine.specs.Values.{Valued}
 use Rattle.rank_machine.specs.Collectives.{Call, called}
@@ -27,7 +27,7 @@ invariant_of-self c =
     let k = c.in-Ok.call in
     let call = call_of m.store x k in
     let p = c.args.packet.now in
-    let Items : Message → List ℤ = λ z. z.items in
+    let Items : PacketValue → List ℤ = λ z. z.items in
     let items : c.deref.result.now ≡ p.items = c.deref.ensures.value ∙ ap Items c.packet.view_is in
     let t = c.in-Err.ensures.fault c.in-Err.fault refl in
     let Taken : List ℤ → Type 0 = λ z. items_taken m.store x (head_of k) z ≡ Err c.in-Err.fault in
@@ -45,7 +45,7 @@ invariant_of-self-then-is_last c =
     let call = call_of m.store x k in
     let i = seen_part m c.args.self.now x call k.ordinal c.self.view_is r.at_line r.line r.behind (sym c.in-Ok.ensures.call) c.in-Ok.ensures.ordinal in
     let p = c.args.packet.now in
-    let Items : Message → List ℤ = λ z. z.items in
+    let Items : PacketValue → List ℤ = λ z. z.items in
     let items : c.deref.result.now ≡ p.items = c.deref.ensures.value ∙ ap Items c.packet.view_is in
     let t = c.in-Ok-collect.ensures.taken in
     let Taken : List ℤ → Type 0 = λ z. items_taken m.store x (head_of k) z ≡ Ok t.0 in
@@ -65,7 +65,7 @@ invariant_of-self-else-is_last c =
     let call = call_of m.store x k in
     let i = seen_part m c.args.self.now x call k.ordinal c.self.view_is r.at_line r.line r.behind (sym c.in-Ok.ensures.call) c.in-Ok.ensures.ordinal in
     let p = c.args.packet.now in
-    let Items : Message → List ℤ = λ z. z.items in
+    let Items : PacketValue → List ℤ = λ z. z.items in
     let items : c.deref.result.now ≡ p.items = c.deref.ensures.value ∙ ap Items c.packet.view_is in
     let t = c.in-Ok-collect.ensures.taken in
     let Taken : List ℤ → Type 0 = λ z. items_taken m.store x (head_of k) z ≡ Ok t.0 in
@@ -85,7 +85,7 @@ returns-in-Err-clause-state c =
     let call = call_of m.store x k in
     let i = seen_part m c.args.self.now x call k.ordinal c.self.view_is r.at_line r.line r.behind (sym c.in-Ok.ensures.call) c.in-Ok.ensures.ordinal in
     let p = c.args.packet.now in
-    let Items : Message → List ℤ = λ z. z.items in
+    let Items : PacketValue → List ℤ = λ z. z.items in
     let items : c.deref.result.now ≡ p.items = c.deref.ensures.value ∙ ap Items c.packet.view_is in
     let t = c.in-Err.ensures.fault c.in-Err.fault refl in
     let Taken : List ℤ → Type 0 = λ z. items_taken m.store x (head_of k) z ≡ Err c.in-Err.fault in
@@ -103,7 +103,7 @@ returns-in-Ok-collect-clause-state c =
     let call = call_of m.store x k in
     let i = seen_part m c.args.self.now x call k.ordinal c.self.view_is r.at_line r.line r.behind (sym c.in-Ok.ensures.call) c.in-Ok.ensures.ordinal in
     let p = c.args.packet.now in
-    let Items : Message → List ℤ = λ z. z.items in
+    let Items : PacketValue → List ℤ = λ z. z.items in
     let items : c.deref.result.now ≡ p.items = c.deref.ensures.value ∙ ap Items c.packet.view_is in
     let t = c.in-Ok-collect.ensures.taken in
     let Taken : List ℤ → Type 0 = λ z. items_taken m.store x (head_of k) z ≡ Ok t.0 in
@@ -121,7 +121,7 @@ returns-else-is_last-clause-state c =
     let call = call_of m.store x k in
     let i = seen_part m c.args.self.now x call k.ordinal c.self.view_is r.at_line r.line r.behind (sym c.in-Ok.ensures.call) c.in-Ok.ensures.ordinal in
     let p = c.args.packet.now in
-    let Items : Message → List ℤ = λ z. z.items in
+    let Items : PacketValue → List ℤ = λ z. z.items in
     let items : c.deref.result.now ≡ p.items = c.deref.ensures.value ∙ ap Items c.packet.view_is in
     let t = c.in-Ok-collect.ensures.taken in
     let Taken : List ℤ → Type 0 = λ z. items_taken m.store x (head_of k) z ≡ Ok t.0 in

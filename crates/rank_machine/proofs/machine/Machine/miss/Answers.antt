@@ -1,6 +1,6 @@
 use Rattle.std.proofs.Common.{true, sym, refl, subst}
 use Rattle.rank_language.specs.Program.{block_of}
-use Rattle.rank_machine.specs.Machine.{MachineValue, asks, IsTrying}
+use Rattle.rank_machine.specs.Machine.{MachineValue, machine_want, IsTrying}
 use Rattle.rank_machine.proofs.Standing.{past_wants_none}
 use Rattle.rank_machine.proofs.Acting.{shows_flag, plain_machine}
 use Rattle.rank_machine.proofs.machine.Machine.miss.Goals as goal
@@ -9,7 +9,7 @@ pub unreachable-requires : goal.unreachable-requires
 unreachable-requires c =
     let m = c.self.inside in
     let h = c.in_default.ensures in
-    let P : MachineValue → Type 0 = λ v. IsTrying (asks v) in
+    let P : MachineValue → Type 0 = λ v. IsTrying (machine_want v) in
     let w = subst P (sym c.self.view_is) c.requires in
     past_wants_none IsTrying _ m.fault (block_of m.program.now) m.position m.store (sym h.line)
     c.self.invariant.limits.position (h.past.0 refl) (λ f z. z) (λ z. z) (λ z. z) w

@@ -1,5 +1,5 @@
 use Rattle.std.proofs.Common.{◌≡◌, ℕ, length, ap, subst, ◌∙◌}
-use Rattle.matching.specs.Message.{Message, IsMessage}
+use Rattle.matching.specs.PacketValue.{PacketValue, IsPacketValue}
 use Rattle.rank_language.specs.Seen.{buffer_of}
 use Rattle.rank_machine.specs.Machine.{MachineValue}
 use Rattle.rank_machine.proofs.Receiving.{seen_taking, long_state, fit_state, fit_machine}
@@ -13,9 +13,9 @@ returns-then-len-room-clause-state c =
     let r = c.requires in
     let p = c.args.packet.now in
     let b = buffer_of c.args.buffer.now in
-    let message = subst IsMessage c.packet.view_is c.packet.invariant in
+    let message = subst IsPacketValue c.packet.view_is c.packet.invariant in
     let i = seen_taking m c.args.self.now r.line.0 r.line.1 b p c.self.view_is message r.at_line r.line.2 r.receiving in
-    let Size : Message → ℕ = λ z. length z.items in
+    let Size : PacketValue → ℕ = λ z. length z.items in
     let size : c.len.result ≡ length p.items = c.len.ensures ∙ c.packet.inside.payload.ok.0 ∙ ap Size c.packet.view_is in
     long_state m c.args.self.now r.line.0 r.line.1 b p c.self.view_is i (rw (c.room.ensures, size) at c.if-len-room.true)
 
@@ -27,7 +27,7 @@ invariant_of-self-2 c =
     let r = c.requires in
     let p = c.args.packet.now in
     let b = buffer_of c.args.buffer.now in
-    let message = subst IsMessage c.packet.view_is c.packet.invariant in
+    let message = subst IsPacketValue c.packet.view_is c.packet.invariant in
     let i = seen_taking m c.args.self.now r.line.0 r.line.1 b p c.self.view_is message r.at_line r.line.2 r.receiving in
     fit_machine m c.args.self.now r.line.0 r.line.1 b p _ c.self.view_is c.self.invariant i c.take.ensures.stored c.take.ensures.lengths r.source r.behind
 
@@ -39,8 +39,8 @@ returns-clause-state c =
     let r = c.requires in
     let p = c.args.packet.now in
     let b = buffer_of c.args.buffer.now in
-    let message = subst IsMessage c.packet.view_is c.packet.invariant in
+    let message = subst IsPacketValue c.packet.view_is c.packet.invariant in
     let i = seen_taking m c.args.self.now r.line.0 r.line.1 b p c.self.view_is message r.at_line r.line.2 r.receiving in
-    let Size : Message → ℕ = λ z. length z.items in
+    let Size : PacketValue → ℕ = λ z. length z.items in
     let size : c.len.result ≡ length p.items = c.len.ensures ∙ c.packet.inside.payload.ok.0 ∙ ap Size c.packet.view_is in
     fit_state m c.args.self.now r.line.0 r.line.1 b p _ c.self.view_is i (rw (c.room.ensures, size) at c.if-len-room.false) c.take.ensures.stored

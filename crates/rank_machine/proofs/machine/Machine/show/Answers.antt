@@ -1,7 +1,7 @@
 use Rattle.std.proofs.Common.{true, ◌<◌, sym, refl, subst}
 use Rattle.rank_language.specs.Program.{block_of}
 use Rattle.rank_machine.specs.Acts.{carried}
-use Rattle.rank_machine.specs.Machine.{MachineValue, asks, IsShowing}
+use Rattle.rank_machine.specs.Machine.{MachineValue, machine_want, IsShowing}
 use Rattle.rank_machine.proofs.Standing.{past_wants_none}
 use Rattle.rank_machine.proofs.Between.{shown_few}
 use Rattle.rank_machine.proofs.Acting.{shows_same, shows_flag, shows_status, plain_machine}
@@ -12,7 +12,7 @@ pub unreachable-requires : goal.unreachable-requires
 unreachable-requires c =
     let m = c.self.inside in
     let h = c.in_default.ensures in
-    let P : MachineValue → Type 0 = λ v. IsShowing (asks v) c.args.packet.now in
+    let P : MachineValue → Type 0 = λ v. IsShowing (machine_want v) c.args.packet.now in
     let w = subst P (sym c.self.view_is) c.requires.showing in
     past_wants_none (λ u. IsShowing u c.args.packet.now) _ m.fault (block_of m.program.now) m.position m.store (sym h.line)
     c.self.invariant.limits.position (h.past.0 refl) (λ f z. z) (λ z. z) (λ z. z) w

@@ -1,5 +1,5 @@
 use Rattle.std.proofs.Common.{rules, ◌≡◌, ◌+◌, ◌<◌, length, refl}
-use Rattle.matching.specs.Message.{Message}
+use Rattle.matching.specs.PacketValue.{PacketValue}
 use Rattle.rank_node.proofs.Again.{none_held}
 use Rattle.rank_node.proofs.Sent.{log_saved}
 use Rattle.rank_node.proofs.running.Running.send_again.Goals as goal
@@ -8,7 +8,7 @@ pub invariant_of-self-2 : goal.invariant_of-self-2
 invariant_of-self-2 g c =
     let log = c.self.inside.log in
     let waiting = c.self.inside.pending.waiting in
-    let packet : Message = record {
+    let packet : PacketValue = record {
       source = c.rank.result;
       clock = c.self.inside.clock + 1;
       number = c.sent.result + 1;
