@@ -56,7 +56,8 @@ saved_below : (b : BacklogValue) (m : PacketValue) → m.number ≤ b.base → s
 saved_below b m le = ap (λ (t : Bool). record b { sent = b.sent + 1; kept = if t then b.kept ++ m ∷ [] else b.kept }) (not_above b.base m.number le)
 
 -- a backlog stays one with a packet that is saved, where what is held goes on from there
-is_backlog_saved : (b : BacklogValue) (m : PacketValue) (held : List PacketValue) → IsBacklog b → m.number ≡ b.sent + 1 → b.sent + 1 + length held ≤ greatest_clock
+is_backlog_saved : (b : BacklogValue) (m : PacketValue) (held : List PacketValue) → IsBacklog b → m.number ≡ b.sent + 1
+    → b.sent + 1 + length held ≤ greatest_clock
     → AreNumbered (b.sent + 1) held → IsBacklog (saved (record b { held = held }) m)
 is_backlog_saved b m held is next high numbers = at (cases_lt b.base m.number)
   where

@@ -209,7 +209,8 @@ try_probe_spelled ts =
     pattern_comma (pattern_at ts) ts
     (λ s us. pattern_at us >>= (λ g. comma g.1 >>= (λ vs. lone_name vs >>= (λ x. Some (try_probe_form s g.0 x)))))
     (t.Keyword k.Iprobe ∷ ts) (pattern_spelled ts) (λ s ds us dd q.
-    pattern_comma (pattern_at us) us (λ g vs. lone_name vs >>= (λ x. Some (try_probe_form s g x))) (t.Keyword k.Iprobe ∷ ts) (pattern_spelled us) (λ g gs vs dg r.
+    pattern_comma (pattern_at us) us (λ g vs. lone_name vs >>= (λ x. Some (try_probe_form s g x)))
+    (t.Keyword k.Iprobe ∷ ts) (pattern_spelled us) (λ g gs vs dg r.
     last_name vs (try_probe_form s g) (t.Keyword k.Iprobe ∷ ts) (λ x l.
     subst (λ z. IsForm (t.Keyword k.Iprobe ∷ z) (try_probe_form s g x))
     (sym (q ∙ ap (λ z. ds ++ t.Comma ∷ z) (r ∙ ap (λ z. gs ++ t.Comma ∷ z) l))) (is_try_probe dd dg))))

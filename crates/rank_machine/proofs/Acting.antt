@@ -11,7 +11,7 @@ use Rattle.rank_machine.specs.declared.fault.MachineFault.{MachineFault}
 use Rattle.rank_machine.specs.declared.want.Want.{Want}
 use Rattle.rank_machine.specs.declared.want.Want.TheVariants as want
 use Rattle.rank_machine.specs.Values.{Store, Valued, ◌>>=◌}
-use Rattle.rank_machine.specs.Collectives.{Call, called, part_of, is_last, counted, passed, greatest_ordinal}
+use Rattle.rank_machine.specs.Collectives.{Call, called, part_of, is_last, counted, part_done, greatest_ordinal}
 use Rattle.rank_machine.specs.Acts.{Message, with_variable, with_status}
 use Rattle.rank_machine.specs.Wants.{part_want, collective_want, or_fault, want_of}
 use Rattle.rank_machine.specs.Machine.{MachineValue, line_at, machine_want_at, machine_want, next_of, call_at, HasStage, IsAtLine, IsWithinLimits, IsMachine}
@@ -164,8 +164,8 @@ passed_within m s false p i k f v a l =
 
 -- so a machine is within its limits after a part
 pub part_within : (m : MachineValue) (s : Store) (call : Call) (p : ℕ) → IsWithinLimits m → Leaves m.store s → m.store.finished + 1 ≤ greatest_ordinal
-    → length (passed s call).variables ≡ length m.store.variables → map length (passed s call).arrays ≡ map length m.store.arrays
-    → p ≤ size (block_of m.program) → IsWithinLimits (record m { store = passed s call; position = p })
+    → length (part_done s call).variables ≡ length m.store.variables → map length (part_done s call).arrays ≡ map length m.store.arrays
+    → p ≤ size (block_of m.program) → IsWithinLimits (record m { store = part_done s call; position = p })
 part_within m s call p i k f v a l = passed_within m s (is_last s call) p i k f v a l
 
 -- what is passed has the same variables and arrays

@@ -7,7 +7,7 @@ use Rattle.rank_language.specs.Placed.{barrier, broadcast, reduce, collect}
 use Rattle.rank_language.specs.Block.{Block, plain}
 use Rattle.rank_machine.specs.declared.fault.MachineFault.{MachineFault}
 use Rattle.rank_machine.specs.Values.{Store, Valued, ◌>>=◌}
-use Rattle.rank_machine.specs.Collectives.{Call, called, header, Part, gives, gets, ends, part_of, passed, rest_after}
+use Rattle.rank_machine.specs.Collectives.{Call, called, header, Part, gives, gets, ends, part_of, part_done, rest_after}
 use Rattle.rank_machine.specs.Collectives.{given_by, ended, unfaulted, ended_at, ended_by, own_end, stored_or}
 use Rattle.rank_machine.specs.States.{State, inner}
 use Rattle.rank_machine.specs.Wants.{or_fault, part_want}
@@ -20,7 +20,7 @@ standing s c r = record { store = s; rest = plain (collect c) r; fault = None }
 
 -- after a part that was made
 abbrev pub gone : Store → Store → statements.Collective → Block → Call → State
-gone s s' c r call = record { store = passed s' call; rest = rest_after s call (plain (collect c) r) r; fault = None }
+gone s s' c r call = record { store = part_done s' call; rest = rest_after s call (plain (collect c) r) r; fault = None }
 
 -- it gave
 pub record Gave (s : Store) (c : statements.Collective) (r : Block) (call : Call) (act : Act) (m : Option Message) (b : State) : Type 0 where

@@ -17,7 +17,7 @@ use Rattle.rank_machine.specs.declared.fault.MachineFault.TheVariants.{TooLong, 
 use Rattle.rank_machine.specs.declared.want.Want.TheVariants as want
 use Rattle.rank_machine.specs.Faults.{IsLeft}
 use Rattle.rank_machine.specs.Values.{Store, Valued, ◌>>=◌}
-use Rattle.rank_machine.specs.Collectives.{Call, Part, gives, gets, ends, part_of, is_last, passed, given_by, ended}
+use Rattle.rank_machine.specs.Collectives.{Call, Part, gives, gets, ends, part_of, is_last, part_done, given_by, ended}
 use Rattle.rank_machine.specs.Calling.{head_of, call_of}
 use Rattle.rank_machine.specs.States.{State}
 use Rattle.rank_machine.specs.Wants.{selector_of, part_want, receive_want, or_fault, want_of}
@@ -48,7 +48,8 @@ pub record IsTaking (m : MachineValue) (c t : Pattern) (b : Buffer) (p : packet.
   pub few : IsFew p
 
 -- a machine that asks for a message at a receive statement has no fault, and takes a message between two ranks
-taking : (m : MachineValue) (c t : Pattern) (b : Buffer) (p : packet.PacketValue) → IsPacketValue p → IsAtLine m → line_at m ≡ Some (simple_line (receive c t b))
+taking : (m : MachineValue) (c t : Pattern) (b : Buffer) (p : packet.PacketValue) → IsPacketValue p → IsAtLine m
+    → line_at m ≡ Some (simple_line (receive c t b))
     → IsReceiving (machine_want m) p → IsTaking m c t b p
 taking m c t b p h l at i =
     let r : Block = remaining (block_of m.program) m.position in
@@ -99,7 +100,8 @@ long_state m n c t b p v i l place =
     subst Q v (long_received (state_of m) b (remaining (block_of m.program) (m.position + 1)) p.source (carried p) l ∙ receives m c t b p place i)
 
 -- and after one that fits
-pub fit_state : (m n : MachineValue) (c t : Pattern) (b : Buffer) (p : packet.PacketValue) (s : Store) → m ≡ n → IsTaking m c t b p → length p.items ≤ room m.store b
+pub fit_state : (m n : MachineValue) (c t : Pattern) (b : Buffer) (p : packet.PacketValue) (s : Store) → m ≡ n → IsTaking m c t b p
+    → length p.items ≤ room m.store b
     → s ≡ with_status p.source (carried p) (written b p.items m.store)
     → (place : ℕ) → state_of (record m { store = s; position = m.position + 1 }) ≡ next (state_of n) (takes p.source place) (Some (carried p))
 fit_state m n c t b p s v i l e place =
@@ -176,7 +178,8 @@ gets_part s c call p (gets q) h = (q, refl)
 gets_part s c call p ends h = absurd (never (λ w. IsReceiving w p) (ended s c call) _ (λ k z. z) (λ s' z. z) h)
 
 -- a machine that asks for a reception at a collective stands at a part of its call
-pub takes_call : (m : MachineValue) (c : Collective) (p : packet.PacketValue) → IsAtLine m → line_at m ≡ Some (simple_line (collect c)) → IsReceiving (machine_want m) p
+pub takes_call : (m : MachineValue) (c : Collective) (p : packet.PacketValue) → IsAtLine m → line_at m ≡ Some (simple_line (collect c))
+    → IsReceiving (machine_want m) p
     → IsCalling (λ w. IsReceiving w p) m c
 takes_call m c p h at w = calls (λ w. IsReceiving w p) m c h at (λ k z. z) w
 
@@ -187,7 +190,8 @@ record IsGetting (m : MachineValue) (call : Call) : Type 0 where
   part : part_of m.store call ≡ gets source
 
 -- a machine that asks for a message at a collective has no fault, and its part gets
-getting : (m n : MachineValue) (c : Collective) (call : Call) (p : packet.PacketValue) → m ≡ n → IsPart m c call → IsReceiving (machine_want n) p → IsGetting m call
+getting : (m n : MachineValue) (c : Collective) (call : Call) (p : packet.PacketValue) → m ≡ n → IsPart m c call → IsReceiving (machine_want n) p
+    → IsGetting m call
 getting m n c call p v i w =
     let P : MachineValue → Type 0 = λ z. IsReceiving (machine_want z) p in
     let a = takes_call m c p i.line i.there (subst P (sym v) w) in
@@ -302,14 +306,15 @@ leaves (broadcast e b) items s =
 leaves (reduce f e v p) items s = record { rank = refl; size = refl; source = refl; tag = refl; count = refl; finished = refl }
 
 -- after a packet that is taken it is a machine
-pub taken_machine : (m n : MachineValue) (c : Collective) (call : Call) (p : packet.PacketValue) (items : List ℤ) (s : Store) (last : Bool) → m ≡ n → IsMachine m
-    → IsPart m c call → IsReceiving (machine_want n) p → items_taken m.store c call p.items ≡ Ok items → s ≡ passed (kept c items m.store) call
+pub taken_machine : (m n : MachineValue) (c : Collective) (call : Call) (p : packet.PacketValue) (items : List ℤ) (s : Store) (last : Bool) → m ≡ n
+    → IsMachine m
+    → IsPart m c call → IsReceiving (machine_want n) p → items_taken m.store c call p.items ≡ Ok items → s ≡ part_done (kept c items m.store) call
     → length s.variables ≡ length m.store.variables → map length s.arrays ≡ map length m.store.arrays → is_last m.store call ≡ last
     → IsMachine (record m { store = s; position = after_part last m.position })
 taken_machine m n c call p items s last v h i w e g variables lengths f =
     let o = m.store in
     let t = is_last o call in
-    let S : Store = passed (kept c items o) call in
+    let S : Store = part_done (kept c items o) call in
     let Variables : Store → Type 0 = λ z. length z.variables ≡ length o.variables in
     let Lengths : Store → Type 0 = λ z. map length z.arrays ≡ map length o.arrays in
     let q = getting m n c call p v i w in
@@ -324,14 +329,14 @@ taken_machine m n c call p items s last v h i w e g variables lengths f =
 
 -- and it stands for the state after that
 pub taken_state : (m n : MachineValue) (c : Collective) (call : Call) (p : packet.PacketValue) (items : List ℤ) (s : Store) (last : Bool) → m ≡ n
-    → IsPart m c call → IsReceiving (machine_want n) p → items_taken m.store c call p.items ≡ Ok items → s ≡ passed (kept c items m.store) call
+    → IsPart m c call → IsReceiving (machine_want n) p → items_taken m.store c call p.items ≡ Ok items → s ≡ part_done (kept c items m.store) call
     → is_last m.store call ≡ last → (place : ℕ)
     → state_of (record m { store = s; position = after_part last m.position }) ≡ next (state_of n) (takes p.source place) (Some (carried p))
 taken_state m n c call p items s last v i w e g f place =
     let o = m.store in
     let t = is_last o call in
     let at : ℕ → Block = remaining (block_of m.program) in
-    let S : Store = passed (kept c items o) call in
+    let S : Store = part_done (kept c items o) call in
     let m' : MachineValue = record m { store = s; position = after_part last m.position } in
     let Q : MachineValue → Type 0 = λ z. state_of m' ≡ next (state_of z) (takes p.source place) (Some (carried p)) in
     let A : Block → Option MachineFault → State = λ r k. record { store = S; rest = r; fault = k } in

@@ -3,7 +3,7 @@ use Rattle.std.proofs.Common.{◌≡◌, ℕ, Bool, Ok, Option, Some, length, ma
 use Rattle.rank_language.specs.Placed.{Collective, collect}
 use Rattle.rank_language.specs.Block.{simple_line}
 use Rattle.rank_machine.specs.Values.{Store}
-use Rattle.rank_machine.specs.Collectives.{Call, Part, gives, gets, ends, part_of, is_last, passed, ended}
+use Rattle.rank_machine.specs.Collectives.{Call, Part, gives, gets, ends, part_of, is_last, part_done, ended}
 use Rattle.rank_machine.specs.Wants.{IsSend, part_want, or_fault}
 use Rattle.rank_machine.specs.Acts.{Act, Message, Makes, next}
 use Rattle.rank_machine.specs.Machine.{MachineValue, state_of, line_at, machine_want, IsAtLine, IsMachine}
@@ -32,7 +32,7 @@ gives_call m c call p w =
 
 -- after the send it is a machine
 sent_machine : (m : MachineValue) (c : Collective) (call : Call) → IsMachine m → IsPart m c call → IsSend (machine_want m)
-    → IsMachine (record m { store = passed m.store call; position = after_part (is_last m.store call) m.position })
+    → IsMachine (record m { store = part_done m.store call; position = after_part (is_last m.store call) m.position })
 sent_machine m c call i p w =
     let s = m.store in
     let last = is_last s call in
@@ -47,15 +47,16 @@ sent_machine m c call i p w =
     }
 
 -- with this store, and by whether the part was the last
-pub sent_is_machine : (m n : MachineValue) (c : Collective) (call : Call) (s : Store) (last : Bool) → m ≡ n → IsMachine m → IsPart m c call → IsSend (machine_want n)
-    → s ≡ passed m.store call → is_last m.store call ≡ last → IsMachine (record m { store = s; position = after_part last m.position })
+pub sent_is_machine : (m n : MachineValue) (c : Collective) (call : Call) (s : Store) (last : Bool) → m ≡ n → IsMachine m → IsPart m c call
+    → IsSend (machine_want n)
+    → s ≡ part_done m.store call → is_last m.store call ≡ last → IsMachine (record m { store = s; position = after_part last m.position })
 sent_is_machine m n c call s last v i p w e f =
     let P : MachineValue → Type 0 = λ z. IsSend (machine_want z) in
-    subst IsMachine (sym (part_is m s (passed m.store call) call last e f)) (sent_machine m c call i p (subst P (sym v) w))
+    subst IsMachine (sym (part_is m s (part_done m.store call) call last e f)) (sent_machine m c call i p (subst P (sym v) w))
 
 -- and it stands for the state after the send
 pub sent_state : (m n : MachineValue) (c : Collective) (call : Call) (s : Store) (last : Bool) → m ≡ n → IsPart m c call → IsSend (machine_want n)
-    → s ≡ passed m.store call → is_last m.store call ≡ last
+    → s ≡ part_done m.store call → is_last m.store call ≡ last
     → (act : Act) (message : Option Message) → Makes (state_of n) act message
     → state_of (record m { store = s; position = after_part last m.position }) ≡ next (state_of n) act message
 sent_state m n c call s last v p w e f =
@@ -64,4 +65,4 @@ sent_state m n c call s last v p w e f =
     let Q : MachineValue → Type 0 =
     λ z. (act : Act) (message : Option Message) → Makes (state_of z) act message → state_of m' ≡ next (state_of z) act message
     in
-    subst Q v (part_acts m m' c call (part_is m s (passed m.store call) call last e f) p.line p.there p.called (subst P (sym v) w))
+    subst Q v (part_acts m m' c call (part_is m s (part_done m.store call) call last e f) p.line p.there p.called (subst P (sym v) w))

@@ -8,7 +8,7 @@ use Rattle.rank_language.specs.Placed.{into_variable, into_array, Collective, ba
 use Rattle.rank_language.specs.Block.{Line, simple_line}
 use Rattle.rank_machine.specs.Values.{Store}
 use Rattle.rank_machine.specs.Collectives.{Kind, barriers, broadcasts, folds, Call, called, Part, gives, gets}
-use Rattle.rank_machine.specs.Collectives.{ends, parts, parts_of, part_of, is_last, counted, passed, given_by}
+use Rattle.rank_machine.specs.Collectives.{ends, parts, parts_of, part_of, is_last, counted, part_done, given_by}
 use Rattle.rank_machine.specs.Acts.{kept}
 use Rattle.rank_machine.specs.Machine.{HasStage, gathered_by, call_at}
 use Rattle.rank_machine.proofs.CollectiveParts.{found_or, some_part}
@@ -110,13 +110,13 @@ by_last : (s s' : Store) (c : Collective) (call : Call) (last : Bool) (o : Optio
     → (last ≡ false → o ≡ Some (simple_line (collect c)))
     → (last ≡ false → HasStage (record s' { done = s'.done + 1 }) (Some call))
     → (last ≡ false → called (record s' { done = s'.done + 1 }) c ≡ Ok call)
-    → HasStage (passed s' call) (call_at (passed s' call) o)
+    → HasStage (part_done s' call) (call_at (part_done s' call) o)
 by_last s s' c call true o t l at on same = rw t (counted_fresh s' _ l)
 by_last s s' c call false o t l at on same = rw (t, at refl, same refl) (on refl)
 
 -- where a machine stands after a send of a collective: at its next part, or at a line with no part done
 pub sent_stage : (s : Store) (c : Collective) (call : Call) (d : ℕ) (o : Option Line) → s.rank < s.size → called s c ≡ Ok call → HasStage s (Some call)
-    → part_of s call ≡ gives d → (is_last s call ≡ false → o ≡ Some (simple_line (collect c))) → HasStage (passed s call) (call_at (passed s call) o)
+    → part_of s call ≡ gives d → (is_last s call ≡ false → o ≡ Some (simple_line (collect c))) → HasStage (part_done s call) (call_at (part_done s call) o)
 sent_stage s c call d o l e h p at =
     by_last s s c call (is_last s call) o refl l at (sent_on s call d h p) (λ more. called_same s (s.done + 1) s.gathered c ∙ e)
 
@@ -153,7 +153,7 @@ kept_call s (reduce f x v p) call q items e k h t more = called_same s (s.done +
 pub taken_stage : (s : Store) (c : Collective) (call : Call) (q : ℕ) (packet items : List ℤ) (o : Option Line) → s.rank < s.size
     → called s c ≡ Ok call → HasStage s (Some call) → part_of s call ≡ gets q → given_by call packet ≡ Ok items
     → (is_last s call ≡ false → o ≡ Some (simple_line (collect c)))
-    → (let s' : Store = passed (kept c items s) call in HasStage s' (call_at s' o))
+    → (let s' : Store = part_done (kept c items s) call in HasStage s' (call_at s' o))
 taken_stage s c call q packet items o l e h p g at =
     let s' = kept c items s in
     let k = (is_call s c call (omega (arith, l)) e).kind in

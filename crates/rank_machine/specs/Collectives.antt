@@ -106,8 +106,8 @@ abbrev pub counted : Store → Store
 counted s = record s { finished = s.finished + 1; done = 0; gathered = [] }
 
 -- what is stored after a part
-abbrev pub passed : Store → Call → Store
-passed s call = if is_last s call then counted s else record s { done = s.done + 1 }
+abbrev pub part_done : Store → Call → Store
+part_done s call = if is_last s call then counted s else record s { done = s.done + 1 }
 
 -- the statements that remain after a part: those behind the collective, after its last
 abbrev pub rest_after : Store → Call → Block → Block → Block

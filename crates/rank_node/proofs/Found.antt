@@ -12,7 +12,8 @@ use Rattle.rank_machine.specs.Machine.{MachineValue, state_of, next_of, received
 use Rattle.rank_node.specs.Steps.{at_index, found, TakesFound, IsShownFound, TriesFound, WasShown}
 
 -- the packet at the first index that the selector names is the one found
-pub found-at : (s : Selector) (ms : List PacketValue) (i : ℕ) (m : PacketValue) → Some i ≡ position (matches s) ms → slice_get ms i ≡ Some m → found s ms ≡ Some (i, m)
+pub found-at : (s : Selector) (ms : List PacketValue) (i : ℕ) (m : PacketValue) → Some i ≡ position (matches s) ms → slice_get ms i ≡ Some m
+    → found s ms ≡ Some (i, m)
 found-at s ms i m first there =
     ap (option_and_then (at_index ms)) (sym first) ∙ ap (option_and_then (λ packet. Some (i, packet))) there
 

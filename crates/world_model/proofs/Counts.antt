@@ -111,7 +111,8 @@ module _ (v : Live) (m : MachineValue) (left : List EventValue)
   probe_counts : (w : Kind) (s c : ℕ) → event_refusal v.rank ≡ None → RankCounts (record { rank = after_probe v.rank m w s c; left = left }) events
   probe_counts w s c e = (let z = one_more (event_of w s c (v.rank.clock + 1)) (allowed_few e) in record { made = z.0; few = z.1 })
 
-  receive_counts : (f : ℕ × packet.PacketValue) → event_refusal v.rank ≡ None → RankCounts (record { rank = after_reception v.rank m f.0 f.1; left = left }) events
+  receive_counts : (f : ℕ × packet.PacketValue) → event_refusal v.rank ≡ None
+      → RankCounts (record { rank = after_reception v.rank m f.0 f.1; left = left }) events
   receive_counts f e = (let z = one_more (event_of kind.Reception f.1.source f.1.clock (v.rank.clock + 1)) (allowed_few e) in record { made = z.0; few = z.1 })
 
   received_counts : (o : Option ℕ) → (if is_some o then event_refusal v.rank else None) ≡ None → (f : Option (ℕ × packet.PacketValue))

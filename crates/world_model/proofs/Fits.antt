@@ -92,7 +92,8 @@ fits_ended k items a o (inr e) f = subst (λ z. Fits z items a o) e.1 f
 -- what a state wants that its machine asks for, where that isn't to go on
 pub wanted : (m : MachineValue) (w : Want) → machine_want m ≡ w → (w ≡ want.Internal → ⊥) → wants (state_of m) ≡ w
 wanted m w e ne =
-    ⊎_elim (λ (internal : machine_want m ≡ want.Internal). absurd (ne (sym e ∙ internal))) (λ (same : machine_want m ≡ wants (state_of m)). sym same ∙ e) (wants_or m)
+    ⊎_elim (λ (internal : machine_want m ≡ want.Internal). absurd (ne (sym e ∙ internal)))
+    (λ (same : machine_want m ≡ wants (state_of m)). sym same ∙ e) (wants_or m)
 
 -- it has no inner step
 pub stopped : (m : MachineValue) (w : Want) → machine_want m ≡ w → (w ≡ want.Internal → ⊥) → inner (state_of m) ≡ None

@@ -484,7 +484,8 @@ module _ (n : ℕ) (w : WorldValue) (r : ℕ) (v : Live) (m : MachineValue) (s :
       wants_it = wanted v.rank.machine (want.Receive selector) e (λ z. cc)
 
   -- a hit, of a probe of either kind
-  hitting : (x : Want) (selector : Selector) → machine_want v.rank.machine ≡ x → (x ≡ want.Probe selector) ⊎ (x ≡ want.TryProbe selector) → (i : ℕ) (p : packet.PacketValue)
+  hitting : (x : Want) (selector : Selector) → machine_want v.rank.machine ≡ x → (x ≡ want.Probe selector) ⊎ (x ≡ want.TryProbe selector)
+      → (i : ℕ) (p : packet.PacketValue)
       → position (matches selector) v.rank.inbox.packets ≡ Some i → slice_get v.rank.inbox.packets i ≡ Some p
       → event_refusal v.rank ≡ None → WasShown p v.rank.machine m
       → StandsAt n (changed w r (Some (record { rank = after_probe v.rank m kind.Hit p.source p.clock; left = [] })) w.images w.logger w.lines w.run)

@@ -2,7 +2,7 @@
 ghost use Rattle.std.specs.Prelude.{◌≡◌, ◌<◌, ◌≤◌, ◌+◌, ◌∷◌, ◌++◌, ◌↔◌, [], true, false, Some, None, IfOk, IfSome, length, map};
 ghost use Rattle.rank_language.specs.Seen.{collective_of, line_in};
 ghost use Rattle.rank_language.specs.Program.{IsCollectiveWithin, IsPlaced};
-ghost use Rattle.rank_machine.specs.Collectives.{greatest_ordinal, called, parts_of, counted, ordinal_after, passed};
+ghost use Rattle.rank_machine.specs.Collectives.{greatest_ordinal, called, parts_of, counted, ordinal_after, part_done};
 ghost use Rattle.rank_machine.specs.Collectives.{folded, folded_from, with_at, own_end, unfaulted};
 ghost use Rattle.rank_machine.specs.Calling.{head_of, called_seen};
 ghost use Rattle.rank_machine.specs.Wants.{IsLegal, collective_want};
@@ -108,7 +108,7 @@ impl Store {
     pub fn pass(&mut self, call: Call)
         requires ordinal { call.ordinal ≡ self.old.finished + 1 }
         requires stage { self.old.done < length (parts_of self.old (head_of call)) }
-        ensures stored { self.new ≡ passed self.old (head_of call) }
+        ensures stored { self.new ≡ part_done self.old (head_of call) }
         ensures rank { self.new.rank < self.new.size }
     {
         if self.is_last(call) {

@@ -23,7 +23,10 @@ impl<'p, S: Shelf, D> Replaying<'p, S, D> {
         requires { self.old.left ≢ [] }
         ensures turn { IfOk result (λ turn. (e : EventValue) (rest : List EventValue) → self.old.left ≡ e ∷ rest → replay_turn_of self.old.node e ≡ Ok turn) }
         ensures ok { IfOk result (λ turn. (e : EventValue) (rest : List EventValue) → self.old.left ≡ e ∷ rest →
-            self.new ≡ record { node = after_replay self.old.node e self.new.node.machine; left = left_after (machine_want self.old.node.machine) turn e rest }) }
+            self.new ≡ record {
+              node = after_replay self.old.node e self.new.node.machine;
+              left = left_after (machine_want self.old.node.machine) turn e rest;
+            }) }
         ensures machine { OnOk result ((e : EventValue) (rest : List EventValue) → self.old.left ≡ e ∷ rest →
             ReplayStep self.old.node e self.new.node.machine) }
         ensures stable { self.new.node.stable ≡ self.old.node.stable }

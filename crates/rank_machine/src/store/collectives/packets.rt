@@ -6,7 +6,7 @@ ghost use Rattle.rank_language.specs.Seen.{buffer_of, collective_of};
 ghost use Rattle.rank_language.specs.Program.{IsBufferWithin, IsCollectiveWithin};
 ghost use Rattle.rank_machine.specs.declared.fault.MachineFault.{MachineFault};
 ghost use Rattle.rank_machine.specs.declared.fault.MachineFault.TheVariants.{TooLong};
-ghost use Rattle.rank_machine.specs.Collectives.{contents, called, passed, kind_number, is_counted, given_by};
+ghost use Rattle.rank_machine.specs.Collectives.{contents, called, part_done, kind_number, is_counted, given_by};
 ghost use Rattle.rank_machine.specs.Calling.{kind_of, head_of, call_of, HasRoom};
 ghost use Rattle.rank_machine.specs.Wants.{packet_items};
 ghost use Rattle.rank_machine.specs.Acts.{kept, fitting, items_taken};
@@ -76,7 +76,7 @@ impl Store {
         requires stage { HasStage self.old (Some (head_of call)) }
         ensures taken { IfOk result (λ _. (items : List ℤ)
             × (items_taken self.old (collective_of collective.now) (head_of call) packet.now ≡ Ok items)
-            × (self.new ≡ passed (kept (collective_of collective.now) items self.old) (head_of call))) }
+            × (self.new ≡ part_done (kept (collective_of collective.now) items self.old) (head_of call))) }
         ensures fault { (k : MachineFault) → result ≡ Err k
             → (items_taken self.old (collective_of collective.now) (head_of call) packet.now ≡ Err k) × (self.new ≡ self.old) }
         ensures lengths { map length self.new.arrays ≡ map length self.old.arrays }
