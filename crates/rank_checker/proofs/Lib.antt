@@ -1,7 +1,6 @@
 pub mod LineLaws
 pub mod TextLaws
 pub mod WholeLaws
-pub mod CutLaws
 pub mod ScopeLaws
 pub mod ReadLaws
 pub mod NameLaws

@@ -8,7 +8,7 @@ use Rattle.rank_checker.specs.declared.fault.FaultKind.TheVariants.{NotText, Not
 use Rattle.rank_checker.specs.declared.fault.FaultKind.TheVariants.{Undeclared, DeclaredTwice, BlockOpen}
 use Rattle.rank_checker.specs.declared.fault.FaultKind.TheVariants.{BlockStray, Limit, NumberRange}
 use Rattle.rank_grammar.specs.Forms.{Form}
-use Rattle.rank_checker.specs.Lines.{lines_of}
+use Rattle.text_lines.specs.Pieces.{pieces_of}
 use Rattle.rank_checker.specs.Scope.{Scope, Opened, nothing_yet, is_empty, after}
 use Rattle.rank_checker.specs.Faults.{fault_number, IsClean, IsLowest, IsLine, skipped, stated, AreLines, none}
 use Rattle.rank_checker.specs.Faults.{skipped_line, taken, IsText, HasFirstFault, at_end, here, past_skipped}
@@ -147,12 +147,12 @@ lines_answer s n (l ∷ ls) = after_answer s n l ls (verdict_on s n l) (line_ans
 -- what is read as statements is a text of them
 pub read_text : (text : List ℕ) (fs : List Form) → reading_of text ≡ Ok fs → IsText text fs
 read_text text fs q =
-    let h = subst (TextAnswers nothing_yet 1 (lines_of text)) q (lines_answer nothing_yet 1 (lines_of text)) in
+    let h = subst (TextAnswers nothing_yet 1 (pieces_of 10 text)) q (lines_answer nothing_yet 1 (pieces_of 10 text)) in
     record { end = h.0; count = h.1; lines = h.2; closed = h.3 }
 
 -- what is read as a fault is the first one
 pub read_fault : (text : List ℕ) (line : ℕ) (kind : FaultKind) → reading_of text ≡ Err (line, kind) → IsFaultOf text line kind
-read_fault text line kind q = subst (TextAnswers nothing_yet 1 (lines_of text)) q (lines_answer nothing_yet 1 (lines_of text))
+read_fault text line kind q = subst (TextAnswers nothing_yet 1 (pieces_of 10 text)) q (lines_answer nothing_yet 1 (pieces_of 10 text))
 
 -- what is answered shows which of the two a text is
 one_or_other : (text : List ℕ) (r : Result (List Form) (ℕ × FaultKind)) → reading_of text ≡ r

@@ -6,10 +6,11 @@ use Rattle.rank_checker.specs.declared.fault.FaultKind.{FaultKind}
 use Rattle.rank_checker.specs.declared.fault.FaultKind.TheVariants.{NotText, NotAStatement, BadForm}
 use Rattle.rank_checker.specs.declared.fault.FaultKind.TheVariants.{Undeclared, DeclaredTwice, BlockOpen}
 use Rattle.rank_checker.specs.declared.fault.FaultKind.TheVariants.{BlockStray, Limit, NumberRange}
+use Rattle.text_lines.specs.Pieces.{pieces_of}
 use Rattle.rank_grammar.specs.declared.token.Token.{Token}
 use Rattle.rank_grammar.specs.Lexes.{Lexes}
 use Rattle.rank_grammar.specs.Forms.{Form, IsForm}
-use Rattle.rank_checker.specs.Lines.{lines_of, is_text, is_skipped, is_statement}
+use Rattle.rank_checker.specs.Lines.{is_text, is_skipped, is_statement}
 use Rattle.rank_checker.specs.Scope.{Scope, Opened, nothing_yet, declared_in, is_twice, is_stray, is_over, has_great_number, after}
 
 -- the number of a fault
@@ -89,11 +90,11 @@ pub data AreLines : Scope → ℕ → List (List ℕ) → List Form → Scope �
   taken : {s s' : Scope} {n m : ℕ} {l : List ℕ} {ls : List (List ℕ)} {f : Form} {fs : List Form}
       → IsLine s n l (Some f) → AreLines (after s f) (n + 1) ls fs s' m → AreLines s n (l ∷ ls) (f ∷ fs) s' m
 
--- A text has these statements: its lines are without fault, and each block that they open is closed.
+-- A text has these statements: its lines, cut at each LF, are without fault, and each block that they open is closed.
 pub record IsText (text : List ℕ) (fs : List Form) : Type 0 where
   pub end : Scope
   pub count : ℕ
-  pub lines : AreLines nothing_yet 1 (lines_of text) fs end count
+  pub lines : AreLines nothing_yet 1 (pieces_of 10 text) fs end count
   pub closed : end.blocks ≡ []
 
 -- The first line at fault has this number and this lowest fault; an open block at the end is a fault of the line after the last.
@@ -108,4 +109,4 @@ pub data HasFirstFault : Scope → ℕ → List (List ℕ) → ℕ → FaultKind
 
 -- a text has this first fault on this line
 abbrev pub IsFaultOf : List ℕ → ℕ → FaultKind → Type 0
-IsFaultOf text line kind = HasFirstFault nothing_yet 1 (lines_of text) line kind
+IsFaultOf text line kind = HasFirstFault nothing_yet 1 (pieces_of 10 text) line kind

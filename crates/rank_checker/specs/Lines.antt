@@ -1,23 +1,9 @@
--- The lines of a text, before their tokens are looked at (the language's own manual, docs/LANGUAGE.md, "Lines").
+-- A line of a text, before its tokens are looked at (the language's own manual, docs/LANGUAGE.md, "Lines").
 use Rattle.std.specs.Prelude.{ℕ, List, [], ◌∷◌, Bool, true, false, ◌&&◌, nat_eq, Option, Some, None, if◌then◌else◌}
+use Rattle.text_lines.specs.Pieces.{without_front}
 use Rattle.rank_grammar.specs.declared.token.Token.{Token}
 use Rattle.rank_grammar.specs.declared.token.Token.TheVariants as t
 use Rattle.rank_grammar.specs.Tokens.{is_word_byte, is_between, found_in, reserved}
-
--- a byte in front of the first line
-abbrev pub onto_first : ℕ → List (List ℕ) → List (List ℕ)
-onto_first b [] = (b ∷ []) ∷ []
-onto_first b (l ∷ ls) = (b ∷ l) ∷ ls
-
--- the lines of a text: cut at each LF; what follows the last LF is a line where it isn't empty
-abbrev pub lines_of : List ℕ → List (List ℕ)
-lines_of [] = []
-lines_of (b ∷ bs) = if nat_eq b 10 then [] ∷ lines_of bs else onto_first b (lines_of bs)
-
--- the line from its first character on that isn't a space
-abbrev pub without_spaces : List ℕ → List ℕ
-without_spaces [] = []
-without_spaces (b ∷ bs) = if nat_eq b 32 then without_spaces bs else b ∷ bs
 
 -- nothing is left, or what is left begins with `#`
 abbrev pub begins_comment : List ℕ → Bool
@@ -26,7 +12,7 @@ begins_comment (b ∷ bs) = nat_eq b 35
 
 -- the line has only spaces, or its first character after spaces is `#`
 abbrev pub is_skipped : List ℕ → Bool
-is_skipped line = begins_comment (without_spaces line)
+is_skipped line = begins_comment (without_front 32 line)
 
 -- each byte of the line is 0x20 to 0x7E
 abbrev pub is_text : List ℕ → Bool
@@ -57,4 +43,4 @@ is_keyword (Some t.Any) = false
 
 -- the first token of the line is a statement word
 abbrev pub is_statement : List ℕ → Bool
-is_statement line = is_keyword (found_in reserved (front_word (without_spaces line)))
+is_statement line = is_keyword (found_in reserved (front_word (without_front 32 line)))

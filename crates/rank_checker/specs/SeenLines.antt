@@ -1,6 +1,5 @@
 -- The values of the code, without where they lie in memory (the types of this crate's src/).
 use Rattle.std.specs.Prelude.{ℕ, List, [], ◌∷◌, ◌++◌, Option, Some, None, Result, Ok, Err}
-use Rattle.std.specs.Borrow.{Bor}
 use Rattle.rank_checker.specs.declared.scope.Opened as source_opened
 use Rattle.rank_checker.specs.declared.scope.Scope as source_scope
 use Rattle.rank_checker.specs.declared.judge.Judged as source_judged
@@ -9,18 +8,7 @@ use Rattle.rank_checker.specs.declared.scope.Array.{Array}
 use Rattle.rank_grammar.specs.declared.form.Form as source_form
 use Rattle.rank_grammar.specs.Forms.{Form}
 use Rattle.rank_grammar.specs.SeenForms.{form_seen}
-use Rattle.rank_checker.specs.Lines.{lines_of, onto_first}
 use Rattle.rank_checker.specs.Scope.{Opened, in_if, in_else, in_while, Scope}
-
--- bytes with no LF, put in front of the first of some lines
-abbrev pub onto : List ℕ → List (List ℕ) → List (List ℕ)
-onto [] ls = ls
-onto (b ∷ bs) ls = onto_first b (onto bs ls)
-
--- the lines of which a first one was cut off
-abbrev pub cut_of : Option (Bor (List ℕ) × Bor (List ℕ)) → List (List ℕ)
-cut_of None = []
-cut_of (Some c) = c.0.now ∷ lines_of c.1.now
 
 -- an open block
 abbrev pub opened_seen : source_opened.Opened → Opened

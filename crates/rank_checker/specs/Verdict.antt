@@ -5,10 +5,11 @@ use Rattle.rank_checker.specs.declared.fault.FaultKind.{FaultKind}
 use Rattle.rank_checker.specs.declared.fault.FaultKind.TheVariants.{NotText, NotAStatement, BadForm}
 use Rattle.rank_checker.specs.declared.fault.FaultKind.TheVariants.{Undeclared, DeclaredTwice, BlockOpen}
 use Rattle.rank_checker.specs.declared.fault.FaultKind.TheVariants.{BlockStray, Limit, NumberRange}
+use Rattle.text_lines.specs.Pieces.{pieces_of}
 use Rattle.rank_grammar.specs.declared.token.Token.{Token}
 use Rattle.rank_grammar.specs.Tokens.{tokens_of}
 use Rattle.rank_grammar.specs.Forms.{Form, form_of}
-use Rattle.rank_checker.specs.Lines.{lines_of, is_text, is_skipped, is_statement}
+use Rattle.rank_checker.specs.Lines.{is_text, is_skipped, is_statement}
 use Rattle.rank_checker.specs.Scope.{Scope, nothing_yet, declared_in, is_twice, is_stray, is_over, has_great_number, is_empty, after}
 
 -- the first fault whose test gives true
@@ -76,4 +77,4 @@ statements_of s n (l ∷ ls) =
 
 -- the statements of a text, or its first fault and the line
 abbrev pub reading_of : List ℕ → Result (List Form) (ℕ × FaultKind)
-reading_of text = statements_of nothing_yet 1 (lines_of text)
+reading_of text = statements_of nothing_yet 1 (pieces_of 10 text)

@@ -1,10 +1,11 @@
 //! A line's bytes, before its tokens are looked at.
 ghost use Rattle.std.specs.Prelude.{◌≡◌};
 ghost use Rattle.rank_grammar.specs.Tokens.{is_word_byte};
-ghost use Rattle.rank_checker.specs.Lines.{begins_comment, front_word, is_keyword, is_skipped, is_statement, is_text, without_spaces};
+ghost use Rattle.rank_checker.specs.Lines.{begins_comment, front_word, is_keyword, is_skipped, is_statement, is_text};
 
 use rank_grammar::Token;
 use rank_grammar::words::reserved_token;
+use text_lines::without_front;
 
 /// Whether each byte is a space or a printable character of ASCII.
 pub(crate) fn is_text(line: &[u8]) -> bool
@@ -20,24 +21,11 @@ pub(crate) fn is_text(line: &[u8]) -> bool
     true
 }
 
-fn without_spaces(line: &[u8]) -> &[u8]
-    ensures { result.now ≡ without_spaces line.now }
-{
-    let mut rest = line;
-    while let [byte, more @ ..] = rest {
-        if *byte != b' ' {
-            return rest;
-        }
-        rest = more;
-    }
-    rest
-}
-
 /// Whether the line has only spaces, or is a comment.
 pub(crate) fn is_skipped(line: &[u8]) -> bool
     ensures { result ≡ is_skipped line.now }
 {
-    match without_spaces(line) {
+    match without_front(line, b' ') {
         [] => true,
         [byte, ..] => *byte == b'#',
     }
@@ -64,7 +52,7 @@ fn front_word(line: &[u8]) -> &[u8]
 pub(crate) fn is_statement(line: &[u8]) -> bool
     ensures { result ≡ is_statement line.now }
 {
-    match reserved_token(front_word(without_spaces(line))) {
+    match reserved_token(front_word(without_front(line, b' '))) {
         Some(Token::Keyword(_)) => true,
         _ => false,
     }

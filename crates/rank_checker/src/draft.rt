@@ -5,19 +5,18 @@ ghost use Rattle.rank_grammar.specs.SeenForms.{form_seen};
 ghost use Rattle.rank_checker.specs.declared.fault.ParseFault.TheVariants.{Fault, Memory};
 ghost use Rattle.rank_checker.specs.declared.fault.ProgramFault.{ProgramFault};
 ghost use Rattle.rank_checker.specs.Faults.{IsFaultOf, IsText};
-ghost use Rattle.rank_checker.specs.Lines.{lines_of};
 ghost use Rattle.rank_checker.specs.Scope.{IsWhole, after_all, nothing_yet};
 ghost use Rattle.rank_checker.specs.SeenLines.{arrays_seen, forms_seen};
 ghost use Rattle.rank_checker.specs.Verdict.{reading_of};
 ghost use Rattle.rank_checker.specs.Progress.{HasTables, IsLed, Reads, ended, fresh, going, reader_seen, step, stepped, taken};
 
-use crate::cut::next_line;
 use crate::fault::{FaultKind, ParseFault, ProgramFault};
 use crate::judge::{Judged, judge};
 use crate::scope::{Array, Scope};
 use metered::Heap;
 use rank_grammar::{Form, Name};
 use std::alloc::AllocError;
+use text_lines::next_line;
 
 /// The statements of a text in order, and what they declare.
 #[derive(Debug, Drop)]

@@ -2,7 +2,6 @@
 #![tactic(auto)]
 
 mod bytes;
-mod cut;
 mod depth;
 pub mod draft;
 mod expression;

@@ -10,7 +10,7 @@ ghost use Rattle.rank_checker.specs.SeenLines.{scope_seen};
 use crate::scope::Scope;
 use metered::Heap;
 use metered::limits::MOST_NODES;
-use rank_grammar::{Pattern, Form, Name, Payload, Written};
+use rank_grammar::{Form, Name, Pattern, Payload, Written};
 use std::alloc::AllocError;
 
 /// The greatest number of a program.

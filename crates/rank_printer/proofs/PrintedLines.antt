@@ -11,7 +11,8 @@ use Rattle.rank_grammar.specs.Lexes.{is_open_parenthesis, is_close_parenthesis, 
 use Rattle.rank_grammar.specs.Lexes.{is_less, is_greater, is_equal, is_not_equal, is_less_equal, is_greater_equal}
 use Rattle.rank_grammar.specs.Forms.{Form, var_form, array_form, let_form, item_form, if_form, else_form, end_form, while_form}
 use Rattle.rank_grammar.specs.Forms.{send_form, recv_form, probe_form, try_probe_form, print_form, barrier_form, bcast_form, reduce_form}
-use Rattle.rank_checker.specs.Lines.{lines_of, onto_first, without_spaces, begins_comment, is_skipped, is_text, front_word, is_keyword, is_statement}
+use Rattle.text_lines.specs.Pieces.{pieces_of, onto_first, without_front}
+use Rattle.rank_checker.specs.Lines.{begins_comment, is_skipped, is_text, front_word, is_keyword, is_statement}
 use Rattle.rank_grammar.specs.Tokens.{found_in, reserved}
 use Rattle.rank_printer.specs.Canonical.{form_text, indentation}
 
@@ -78,7 +79,7 @@ lexes_text (is_number ds line h s l) = text_append ds line (number_text ds h) (l
 lexes_text (is_symbol w line y s l) = text_append w line (symbol_text y) (lexes_text l)
 
 -- a statement begins with its word
-form_states : (f : Form) → is_keyword (found_in reserved (front_word (without_spaces (form_text f)))) ≡ true
+form_states : (f : Form) → is_keyword (found_in reserved (front_word (without_front 32 (form_text f)))) ≡ true
 unfolding control_words message_words reading_words argument_words
 form_states (var_form x) = refl
 form_states (array_form x n) = refl
@@ -98,7 +99,7 @@ form_states (bcast_form r x) = refl
 form_states (reduce_form o r e x) = refl
 
 -- and so isn't skipped
-form_unskipped : (f : Form) → begins_comment (without_spaces (form_text f)) ≡ false
+form_unskipped : (f : Form) → begins_comment (without_front 32 (form_text f)) ≡ false
 form_unskipped (var_form x) = refl
 form_unskipped (array_form x n) = refl
 form_unskipped (let_form x e) = refl
@@ -117,7 +118,7 @@ form_unskipped (bcast_form r x) = refl
 form_unskipped (reduce_form o r e x) = refl
 
 -- the indentation is only spaces
-unindented : (depth : ℕ) (line : List ℕ) → without_spaces (indentation depth ++ line) ≡ without_spaces line
+unindented : (depth : ℕ) (line : List ℕ) → without_front 32 (indentation depth ++ line) ≡ without_front 32 line
 unindented zero line = refl
 unindented (suc depth) line = unindented depth line
 
@@ -134,13 +135,13 @@ text_no_lf : (b : ℕ) → is_between 32 126 b ≡ true → nat_eq b 10 ≡ fals
 text_no_lf b h = grind (arith, nat_tests)
 
 -- a line of text ends at its LF
-cut_at : (line rest : List ℕ) → is_text line ≡ true → lines_of (line ++ 10 ∷ rest) ≡ line ∷ lines_of rest
+cut_at : (line rest : List ℕ) → is_text line ≡ true → pieces_of 10 (line ++ 10 ∷ rest) ≡ line ∷ pieces_of 10 rest
 cut_at [] rest p = refl
 cut_at (b ∷ line) rest p =
     let h = and_parts (is_between 32 126 b) (is_text line) p in
-    ap (λ z. if z then [] ∷ lines_of (line ++ 10 ∷ rest) else onto_first b (lines_of (line ++ 10 ∷ rest))) (text_no_lf b h.0)
+    ap (λ z. if z then [] ∷ pieces_of 10 (line ++ 10 ∷ rest) else onto_first b (pieces_of 10 (line ++ 10 ∷ rest))) (text_no_lf b h.0)
     ∙ ap (onto_first b) (cut_at line rest h.1)
 
 -- the same, where the LF is written as a text of its own
-pub line_cut : (line rest : List ℕ) → is_text line ≡ true → lines_of (line ++ codes "\n" ++ rest) ≡ line ∷ lines_of rest
-line_cut line rest p = ap lines_of (append_assoc line (codes "\n") rest) ∙ cut_at line rest p
+pub line_cut : (line rest : List ℕ) → is_text line ≡ true → pieces_of 10 (line ++ codes "\n" ++ rest) ≡ line ∷ pieces_of 10 rest
+line_cut line rest p = ap (pieces_of 10) (append_assoc line (codes "\n") rest) ∙ cut_at line rest p

@@ -4,7 +4,7 @@ use Rattle.std.proofs.Common.{◌≡◌, ℕ, ◌+◌, ◌≤◌, List, [], ◌�
 use Rattle.metered.specs.Limits.{most_lines, most_blocks}
 use Rattle.rank_grammar.specs.Forms.{Form}
 use Rattle.rank_grammar.specs.Lexes.{Lexes}
-use Rattle.rank_checker.specs.Lines.{lines_of}
+use Rattle.text_lines.specs.Pieces.{pieces_of}
 use Rattle.rank_checker.specs.Faults.{IsFormed, IsLine, stated, AreLines, none, taken, IsText}
 use Rattle.rank_checker.specs.Scope.{Scope, nothing_yet, after, after_all, MayStand, AllMayStand, IsWhole}
 use Rattle.rank_printer.specs.Canonical.{depth_of, depth_after, line_text, text_from, program_text, IsCanonical, AllCanonical}
@@ -38,7 +38,7 @@ line_stated s n depth f h k early m c =
 -- the lines of a text have its statements
 lines_are : (s : Scope) (n depth : ℕ) (fs : List Form) → IsNamedWell s → depth ≡ length s.blocks → length s.blocks ≤ most_blocks
     → n + length fs ≤ most_lines + 1 → AllMayStand s fs → AllCanonical fs
-    → (count : ℕ) × AreLines s n (lines_of (text_from depth fs)) fs (after_all s fs) count
+    → (count : ℕ) × AreLines s n (pieces_of 10 (text_from depth fs)) fs (after_all s fs) count
 lines_are s n depth [] h q k early m c = (n, none)
 lines_are s n depth (f ∷ fs) h q k early m c =
     let line = line_text depth f in

@@ -9,7 +9,7 @@ ghost use Rattle.rank_printer.specs.Canonical.{pattern_text, expression_text, fo
 
 use crate::expression::{put_expression, put_number};
 use metered::Heap;
-use rank_grammar::{Pattern, Form, Name, Payload, Reduction, Written};
+use rank_grammar::{Form, Name, Pattern, Payload, Reduction, Written};
 use std::alloc::AllocError;
 
 fn put_pattern(alloc: Heap, text: &mut Vec<u8, Heap>, pattern: &Pattern) -> Result<(), AllocError>

@@ -1,4 +1,5 @@
--- A text's pieces between separators: its lines, and a line's words (docs/FORMATS.md, "Scripts", "Events of a world").
+-- A text's pieces between separators: its lines, cut at each LF (10), and a line's words, between spaces (32)
+-- (docs/FORMATS.md, "Program texts", "Scripts", "Events of a world").
 use Rattle.std.specs.Prelude.{ℕ, List, [], ◌∷◌, nat_eq, Option, Some, None, if◌then◌else◌}
 use Rattle.std.specs.Borrow.{Bor}
 

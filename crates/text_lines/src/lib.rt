@@ -1,5 +1,5 @@
-//! A text's lines, a line's words and the numbers that words spell: what the
-//! texts of events and of scripts share.
+//! A text's lines, a line's words and the numbers that words spell: what
+//! programs, scripts and the texts of events share.
 #![tactic(auto)]
 
 mod number;
@@ -7,5 +7,5 @@ mod pieces;
 mod skipped;
 
 pub use number::decimal;
-pub use pieces::{next_line, next_word};
+pub use pieces::{next_line, next_word, without_front};
 pub use skipped::is_skipped;

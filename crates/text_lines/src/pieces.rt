@@ -29,7 +29,7 @@ fn behind(text: &[u8], separator: u8) -> &[u8]
 }
 
 /// The bytes from the first on that isn't the separator.
-fn without_front(text: &[u8], separator: u8) -> &[u8]
+pub fn without_front(text: &[u8], separator: u8) -> &[u8]
     ensures { result.now ≡ without_front separator text.now }
 {
     let mut rest = text;

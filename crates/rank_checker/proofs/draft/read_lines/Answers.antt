@@ -1,5 +1,5 @@
 use Rattle.std.proofs.Common.{◌≡◌, Ok, Err, sym, ap, ◌∙◌, arith}
-use Rattle.rank_checker.specs.Lines.{lines_of}
+use Rattle.text_lines.specs.Pieces.{pieces_of}
 use Rattle.rank_checker.specs.Progress.{going, reader_seen, step, stepped}
 use Rattle.rank_checker.proofs.ReadLaws.{step_goes, step_stops, step_leads, step_in_time}
 use Rattle.rank_checker.proofs.draft.read_lines.Goals as goal
@@ -11,7 +11,7 @@ returns-in-Some-2-clause-reading c =
     let n = c.loop-line.number in
     let line = c.in-Some.line.now in
     let turn : Err c.in-Some-2.kind ≡ step old n line = ap (λ o. stepped o new) (sym c.in-Some-2.is) ∙ c.in_ok-kind.ensures in
-    step_stops old n line (lines_of c.in-Some.more.now) c.in-Some-2.kind turn ∙ ap (going old n) c.in-Some.ensures.lines ∙ c.loop-line.invariant.going
+    step_stops old n line (pieces_of 10 c.in-Some.more.now) c.in-Some-2.kind turn ∙ ap (going old n) c.in-Some.ensures.lines ∙ c.loop-line.invariant.going
 
 pub loop-line-preserved : goal.loop-line-preserved
 loop-line-preserved c =
@@ -21,7 +21,7 @@ loop-line-preserved c =
     let line = c.in-Some.line.now in
     let turn : Ok new ≡ step old n line = ap (λ o. stepped o new) (sym c.in_default-2.is) ∙ c.in_ok-kind.ensures in
     let early = step_in_time old new n line turn in record {
-      going = step_goes old new n line (lines_of c.in-Some.more.now) turn ∙ ap (going old n) c.in-Some.ensures.lines ∙ c.loop-line.invariant.going;
+      going = step_goes old new n line (pieces_of 10 c.in-Some.more.now) turn ∙ ap (going old n) c.in-Some.ensures.lines ∙ c.loop-line.invariant.going;
       led = step_leads old new n line turn c.loop-line.invariant.led;
       early = omega arith;
     }

@@ -1,6 +1,6 @@
 use Rattle.std.proofs.Common.{◌≡◌, ◌≤◌, ◌+◌, length}
 use Rattle.metered.specs.Limits.{most_lines}
-use Rattle.rank_checker.specs.Lines.{lines_of}
+use Rattle.text_lines.specs.Pieces.{pieces_of}
 use Rattle.rank_checker.specs.Verdict.{reading_of}
 use Rattle.rank_checker.specs.Progress.{IsLed, going, reader_seen}
 use Rattle.rank_checker.proofs.draft.read_lines.Given as goal
@@ -8,7 +8,7 @@ use Rattle.rank_checker.proofs.draft.read_lines.Given as goal
 -- the rest gives what the whole text does
 abbrev pub invariant-loop-line : goal.invariant-loop-line
 invariant-loop-line l = record {
-  going : going (reader_seen l.reader) l.number (lines_of l.rest) ≡ reading_of l.text;
+  going : going (reader_seen l.reader) l.number (pieces_of 10 l.rest) ≡ reading_of l.text;
   led : IsLed (reader_seen l.reader);
   early : l.number ≤ most_lines + 1;
 }
