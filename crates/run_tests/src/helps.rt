@@ -134,7 +134,7 @@ and on it the lowest fault. `ftmpi check --help` has the faults of a program.
   2 BadRank  R isn't one of the ranks, 0 to N - 1
   3 Limit    the script has more than 256 lines
 
-Faults of a run, which ends without a report then. A choice is which message a
+Faults of a run, which then ends without a report; a choice is which message a
 receive took, or what a probe found:
   audit fault K         the outcome isn't one of a run without crashes:
                           1 a rank has more choices stored than it makes
