@@ -25,30 +25,23 @@ fn check<'a>(alloc: Global) -> Result<Command<'a>, AllocError> {
 
 fn run<'a>(alloc: Global) -> Result<Command<'a>, AllocError> {
     Command::new(alloc, "run")
-        .about(
-            "Runs a program and prints its lines, how each rank ended, and the calls of the logger",
-        )
+        .about("Runs a program and prints its lines and how each rank ended")
         .after_help(help::RUN)
         .arg(ranks(alloc))?
         .arg(script(alloc))?
-        .arg(limit(
-            alloc,
-            "idle",
-            "T",
-            "Idle turns before a rank may be stalled, 1 to 1000000000",
-        ))?
+        .arg(limit(alloc, "idle", "T", "Idle turns (below), 1 to 1000000000"))?
         .arg(limit(
             alloc,
             "steps",
             "S",
-            "Steps that a rank makes at most, 1 to 1000000000",
+            "Steps a rank may make, 1 to 1000000000",
         ))?
         .arg(program(alloc))
 }
 
 fn world<'a>(alloc: Global) -> Result<Command<'a>, AllocError> {
     Command::new(alloc, "world")
-        .about("Applies events to the ranks of a program and prints each reply, and then the lines")
+        .about("Gives a program's ranks the events of a file and prints each reply")
         .after_help(help::WORLD)
         .arg(ranks(alloc))?
         .arg(program(alloc))?
@@ -69,7 +62,7 @@ fn script<'a>(alloc: Global) -> Arg<'a> {
     Arg::new(alloc, "script")
         .long("script")
         .value_name("FILE")
-        .help("The script of the run: which ranks crash and take images, and when")
+        .help("Which ranks crash or take images, and when (below)")
         .action(ArgAction::Set)
 }
 
@@ -86,7 +79,7 @@ fn limit<'a>(alloc: Global, id: &'a str, value: &'a str, help: &'a str) -> Arg<'
 fn program<'a>(alloc: Global) -> Arg<'a> {
     Arg::new(alloc, "program")
         .value_name("PROGRAM")
-        .help("The rank program")
+        .help("The file of the rank program")
         .required(true)
         .action(ArgAction::Set)
 }
@@ -94,7 +87,7 @@ fn program<'a>(alloc: Global) -> Arg<'a> {
 fn events<'a>(alloc: Global) -> Arg<'a> {
     Arg::new(alloc, "events")
         .value_name("EVENTS")
-        .help("The events, one a line")
+        .help("The file of events (below)")
         .required(true)
         .action(ArgAction::Set)
 }

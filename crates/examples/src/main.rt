@@ -7,7 +7,7 @@ use shown_runs::show_all;
 use std::io;
 
 /// The words of each run, after the program's name.
-const RUNS: [&str; 63] = [
+const RUNS: [&str; 66] = [
     "run --ranks 2 answer.rank",
     "run --ranks 4 ring.rank",
     "run --ranks 2 ping_pong.rank",
@@ -67,6 +67,9 @@ const RUNS: [&str; 63] = [
     "world --ranks 2 overtaking.rank old_ask.events",
     "world --ranks 1 one_barrier.rank one_barrier.events",
     "world --ranks 3 reduce_min.rank reduce.events",
+    "world --ranks 1 held.rank held.events",
+    "world --ranks 2 overtaking.rank store_waits.events",
+    "world --ranks 2 answer.rank replaying.events",
     "world --ranks 2 answer.rank cannot.events",
     "world --ranks 2 answer.rank bad_line.events",
     "world --ranks 2 answer.rank none.events",

@@ -112,7 +112,7 @@ fn put_token(alloc: Heap, shown: &mut Vec<u8, Heap>, token: &Token) -> Result<()
     Ok(())
 }
 
-/// The canonical text of a line's statement, whatever stands on the lines round it.
+/// The canonical text of a line's statement, whatever stands on the lines around it.
 fn statement_shown(alloc: Heap, line: &[u8]) -> Result<Vec<u8, Heap>, AllocError> {
     let mut forms = Vec::new(alloc);
     if let Some(tokens) = tokens(alloc, line)? {

@@ -1,4 +1,4 @@
--- What waits at the gate. An event waits for its store and its acknowledgement; a send or a line, the effects, for all
+-- What waits at the gate. An event waits for its store and its acknowledgment; a send or a line, the effects, for all
 -- events before it (output commit: Elnozahy, Alvisi, Wang and Johnson 2002, section 2.4).
 use Rattle.std.specs.Prelude.{ℕ, zero, suc, ◌≤◌, nat_lt, ◌==◌, Bool, true, false, if◌then◌else◌, List, [], ◌∷◌, Option, Some, None}
 use Rattle.metered.specs.Limits.{most_effects}

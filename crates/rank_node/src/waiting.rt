@@ -5,7 +5,7 @@ use plain_logger::Event;
 /// Something of a rank that hasn't passed its gate, or isn't acknowledged yet.
 #[derive(Clone, Copy, Debug)]
 pub enum Waiting {
-    /// An event, which waits for its store and then for its acknowledgement.
+    /// An event, which waits for its store and then for its acknowledgment.
     Event(Event),
     /// A send, whose packet the payload log holds for the destination; the
     /// clock is that of its act.

@@ -2,7 +2,7 @@
 //!
 //! [`print`] writes statements as text: one on each line, indented by the blocks that are
 //! open, with a space where the canonical text has one and with no parentheses but those
-//! round an operand that is itself an operation. What it writes of a whole program is a
+//! around an operand that is itself an operation. What it writes of a whole program is a
 //! text of the same statements ([`law_reads_back`]).
 #![tactic(auto)]
 

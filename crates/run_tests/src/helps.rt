@@ -1,4 +1,4 @@
-//! What help says, whole: no line of it is longer than 100 columns.
+//! What help says, whole: no line of it is longer than 80 columns.
 use crate::scenes::answer_of;
 use std::process::Abort;
 use std::sync::Wait;
@@ -13,8 +13,8 @@ Usage: ftmpi <COMMAND>
 
 Commands:
   check  Prints a program's canonical text, or its first fault
-  run    Runs a program and prints its lines, how each rank ended, and the calls of the logger
-  world  Applies events to the ranks of a program and prints each reply, and then the lines
+  run    Runs a program and prints its lines and how each rank ended
+  world  Gives a program's ranks the events of a file and prints each reply
   help   Print this message or the help of the given subcommand(s)
 
 Options:
@@ -29,20 +29,20 @@ Exit status, with what standard error says:
      the script is refused             script line L: fault K NAME
      the events are refused            events line L: fault K NAME
      a file can't be read              cannot read FILE
-  3  the arguments are refused         what is wrong with them, and how to call the program
+  3  the arguments are refused         what is wrong, and how to call ftmpi
      an argument isn't UTF-8           argument K isn't UTF-8
   4  there is no memory                out of memory
   5  standard output can't be written  nothing
-Standard output is empty with 2 to 4, and where a run ends without a report. The help of each
-command says what its faults mean.
+Standard output is empty with status 2, 3 or 4, and where a run ends without a
+report. The help of each command says what its faults mean.
 
 Examples, at the top of the repository:
   ./ftmpi check examples/canonical.rank
   ./ftmpi run --ranks 2 examples/answer.rank
   ./ftmpi world --ranks 2 examples/answer.rank examples/crash.events
 
-Programs are described in docs/LANGUAGE.md, runs and their scripts in docs/RUNS.md, worlds in
-docs/WORLDS.md, and all forms in docs/FORMATS.md.
+Programs are described in docs/LANGUAGE.md, runs and their scripts in
+docs/RUNS.md, worlds in docs/WORLDS.md, and all forms in docs/FORMATS.md.
 ";
 
 /// The help of `check`.
@@ -52,25 +52,31 @@ Prints a program's canonical text, or its first fault
 Usage: ftmpi check <PROGRAM>
 
 Arguments:
-  <PROGRAM>  The rank program
+  <PROGRAM>  The file of the rank program
 
 Options:
   -h, --help  Print help
 
-Faults of a program, as `line L: fault K NAME`: the first faulty line, and on it the lowest fault.
+The canonical text is the same program in one layout, without comments and
+blank lines.
+
+Faults of a program, as `line L: fault K NAME`: the first faulty line, and on
+it the lowest fault.
   1 NotText        a byte that isn't printable ASCII
   2 NotAStatement  the line begins with no statement word
   3 BadForm        the line isn't of its statement's form
   4 Undeclared     a name isn't declared above as what it is used for
   5 DeclaredTwice  a name is declared again
   6 BlockOpen      a block isn't closed
-  7 BlockStray     an `end` or `else` without its block, or a declaration inside one
+  7 BlockStray     an `end` or `else` without its block, or a declaration inside
+                   a block
   8 Limit          a limit is passed
   9 NumberRange    a number is above 9223372036854775807
-docs/LANGUAGE.md has the statements, the limits, and for each fault a text that has it.
+docs/LANGUAGE.md has the statements, the limits, and for each fault a text that
+has it.
 
-Exit status: 0 where the text is printed, 2 where the program is refused or can't be read; `ftmpi
---help` has the others.
+Exit status: 0 where the text is printed, 2 where the program is refused or
+can't be read; `ftmpi --help` has the others.
 
 Example, at the top of the repository:
   ./ftmpi check examples/canonical.rank
@@ -78,108 +84,145 @@ Example, at the top of the repository:
 
 /// The help of `run`.
 const RUN: &str = "\
-Runs a program and prints its lines, how each rank ended, and the calls of the logger
+Runs a program and prints its lines and how each rank ended
 
 Usage: ftmpi run [OPTIONS] --ranks <N> <PROGRAM>
 
 Arguments:
-  <PROGRAM>  The rank program
+  <PROGRAM>  The file of the rank program
 
 Options:
       --ranks <N>      The number of ranks, 1 to 8
-      --script <FILE>  The script of the run: which ranks crash and take images, and when
-      --idle <T>       Idle turns before a rank may be stalled, 1 to 1000000000 [default: 1000000]
-      --steps <S>      Steps that a rank makes at most, 1 to 1000000000 [default: 1000000]
+      --script <FILE>  Which ranks crash or take images, and when (below)
+      --idle <T>       Idle turns (below), 1 to 1000000000 [default: 1000000]
+      --steps <S>      Steps a rank may make, 1 to 1000000000 [default: 1000000]
   -h, --help           Print help
 
-The report is printed when the run is over: the lines of each rank, as `R> V`; then how each rank
-ended, as `rank R: END`; then how many ranks crashed and how often the event logger was called, as
-`crashes C, logger calls T`. END is one of
-  halted      the program came to its end
-  fault K     a statement can't be done: 1 a result out of range, 2 division by zero, 3 an index,
-              4 a rank, 5 a tag, 6 a message longer than its buffer, 7 a packet of another
-              collective
+The report is printed when the run is over:
+  R> V                       rank R printed V; the lines stand rank by rank
+  rank R: END                how rank R ended
+  crashes C, logger calls T  how often ranks crashed and called the event logger
+END is one of
+  halted      the rank came to the end of the program
+  fault K     a statement can't be done:
+                1 a result is out of range
+                2 a division by zero
+                3 an index is outside its array
+                4 there is no such rank
+                5 a tag isn't 0 to 32767
+                6 a message is longer than its buffer
+                7 a packet is one of another collective
   stalled     it waits for a message that doesn't come
-  unfinished  it made S steps, or its next act passes a limit, or its replay didn't end
+  unfinished  it made S steps, or its next act passes a limit, or its replay
+              didn't end
+After T idle turns one after another, in which nothing came, a rank that waits
+looks whether it waits in vain. With a smaller T a stalled run ends sooner.
 
-Lines of the script, the file that --script names:
-  kill R at C   rank R crashes once it has made its act of clock C; it starts again and replays
-  image R at C  rank R takes an image of itself then, from which it starts after a later crash
-A rank's acts are its sends, receptions, answers to probes and prints, and the first has clock 1.
-The lines of one rank are used in their order, each once. Blank lines, and lines that begin with #,
-are skipped.
+Each line of the script asks something of one rank:
+  kill R at C   rank R crashes once it has made its act of clock C; it starts
+                again and replays, which is to make its acts again
+  image R at C  rank R takes an image of itself then, from which it starts
+                after a later crash
+A rank's acts are its sends, receptions, answers to probes and prints; the
+first has clock 1, the next clock 2. The script's lines for one rank are used
+in their order, each once. Blank lines, and lines that begin with #, are
+skipped.
 
-Faults of a script, as `script line L: fault K NAME`: the first faulty line, and on it the lowest
-fault. `ftmpi check --help` has the faults of a program.
+Faults of a script, as `script line L: fault K NAME`: the first faulty line,
+and on it the lowest fault. `ftmpi check --help` has the faults of a program.
   1 BadLine  the line has neither form, or C isn't 1 to 268435455
   2 BadRank  R isn't one of the ranks, 0 to N - 1
   3 Limit    the script has more than 256 lines
 
-Faults of a run, which ends without a report then:
-  audit fault K         the outcome isn't one of a run without crashes: 1 a rank has more choices
-                        stored than it makes, 2 a choice that it can't make, 3 other lines than it
-                        prints, 4 another end, 5 it made S steps and isn't there yet
-  rank R: node fault K  rank R couldn't go on: 1 an image where something waits to be stored, 2 its
-                        shelf of images failed, 3 what lies there is no image of it, 4 a stored
-                        choice that its replay can't make
+Faults of a run, which then ends without a report; a choice is which message a
+receive took, or what a probe found:
+  audit fault K         the outcome isn't one of a run without crashes:
+                          1 a rank has more choices stored than it makes
+                          2 a choice is stored that it can't make
+                          3 it prints other lines than were shown
+                          4 it ends in another way
+                          5 it made S steps and isn't at its end yet
+  rank R: node fault K  rank R couldn't go on:
+                          1 it was to take an image while something waits
+                          2 its shelf, which keeps its image, failed
+                          3 what lies on its shelf is no image of it
+                          4 its replay can't make a choice that is stored
 
-Exit status: 0 where every rank halted, 1 where one didn't or there is no report, 2 where the
-program or the script is refused or can't be read; `ftmpi --help` has the others.
+Exit status: 0 where every rank halted, 1 where one didn't or there is no
+report, 2 where the program or the script is refused or can't be read; `ftmpi
+--help` has the others.
 
 Examples, at the top of the repository:
   ./ftmpi run --ranks 2 examples/answer.rank
   ./ftmpi run --ranks 2 --script examples/answer.script examples/answer.rank
+
+docs/RUNS.md tells how scripts are used, what a crash costs and how to read a
+report.
 ";
 
 /// The help of `world`.
 const WORLD: &str = "\
-Applies events to the ranks of a program and prints each reply, and then the lines
+Gives a program's ranks the events of a file and prints each reply
 
 Usage: ftmpi world --ranks <N> <PROGRAM> <EVENTS>
 
 Arguments:
-  <PROGRAM>  The rank program
-  <EVENTS>   The events, one a line
+  <PROGRAM>  The file of the rank program
+  <EVENTS>   The file of events (below)
 
 Options:
       --ranks <N>  The number of ranks, 1 to 8
   -h, --help       Print help
 
-Events, one a line, with ranks R and S, and the replies to each:
-  step R        R's machine makes one step                moved, blocked, held, ended
-  put S R       S's next frame goes on the wire to R      put I data K, put I ask F, put I kept U
-  arrive S R I  frame I of the wire from S arrives at R   accepted, repeated, gap, noted
-  store R       R's oldest unstored event is stored       stored L
-  ack R         R's oldest stored event is acknowledged   acked
-  release R     R's oldest waiting send or line passes    released C
-  image R       R takes an image of itself                imaged
-  crash R       R goes down                               crashed
-  restart R     R starts again, at its image if it can    restarted L
-An event that can't happen is answered `refused` and changes nothing. Blank lines, and lines that
-begin with #, are skipped. Behind the replies stand the lines of each rank, as `R> V`.
+Events, one a line; R and S are ranks:
+  step R        R makes one step of the program
+  put S R       S's next frame to R goes on the wire between them
+  arrive S R I  frame I of the wire from S to R arrives, and stays on the wire
+  store R       R's oldest event that isn't stored is stored
+  ack R         R's oldest stored event is acknowledged
+  release R     R's oldest send or line that waits is released
+  image R       R takes an image of itself
+  crash R       R goes down
+  restart R     R starts again, at its last image if it has one
+A frame is a packet, which is a message with its number; or it asks for packets
+again, or says that an image has them. The events of R that are stored are its
+receptions and its answers to probes. Blank lines, and lines that begin with #,
+are skipped.
 
-What the replies say:
-  blocked        a receive or a probe has no packet to take
-  held           64 sends and lines wait, and the step would be one more
-  ended          the program came to its end, or a statement of it can't be done
-  put I ..       the frame has index I, from 0: it is packet K, or it asks for packets from F on,
-                 or it says that an image has the packets up to U
-  repeated, gap  the packet came before, or it comes too early
-  noted          the frame asked for packets, or told of an image
-  stored L       R has L events at the event logger
-  released C     the send or line of clock C has passed
-  restarted L    R has L events to replay
+Replies, one to each event; behind them stand the lines of each rank that have
+passed, as `R> V`:
+  step     moved         the step is made; its send or line may have to wait
+           blocked       a receive or a probe has no packet to take
+           held          64 sends and lines wait, and this would be one more
+           ended         the program is at its end, or a statement can't be done
+  put      put I data K  frame I of the wire, counted from 0, is packet K
+           put I ask F   it asks R for packets from F on
+           put I kept U  it says that an image of S has R's packets up to U
+  arrive   accepted      the packet is the next of S
+           repeated      it came before
+           gap           it comes too early
+           noted         the frame is no packet
+  store    stored L      R has L events at the event logger
+  ack      acked         the event is off the list of what waits
+  release  released C    the send or line of clock C has passed
+  image    imaged        the image is kept, and outlives a crash
+  crash    crashed       R is down
+  restart  restarted L   R is up, and has L events to replay
+  any      refused       the event can't happen, and changes nothing
 
-Faults of the events, as `events line L: fault K NAME`: the first faulty line, and on it the lowest
-fault. `ftmpi check --help` has the faults of a program.
+Faults of the events, as `events line L: fault K NAME`: the first faulty line,
+and on it the lowest fault. `ftmpi check --help` has the faults of a program.
   1 BadLine  the line has none of these forms
   2 Limit    there are more than 100000 lines
 
-Exit status: 0 where the replies are printed, whatever they are, 2 where the program or the events
-are refused or can't be read; `ftmpi --help` has the others.
+Exit status: 0 where the replies are printed, whatever they are, 2 where the
+program or the events are refused or can't be read; `ftmpi --help` has the
+others.
 
 Example, at the top of the repository:
   ./ftmpi world --ranks 2 examples/answer.rank examples/crash.events
+
+docs/WORLDS.md is a guide to worlds, event by event.
 ";
 
 /// Words, and all that they print.
@@ -205,7 +248,7 @@ fn say_all<R: Threads + Wait + Sync + Copy + Send + AllocGlobal + Abort>(
         let found = (answer.status, answer.out(), answer.err());
         assert_eq!(rt; found, (0, want, ""), "at {words}");
         assert!(rt;
-            answer.out().lines().all(|line| line.len() <= 100),
+            answer.out().lines().all(|line| line.len() <= 80),
             "a line of {words} is too long"
         );
     }

@@ -256,7 +256,7 @@ Counts-restart w r answer w' c f whole =
 
 -- ---- stores
 
--- an acknowledgement
+-- an acknowledgment
 pub Counts-ack : (w : WorldValue) (r : ℕ) (answer : Reply) (w' : WorldValue) → Counts w → AckFollows w r answer w' → Counts w'
 Counts-ack w r answer w' c f =
     Counts-rank w w' r _ (ap (λ z. z.ranks) f.after) (ap (λ z. z.logger.rows) f.after)

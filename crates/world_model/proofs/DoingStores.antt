@@ -1,4 +1,4 @@
--- What a store and an acknowledgement come to.
+-- What a store and an acknowledgment come to.
 use Rattle.std.proofs.Common.{◌≡◌, ◌≢◌, ℕ, ◌+◌, ◌<◌, ◌≤◌, [], ◌∷◌, Option, Some, None, length, refl, sym}
 use Rattle.std.proofs.Common.{ap, subst, ◌∙◌, arith, slice_get, IsSomeAnd, option_map}
 use Rattle.std.proofs.lemmas.Option.{slice_get_within}
@@ -247,5 +247,5 @@ store_possible w r x e at oldest cannot = let none : Some e ≡ None = sym oldes
 -- what a store comes to, and what its calls ask for
 pub ruleset store_laws = (store_nowhere, store_idle, store_none, store_some, store_row, store_accepted, store_oldest, store_possible)
 
--- what an acknowledgement comes to
+-- what an acknowledgment comes to
 pub ruleset ack_laws = (ack_nowhere, ack_idle, ack_none, ack_some)

@@ -132,7 +132,7 @@ get_drop zero (y ∷ xs) k x e = (let z : k ≡ 0 + k = omega arith in subst (λ
 get_drop (suc n) [] k x e = absurd cc
 get_drop (suc n) (y ∷ xs) k x e = (let z : suc (n + k) ≡ suc n + k = omega arith in subst (λ j. slice_get (y ∷ xs) j ≡ Some x) z (get_drop n xs k x e))
 
--- and the other way round
+-- and the other way around
 pub get_dropped : {A : Type 0} (n : ℕ) (xs : List A) (k : ℕ) (x : A) → slice_get xs (n + k) ≡ Some x → slice_get (drop n xs) k ≡ Some x
 get_dropped zero [] k x e = absurd cc
 get_dropped zero (y ∷ xs) k x e = (let z : 0 + k ≡ k = omega arith in subst (λ j. slice_get (y ∷ xs) j ≡ Some x) z e)

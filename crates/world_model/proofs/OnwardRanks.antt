@@ -1,5 +1,5 @@
 -- That the ranks of a world can get on, where one rank changes: what is asked of its new value, and a crash and an
--- acknowledgement.
+-- acknowledgment.
 use Rattle.std.proofs.Common.{◌≡◌, ℕ, ◌≤◌, ◌⊎◌, inl, inr, ⊎_elim, List, [], Option, Some, None, length, refl, sym, ap, subst}
 use Rattle.std.proofs.Common.{◌∙◌, arith, slice_get, slice_set}
 use Rattle.std.proofs.lemmas.Bool.{cases_eq}
@@ -148,7 +148,7 @@ one_changed w w' r o ranks images wires run k =
 pub same_behind : (w w' : WorldValue) (r : ℕ) (v y : Live) → w'.run ≡ w.run → y.rank.clock ≡ v.rank.clock → Behind w'.run r y → Behind w.run r v
 same_behind w w' r v y run clock b = (let e = ap (λ C. length (history C r)) run in omega (arith, b, e, clock))
 
--- ---- crash and acknowledgement
+-- ---- crash and acknowledgment
 
 -- a crash: the rank is down
 pub Onward-crash : (w : WorldValue) (r : ℕ) (answer : Reply) (w' : WorldValue) → Stands w' → CrashFollows w r answer w' → Onward w → Onward w'
@@ -159,7 +159,7 @@ Onward-crash w r answer w' t f k = onward_changed w w' r None t changed (λ y e 
         one_changed w w' r None (ap (λ z. z.ranks) f.after) (ap (λ z. z.images) f.after)
         (same_wires w w' (ap (λ z. z.wires) f.after)) (ap (λ z. z.run) f.after) k
 
--- an acknowledgement: less waits
+-- an acknowledgment: less waits
 pub Onward-ack : (w : WorldValue) (r : ℕ) (answer : Reply) (w' : WorldValue) → Stands w' → AckFollows w r answer w' → Onward w → Onward w'
 Onward-ack w r answer w' t f k = onward_gets_on w w' r f.before acked t f.live changed owes k
   where

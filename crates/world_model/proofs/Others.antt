@@ -1,4 +1,4 @@
--- Frames, stores and acknowledgements keep what a world stands for and what senders keep, whether their rank replays or not.
+-- Frames, stores and acknowledgments keep what a world stands for and what senders keep, whether their rank replays or not.
 use Rattle.std.proofs.Common.{◌≡◌, ◌≢◌, ℕ, zero, suc, ◌+◌, ◌-◌, ◌<◌, ◌≤◌, ◌⊎◌, inl, inr, ⊎_elim, Bool, true, false, ◌==◌, if◌then◌else◌, List, []}
 use Rattle.std.proofs.Common.{◌∷◌, ◌++◌, Option, Some, None, length, take, drop, refl, sym, ap, subst, ◌∙◌, arith, slice_get, slice_set}
 use Rattle.std.proofs.Common.{slice_index_or, option_and_then, option_map, ℤ}

@@ -344,7 +344,7 @@ step_takes_memory v [] = takes_memory v
 step_takes_memory v (e ∷ rest) = replay_takes_memory v
 
 -- The event takes no memory: a step that is the machine's own, or is blocked or held, or comes after the end, or replays a
--- reception, a hit or a miss; each acknowledgement; and each crash. An event that can't happen takes none either.
+-- reception, a hit or a miss; each acknowledgment; and each crash. An event that can't happen takes none either.
 abbrev pub TakesNoMemory : WorldValue → WorldEvent → Type 0
 TakesNoMemory w (Step r) = (v : Live) → IsLive w r v → step_takes_memory v.rank v.left ≡ false
 TakesNoMemory w (Put s d) = CanNot w (Put s d)

@@ -77,7 +77,7 @@ impl<'p> World<'p> {
     }
 
     /// One event. An `Err` is want of memory, and comes only where the event
-    /// isn't refused and takes memory: an acknowledgement and a crash take
+    /// isn't refused and takes memory: an acknowledgment and a crash take
     /// none, nor does a step that is the machine's own, is blocked or held,
     /// comes after the end, or replays a reception, a hit or a miss. The world
     /// is then as it was, but that a restart's fetch may stay in the logger's

@@ -32,7 +32,7 @@ print 5
 print 6
 ";
 
-/// A crash while a line waits for its acknowledgement: the replay takes the packet that the row names.
+/// A crash while a line waits for its acknowledgment: the replay takes the packet that the row names.
 const AFTER_ITS_STORE: [Row; 18] = [
     ("step 0", "moved"),
     ("step 0", "moved"),

@@ -72,7 +72,7 @@ print x
 end
 ";
 
-/// A number goes round all ranks, and each adds its own rank.
+/// A number goes around all ranks, and each adds its own rank.
 pub const RING: &[u8] = b"var x
 if rank == 0
 send 1, 7, 1

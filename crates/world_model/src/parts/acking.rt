@@ -1,4 +1,4 @@
-//! Acknowledgements.
+//! Acknowledgments.
 ghost use Rattle.std.specs.Prelude.{◌≡◌};
 
 use crate::parts::Parts;

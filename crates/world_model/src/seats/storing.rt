@@ -1,5 +1,5 @@
 //! What waits at the gates of the ranks of a world: stores,
-//! acknowledgements and releases.
+//! acknowledgments and releases.
 ghost use Rattle.std.specs.Prelude.{◌≡◌, ◌<◌, [], Some, length, option_and_then, IfOk, OnOk, OnErr, IsSome};
 ghost use Rattle.std.specs.Bool.{OnTrue, OnFalse};
 ghost use Rattle.ports.specs.Console.{after_line};
