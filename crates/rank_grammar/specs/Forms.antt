@@ -19,7 +19,7 @@ pub data Payload : Type 0 where
   lone : (name : List ℕ) → Payload
   one : (e : Tree) → Payload
 
--- the statement of a line, whatever stands on the lines round it
+-- the statement of a line, whatever stands on the lines around it
 pub data Form : Type 0 where
   var_form : (name : List ℕ) → Form
   array_form : (name : List ℕ) (length : ℕ) → Form
@@ -53,7 +53,7 @@ pub data IsPayload : List Token → Payload → Type 0 where
   is_lone : {x : List ℕ} → IsPayload (t.Name x ∷ []) (lone x)
   is_one : {ts : List Token} {e : Tree} → IsNoName ts → Spells whole ts e → IsPayload ts (one e)
 
--- the tokens of a line have the form: a statement word and its arguments, with a comma between two arguments, brackets round an
+-- the tokens of a line have the form: a statement word and its arguments, with a comma between two arguments, brackets around an
 -- array's length and an item's index, and `=` before the value of a `let`, and nothing more
 pub data IsForm : List Token → Form → Type 0 where
   is_var : {x : List ℕ} → IsForm (t.Keyword k.Var ∷ t.Name x ∷ []) (var_form x)

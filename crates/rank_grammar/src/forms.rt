@@ -9,7 +9,7 @@ ghost use Rattle.rank_grammar.specs.Forms.{send_of, recv_of, probe_of, try_probe
 ghost use Rattle.rank_grammar.specs.Forms.{form_with, form_of};
 ghost use Rattle.rank_grammar.specs.SeenForms.{form_in, form_seen, payload_in, pattern_in, whole_pattern_in, rest_in, lone_in};
 
-use crate::form::{Pattern, Form, Payload};
+use crate::form::{Form, Pattern, Payload};
 use crate::name::Name;
 use crate::reader::{expression_at, whole_expression};
 use crate::token::{Keyword, Reduction, Token};
@@ -43,7 +43,10 @@ fn only_name(tokens: &[Token]) -> Option<Name>
     }
 }
 
-fn pattern_in_front(alloc: Heap, tokens: &[Token]) -> Result<Option<(Pattern, &[Token])>, AllocError>
+fn pattern_in_front(
+    alloc: Heap,
+    tokens: &[Token],
+) -> Result<Option<(Pattern, &[Token])>, AllocError>
     ensures { IfOk result (λ c. pattern_in c ≡ pattern_at tokens.now) }
 {
     if let [Token::Any, rest @ ..] = tokens {

@@ -14,7 +14,7 @@ pub mod token;
 pub mod words;
 pub mod written;
 
-pub use form::{Pattern, Form, Payload};
+pub use form::{Form, Pattern, Payload};
 pub use forms::law_one_form;
 pub use lexer::{law_one_lexing, tokens};
 pub use name::Name;

@@ -16,4 +16,4 @@ pub use rank_checker::{
     Array, FaultKind, ParseFault, ProgramFault, law_one_reading, law_program_or_fault,
 };
 pub use rank_grammar::{Name, Operator, Reading, Reduction};
-pub use statement::{Buffer, Pattern, Collective, Payload, Statement};
+pub use statement::{Buffer, Collective, Pattern, Payload, Statement};

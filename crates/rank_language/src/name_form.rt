@@ -14,7 +14,7 @@ ghost use Rattle.rank_language.specs.Shape.{step_of};
 
 use crate::expression::Expression;
 use crate::resolve::Tables;
-use crate::statement::{Buffer, Pattern, Collective, Payload, Statement};
+use crate::statement::{Buffer, Collective, Pattern, Payload, Statement};
 use metered::Heap;
 use rank_checker::Array;
 use rank_grammar::{Form, Name, Written, form};
@@ -55,7 +55,11 @@ fn name(alloc: Heap, tables: Tables<'_>, expression: &Expression) -> Result<Writ
 }
 
 /// The source or the tag with names for its places.
-fn name_pattern(alloc: Heap, tables: Tables<'_>, pattern: &Pattern) -> Result<form::Pattern, AllocError>
+fn name_pattern(
+    alloc: Heap,
+    tables: Tables<'_>,
+    pattern: &Pattern,
+) -> Result<form::Pattern, AllocError>
     requires { IsPatternWithin (length (tables_seen tables).variables) (length (tables_seen tables).arrays) (pattern_of pattern.now) }
     ensures { IfOk result (λ c. pattern_seen c ≡ pattern_named (tables_seen tables.entry) (pattern_of pattern.now)) }
 {

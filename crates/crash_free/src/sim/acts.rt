@@ -14,7 +14,7 @@ use matching::{Context, Packet, Selector};
 use metered::Heap;
 use rank_machine::Want;
 use rank_machine::laws::{
-    law_wants_of_its_state, law_makes_its_miss, law_makes_its_print, law_makes_its_send,
+    law_makes_its_miss, law_makes_its_print, law_makes_its_send, law_wants_of_its_state,
 };
 use std::alloc::AllocError;
 

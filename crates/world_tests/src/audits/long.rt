@@ -89,7 +89,7 @@ fn a_ring(rt: HostRuntime) -> Result<(), Fail> {
         RING,
         4,
         &[(
-            "three times round",
+            "three times around",
             &[
                 &[Took(3, 3, 2), Took(3, 6, 5), Took(3, 9, 8)],
                 &[Took(0, 1, 1), Took(0, 4, 4), Took(0, 7, 7)],

@@ -14,6 +14,6 @@ invariant-loop-rank g l = record {
   same : SameStable l.fn.rank.stable l.rank.stable;
 }
 
--- a release takes one off what waits, and so do a store and its acknowledgement
+-- a release takes one off what waits, and so do a store and its acknowledgment
 abbrev pub decreases-loop-rank : goal.decreases-loop-rank
 decreases-loop-rank g l = length l.rank.pending
