@@ -62,11 +62,11 @@ pub record IsDone (program : ProgramValue) (machines : List MachineValue) (lanes
   pub kept : IsKept program (slice_set machines r m') lanes' (record { rank = r; act = act } ∷ C)
 
 -- a print is made
-pub done_print : (program : ProgramValue) (machines : List MachineValue) (lanes : List (List Slot)) (C : List Passed) (r : ℕ) (m m' : MachineValue) (v : ℤ)
+pub done_print : {program : ProgramValue} {machines : List MachineValue} {lanes : List (List Slot)} {C : List Passed} {r : ℕ} {m m' : MachineValue} {v : ℤ}
     → IsKept program machines lanes C → slice_get machines r ≡ Some m → Wants m (want.Print v)
     → Makes (state_of m) (prints v) None → state_of m' ≡ next (state_of m) (prints v) None → m'.position ≡ next_of m → KeepsRank m m'
     → IsDone program machines lanes C r m' choice.Next (prints v)
-done_print program machines lanes C r m m' v kept there a made state position stays =
+done_print {program} {machines} {lanes} {C} {r} {m} {m'} {v} kept there a made state position stays =
     let after : IsAfter m (prints v) None m' = record { state = state; position = position; stays = stays } in
     let free : IsFree (wants (state_of m)) (prints v) (inbound_of C r) (history C r) = tt in
     record {
@@ -75,16 +75,16 @@ done_print program machines lanes C r m m' v kept there a made state position st
     }
 
 -- a machine that asks for a probe that doesn't wait may miss
-pub may_miss : (m : MachineValue) (w : Selector) → Wants m (want.TryProbe w) → IsTrying (machine_want m)
-may_miss m w a = rw a.at_want tt
+pub may_miss : {m : MachineValue} {w : Selector} → Wants m (want.TryProbe w) → IsTrying (machine_want m)
+may_miss a = rw a.at_want tt
 
 -- a miss is made
-pub done_miss : (program : ProgramValue) (machines : List MachineValue) (lanes : List (List Slot)) (C : List Passed) (r : ℕ) (m m' : MachineValue)
-    (w : Selector)
+pub done_miss : {program : ProgramValue} {machines : List MachineValue} {lanes : List (List Slot)} {C : List Passed} {r : ℕ} {m m' : MachineValue}
+    {w : Selector}
     → IsKept program machines lanes C → slice_get machines r ≡ Some m → Wants m (want.TryProbe w)
     → Makes (state_of m) misses None → state_of m' ≡ next (state_of m) misses None → m'.position ≡ next_of m → KeepsRank m m'
     → IsDone program machines lanes C r m' choice.Miss misses
-done_miss program machines lanes C r m m' w kept there a made state position stays =
+done_miss {program} {machines} {lanes} {C} {r} {m} {m'} {w} kept there a made state position stays =
     let after : IsAfter m misses None m' = record { state = state; position = position; stays = stays } in
     let free : IsFree (wants (state_of m)) misses (inbound_of C r) (history C r) = tt in
     record {
@@ -93,13 +93,13 @@ done_miss program machines lanes C r m m' w kept there a made state position sta
     }
 
 -- a send is made, and its message has a slot
-pub done_send : (program : ProgramValue) (machines : List MachineValue) (lanes : List (List Slot)) (C : List Passed) (r : ℕ) (m m' : MachineValue)
-    (dest : ℕ) (context : Context) (tag : ℕ)
+pub done_send : {program : ProgramValue} {machines : List MachineValue} {lanes : List (List Slot)} {C : List Passed} {r : ℕ} {m m' : MachineValue}
+    {dest : ℕ} {context : Context} {tag : ℕ}
     → IsKept program machines lanes C → slice_get machines r ≡ Some m → Wants m (want.Send dest context tag) → dest < length machines
     → Makes (state_of m) (sends dest context tag (payload (state_of m))) None
     → state_of m' ≡ next (state_of m) (sends dest context tag (payload (state_of m))) None → m'.position ≡ next_of m → KeepsRank m m'
     → IsDone program machines (with_slot lanes r dest context tag (payload (state_of m))) C r m' choice.Next (sends dest context tag (payload (state_of m)))
-done_send program machines lanes C r m m' dest context tag kept there a receiver made state position stays =
+done_send {program} {machines} {lanes} {C} {r} {m} {m'} {dest} {context} {tag} kept there a receiver made state position stays =
     let act : Act = sends dest context tag (payload (state_of m)) in
     let after : IsAfter m act None m' = record { state = state; position = position; stays = stays } in
     let free : IsFree (wants (state_of m)) act (inbound_of C r) (history C r) = tt in
@@ -125,10 +125,10 @@ read_machine now program machines C k r m seen place low read =
     inside = rw place (subst (λ (s : SimValue). r < length s.machines) (sym seen) low)
 
 -- and asks for what the call asks
-pub found_machine : (now : SimValue) (program : ProgramValue) (machines : List MachineValue) (C : List Passed) (k r : ℕ) (m : MachineValue) (w : Want)
+pub found_machine : {now : SimValue} {program : ProgramValue} {machines : List MachineValue} {C : List Passed} {k r : ℕ} {m : MachineValue} (w : Want)
     → value_of program machines C ≡ now → k ≡ r → r < length now.machines → WantsAt now.machines r w → m ≡ get_or machines k m
     → (slice_get machines r ≡ Some m) × Wants m w
-found_machine now program machines C k r m w seen place low machine_want read =
+found_machine {now} {program} {machines} {C} {k} {r} {m} w seen place low machine_want read =
     let there = read_machine now program machines C k r m seen place low read in
     (there, wants_there machines r w m (subst (λ (s : SimValue). WantsAt s.machines r w) (sym seen) machine_want) there)
 

@@ -1,30 +1,23 @@
 -- Receptions and hits: what is found in the slots of a pair of ranks may be taken or hit, and where nothing is found nothing may.
--- A receive and the two probes have this in common: each looks for what its selector names, and makes one kind of act of it.
-use Rattle.std.proofs.Common.{◌≡◌, ◌≢◌, ℕ, ℤ, zero, suc, ◌+◌, ◌<◌, ◌≤◌, List, [], ◌∷◌, Option, Some, None, length, refl, sym, ap, ◌∙◌, subst, arith}
-use Rattle.std.proofs.Common.{slice_get, ◌⊎◌, inl, inr, true, Ok, Err}
+use Rattle.std.proofs.Common.{◌≡◌, ◌≢◌, ℕ, zero, suc, ◌+◌, ◌<◌, ◌≤◌, List, [], ◌∷◌, Some, None, length, refl, sym, ap, ◌∙◌, subst, arith}
+use Rattle.std.proofs.Common.{slice_get, ◌⊎◌, inl, inr, true}
 use Rattle.std.specs.Prelude.{position, IsSomeAnd, IsSome}
 use Rattle.std.proofs.lemmas.Option.{slice_get_within, get_or_from_slice_get}
 use Rattle.matching.specs.declared.selector.Selector.{Selector}
 use Rattle.matching.specs.PacketValue as packet
 use Rattle.matching.specs.Matching.{matches}
 use Rattle.rank_language.specs.Program.{ProgramValue}
-use Rattle.rank_language.specs.Placed.{Buffer, declare, declare_array, assign, assign_item, send, receive, probe, try_probe, print, Collective, collect}
-use Rattle.rank_language.specs.Block.{Block, done, plain, if_only, if_else, loop}
-use Rattle.rank_machine.specs.declared.fault.MachineFault.{MachineFault}
 use Rattle.rank_machine.specs.declared.want.Want.{Want}
 use Rattle.rank_machine.specs.declared.want.Want.TheVariants as want
-use Rattle.rank_machine.specs.Values.{Valued}
-use Rattle.rank_machine.specs.Collectives.{Call, called}
-use Rattle.rank_machine.specs.States.{State}
 use Rattle.rank_machine.specs.Wants.{wants, payload}
-use Rattle.rank_machine.specs.Acts.{Act, Message, carried, sends, takes, hits, misses, prints, Matches, Fits, Makes}
-use Rattle.rank_machine.specs.Acts.{after_receive, after_probe, after_try_probe, collected, after_collect, after_first, unless_faulted, next}
+use Rattle.rank_machine.specs.Acts.{Act, Message, carried, takes, hits, Fits, Makes}
+use Rattle.rank_machine.specs.Acts.{next}
 use Rattle.rank_machine.specs.Machine.{MachineValue, state_of, machine_want, IsReceiving, IsShowing, KeepsRank}
 use Rattle.crash_free.specs.declared.choice.Choice.{Choice}
 use Rattle.crash_free.specs.declared.choice.Choice.TheVariants as choice
 use Rattle.crash_free.specs.declared.not_allowed.NotAllowed.{NotAllowed}
 use Rattle.crash_free.specs.declared.not_allowed.NotAllowed.TheVariants as refusal
-use Rattle.crash_free.specs.Runs.{Passed, History, history, sent, sends_from, at_place, looked_up, IsEligible, IsFree}
+use Rattle.crash_free.specs.Runs.{Passed, history, sent, sends_from, at_place, looked_up, IsEligible, IsFree}
 use Rattle.std.proofs.lemmas.Bool.{cases_lt}
 use Rattle.std.proofs.lemmas.List.Quantifiers.{position-Some}
 use Rattle.crash_free.specs.Sim.{SimValue, start_of, Meaning, makes, meaning, meant, inbound_of, position_after_act, IsAfter, IsRefused, Refuses}
@@ -34,113 +27,9 @@ use Rattle.crash_free.proofs.Taking.{no_history}
 use Rattle.crash_free.proofs.SlotLemmas.{eligible_first, first_eligible, packet_first}
 use Rattle.crash_free.proofs.MailLemmas.{mail_take, mail_hit, with_emptied}
 use Rattle.crash_free.proofs.Keeping.{kept_act}
+use Rattle.crash_free.proofs.AnyClock.{next_clock}
 use Rattle.crash_free.proofs.Choosing.{wants_it, value_of, allowed_act, IsDone, wants_there}
-
--- what an act makes of a rank doesn't depend on its message's clock: so of a receive
-receive_clock : (a : State) (b : Buffer) (r : Block) (act : Act) (m : Message) (c : ℕ)
-    → after_receive a b r act (Some (record m { clock = c })) ≡ after_receive a b r act (Some m)
-receive_clock a b r (sends d x t items) m c = refl
-receive_clock a b r (takes s j) m c = refl
-receive_clock a b r (hits s j) m c = refl
-receive_clock a b r misses m c = refl
-receive_clock a b r (prints v) m c = refl
-
--- of a probe that waits
-probe_clock : (a : State) (r : Block) (act : Act) (m : Message) (c : ℕ) → after_probe a r act (Some (record m { clock = c })) ≡ after_probe a r act (Some m)
-probe_clock a r (sends d x t items) m c = refl
-probe_clock a r (takes s j) m c = refl
-probe_clock a r (hits s j) m c = refl
-probe_clock a r misses m c = refl
-probe_clock a r (prints v) m c = refl
-
--- of one that doesn't
-try_clock : (a : State) (f : ℕ) (r : Block) (act : Act) (m : Message) (c : ℕ)
-    → after_try_probe a f r act (Some (record m { clock = c })) ≡ after_try_probe a f r act (Some m)
-try_clock a f r (sends d x t items) m c = refl
-try_clock a f r (takes s j) m c = refl
-try_clock a f r (hits s j) m c = refl
-try_clock a f r misses m c = refl
-try_clock a f r (prints v) m c = refl
-
--- of a packet of a collective
-collected_clock : (a : State) (x : Collective) (r : Block) (m : Message) (c : ℕ) (v : Valued Call)
-    → collected a x r (record m { clock = c }) v ≡ collected a x r m v
-collected_clock a x r m c (Ok call) = refl
-collected_clock a x r m c (Err k) = refl
-
--- of a collective
-collect_clock : (a : State) (x : Collective) (r : Block) (act : Act) (m : Message) (c : ℕ)
-    → after_collect a x r act (Some (record m { clock = c })) ≡ after_collect a x r act (Some m)
-collect_clock a x r (sends d y t items) m c = refl
-collect_clock a x r (takes s j) m c = collected_clock a x r m c (called a.store x)
-collect_clock a x r (hits s j) m c = refl
-collect_clock a x r misses m c = refl
-collect_clock a x r (prints v) m c = refl
-
--- of each statement
-first_clock : (a : State) (b : Block) (act : Act) (m : Message) (c : ℕ) → after_first a b act (Some (record m { clock = c })) ≡ after_first a b act (Some m)
-first_clock a done act m c = refl
-first_clock a (plain (declare p) r) act m c = refl
-first_clock a (plain (declare_array p) r) act m c = refl
-first_clock a (plain (assign p e) r) act m c = refl
-first_clock a (plain (assign_item p i e) r) act m c = refl
-first_clock a (plain (send d t p) r) act m c = refl
-first_clock a (plain (receive x t b) r) act m c = receive_clock a b r act m c
-first_clock a (plain (probe x t) r) act m c = probe_clock a r act m c
-first_clock a (plain (try_probe x t f) r) act m c = try_clock a f r act m c
-first_clock a (plain (print e) r) act m c = refl
-first_clock a (plain (collect x) r) act m c = collect_clock a x r act m c
-first_clock a (if_only e y r) act m c = refl
-first_clock a (if_else e y o r) act m c = refl
-first_clock a (loop e y r) act m c = refl
-
--- and of a state, whether it has faulted or not
-next_clock : (k : Option MachineFault) (a : State) (act : Act) (m : Message) (c : ℕ)
-    → unless_faulted k a act (Some (record m { clock = c })) ≡ unless_faulted k a act (Some m)
-next_clock None a act m c = first_clock a a.rest act m c
-next_clock (Some k) a act m c = refl
-
--- A want that looks for what its selector names, and the kind of act that it makes of a message of a source, at a place.
-pub record Seeks (v : Want) (w : Selector) (act : ℕ → ℕ → Act) : Type 0 where
-  pub no_step : want.Internal ≡ v → ⊥
-  pub means : (items : List ℤ) (s j : ℕ) → meaning v items (choice.Take s j) ≡ makes (act s j)
-  pub free : (inbound : ℕ → List Message) (h : History) (s j : ℕ) → IsEligible inbound h s j w → IsFree v (act s j) inbound h
-  pub eligible : (inbound : ℕ → List Message) (h : History) (s j : ℕ) → IsFree v (act s j) inbound h → IsEligible inbound h s j w
-  pub fits : (items : List ℤ) (s j : ℕ) (m : Message) → Matches w s m → Fits v items (act s j) (Some m)
-  pub finds : (inbound : ℕ → List Message) (s j : ℕ) → looked_up inbound (act s j) ≡ at_place (inbound s) j
-
--- a receive takes it
-pub receiving : (w : Selector) → Seeks (want.Receive w) w takes
-receiving w = record {
-  no_step = λ e. cc;
-  means = λ items s j. refl;
-  free = λ inbound h s j e. e;
-  eligible = λ inbound h s j f. f;
-  fits = λ items s j m h. h;
-  finds = λ inbound s j. refl;
-}
-
--- a probe that waits hits it
-probing : (w : Selector) → Seeks (want.Probe w) w hits
-probing w = record {
-  no_step = λ e. cc;
-  means = λ items s j. refl;
-  free = λ inbound h s j e. e;
-  eligible = λ inbound h s j f. f;
-  fits = λ items s j m h. h;
-  finds = λ inbound s j. refl;
-}
-
--- and so does one that doesn't
-trying : (w : Selector) → Seeks (want.TryProbe w) w hits
-trying w = record {
-  no_step = λ e. cc;
-  means = λ items s j. refl;
-  free = λ inbound h s j e. e;
-  eligible = λ inbound h s j f. f;
-  fits = λ items s j m h. h;
-  finds = λ inbound s j. refl;
-}
+use Rattle.crash_free.proofs.Seeking.{Seeks, receiving, probing, trying}
 
 -- what is found stands first, so it may be taken or hit
 found_eligible : (program : ProgramValue) (machines : List MachineValue) (lanes : List (List Slot)) (C : List Passed) (r s i : ℕ) (w : Selector)
@@ -270,25 +159,43 @@ pub record Found (machines : List MachineValue) (lanes : List (List Slot)) (r : 
   pub there : s < length machines
   pub first : position (passes w) (lane lanes s r) ≡ Some i
 
+-- what a call knows of a rank, from what the call was given
+pub sought : {now : SimValue} {program : ProgramValue} {machines : List MachineValue} {lanes : List (List Slot)} {C : List Passed} (r : ℕ) (v : Want)
+    → value_of program machines C ≡ now → IsKept program machines lanes C → r < length now.machines → WantsAt now.machines r v
+    → Sought now program machines lanes C r v
+sought r v seen kept rank wanted = record { seen = seen; kept = kept; rank = rank; wanted = wanted }
+
+-- what a call found is there, where it counts the ranks
+pub found_by : {now : SimValue} {program : ProgramValue} {machines : List MachineValue} {lanes : List (List Slot)} {C : List Passed}
+    {r source index s i n : ℕ} {v : Want} (w : Selector) → Sought now program machines lanes C r v → n ≡ length now.machines → (s ≡ source) × (s < n)
+    → i + 1 ≡ index → position (passes w) (lane lanes s r) ≡ Some i → Found machines lanes r w source index s i
+found_by w known ranks at place first = record {
+  same_source = at.0;
+  place = place;
+  there = rw (ap (λ (v : SimValue). length v.machines) known.seen, ← ranks) at.1;
+  first = first;
+}
+
 -- where nothing was found the choice is refused
-pub refuses_take : (now : SimValue) (program : ProgramValue) (machines : List MachineValue) (lanes : List (List Slot)) (C : List Passed) (r s j : ℕ)
-    (v : Want) (w : Selector) (act : ℕ → ℕ → Act)
-    → Seeks v w act → Sought now program machines lanes C r v
-    → (s < length machines → (i : ℕ) → i + 1 ≡ j → position (passes w) (lane lanes s r) ≢ Some i)
+pub refuses_take : {now : SimValue} {program : ProgramValue} {machines : List MachineValue} {lanes : List (List Slot)} {C : List Passed} {r n : ℕ} (s j : ℕ)
+    {v : Want} {w : Selector} {act : ℕ → ℕ → Act}
+    → Seeks v w act → Sought now program machines lanes C r v → n ≡ length now.machines
+    → (s < n → (i : ℕ) → i + 1 ≡ j → position (passes w) (lane lanes s r) ≢ Some i)
     → Refuses now r (choice.Take s j) refusal.NotEligible
-refuses_take now program machines lanes C r s j v w act k known none =
+refuses_take {now} {program} {machines} {lanes} {C} {r} {n} s j {v} {w} {act} k known ranks none =
+    let count : n ≡ length machines = ranks ∙ ap (λ (v : SimValue). length v.machines) (sym known.seen) in
     let rank = subst (λ (s : SimValue). r < length s.machines) (sym known.seen) known.rank in
     let wanted = subst (λ (s : SimValue). WantsAt s.machines r v) (sym known.seen) known.wanted in
     let m = machine_of machines r rank in
     subst (λ z. Refuses z r (choice.Take s j) refusal.NotEligible) known.seen
-    (not_eligible program machines lanes C r s j m.0 v w act k known.kept m.1 (wants_there machines r v m.0 machine_want m.1) none)
+    (not_eligible program machines lanes C r s j m.0 v w act k known.kept m.1 (wants_there machines r v m.0 wanted m.1) (λ low. none (rw count low)))
 
 -- where it was found memory may want
-pub refuses_memory : (now : SimValue) (program : ProgramValue) (machines : List MachineValue) (lanes : List (List Slot)) (C : List Passed)
-    (r source index s i : ℕ) (v : Want) (w : Selector) (act : ℕ → ℕ → Act)
+pub refuses_memory : {now : SimValue} {program : ProgramValue} {machines : List MachineValue} {lanes : List (List Slot)} {C : List Passed}
+    {r source index s i : ℕ} {v : Want} {w : Selector} {act : ℕ → ℕ → Act}
     → Seeks v w act → Sought now program machines lanes C r v → Found machines lanes r w source index s i
     → Refuses now r (choice.Take source index) refusal.Memory
-refuses_memory now program machines lanes C r source index s i v w act k known found =
+refuses_memory {now} {program} {machines} {lanes} {C} {r} {source} {index} {s} {i} {v} {w} {act} k known found =
     subst (λ z. Refuses z r (choice.Take source index) refusal.Memory) known.seen (at (machine_of machines r rank))
   where
     rank : r < length machines
@@ -312,27 +219,27 @@ refuses_memory now program machines lanes C r source index s i v w act k known f
         (subst (λ u. IsFree u (act source index) (inbound_of C r) (history C r)) (sym wanted) (k.free (inbound_of C r) (history C r) source index e'))
 
 -- the slot that was found holds a packet
-pub slot_there : (now : SimValue) (program : ProgramValue) (machines : List MachineValue) (lanes : List (List Slot)) (C : List Passed)
-    (r source index s i : ℕ) (v : Want) (w : Selector)
+pub slot_there : {now : SimValue} {program : ProgramValue} {machines : List MachineValue} {lanes : List (List Slot)} {C : List Passed}
+    {r source index s i : ℕ} {v : Want} {w : Selector}
     → Sought now program machines lanes C r v → Found machines lanes r w source index s i → IsSomeAnd (slice_get (lane lanes s r) i) IsSome
-slot_there now program machines lanes C r source index s i v w known found =
+slot_there {now} {program} {machines} {lanes} {C} {r} {source} {index} {s} {i} {v} {w} known found =
     let rank = subst (λ (s : SimValue). r < length s.machines) (sym known.seen) known.rank in
     let p = found_there program machines lanes C r s i w known.kept rank found.there found.first in
     rw p.1 refl
 
 -- the packet that was found is one that the selector names
-pub packet_matches : (xs : List Slot) (i : ℕ) (w : Selector) (p : packet.PacketValue) → position (passes w) xs ≡ Some i → slice_get xs i ≡ Some (Some p)
-    → matches w p ≡ true
-packet_matches xs i w p first slot =
-    let all = position-Some (passes w) xs i None first in
-    ap (passes w) (sym (get_or_from_slice_get xs i (Some p) None slot)) ∙ all.1
+pub packet_matches : {machines : List MachineValue} {lanes : List (List Slot)} {r source index s i : ℕ} {w : Selector} (p : packet.PacketValue)
+    → Found machines lanes r w source index s i → slice_get (lane lanes s r) i ≡ Some (Some p) → matches w p ≡ true
+packet_matches {machines} {lanes} {r} {source} {index} {s} {i} {w} p found slot =
+    let all = position-Some (passes w) (lane lanes s r) i None found.first in
+    ap (passes w) (sym (get_or_from_slice_get (lane lanes s r) i (Some p) None slot)) ∙ all.1
 
 -- and its source is a rank, as its slot is that of a message of one
-pub source_there : (now : SimValue) (program : ProgramValue) (machines : List MachineValue) (lanes : List (List Slot)) (C : List Passed)
-    (r source index s i : ℕ) (m : MachineValue) (v : Want) (w : Selector) (p : packet.PacketValue)
+pub source_there : {now : SimValue} {program : ProgramValue} {machines : List MachineValue} {lanes : List (List Slot)} {C : List Passed}
+    {r source index s i : ℕ} {m : MachineValue} {v : Want} {w : Selector} {p : packet.PacketValue}
     → Sought now program machines lanes C r v → Found machines lanes r w source index s i → slice_get machines r ≡ Some m
     → slice_get (lane lanes s r) i ≡ Some (Some p) → p.source < m.store.size
-source_there now program machines lanes C r source index s i m v w p known found there slot =
+source_there {now} {program} {machines} {lanes} {C} {r} {source} {index} {s} {i} {m} {v} {w} {p} known found there slot =
     let q = found_there program machines lanes C r s i w known.kept (slice_get_within machines r m there) found.there found.first in
     let same : p ≡ q.0 = some_same (some_same (sym slot ∙ q.1)) in
     let size = (known.kept.ranks r m there).size in
@@ -342,8 +249,8 @@ source_there now program machines lanes C r source index s i m v w p known found
     some_same e = cc
 
 -- a machine that asks to receive may be given it
-pub may_give : (m : MachineValue) (w : Selector) (p : packet.PacketValue) → Wants m (want.Receive w) → matches w p ≡ true → IsReceiving (machine_want m) p
-may_give m w p a names = rw a.at_want names
+pub may_give : {m : MachineValue} {w : Selector} (p : packet.PacketValue) → Wants m (want.Receive w) → matches w p ≡ true → IsReceiving (machine_want m) p
+may_give p a names = rw a.at_want names
 
 -- What a call knows of a rank that asks for a probe, whether it waits or not.
 pub record Probes (machines : List MachineValue) (r : ℕ) (w : Selector) : Type 0 where
@@ -358,8 +265,8 @@ probes_there machines r w (inl a) = record { want = want.Probe w; seeks = probin
 probes_there machines r w (inr a) = record { want = want.TryProbe w; seeks = trying w; shows = λ p names. names; wanted = a }
 
 -- a machine that asks for a probe may be shown it
-pub may_show : (m : MachineValue) (v : Want) (p : packet.PacketValue) → Wants m v → IsShowing v p → IsShowing (machine_want m) p
-may_show m v p a shows = subst (λ u. IsShowing u p) (sym a.at_want) shows
+pub may_show : {m : MachineValue} {v : Want} (p : packet.PacketValue) → Wants m v → IsShowing v p → IsShowing (machine_want m) p
+may_show p a shows = subst (λ u. IsShowing u p) (sym a.at_want) shows
 
 -- the act is made of the message that was found, for the source and the index that the call was given
 done_found : (program : ProgramValue) (machines : List MachineValue) (lanes lanes' : List (List Slot)) (C : List Passed) (r source index s i : ℕ)
@@ -377,25 +284,25 @@ done_found program machines lanes lanes' C r source index s i m m' v w act p k k
     (done_first program machines lanes lanes' C r s i m m' v w act p k kept there a found.there found.first slot state position stays mail))
 
 -- the message that was found is received
-pub done_take : (program : ProgramValue) (machines : List MachineValue) (lanes : List (List Slot)) (C : List Passed) (r source index s i : ℕ)
-    (m m' : MachineValue) (w : Selector) (p : packet.PacketValue)
+pub done_take : {program : ProgramValue} {machines : List MachineValue} {lanes : List (List Slot)} {C : List Passed} {r source index s i : ℕ}
+    {m m' : MachineValue} {w : Selector} {p : packet.PacketValue}
     → IsKept program machines lanes C → slice_get machines r ≡ Some m → Wants m (want.Receive w) → Found machines lanes r w source index s i
     → slice_get (lane lanes s r) i ≡ Some (Some p)
     → ((place : ℕ) → state_of m' ≡ next (state_of m) (takes p.source place) (Some (carried p)))
     → m'.position ≡ position_after_act m (takes s (suc i)) m'.fault → KeepsRank m m'
     → IsDone program machines (with_emptied lanes r s i) C r m' (choice.Take source index) (takes s index)
-done_take program machines lanes C r source index s i m m' w p kept there a found slot state position stays =
+done_take {program} {machines} {lanes} {C} {r} {source} {index} {s} {i} {m} {m'} {w} {p} kept there a found slot state position stays =
     done_found program machines lanes (with_emptied lanes r s i) C r source index s i m m' (want.Receive w) w takes p (receiving w) kept there a found slot
     state position stays (mail_take (length machines) lanes C r s i kept.mail kept.few (slice_get_within machines r m there) found.there)
 
 -- the message that was found is hit, and stays
-pub done_hit : (program : ProgramValue) (machines : List MachineValue) (lanes : List (List Slot)) (C : List Passed) (r source index s i : ℕ)
-    (m m' : MachineValue) (v : Want) (w : Selector) (p : packet.PacketValue)
+pub done_hit : {program : ProgramValue} {machines : List MachineValue} {lanes : List (List Slot)} {C : List Passed} {r source index s i : ℕ}
+    {m m' : MachineValue} {v : Want} {w : Selector} {p : packet.PacketValue}
     → Seeks v w hits → IsKept program machines lanes C → slice_get machines r ≡ Some m → Wants m v → Found machines lanes r w source index s i
     → slice_get (lane lanes s r) i ≡ Some (Some p)
     → ((place : ℕ) → state_of m' ≡ next (state_of m) (hits p.source place) (Some (carried p)))
     → m'.position ≡ position_after_act m (hits s (suc i)) m'.fault → KeepsRank m m'
     → IsDone program machines lanes C r m' (choice.Take source index) (hits s index)
-done_hit program machines lanes C r source index s i m m' v w p k kept there a found slot state position stays =
+done_hit {program} {machines} {lanes} {C} {r} {source} {index} {s} {i} {m} {m'} {v} {w} {p} k kept there a found slot state position stays =
     done_found program machines lanes lanes C r source index s i m m' v w hits p k kept there a found slot state position stays
     (mail_hit (length machines) lanes C r s (suc i) kept.mail)

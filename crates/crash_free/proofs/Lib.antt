@@ -12,6 +12,8 @@ pub mod Putting
 pub mod Tidying
 pub mod Choosing
 pub mod Inside
+pub mod AnyClock
+pub mod Seeking
 pub mod Finding
 pub mod Refusing
 pub mod OtherSteps

@@ -194,12 +194,12 @@ word_push [] b h e = absurd h
 word_push (c ∷ w) b h e = (h.0, all_push is_word_byte w b h.1 e)
 
 -- a number goes on by one digit
-number_push : (ds : List ℕ) (b : ℕ) → IsNumber ds → is_digit b ≡ true → IsNumber (ds ++ b ∷ [])
+pub number_push : (ds : List ℕ) (b : ℕ) → IsNumber ds → is_digit b ≡ true → IsNumber (ds ++ b ∷ [])
 number_push [] b h e = absurd h
 number_push (c ∷ ds) b h e = (h.0, all_push is_digit ds b h.1 e)
 
 -- the value of a number with one digit more
-value_push : (n : ℕ) (ds : List ℕ) (b : ℕ) → value_behind n (ds ++ b ∷ []) ≡ 10 * value_behind n ds + (b - 48)
+pub value_push : (n : ℕ) (ds : List ℕ) (b : ℕ) → value_behind n (ds ++ b ∷ []) ≡ 10 * value_behind n ds + (b - 48)
 value_push n [] b = refl
 value_push n (d ∷ ds) b = value_push (10 * n + (d - 48)) ds b
 

@@ -100,9 +100,9 @@ pub record IsPart (m : MachineValue) (c : Collective) (call : Call) : Type 0 whe
   pub behind : m.position + 1 ≤ size (block_of m.program)
 
 -- the same machine as it was seen at the call
-pub seen_part : (m n : MachineValue) (c : Collective) (call : Call) (k : ℕ) → m ≡ n → IsAtLine n → line_at n ≡ Some (simple_line (collect c))
+pub seen_part : {m n : MachineValue} {c : Collective} {call : Call} {k : ℕ} → m ≡ n → IsAtLine n → line_at n ≡ Some (simple_line (collect c))
     → n.position + 1 ≤ size (block_of n.program) → called m.store c ≡ Ok call → (k ≡ m.store.finished + 1) × (k ≤ greatest_ordinal) → IsPart m c call
-seen_part m n c call k v h at l e o =
+seen_part {m} v h at l e o =
     let Behind : MachineValue → Type 0 = λ z. z.position + 1 ≤ size (block_of z.program) in
     record {
       line = subst IsAtLine (sym v) h;
@@ -125,6 +125,24 @@ pub record Leaves (s s' : Store) : Type 0 where
 pub same_count : (s s' : Store) → map length s'.arrays ≡ map length s.arrays → length s'.arrays ≡ length s.arrays
 same_count s s' e = sym (length-map s'.arrays length) ∙ ap length e ∙ length-map s.arrays length
 
+-- a machine whose store keeps rank, size and status is within its limits, where the number of its collectives can be counted
+kept_within : (m : MachineValue) (s : Store) (p : ℕ) → IsWithinLimits m
+    → s.rank ≡ m.store.rank → s.size ≡ m.store.size → s.source ≡ m.store.source → s.tag ≡ m.store.tag → s.count ≡ m.store.count
+    → s.finished ≤ greatest_ordinal → length s.variables ≡ length m.store.variables → map length s.arrays ≡ map length m.store.arrays
+    → p ≤ size (block_of m.program) → IsWithinLimits (record m { store = s; position = p })
+kept_within m s p i rank size source tag count finished v a l = record {
+  position = l;
+  variables = v ∙ i.variables;
+  arrays = same_count m.store s a ∙ i.arrays;
+  lengths = a ∙ i.lengths;
+  rank = rw (rank, size) i.rank;
+  fault = i.fault;
+  source = rw (source, size) i.source;
+  tag = rw tag i.tag;
+  count = rw count i.count;
+  finished = finished;
+}
+
 -- of a store that is passed only the number of collectives grows, and it can be counted
 passed_within : (m : MachineValue) (s : Store) (last : Bool) (p : ℕ) → IsWithinLimits m → Leaves m.store s → m.store.finished + 1 ≤ greatest_ordinal
     → (let s' : Store = if last then counted s else record s { done = s.done + 1 } in length s'.variables ≡ length m.store.variables)
@@ -132,35 +150,11 @@ passed_within : (m : MachineValue) (s : Store) (last : Bool) (p : ℕ) → IsWit
     → p ≤ size (block_of m.program)
     → (let s' : Store = if last then counted s else record s { done = s.done + 1 } in IsWithinLimits (record m { store = s'; position = p }))
 passed_within m s true p i k f v a l =
-    let a' = same_count m.store s a in
     let finished = k.finished in
-    record {
-      position = l;
-      variables = v ∙ i.variables;
-      arrays = a' ∙ i.arrays;
-      lengths = a ∙ i.lengths;
-      rank = rw (k.rank, k.size) i.rank;
-      fault = i.fault;
-      source = rw (k.source, k.size) i.source;
-      tag = rw k.tag i.tag;
-      count = rw k.count i.count;
-      finished = rw finished f;
-    }
+    kept_within m (counted s) p i k.rank k.size k.source k.tag k.count (rw finished f) v a l
 passed_within m s false p i k f v a l =
-    let a' = same_count m.store s a in
     let finished = k.finished in
-    record {
-      position = l;
-      variables = v ∙ i.variables;
-      arrays = a' ∙ i.arrays;
-      lengths = a ∙ i.lengths;
-      rank = rw (k.rank, k.size) i.rank;
-      fault = i.fault;
-      source = rw (k.source, k.size) i.source;
-      tag = rw k.tag i.tag;
-      count = rw k.count i.count;
-      finished = rw finished i.finished;
-    }
+    kept_within m (record s { done = s.done + 1 }) p i k.rank k.size k.source k.tag k.count (rw finished i.finished) v a l
 
 -- so a machine is within its limits after a part
 pub part_within : (m : MachineValue) (s : Store) (call : Call) (p : ℕ) → IsWithinLimits m → Leaves m.store s → m.store.finished + 1 ≤ greatest_ordinal

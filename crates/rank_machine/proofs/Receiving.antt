@@ -61,9 +61,9 @@ taking m c t b p h l at i =
     record { there = at; stands = stands; fault = k; few = selected_few (selector_of m.store c t) p h (selects m.store c t) u }
 
 -- the same machine as it was seen at the call
-pub seen_taking : (m n : MachineValue) (c t : Pattern) (b : Buffer) (p : packet.PacketValue) → m ≡ n → IsPacketValue p → IsAtLine n
+pub seen_taking : {m n : MachineValue} {c t : Pattern} {b : Buffer} {p : packet.PacketValue} → m ≡ n → IsPacketValue p → IsAtLine n
     → line_at n ≡ Some (simple_line (receive c t b)) → IsReceiving (machine_want n) p → IsTaking m c t b p
-seen_taking m n c t b p v h l at i =
+seen_taking {m} {n} {c} {t} {b} {p} v h l at i =
     let P : MachineValue → Type 0 = λ z. IsReceiving (machine_want z) p in
     taking m c t b p h (subst IsAtLine (sym v) l) (ap line_at v ∙ at) (subst P (sym v) i)
 
@@ -92,19 +92,19 @@ fit_received a b r q x l =
     rw e refl
 
 -- so a machine stands for the state after a message that is too long
-pub long_state : (m n : MachineValue) (c t : Pattern) (b : Buffer) (p : packet.PacketValue) → m ≡ n → IsTaking m c t b p → room m.store b < length p.items
+pub long_state : {m n : MachineValue} {c t : Pattern} {b : Buffer} {p : packet.PacketValue} → m ≡ n → IsTaking m c t b p → room m.store b < length p.items
     → (place : ℕ) → state_of (record m { fault = Some TooLong }) ≡ next (state_of n) (takes p.source place) (Some (carried p))
-long_state m n c t b p v i l place =
+long_state {m} {n} {c} {t} {b} {p} v i l place =
     let m' : MachineValue = record m { fault = Some TooLong } in
     let Q : MachineValue → Type 0 = λ z. state_of m' ≡ next (state_of z) (takes p.source place) (Some (carried p)) in
     subst Q v (long_received (state_of m) b (remaining (block_of m.program) (m.position + 1)) p.source (carried p) l ∙ receives m c t b p place i)
 
 -- and after one that fits
-pub fit_state : (m n : MachineValue) (c t : Pattern) (b : Buffer) (p : packet.PacketValue) (s : Store) → m ≡ n → IsTaking m c t b p
+pub fit_state : {m n : MachineValue} {c t : Pattern} {b : Buffer} {p : packet.PacketValue} {s : Store} → m ≡ n → IsTaking m c t b p
     → length p.items ≤ room m.store b
     → s ≡ with_status p.source (carried p) (written b p.items m.store)
     → (place : ℕ) → state_of (record m { store = s; position = m.position + 1 }) ≡ next (state_of n) (takes p.source place) (Some (carried p))
-fit_state m n c t b p s v i l e place =
+fit_state {m} {n} {c} {t} {b} {p} {s} v i l e place =
     let r : Block = remaining (block_of m.program) (m.position + 1) in
     let m' : MachineValue = record m { store = s; position = m.position + 1 } in
     let A : Store → Option MachineFault → State = λ s k. record { store = s; rest = r; fault = k } in
@@ -116,39 +116,37 @@ fit_state m n c t b p s v i l e place =
 
 -- what a buffer that is written leaves
 pub record Writes (s s' : Store) : Type 0 where
-  pub rank : s'.rank ≡ s.rank
-  pub size : s'.size ≡ s.size
-  pub source : s'.source ≡ s.source
-  pub tag : s'.tag ≡ s.tag
-  pub count : s'.count ≡ s.count
-  pub finished : s'.finished ≡ s.finished
+  pub left : Leaves s s'
   pub done : s'.done ≡ s.done
   pub gathered : s'.gathered ≡ s.gathered
   pub variables : length s'.variables ≡ length s.variables
 
 -- a written buffer changes one variable or one array at most, and nothing else
 writes : (b : Buffer) (items : List ℤ) (s : Store) → Writes s (written b items s)
-writes (into_variable p) [] s =
-    record { rank = refl; size = refl; source = refl; tag = refl; count = refl; finished = refl; done = refl; gathered = refl; variables = refl }
+writes (into_variable p) [] s = record {
+  left = record { rank = refl; size = refl; source = refl; tag = refl; count = refl; finished = refl };
+  done = refl;
+  gathered = refl;
+  variables = refl;
+}
 writes (into_variable p) (z ∷ zs) s = record {
-  rank = refl;
-  size = refl;
-  source = refl;
-  tag = refl;
-  count = refl;
-  finished = refl;
+  left = record { rank = refl; size = refl; source = refl; tag = refl; count = refl; finished = refl };
   done = refl;
   gathered = refl;
   variables = length-set s.variables p z;
 }
-writes (into_array p) items s =
-    record { rank = refl; size = refl; source = refl; tag = refl; count = refl; finished = refl; done = refl; gathered = refl; variables = refl }
+writes (into_array p) items s = record {
+  left = record { rank = refl; size = refl; source = refl; tag = refl; count = refl; finished = refl };
+  done = refl;
+  gathered = refl;
+  variables = refl;
+}
 
 -- after a message that fits it is a machine
-pub fit_machine : (m n : MachineValue) (c t : Pattern) (b : Buffer) (p : packet.PacketValue) (s : Store) → m ≡ n → IsMachine m → IsTaking m c t b p
+pub fit_machine : {m n : MachineValue} {c t : Pattern} {b : Buffer} {p : packet.PacketValue} {s : Store} → m ≡ n → IsMachine m → IsTaking m c t b p
     → s ≡ with_status p.source (carried p) (written b p.items m.store) → map length s.arrays ≡ map length m.store.arrays
     → p.source < n.store.size → n.position + 1 ≤ size (block_of n.program) → IsMachine (record m { store = s; position = m.position + 1 })
-fit_machine m n c t b p s v h i e a q l =
+fit_machine {m} {n} {c} {t} {b} {p} {s} v h i e a q l =
     let Source : MachineValue → Type 0 = λ z. p.source < z.store.size in
     let Behind : MachineValue → Type 0 = λ z. z.position + 1 ≤ size (block_of z.program) in
     let W : Store = written b p.items m.store in
@@ -157,9 +155,9 @@ fit_machine m n c t b p s v h i e a q l =
     let Result : Store → Type 0 = λ z. IsMachine (record m { store = z; position = m.position + 1 }) in
     let w = writes b p.items m.store in
     let shown : Shows m.store S = record {
-      rank = w.rank;
-      size = w.size;
-      finished = w.finished;
+      rank = w.left.rank;
+      size = w.left.size;
+      finished = w.left.finished;
       done = w.done;
       gathered = w.gathered;
       variables = w.variables;
@@ -190,8 +188,8 @@ record IsGetting (m : MachineValue) (call : Call) : Type 0 where
   part : part_of m.store call ≡ gets source
 
 -- a machine that asks for a message at a collective has no fault, and its part gets
-getting : (m n : MachineValue) (c : Collective) (call : Call) (p : packet.PacketValue) → m ≡ n → IsPart m c call → IsReceiving (machine_want n) p
-    → IsGetting m call
+getting : (m n : MachineValue) (c : Collective) (call : Call) (p : packet.PacketValue) → m ≡ n → IsPart m c call
+    → IsReceiving (machine_want n) p → IsGetting m call
 getting m n c call p v i w =
     let P : MachineValue → Type 0 = λ z. IsReceiving (machine_want z) p in
     let a = takes_call m c p i.line i.there (subst P (sym v) w) in
@@ -220,12 +218,14 @@ head_given s c k (x ∷ []) = refl
 head_given s c k (x ∷ (y ∷ [])) = refl
 head_given s c k (x ∷ (y ∷ (z ∷ items))) = refl
 
--- and so are the items that are taken
-pub head_taken : (s : Store) (c : Collective) (k : source_call.Call) (items : List ℤ) (v : Valued (List ℤ)) → items_taken s c (head_of k) items ≡ v
-    → items_taken s c (call_of s c k) items ≡ v
-head_taken s c k items v e =
+-- and so are the items that are taken of its payload
+pub head_taken : (s : Store) (c : Collective) (k : source_call.Call) {payload : List ℤ} {p q : packet.PacketValue} {v : Valued (List ℤ)}
+    → payload ≡ p.items → p ≡ q → items_taken s c (head_of k) payload ≡ v → items_taken s c (call_of s c k) q.items ≡ v
+head_taken s c k {payload} {p} {q} {v} same seen e =
     let F : Valued (List ℤ) → Valued (List ℤ) = λ w. w >>= (λ items. fitting s c items) in
-    sym (ap F (head_given s c k items)) ∙ e
+    let Items : packet.PacketValue → List ℤ = λ z. z.items in
+    let Taken : List ℤ → Type 0 = λ z. items_taken s c (head_of k) z ≡ v in
+    sym (ap F (head_given s c k q.items)) ∙ subst Taken (same ∙ ap Items seen) e
 
 -- items that fit are left as they are, so those that are taken were given
 taken_given : (s : Store) (c : Collective) (call : Call) (packet items : List ℤ) → items_taken s c call packet ≡ Ok items → given_by call packet ≡ Ok items
@@ -285,10 +285,10 @@ refused_machine m c call packet k s i e g =
     })
 
 -- and it stands for the state after that
-pub refused_state : (m n : MachineValue) (c : Collective) (call : Call) (p : packet.PacketValue) (k : MachineFault) (s : Store) → m ≡ n → IsPart m c call
+pub refused_state : {m n : MachineValue} {c : Collective} {call : Call} (p : packet.PacketValue) {k : MachineFault} {s : Store} → m ≡ n → IsPart m c call
     → IsReceiving (machine_want n) p → items_taken m.store c call p.items ≡ Err k → s ≡ m.store
     → (place : ℕ) → state_of (record m { store = s; fault = Some k }) ≡ next (state_of n) (takes p.source place) (Some (carried p))
-refused_state m n c call p k s v i w e g place =
+refused_state {m} {n} {c} {call} p {k} {s} v i w e g place =
     let m' : MachineValue = record m { store = s; fault = Some k } in
     let Q : MachineValue → Type 0 = λ z. state_of m' ≡ next (state_of z) (takes p.source place) (Some (carried p)) in
     let r : Block = remaining (block_of m.program) (m.position + 1) in
@@ -300,18 +300,16 @@ refused_state m n c call p k s v i w e g place =
 -- what is kept of a packet leaves the rest
 leaves : (c : Collective) (items : List ℤ) (s : Store) → Leaves s (kept c items s)
 leaves barrier items s = record { rank = refl; size = refl; source = refl; tag = refl; count = refl; finished = refl }
-leaves (broadcast e b) items s =
-    let w = writes b items s in
-    record { rank = w.rank; size = w.size; source = w.source; tag = w.tag; count = w.count; finished = w.finished }
+leaves (broadcast e b) items s = (writes b items s).left
 leaves (reduce f e v p) items s = record { rank = refl; size = refl; source = refl; tag = refl; count = refl; finished = refl }
 
 -- after a packet that is taken it is a machine
-pub taken_machine : (m n : MachineValue) (c : Collective) (call : Call) (p : packet.PacketValue) (items : List ℤ) (s : Store) (last : Bool) → m ≡ n
-    → IsMachine m
+pub taken_machine : {m n : MachineValue} {c : Collective} {call : Call} (p : packet.PacketValue) {items : List ℤ} {s : Store} {last : Bool}
+    → m ≡ n → IsMachine m
     → IsPart m c call → IsReceiving (machine_want n) p → items_taken m.store c call p.items ≡ Ok items → s ≡ part_done (kept c items m.store) call
     → length s.variables ≡ length m.store.variables → map length s.arrays ≡ map length m.store.arrays → is_last m.store call ≡ last
     → IsMachine (record m { store = s; position = after_part last m.position })
-taken_machine m n c call p items s last v h i w e g variables lengths f =
+taken_machine {m} {n} {c} {call} p {items} {s} {last} v h i w e g variables lengths f =
     let o = m.store in
     let t = is_last o call in
     let S : Store = part_done (kept c items o) call in
@@ -328,11 +326,11 @@ taken_machine m n c call p items s last v h i w e g variables lengths f =
     subst IsMachine (sym (part_is m s S call last g f)) there
 
 -- and it stands for the state after that
-pub taken_state : (m n : MachineValue) (c : Collective) (call : Call) (p : packet.PacketValue) (items : List ℤ) (s : Store) (last : Bool) → m ≡ n
+pub taken_state : {m n : MachineValue} {c : Collective} {call : Call} (p : packet.PacketValue) {items : List ℤ} {s : Store} {last : Bool} → m ≡ n
     → IsPart m c call → IsReceiving (machine_want n) p → items_taken m.store c call p.items ≡ Ok items → s ≡ part_done (kept c items m.store) call
     → is_last m.store call ≡ last → (place : ℕ)
     → state_of (record m { store = s; position = after_part last m.position }) ≡ next (state_of n) (takes p.source place) (Some (carried p))
-taken_state m n c call p items s last v i w e g f place =
+taken_state {m} {n} {c} {call} p {items} {s} {last} v i w e g f place =
     let o = m.store in
     let t = is_last o call in
     let at : ℕ → Block = remaining (block_of m.program) in

@@ -47,19 +47,19 @@ sent_machine m c call i p w =
     }
 
 -- with this store, and by whether the part was the last
-pub sent_is_machine : (m n : MachineValue) (c : Collective) (call : Call) (s : Store) (last : Bool) → m ≡ n → IsMachine m → IsPart m c call
+pub sent_is_machine : {m n : MachineValue} {c : Collective} {call : Call} {s : Store} {last : Bool} → m ≡ n → IsMachine m → IsPart m c call
     → IsSend (machine_want n)
     → s ≡ part_done m.store call → is_last m.store call ≡ last → IsMachine (record m { store = s; position = after_part last m.position })
-sent_is_machine m n c call s last v i p w e f =
+sent_is_machine {m} {n} {c} {call} {s} {last} v i p w e f =
     let P : MachineValue → Type 0 = λ z. IsSend (machine_want z) in
     subst IsMachine (sym (part_is m s (part_done m.store call) call last e f)) (sent_machine m c call i p (subst P (sym v) w))
 
 -- and it stands for the state after the send
-pub sent_state : (m n : MachineValue) (c : Collective) (call : Call) (s : Store) (last : Bool) → m ≡ n → IsPart m c call → IsSend (machine_want n)
+pub sent_state : {m n : MachineValue} {c : Collective} {call : Call} {s : Store} {last : Bool} → m ≡ n → IsPart m c call → IsSend (machine_want n)
     → s ≡ part_done m.store call → is_last m.store call ≡ last
     → (act : Act) (message : Option Message) → Makes (state_of n) act message
     → state_of (record m { store = s; position = after_part last m.position }) ≡ next (state_of n) act message
-sent_state m n c call s last v p w e f =
+sent_state {m} {n} {c} {call} {s} {last} v p w e f =
     let P : MachineValue → Type 0 = λ z. IsSend (machine_want z) in
     let m' : MachineValue = record m { store = s; position = after_part last m.position } in
     let Q : MachineValue → Type 0 =

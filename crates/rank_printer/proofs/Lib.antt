@@ -1,6 +1,10 @@
 pub mod Fitting
 pub mod LineTexts
 pub mod PrintedTokens
+pub mod PrintedPieces
+pub mod PrintedNumbers
+pub mod PrintedExpressions
+pub mod PrintedWords
 pub mod PrintedLexes
 pub mod Bounds
 pub mod PrintedLines

@@ -6,16 +6,13 @@ use Rattle.crash_free.proofs.sim.Sim.go_on.Goals as goal
 
 pub invariant_of-self : goal.invariant_of-self
 invariant_of-self c =
-    let s = c.self.inside in
-    let at = found_machine c.args.self.now s.program.now s.machines.items (reverse s.passed.items) c.from.result c.args.rank c.index_mut-machine.result.now
-    Internal c.self.view_is c.from.ensures c.requires.there c.requires.wanted c.index_mut-machine.ensures.value in
+    let at = found_machine Internal c.self.view_is c.from.ensures c.requires.there c.requires.wanted c.index_mut-machine.ensures.value in
     rw c.from.ensures (kept_step _ _ _ _ c.args.rank _ _ c.self.invariant at.0 c.internal.ensures)
 
 pub returns : goal.returns
 returns c =
     let s = c.self.inside in
-    let at = found_machine c.args.self.now s.program.now s.machines.items (reverse s.passed.items) c.from.result c.args.rank c.index_mut-machine.result.now
-    Internal c.self.view_is c.from.ensures c.requires.there c.requires.wanted c.index_mut-machine.ensures.value in
+    let at = found_machine Internal c.self.view_is c.from.ensures c.requires.there c.requires.wanted c.index_mut-machine.ensures.value in
     record {
       allowed = rw (← c.self.view_is, c.from.ensures) (allowed_step s.program.now s.machines.items (reverse s.passed.items) c.args.rank
           c.index_mut-machine.result.now c.internal.new.self at.0 at.1 c.internal.ensures);

@@ -1,6 +1,5 @@
 use Rattle.std.proofs.Common.{None, w64}
 use Rattle.std.proofs.lemmas.Int.{to_z-of_z}
-use Rattle.std.specs.Prelude.{reverse}
 use Rattle.rank_machine.specs.declared.want.Want.TheVariants.{Print}
 use Rattle.rank_machine.specs.Acts.{prints}
 use Rattle.crash_free.proofs.Choosing.{found_machine, done_print, run_push}
@@ -8,25 +7,26 @@ use Rattle.crash_free.proofs.sim.Sim.print.Goals as goal
 
 pub invariant_of-self-2 : goal.invariant_of-self-2
 invariant_of-self-2 c =
-    let s = c.self.inside in
-    let run = reverse s.passed.items in
-    let at = found_machine c.args.self.now s.program.now s.machines.items run c.from.result c.args.rank c.index_mut-machine.result.now
-    (Print c.args.value) c.self.view_is c.from.ensures c.requires.there c.requires.wanted c.index_mut-machine.ensures.value in
+    let at = found_machine (Print c.args.value) c.self.view_is c.from.ensures c.requires.there c.requires.wanted c.index_mut-machine.ensures.value in
     let made = c.law_makes_its_print.ensures c.args.value at.1.at_want in
-    let done = done_print s.program.now s.machines.items s.mail run c.args.rank c.index_mut-machine.result.now c.did_print.new.self c.args.value
-    c.self.invariant at.0 at.1 made (c.did_print.ensures.state (prints c.args.value) None made) c.did_print.ensures.position c.did_print.ensures.stays in
+    let state = c.did_print.ensures.state (prints c.args.value) None made in
+    let done = done_print c.self.invariant at.0 at.1 made state c.did_print.ensures.position c.did_print.ensures.stays in
     let same = to_z-of_z w64 c.args.value c.ranges.value in
-    rw (c.from.ensures, c.push_reserved.ensures.items, c.in_ok-reserve.ensures.items, c.prints.ensures, run_push s.passed.items _, same) done.kept
+    rw (c.from.ensures, c.push_reserved.ensures.items, c.in_ok-reserve.ensures.items, c.prints.ensures, run_push c.self.inside.passed.items _, same) done.kept
 
 pub returns-clause-ok : goal.returns-clause-ok
 returns-clause-ok c =
-    let s = c.self.inside in
-    let run = reverse s.passed.items in
-    let at = found_machine c.args.self.now s.program.now s.machines.items run c.from.result c.args.rank c.index_mut-machine.result.now
-    (Print c.args.value) c.self.view_is c.from.ensures c.requires.there c.requires.wanted c.index_mut-machine.ensures.value in
+    let at = found_machine (Print c.args.value) c.self.view_is c.from.ensures c.requires.there c.requires.wanted c.index_mut-machine.ensures.value in
     let made = c.law_makes_its_print.ensures c.args.value at.1.at_want in
-    let done = done_print s.program.now s.machines.items s.mail run c.args.rank c.index_mut-machine.result.now c.did_print.new.self c.args.value
-    c.self.invariant at.0 at.1 made (c.did_print.ensures.state (prints c.args.value) None made) c.did_print.ensures.position c.did_print.ensures.stays in
+    let state = c.did_print.ensures.state (prints c.args.value) None made in
+    let done = done_print c.self.invariant at.0 at.1 made state c.did_print.ensures.position c.did_print.ensures.stays in
     let same = to_z-of_z w64 c.args.value c.ranges.value in
-    rw (← c.self.view_is, c.from.ensures, c.push_reserved.ensures.items, c.in_ok-reserve.ensures.items, c.prints.ensures, run_push s.passed.items _, same)
-    done.allowed
+    rw (
+      ← c.self.view_is,
+      c.from.ensures,
+      c.push_reserved.ensures.items,
+      c.in_ok-reserve.ensures.items,
+      c.prints.ensures,
+      run_push c.self.inside.passed.items _,
+      same,
+    ) done.allowed

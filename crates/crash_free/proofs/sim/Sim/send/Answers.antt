@@ -1,5 +1,4 @@
 use Rattle.std.proofs.Common.{◌<◌, None, length, ap}
-use Rattle.std.specs.Prelude.{reverse}
 use Rattle.rank_machine.specs.declared.want.Want.TheVariants.{Send}
 use Rattle.crash_free.specs.Sim.{SimValue}
 use Rattle.crash_free.proofs.Choosing.{found_machine, done_send, run_push}
@@ -7,15 +6,11 @@ use Rattle.crash_free.proofs.sim.Sim.send.Goals as goal
 
 pub invariant_of-self-2 : goal.invariant_of-self-2
 invariant_of-self-2 c =
-    let s = c.self.inside in
-    let run = reverse s.passed.items in
-    let at = found_machine c.args.self.now s.program.now s.machines.items run c.from.result c.args.rank c.index_mut-machine.result.now
-    (Send c.args.dest c.args.context c.args.tag) c.self.view_is c.from.ensures c.requires.there c.requires.wanted c.index_mut-machine.ensures.value in
-    let legal : c.args.dest < length s.machines.items = rw (ap (λ (v : SimValue). length v.machines) c.self.view_is) c.requires.legal.0 in
+    let at = found_machine (Send c.args.dest c.args.context c.args.tag) c.self.view_is c.from.ensures c.requires.there c.requires.wanted
+    c.index_mut-machine.ensures.value in
+    let legal : c.args.dest < length c.self.inside.machines.items = rw (ap (λ (v : SimValue). length v.machines) c.self.view_is) c.requires.legal.0 in
     let made = c.law_makes_its_send.ensures c.args.dest c.args.context c.args.tag at.1.at_want in
-    let done = done_send s.program.now s.machines.items s.mail run c.args.rank c.index_mut-machine.result.now c.did_send.new.self c.args.dest c.args.context
-    c.args.tag
-    c.self.invariant at.0 at.1 legal made (c.did_send.ensures.state _ None made) c.did_send.ensures.position c.did_send.ensures.stays in
+    let done = done_send c.self.invariant at.0 at.1 legal made (c.did_send.ensures.state _ None made) c.did_send.ensures.position c.did_send.ensures.stays in
     rw (
       c.from.ensures,
       c.in_ok-post.ensures.ok,
@@ -24,27 +19,23 @@ invariant_of-self-2 c =
       c.push_reserved.ensures.items,
       c.in_ok-reserve.ensures.items,
       c.sends-act.ensures,
-      run_push s.passed.items _,
+      run_push c.self.inside.passed.items _,
       c.in_ok-items.ensures.items,
     ) done.kept
 
 pub returns-clause-ok : goal.returns-clause-ok
 returns-clause-ok c =
-    let s = c.self.inside in
-    let run = reverse s.passed.items in
-    let at = found_machine c.args.self.now s.program.now s.machines.items run c.from.result c.args.rank c.index_mut-machine.result.now
-    (Send c.args.dest c.args.context c.args.tag) c.self.view_is c.from.ensures c.requires.there c.requires.wanted c.index_mut-machine.ensures.value in
-    let legal : c.args.dest < length s.machines.items = rw (ap (λ (v : SimValue). length v.machines) c.self.view_is) c.requires.legal.0 in
+    let at = found_machine (Send c.args.dest c.args.context c.args.tag) c.self.view_is c.from.ensures c.requires.there c.requires.wanted
+    c.index_mut-machine.ensures.value in
+    let legal : c.args.dest < length c.self.inside.machines.items = rw (ap (λ (v : SimValue). length v.machines) c.self.view_is) c.requires.legal.0 in
     let made = c.law_makes_its_send.ensures c.args.dest c.args.context c.args.tag at.1.at_want in
-    let done = done_send s.program.now s.machines.items s.mail run c.args.rank c.index_mut-machine.result.now c.did_send.new.self c.args.dest c.args.context
-    c.args.tag
-    c.self.invariant at.0 at.1 legal made (c.did_send.ensures.state _ None made) c.did_send.ensures.position c.did_send.ensures.stays in
+    let done = done_send c.self.invariant at.0 at.1 legal made (c.did_send.ensures.state _ None made) c.did_send.ensures.position c.did_send.ensures.stays in
     rw (
       ← c.self.view_is,
       c.from.ensures,
       c.push_reserved.ensures.items,
       c.in_ok-reserve.ensures.items,
       c.sends-act.ensures,
-      run_push s.passed.items _,
+      run_push c.self.inside.passed.items _,
       c.in_ok-items.ensures.items,
     ) done.allowed

@@ -2,7 +2,6 @@ use Rattle.std.proofs.Common.{◌≡◌, Ok, Err, sym, ap, ◌∙◌}
 use Rattle.rank_language.specs.Seen.{collective_of}
 use Rattle.rank_machine.specs.Values.{Valued}
 use Rattle.rank_machine.specs.Collectives.{Call, called}
-use Rattle.rank_machine.specs.Calling.{call_of}
 use Rattle.rank_machine.specs.Machine.{MachineValue}
 use Rattle.rank_machine.proofs.Acting.{seen_part}
 use Rattle.rank_machine.proofs.Sending.{sends_call, sent_is_machine, sent_state}
@@ -18,48 +17,24 @@ unreachable-requires c =
 
 pub invariant_of-self : goal.invariant_of-self
 invariant_of-self c =
-    let m : MachineValue =
-    record { program = c.self.inside.program.now; position = c.self.inside.position; store = c.self.inside.store; fault = c.self.inside.fault }
-    in
-    let x = collective_of c.args.collective.now in
-    let k = c.in-Ok.call in
-    let call = call_of m.store x k in
     let r = c.requires in
-    let p = seen_part m c.args.self.now x call k.ordinal c.self.view_is r.at_line r.line r.behind (sym c.in-Ok.ensures.call) c.in-Ok.ensures.ordinal in
-    sent_is_machine m c.args.self.now x call _ _ c.self.view_is c.self.invariant p r.sends c.pass.ensures.stored (sym c.if-is_last.ensures.last)
+    let p = seen_part c.self.view_is r.at_line r.line r.behind (sym c.in-Ok.ensures.call) c.in-Ok.ensures.ordinal in
+    sent_is_machine c.self.view_is c.self.invariant p r.sends c.pass.ensures.stored (sym c.if-is_last.ensures.last)
 
 pub invariant_of-self-else-is_last : goal.invariant_of-self-else-is_last
 invariant_of-self-else-is_last c =
-    let m : MachineValue =
-    record { program = c.self.inside.program.now; position = c.self.inside.position; store = c.self.inside.store; fault = c.self.inside.fault }
-    in
-    let x = collective_of c.args.collective.now in
-    let k = c.in-Ok.call in
-    let call = call_of m.store x k in
     let r = c.requires in
-    let p = seen_part m c.args.self.now x call k.ordinal c.self.view_is r.at_line r.line r.behind (sym c.in-Ok.ensures.call) c.in-Ok.ensures.ordinal in
-    sent_is_machine m c.args.self.now x call _ _ c.self.view_is c.self.invariant p r.sends c.pass.ensures.stored (sym c.if-is_last.ensures.last)
+    let p = seen_part c.self.view_is r.at_line r.line r.behind (sym c.in-Ok.ensures.call) c.in-Ok.ensures.ordinal in
+    sent_is_machine c.self.view_is c.self.invariant p r.sends c.pass.ensures.stored (sym c.if-is_last.ensures.last)
 
 pub returns-then-is_last-clause-state : goal.returns-then-is_last-clause-state
 returns-then-is_last-clause-state c =
-    let m : MachineValue =
-    record { program = c.self.inside.program.now; position = c.self.inside.position; store = c.self.inside.store; fault = c.self.inside.fault }
-    in
-    let x = collective_of c.args.collective.now in
-    let k = c.in-Ok.call in
-    let call = call_of m.store x k in
     let r = c.requires in
-    let p = seen_part m c.args.self.now x call k.ordinal c.self.view_is r.at_line r.line r.behind (sym c.in-Ok.ensures.call) c.in-Ok.ensures.ordinal in
-    sent_state m c.args.self.now x call _ _ c.self.view_is p r.sends c.pass.ensures.stored (sym c.if-is_last.ensures.last)
+    let p = seen_part c.self.view_is r.at_line r.line r.behind (sym c.in-Ok.ensures.call) c.in-Ok.ensures.ordinal in
+    sent_state c.self.view_is p r.sends c.pass.ensures.stored (sym c.if-is_last.ensures.last)
 
 pub returns-else-is_last-clause-state : goal.returns-else-is_last-clause-state
 returns-else-is_last-clause-state c =
-    let m : MachineValue =
-    record { program = c.self.inside.program.now; position = c.self.inside.position; store = c.self.inside.store; fault = c.self.inside.fault }
-    in
-    let x = collective_of c.args.collective.now in
-    let k = c.in-Ok.call in
-    let call = call_of m.store x k in
     let r = c.requires in
-    let p = seen_part m c.args.self.now x call k.ordinal c.self.view_is r.at_line r.line r.behind (sym c.in-Ok.ensures.call) c.in-Ok.ensures.ordinal in
-    sent_state m c.args.self.now x call _ _ c.self.view_is p r.sends c.pass.ensures.stored (sym c.if-is_last.ensures.last)
+    let p = seen_part c.self.view_is r.at_line r.line r.behind (sym c.in-Ok.ensures.call) c.in-Ok.ensures.ordinal in
+    sent_state c.self.view_is p r.sends c.pass.ensures.stored (sym c.if-is_last.ensures.last)

@@ -1,46 +1,26 @@
 use Rattle.std.proofs.Common.{◌≡◌, ℕ, length, ap, subst, ◌∙◌}
 use Rattle.matching.specs.PacketValue.{PacketValue, IsPacketValue}
-use Rattle.rank_language.specs.Seen.{buffer_of}
-use Rattle.rank_machine.specs.Machine.{MachineValue}
 use Rattle.rank_machine.proofs.Receiving.{seen_taking, long_state, fit_state, fit_machine}
 use Rattle.rank_machine.proofs.machine.Machine.receive.Goals as goal
 
 pub returns-then-len-room-clause-state : goal.returns-then-len-room-clause-state
 returns-then-len-room-clause-state c =
-    let m : MachineValue =
-    record { program = c.self.inside.program.now; position = c.self.inside.position; store = c.self.inside.store; fault = c.self.inside.fault }
-    in
     let r = c.requires in
-    let p = c.args.packet.now in
-    let b = buffer_of c.args.buffer.now in
-    let message = subst IsPacketValue c.packet.view_is c.packet.invariant in
-    let i = seen_taking m c.args.self.now r.line.0 r.line.1 b p c.self.view_is message r.at_line r.line.2 r.receiving in
+    let i = seen_taking c.self.view_is (subst IsPacketValue c.packet.view_is c.packet.invariant) r.at_line r.line.2 r.receiving in
     let Size : PacketValue → ℕ = λ z. length z.items in
-    let size : c.len.result ≡ length p.items = c.len.ensures ∙ c.packet.inside.payload.ok.0 ∙ ap Size c.packet.view_is in
-    long_state m c.args.self.now r.line.0 r.line.1 b p c.self.view_is i (rw (c.room.ensures, size) at c.if-len-room.true)
+    let size : c.len.result ≡ length c.args.packet.now.items = c.len.ensures ∙ c.packet.inside.payload.ok.0 ∙ ap Size c.packet.view_is in
+    long_state c.self.view_is i (rw (c.room.ensures, size) at c.if-len-room.true)
 
 pub invariant_of-self-2 : goal.invariant_of-self-2
 invariant_of-self-2 c =
-    let m : MachineValue =
-    record { program = c.self.inside.program.now; position = c.self.inside.position; store = c.self.inside.store; fault = c.self.inside.fault }
-    in
     let r = c.requires in
-    let p = c.args.packet.now in
-    let b = buffer_of c.args.buffer.now in
-    let message = subst IsPacketValue c.packet.view_is c.packet.invariant in
-    let i = seen_taking m c.args.self.now r.line.0 r.line.1 b p c.self.view_is message r.at_line r.line.2 r.receiving in
-    fit_machine m c.args.self.now r.line.0 r.line.1 b p _ c.self.view_is c.self.invariant i c.take.ensures.stored c.take.ensures.lengths r.source r.behind
+    let i = seen_taking c.self.view_is (subst IsPacketValue c.packet.view_is c.packet.invariant) r.at_line r.line.2 r.receiving in
+    fit_machine c.self.view_is c.self.invariant i c.take.ensures.stored c.take.ensures.lengths r.source r.behind
 
 pub returns-clause-state : goal.returns-clause-state
 returns-clause-state c =
-    let m : MachineValue =
-    record { program = c.self.inside.program.now; position = c.self.inside.position; store = c.self.inside.store; fault = c.self.inside.fault }
-    in
     let r = c.requires in
-    let p = c.args.packet.now in
-    let b = buffer_of c.args.buffer.now in
-    let message = subst IsPacketValue c.packet.view_is c.packet.invariant in
-    let i = seen_taking m c.args.self.now r.line.0 r.line.1 b p c.self.view_is message r.at_line r.line.2 r.receiving in
+    let i = seen_taking c.self.view_is (subst IsPacketValue c.packet.view_is c.packet.invariant) r.at_line r.line.2 r.receiving in
     let Size : PacketValue → ℕ = λ z. length z.items in
-    let size : c.len.result ≡ length p.items = c.len.ensures ∙ c.packet.inside.payload.ok.0 ∙ ap Size c.packet.view_is in
-    fit_state m c.args.self.now r.line.0 r.line.1 b p _ c.self.view_is i (rw (c.room.ensures, size) at c.if-len-room.false) c.take.ensures.stored
+    let size : c.len.result ≡ length c.args.packet.now.items = c.len.ensures ∙ c.packet.inside.payload.ok.0 ∙ ap Size c.packet.view_is in
+    fit_state c.self.view_is i (rw (c.room.ensures, size) at c.if-len-room.false) c.take.ensures.stored
