@@ -50,7 +50,7 @@ IsEffect misses = ⊥
 IsEffect (prints v) = Unit {0}
 
 -- an effect is no event
-no_event : (c : ℕ) (a : Act) (m : Option Message) → IsEffect a → event_at c a m ≡ None
+pub no_event : (c : ℕ) (a : Act) (m : Option Message) → IsEffect a → event_at c a m ≡ None
 no_event c (sends d context t items) m e = refl
 no_event c (takes s' j') m e = absurd e
 no_event c (hits s' j') m e = absurd e

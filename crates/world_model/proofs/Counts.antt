@@ -1,42 +1,30 @@
--- Each event keeps what ranks count.
-use Rattle.std.proofs.lemmas.List.{append-nil, length_push, drop-append-le}
-use Rattle.std.proofs.Common.{◌≡◌, ◌≢◌, ℕ, zero, suc, ◌+◌, ◌-◌, ◌<◌, ◌≤◌, ◌⊎◌, inl, inr, Bool, true, false, ◌==◌, nat_lt, nat_le, if◌then◌else◌}
-use Rattle.std.proofs.Common.{is_some, List, [], ◌∷◌, ◌++◌, Option, Some, None, length, drop, refl, sym, ap, subst, ◌∙◌, arith, slice_get}
-use Rattle.std.proofs.Common.{slice_set, slice_index_or, option_and_then, position}
-use Rattle.std.proofs.lemmas.Bool.{cases_lt, ltb-true, le-leb}
-use Rattle.plain_logger.specs.Event.{EventValue, event_of}
-use Rattle.plain_logger.specs.declared.kind.Kind.{Kind}
-use Rattle.plain_logger.specs.declared.kind.Kind.TheVariants as kind
+-- Each event but a step keeps what ranks count.
+use Rattle.std.proofs.lemmas.List.{length_push}
+use Rattle.std.proofs.Common.{◌≡◌, ◌≢◌, ℕ, zero, suc, ◌+◌, ◌-◌, ◌<◌, ◌≤◌, ◌⊎◌, inl, inr, Bool, true, false, ◌==◌, nat_le, if◌then◌else◌}
+use Rattle.std.proofs.Common.{List, [], ◌∷◌, ◌++◌, Option, Some, None, length, drop, refl, sym, ap, subst, ◌∙◌, arith, slice_get}
+use Rattle.std.proofs.Common.{slice_set, slice_index_or}
+use Rattle.std.proofs.lemmas.Bool.{cases_lt, le-leb}
+use Rattle.plain_logger.specs.Event.{EventValue}
 use Rattle.plain_logger.specs.declared.call.Reply.TheVariants.{Length, Full, Order}
-use Rattle.matching.specs.PacketValue as packet
-use Rattle.metered.specs.Limits.{greatest_clock, most_events}
-use Rattle.matching.specs.Matching.{matches}
-use Rattle.rank_machine.specs.Machine.{MachineValue, machine_want}
-use Rattle.rank_machine.specs.declared.want.Want.{Want}
-use Rattle.rank_machine.specs.declared.want.Want.TheVariants as want
-use Rattle.rank_node.specs.Waiting.{is_settled, event_in, events_in, has_room}
+use Rattle.metered.specs.Limits.{most_events}
+use Rattle.rank_node.specs.Waiting.{event_in, events_in}
 use Rattle.rank_node.specs.declared.frame.Frame.{Frame}
 use Rattle.rank_node.specs.declared.frame.Frame.TheVariants as frame
-use Rattle.rank_node.specs.declared.fault.NodeFault.TheVariants.{ClockSpent, Log}
-use Rattle.rank_node.specs.Steps.{step_at, refusal_at, event_refusal, received, probed, tried, at_index, after_send, after_print, made_send}
-use Rattle.rank_node.specs.Steps.{made_print, after_hold, after_wait, after_reception, after_probe}
 use Rattle.rank_node.specs.Frames.{outgoing_of, sent_off, after_frame, with_inbox}
 use Rattle.rank_node.specs.Storing.{after_store}
 use Rattle.matching.specs.Inbox.{after_arrival}
-use Rattle.world_model.specs.World.{Live, unpassed, unstored, WorldValue, IsLive}
+use Rattle.world_model.specs.World.{Live, unstored, WorldValue, IsLive}
 use Rattle.rank_node.specs.declared.waiting.Waiting.{Waiting}
 use Rattle.rank_node.specs.declared.waiting.Waiting.TheVariants as waits
-use Rattle.world_model.proofs.Others.{event_there, drop_first, effect_there}
-use Rattle.world_model.specs.Follows.{ReleaseFollows, StepFollows, ReplayFollows, PutFollows, ArriveFollows, StoreFollows, AckFollows}
+use Rattle.world_model.proofs.StandingStores.{event_there, drop_first}
+use Rattle.world_model.proofs.StandingReleases.{effect_there}
+use Rattle.world_model.specs.Follows.{ReleaseFollows, PutFollows, ArriveFollows, StoreFollows, AckFollows}
 use Rattle.world_model.specs.Follows.{CrashFollows, RestartFollows}
 use Rattle.rank_node.specs.Releasing.{after_release}
 use Rattle.world_model.proofs.Lists.{drop_zero, drop_more}
 use Rattle.world_model.specs.declared.reply.Reply.{Reply}
 use Rattle.world_model.proofs.Places.{slice_set-get}
-use Rattle.rank_node.specs.Replay.{replayed_at, taken_named, shown_named, tried_named, named}
 use Rattle.world_model.specs.Counts.{RankCounts, Counts}
-
--- ---- worlds
 
 -- a rank changes, and no row does
 pub Counts-rank : (w w' : WorldValue) (r : ℕ) (x : Option Live) → w'.ranks ≡ slice_set w.ranks r x → w'.logger.rows ≡ w.logger.rows
@@ -69,146 +57,11 @@ same_counts w r v u x events c live made same e there =
       few = omega (arith, made, b);
     })
 
--- ---- a step
-
--- the events of two lists
-events_append : (xs ys : List Waiting) → events_in (xs ++ ys) ≡ events_in xs ++ events_in ys
-events_append [] ys = refl
-events_append (waits.Event e ∷ xs) ys = ap (λ z. e ∷ z) (events_append xs ys)
-events_append (waits.Send d c ∷ xs) ys = events_append xs ys
-events_append (waits.Line c v ∷ xs) ys = events_append xs ys
-
-module _ (v : Live) (m : MachineValue) (left : List EventValue)
-    (events : List EventValue) (k : RankCounts v events) (low : v.rank.stored ≤ length v.rank.pending) where
-  stays : RankCounts (record { rank = v.rank; left = left }) events
-  stays = record { made = k.made; few = k.few }
-
-  pushed : (y : Waiting) → events_in (drop v.rank.stored (v.rank.pending ++ y ∷ [])) ≡ unstored v.rank ++ events_in (y ∷ [])
-  pushed y = ap events_in (drop-append-le v.rank.stored v.rank.pending (y ∷ []) low) ∙ events_append (unpassed v.rank) (y ∷ [])
-
-  one_more : (x : EventValue) → v.rank.made < most_events
-      → (v.rank.made + 1 ≡ length events + length (events_in (drop v.rank.stored (v.rank.pending ++ waits.Event x ∷ [])))) × (v.rank.made + 1 ≤ most_events)
-  one_more x l =
-      let a = k.made in
-      let b = ap length (pushed (waits.Event x)) ∙ length_push (unstored v.rank) x in
-      (omega (arith, a, b), omega (arith, l))
-
-  -- an effect that waits is no event
-  none_more : (y : Waiting) → events_in (y ∷ []) ≡ [] → v.rank.made ≡ length events + length (events_in (drop v.rank.stored (v.rank.pending ++ y ∷ [])))
-  none_more y e =
-      let a = k.made in
-      let b = ap length (pushed y ∙ ap (λ z. unstored v.rank ++ z) e ∙ append-nil (unstored v.rank)) in
-      omega (arith, a, b)
-
-  few_made : (b c : Bool) → (if b then Some ClockSpent else (if c then None else Some Log)) ≡ None → c ≡ true
-  few_made true c e = absurd cc
-  few_made false true e = refl
-  few_made false false e = absurd cc
-
-  allowed_few : event_refusal v.rank ≡ None → v.rank.made < most_events
-  allowed_few e = ltb-true v.rank.made most_events (few_made (v.rank.clock == greatest_clock) (nat_lt v.rank.made most_events) e)
-
-  probe_counts : (w : Kind) (s c : ℕ) → event_refusal v.rank ≡ None → RankCounts (record { rank = after_probe v.rank m w s c; left = left }) events
-  probe_counts w s c e = (let z = one_more (event_of w s c (v.rank.clock + 1)) (allowed_few e) in record { made = z.0; few = z.1 })
-
-  receive_counts : (f : ℕ × packet.PacketValue) → event_refusal v.rank ≡ None
-      → RankCounts (record { rank = after_reception v.rank m f.0 f.1; left = left }) events
-  receive_counts f e = (let z = one_more (event_of kind.Reception f.1.source f.1.clock (v.rank.clock + 1)) (allowed_few e) in record { made = z.0; few = z.1 })
-
-  received_counts : (o : Option ℕ) → (if is_some o then event_refusal v.rank else None) ≡ None → (f : Option (ℕ × packet.PacketValue))
-      → f ≡ option_and_then (at_index v.rank.inbox.packets) o
-      → RankCounts (record { rank = received v.rank m f; left = left }) events
-  received_counts o e None q = stays
-  received_counts None e (Some f) q = absurd cc
-  received_counts (Some i) e (Some f) q = receive_counts f e
-
-  probed_counts : (o : Option ℕ) → (if is_some o then event_refusal v.rank else None) ≡ None → (f : Option (ℕ × packet.PacketValue))
-      → f ≡ option_and_then (at_index v.rank.inbox.packets) o
-      → RankCounts (record { rank = probed v.rank m f; left = left }) events
-  probed_counts o e None q = stays
-  probed_counts None e (Some f) q = absurd cc
-  probed_counts (Some i) e (Some f) q = probe_counts kind.Hit f.1.source f.1.clock e
-
-  tried_counts : event_refusal v.rank ≡ None → (f : Option (ℕ × packet.PacketValue)) → RankCounts (record { rank = tried v.rank m f; left = left }) events
-  tried_counts e None = probe_counts kind.Miss 0 0 e
-  tried_counts e (Some f) = probe_counts kind.Hit f.1.source f.1.clock e
-
-  pub step_counts : (w : Want) → refusal_at v.rank w ≡ None → RankCounts (record { rank = step_at v.rank w m; left = left }) events
-  step_counts want.Internal e = record { made = k.made; few = k.few }
-  step_counts (want.Send d x t) e = go (has_room v.rank.pending)
-    where
-      made : (b : Bool) → RankCounts (record { rank = if b then after_send v.rank m d x t else after_hold v.rank m d x t; left = left }) events
-      made true = record { made = k.made; few = k.few }
-      made false = record { made = none_more (waits.Send d (v.rank.clock + 1)) refl; few = k.few }
-
-      go : (b : Bool) → RankCounts (record { rank = if b then made_send v.rank m d x t else v.rank; left = left }) events
-      go true = made (is_settled v.rank.pending)
-      go false = stays
-  step_counts (want.Receive s) e = received_counts (position (matches s) v.rank.inbox.packets) e _ refl
-  step_counts (want.Probe s) e = probed_counts (position (matches s) v.rank.inbox.packets) e _ refl
-  step_counts (want.TryProbe s) e = tried_counts e _
-  step_counts (want.Print z) e = go (has_room v.rank.pending)
-    where
-      made : (b : Bool) → RankCounts (record { rank = if b then after_print v.rank m else after_wait v.rank m z; left = left }) events
-      made true = record { made = k.made; few = k.few }
-      made false = record { made = none_more (waits.Line (v.rank.clock + 1) z) refl; few = k.few }
-
-      go : (b : Bool) → RankCounts (record { rank = if b then made_print v.rank m z else v.rank; left = left }) events
-      go true = made (is_settled v.rank.pending)
-      go false = stays
-  step_counts want.Halted e = stays
-  step_counts (want.Faulted f) e = stays
-
-  print_counts : RankCounts (record { rank = after_print v.rank m; left = left }) events
-  print_counts = record { made = k.made; few = k.few }
-
-  taken_counts : (f : Option (ℕ × packet.PacketValue)) → RankCounts (record { rank = taken_named v.rank m f; left = left }) events
-  taken_counts None = stays
-  taken_counts (Some f) = record { made = k.made; few = k.few }
-
-  shown_counts : (f : Option (ℕ × packet.PacketValue)) → RankCounts (record { rank = shown_named v.rank m f; left = left }) events
-  shown_counts None = stays
-  shown_counts (Some f) = print_counts
-
-  tried_named_counts : (f : Option (ℕ × packet.PacketValue)) (w : Kind) → RankCounts (record { rank = tried_named v.rank m f w; left = left }) events
-  tried_named_counts f kind.Hit = shown_counts f
-  tried_named_counts f kind.Miss = print_counts
-  tried_named_counts f kind.Reception = stays
-
-  -- what is replayed is stored already
-  pub replay_counts : (e : EventValue) (w : Want) → RankCounts (record { rank = replayed_at v.rank e w m; left = left }) events
-  replay_counts e want.Internal = record { made = k.made; few = k.few }
-  replay_counts e (want.Send d x t) = record { made = k.made; few = k.few }
-  replay_counts e (want.Receive s) = taken_counts (named v.rank e)
-  replay_counts e (want.Probe s) = shown_counts (named v.rank e)
-  replay_counts e (want.TryProbe s) = tried_named_counts (named v.rank e) e.kind
-  replay_counts e (want.Print z) = print_counts
-  replay_counts e want.Halted = stays
-  replay_counts e (want.Faulted f) = stays
-
 -- the rank that changed has counted, where its new value has
-one : (u x : Live) (events : List EventValue) → RankCounts u events → ◌≡◌ {A = Option Live} (Some u) (Some x) → RankCounts x events
+pub one : (u x : Live) (events : List EventValue) → RankCounts u events → ◌≡◌ {A = Option Live} (Some u) (Some x) → RankCounts x events
 one u x events h e = (let q : u ≡ x = cc in subst (λ z. RankCounts z events) q h)
 
--- a step of a rank at work
-pub Counts-step : (w : WorldValue) (r : ℕ) (answer : Reply) (w' : WorldValue) → ((v : Live) → IsLive w r v → v.rank.stored ≤ length v.rank.pending)
-    → Counts w → StepFollows w r answer w' → Counts w'
-Counts-step w r answer w' low c f =
-    Counts-rank w w' r (Some (record { rank = step_at f.before.rank (machine_want f.before.rank.machine) f.machine; left = [] })) (ap (λ z. z.ranks) f.after)
-    (ap (λ z. z.logger.rows) f.after)
-    (λ x events e there. one _ x events (step_counts f.before f.machine [] events (c.ranks r f.before events f.live there) (low f.before f.live)
-    (machine_want f.before.rank.machine) f.allowed) e) c
-
--- a step of the replay
-pub Counts-replay : (w : WorldValue) (r : ℕ) (answer : Reply) (w' : WorldValue) → ((v : Live) → IsLive w r v → v.rank.stored ≤ length v.rank.pending)
-    → Counts w → ReplayFollows w r answer w' → Counts w'
-Counts-replay w r answer w' low c f =
-    Counts-rank w w' r _ (ap (λ z. z.ranks) f.after) (ap (λ z. z.logger.rows) f.after)
-    (λ x events e there. one _ x events (replay_counts f.before f.machine _ events (c.ranks r f.before events f.live there)
-    (low f.before f.live) f.event (machine_want f.before.rank.machine)) e) c
-
 -- ---- frames, images, crashes
-
 -- a frame that has gone counts no event
 sent_off_counts : (v : Live) (events : List EventValue) → RankCounts v events → (d : ℕ) (o : Option Frame)
     → RankCounts (record { rank = sent_off v.rank d o; left = v.left }) events
@@ -255,7 +108,6 @@ Counts-restart w r answer w' c f whole =
     record { made = (let z : length f.events ≡ length events + 0 = omega (arith, l) in z); few = omega (arith, l, m) }) e) c
 
 -- ---- stores
-
 -- an acknowledgment
 pub Counts-ack : (w : WorldValue) (r : ℕ) (answer : Reply) (w' : WorldValue) → Counts w → AckFollows w r answer w' → Counts w'
 Counts-ack w r answer w' c f =

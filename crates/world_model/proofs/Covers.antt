@@ -1,18 +1,16 @@
 -- What senders may drop: each event keeps that no base, no Kept and nothing due is above what the receiver's image had accepted.
-use Rattle.std.proofs.Common.{◌≡◌, ℕ, zero, suc, ◌+◌, ◌<◌, ◌≤◌, ◌⊎◌, inl, inr, ⊎_elim, Bool, true, false, ◌==◌, nat_lt, if◌then◌else◌, List, []}
-use Rattle.std.proofs.Common.{◌∷◌, ◌++◌, Option, Some, None, length, map, refl, sym, ap, subst, arith, slice_get, slice_set, slice_index}
+use Rattle.std.proofs.Common.{◌≡◌, ℕ, zero, suc, ◌+◌, ◌≤◌, ◌⊎◌, inl, inr, ⊎_elim, Bool, true, false, ◌==◌, if◌then◌else◌, List, []}
+use Rattle.std.proofs.Common.{◌∷◌, ◌++◌, Option, Some, map, refl, sym, subst, arith, slice_get, slice_set, slice_index}
 use Rattle.std.proofs.Common.{slice_index_or}
 use Rattle.std.proofs.lemmas.Bool.{eqb-true}
 use Rattle.matching.specs.PacketValue as packet
 use Rattle.matching.specs.Inbox.{Mailbox, accepted_from, with_packet, after_arrival}
 use Rattle.payload_log.specs.Backlog.{BacklogValue, backlog, new_backlog}
-use Rattle.rank_node.specs.declared.due.Due.{Due}
 use Rattle.rank_node.specs.declared.frame.Frame.{Frame}
-use Rattle.rank_node.specs.declared.frame.Frame.TheVariants as frame
 use Rattle.crash_free.proofs.Lists.{push_cases}
-use Rattle.world_model.specs.World.{Live, WorldValue, IsLive, covered, accepted_at}
+use Rattle.world_model.specs.World.{Live, WorldValue, covered}
 use Rattle.world_model.proofs.Places.{slice_set-get, replaced_keeps}
-use Rattle.checkpoint.specs.Image.{ImageValue, rewound}
+use Rattle.checkpoint.specs.Image.{ImageValue}
 use Rattle.rank_node.specs.Replay.{ask_after}
 use Rattle.world_model.specs.Stands.{BasesCovered, KeptCovered, DueCovered, RankCovers, Covers}
 use Rattle.world_model.proofs.Lists.{get_map}

@@ -29,7 +29,7 @@ use Rattle.world_model.specs.declared.event.WorldEvent.TheVariants.{Step}
 use Rattle.world_model.specs.declared.reply.Reply.TheVariants as reply
 use Rattle.world_model.proofs.Doing.{none_live, same_live, at_value, value_at, live_at, not_down, is_then_down, same_world}
 use Rattle.world_model.proofs.Replays.{replays, settled, behind}
-use Rattle.world_model.proofs.Steps.{passed_again}
+use Rattle.world_model.proofs.MadeAgain.{passed_again}
 use Rattle.world_model.proofs.Showing.{Shows}
 
 -- the reply to a step is none of another event's

@@ -5,9 +5,11 @@ use Rattle.world_model.specs.Counts.{RankCounts, Counts}
 use Rattle.world_model.specs.Follows.{RestartFollows, ReleaseFollows, CanNot, Happens, Follows, Fetched, Unchanged}
 use Rattle.rank_node.specs.Waiting.{BeginsWithEvents, event_in, effects, events_in}
 use Rattle.world_model.proofs.Pending.{begins_effect, begins_within, continue_is_run, row_with_pending, as_many_acts}
-use Rattle.world_model.proofs.Others.{effect_there, Stands-putting, Stands-arrive, Stands-store, Stands-ack, Stands-release}
-use Rattle.world_model.proofs.Counts.{Counts-step, Counts-replay, Counts-put, Counts-arrive, Counts-crash, Counts-restart, Counts-ack}
-use Rattle.world_model.proofs.Counts.{Counts-store, Counts-release}
+use Rattle.world_model.proofs.StandingFrames.{Stands-putting, Stands-arrive}
+use Rattle.world_model.proofs.StandingStores.{Stands-store, Stands-ack}
+use Rattle.world_model.proofs.StandingReleases.{effect_there, Stands-release}
+use Rattle.world_model.proofs.Counts.{Counts-put, Counts-arrive, Counts-crash, Counts-restart, Counts-ack, Counts-store, Counts-release}
+use Rattle.world_model.proofs.CountsOfSteps.{Counts-step, Counts-replay}
 use Rattle.world_model.proofs.Ranks.{above_whole, settled_behind, ahead, first_image_stands}
 use Rattle.plain_logger.specs.Event.{EventValue}
 use Rattle.plain_logger.specs.History.{above}
@@ -40,7 +42,8 @@ use Rattle.world_model.proofs.Lists.{replicate_get, replicate_length, drop_none}
 use Rattle.world_model.proofs.Worlds.{Goes}
 use Rattle.world_model.proofs.Crashes.{Stands-crash, Stands-restart}
 use Rattle.world_model.proofs.Imaging.{Stands-image, Counts-image}
-use Rattle.world_model.proofs.Turns.{Stands-replay, Stands-step}
+use Rattle.world_model.proofs.StandingReplays.{Stands-replay}
+use Rattle.world_model.proofs.Turns.{Stands-step}
 
 -- each event
 goes_on : (w : WorldValue) (event : WorldEvent) (answer : Reply) (w' : WorldValue) → Stands w → Happens w event answer w' → Goes w'

@@ -1,12 +1,12 @@
 -- Where a rank stands that has made the first acts of a history: others' sends and later acts keep it, and its next act leads on.
-use Rattle.std.proofs.Common.{◌≡◌, ℕ, ◌+◌, ◌<◌, ◌⊎◌, inl, inr, List, [], ◌∷◌, ◌++◌, Option, Some, None, length, take, drop, map, refl, sym, ap}
+use Rattle.std.proofs.Common.{◌≡◌, ℕ, ◌+◌, ◌<◌, ◌⊎◌, inl, inr, List, [], ◌∷◌, ◌++◌, Option, Some, None, length, take, drop, refl, sym, ap}
 use Rattle.std.proofs.Common.{subst, ◌∙◌, arith, length-append}
 use Rattle.matching.specs.Inbox.{Mailbox}
 use Rattle.payload_log.specs.Backlog.{BacklogValue}
-use Rattle.rank_machine.specs.States.{State, Inners, here, on, inner}
+use Rattle.rank_machine.specs.States.{State, Inners, here, inner}
 use Rattle.rank_machine.specs.Acts.{Act, Message, Makes, Does, Runs, next}
 use Rattle.rank_machine.specs.Machine.{MachineValue, state_of}
-use Rattle.rank_machine.proofs.Determined.{still, same_runs}
+use Rattle.rank_machine.proofs.Determined.{still, same_stop, same_runs}
 use Rattle.crash_free.specs.Runs.{Passed, History, history, sent, looked_up, IsRun}
 use Rattle.crash_free.specs.Grows.{Grows}
 use Rattle.crash_free.proofs.Steps.{Inners-push, Runs-push}
@@ -127,15 +127,6 @@ run_reaches start n (p ∷ C) r i = go (run_reaches start n C r i.0) (cases_eq p
         let own : (z : State) × Runs (start p.rank) (history (p ∷ C) p.rank) z =
         (to, rw (history-own C p.rank p.act) (Runs-push (start p.rank) k.after to (history C p.rank) x k.reached (k.stands, k.inner, k.makes, refl))) in
         subst (λ q. (z : State) × Runs (start q) (history (p ∷ C) q) z) e own
-
--- inner steps lead to one state without a further one
-same_stop : {a b c : State} → Inners a b → Inners a c → inner b ≡ None → inner c ≡ None → b ≡ c
-same_stop here here p q = refl
-same_stop here (on e r) p q = cc
-same_stop (on e r) here p q = cc
-same_stop (on {b = x} e r) (on {b = y} e' r') p q =
-    let same : y ≡ x = cc in
-    same_stop r (rw same at r') p q
 
 -- a run of acts in two parts
 Runs-split : (a c : State) (h k : History) → Runs a (h ++ k) c → (b : State) × Runs a h b × Runs b k c

@@ -8,8 +8,7 @@ use Rattle.payload_log.specs.Backlog.{BacklogValue, saved, hold, freed, freed_of
 use Rattle.rank_machine.specs.Acts.{Message, carried}
 use Rattle.crash_free.specs.Runs.{at_place}
 use Rattle.world_model.specs.Stands.{LogStands, packet_of, packets_from}
-use Rattle.world_model.proofs.Lists.{drop_append, drop_beyond, drop_more, packets_push, packets_length, packets_get, packets_there, get_drop}
-use Rattle.world_model.proofs.Lists.{get_dropped}
+use Rattle.world_model.proofs.Lists.{drop_append, drop_beyond, drop_more, packets_push, packets_length, packets_get, get_drop}
 
 -- one message more was sent, and its packet saved
 pub LogStands-saved : (r : ℕ) (messages later : List Message) (b : BacklogValue) (p : packet.PacketValue) → p.source ≡ r → p.number ≡ b.sent + 1

@@ -31,7 +31,8 @@ use Rattle.world_model.specs.Onward.{AreAbove, RankOnward, Onward}
 use Rattle.world_model.proofs.Lists.{drop_zero}
 use Rattle.world_model.proofs.Pending.{begins_effect}
 use Rattle.world_model.proofs.Ranks.{nothing_unpassed}
-use Rattle.world_model.proofs.Others.{event_there, drop_first, effect_there}
+use Rattle.world_model.proofs.StandingStores.{event_there, drop_first}
+use Rattle.world_model.proofs.StandingReleases.{effect_there}
 use Rattle.world_model.proofs.OnwardRanks.{same_wires, valued, OneChanged, GetsOn, onward_changed, onward_gets_on, one_changed, live_is}
 use Rattle.world_model.proofs.OnwardFrames.{above_set}
 

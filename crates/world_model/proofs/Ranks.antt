@@ -1,6 +1,6 @@
 -- A live rank goes with the run still: after acts of others, frames, acts that it makes again, and a restart.
 use Rattle.std.proofs.Common.{◌≡◌, ℕ, zero, suc, ◌+◌, ◌<◌, ◌≤◌, inl, ⊎_elim, Bool, true, false, List, [], ◌∷◌, ◌++◌, Option, Some, None, length}
-use Rattle.std.proofs.Common.{take, drop, map, refl, sym, ap, subst, ◌∙◌, arith, slice_get, slice_index, replicate, ◌==◌}
+use Rattle.std.proofs.Common.{take, drop, refl, sym, ap, subst, ◌∙◌, arith, slice_get, slice_index, replicate, ◌==◌}
 use Rattle.std.proofs.lemmas.Bool.{lt-ltb, le-ltb}
 use Rattle.std.proofs.lemmas.List.{append-nil}
 use Rattle.plain_logger.specs.Event.{EventValue}
@@ -9,7 +9,7 @@ use Rattle.matching.specs.Inbox.{Mailbox}
 use Rattle.payload_log.specs.Backlog.{BacklogValue, new_backlog}
 use Rattle.rank_language.specs.Program.{ProgramValue}
 use Rattle.rank_machine.specs.States.{State, Inners, here, opening}
-use Rattle.rank_machine.specs.Acts.{Act, Message, sends, takes, hits, misses, prints, Makes, next}
+use Rattle.rank_machine.specs.Acts.{Act, Message, Makes, next}
 use Rattle.rank_machine.specs.Machine.{MachineValue, state_of}
 use Rattle.rank_node.specs.declared.due.Due.{Due}
 use Rattle.rank_node.specs.Stored.{Stored}
@@ -21,12 +21,12 @@ use Rattle.crash_free.proofs.Lists.{history-own}
 use Rattle.world_model.specs.Rows.{row, event_at, events_from, cons_some}
 use Rattle.world_model.specs.World.{Rank, Live, unpassed}
 use Rattle.world_model.specs.Stands.{InboxStands, LogStands, LogsStand, Pending, StandsIn, ImageStands, RankStands}
-use Rattle.world_model.proofs.Rows.{IsEffect, event_clock}
+use Rattle.world_model.proofs.Rows.{IsEffect, no_event, event_clock}
 use Rattle.world_model.proofs.Pending.{Pending-extended, none_pending}
 use Rattle.checkpoint.specs.Image.{ImageValue}
 use Rattle.rank_node.specs.Image.{first_image}
 use Rattle.rank_node.specs.Replay.{restarted, left_of}
-use Rattle.world_model.proofs.Lists.{Next, next_of_drop, take_append, drop_append, drop_beyond, drop_none, get_map, replicate_get, replicate_length}
+use Rattle.world_model.proofs.Lists.{Next, next_of_drop, take_append, drop_append, drop_beyond, drop_none, replicate_get, replicate_length}
 use Rattle.world_model.proofs.In.{StandsIn-longer, StandsIn-later, StandsIn-next}
 
 -- ---- the payload log
@@ -319,13 +319,6 @@ RankStands-passed_by start n C r v s a settled clock left effect =
 
     C' : List Passed
     C' = record { rank = r; act = a } ∷ C
-
-    no_event : (c : ℕ) (a : Act) (m : Option Message) → IsEffect a → event_at c a m ≡ None
-    no_event c (sends d context t items) m e = refl
-    no_event c (takes s' j') m e = absurd e
-    no_event c (hits s' j') m e = absurd e
-    no_event c misses m e = absurd e
-    no_event c (prints v) m e = refl
 
     behind : events_from v.rank.clock (drop v.rank.clock (history C' r)) ≡ []
     behind =

@@ -1,8 +1,8 @@
 -- A rank that replays is never refused, and each of its steps keeps it with the run.
-use Rattle.std.proofs.Common.{◌≡◌, ℕ, ℤ, ◌+◌, ◌<◌, ◌≤◌, ◌⊎◌, inl, inr, ⊎_elim, true, false, ◌==◌, if◌then◌else◌, List, [], ◌∷◌, ◌++◌, Option, Some}
-use Rattle.std.proofs.Common.{None, Ok, Err, length, take, drop, refl, sym, ap, subst, ◌∙◌, arith, slice_get, slice_set, position, option_and_then}
-use Rattle.std.proofs.lemmas.Bool.{cases_lt, lt-ltb, eq-eqb, ne_eqb, eqb-true, and_parts}
-use Rattle.std.proofs.lemmas.List.{append-nil, length-set}
+use Rattle.std.proofs.Common.{◌≡◌, ℕ, ℤ, ◌+◌, ◌<◌, ◌≤◌, ◌⊎◌, inl, inr, ⊎_elim, true, false, if◌then◌else◌, List, [], ◌∷◌, ◌++◌, Option, Some}
+use Rattle.std.proofs.Common.{None, Ok, Err, length, take, drop, refl, sym, ap, subst, ◌∙◌, slice_get, slice_set, position, option_and_then}
+use Rattle.std.proofs.lemmas.Bool.{cases_lt, lt-ltb, eq-eqb}
+use Rattle.std.proofs.lemmas.List.{length-set}
 use Rattle.std.proofs.lemmas.Option.{get_or_from_slice_get}
 use Rattle.std.proofs.lemmas.List.Quantifiers.{position-Some}
 use Rattle.matching.specs.declared.packet.Context.{Context}
@@ -10,7 +10,7 @@ use Rattle.matching.specs.declared.selector.Selector.{Selector}
 use Rattle.matching.specs.PacketValue as packet
 use Rattle.matching.specs.Matching.{matches, is_named}
 use Rattle.matching.specs.Inbox.{Mailbox, without}
-use Rattle.payload_log.specs.Backlog.{BacklogValue, backlog, saved, new_backlog}
+use Rattle.payload_log.specs.Backlog.{BacklogValue, backlog, saved}
 use Rattle.plain_logger.specs.Event.{EventValue, event_of}
 use Rattle.plain_logger.specs.declared.kind.Kind.{Kind}
 use Rattle.plain_logger.specs.declared.kind.Kind.TheVariants as kind
@@ -24,104 +24,20 @@ use Rattle.rank_node.specs.declared.fault.NodeFault.TheVariants as fault
 use Rattle.rank_node.specs.declared.turn.Turn.{Turn}
 use Rattle.rank_node.specs.declared.turn.Turn.TheVariants.{Moved, Blocked}
 use Rattle.rank_node.specs.Steps.{at_index, message_of, WasShown, TakesFound, IsShownFound}
-use Rattle.crash_free.specs.Runs.{Passed, History, at_place, history, sent, sends_from, send_at, cons_if, looked_up, takes_it, IsRun}
-use Rattle.crash_free.proofs.Lists.{sends_from-push}
-use Rattle.crash_free.proofs.Clocks.{one_clock}
+use Rattle.crash_free.specs.Runs.{Passed, at_place, history, sent, sends_from, looked_up, takes_it, IsRun}
 use Rattle.world_model.specs.Rows.{event_at, events_from, cons_some}
-use Rattle.world_model.specs.World.{Rank, Live}
+use Rattle.world_model.specs.World.{Live}
 use Rattle.world_model.specs.Stands.{InboxStands, LogStands, LogsStand, StandsIn, RankStands}
 use Rattle.world_model.proofs.Inboxes.{matches_if_named, InboxStands-noted, InboxStands-taken}
-use Rattle.world_model.proofs.Places.{replaced_keeps}
 use Rattle.rank_node.specs.Replay.{named, is_now, is_before, replay_turn_at, replayed_at, ReplayStepAt, left_after, taken_named, shown_named}
 use Rattle.rank_node.specs.Replay.{named_turn, receive_turn, probe_turn, try_turn, tried_named, TriesNamed}
-use Rattle.world_model.proofs.Lists.{next_of_drop, drop_beyond, take_length}
-use Rattle.world_model.proofs.Logs.{LogStands-saved}
+use Rattle.world_model.proofs.Lists.{next_of_drop, drop_beyond}
 use Rattle.world_model.proofs.In.{StandsIn-moved, NextAct, next_act, run_reaches}
 use Rattle.world_model.proofs.Ranks.{at_run, left_run, logs_run, settled_behind, RankStands-settled, RankStands-same_clock, after_again}
 use Rattle.world_model.proofs.Ranks.{RankStands-again}
 use Rattle.world_model.proofs.Fits.{fits_send, fits_print, FitsTakes, fits_receive, FitsHits, fits_probe, fits_try, fits_ended, wanted, stopped}
 use Rattle.world_model.proofs.Fits.{history_looks_up, first_event_late}
-
--- ---- the payload log after a send
-
--- what the first c acts sent, and a send as the next
-sends_next : (h : History) (c d' d : ℕ) (context : Context) (t : ℕ) (items : List ℤ) (o : Option Message) → c ≤ length h
-    → sends_from 0 d (take c h ++ (sends d' context t items, o) ∷ [])
-    ≡ sends_from 0 d (take c h) ++ cons_if (d' == d) (record { clock = c + 1; context = context; tag = t; items = items }) []
-sends_next h c d' d context t items o l =
-    sends_from-push 0 d (take c h) (sends d' context t items, o)
-    ∙ (let z : 0 + length (take c h) ≡ c = (let e = take_length c h l in omega (arith, e)) in
-    ap (λ y. sends_from 0 d (take c h) ++ cons_if (d' == d) (record { clock = y + 1; context = context; tag = t; items = items }) []) z)
-
--- a send that is made again is saved
-pub logs_saved : (r : ℕ) (h : History) (v : Rank) (d : ℕ) (context : Context) (t : ℕ)
-    → v.stable.rank ≡ r → v.clock ≤ length h → LogsStand r h v.clock [] v.log
-    → (e : ℕ) (b : BacklogValue) → slice_get (slice_set v.log d (saved (backlog v.log d) (message_of v d context t))) e ≡ Some b
-    → LogStands r (sends_from 0 e (take v.clock h ++ (sends d context t (payload (state_of v.machine)), None) ∷ [])) [] b
-logs_saved r h v d context t number within s =
-    replaced_keeps (λ e b. LogStands r (sends_from 0 e (take v.clock h ++ (a, None) ∷ [])) [] b) v.log d (saved (backlog v.log d) p) others own
-  where
-    p : packet.PacketValue
-    p = message_of v d context t
-
-    a : Act
-    a = sends d context t (payload (state_of v.machine))
-
-    messages : (e : ℕ) → sends_from 0 e (take v.clock h ++ (a, None) ∷ []) ≡ sends_from 0 e (take v.clock h) ++ cons_if (d == e) (carried p) []
-    messages e = sends_next h v.clock d e context t (payload (state_of v.machine)) None within
-
-    others : (e : ℕ) (b : BacklogValue) → (e ≡ d → ⊥) → slice_get v.log e ≡ Some b → LogStands r (sends_from 0 e (take v.clock h ++ (a, None) ∷ [])) [] b
-    others e b ne at =
-        subst (λ z. LogStands r z [] b) (sym (messages e ∙ ap (λ z. sends_from 0 e (take v.clock h) ++ cons_if z (carried p) [])
-        (ne_eqb d e (λ z. ne (sym z))) ∙ append-nil _))
-        (s e b at)
-
-    own : (b : BacklogValue) → slice_get v.log d ≡ Some b → LogStands r (sends_from 0 d (take v.clock h ++ (a, None) ∷ [])) [] (saved (backlog v.log d) p)
-    own b at =
-        let is : backlog v.log d ≡ b = get_or_from_slice_get v.log d b new_backlog at in
-        let had : LogStands r (sends_from 0 d (take v.clock h)) [] (backlog v.log d) =
-        subst (λ z. LogStands r (sends_from 0 d (take v.clock h)) [] z) (sym is) (s d b at) in
-        let none = ap length had.held in
-        subst (λ z. LogStands r z [] (saved (backlog v.log d) p))
-        (sym (messages d ∙ ap (λ z. sends_from 0 d (take v.clock h) ++ cons_if z (carried p) []) (eq-eqb d d refl)))
-        (LogStands-saved r (sends_from 0 d (take v.clock h)) [] (backlog v.log d) p number
-        (let z : p.number ≡ (backlog v.log d).sent + 1 = omega (arith, none) in z) had.sent had.kept had.held)
-
--- an act that sends nothing leaves the log
-abbrev pub SendsNone : Act → Type 0
-SendsNone a = (c d : ℕ) → send_at c d a [] ≡ []
-
--- another act leaves the payload log
-pub logs_quiet : (r : ℕ) (h : History) (v : Rank) (a : Act) (o : Option Message) → SendsNone a
-    → LogsStand r h v.clock [] v.log
-    → (e : ℕ) (b : BacklogValue) → slice_get v.log e ≡ Some b → LogStands r (sends_from 0 e (take v.clock h ++ (a, o) ∷ [])) [] b
-logs_quiet r h v a o none s e b at =
-    subst (λ z. LogStands r z [] b) (sym (sends_from-push 0 e (take v.clock h) (a, o) ∙ ap (λ z. sends_from 0 e (take v.clock h) ++ z) (none _ e)
-    ∙ append-nil _)) (s e b at)
-
--- ---- the packet that an event names
-
--- what an event names
-named_parts : (source clock : ℕ) (p : packet.PacketValue) → is_named source clock p ≡ true → (p.source ≡ source) × (p.clock ≡ clock)
-named_parts source clock p e = (let x = and_parts (p.source == source) (p.clock == clock) e in (eqb-true p.source source x.0, eqb-true p.clock clock x.1))
-
--- in an inbox that stands, the packet of this source and clock is the message of that clock, with its place
-pub record IsOf (s j : ℕ) (m : Message) (p : packet.PacketValue) : Type 0 where
-  pub source : p.source ≡ s
-  pub number : p.number ≡ j
-  pub message : carried p ≡ m
-
--- a source and a clock name one message
-pub one_message : (C : List Passed) (r : ℕ) (box : Mailbox) (acts : History) (i s j : ℕ) (m : Message) (p : packet.PacketValue)
-    → InboxStands box (λ q. sent C q r) acts → slice_get box.packets i ≡ Some p → p.source ≡ s → p.clock ≡ m.clock → at_place (sent C s r) j ≡ Some m
-    → IsOf s j m p
-one_message C r box acts i s j m p stands at source clock there =
-    let real : at_place (sent C s r) p.number ≡ Some (carried p) = subst (λ z. at_place (sent C z r) p.number ≡ Some (carried p)) source (stands.real i p at) in
-    let same : p.number ≡ j = one_clock 0 r (history C s) p.number j (carried p) m real there clock in
-    let both : Some (carried p) ≡ Some m = sym real ∙ ap (λ z. at_place (sent C s r) z) same ∙ there in
-    record { source = source; number = same; message = cc }
-
--- ---- the steps
+use Rattle.world_model.proofs.ReplayParts.{logs_saved, logs_quiet, named_parts, IsOf, one_message}
 
 module _ (start : ℕ → State) (n : ℕ) (C : List Passed) (r : ℕ) (v : Live)
     (run : IsRun start n C) (s : RankStands start n C r v) (e : EventValue) (rest : List EventValue) (left : v.left ≡ e ∷ rest) where

@@ -1,5 +1,5 @@
 -- Events one after another.
-use Rattle.std.proofs.Common.{◌≡◌, ℕ, ◌<◌, inl, List, [], ◌∷◌, ◌++◌, length, take, get_or, Result, Ok, Err, IfOk, OnErr, refl, sym, subst, slice_get}
+use Rattle.std.proofs.Common.{ℕ, ◌<◌, inl, List, [], ◌∷◌, ◌++◌, length, take, get_or, Result, Ok, Err, IfOk, OnErr, refl, subst}
 use Rattle.std.proofs.lemmas.Option.{slice_get-get_or}
 use Rattle.std.specs.declared.alloc.AllocError.{AllocError}
 use Rattle.rank_language.specs.Program.{ProgramValue}

@@ -1,5 +1,5 @@
 -- The oldest unstored event of a rank: the logger accepts it, and it names a message of the run.
-use Rattle.std.proofs.Common.{◌≡◌, ℕ, zero, suc, ◌+◌, ◌<◌, ◌≤◌, ⊎_elim, List, [], ◌∷◌, ◌++◌, Some, length, drop, refl, sym, ap, subst, ◌∙◌, arith}
+use Rattle.std.proofs.Common.{◌≡◌, ℕ, zero, suc, ◌+◌, ◌<◌, ◌≤◌, ⊎_elim, List, [], ◌∷◌, Some, length, drop, refl, sym, ap, subst, ◌∙◌, arith}
 use Rattle.std.proofs.Common.{slice_get, slice_index_or}
 use Rattle.std.proofs.lemmas.Bool.{cases_lt, lt-leb}
 use Rattle.std.proofs.lemmas.Option.{slice_get_within, slice_get-get_or}
@@ -13,14 +13,14 @@ use Rattle.rank_node.specs.declared.waiting.Waiting.{Waiting}
 use Rattle.rank_node.specs.declared.waiting.Waiting.TheVariants as waits
 use Rattle.rank_node.specs.Waiting.{events_in}
 use Rattle.rank_node.specs.Storing.{next_unstored}
-use Rattle.crash_free.specs.Runs.{Passed, at_place, history, sent, sends_from, looked_up, IsRun, continue}
+use Rattle.crash_free.specs.Runs.{Passed, at_place, history, sent, sends_from, looked_up, IsRun}
 use Rattle.crash_free.proofs.Lists.{history-other}
 use Rattle.world_model.specs.Rows.{row, event_at}
 use Rattle.world_model.specs.World.{Live, WorldValue, size, IsLive, unpassed, unstored}
 use Rattle.world_model.specs.Seats.{IsAccepted}
 use Rattle.world_model.specs.Stands.{start_at, Pending, RankStands, Stands}
 use Rattle.world_model.proofs.Rows.{last_clock_low, event_clock}
-use Rattle.world_model.proofs.Others.{event_there, drop_first}
+use Rattle.world_model.proofs.StandingStores.{event_there, drop_first}
 
 -- the oldest pending act, with its event
 first_pending : (start : ℕ → State) (C : List Passed) (r : ℕ) (acts : List Act) (x : EventValue) (rest : List Waiting)

@@ -8,7 +8,7 @@
 --     recv any, any, x
 --     print x + 1
 --   end
-use Rattle.std.specs.Prelude.{◌≡◌, ℕ, ℤ, pos, zero, suc, ◌<◌, List, [], ◌∷◌, Option, Some, None}
+use Rattle.std.specs.Prelude.{◌≡◌, ℕ, pos, zero, suc, ◌<◌, List, [], ◌∷◌, Option, Some, None}
 use Rattle.std.proofs.Common.{refl, lit<, arith, inl, inr, ⊎_elim}
 use Rattle.checkpoint.specs.Image.{ImageValue}
 use Rattle.matching.specs.Inbox.{accepted_from}
@@ -18,12 +18,12 @@ use Rattle.plain_logger.specs.declared.kind.Kind.TheVariants as kind
 use Rattle.matching.specs.declared.packet.Context.TheVariants.{PointToPoint}
 use Rattle.rank_grammar.specs.declared.token.Operator.TheVariants.{Add, Equal}
 use Rattle.rank_grammar.specs.declared.token.Reading.TheVariants.{Rank}
-use Rattle.rank_language.specs.Placed.{Placed, number, variable, reading, operation, any, one, into_variable, declare, send, receive, print}
+use Rattle.rank_language.specs.Placed.{number, variable, reading, operation, any, one, into_variable, declare, send, receive, print}
 use Rattle.rank_language.specs.Block.{Block, done, plain, if_else, lines_at}
 use Rattle.rank_language.specs.Program.{ProgramValue}
-use Rattle.rank_machine.specs.States.{State, opening, first_store, Inners, here, on}
+use Rattle.rank_machine.specs.States.{State, opening, first_store, here, on}
 use Rattle.rank_machine.specs.Acts.{Message, sends, takes, hits, misses, prints, with_status, written}
-use Rattle.crash_free.specs.Runs.{Passed, at_place, sent, printed, IsRun, IsEligible, MayMake}
+use Rattle.crash_free.specs.Runs.{Passed, at_place, sent, printed, IsRun}
 use Rattle.world_model.specs.Rows.{row}
 use Rattle.world_model.specs.World.{WorldValue}
 use Rattle.world_model.specs.Retained.{Needed, Retains}
