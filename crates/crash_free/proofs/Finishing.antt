@@ -8,7 +8,7 @@ use Rattle.rank_language.specs.Placed.{barrier, broadcast, reduce, collect}
 use Rattle.rank_language.specs.Block.{Block, plain}
 use Rattle.rank_machine.specs.declared.fault.MachineFault.{MachineFault}
 use Rattle.rank_machine.specs.Values.{Store}
-use Rattle.rank_machine.specs.Collectives.{Call, called, gives, gets, ends, parts_of, is_last, counted, passed, given_by, ended, unfaulted}
+use Rattle.rank_machine.specs.Collectives.{Call, called, gives, gets, ends, parts_of, is_last, counted, part_done, given_by, ended, unfaulted}
 use Rattle.rank_machine.specs.States.{State, inner}
 use Rattle.rank_machine.specs.Acts.{Message, Act, takes, kept}
 use Rattle.rank_machine.proofs.Outcomes.{standing, Gave, Took, Outcome, made, unfaulted_ok, ended_so}
@@ -90,11 +90,11 @@ pub record Finishing (s : Store) (c : statements.Collective) (call : Call) (late
   pub how : GaveLast s call s' ⊎ (TookLast s c call later s' ⊎ EndedLast s c call s')
 
 -- what the last part stores
-passed_last : (s' : Store) (call : Call) → is_last s' call ≡ true → passed s' call ≡ counted s'
+passed_last : (s' : Store) (call : Call) → is_last s' call ≡ true → part_done s' call ≡ counted s'
 passed_last s' call e = rw e refl
 
 -- no other part counts
-passed_on : (s' : Store) (call : Call) → is_last s' call ≡ false → (passed s' call).finished ≡ s'.finished
+passed_on : (s' : Store) (call : Call) → is_last s' call ≡ false → (part_done s' call).finished ≡ s'.finished
 passed_on s' call e = rw e refl
 
 -- what a collective keeps of a packet leaves what is counted, but for what a reduce gathers
