@@ -1,9 +1,13 @@
 mod Crews
+mod GateLemmas
 mod LaneLists
 mod PhaseLaws
 mod PlanLaws
 mod PuttingLemmas
 mod ReleasingLemmas
 mod ReportLemmas
+mod RowLemmas
 mod SeatingLemmas
+mod StationLemmas
+mod StepLaws
 mod TakingLemmas

@@ -1,5 +1,5 @@
 -- Frames that are taken one after another.
-use Rattle.std.proofs.Common.{◌≡◌, ℕ, Bool, true, false, List, [], ◌∷◌, ◌++◌, Option, Some, None, IfSome, slice_index_or, slice_set}
+use Rattle.std.proofs.Common.{◌≡◌, ℕ, ◌<◌, length, Bool, true, false, List, [], ◌∷◌, ◌++◌, Option, Some, None, IfSome, slice_index_or, slice_set}
 use Rattle.std.proofs.Math.Numerals.{add-one}
 use Rattle.std.proofs.Common.{◌+◌, ◌||◌, refl, sym, subst, ap, ◌∙◌, append_assoc, append-nil}
 use Rattle.std.proofs.lemmas.List.{length-set}
@@ -9,13 +9,15 @@ use Rattle.rank_threads.proofs.PuttingLemmas.{set_here, same_there, set_elsewher
 use Rattle.rank_threads.specs.Taking.{arrived, all_arrived, is_some_frame, those_of, Takes, TookFrom, TookBelow}
 use Rattle.rank_threads.specs.declared.phase.Phase.{Phase}
 use Rattle.rank_threads.specs.declared.seat.Seat.{Seat}
+use Rattle.rank_threads.specs.declared.tally.Tally.{Tally}
+use Rattle.rank_threads.specs.Tally.{all_taken, woken}
 
 -- what was taken from the lane at a place was taken from no other
-pub takes_at : (source : ℕ) (frames : List Frame) (lanes : List RxValue) (d y : RxValue)
+pub takes_at : (source : ℕ) (frames : List Frame) (lanes : List RxValue) (d y : RxValue) → source < length lanes
     → taken_of y ≡ taken_of (slice_index_or lanes source d) ++ frames → Takes source frames lanes (slice_set lanes source y)
-takes_at source frames lanes d y taken = record {
+takes_at source frames lanes d y within taken = record {
   as_many = length-set lanes source y;
-  lane = λ e within. rw (set_here lanes source y e within, same_there lanes source e d within) taken;
+  lane = λ e. rw (set_here lanes source y e within, same_there lanes source e d within) taken;
   others = λ k e apart. set_elsewhere lanes source k y e apart;
 }
 
@@ -23,7 +25,7 @@ takes_at source frames lanes d y taken = record {
 pub takes_none : (source : ℕ) (lanes : List RxValue) → Takes source [] lanes lanes
 takes_none source lanes = record {
   as_many = refl;
-  lane = λ d within. sym (append-nil (taken_of (slice_index_or lanes source d)));
+  lane = λ d. sym (append-nil (taken_of (slice_index_or lanes source d)));
   others = λ k d apart. refl;
 }
 
@@ -32,7 +34,7 @@ pub takes_then : (source : ℕ) (frames more : List Frame) (a b c : List RxValue
     → Takes source (frames ++ more) a c
 takes_then source frames more a b c first next = record {
   as_many = next.as_many ∙ first.as_many;
-  lane = λ d within. next.lane d (rw (first.as_many) within) ∙ ap (λ taken. taken ++ more) (first.lane d within)
+  lane = λ d. next.lane d ∙ ap (λ taken. taken ++ more) (first.lane d)
       ∙ append_assoc (taken_of (slice_index_or a source d)) frames more;
   others = λ k d apart. next.others k d apart ∙ first.others k d apart;
 }
@@ -42,6 +44,11 @@ arrived_then : (p : Phase) (source : ℕ) (frames more : List Frame)
     → all_arrived p source (frames ++ more) ≡ all_arrived (all_arrived p source frames) source more
 arrived_then p source [] more = refl
 arrived_then p source (frame ∷ frames) more = arrived_then (arrived p source frame) source frames more
+
+-- frames are counted, and then more frames
+taken_then : (t : Tally) (frames more : List Frame) → all_taken t (frames ++ more) ≡ all_taken (all_taken t frames) more
+taken_then t [] more = refl
+taken_then t (frame ∷ frames) more = taken_then (woken t) frames more
 
 -- with some frames behind others there are some
 some_behind : (frames more : List Frame) → true ≡ is_some_frame more → true ≡ is_some_frame (frames ++ more)
@@ -54,25 +61,29 @@ none_behind [] more none = none
 none_behind (frame ∷ frames) more none = refl
 
 -- what one look at a lane takes
-pub takes_looked : (source : ℕ) (found : Option Frame) (lanes : List RxValue) (d y : RxValue)
+pub takes_looked : (source : ℕ) (found : Option Frame) (lanes : List RxValue) (d y : RxValue) → source < length lanes
     → IfSome found (λ frame. taken_of y ≡ taken_of (slice_index_or lanes source d) ++ frame ∷ [])
     → (found ≡ None → taken_of y ≡ taken_of (slice_index_or lanes source d)) → Takes source (those_of found) lanes (slice_set lanes source y)
-takes_looked source None lanes d y some none = takes_at source [] lanes d y (none refl ∙ sym (append-nil (taken_of (slice_index_or lanes source d))))
-takes_looked source (Some frame) lanes d y some none = takes_at source (frame ∷ []) lanes d y some
+takes_looked source None lanes d y within some none =
+    takes_at source [] lanes d y within (none refl ∙ sym (append-nil (taken_of (slice_index_or lanes source d))))
+takes_looked source (Some frame) lanes d y within some none = takes_at source (frame ∷ []) lanes d y within some
 
 -- at first nothing came
 pub took_nothing : (source : ℕ) (seat : Seat) → TookFrom source seat seat false
-took_nothing source seat = record { frames = []; lanes = takes_none source seat.from.items; rank = refl; took = refl }
+took_nothing source seat = record { frames = []; lanes = takes_none source seat.from.items; rank = refl; took = refl; tally = refl; plan = refl; to = refl }
 
 -- one frame came
 pub took_frame : (source : ℕ) (old new : Seat) (frame : Frame) → Takes source (frame ∷ []) old.from.items new.from.items
-    → new.node.phase ≡ arrived old.node.phase source frame → TookFrom source old new true
-took_frame source old new frame takes came = record { frames = frame ∷ []; lanes = takes; rank = came; took = refl }
+    → new.node.phase ≡ arrived old.node.phase source frame → new.tally ≡ woken old.tally → new.plan ≡ old.plan → new.to ≡ old.to
+    → TookFrom source old new true
+took_frame source old new frame takes came counted plan to =
+    record { frames = frame ∷ []; lanes = takes; rank = came; took = refl; tally = counted; plan = plan; to = to }
 
 -- none was there
 pub took_none : (source : ℕ) (old new : Seat) → Takes source [] old.from.items new.from.items → new.node.phase ≡ old.node.phase
-    → TookFrom source old new false
-took_none source old new takes same = record { frames = []; lanes = takes; rank = same; took = refl }
+    → new.tally ≡ old.tally → new.plan ≡ old.plan → new.to ≡ old.to → TookFrom source old new false
+took_none source old new takes same counted plan to =
+    record { frames = []; lanes = takes; rank = same; took = refl; tally = counted; plan = plan; to = to }
 
 -- some came, behind those before
 pub took_more : (source : ℕ) (old mid new : Seat) (took : Bool) → TookFrom source old mid took → TookFrom source mid new true
@@ -83,6 +94,9 @@ took_more source old mid new took before here = record {
   rank = here.rank ∙ ap (λ p. all_arrived p source here.frames) before.rank
       ∙ sym (arrived_then old.node.phase source before.frames here.frames);
   took = some_behind before.frames here.frames here.took;
+  tally = here.tally ∙ ap (λ t. all_taken t here.frames) before.tally ∙ sym (taken_then old.tally before.frames here.frames);
+  plan = here.plan ∙ before.plan;
+  to = here.to ∙ before.to;
 }
 
 -- none was there behind those before
@@ -94,6 +108,9 @@ took_no_more source old mid new took before here = record {
   rank = here.rank ∙ ap (λ p. all_arrived p source here.frames) before.rank
       ∙ sym (arrived_then old.node.phase source before.frames here.frames);
   took = before.took ∙ none_behind before.frames here.frames here.took;
+  tally = here.tally ∙ ap (λ t. all_taken t here.frames) before.tally ∙ sym (taken_then old.tally before.frames here.frames);
+  plan = here.plan ∙ before.plan;
+  to = here.to ∙ before.to;
 }
 
 -- before the first lane nothing came

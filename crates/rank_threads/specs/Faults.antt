@@ -1,10 +1,21 @@
 -- Why a run has no report: want of memory goes before all else, and then the fault of the lowest rank.
 use Rattle.std.specs.Prelude.{ℕ, ◌+◌, Bool, true, false, ◌||◌, List, [], ◌∷◌, Option, Some, None, min, ◌^◌, ◌-◌, if◌then◌else◌}
+use Rattle.audit.specs.declared.fault.AuditFault.{AuditFault}
+use Rattle.audit.specs.declared.fault.AuditFault.TheVariants as audit
 use Rattle.rank_node.specs.declared.fault.NodeFault.{NodeFault}
 use Rattle.rank_node.specs.declared.fault.NodeFault.TheVariants as fault
 use Rattle.rank_threads.specs.declared.report.RunFault.{RunFault}
 use Rattle.rank_threads.specs.declared.report.RunFault.TheVariants as run
 use Rattle.rank_threads.specs.declared.seating.Came.{Came}
+
+-- why an outcome wasn't confirmed, as the run answers it; want of memory is the run's own
+abbrev pub of_audit : AuditFault → RunFault
+of_audit audit.Memory = run.Memory
+of_audit audit.RowLeft = run.Audit audit.RowLeft
+of_audit audit.NotEligible = run.Audit audit.NotEligible
+of_audit audit.Output = run.Audit audit.Output
+of_audit audit.EndState = run.Audit audit.EndState
+of_audit audit.Budget = run.Audit audit.Budget
 
 -- whether a rank met want of memory
 abbrev pub is_memory : Option NodeFault → Bool

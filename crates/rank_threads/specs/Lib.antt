@@ -11,3 +11,4 @@ pub mod Ends
 pub mod Faults
 pub mod Taking
 pub mod Orders
+pub mod Steps

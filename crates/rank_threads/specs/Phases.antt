@@ -4,15 +4,17 @@ use Rattle.std.specs.Prelude.{◌≡◌, ℕ, Bool, true, false, List, [], ◌�
 use Rattle.checkpoint.specs.Shelf.{image_bytes}
 use Rattle.checkpoint.specs.Spelling.{spelling}
 use Rattle.checkpoint.specs.declared.memory_shelf.MemoryShelf.{MemoryShelf}
-use Rattle.event_logger.specs.Desks.{DeskValue, IsSameDesk}
+use Rattle.event_logger.specs.Desks.{DeskValue, IsRead, IsSameDesk}
 use Rattle.plain_logger.specs.Event.{EventValue}
 use Rattle.rank_language.specs.Program.{ProgramValue}
 use Rattle.rank_machine.specs.declared.want.Want.{Want}
 use Rattle.rank_machine.specs.Machine.{machine_want}
+use Rattle.rank_node.specs.Desked.{at_desk}
 use Rattle.rank_node.specs.Image.{BeginsAgain, image_of}
 use Rattle.rank_node.specs.Node.{opening}
 use Rattle.rank_node.specs.Replay.{Replay}
 use Rattle.rank_node.specs.Stored.{Stored}
+use Rattle.rank_node.specs.declared.waiting.Waiting.{Waiting}
 use Rattle.rank_threads.specs.declared.row.Row.{Row}
 use Rattle.rank_threads.specs.declared.phase.Phase.{Phase}
 use Rattle.rank_threads.specs.declared.phase.Phase.TheVariants as phase
@@ -34,6 +36,16 @@ abbrev pub want_in : Phase → Option Want
 want_in (phase.Running v) = Some (machine_want v.machine)
 want_in (phase.Replaying r) = Some (machine_want r.node.machine)
 want_in (phase.Down s) = None
+
+-- what waits at the gate of the rank; nothing where it replays or is down
+abbrev pub waiting_in : Phase → List Waiting
+waiting_in (phase.Running v) = v.pending
+waiting_in (phase.Replaying r) = []
+waiting_in (phase.Down s) = []
+
+-- nothing waits at the gate
+abbrev pub NoneWaits : Phase → Type 0
+NoneWaits p = waiting_in p ≡ []
 
 -- the same desk, whatever it has been asked, and the same rank of as many
 pub record SameStable (a b : Stored MemoryShelf DeskValue) : Type 0 where
@@ -60,6 +72,14 @@ abbrev pub HasImage : Phase → Type 0
 HasImage (phase.Running v) = last_image v.stable.shelf ≡ Some (spelling (image_of v))
 HasImage (phase.Replaying r) = ⊥
 HasImage (phase.Down s) = ⊥
+
+-- These events were read of that rank's row, above that clock, and the rank is at its desk as it was; one that is down reads none.
+abbrev pub ReadsRow : Phase → ℕ → ℕ → List EventValue → Phase → Type 0
+ReadsRow (phase.Running v) of after events q =
+    IsRead v.stable.desk of after events (stable_of q).desk × (q ≡ phase.Running (at_desk v (stable_of q).desk))
+ReadsRow (phase.Replaying r) of after events q =
+    IsRead r.node.stable.desk of after events (stable_of q).desk × (q ≡ phase.Replaying (record r { node = at_desk r.node (stable_of q).desk }))
+ReadsRow (phase.Down s) of after events q = (events ≡ []) × (q ≡ phase.Down s)
 
 -- a rank that replays runs as soon as nothing is left to replay
 abbrev pub settled_replay : Replay MemoryShelf DeskValue → List EventValue → Phase

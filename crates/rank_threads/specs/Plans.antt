@@ -1,5 +1,6 @@
 -- Which order of a script is a rank's next (docs/FORMATS.md, "Scripts").
-use Rattle.std.specs.Prelude.{ℕ, ◌==◌, List, [], ◌∷◌, Option, Some, None, if◌then◌else◌}
+use Rattle.std.specs.Prelude.{ℕ, zero, suc, ◌==◌, List, [], ◌∷◌, ◌++◌, Option, Some, None, if◌then◌else◌}
+use Rattle.script_text.specs.Script.{orders_of}
 use Rattle.script_text.specs.declared.line.Order.{Order}
 use Rattle.script_text.specs.declared.line.ScriptLine.{ScriptLine}
 
@@ -7,3 +8,8 @@ use Rattle.script_text.specs.declared.line.ScriptLine.{ScriptLine}
 abbrev pub order_at : List ScriptLine → ℕ → Option Order
 order_at [] clock = None
 order_at (line ∷ lines) clock = if line.clock == clock then Some line.order else None
+
+-- what a script asks of each of the ranks below this number
+abbrev pub plans_below : ℕ → List ScriptLine → List (List ScriptLine)
+plans_below zero script = []
+plans_below (suc k) script = plans_below k script ++ orders_of k script ∷ []

@@ -1,5 +1,5 @@
 -- What goes out of a rank into a lane (reception in the order of sending: MPI 1.1, section 3.5).
-use Rattle.std.specs.Prelude.{◌≡◌, ◌≢◌, ℕ, List, [], ◌∷◌, ◌++◌, Option, Some, None, slice_index_or}
+use Rattle.std.specs.Prelude.{◌≡◌, ◌≢◌, ℕ, ◌<◌, List, [], ◌∷◌, ◌++◌, Option, Some, None, slice_index_or}
 use Rattle.checkpoint.specs.declared.memory_shelf.MemoryShelf.{MemoryShelf}
 use Rattle.event_logger.specs.Desks.{DeskValue}
 use Rattle.rank_node.specs.Node.{Node}
@@ -35,13 +35,24 @@ abbrev pub HasNothing : Option (Node MemoryShelf DeskValue) → ℕ → Type 0
 HasNothing (Some v) dest = outgoing_of v dest ≡ None
 HasNothing None dest = Unit {0}
 
+-- nothing goes to the ranks below this number
+abbrev pub NothingBelow : ℕ → Phase → Type 0
+NothingBelow count p = (dest : ℕ) → dest < count → HasNothing (node_of p) dest
+
 -- What is outgoing to a rank next goes into a lane, finds it full, or isn't there. Where nothing went, all is as it was.
 abbrev pub Puts : Went → Phase → ℕ → List Frame → Phase → List Frame → Type 0
 Puts went.Gone p dest put q put' = HasPut (node_of p) dest put (node_of q) put'
 Puts went.Full p dest put q put' = (q ≡ p) × (put' ≡ put)
 Puts went.Nothing p dest put q put' = (q ≡ p) × (put' ≡ put) × HasNothing (node_of p) dest
 
+-- where nothing went the rank is as it was, and where the lane had room nothing is outgoing to that rank
+abbrev pub Stays : Went → Phase → ℕ → Phase → Type 0
+Stays went.Gone p dest q = Unit {0}
+Stays went.Full p dest q = q ≡ p
+Stays went.Nothing p dest q = (q ≡ p) × HasNothing (node_of p) dest
+
 -- The same of the lane to that rank among the lanes to each: the others are left.
 pub record PutsInto (went : Went) (p : Phase) (dest : ℕ) (lanes : List TxValue) (q : Phase) (lanes' : List TxValue) : Type 0 where
   pub lane : (d : TxValue) → Puts went p dest (put_of (slice_index_or lanes dest d)) q (put_of (slice_index_or lanes' dest d))
   pub others : (k : ℕ) (d : TxValue) → k ≢ dest → slice_index_or lanes' k d ≡ slice_index_or lanes k d
+  pub rank : Stays went p dest q

@@ -19,7 +19,7 @@ pub record IsReport (program : ProgramValue) (ranks : ℕ) (report : Report) : T
   pub console : IsConsole report.outcome.lines
 
 -- One legal history of a single thread has the calls of the desks of all ranks, which the ledger counts, and leaves its
--- rows; the lines are a console's.
+-- rows; the lines are a console's; and what each rank came to is there.
 pub record IsPlayed (ranks : ℕ) (played : Played) : Type 0 where
   pub desks : List DeskValue
   pub a_desk_each : length desks ≡ ranks

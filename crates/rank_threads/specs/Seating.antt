@@ -1,10 +1,16 @@
 -- The stations of a run, the last rank's first.
-use Rattle.std.specs.Prelude.{◌≡◌, ℕ, ◌+◌, ◌≤◌, List, [], ◌∷◌, ◌++◌, length, map, vec_len, vec_capacity}
+use Rattle.std.specs.Prelude.{◌≡◌, ℕ, ◌+◌, ◌≤◌, List, [], ◌∷◌, ◌++◌, Option, Some, None, length, map, vec_len, vec_capacity}
+use Rattle.audit.specs.declared.outcome.End.{End}
+use Rattle.audit.specs.declared.outcome.End.TheVariants as end
 use Rattle.ports.specs.Lanes.{Lane, lane_to, lane_from}
 use Rattle.event_logger.specs.Desks.{DeskValue, LoggerValue}
+use Rattle.script_text.specs.declared.line.ScriptLine.{ScriptLine}
+use Rattle.rank_threads.specs.Stations.{IsNew}
 use Rattle.rank_threads.specs.declared.parcel.Parcel.{Parcel}
+use Rattle.rank_threads.specs.declared.seating.Came.{Came}
 use Rattle.rank_threads.specs.declared.seating.Left.{Left}
 use Rattle.rank_threads.specs.declared.seating.Unseated.{Unseated}
+use Rattle.rank_threads.specs.declared.station.Station.{Station}
 
 -- the desks of the ranks from this one on, each of this logger
 abbrev pub AreDesksFrom : LoggerValue → ℕ → List DeskValue → Type 0
@@ -29,6 +35,15 @@ pub record IsRoom (size : ℕ) (room : Left) : Type 0 where
   pub from : size ≤ vec_capacity room.ends.from
   pub came : size ≤ vec_capacity room.came
 
+-- how a rank ended: one that didn't leave by itself is unfinished
+abbrev pub ended : Option End → End
+ended None = end.Unfinished
+ended (Some e) = e
+
+-- what a rank came to: how it left, how often it crashed, and why it can't go on
+abbrev pub came_of : Station → Came
+came_of s = record { end = ended s.end; crashes = s.tally.crashes; fault = s.tally.fault }
+
 module _ {W : Type 0} where
   -- into which lanes each rank puts, by source
   abbrev pub stations_to : List (Parcel W) → List (List Lane)
@@ -39,6 +54,21 @@ module _ {W : Type 0} where
   abbrev pub stations_from : List (Parcel W) → List (List Lane)
   stations_from [] = []
   stations_from (p ∷ ps) = stations_from ps ++ map lane_from p.station.from.items ∷ []
+
+  -- the lines of the script that are left for each rank
+  abbrev pub stations_plans : List (Parcel W) → List (List ScriptLine)
+  stations_plans [] = []
+  stations_plans (p ∷ ps) = stations_plans ps ++ p.station.plan ∷ []
+
+  -- what each rank came to
+  abbrev pub stations_came : List (Parcel W) → List Came
+  stations_came [] = []
+  stations_came (p ∷ ps) = stations_came ps ++ came_of p.station ∷ []
+
+  -- no rank has lived yet
+  abbrev pub AreNew : List (Parcel W) → Type 0
+  AreNew [] = Unit {0}
+  AreNew (p ∷ ps) = IsNew p.station × AreNew ps
 
   -- the desks are of this logger, and of the ranks from this one on
   abbrev pub AreSeated : LoggerValue → ℕ → List (Parcel W) → Type 0

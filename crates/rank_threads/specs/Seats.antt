@@ -1,7 +1,7 @@
 -- What stays of a rank's seat within a life.
 use Rattle.std.specs.Prelude.{◌≡◌}
 use Rattle.rank_threads.specs.Lanes.{SameTxs, SameRxs}
-use Rattle.rank_threads.specs.Phases.{SamePhase}
+use Rattle.rank_threads.specs.Phases.{SamePhase, waiting_in}
 use Rattle.rank_threads.specs.declared.node.Node.{Node}
 use Rattle.rank_threads.specs.declared.seat.Seat.{Seat}
 
@@ -12,3 +12,11 @@ SameNode a b = SamePhase a.phase b.phase × (b.size ≡ a.size)
 -- the rank, its desk and its lanes are the same
 abbrev pub SameSeat : Seat → Seat → Type 0
 SameSeat a b = (b.rank ≡ a.rank) × SameNode a.node b.node × SameTxs a.to.items b.to.items × SameRxs a.from.items b.from.items
+
+-- the same lines of the script are left
+abbrev pub SamePlan : Seat → Seat → Type 0
+SamePlan a b = b.plan ≡ a.plan
+
+-- the same waits at the gate, and a limit has stopped the rank or hasn't, as before
+abbrev pub SameGate : Seat → Seat → Type 0
+SameGate a b = (waiting_in b.node.phase ≡ waiting_in a.node.phase) × (b.tally.is_spent ≡ a.tally.is_spent)

@@ -1,19 +1,39 @@
 -- What stays of a rank's station from life to life.
-use Rattle.std.specs.Prelude.{◌≡◌, List, [], ◌∷◌}
+use Rattle.std.specs.Prelude.{◌≡◌, List, [], ◌∷◌, Some, None}
+use Rattle.event_logger.specs.Desks.{own_row}
+use Rattle.plain_logger.specs.History.{above}
 use Rattle.rank_threads.specs.Phases.{stable_of, SameStable}
 use Rattle.rank_threads.specs.Lanes.{SameTxs, SameRxs}
 use Rattle.rank_threads.specs.declared.parcel.Parcel.{Parcel}
+use Rattle.rank_threads.specs.declared.row.Row.{Row}
 use Rattle.rank_threads.specs.declared.seat.Seat.{Seat}
 use Rattle.rank_threads.specs.declared.station.Station.{Station}
+use Rattle.rank_threads.specs.Tally.{new_tally}
 
 -- the rank, its desk and its lanes are the same
 abbrev pub SameStation : Station → Station → Type 0
 SameStation a b = (b.rank ≡ a.rank) × SameStable a.down b.down × (b.size ≡ a.size) × SameTxs a.to.items b.to.items × SameRxs a.from.items b.from.items
 
+-- the lines of the script that are left, the row that was fetched and how the rank left are the same
+abbrev pub SameRest : Station → Station → Type 0
+SameRest a b = (b.plan ≡ a.plan) × (b.row ≡ a.row) × (b.end ≡ a.end)
+
 -- this seat is of a life of that station's rank: it has the same rank, desk and lanes
 abbrev pub IsLifeOf : Station → Seat → Type 0
 IsLifeOf a s =
     (s.rank ≡ a.rank) × SameStable a.down (stable_of s.node.phase) × (s.node.size ≡ a.size) × SameTxs a.to.items s.to.items × SameRxs a.from.items s.from.items
+
+-- The station has fetched its row: all the events that its desk has stored.
+pub record HasRow (s : Station) : Type 0 where
+  pub row : Row
+  pub fetched : s.row ≡ Some row
+  pub whole : row.events.items ≡ above 0 (own_row s.down.desk)
+
+-- The rank hasn't lived yet: nothing is counted of it, it has fetched no row, and it hasn't left.
+pub record IsNew (s : Station) : Type 0 where
+  pub tally : s.tally ≡ new_tally
+  pub row : s.row ≡ None
+  pub end : s.end ≡ None
 
 module _ {W : Type 0} where
   -- the same stations in the same order

@@ -1,11 +1,12 @@
 -- What comes into a rank out of its lanes, each lane's frames in their order (MPI 1.1, section 3.5).
-use Rattle.std.specs.Prelude.{◌≡◌, ◌≢◌, ℕ, zero, suc, ◌<◌, Bool, true, false, ◌||◌, List, [], ◌∷◌, ◌++◌, Option, Some, None, length, slice_index_or}
+use Rattle.std.specs.Prelude.{◌≡◌, ◌≢◌, ℕ, zero, suc, Bool, true, false, ◌||◌, List, [], ◌∷◌, ◌++◌, Option, Some, None, length, slice_index_or}
 use Rattle.ports.specs.Lanes.{RxValue, taken_of}
 use Rattle.rank_node.specs.Frames.{after_frame}
 use Rattle.rank_node.specs.declared.frame.Frame.{Frame}
 use Rattle.rank_threads.specs.declared.phase.Phase.{Phase}
 use Rattle.rank_threads.specs.declared.phase.Phase.TheVariants as phase
 use Rattle.rank_threads.specs.declared.seat.Seat.{Seat}
+use Rattle.rank_threads.specs.Tally.{all_taken}
 
 -- the frame that was there, if one was
 abbrev pub those_of : Option Frame → List Frame
@@ -17,13 +18,13 @@ abbrev pub is_some_frame : List Frame → Bool
 is_some_frame [] = false
 is_some_frame (frame ∷ frames) = true
 
--- the rank after a frame that came from another; one that is down drops it
+-- the rank after a frame that came from a rank; one that is down drops it
 abbrev pub arrived : Phase → ℕ → Frame → Phase
 arrived (phase.Running v) source frame = phase.Running (after_frame v source frame)
 arrived (phase.Replaying r) source frame = phase.Replaying (record r { node = after_frame r.node source frame })
 arrived (phase.Down s) source frame = phase.Down s
 
--- the rank after frames that came from another, in their order
+-- the rank after frames that came from a rank, in their order
 abbrev pub all_arrived : Phase → ℕ → List Frame → Phase
 all_arrived p source [] = p
 all_arrived p source (frame ∷ frames) = all_arrived (arrived p source frame) source frames
@@ -31,15 +32,19 @@ all_arrived p source (frame ∷ frames) = all_arrived (arrived p source frame) s
 -- These frames were taken from the lane from a rank, and none from the others.
 pub record Takes (source : ℕ) (frames : List Frame) (lanes lanes' : List RxValue) : Type 0 where
   pub as_many : length lanes' ≡ length lanes
-  pub lane : (d : RxValue) → source < length lanes → taken_of (slice_index_or lanes' source d) ≡ taken_of (slice_index_or lanes source d) ++ frames
+  pub lane : (d : RxValue) → taken_of (slice_index_or lanes' source d) ≡ taken_of (slice_index_or lanes source d) ++ frames
   pub others : (k : ℕ) (d : RxValue) → k ≢ source → slice_index_or lanes' k d ≡ slice_index_or lanes k d
 
--- A rank took in what the lane from another brought, and answered whether that was anything.
+-- A rank took in what the lane from a rank brought, each frame was counted, and it was answered whether any came. The plan
+-- and the lanes to other ranks stayed.
 pub record TookFrom (source : ℕ) (old new : Seat) (answer : Bool) : Type 0 where
   pub frames : List Frame
   pub lanes : Takes source frames old.from.items new.from.items
   pub rank : new.node.phase ≡ all_arrived old.node.phase source frames
   pub took : answer ≡ is_some_frame frames
+  pub tally : new.tally ≡ all_taken old.tally frames
+  pub plan : new.plan ≡ old.plan
+  pub to : new.to ≡ old.to
 
 -- A rank took in what the lanes from the ranks below this number brought, from rank 0 on, and answered whether that was
 -- anything.

@@ -1,6 +1,23 @@
 -- How a run counts.
-use Rattle.std.specs.Prelude.{ℕ, ◌+◌, ◌-◌, ◌^◌, min, Bool, true, false, ◌||◌, nat_le, if◌then◌else◌}
+use Rattle.std.specs.Prelude.{ℕ, ◌+◌, ◌-◌, ◌^◌, min, Bool, true, false, ◌||◌, nat_le, if◌then◌else◌, List, [], ◌∷◌, None, replicate}
+use Rattle.metered.specs.Limits.{most_ranks}
+use Rattle.rank_node.specs.declared.frame.Frame.{Frame}
 use Rattle.rank_threads.specs.declared.tally.Tally.{Tally}
+
+-- nothing is counted yet; a new rank may owe something
+abbrev pub new_tally : Tally
+new_tally = record {
+  put = 0;
+  taken = 0;
+  steps = 0;
+  crashes = 0;
+  idle = 0;
+  is_marked = false;
+  may_owe = true;
+  is_spent = false;
+  seen = replicate most_ranks 0;
+  fault = None;
+}
 
 -- one more, up to the greatest `u64`
 abbrev pub one_more : ℕ → ℕ
@@ -13,6 +30,15 @@ more count by = min (count + by) (2 ^ 32 - 1)
 -- after a frame that came: it is counted, it may be answered, and there is no mark any more
 abbrev pub woken : Tally → Tally
 woken t = record t { is_marked = false; taken = one_more t.taken; may_owe = true }
+
+-- after frames that came, one after another
+abbrev pub all_taken : Tally → List Frame → Tally
+all_taken t [] = t
+all_taken t (frame ∷ frames) = all_taken (woken t) frames
+
+-- at the beginning of another life: it asks every rank
+abbrev pub begun_again : Tally → Tally
+begun_again t = record t { may_owe = true; idle = 0 }
 
 -- after so many steps, of which the limits allow `most`; only an act can leave something to put
 abbrev pub after_steps : Tally → ℕ → ℕ → Bool → Tally

@@ -1,6 +1,6 @@
 //! The frames that a crash loses.
 ghost use Rattle.std.specs.Prelude.{◌≡◌};
-ghost use Rattle.rank_threads.specs.Stations.{SameStation};
+ghost use Rattle.rank_threads.specs.Stations.{SameStation, SameRest};
 
 use crate::lanes_of::take_from;
 use crate::station::Station;
@@ -9,7 +9,10 @@ use metered::limits::MOST_FRAMES;
 /// At a crash the frames in the lanes into the rank are dropped, at most as
 /// many as they hold. They count as taken.
 pub fn drop_frames(station: &mut Station<'_>)
-    ensures { SameStation station.old station.new }
+    ensures down { station.new.down ≡ station.old.down }
+    ensures rest { SameRest station.old station.new }
+    ensures counted { station.new.tally ≡ record station.old.tally { taken = station.new.tally.taken; may_owe = station.new.tally.may_owe } }
+    ensures same { SameStation station.old station.new }
 {
     for source in 0..station.size {
         drop_from(station, source);
@@ -17,7 +20,10 @@ pub fn drop_frames(station: &mut Station<'_>)
 }
 
 fn drop_from(station: &mut Station<'_>, source: u8)
-    ensures { SameStation station.old station.new }
+    ensures down { station.new.down ≡ station.old.down }
+    ensures rest { SameRest station.old station.new }
+    ensures counted { station.new.tally ≡ record station.old.tally { taken = station.new.tally.taken; may_owe = station.new.tally.may_owe } }
+    ensures same { SameStation station.old station.new }
 {
     for _ in 0..MOST_FRAMES {
         if take_from(&mut station.from, source).is_none() {

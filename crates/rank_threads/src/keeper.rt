@@ -1,6 +1,7 @@
 //! A keeper starts and joins the threads of a rank's lives.
-ghost use Rattle.std.specs.Prelude.{◌≡◌};
-ghost use Rattle.rank_threads.specs.Stations.{SameStation};
+ghost use Rattle.std.specs.Prelude.{◌≡◌, None};
+ghost use Rattle.rank_threads.specs.Stations.{SameStation, HasRow};
+ghost use Rattle.rank_threads.specs.Tally.{begun_again};
 
 use crate::dropping::drop_frames;
 use crate::hold::Hold;
@@ -26,18 +27,37 @@ pub fn keep<'l, R: Threads + Wait + Sync + Copy + Send, H: Hold + Sync>(
         if shared.is_stopped() {
             return station;
         }
-        station = one_life(rt, shared, station);
+        station = lived(rt, shared, station);
         if station.end.is_some() {
             return station;
         }
-        station = fetched(shared, station);
     }
     unreachable!()
 }
 
+// A life, and the row for the next one where the rank is to live on.
+fn lived<'l, R: Threads + Wait + Sync + Copy + Send, H: Hold + Sync>(
+    rt: R,
+    shared: &Shared<'_, H>,
+    station: Station<'l>,
+) -> Station<'l>
+    ensures row { result.end ≡ None → result.tally.fault ≡ None → HasRow result }
+    ensures same { SameStation station.entry result }
+{
+    let station = one_life(rt, shared, station);
+    if station.end.is_some() {
+        return station;
+    }
+    fetched(shared, station)
+}
+
 // The frames in the lanes into the rank are dropped, and its row is fetched.
 fn fetched<'l, H>(shared: &Shared<'_, H>, station: Station<'l>) -> Station<'l>
-    ensures { SameStation station.entry result }
+    ensures row { result.tally.fault ≡ None → HasRow result }
+    ensures plan { result.plan ≡ station.entry.plan }
+    ensures end { result.end ≡ station.entry.end }
+    ensures tally { result.tally ≡ record (begun_again station.entry.tally) { taken = result.tally.taken; fault = result.tally.fault } }
+    ensures same { SameStation station.entry result }
 {
     let mut station = station;
     drop_frames(&mut station);

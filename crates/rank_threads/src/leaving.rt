@@ -1,7 +1,7 @@
 //! What a rank does in idle turns: it marks itself, and looks whether all may
 //! leave.
 ghost use Rattle.std.specs.Prelude.{◌≡◌, ◌<◌};
-ghost use Rattle.rank_threads.specs.Seats.{SameSeat};
+ghost use Rattle.rank_threads.specs.Seats.{SameSeat, SamePlan, SameGate};
 
 use crate::marks::{first_look, second_look};
 use crate::seat::Seat;
@@ -21,7 +21,9 @@ pub fn rest<H>(
     seat: &mut Seat<'_, '_>,
     stepped: Stepped,
 ) -> Result<bool, AllocError>
-    ensures { SameSeat seat.old seat.new }
+    ensures plan { SamePlan seat.old seat.new }
+    ensures gate { SameGate seat.old seat.new }
+    ensures same { SameSeat seat.old seat.new }
 {
     if seat.tally.is_marked {
         return may_leave(shared, seat);
@@ -46,7 +48,9 @@ pub fn rest<H>(
 
 // Between two looks that see the same marks, all of this rank's lanes are looked at once more.
 fn may_leave<H>(shared: &Shared<'_, H>, seat: &mut Seat<'_, '_>) -> Result<bool, AllocError>
-    ensures { SameSeat seat.old seat.new }
+    ensures plan { SamePlan seat.old seat.new }
+    ensures gate { SameGate seat.old seat.new }
+    ensures same { SameSeat seat.old seat.new }
 {
     let Some(first) = first_look(shared.marks) else {
         return Ok(false);
@@ -60,7 +64,9 @@ fn may_leave<H>(shared: &Shared<'_, H>, seat: &mut Seat<'_, '_>) -> Result<bool,
 
 // Whether another row has grown since the last reads. All are read.
 fn others_went_on(alloc: Heap, seat: &mut Seat<'_, '_>) -> Result<bool, AllocError>
-    ensures { SameSeat seat.old seat.new }
+    ensures plan { SamePlan seat.old seat.new }
+    ensures gate { SameGate seat.old seat.new }
+    ensures same { SameSeat seat.old seat.new }
 {
     let mut went_on = false;
     for of in 0..seat.node.size {
@@ -73,7 +79,9 @@ fn others_went_on(alloc: Heap, seat: &mut Seat<'_, '_>) -> Result<bool, AllocErr
 
 fn has_grown(alloc: Heap, seat: &mut Seat<'_, '_>, of: u8) -> Result<bool, AllocError>
     requires { of < seat.old.node.size }
-    ensures { SameSeat seat.old seat.new }
+    ensures plan { SamePlan seat.old seat.new }
+    ensures gate { SameGate seat.old seat.new }
+    ensures same { SameSeat seat.old seat.new }
 {
     let after = seat.tally.seen_in(of);
     let events = seat.node.read(alloc, of, after)?;

@@ -1,8 +1,8 @@
 //! One life of a rank.
-ghost use Rattle.std.specs.Prelude.{◌≡◌};
+ghost use Rattle.std.specs.Prelude.{◌≡◌, true, false, Some, None};
 ghost use Rattle.rank_threads.specs.Ends.{end_at, end_of};
 ghost use Rattle.rank_threads.specs.Seats.{SameSeat};
-ghost use Rattle.rank_threads.specs.Stations.{SameStation};
+ghost use Rattle.rank_threads.specs.Stations.{SameStation, SameRest, IsLifeOf};
 
 use crate::hold::Hold;
 use crate::phase::Phase;
@@ -39,6 +39,17 @@ pub fn life<'l, W: Wait, H: Hold>(
         shared.stop_all();
     }
     let (seat, has_crashed) = play(rt, shared, &mut blank, seat);
+    over(seat, has_crashed)
+}
+
+// The life is over, and where the rank didn't crash it has left.
+fn over<'l>(seat: Seat<'_, 'l>, has_crashed: bool) -> Station<'l>
+    ensures crashed { has_crashed ≡ true → result.end ≡ None }
+    ensures left { has_crashed ≡ false → result.end ≡ Some (end_of seat.entry.tally.is_spent seat.entry.node.phase) }
+    ensures plan { result.plan ≡ seat.entry.plan }
+    ensures tally { result.tally ≡ seat.entry.tally }
+    ensures same { IsLifeOf result seat.entry }
+{
     let end = if has_crashed {
         None
     } else {
@@ -78,7 +89,9 @@ fn play<'p, 'l, W: Wait, H: Hold>(
 
 /// The rank has met want of memory, and all are to leave.
 pub fn refused<'l, H>(shared: &Shared<'_, H>, station: Station<'l>) -> Station<'l>
-    ensures { SameStation station.entry result }
+    ensures fault { result.tally ≡ record station.entry.tally { fault = Some NodeFault.Memory } }
+    ensures rest { SameRest station.entry result }
+    ensures same { SameStation station.entry result }
 {
     let mut station = station;
     station.tally.refuse(NodeFault::Memory);

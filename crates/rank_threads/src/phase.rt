@@ -1,6 +1,10 @@
 //! A rank that runs, replays or is down.
-ghost use Rattle.std.specs.Prelude.{◌≡◌, ◌≤◌};
+ghost use Rattle.std.specs.Prelude.{◌≡◌, ◌≢◌, ◌+◌, ◌<◌, ◌≤◌, [], Some, Err, IfOk, OnErr};
+ghost use Rattle.rank_machine.specs.declared.want.Want.TheVariants.{Internal};
+ghost use Rattle.rank_machine.specs.Machine.{machine_want};
+ghost use Rattle.rank_node.specs.Steps.{refusal_of, turn_of};
 ghost use Rattle.rank_threads.specs.Phases.{stable_of, clock_in, want_in, settled_of, settled_replay};
+ghost use Rattle.rank_threads.specs.Steps.{acts_made, replay_turn, turn_in, unless_refused};
 
 mod calls;
 mod frames;
@@ -70,6 +74,9 @@ impl<'p> Phase<'p> {
     /// how many it made.
     pub fn stride(&mut self, most: u32) -> u32
         ensures few { result ≤ most }
+        ensures some { 0 < most → want_in self.old ≡ Some Internal → result ≢ 0 }
+        ensures stands { result < most → want_in self.new ≢ Some Internal }
+        ensures clock { clock_in self.new ≡ clock_in self.old }
         ensures stable { stable_of self.new ≡ stable_of self.old }
     {
         match self {
@@ -81,10 +88,13 @@ impl<'p> Phase<'p> {
 
     /// One step of its machine; what it prints goes to the screen.
     pub fn step(&mut self, screen: &mut ConsoleState) -> Result<Turn, NodeFault>
+        ensures answer { result ≢ Err NodeFault.Memory → result ≡ turn_in self.old }
+        ensures clock { IfOk result (λ turn. clock_in self.new ≡ clock_in self.old + acts_made (want_in self.old) turn) }
+        ensures err { OnErr result (self.new ≡ self.old) }
         ensures stable { stable_of self.new ≡ stable_of self.old }
     {
         match self {
-            Phase::Running(rank) => rank.step(screen),
+            Phase::Running(rank) => step_on(rank, screen),
             Phase::Replaying(rank) => step_again(rank, screen),
             Phase::Down(_) => Ok(Turn::Ended),
         }
@@ -105,11 +115,26 @@ fn settled<'p>(rank: Replaying<'p, MemoryShelf, Desk>) -> Phase<'p>
     }
 }
 
+fn step_on(
+    rank: &mut Running<'_, MemoryShelf, Desk>,
+    screen: &mut ConsoleState,
+) -> Result<Turn, NodeFault>
+    ensures answer { result ≢ Err NodeFault.Memory → result ≡ unless_refused (refusal_of rank.old) (turn_of rank.old) }
+    ensures clock { IfOk result (λ turn. rank.new.clock ≡ rank.old.clock + acts_made (Some (machine_want rank.old.machine)) turn) }
+    ensures err { OnErr result (rank.new ≡ rank.old) }
+    ensures stable { rank.new.stable ≡ rank.old.stable }
+{
+    rank.step(screen)
+}
+
 // A rank is settled as soon as nothing is left, so that none replays beyond its row.
 fn step_again(
     rank: &mut Replaying<'_, MemoryShelf, Desk>,
     screen: &mut ConsoleState,
 ) -> Result<Turn, NodeFault>
+    ensures answer { result ≢ Err NodeFault.Memory → result ≡ replay_turn rank.old.node rank.old.left }
+    ensures clock { IfOk result (λ turn. rank.new.node.clock ≡ rank.old.node.clock + acts_made (Some (machine_want rank.old.node.machine)) turn) }
+    ensures err { OnErr result (rank.new ≡ rank.old) }
     ensures stable { rank.new.node.stable ≡ rank.old.node.stable }
 {
     if rank.left() == 0 {

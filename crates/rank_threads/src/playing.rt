@@ -1,6 +1,7 @@
 //! All ranks of a run, from their lanes and desks to what is left of them.
 ghost use Rattle.std.specs.Prelude.{◌≡◌, ◌≤◌, [], IfOk, length, vec_len, vec_capacity};
 ghost use Rattle.metered.specs.Limits.{most_ranks};
+ghost use Rattle.rank_threads.specs.Plans.{plans_below};
 ghost use Rattle.rank_threads.specs.Report.{IsPlayed};
 ghost use Rattle.rank_threads.specs.Seating.{IsRoom};
 
@@ -129,8 +130,10 @@ fn bells(alloc: Heap, size: u8) -> Result<Vec<CachePadded<AtomicBool>, Heap>, Al
     Ok(bells)
 }
 
+#[tactic(auto, using(crate::proofs::PlanLaws::plans_next))]
 fn plans(alloc: Heap, script: &Script, size: u8) -> Result<Vec<Plan, Heap>, AllocError>
-    ensures { IfOk result (λ plans. vec_len plans ≡ size) }
+    ensures lines { IfOk result (λ plans. plans.items ≡ plans_below size script.now) }
+    ensures len { IfOk result (λ plans. vec_len plans ≡ size) }
 {
     let mut plans = Vec::new(alloc);
     for rank in 0..size {

@@ -1,4 +1,8 @@
 //! What a run was.
+ghost use Rattle.std.specs.Prelude.{◌≡◌};
+ghost use Rattle.rank_threads.specs.Faults.{of_audit};
+ghost use Rattle.rank_threads.specs.declared.report.RunFault.TheVariants.{Memory};
+
 use audit::{AuditFault, Outcome};
 use metered::Heap;
 use rank_node::NodeFault;
@@ -25,12 +29,16 @@ pub enum RunFault {
 }
 
 impl From<AllocError> for RunFault {
+    ghost from_gives = { λ _ e. e ≡ Memory };
+
     fn from(_: AllocError) -> RunFault {
         RunFault::Memory
     }
 }
 
 impl From<AuditFault> for RunFault {
+    ghost from_gives = { λ fault e. e ≡ of_audit fault };
+
     fn from(fault: AuditFault) -> RunFault {
         match fault {
             AuditFault::Memory => RunFault::Memory,

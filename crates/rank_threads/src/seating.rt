@@ -2,7 +2,7 @@
 ghost use Rattle.std.specs.Prelude.{◌≡◌, ◌+◌, ◌<◌, ◌≤◌, [], vec_len, vec_capacity};
 ghost use Rattle.metered.specs.Limits.{most_ranks};
 ghost use Rattle.lanes.specs.Ends.{to_names, from_names};
-ghost use Rattle.rank_threads.specs.Seating.{AreDesksFrom, ArePartsOf, IsRoom, stations_to, stations_from, AreSeated};
+ghost use Rattle.rank_threads.specs.Seating.{AreDesksFrom, ArePartsOf, AreNew, AreSeated, IsRoom, came_of, stations_came, stations_from, stations_plans, stations_to};
 
 use crate::parcel::Parcel;
 use crate::plan::Plan;
@@ -38,7 +38,7 @@ pub struct Left {
 }
 
 /// A station for each rank, the last one's first.
-#[tactic(auto, using(crate::proofs::SeatingLemmas::to_seated, crate::proofs::SeatingLemmas::from_seated, crate::proofs::SeatingLemmas::seated_more))]
+#[tactic(auto, using(crate::proofs::SeatingLemmas::to_seated, crate::proofs::SeatingLemmas::from_seated, crate::proofs::SeatingLemmas::seated_more, crate::proofs::StationLemmas::plans_seated, crate::proofs::StationLemmas::new_more))]
 pub fn seat_all<'l, W: Wait + Drop + Copy>(
     rt: W,
     alloc: Heap,
@@ -56,6 +56,8 @@ pub fn seat_all<'l, W: Wait + Drop + Copy>(
     ensures to { stations_to result.items ≡ to_names parts.ends.to.items }
     ensures from { stations_from result.items ≡ from_names parts.ends.from.items }
     ensures desks { AreSeated logger.now 0 result.items }
+    ensures plans { stations_plans result.items ≡ parts.plans.items }
+    ensures fresh { AreNew result.items }
     ensures len { vec_len result ≡ size }
 {
     let Unseated {
@@ -94,7 +96,8 @@ pub fn unseat_all<'l, W: Wait + Drop + Copy>(
     ensures from { from_names result.ends.from.items ≡ stations_from stations.entry.items }
     ensures desks { AreDesksFrom logger.now 0 result.desks.items }
     ensures len { vec_len result.desks ≡ vec_len stations.entry }
-    ensures came { vec_len result.came ≡ vec_len stations.entry }
+    ensures came { result.came.items ≡ stations_came stations.entry.items }
+    ensures as_many { vec_len result.came ≡ vec_len stations.entry }
 {
     let Left {
         mut desks,
@@ -123,6 +126,7 @@ fn parts(station: Station<'_>) -> (Desk, Vec<Tx, Heap>, Vec<Rx, Heap>, Came)
     ensures desk { result.0 ≡ station.entry.down.desk }
     ensures to { result.1 ≡ station.entry.to }
     ensures from { result.2 ≡ station.entry.from }
+    ensures came { result.3 ≡ came_of station.entry }
 {
     let came = Came {
         end: station.end.unwrap_or(End::Unfinished),

@@ -1,6 +1,6 @@
 //! Part 4 of a turn: what waits at the gate, and an image.
 ghost use Rattle.std.specs.Prelude.{◌≡◌, true, false, Ok, drop};
-ghost use Rattle.rank_threads.specs.Phases.{is_running, HasImage};
+ghost use Rattle.rank_threads.specs.Phases.{is_running, HasImage, NoneWaits};
 ghost use Rattle.rank_threads.specs.Seats.{SameSeat};
 
 use crate::seat::Seat;
@@ -21,10 +21,12 @@ pub fn settle<W: Wait, H>(
     seat: &mut Seat<'_, '_>,
     is_imaged: bool,
 ) -> Result<(), NodeFault>
+    ensures settled { result ≡ Ok tt → seat.new.tally.is_spent ≡ false → NoneWaits seat.new.node.phase }
     ensures image { result ≡ Ok tt → is_imaged ≡ true → seat.new.tally.is_spent ≡ false
         → is_running seat.new.node.phase ≡ true → HasImage seat.new.node.phase }
     ensures used { result ≡ Ok tt → is_imaged ≡ true → seat.new.tally.is_spent ≡ false
         → is_running seat.new.node.phase ≡ true → seat.new.plan ≡ drop 1 seat.old.plan }
+    ensures kept { is_running seat.new.node.phase ≡ false → seat.new.plan ≡ seat.old.plan }
     ensures unasked { is_imaged ≡ false → seat.new.plan ≡ seat.old.plan }
     ensures same { SameSeat seat.old seat.new }
 {

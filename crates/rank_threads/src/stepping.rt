@@ -1,6 +1,8 @@
 //! Part 2 of a turn: a stride or a step of the rank.
-ghost use Rattle.std.specs.Prelude.{◌≡◌};
-ghost use Rattle.rank_threads.specs.Seats.{SameSeat};
+ghost use Rattle.std.specs.Prelude.{◌≡◌, ◌≢◌, ◌+◌, Err, IfOk, OnErr};
+ghost use Rattle.rank_threads.specs.Phases.{clock_in, want_in};
+ghost use Rattle.rank_threads.specs.Seats.{SameSeat, SamePlan};
+ghost use Rattle.rank_threads.specs.Steps.{acts_made, acts_of, turn_in};
 
 use crate::hold::Hold;
 use crate::seat::Seat;
@@ -32,19 +34,22 @@ pub enum Stepped {
 /// step. No act follows a stride in the same turn.
 ///
 /// A rank that is refused by a limit is spent, and steps no more.
+#[tactic(auto, using(crate::proofs::StepLaws::moved_is_act, crate::proofs::StepLaws::unmoved))]
 pub fn step<W: Wait, H: Hold>(
     rt: &W,
     shared: &Shared<'_, H>,
     blank: &mut ConsoleState,
     seat: &mut Seat<'_, '_>,
 ) -> Result<Stepped, NodeFault>
-    ensures { SameSeat seat.old seat.new }
+    ensures clock { IfOk result (λ stepped. clock_in seat.new.node.phase ≡ clock_in seat.old.node.phase + acts_of stepped) }
+    ensures plan { SamePlan seat.old seat.new }
+    ensures same { SameSeat seat.old seat.new }
 {
     if seat.tally.is_spent {
         return Ok(Stepped::Ended);
     }
     let left = shared.limits.steps.saturating_sub(seat.tally.steps);
-    let made = seat.node.stride(left.min(STRIDE));
+    let made = seat.node.stride(left.min(STRIDE).max(1));
     if made > 0 {
         seat.tally.count_steps(made, shared.limits.steps, false);
         return Ok(Stepped::Moved);
@@ -73,7 +78,11 @@ fn act<W: Wait, H: Hold>(
     blank: &mut ConsoleState,
     seat: &mut Seat<'_, '_>,
 ) -> Result<Turn, NodeFault>
-    ensures { SameSeat seat.old seat.new }
+    ensures answer { result ≢ Err NodeFault.Memory → result ≡ turn_in seat.old.node.phase }
+    ensures clock { IfOk result (λ turn. clock_in seat.new.node.phase ≡ clock_in seat.old.node.phase + acts_made (want_in seat.old.node.phase) turn) }
+    ensures err { OnErr result (seat.new.node.phase ≡ seat.old.node.phase) }
+    ensures plan { SamePlan seat.old seat.new }
+    ensures same { SameSeat seat.old seat.new }
 {
     let Some(want) = seat.node.wants() else {
         return Ok(Turn::Ended);

@@ -1,6 +1,6 @@
 //! Part 1 of a turn: what the lanes bring.
 ghost use Rattle.std.specs.Prelude.{◌≡◌, ◌<◌, IfOk};
-ghost use Rattle.rank_threads.specs.Seats.{SameSeat};
+ghost use Rattle.rank_threads.specs.Seats.{SameSeat, SamePlan, SameGate};
 ghost use Rattle.rank_threads.specs.Taking.{TookFrom, TookBelow};
 ghost use Rattle.rank_threads.specs.Tally.{woken};
 
@@ -16,6 +16,8 @@ use std::alloc::AllocError;
 #[tactic(auto, using(crate::proofs::TakingLemmas::took_before, crate::proofs::TakingLemmas::took_next))]
 pub fn take_in<H>(shared: &Shared<'_, H>, seat: &mut Seat<'_, '_>) -> Result<bool, AllocError>
     ensures took { IfOk result (λ took. TookBelow seat.old.node.size seat.old seat.new took) }
+    ensures plan { SamePlan seat.old seat.new }
+    ensures gate { SameGate seat.old seat.new }
     ensures same { SameSeat seat.old seat.new }
 {
     let mut took = false;
@@ -33,6 +35,8 @@ fn take_all_from<H>(
 ) -> Result<bool, AllocError>
     requires { source < seat.old.node.size }
     ensures took { IfOk result (λ took. TookFrom source seat.old seat.new took) }
+    ensures plan { SamePlan seat.old seat.new }
+    ensures gate { SameGate seat.old seat.new }
     ensures same { SameSeat seat.old seat.new }
 {
     let mut took = false;
@@ -54,6 +58,8 @@ fn take_one<H>(
 ) -> Result<bool, AllocError>
     requires { source < seat.old.node.size }
     ensures took { IfOk result (λ took. TookFrom source seat.old seat.new took) }
+    ensures plan { SamePlan seat.old seat.new }
+    ensures gate { SameGate seat.old seat.new }
     ensures same { SameSeat seat.old seat.new }
 {
     let Some(frame) = take_from(&mut seat.from, source) else {

@@ -1,7 +1,6 @@
 //! What a run counts of a rank over all its lives.
-ghost use Rattle.std.specs.Prelude.{◌≡◌, ◌||◌, true, false, Some, None, slice_index_or, slice_set, replicate};
-ghost use Rattle.metered.specs.Limits.{most_ranks};
-ghost use Rattle.rank_threads.specs.Tally.{one_more, after_steps, is_last_idle, after_idle};
+ghost use Rattle.std.specs.Prelude.{◌≡◌, true, Some, slice_index_or, slice_set};
+ghost use Rattle.rank_threads.specs.Tally.{new_tally, one_more, begun_again, after_steps, is_last_idle, after_idle};
 
 use metered::limits::MOST_RANKS;
 use rank_node::NodeFault;
@@ -32,18 +31,7 @@ pub struct Tally {
 impl Tally {
     /// Nothing is counted yet.
     pub fn new() -> Tally
-        ensures { result ≡ record {
-          put = 0;
-          taken = 0;
-          steps = 0;
-          crashes = 0;
-          idle = 0;
-          is_marked = false;
-          may_owe = true;
-          is_spent = false;
-          seen = replicate most_ranks 0;
-          fault = None;
-        } }
+        ensures { result ≡ new_tally }
     {
         Tally {
             put: 0,
@@ -108,7 +96,7 @@ impl Tally {
 
     /// A new life begins: it asks every rank.
     pub fn begin_again(&mut self)
-        ensures { self.new ≡ record self.old { may_owe = true; idle = 0 } }
+        ensures { self.new ≡ begun_again self.old }
     {
         self.may_owe = true;
         self.idle = 0;

@@ -1,7 +1,8 @@
 //! One turn of a rank.
-ghost use Rattle.std.specs.Prelude.{◌≡◌, true, Ok, drop};
+ghost use Rattle.std.specs.Prelude.{◌≡◌, ◌≢◌, true, false, Ok, Some, None, IfOk, drop};
 ghost use Rattle.rank_threads.specs.Orders.{order_after, is_kill, is_image};
-ghost use Rattle.rank_threads.specs.Seats.{SameSeat};
+ghost use Rattle.rank_threads.specs.Phases.{NoneWaits, settled_of};
+ghost use Rattle.rank_threads.specs.Seats.{SameSeat, SamePlan};
 
 use crate::hold::Hold;
 use crate::leaving::rest;
@@ -33,7 +34,8 @@ pub fn turn<'p, 'l, W: Wait, H: Hold>(
     blank: &mut ConsoleState,
     seat: Seat<'p, 'l>,
 ) -> (Seat<'p, 'l>, After)
-    ensures { SameSeat seat.entry result.0 }
+    ensures settled { result.1 ≢ After.Crash → result.0.tally.fault ≡ None → result.0.tally.is_spent ≡ false → NoneWaits result.0.node.phase }
+    ensures same { SameSeat seat.entry result.0 }
 {
     let mut seat = seat;
     let first = begin(rt, shared, blank, &mut seat);
@@ -61,7 +63,8 @@ fn begin<W: Wait, H: Hold>(
     blank: &mut ConsoleState,
     seat: &mut Seat<'_, '_>,
 ) -> Result<Begun, NodeFault>
-    ensures { SameSeat seat.old seat.new }
+    ensures plan { SamePlan seat.old seat.new }
+    ensures same { SameSeat seat.old seat.new }
 {
     let took = shared.was_rung(seat.rank) && take_in(shared, seat)?;
     let stepped = step(rt, shared, blank, seat)?;
@@ -78,6 +81,8 @@ fn end<W: Wait, H: Hold>(
     ensures killed { is_kill (order_after begun.stepped seat.old.plan seat.old.node.phase) ≡ true → result ≡ Ok After.Crash }
     ensures crash { result ≡ Ok After.Crash → is_kill (order_after begun.stepped seat.old.plan seat.old.node.phase) ≡ true }
     ensures used { result ≡ Ok After.Crash → seat.new.plan ≡ drop 1 seat.old.plan }
+    ensures unasked { order_after begun.stepped seat.old.plan seat.old.node.phase ≡ None → seat.new.plan ≡ seat.old.plan }
+    ensures settled { IfOk result (λ after. after ≢ After.Crash → seat.new.tally.is_spent ≡ false → NoneWaits seat.new.node.phase) }
     ensures same { SameSeat seat.old seat.new }
 {
     let order = order_after(begun.stepped, seat);
@@ -131,7 +136,9 @@ fn is_image(order: Option<Order>) -> bool
 
 // A rank that has nothing left to replay runs from now on.
 fn settled<'p, 'l>(seat: Seat<'p, 'l>) -> Seat<'p, 'l>
-    ensures { SameSeat seat.entry result }
+    ensures settled { result.node.phase ≡ settled_of seat.entry.node.phase }
+    ensures rest { result ≡ record seat.entry { node = result.node } }
+    ensures same { SameSeat seat.entry result }
 {
     let Seat {
         rank,
@@ -153,7 +160,9 @@ fn settled<'p, 'l>(seat: Seat<'p, 'l>) -> Seat<'p, 'l>
 
 // The rank can't go on, and all are to leave.
 fn faulted<H>(shared: &Shared<'_, H>, seat: &mut Seat<'_, '_>, fault: NodeFault) -> After
-    ensures { SameSeat seat.old seat.new }
+    ensures leaves { result ≡ After.Leave }
+    ensures fault { seat.new ≡ record seat.old { tally = record seat.old.tally { fault = Some fault } } }
+    ensures same { SameSeat seat.old seat.new }
 {
     seat.tally.refuse(fault);
     shared.stop_all();

@@ -1,9 +1,12 @@
 //! What a rank is asked for in its life.
-ghost use Rattle.std.specs.Prelude.{◌≡◌, ◌<◌, ◌≤◌, true, IfOk, OnOk, OnErr};
+ghost use Rattle.std.specs.Prelude.{◌≡◌, ◌≢◌, ◌+◌, ◌<◌, ◌≤◌, true, Some, Err, IfOk, IfErr, OnOk, OnErr};
+ghost use Rattle.rank_machine.specs.declared.want.Want.TheVariants.{Internal};
+ghost use Rattle.rank_node.specs.Fault.{MayRefuseImage};
 ghost use Rattle.ports.specs.Lanes.{lane_to, put_of};
-ghost use Rattle.rank_threads.specs.Phases.{clock_in, want_in, is_running, HasImage};
+ghost use Rattle.rank_threads.specs.Phases.{clock_in, want_in, is_running, waiting_in, HasImage, NoneWaits, ReadsRow};
 ghost use Rattle.rank_threads.specs.Putting.{Puts};
 ghost use Rattle.rank_threads.specs.Seats.{SameNode};
+ghost use Rattle.rank_threads.specs.Steps.{acts_made, turn_in};
 ghost use Rattle.rank_threads.specs.Taking.{arrived};
 
 use super::Node;
@@ -42,6 +45,7 @@ impl<'p, 'l> Node<'p, 'l> {
     pub fn arrive(&mut self, from: u8, frame: Frame) -> Result<(), AllocError>
         requires { from < self.old.size }
         ensures ok { OnOk result (self.new.phase ≡ arrived self.old.phase from frame) }
+        ensures gate { waiting_in self.new.phase ≡ waiting_in self.old.phase }
         ensures same { SameNode self.old self.new }
     {
         self.phase.arrive(from, frame)
@@ -53,6 +57,7 @@ impl<'p, 'l> Node<'p, 'l> {
         requires { dest < self.old.size }
         ensures puts { IfOk result (λ went. Puts went self.old.phase dest (put_of lane.old) self.new.phase (put_of lane.new)) }
         ensures err { OnErr result ((self.new.phase ≡ self.old.phase) × (put_of lane.new ≡ put_of lane.old)) }
+        ensures gate { waiting_in self.new.phase ≡ waiting_in self.old.phase }
         ensures same { SameNode self.old self.new }
         ensures lane { lane_to lane.new ≡ lane_to lane.old }
     {
@@ -63,6 +68,9 @@ impl<'p, 'l> Node<'p, 'l> {
     /// how many it made.
     pub fn stride(&mut self, most: u32) -> u32
         ensures few { result ≤ most }
+        ensures some { 0 < most → want_in self.old.phase ≡ Some Internal → result ≢ 0 }
+        ensures stands { result < most → want_in self.new.phase ≢ Some Internal }
+        ensures clock { clock_in self.new.phase ≡ clock_in self.old.phase }
         ensures same { SameNode self.old self.new }
     {
         self.phase.stride(most)
@@ -70,7 +78,10 @@ impl<'p, 'l> Node<'p, 'l> {
 
     /// One step of its machine; what it prints goes to the screen.
     pub fn step(&mut self, screen: &mut ConsoleState) -> Result<Turn, NodeFault>
-        ensures { SameNode self.old self.new }
+        ensures answer { result ≢ Err NodeFault.Memory → result ≡ turn_in self.old.phase }
+        ensures clock { IfOk result (λ turn. clock_in self.new.phase ≡ clock_in self.old.phase + acts_made (want_in self.old.phase) turn) }
+        ensures err { OnErr result (self.new.phase ≡ self.old.phase) }
+        ensures same { SameNode self.old self.new }
     {
         self.phase.step(screen)
     }
@@ -79,7 +90,10 @@ impl<'p, 'l> Node<'p, 'l> {
     /// is want of memory.
     pub fn read(&mut self, alloc: Heap, of: u8, after: u32) -> Result<Vec<Event, Heap>, AllocError>
         requires { of < self.old.size }
-        ensures { SameNode self.old self.new }
+        ensures read { IfOk result (λ events. ReadsRow self.old.phase of after events.items self.new.phase) }
+        ensures err { OnErr result (self.new.phase ≡ self.old.phase) }
+        ensures gate { waiting_in self.new.phase ≡ waiting_in self.old.phase }
+        ensures same { SameNode self.old self.new }
     {
         let logger = self.logger;
         self.phase.read(alloc, logger, of, after)
@@ -89,6 +103,8 @@ impl<'p, 'l> Node<'p, 'l> {
     pub fn image(&mut self) -> Result<bool, NodeFault>
         ensures running { IfOk result (λ took. took ≡ is_running self.new.phase) }
         ensures image { IfOk result (λ took. took ≡ true → HasImage self.new.phase) }
+        ensures refused { IfErr result MayRefuseImage }
+        ensures gate { waiting_in self.new.phase ≡ waiting_in self.old.phase }
         ensures same { SameNode self.old self.new }
     {
         self.phase.image()
@@ -102,7 +118,8 @@ impl<'p, 'l> Node<'p, 'l> {
         console: &Console,
         blank: &mut ConsoleState,
     ) -> Result<bool, AllocError>
-        ensures { SameNode self.old self.new }
+        ensures settled { IfOk result (λ all. all ≡ true → NoneWaits self.new.phase) }
+        ensures same { SameNode self.old self.new }
     {
         let logger = self.logger;
         self.phase.release(rt, logger, console, blank)

@@ -2,7 +2,7 @@
 ghost use Rattle.std.specs.Prelude.{◌≡◌, ◌≤◌, Some, None, MatchOption, length};
 ghost use Rattle.metered.specs.Limits.{most_events};
 ghost use Rattle.rank_node.specs.Node.{opening};
-ghost use Rattle.rank_threads.specs.Phases.{stable_of, Begins, SameStable};
+ghost use Rattle.rank_threads.specs.Phases.{stable_of, settled_of, Begins, SameStable};
 ghost use Rattle.rank_threads.specs.Seats.{SameNode};
 
 use super::Node;
@@ -47,7 +47,8 @@ impl<'p, 'l> Node<'p, 'l> {
 
     /// A rank that has nothing left to replay runs from now on.
     pub fn settled(self) -> Node<'p, 'l>
-        ensures { SameNode self.entry result }
+        ensures settled { result.phase ≡ settled_of self.entry.phase }
+        ensures same { SameNode self.entry result }
     {
         let Node {
             phase,

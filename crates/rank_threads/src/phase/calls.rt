@@ -1,5 +1,6 @@
 //! What a rank calls at its logger and its shelf.
-ghost use Rattle.std.specs.Prelude.{◌≡◌, ◌<◌, true, IfOk};
+ghost use Rattle.std.specs.Prelude.{◌≡◌, ◌<◌, true, IfOk, IfErr, OnErr};
+ghost use Rattle.rank_node.specs.Fault.{MayRefuseImage};
 
 use super::Phase;
 use crate::releasing::release_all;
@@ -12,7 +13,7 @@ use std::alloc::AllocError;
 use std::sync::Wait;
 
 impl<'p> Phase<'p> {
-    ghost use Rattle.rank_threads.specs.Phases.{stable_of, is_running, HasImage, SamePhase};
+    ghost use Rattle.rank_threads.specs.Phases.{stable_of, is_running, waiting_in, HasImage, NoneWaits, ReadsRow, SamePhase};
 
     /// The events of rank `of` whose receiver's clock is above `after`; none
     /// for a rank that is down. An `Err` is want of memory.
@@ -25,7 +26,10 @@ impl<'p> Phase<'p> {
     ) -> Result<Vec<Event, Heap>, AllocError>
         requires own { (stable_of self.old).desk.table ≡ logger.now.table }
         requires named { of < logger.now.ranks }
-        ensures { SamePhase self.old self.new }
+        ensures read { IfOk result (λ events. ReadsRow self.old of after events.items self.new) }
+        ensures err { OnErr result (self.new ≡ self.old) }
+        ensures gate { waiting_in self.new ≡ waiting_in self.old }
+        ensures same { SamePhase self.old self.new }
     {
         let answer = match self {
             Phase::Running(rank) => rank.read(logger, of, after),
@@ -39,6 +43,8 @@ impl<'p> Phase<'p> {
     pub fn image(&mut self) -> Result<bool, NodeFault>
         ensures running { IfOk result (λ took. took ≡ is_running self.new) }
         ensures image { IfOk result (λ took. took ≡ true → HasImage self.new) }
+        ensures refused { IfErr result MayRefuseImage }
+        ensures gate { waiting_in self.new ≡ waiting_in self.old }
         ensures same { SamePhase self.old self.new }
     {
         match self {
@@ -60,7 +66,8 @@ impl<'p> Phase<'p> {
         blank: &mut ConsoleState,
     ) -> Result<bool, AllocError>
         requires { (stable_of self.old).desk.table ≡ logger.now.table }
-        ensures { SamePhase self.old self.new }
+        ensures settled { IfOk result (λ all. all ≡ true → NoneWaits self.new) }
+        ensures same { SamePhase self.old self.new }
     {
         match self {
             Phase::Running(rank) => release_all(rt, logger, console, blank, rank),

@@ -1,8 +1,8 @@
 //! From a station to a life and back.
-ghost use Rattle.std.specs.Prelude.{◌≡◌, ◌<◌, ◌≤◌, None};
+ghost use Rattle.std.specs.Prelude.{◌≡◌, ◌<◌, ◌≤◌, None, IfErr, OnOk, OnErr};
 ghost use Rattle.metered.specs.Limits.{most_ranks};
 ghost use Rattle.rank_threads.specs.Phases.{Begins};
-ghost use Rattle.rank_threads.specs.Stations.{SameStation, IsLifeOf};
+ghost use Rattle.rank_threads.specs.Stations.{SameStation, IsLifeOf, IsNew, HasRow};
 
 use super::Station;
 use crate::node::Node;
@@ -38,6 +38,9 @@ impl<'l> Station<'l> {
         ensures desk { result.down.desk ≡ desk }
         ensures to { result.to ≡ to }
         ensures from { result.from ≡ from }
+        ensures plan { result.plan ≡ plan }
+        ensures rank { result.rank ≡ rank }
+        ensures fresh { IsNew result }
     {
         let stable = Stable::new(desk, MemoryShelf::new(alloc), rank, size);
         Station {
@@ -57,6 +60,9 @@ impl<'l> Station<'l> {
     /// A life of the rank begins. Where it can't, the seat's fault says why.
     pub fn begin<'p>(self, alloc: Heap, program: &'p Program) -> Seat<'p, 'l>
         ensures begins { result.tally.fault ≡ None → Begins program.now self.entry.down self.entry.row result.node.phase }
+        ensures plan { result.plan ≡ self.entry.plan }
+        ensures tally { result.tally ≡ record self.entry.tally { fault = result.tally.fault } }
+        ensures well { result.tally.fault ≡ None → result.tally ≡ self.entry.tally }
         ensures same { IsLifeOf self.entry result }
     {
         let Station {
@@ -109,7 +115,11 @@ impl<'l> Station<'l> {
 
     /// The rank fetches its row, which it replays in its next life.
     pub fn fetch(&mut self, alloc: Heap) -> Result<(), NodeFault>
-        ensures { SameStation self.old self.new }
+        ensures row { OnOk result (HasRow self.new) }
+        ensures rest { (self.new.plan ≡ self.old.plan) × (self.new.tally ≡ self.old.tally) × (self.new.end ≡ self.old.end) }
+        ensures memory { IfErr result (λ e. e ≡ NodeFault.Memory) }
+        ensures err { OnErr result ((self.new.down ≡ self.old.down) × (self.new.row ≡ self.old.row)) }
+        ensures same { SameStation self.old self.new }
     {
         let logger = self.logger;
         let row = self.down.fetch(alloc, logger)?;
@@ -122,7 +132,11 @@ impl<'p, 'l> Seat<'p, 'l> {
     /// The life is over. `end` says how the rank left; where it crashed, it
     /// didn't.
     pub fn leave(self, end: Option<End>) -> Station<'l>
-        ensures { IsLifeOf result self.entry }
+        ensures end { result.end ≡ end }
+        ensures plan { result.plan ≡ self.entry.plan }
+        ensures tally { result.tally ≡ self.entry.tally }
+        ensures row { result.row ≡ None }
+        ensures same { IsLifeOf result self.entry }
     {
         let Seat {
             rank,

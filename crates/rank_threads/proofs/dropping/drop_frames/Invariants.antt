@@ -1,6 +1,12 @@
-use Rattle.rank_threads.specs.Stations.{SameStation}
+use Rattle.std.proofs.Common.{◌≡◌}
+use Rattle.rank_threads.specs.Stations.{SameStation, SameRest}
 use Rattle.rank_threads.proofs.dropping.drop_frames.Given as goal
 
 -- what stays
 abbrev pub invariant-loop-source : goal.invariant-loop-source
-invariant-loop-source l = SameStation l.fn.station l.station
+invariant-loop-source l = record {
+  down : l.station.down ≡ l.fn.station.down;
+  rest : SameRest l.fn.station l.station;
+  counted : l.station.tally ≡ record l.fn.station.tally { taken = l.station.tally.taken; may_owe = l.station.tally.may_owe };
+  same : SameStation l.fn.station l.station;
+}

@@ -1,6 +1,10 @@
-use Rattle.rank_threads.specs.Seats.{SameSeat}
+use Rattle.rank_threads.specs.Seats.{SameSeat, SamePlan, SameGate}
 use Rattle.rank_threads.proofs.leaving.others_went_on.Given as goal
 
 -- the seat stays the same
 abbrev pub invariant-loop-of : goal.invariant-loop-of
-invariant-loop-of l = SameSeat l.fn.seat l.seat
+invariant-loop-of l = record {
+  plan : SamePlan l.fn.seat l.seat;
+  gate : SameGate l.fn.seat l.seat;
+  same : SameSeat l.fn.seat l.seat;
+}

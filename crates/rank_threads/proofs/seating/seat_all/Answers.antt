@@ -1,6 +1,7 @@
 use Rattle.std.proofs.Common.{◌≡◌, ◌+◌, vec_len, sym, ◌∙◌, ap, arith}
 use Rattle.lanes.specs.Ends.{to_names, from_names}
 use Rattle.rank_threads.proofs.SeatingLemmas.{to_seated, from_seated, seated_more, desks_less}
+use Rattle.rank_threads.proofs.StationLemmas.{new_more, plans_seated}
 use Rattle.rank_threads.proofs.seating.seat_all.Goals as goal
 
 pub new-station-requires-clause-own : goal.new-station-requires-clause-own
@@ -27,11 +28,17 @@ loop-desk-preserved g c =
     (record { rt = c.args.rt; station = c.new-station.result }) (rw (sym shorter) kept.seated)
     (ap (λ d. d.table) c.new-station.ensures.desk ∙ less.1)
     (ap (λ d. d.rank) c.new-station.ensures.desk ∙ less.2 ∙ omega (arith, c.pop.new.self.ok.0)) in
+    let plans = plans_seated c.pop-in-Some-3.new.self.items c.in-Some-pop-3.plan c.loop-desk.stations.items
+    (record { rt = c.args.rt; station = c.new-station.result }) c.args.parts.plans.items
+    (rw (sym c.in-Some-pop-3.ensures.items) kept.plans) c.new-station.ensures.plan in
+    let fresh = new_more c.loop-desk.stations.items (record { rt = c.args.rt; station = c.new-station.result }) kept.fresh c.new-station.ensures.fresh in
     record {
       to = rw (c.push_reserved.ensures.items) to;
       from = rw (c.push_reserved.ensures.items) from;
       seated = rw (c.push_reserved.ensures.items) seated;
       desks = less.0;
+      plans = rw (c.push_reserved.ensures.items) plans;
+      fresh = rw (c.push_reserved.ensures.items) fresh;
       as_many_to = grind (arith, kept.as_many_to, c.in-Some.ensures.len, c.in-Some-pop.ensures.len);
       as_many_from = grind (arith, kept.as_many_from, c.in-Some.ensures.len, c.in-Some-pop-2.ensures.len);
       as_many_plans = grind (arith, kept.as_many_plans, c.in-Some.ensures.len, c.in-Some-pop-3.ensures.len);

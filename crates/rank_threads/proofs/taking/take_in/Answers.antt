@@ -11,5 +11,7 @@ loop-source-preserved g c =
     record {
       so_far = took_next c.loop-source.source c.args.seat.now c.loop-source.seat c.take_all_from.new.seat c.loop-source.took here c.if-branch.took
           c.loop-source.invariant.so_far c.in_ok-took.ensures.took either;
+      plan = search rules;
+      gate = search rules;
       same = search rules;
     }

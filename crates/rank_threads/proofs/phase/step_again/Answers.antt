@@ -1,0 +1,15 @@
+use Rattle.std.proofs.Common.{rules, ◌≢◌, []}
+use Rattle.rank_threads.proofs.StepLaws.{again_answers, again_ok_clocks}
+use Rattle.rank_threads.proofs.phase.step_again.Goals as goal
+
+-- it answers by the next event
+pub returns-clause-answer : goal.returns-clause-answer
+returns-clause-answer c =
+    let some : c.args.rank.now.left ≢ [] = search rules in
+    again_answers c.args.rank.now.node c.args.rank.now.left c.step.result some c.step.ensures.turn c.step.ensures.refused
+
+-- the clock goes by what is answered
+pub returns-clause-clock : goal.returns-clause-clock
+returns-clause-clock c =
+    let some : c.args.rank.now.left ≢ [] = search rules in
+    again_ok_clocks c.args.rank.now c.step.new.self c.step.result some c.step.ensures.turn c.step.ensures.ok

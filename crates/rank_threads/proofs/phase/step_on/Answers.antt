@@ -1,0 +1,12 @@
+use Rattle.rank_node.specs.Steps.{refusal_of, turn_of}
+use Rattle.rank_threads.proofs.StepLaws.{run_answers, run_clocks}
+use Rattle.rank_threads.proofs.phase.step_on.Goals as goal
+
+-- it answers as the rank that runs does
+pub returns-clause-answer : goal.returns-clause-answer
+returns-clause-answer c =
+    run_answers (refusal_of c.args.rank.now) (turn_of c.args.rank.now) c.step.result c.step.ensures.turn c.step.ensures.refusal c.step.ensures.refused
+
+-- the clock goes by what is answered
+pub returns-clause-clock : goal.returns-clause-clock
+returns-clause-clock c = run_clocks c.args.rank.now c.step.new.self c.step.result c.step.ensures.turn c.step.ensures.ok
