@@ -140,5 +140,18 @@ fn step_again(
     if rank.left() == 0 {
         return Err(NodeFault::Replay);
     }
+    replay_one(rank, screen)
+}
+
+fn replay_one(
+    rank: &mut Replaying<'_, MemoryShelf, Desk>,
+    screen: &mut ConsoleState,
+) -> Result<Turn, NodeFault>
+    requires { rank.old.left ≢ [] }
+    ensures answer { result ≢ Err NodeFault.Memory → result ≡ replay_turn rank.old.node rank.old.left }
+    ensures clock { IfOk result (λ turn. rank.new.node.clock ≡ rank.old.node.clock + acts_made (Some (machine_want rank.old.node.machine)) turn) }
+    ensures err { OnErr result (rank.new ≡ rank.old) }
+    ensures stable { rank.new.node.stable ≡ rank.old.node.stable }
+{
     rank.step(screen)
 }

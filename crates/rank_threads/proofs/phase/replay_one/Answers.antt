@@ -1,0 +1,11 @@
+use Rattle.rank_threads.proofs.StepLaws.{again_answers, again_ok_clocks}
+use Rattle.rank_threads.proofs.phase.replay_one.Goals as goal
+
+-- it answers by the next event
+pub returns-clause-answer : goal.returns-clause-answer
+returns-clause-answer c =
+    again_answers c.args.rank.now.node c.args.rank.now.left c.step.result c.requires c.step.ensures.turn c.step.ensures.refused
+
+-- the clock goes by what is answered
+pub returns-clause-clock : goal.returns-clause-clock
+returns-clause-clock c = again_ok_clocks c.args.rank.now c.step.new.self c.step.result c.requires c.step.ensures.turn c.step.ensures.ok
