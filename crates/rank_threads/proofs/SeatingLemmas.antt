@@ -145,5 +145,8 @@ desks_less logger first (e ∷ ds) d all =
 -- what carries a run from its lanes and desks to its stations, through their lives, and back
 pub ruleset played_laws = (same_to, same_from, same_seated, same_length, desks_listed, desks_ordered)
 
+-- what one station more that is put together leaves
+pub ruleset seated_laws = (to_seated, from_seated, seated_more)
+
 -- what one station more that is taken apart leaves
 pub ruleset unseated_laws = (to_unseated, from_unseated, seated_less, desks_more)

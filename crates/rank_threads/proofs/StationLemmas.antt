@@ -36,3 +36,6 @@ module _ {W : Type 0} where
   pub new_more : (ps : List (Parcel W)) (p : Parcel W) → AreNew ps → IsNew p.station → AreNew (ps ++ p ∷ [])
   new_more [] p all one = (one, tt)
   new_more (q ∷ ps) p all one = (all.0, new_more ps p all.1 one)
+
+-- what one new station more leaves
+pub ruleset new_laws = (plans_seated, new_more)

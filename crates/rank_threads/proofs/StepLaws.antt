@@ -1,5 +1,6 @@
 -- What a step answers, and how the clock grows by it.
-use Rattle.std.proofs.Common.{◌≡◌, ◌≢◌, ℕ, ◌+◌, ◌<◌, ℤ, Bool, true, false, List, [], ◌∷◌, get_or, Option, Some, None, Result, Ok, Err, refl, sym, ap, ◌∙◌, arith}
+use Rattle.std.proofs.Common.{◌≡◌, ◌≢◌, ℕ, ◌+◌, ◌<◌, ℤ, Bool, true, false, List, [], ◌∷◌}
+use Rattle.std.proofs.Common.{get_or, Option, Some, None, Result, Ok, Err, refl, sym, ap, ◌∙◌, arith}
 use Rattle.std.specs.Prelude.{IfOk, IfErr, OnOk, if◌then◌else◌, is_some, option_and_then, position, slice_get}
 use Rattle.std.proofs.lemmas.List.Quantifiers.{position-Some}
 use Rattle.std.proofs.lemmas.Option.{slice_get-get_or}
@@ -16,9 +17,11 @@ use Rattle.rank_machine.specs.Machine.{MachineValue, Strides, still, on, machine
 use Rattle.rank_machine.specs.declared.want.Want.{Want}
 use Rattle.rank_machine.specs.declared.want.Want.TheVariants as want
 use Rattle.rank_node.specs.Node.{Node}
-use Rattle.rank_node.specs.Replay.{Replay, after_replay, left_after, is_before, is_now, named, named_turn, probe_turn, receive_turn, replay_turn_at, replay_turn_of, replayed_at, shown_named}
+use Rattle.rank_node.specs.Replay.{Replay, after_replay, left_after, is_before, is_now, named}
+use Rattle.rank_node.specs.Replay.{named_turn, probe_turn, receive_turn, replay_turn_at, replay_turn_of, replayed_at, shown_named}
 use Rattle.rank_node.specs.Replay.{taken_named, tried_named, try_turn}
-use Rattle.rank_node.specs.Steps.{after_hold, after_print, after_send, after_step, after_wait, at_index, found, probed, received, step_at, tried, turn_at, turn_of}
+use Rattle.rank_node.specs.Steps.{after_hold, after_print, after_send, after_step, after_wait, at_index}
+use Rattle.rank_node.specs.Steps.{found, probed, received, step_at, tried, turn_at, turn_of}
 use Rattle.rank_node.specs.Waiting.{has_room, is_settled}
 use Rattle.rank_node.specs.declared.fault.NodeFault.{NodeFault}
 use Rattle.rank_node.specs.declared.fault.NodeFault.TheVariants as fault

@@ -2,7 +2,8 @@
 ghost use Rattle.std.specs.Prelude.{◌≡◌, ◌+◌, ◌<◌, ◌≤◌, [], vec_len, vec_capacity};
 ghost use Rattle.metered.specs.Limits.{most_ranks};
 ghost use Rattle.lanes.specs.Ends.{to_names, from_names};
-ghost use Rattle.rank_threads.specs.Seating.{AreDesksFrom, ArePartsOf, AreNew, AreSeated, IsRoom, came_of, stations_came, stations_from, stations_plans, stations_to};
+ghost use Rattle.rank_threads.specs.Seating.{AreDesksFrom, ArePartsOf, AreNew, AreSeated, IsRoom};
+ghost use Rattle.rank_threads.specs.Seating.{came_of, stations_came, stations_from, stations_plans, stations_to};
 
 use crate::parcel::Parcel;
 use crate::plan::Plan;
@@ -38,7 +39,7 @@ pub struct Left {
 }
 
 /// A station for each rank, the last one's first.
-#[tactic(auto, using(crate::proofs::SeatingLemmas::to_seated, crate::proofs::SeatingLemmas::from_seated, crate::proofs::SeatingLemmas::seated_more, crate::proofs::StationLemmas::plans_seated, crate::proofs::StationLemmas::new_more))]
+#[tactic(auto, using(crate::proofs::SeatingLemmas::seated_laws, crate::proofs::StationLemmas::new_laws))]
 pub fn seat_all<'l, W: Wait + Drop + Copy>(
     rt: W,
     alloc: Heap,
