@@ -1,6 +1,6 @@
 -- Lines sorted by rank, after one more line.
-use Rattle.std.proofs.Common.{◌≡◌, ℕ, ℤ, ◌+◌, ◌<◌, ◌==◌, Bool, true, false, List, [], ◌∷◌, ◌++◌, length, slice_get, slice_set, get_or, take, replicate}
-use Rattle.std.proofs.Common.{Some, ◌⊎◌, inl, inr, refl, sym, ap, subst, ◌∙◌, arith, length-set, eq-eqb, ne_eqb}
+use Rattle.std.proofs.Common.{◌≡◌, ℕ, ℤ, zero, suc, ◌+◌, ◌<◌, ◌==◌, Bool, true, false, List, [], ◌∷◌, ◌++◌, length, take, replicate}
+use Rattle.std.proofs.Common.{slice_get, slice_set, get_or, Some, ◌⊎◌, inl, inr, refl, sym, ap, subst, ◌∙◌, arith, length-set, eq-eqb, ne_eqb}
 use Rattle.std.proofs.lemmas.List.{append-nil, length-replicate, get_or-replicate, take_more}
 use Rattle.std.proofs.lemmas.Option.{slice_get_within, slice_get-get_or, get_or_from_slice_get, slice_get_read}
 use Rattle.ports.specs.declared.line.Line.{Line}
@@ -70,3 +70,13 @@ sorted_more n lines i k d sorted old new kept low at within is longer =
     let same : new ≡ get_or sorted x.rank [] ++ (x.clock, x.value) ∷ [] =
     longer ∙ ap (λ z. z ++ (x.clock, x.value) ∷ []) (sym there ∙ ap (λ q. get_or sorted q []) at) in
     rw (take_more lines i d low, same, at) (IsSorted-push n (take i lines) x sorted kept few)
+
+-- the rank of each line has a line
+pub line_of_its_rank : (lines : List Line) (i k : ℕ) (d : Line) → i < length lines → k ≡ (get_or lines i d).rank → lines_of k lines ≡ [] → ⊥
+line_of_its_rank [] i k d low at none = omega arith
+line_of_its_rank (l ∷ lines) zero k d low at none = (let more = rw (eq-eqb l.rank k (sym at)) at none in cc)
+line_of_its_rank (l ∷ lines) (suc i) k d low at none = line_of_its_rank lines i k d (omega (arith, low)) at (rest (l.rank == k) none)
+  where
+    rest : (b : Bool) → cons_if b (l.clock, l.value) (lines_of k lines) ≡ [] → lines_of k lines ≡ []
+    rest true e = absurd cc
+    rest false e = e

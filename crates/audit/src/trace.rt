@@ -1,7 +1,8 @@
 //! What an audit keeps of a rank's acts.
-ghost use Rattle.std.specs.Prelude.{◌≡◌, ℕ, ◌+◌, ◌<◌, [], length, Some, IfSome, IfOk, OnOk, slice_index_or};
+ghost use Rattle.std.specs.Prelude.{◌≡◌, ◌≢◌, ℕ, ◌+◌, ◌<◌, ◌≤◌, [], length, Some, IfSome, IfNone, IfOk, OnOk, slice_index_or};
+ghost use Rattle.metered.specs.Limits.{greatest_clock};
 ghost use Rattle.crash_free.specs.Runs.{at_place};
-ghost use Rattle.audit.specs.Trace.{empty_trace, with_send, with_event, with_line};
+ghost use Rattle.audit.specs.Trace.{AreInOrder, empty_trace, with_send, with_event, with_line};
 
 use crate::clocks::Clocks;
 use crate::lines::RankLines;
@@ -47,7 +48,9 @@ impl Trace {
 
     /// The clock of the rank's next act. No rank passes the greatest.
     pub fn next_clock(&self) -> Option<u32>
-        ensures { IfSome result (λ clock. clock ≡ self.now.clock + 1) }
+        ensures some { IfSome result (λ clock. clock ≡ self.now.clock + 1) }
+        ensures few { IfSome result (λ clock. clock ≤ greatest_clock) }
+        ensures none { IfNone result (greatest_clock ≤ self.now.clock) }
     {
         if self.clock < GREATEST_CLOCK {
             Some(self.clock + 1)
@@ -60,7 +63,9 @@ impl Trace {
     /// rank sent to the destination.
     pub fn place_of(&self, dest: u8, clock: u32) -> Option<u64>
         requires { dest < length self.now.sent }
-        ensures { IfSome result (λ j. at_place (slice_index_or self.now.sent dest []) j ≡ Some clock) }
+        ensures some { IfSome result (λ j. at_place (slice_index_or self.now.sent dest []) j ≡ Some clock) }
+        ensures none { IfNone result (AreInOrder (slice_index_or self.now.sent dest [])
+            → (j : ℕ) → at_place (slice_index_or self.now.sent dest []) j ≢ Some clock) }
     {
         self.sent[usize::from(dest)].place_of(clock)
     }

@@ -3,9 +3,10 @@ ghost use Rattle.std.specs.Prelude.{◌≡◌, Some};
 ghost use Rattle.events_text.specs.Faults.{name_of, fault_number};
 
 use std::fmt;
+use thiserror::Error;
 
 /// What is wrong with a line. The lowest number that holds of a line is answered.
-#[derive(Clone, Copy, Debug, PartialEq, Eq)]
+#[derive(Clone, Copy, Debug, PartialEq, Eq, Error)]
 pub enum EventsFaultKind {
     /// The line has no form.
     BadLine,
@@ -14,7 +15,7 @@ pub enum EventsFaultKind {
 }
 
 /// Why a text gives no events.
-#[derive(Clone, Copy, Debug, PartialEq, Eq)]
+#[derive(Clone, Copy, PartialEq, Eq)]
 pub enum EventsFault {
     /// The first faulty line, from 1.
     Fault { line: usize, kind: EventsFaultKind },

@@ -8,9 +8,10 @@ use Rattle.std.proofs.lemmas.List.{map-set, map-append, length-map}
 use Rattle.std.proofs.lemmas.List.Elements.{All-same, All-push, All-pop, All-set, All-get_or}
 use Rattle.std.proofs.Math.ListN.{get_or-map}
 use Rattle.std.specs.List.{All}
-use Rattle.ports.specs.Lanes.{Lane, TxValue, RxValue, lane_to, lane_from, put_of}
+use Rattle.metered.specs.Limits.{most_frames}
+use Rattle.ports.specs.Lanes.{Lane, TxValue, RxValue, lane_to, lane_from, put_of, room_of}
 use Rattle.lanes.specs.Crossed.{grow, grow_all}
-use Rattle.lanes.specs.Ends.{to_names, from_names, AreWhole, AreCrossed, NonePut}
+use Rattle.lanes.specs.Ends.{to_names, from_names, AreWhole, AreCrossed, NonePut, HaveRoom}
 use Rattle.lanes.proofs.GrowLemmas.{grow_all_snoc, grow_push, grow_last, grow_pop, grow_length, snoc_parts}
 
 module _ {A : Type 0} where
@@ -45,17 +46,29 @@ module _ {A : Type 0} where
       (from_names_more from column) whole in
       (both.0, sym (length-map column.items lane_from) ∙ both.1)
 
+  -- an end more of which holds what holds of the others
+  one_more : (Q : TxValue → Type 0) (to : List (Vec TxValue A)) (source : ℕ) (row : Vec TxValue A) (tx : TxValue) (d : Vec TxValue A)
+      → All (λ ends. All Q ends.items) to → source < length to → row.items ≡ (slice_index_or to source d).items ++ tx ∷ [] → Q tx
+      → All (λ ends. All Q ends.items) (slice_set to source row)
+  one_more Q to source row tx d all low row_is new =
+      let P = λ (ends : Vec TxValue A). All Q ends.items in
+      let old : P (slice_index_or to source d) = All-get_or P to source d low all in
+      All-set P to source row
+      (All-same Q row.items ((slice_index_or to source d).items ++ tx ∷ []) row_is
+      (All-push Q (slice_index_or to source d).items tx old new))
+      all
+
   -- an end more into which nothing was put
   pub none_put_more : (to : List (Vec TxValue A)) (source : ℕ) (row : Vec TxValue A) (tx : TxValue) (d : Vec TxValue A)
       → NonePut to → source < length to → row.items ≡ (slice_index_or to source d).items ++ tx ∷ [] → put_of tx ≡ []
       → NonePut (slice_set to source row)
-  none_put_more to source row tx d none low row_is new =
-      let P = λ (ends : Vec TxValue A). All (λ t. put_of t ≡ []) ends.items in
-      let old : P (slice_index_or to source d) = All-get_or P to source d low none in
-      All-set P to source row
-      (All-same (λ t. put_of t ≡ []) row.items ((slice_index_or to source d).items ++ tx ∷ []) row_is
-      (All-push (λ t. put_of t ≡ []) (slice_index_or to source d).items tx old new))
-      none
+  none_put_more = one_more (λ t. put_of t ≡ [])
+
+  -- an end more of a lane of that room
+  pub room_more : (to : List (Vec TxValue A)) (source : ℕ) (row : Vec TxValue A) (tx : TxValue) (d : Vec TxValue A)
+      → HaveRoom to → source < length to → row.items ≡ (slice_index_or to source d).items ++ tx ∷ [] → room_of (lane_to tx) ≡ most_frames
+      → HaveRoom (slice_set to source row)
+  room_more = one_more (λ t. room_of (lane_to t) ≡ most_frames)
 
   -- a lane more in the column
   pub opened_more : (to : List (Vec TxValue A)) (source : ℕ) (row : Vec TxValue A) (tx : TxValue)

@@ -1,7 +1,8 @@
 -- The lanes of a run: from each rank to each rank, itself included.
 use Rattle.std.specs.Prelude.{◌≡◌, ℕ, ◌<◌, List, [], length, map, min, replicate, slice_index_or, Vec}
 use Rattle.std.specs.List.{All, sum_by}
-use Rattle.ports.specs.Lanes.{Lane, TxValue, RxValue, lane_to, lane_from, put_of, taken_of}
+use Rattle.metered.specs.Limits.{most_frames}
+use Rattle.ports.specs.Lanes.{Lane, TxValue, RxValue, lane_to, lane_from, put_of, room_of, taken_of}
 use Rattle.lanes.specs.Crossed.{grow_all}
 
 -- each of these columns has an element for each rank
@@ -38,6 +39,10 @@ module _ {A : Type 0} where
   -- nothing was put into any of these lanes
   abbrev pub NonePut : List (Vec TxValue A) → Type 0
   NonePut to = All (λ ends. All (λ t. put_of t ≡ []) ends.items) to
+
+  -- each of these lanes holds so many frames
+  abbrev pub HaveRoom : List (Vec TxValue A) → Type 0
+  HaveRoom to = All (λ ends. All (λ t. room_of (lane_to t) ≡ most_frames) ends.items) to
 
   -- nothing was taken from any of these lanes
   abbrev pub NoneTaken : List (Vec RxValue A) → Type 0

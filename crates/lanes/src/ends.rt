@@ -3,7 +3,7 @@ ghost use Rattle.std.specs.Prelude.{◌≡◌, ◌+◌, [], IfOk, OnOk, length, 
 ghost use Rattle.std.specs.List.{All};
 ghost use Rattle.metered.specs.Limits.{most_frames};
 ghost use Rattle.lanes.specs.Crossed.{grow};
-ghost use Rattle.lanes.specs.Ends.{to_names, from_names, AreCrossed, ArePairs, NonePut, NoneTaken, all_put, all_taken, counted_to};
+ghost use Rattle.lanes.specs.Ends.{to_names, from_names, AreCrossed, ArePairs, HaveRoom, NonePut, NoneTaken, all_put, all_taken, counted_to};
 ghost use Rattle.ports.specs.Lanes.{lane_from, taken_of};
 
 use metered::Heap;
@@ -20,13 +20,15 @@ pub struct Ends {
     pub from: Vec<Vec<Rx, Heap>, Heap>,
 }
 
-/// A lane from each of so many ranks to each, itself included. An error is want of memory.
+/// A lane from each of so many ranks to each, itself included, each for `MOST_FRAMES` of
+/// `metered::limits`. An error is want of memory.
 pub fn open_all(alloc: Heap, ranks: u8) -> Result<Ends, AllocError>
     ensures crossed { IfOk result (λ ends. AreCrossed ends.to.items ends.from.items) }
     ensures sizes { IfOk result (λ ends. (vec_len ends.to ≡ ranks) × (vec_len ends.from ≡ ranks)) }
     ensures to { IfOk result (λ ends. All (λ row. vec_len row ≡ ranks) ends.to.items) }
     ensures from { IfOk result (λ ends. All (λ column. vec_len column ≡ ranks) ends.from.items) }
     ensures pairs { IfOk result (λ ends. ArePairs ranks (to_names ends.to.items) (from_names ends.from.items)) }
+    ensures room { IfOk result (λ ends. HaveRoom ends.to.items) }
     ensures put { IfOk result (λ ends. NonePut ends.to.items) }
     ensures taken { IfOk result (λ ends. NoneTaken ends.from.items) }
 {
@@ -42,6 +44,7 @@ pub fn open_all(alloc: Heap, ranks: u8) -> Result<Ends, AllocError>
 fn no_lanes(alloc: Heap, ranks: u8) -> Result<Vec<Vec<Tx, Heap>, Heap>, AllocError>
     ensures names { IfOk result (λ to. to_names to.items ≡ replicate ranks []) }
     ensures size { IfOk result (λ to. vec_len to ≡ ranks) }
+    ensures room { IfOk result (λ to. HaveRoom to.items) }
     ensures put { IfOk result (λ to. NonePut to.items) }
 {
     let mut to = Vec::new(alloc);
@@ -60,10 +63,12 @@ fn room() -> usize
 
 // A lane from each rank to one more, which takes from them.
 fn open_into(alloc: Heap, to: &mut Vec<Vec<Tx, Heap>, Heap>) -> Result<Vec<Rx, Heap>, AllocError>
-    requires { NonePut to.old.items }
+    requires room { HaveRoom to.old.items }
+    requires put { NonePut to.old.items }
     ensures names { IfOk result (λ column. to_names to.new.items ≡ grow (to_names to.old.items) (map lane_from column.items)) }
     ensures whole { IfOk result (λ column. length column.items ≡ vec_len to.old) }
     ensures size { vec_len to.new ≡ vec_len to.old }
+    ensures room { OnOk result (HaveRoom to.new.items) }
     ensures put { OnOk result (NonePut to.new.items) }
     ensures taken { IfOk result (λ column. All (λ rx. taken_of rx ≡ []) column.items) }
 {

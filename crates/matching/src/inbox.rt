@@ -26,7 +26,7 @@ pub enum Accept {
 }
 
 /// The packets that a rank accepted and hasn't taken, in order of acceptance.
-#[derive(Debug, Drop)]
+#[derive(Drop)]
 pub struct Inbox {
     packets: Vec<Packet, Heap>,
     // for each source the number of the last packet accepted, 0 for none

@@ -1,5 +1,6 @@
-//! Lanes: what no clause of them says, for a `put` that always hands back and a
-//! `take` that never finds a frame meet every clause.
+//! Lanes: what no clause of them says, for a `put` that hands back whatever comes
+//! behind as many frames as the lane holds, and a `take` that never finds a frame,
+//! meet every clause.
 ghost use Rattle.std.specs.Prelude.{◌≡◌, ◌≤◌};
 ghost use Rattle.ports.specs.Lanes.{lane_to, lane_from};
 

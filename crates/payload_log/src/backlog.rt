@@ -9,7 +9,7 @@ use std::marker::Model;
 
 /// The packets kept for one destination, from the one after the base on, and
 /// behind them those held, from the one after the last one sent on.
-#[derive(Debug, Drop)]
+#[derive(Drop)]
 pub struct Backlog {
     base: u32,
     sent: u32,

@@ -11,7 +11,7 @@ use std::marker::Model;
 
 /// The packets that a sender keeps for each destination, with the number of
 /// the next one to transmit, and those that it holds back.
-#[derive(Debug, Drop)]
+#[derive(Drop)]
 pub struct PayloadLog {
     kept: Vec<Backlog, Heap>,
 }

@@ -28,6 +28,10 @@ pub record RxValue : Type 0 where
 abbrev pub lane_of : {T P : Type 0} → End T Global P → Lane
 lane_of e = record { words = e.words; slots = e.slots; names = e.names; heap = e.heap }
 
+-- how many frames a lane holds
+abbrev pub room_of : Lane → ℕ
+room_of l = l.names.0
+
 -- the lane into which this end puts
 abbrev pub lane_to : TxValue → Lane
 lane_to t = t.lane

@@ -57,15 +57,17 @@ impl Model for Rx {
 }
 
 impl Tx {
-    ghost use Rattle.std.specs.Prelude.{◌≡◌, [], ◌∷◌, ◌++◌, OnOk, OnErr, IfErr};
-    ghost use Rattle.ports.specs.Lanes.{lane_to, put_of};
+    ghost use Rattle.std.specs.Prelude.{◌≡◌, ◌<◌, [], ◌∷◌, ◌++◌, length, IsOk, OnOk, OnErr, IfErr};
+    ghost use Rattle.ports.specs.Lanes.{lane_to, put_of, room_of};
 
-    /// Puts a frame behind all others, or hands it back.
+    /// Puts a frame behind all others, or hands it back; but as many frames as the lane
+    /// holds are taken in, whether or not any was taken.
     pub fn put(&mut self, frame: Frame) -> Result<(), Frame>
         ensures lane { lane_to self.new ≡ lane_to self.old }
         ensures put { OnOk result (put_of self.new ≡ put_of self.old ++ frame ∷ []) }
         ensures back { IfErr result (λ refused. refused ≡ frame) }
         ensures stays { OnErr result (put_of self.new ≡ put_of self.old) }
+        ensures room { length (put_of self.old) < room_of (lane_to self.old) → IsOk result }
     {
         match self.ring.push(frame) {
             Ok(()) => {

@@ -19,7 +19,7 @@ use std::alloc::AllocError;
 use text_lines::next_line;
 
 /// The statements of a text in order, and what they declare.
-#[derive(Debug, Drop)]
+#[derive(Drop)]
 pub struct Draft {
     pub forms: Vec<Form, Heap>,
     /// In order of declaration.
@@ -50,7 +50,10 @@ impl Reader {
     fn take(&mut self, form: Form) -> Result<(), AllocError>
         ensures { OnOk result (reader_seen self.new ≡ taken (reader_seen self.old) (form_seen form)) }
     {
-        self.scope.enter(&form)?;
+        if let Err(error) = self.scope.enter(&form) {
+            drop(form);
+            return Err(error);
+        }
         self.forms.push(form)?;
         Ok(())
     }

@@ -5,7 +5,7 @@ ghost use Rattle.rank_checker.specs.Faults.{name_of, fault_number};
 use std::fmt;
 
 /// What is wrong with a line. The lowest number that holds of a line is answered.
-#[derive(Clone, Copy, Debug, PartialEq, Eq)]
+#[derive(Clone, Copy, Debug)]
 pub enum FaultKind {
     /// A byte isn't 0x20 to 0x7E.
     NotText,
@@ -28,7 +28,7 @@ pub enum FaultKind {
 }
 
 /// A fault and the line that it stands on.
-#[derive(Clone, Copy, Debug, PartialEq, Eq)]
+#[derive(Clone, Copy, Debug)]
 pub struct ProgramFault {
     /// From 1; for `BlockOpen` one more than the text has.
     pub line: usize,
@@ -36,7 +36,7 @@ pub struct ProgramFault {
 }
 
 /// Why a text gives no program.
-#[derive(Clone, Copy, Debug, PartialEq, Eq)]
+#[derive(Clone, Copy, Debug)]
 pub enum ParseFault {
     Fault(ProgramFault),
     Memory,
@@ -59,23 +59,29 @@ impl FaultKind {
             FaultKind::NumberRange => 9,
         }
     }
+
+    fn name(self) -> &'static str
+        ensures { result.now ≡ name_of self }
+    {
+        match self {
+            FaultKind::NotText => "NotText",
+            FaultKind::NotAStatement => "NotAStatement",
+            FaultKind::BadForm => "BadForm",
+            FaultKind::Undeclared => "Undeclared",
+            FaultKind::DeclaredTwice => "DeclaredTwice",
+            FaultKind::BlockOpen => "BlockOpen",
+            FaultKind::BlockStray => "BlockStray",
+            FaultKind::Limit => "Limit",
+            FaultKind::NumberRange => "NumberRange",
+        }
+    }
 }
 
 impl fmt::Display for FaultKind {
     ghost output = { λ kind. Some (name_of kind) };
 
     fn fmt<W: fmt::Write>(&self, f: &mut fmt::Formatter<W>) -> fmt::Result {
-        match self {
-            FaultKind::NotText => write!(f, "NotText"),
-            FaultKind::NotAStatement => write!(f, "NotAStatement"),
-            FaultKind::BadForm => write!(f, "BadForm"),
-            FaultKind::Undeclared => write!(f, "Undeclared"),
-            FaultKind::DeclaredTwice => write!(f, "DeclaredTwice"),
-            FaultKind::BlockOpen => write!(f, "BlockOpen"),
-            FaultKind::BlockStray => write!(f, "BlockStray"),
-            FaultKind::Limit => write!(f, "Limit"),
-            FaultKind::NumberRange => write!(f, "NumberRange"),
-        }
+        f.write_str(self.name())
     }
 }
 

@@ -11,14 +11,14 @@ use rank_grammar::{Form, Name};
 use std::alloc::AllocError;
 
 /// An array and the number of its items.
-#[derive(Clone, Copy, Debug, PartialEq, Eq)]
+#[derive(Clone, Copy)]
 pub struct Array {
     pub name: Name,
     pub length: usize,
 }
 
 /// A block that is open: the first part of an `if`, the part after its `else`, or a `while`.
-#[derive(Clone, Copy, Debug, PartialEq, Eq)]
+#[derive(Clone, Copy, PartialEq, Eq)]
 pub(crate) enum Opened {
     If,
     Else,

@@ -5,14 +5,14 @@ use crate::token::Reduction;
 use crate::written::Written;
 
 /// The source or the tag of a receive or a probe.
-#[derive(Debug, Drop)]
+#[derive(Drop)]
 pub enum Pattern {
     Any,
     Value(Written),
 }
 
 /// What a send gives.
-#[derive(Debug, Drop)]
+#[derive(Drop)]
 pub enum Payload {
     /// A name by itself: all items of an array, or a variable.
     Lone(Name),
@@ -20,7 +20,7 @@ pub enum Payload {
 }
 
 /// The statement of a line, before the blocks and the declarations are known.
-#[derive(Debug, Drop)]
+#[derive(Drop)]
 pub enum Form {
     Var(Name),
     /// An array and the number of its items, one above 9223372036854775807 kept as

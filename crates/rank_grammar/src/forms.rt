@@ -116,10 +116,19 @@ fn read_item(alloc: Heap, name: Name, tokens: &[Token]) -> Result<Option<Form>, 
         return Ok(None);
     };
     let Some(rest) = after_bracket_assign(rest) else {
+        drop(index);
         return Ok(None);
     };
-    let Some(value) = whole_expression(alloc, rest)? else {
-        return Ok(None);
+    let value = match whole_expression(alloc, rest) {
+        Ok(Some(found)) => found,
+        Ok(None) => {
+            drop(index);
+            return Ok(None);
+        }
+        Err(error) => {
+            drop(index);
+            return Err(error);
+        }
     };
     Ok(Some(Form::LetItem(name, index, value)))
 }
@@ -186,16 +195,37 @@ fn read_send(alloc: Heap, tokens: &[Token]) -> Result<Option<Form>, AllocError>
         return Ok(None);
     };
     let Some(rest) = after_comma(rest) else {
+        drop(dest);
         return Ok(None);
     };
-    let Some((tag, rest)) = expression_at(alloc, rest)? else {
-        return Ok(None);
+    let (tag, rest) = match expression_at(alloc, rest) {
+        Ok(Some(found)) => found,
+        Ok(None) => {
+            drop(dest);
+            return Ok(None);
+        }
+        Err(error) => {
+            drop(dest);
+            return Err(error);
+        }
     };
     let Some(rest) = after_comma(rest) else {
+        drop(dest);
+        drop(tag);
         return Ok(None);
     };
-    let Some(payload) = read_payload(alloc, rest)? else {
-        return Ok(None);
+    let payload = match read_payload(alloc, rest) {
+        Ok(Some(found)) => found,
+        Ok(None) => {
+            drop(dest);
+            drop(tag);
+            return Ok(None);
+        }
+        Err(error) => {
+            drop(dest);
+            drop(tag);
+            return Err(error);
+        }
     };
     Ok(Some(Form::Send(dest, tag, payload)))
 }
@@ -208,15 +238,28 @@ fn read_recv(alloc: Heap, tokens: &[Token]) -> Result<Option<Form>, AllocError>
         return Ok(None);
     };
     let Some(rest) = after_comma(rest) else {
+        drop(source);
         return Ok(None);
     };
-    let Some((tag, rest)) = pattern_in_front(alloc, rest)? else {
-        return Ok(None);
+    let (tag, rest) = match pattern_in_front(alloc, rest) {
+        Ok(Some(found)) => found,
+        Ok(None) => {
+            drop(source);
+            return Ok(None);
+        }
+        Err(error) => {
+            drop(source);
+            return Err(error);
+        }
     };
     let Some(rest) = after_comma(rest) else {
+        drop(source);
+        drop(tag);
         return Ok(None);
     };
     let Some(buffer) = only_name(rest) else {
+        drop(source);
+        drop(tag);
         return Ok(None);
     };
     Ok(Some(Form::Recv(source, tag, buffer)))
@@ -230,10 +273,19 @@ fn read_probe(alloc: Heap, tokens: &[Token]) -> Result<Option<Form>, AllocError>
         return Ok(None);
     };
     let Some(rest) = after_comma(rest) else {
+        drop(source);
         return Ok(None);
     };
-    let Some(tag) = whole_pattern(alloc, rest)? else {
-        return Ok(None);
+    let tag = match whole_pattern(alloc, rest) {
+        Ok(Some(found)) => found,
+        Ok(None) => {
+            drop(source);
+            return Ok(None);
+        }
+        Err(error) => {
+            drop(source);
+            return Err(error);
+        }
     };
     Ok(Some(Form::Probe(source, tag)))
 }
@@ -246,15 +298,28 @@ fn read_try_probe(alloc: Heap, tokens: &[Token]) -> Result<Option<Form>, AllocEr
         return Ok(None);
     };
     let Some(rest) = after_comma(rest) else {
+        drop(source);
         return Ok(None);
     };
-    let Some((tag, rest)) = pattern_in_front(alloc, rest)? else {
-        return Ok(None);
+    let (tag, rest) = match pattern_in_front(alloc, rest) {
+        Ok(Some(found)) => found,
+        Ok(None) => {
+            drop(source);
+            return Ok(None);
+        }
+        Err(error) => {
+            drop(source);
+            return Err(error);
+        }
     };
     let Some(rest) = after_comma(rest) else {
+        drop(source);
+        drop(tag);
         return Ok(None);
     };
     let Some(flag) = only_name(rest) else {
+        drop(source);
+        drop(tag);
         return Ok(None);
     };
     Ok(Some(Form::TryProbe(source, tag, flag)))
@@ -287,9 +352,11 @@ fn read_bcast(alloc: Heap, tokens: &[Token]) -> Result<Option<Form>, AllocError>
         return Ok(None);
     };
     let Some(rest) = after_comma(rest) else {
+        drop(root);
         return Ok(None);
     };
     let Some(buffer) = only_name(rest) else {
+        drop(root);
         return Ok(None);
     };
     Ok(Some(Form::Bcast(root, buffer)))
@@ -308,15 +375,28 @@ fn read_reduced(
         return Ok(None);
     };
     let Some(rest) = after_comma(rest) else {
+        drop(root);
         return Ok(None);
     };
-    let Some((value, rest)) = expression_at(alloc, rest)? else {
-        return Ok(None);
+    let (value, rest) = match expression_at(alloc, rest) {
+        Ok(Some(found)) => found,
+        Ok(None) => {
+            drop(root);
+            return Ok(None);
+        }
+        Err(error) => {
+            drop(root);
+            return Err(error);
+        }
     };
     let Some(rest) = after_comma(rest) else {
+        drop(root);
+        drop(value);
         return Ok(None);
     };
     let Some(variable) = only_name(rest) else {
+        drop(root);
+        drop(value);
         return Ok(None);
     };
     Ok(Some(Form::Reduce(reduction, root, value, variable)))

@@ -84,18 +84,44 @@ fn negated(alloc: Heap, minuses: usize, operand: Written) -> Result<Written, All
     Ok(negation)
 }
 
-/// The operand has come.
-fn arrived(alloc: Heap, level: Level, operand: Written) -> Result<State, AllocError>
-    ensures { IfOk result (λ st. (s : _) → state_of st s ≡ arrive (level_of level) s (tree_of operand)) }
+/// The product that an operand ends, and what waits for it.
+fn product(alloc: Heap, level: Level, operand: Written) -> Result<(Left, Left, Written), AllocError>
+    ensures compared { IfOk result (λ p. left_of p.0 ≡ (level_of level).compared) }
+    ensures added { IfOk result (λ p. left_of p.1 ≡ (level_of level).added) }
+    ensures product { IfOk result (λ p. tree_of p.2
+        ≡ join (level_of level).multiplied (negate (level_of level).minuses (tree_of operand))) }
 {
+    let operand = match negated(alloc, level.minuses, operand) {
+        Ok(operand) => operand,
+        Err(error) => {
+            drop(level);
+            return Err(error);
+        }
+    };
     let Level {
         compared,
         added,
         multiplied,
-        minuses,
+        ..
     } = level;
-    let operand = negated(alloc, minuses, operand)?;
-    Ok(State::Has(compared, added, joined(alloc, multiplied, operand)?))
+    match joined(alloc, multiplied, operand) {
+        Ok(product) => Ok((compared, added, product)),
+        Err(error) => {
+            drop(compared);
+            drop(added);
+            Err(error)
+        }
+    }
+}
+
+/// The operand has come.
+fn arrived(alloc: Heap, level: Level, operand: Written) -> Result<State, AllocError>
+    ensures { IfOk result (λ st. (s : _) → state_of st s ≡ arrive (level_of level) s (tree_of operand)) }
+{
+    match product(alloc, level, operand) {
+        Ok((compared, added, product)) => Ok(State::Has(compared, added, product)),
+        Err(error) => Err(error),
+    }
 }
 
 /// The expression of all that stands in the brackets.
@@ -123,15 +149,29 @@ fn closed(
 {
     match bracket {
         Bracket::Parenthesis => match token {
-            Token::CloseParenthesis => Ok(Step::Next(arrived(alloc, level, operand)?)),
-            _ => Ok(Step::End(None)),
+            Token::CloseParenthesis => arrived(alloc, level, operand).map(Step::Next),
+            _ => {
+                drop(level);
+                drop(operand);
+                Ok(Step::End(None))
+            }
         },
         Bracket::IndexOf(name) => match token {
             Token::CloseBracket => {
-                let item = Written::Item(name, Box::new(alloc, operand)?);
-                Ok(Step::Next(arrived(alloc, level, item)?))
+                let index = match Box::new(alloc, operand) {
+                    Ok(index) => index,
+                    Err(error) => {
+                        drop(level);
+                        return Err(error.into());
+                    }
+                };
+                arrived(alloc, level, Written::Item(name, index)).map(Step::Next)
             }
-            _ => Ok(Step::End(None)),
+            _ => {
+                drop(level);
+                drop(operand);
+                Ok(Step::End(None))
+            }
         },
     }
 }
@@ -170,6 +210,9 @@ fn stopped(
         ≡ end_tree (has (left_of compared) (left_of added) (stack_of stack.now) (tree_of product))) }
 {
     if !stack.is_empty() {
+        drop(compared);
+        drop(added);
+        drop(product);
         return Ok(None);
     }
     let operand = in_brackets(alloc, compared, added, product)?;
@@ -208,7 +251,7 @@ fn operated(
         }
         Strength::Compares => {
             if let Some(left) = compared {
-                return Ok(Step::End(stopped(alloc, Some(left), added, product, stack)?));
+                return stopped(alloc, Some(left), added, product, stack).map(Step::End);
             }
             let sum = joined(alloc, added, product)?;
             Ok(Step::Next(State::Wants(Level {
@@ -252,8 +295,8 @@ fn wanted(
         Goes step stack.new.items (next old token) (end_tree old)) }
 {
     match token {
-        Token::Number(n) => Ok(Step::Next(arrived(alloc, level, Written::Number(n))?)),
-        Token::Reading(r) => Ok(Step::Next(arrived(alloc, level, Written::Reading(r))?)),
+        Token::Number(n) => arrived(alloc, level, Written::Number(n)).map(Step::Next),
+        Token::Reading(r) => arrived(alloc, level, Written::Reading(r)).map(Step::Next),
         Token::Name(name) => Ok(Step::Next(State::Named(level, name))),
         Token::OpenParenthesis => {
             stack.push((Bracket::Parenthesis, level))?;
@@ -261,6 +304,7 @@ fn wanted(
         }
         Token::Operator(operator) => {
             if operator != Operator::Subtract {
+                drop(level);
                 return Ok(Step::End(None));
             }
             level.minuses += 1;
@@ -273,7 +317,10 @@ fn wanted(
         | Token::CloseBracket
         | Token::Comma
         | Token::Assign
-        | Token::Any => Ok(Step::End(None)),
+        | Token::Any => {
+            drop(level);
+            Ok(Step::End(None))
+        }
     }
 }
 
@@ -287,17 +334,15 @@ fn ended(
     ensures { IfOk result (λ e. tree_in e ≡ end_tree (state_of state (stack_of stack.now))) }
 {
     match state {
-        State::Wants(_) => Ok(None),
+        State::Wants(level) => {
+            drop(level);
+            Ok(None)
+        }
         State::Named(level, name) => {
-            let Level {
-                compared,
-                added,
-                multiplied,
-                minuses,
-            } = level;
-            let operand = negated(alloc, minuses, Written::Variable(name))?;
-            let product = joined(alloc, multiplied, operand)?;
-            stopped(alloc, compared, added, product, stack)
+            match product(alloc, level, Written::Variable(name)) {
+                Ok((compared, added, product)) => stopped(alloc, compared, added, product, stack),
+                Err(error) => Err(error),
+            }
         }
         State::Has(compared, added, product) => stopped(alloc, compared, added, product, stack),
     }
@@ -322,15 +367,12 @@ fn take_token(
                 stack.push((Bracket::IndexOf(name), level))?;
                 return Ok(Step::Next(State::Wants(Level::new())));
             }
-            let Level {
-                compared,
-                added,
-                multiplied,
-                minuses,
-            } = level;
-            let operand = negated(alloc, minuses, Written::Variable(name))?;
-            let product = joined(alloc, multiplied, operand)?;
-            after_product(alloc, compared, added, product, stack, token)
+            match product(alloc, level, Written::Variable(name)) {
+                Ok((compared, added, product)) => {
+                    after_product(alloc, compared, added, product, stack, token)
+                }
+                Err(error) => Err(error),
+            }
         }
         State::Has(compared, added, product) => {
             after_product(alloc, compared, added, product, stack, token)

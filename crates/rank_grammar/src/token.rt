@@ -22,7 +22,7 @@ pub enum Operator {
 }
 
 /// How strongly an operator binds.
-#[derive(Clone, Copy, Debug, PartialEq, Eq)]
+#[derive(Clone, Copy)]
 pub enum Strength {
     Compares,
     Adds,
@@ -48,7 +48,7 @@ impl Operator {
 }
 
 /// A value of the rank that a program can only read.
-#[derive(Clone, Copy, Debug, PartialEq, Eq)]
+#[derive(Clone, Copy, Debug)]
 pub enum Reading {
     Rank,
     Size,
@@ -58,7 +58,7 @@ pub enum Reading {
 }
 
 /// The words that begin statements.
-#[derive(Clone, Copy, Debug, PartialEq, Eq)]
+#[derive(Clone, Copy, Debug)]
 pub enum Keyword {
     Var,
     Array,
@@ -78,7 +78,7 @@ pub enum Keyword {
 }
 
 /// How a reduction combines two values.
-#[derive(Clone, Copy, Debug, PartialEq, Eq)]
+#[derive(Clone, Copy, Debug)]
 pub enum Reduction {
     Sum,
     Max,
@@ -88,7 +88,7 @@ pub enum Reduction {
 /// A token of a line.
 ///
 /// A number above 9223372036854775807 is kept as 9223372036854775808.
-#[derive(Clone, Copy, Debug, PartialEq, Eq)]
+#[derive(Clone, Copy, Debug)]
 pub enum Token {
     Keyword(Keyword),
     Reduction(Reduction),

@@ -1,33 +1,40 @@
 //! The reserved words.
 
 ghost use Rattle.std.specs.Prelude.{◌≡◌};
+ghost use Rattle.std.specs.Str.{bytes_eq};
 ghost use Rattle.rank_grammar.specs.Tokens.{found_in, control_words, message_words, reading_words, argument_words, reserved};
 
 use crate::token::{Keyword, Reading, Reduction, Token};
+
+fn is_word(word: &[u8], reserved: &[u8]) -> bool
+    ensures { result ≡ bytes_eq word.now reserved.now }
+{
+    word == reserved
+}
 
 #[tactic(auto, unfolding(crate::specs::Tokens::control_words))]
 fn control_word(word: &[u8]) -> Option<Token>
     ensures { result ≡ found_in control_words word.now }
 {
-    if word == b"var".as_slice() {
+    if is_word(word, b"var") {
         return Some(Token::Keyword(Keyword::Var));
     }
-    if word == b"array".as_slice() {
+    if is_word(word, b"array") {
         return Some(Token::Keyword(Keyword::Array));
     }
-    if word == b"let".as_slice() {
+    if is_word(word, b"let") {
         return Some(Token::Keyword(Keyword::Let));
     }
-    if word == b"if".as_slice() {
+    if is_word(word, b"if") {
         return Some(Token::Keyword(Keyword::If));
     }
-    if word == b"else".as_slice() {
+    if is_word(word, b"else") {
         return Some(Token::Keyword(Keyword::Else));
     }
-    if word == b"end".as_slice() {
+    if is_word(word, b"end") {
         return Some(Token::Keyword(Keyword::End));
     }
-    if word == b"while".as_slice() {
+    if is_word(word, b"while") {
         return Some(Token::Keyword(Keyword::While));
     }
     None
@@ -37,28 +44,28 @@ fn control_word(word: &[u8]) -> Option<Token>
 fn message_word(word: &[u8]) -> Option<Token>
     ensures { result ≡ found_in message_words word.now }
 {
-    if word == b"send".as_slice() {
+    if is_word(word, b"send") {
         return Some(Token::Keyword(Keyword::Send));
     }
-    if word == b"recv".as_slice() {
+    if is_word(word, b"recv") {
         return Some(Token::Keyword(Keyword::Recv));
     }
-    if word == b"probe".as_slice() {
+    if is_word(word, b"probe") {
         return Some(Token::Keyword(Keyword::Probe));
     }
-    if word == b"iprobe".as_slice() {
+    if is_word(word, b"iprobe") {
         return Some(Token::Keyword(Keyword::Iprobe));
     }
-    if word == b"print".as_slice() {
+    if is_word(word, b"print") {
         return Some(Token::Keyword(Keyword::Print));
     }
-    if word == b"barrier".as_slice() {
+    if is_word(word, b"barrier") {
         return Some(Token::Keyword(Keyword::Barrier));
     }
-    if word == b"bcast".as_slice() {
+    if is_word(word, b"bcast") {
         return Some(Token::Keyword(Keyword::Bcast));
     }
-    if word == b"reduce".as_slice() {
+    if is_word(word, b"reduce") {
         return Some(Token::Keyword(Keyword::Reduce));
     }
     None
@@ -68,19 +75,19 @@ fn message_word(word: &[u8]) -> Option<Token>
 fn reading_word(word: &[u8]) -> Option<Token>
     ensures { result ≡ found_in reading_words word.now }
 {
-    if word == b"rank".as_slice() {
+    if is_word(word, b"rank") {
         return Some(Token::Reading(Reading::Rank));
     }
-    if word == b"size".as_slice() {
+    if is_word(word, b"size") {
         return Some(Token::Reading(Reading::Size));
     }
-    if word == b"source".as_slice() {
+    if is_word(word, b"source") {
         return Some(Token::Reading(Reading::Source));
     }
-    if word == b"gottag".as_slice() {
+    if is_word(word, b"gottag") {
         return Some(Token::Reading(Reading::Tag));
     }
-    if word == b"count".as_slice() {
+    if is_word(word, b"count") {
         return Some(Token::Reading(Reading::Count));
     }
     None
@@ -90,16 +97,16 @@ fn reading_word(word: &[u8]) -> Option<Token>
 fn argument_word(word: &[u8]) -> Option<Token>
     ensures { result ≡ found_in argument_words word.now }
 {
-    if word == b"any".as_slice() {
+    if is_word(word, b"any") {
         return Some(Token::Any);
     }
-    if word == b"sum".as_slice() {
+    if is_word(word, b"sum") {
         return Some(Token::Reduction(Reduction::Sum));
     }
-    if word == b"max".as_slice() {
+    if is_word(word, b"max") {
         return Some(Token::Reduction(Reduction::Max));
     }
-    if word == b"min".as_slice() {
+    if is_word(word, b"min") {
         return Some(Token::Reduction(Reduction::Min));
     }
     None

@@ -7,7 +7,7 @@ use metered::Heap;
 ///
 /// It nests as deeply as its line, so what walks it recursively needs some
 /// 100 bytes of stack for each byte of the line; dropping it does.
-#[derive(Debug, Drop)]
+#[derive(Drop)]
 pub enum Written {
     /// A number, one above 9223372036854775807 kept as 9223372036854775808.
     Number(u64),

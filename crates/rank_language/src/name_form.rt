@@ -5,7 +5,8 @@ ghost use Rattle.rank_grammar.specs.Tree.{tree_of};
 ghost use Rattle.rank_checker.specs.SeenLines.{forms_seen};
 ghost use Rattle.rank_language.specs.Named.{array_at, buffer_name, pattern_named, collective_named, form_named};
 ghost use Rattle.rank_language.specs.Named.{named, payload_named, value_named};
-ghost use Rattle.rank_language.specs.Placed.{declare_array, does, receive, send};
+ghost use Rattle.rank_language.specs.Placed.{assign, assign_item, declare_array, does, probe, receive, reduce};
+ghost use Rattle.rank_language.specs.Placed.{send, try_probe};
 ghost use Rattle.rank_language.specs.Program.{AllPlaced, IsPlaced, IsWithin};
 ghost use Rattle.rank_language.specs.Program.{IsBufferWithin, IsPatternWithin, IsCollectiveWithin, IsPayloadWithin};
 ghost use Rattle.rank_language.specs.Seen.{buffer_of, pattern_of, collective_of, line_of, payload_of, placed_of};
@@ -17,7 +18,7 @@ use crate::resolve::Tables;
 use crate::statement::{Buffer, Collective, Pattern, Payload, Statement};
 use metered::Heap;
 use rank_checker::Array;
-use rank_grammar::{Form, Name, Written, form};
+use rank_grammar::{Form, Name, Reduction, Written, form};
 use std::alloc::AllocError;
 
 /// The array at a place.
@@ -65,7 +66,7 @@ fn name_pattern(
 {
     match pattern {
         Pattern::Any => Ok(form::Pattern::Any),
-        Pattern::Value(expression) => Ok(form::Pattern::Value(name(alloc, tables, expression)?)),
+        Pattern::Value(expression) => name(alloc, tables, expression).map(form::Pattern::Value),
     }
 }
 
@@ -84,7 +85,7 @@ fn name_value(
         | Expression::Item(..)
         | Expression::Reading(_)
         | Expression::Negation(_)
-        | Expression::Operation(..) => Ok(form::Payload::One(name(alloc, tables, expression)?)),
+        | Expression::Operation(..) => name(alloc, tables, expression).map(form::Payload::One),
     }
 }
 
@@ -123,6 +124,47 @@ fn name_array(tables: Tables<'_>, place: usize) -> Form
     Form::Array(array.name, array.length as u64)
 }
 
+/// An assignment to a variable with names for its places.
+fn name_assignment(
+    alloc: Heap,
+    tables: Tables<'_>,
+    place: usize,
+    value: &Expression,
+) -> Result<Form, AllocError>
+    requires place { place < length (tables_seen tables).variables }
+    requires value { IsWithin (length (tables_seen tables).variables) (length (tables_seen tables).arrays) (placed_of value.now) }
+    ensures { IfOk result (λ f. form_seen f ≡ form_named (tables_seen tables.entry) (does (assign place (placed_of value.now)))) }
+{
+    match name(alloc, tables, value) {
+        Ok(value) => Ok(Form::Let(tables.variables[place], value)),
+        Err(error) => Err(error),
+    }
+}
+
+/// An assignment to an item of an array with names for its places.
+fn name_item_assignment(
+    alloc: Heap,
+    tables: Tables<'_>,
+    place: usize,
+    index: &Expression,
+    value: &Expression,
+) -> Result<Form, AllocError>
+    requires place { place < length (tables_seen tables).arrays }
+    requires index { IsWithin (length (tables_seen tables).variables) (length (tables_seen tables).arrays) (placed_of index.now) }
+    requires value { IsWithin (length (tables_seen tables).variables) (length (tables_seen tables).arrays) (placed_of value.now) }
+    ensures { IfOk result (λ f. form_seen f
+        ≡ form_named (tables_seen tables.entry) (does (assign_item place (placed_of index.now) (placed_of value.now)))) }
+{
+    let index = name(alloc, tables, index)?;
+    match name(alloc, tables, value) {
+        Ok(value) => Ok(Form::LetItem(array_at(tables, place).name, index, value)),
+        Err(error) => {
+            drop(index);
+            Err(error)
+        }
+    }
+}
+
 /// A send with names for its places.
 fn name_send(
     alloc: Heap,
@@ -137,11 +179,22 @@ fn name_send(
     ensures { IfOk result (λ f. form_seen f
         ≡ form_named (tables_seen tables.entry) (does (send (placed_of destination.now) (placed_of tag.now) (payload_of payload.now)))) }
 {
-    Ok(Form::Send(
-        name(alloc, tables, destination)?,
-        name(alloc, tables, tag)?,
-        name_payload(alloc, tables, payload)?,
-    ))
+    let destination = name(alloc, tables, destination)?;
+    let tag = match name(alloc, tables, tag) {
+        Ok(tag) => tag,
+        Err(error) => {
+            drop(destination);
+            return Err(error);
+        }
+    };
+    match name_payload(alloc, tables, payload) {
+        Ok(payload) => Ok(Form::Send(destination, tag, payload)),
+        Err(error) => {
+            drop(destination);
+            drop(tag);
+            Err(error)
+        }
+    }
 }
 
 /// A receive with names for its places.
@@ -158,11 +211,85 @@ fn name_receive(
     ensures { IfOk result (λ f. form_seen f
         ≡ form_named (tables_seen tables.entry) (does (receive (pattern_of source.now) (pattern_of tag.now) (buffer_of buffer.now)))) }
 {
-    Ok(Form::Recv(
-        name_pattern(alloc, tables, source)?,
-        name_pattern(alloc, tables, tag)?,
-        name_buffer(tables, buffer),
-    ))
+    let source = name_pattern(alloc, tables, source)?;
+    match name_pattern(alloc, tables, tag) {
+        Ok(tag) => Ok(Form::Recv(source, tag, name_buffer(tables, buffer))),
+        Err(error) => {
+            drop(source);
+            Err(error)
+        }
+    }
+}
+
+/// A probe that waits, with names for its places.
+fn name_probe(
+    alloc: Heap,
+    tables: Tables<'_>,
+    source: &Pattern,
+    tag: &Pattern,
+) -> Result<Form, AllocError>
+    requires source { IsPatternWithin (length (tables_seen tables).variables) (length (tables_seen tables).arrays) (pattern_of source.now) }
+    requires tag { IsPatternWithin (length (tables_seen tables).variables) (length (tables_seen tables).arrays) (pattern_of tag.now) }
+    ensures { IfOk result (λ f. form_seen f
+        ≡ form_named (tables_seen tables.entry) (does (probe (pattern_of source.now) (pattern_of tag.now)))) }
+{
+    let source = name_pattern(alloc, tables, source)?;
+    match name_pattern(alloc, tables, tag) {
+        Ok(tag) => Ok(Form::Probe(source, tag)),
+        Err(error) => {
+            drop(source);
+            Err(error)
+        }
+    }
+}
+
+/// A probe that doesn't wait, with names for its places.
+fn name_try_probe(
+    alloc: Heap,
+    tables: Tables<'_>,
+    source: &Pattern,
+    tag: &Pattern,
+    flag: usize,
+) -> Result<Form, AllocError>
+    requires source { IsPatternWithin (length (tables_seen tables).variables) (length (tables_seen tables).arrays) (pattern_of source.now) }
+    requires tag { IsPatternWithin (length (tables_seen tables).variables) (length (tables_seen tables).arrays) (pattern_of tag.now) }
+    requires flag { flag < length (tables_seen tables).variables }
+    ensures { IfOk result (λ f. form_seen f
+        ≡ form_named (tables_seen tables.entry) (does (try_probe (pattern_of source.now) (pattern_of tag.now) flag))) }
+{
+    let source = name_pattern(alloc, tables, source)?;
+    match name_pattern(alloc, tables, tag) {
+        Ok(tag) => Ok(Form::TryProbe(source, tag, tables.variables[flag])),
+        Err(error) => {
+            drop(source);
+            Err(error)
+        }
+    }
+}
+
+/// A reduction with names for its places.
+fn name_reduction(
+    alloc: Heap,
+    tables: Tables<'_>,
+    reduction: Reduction,
+    root: &Expression,
+    value: &Expression,
+    place: usize,
+) -> Result<Form, AllocError>
+    requires root { IsWithin (length (tables_seen tables).variables) (length (tables_seen tables).arrays) (placed_of root.now) }
+    requires value { IsWithin (length (tables_seen tables).variables) (length (tables_seen tables).arrays) (placed_of value.now) }
+    requires place { place < length (tables_seen tables).variables }
+    ensures { IfOk result (λ f. form_seen f
+        ≡ collective_named (tables_seen tables.entry) (reduce reduction (placed_of root.now) (placed_of value.now) place)) }
+{
+    let root = name(alloc, tables, root)?;
+    match name(alloc, tables, value) {
+        Ok(value) => Ok(Form::Reduce(reduction, root, value, tables.variables[place])),
+        Err(error) => {
+            drop(root);
+            Err(error)
+        }
+    }
 }
 
 /// The collective with names for its places.
@@ -176,21 +303,16 @@ fn name_collective(
 {
     match collective {
         Collective::Barrier => Ok(Form::Barrier),
-        Collective::Broadcast { root, buffer } => Ok(Form::Bcast(
-            name(alloc, tables, root)?,
-            name_buffer(tables, buffer),
-        )),
+        Collective::Broadcast { root, buffer } => match name(alloc, tables, root) {
+            Ok(root) => Ok(Form::Bcast(root, name_buffer(tables, buffer))),
+            Err(error) => Err(error),
+        },
         Collective::Reduce {
             reduction,
             root,
             value,
             place,
-        } => Ok(Form::Reduce(
-            *reduction,
-            name(alloc, tables, root)?,
-            name(alloc, tables, value)?,
-            tables.variables[*place],
-        )),
+        } => name_reduction(alloc, tables, *reduction, root, value, *place),
     }
 }
 
@@ -206,19 +328,14 @@ pub(crate) fn name_form(
     match statement {
         Statement::Declare(place) => Ok(Form::Var(tables.variables[*place])),
         Statement::DeclareArray(place) => Ok(name_array(tables, *place)),
-        Statement::Assign(place, value) => Ok(Form::Let(
-            tables.variables[*place],
-            name(alloc, tables, value)?,
-        )),
-        Statement::AssignItem(place, index, value) => Ok(Form::LetItem(
-            array_at(tables, *place).name,
-            name(alloc, tables, index)?,
-            name(alloc, tables, value)?,
-        )),
-        Statement::If(test, _) => Ok(Form::If(name(alloc, tables, test)?)),
+        Statement::Assign(place, value) => name_assignment(alloc, tables, *place, value),
+        Statement::AssignItem(place, index, value) => {
+            name_item_assignment(alloc, tables, *place, index, value)
+        }
+        Statement::If(test, _) => name(alloc, tables, test).map(Form::If),
         Statement::Else(_) => Ok(Form::Else),
         Statement::EndIf | Statement::EndWhile(_) => Ok(Form::End),
-        Statement::While(test, _) => Ok(Form::While(name(alloc, tables, test)?)),
+        Statement::While(test, _) => name(alloc, tables, test).map(Form::While),
         Statement::Send {
             destination,
             tag,
@@ -229,16 +346,11 @@ pub(crate) fn name_form(
             tag,
             buffer,
         } => name_receive(alloc, tables, source, tag, buffer),
-        Statement::Probe { source, tag } => Ok(Form::Probe(
-            name_pattern(alloc, tables, source)?,
-            name_pattern(alloc, tables, tag)?,
-        )),
-        Statement::TryProbe { source, tag, flag } => Ok(Form::TryProbe(
-            name_pattern(alloc, tables, source)?,
-            name_pattern(alloc, tables, tag)?,
-            tables.variables[*flag],
-        )),
-        Statement::Print(value) => Ok(Form::Print(name(alloc, tables, value)?)),
+        Statement::Probe { source, tag } => name_probe(alloc, tables, source, tag),
+        Statement::TryProbe { source, tag, flag } => {
+            name_try_probe(alloc, tables, source, tag, *flag)
+        }
+        Statement::Print(value) => name(alloc, tables, value).map(Form::Print),
         Statement::Collect(collective) => name_collective(alloc, tables, collective),
     }
 }

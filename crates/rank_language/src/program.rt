@@ -27,7 +27,7 @@ use std::alloc::AllocError;
 use std::marker::Model;
 
 /// A rank program: its statements in order, and the variables and arrays that it declares.
-#[derive(Debug, Drop)]
+#[derive(Drop)]
 pub struct Program {
     statements: Vec<Statement, Heap>,
     variables: Vec<Name, Heap>,

@@ -1,7 +1,8 @@
 //! Places for the names of a statement.
 ghost use Rattle.std.specs.Prelude.{◌≡◌, ℕ, Some, IfOk, true, false, option_map};
 ghost use Rattle.rank_grammar.specs.SeenForms.{pattern_of as pattern_seen, form_seen, payload_seen};
-ghost use Rattle.rank_grammar.specs.Forms.{bcast_form, lone, probe_form, recv_form, reduce_form, try_probe_form};
+ghost use Rattle.rank_grammar.specs.Forms.{bcast_form, item_form, let_form, lone, probe_form, recv_form, reduce_form};
+ghost use Rattle.rank_grammar.specs.Forms.{send_form, try_probe_form};
 ghost use Rattle.rank_grammar.specs.Tree.{tree_of};
 ghost use Rattle.rank_checker.specs.Scope.{is_declared, pattern_declared, pattern_is_great, payload_declared, payload_is_great};
 ghost use Rattle.rank_language.specs.Resolvable.{IsResolvable};
@@ -30,7 +31,7 @@ pub(crate) fn resolve_pattern(
 {
     match pattern {
         form::Pattern::Any => Ok(Pattern::Any),
-        form::Pattern::Value(written) => Ok(Pattern::Value(resolve(alloc, tables, written)?)),
+        form::Pattern::Value(written) => resolve(alloc, tables, written).map(Pattern::Value),
     }
 }
 
@@ -68,7 +69,82 @@ pub(crate) fn resolve_payload(
 {
     match payload {
         form::Payload::Lone(name) => Ok(resolve_lone(tables, *name)),
-        form::Payload::One(written) => Ok(Payload::One(resolve(alloc, tables, written)?)),
+        form::Payload::One(written) => resolve(alloc, tables, written).map(Payload::One),
+    }
+}
+
+/// The assignment to a variable, with places for its names.
+fn resolve_assignment(
+    alloc: Heap,
+    tables: Tables<'_>,
+    name: Name,
+    value: &Written,
+) -> Result<Statement, AllocError>
+    requires resolvable { IsResolvable (tables_seen tables) (let_form name (tree_of value.now)) }
+    ensures { (target : ℕ) → IfOk result (λ statement.
+        option_map (line_to target) (form_resolved (tables_seen tables.entry) (let_form name (tree_of value.now)))
+        ≡ Some (line_of statement)) }
+{
+    let value = resolve(alloc, tables, value)?;
+    Ok(Statement::Assign(tables.variable(name), value))
+}
+
+/// The assignment to an item of an array, with places for its names.
+fn resolve_item_assignment(
+    alloc: Heap,
+    tables: Tables<'_>,
+    name: Name,
+    index: &Written,
+    value: &Written,
+) -> Result<Statement, AllocError>
+    requires resolvable { IsResolvable (tables_seen tables) (item_form name (tree_of index.now) (tree_of value.now)) }
+    ensures { (target : ℕ) → IfOk result (λ statement.
+        option_map (line_to target) (form_resolved (tables_seen tables.entry) (item_form name (tree_of index.now) (tree_of value.now)))
+        ≡ Some (line_of statement)) }
+{
+    let index = resolve(alloc, tables, index)?;
+    match resolve(alloc, tables, value) {
+        Ok(value) => Ok(Statement::AssignItem(tables.array(name), index, value)),
+        Err(error) => {
+            drop(index);
+            Err(error)
+        }
+    }
+}
+
+/// The send with places for its names.
+fn resolve_send(
+    alloc: Heap,
+    tables: Tables<'_>,
+    destination: &Written,
+    tag: &Written,
+    payload: &form::Payload,
+) -> Result<Statement, AllocError>
+    requires resolvable { IsResolvable (tables_seen tables) (send_form (tree_of destination.now) (tree_of tag.now) (payload_seen payload.now)) }
+    ensures { (target : ℕ) → IfOk result (λ statement.
+        option_map (line_to target) (form_resolved (tables_seen tables.entry)
+        (send_form (tree_of destination.now) (tree_of tag.now) (payload_seen payload.now)))
+        ≡ Some (line_of statement)) }
+{
+    let destination = resolve(alloc, tables, destination)?;
+    let tag = match resolve(alloc, tables, tag) {
+        Ok(tag) => tag,
+        Err(error) => {
+            drop(destination);
+            return Err(error);
+        }
+    };
+    match resolve_payload(alloc, tables, payload) {
+        Ok(payload) => Ok(Statement::Send {
+            destination,
+            tag,
+            payload,
+        }),
+        Err(error) => {
+            drop(destination);
+            drop(tag);
+            Err(error)
+        }
     }
 }
 
@@ -85,11 +161,18 @@ fn resolve_receive(
         option_map (line_to target) (form_resolved (tables_seen tables.entry) (recv_form (pattern_seen source.now) (pattern_seen tag.now) buffer))
         ≡ Some (line_of statement)) }
 {
-    Ok(Statement::Receive {
-        source: resolve_pattern(alloc, tables, source)?,
-        tag: resolve_pattern(alloc, tables, tag)?,
-        buffer: resolve_buffer(tables, buffer),
-    })
+    let source = resolve_pattern(alloc, tables, source)?;
+    match resolve_pattern(alloc, tables, tag) {
+        Ok(tag) => Ok(Statement::Receive {
+            source,
+            tag,
+            buffer: resolve_buffer(tables, buffer),
+        }),
+        Err(error) => {
+            drop(source);
+            Err(error)
+        }
+    }
 }
 
 /// The probe that waits, with places for its names.
@@ -104,10 +187,14 @@ fn resolve_probe(
         option_map (line_to target) (form_resolved (tables_seen tables.entry) (probe_form (pattern_seen source.now) (pattern_seen tag.now)))
         ≡ Some (line_of statement)) }
 {
-    Ok(Statement::Probe {
-        source: resolve_pattern(alloc, tables, source)?,
-        tag: resolve_pattern(alloc, tables, tag)?,
-    })
+    let source = resolve_pattern(alloc, tables, source)?;
+    match resolve_pattern(alloc, tables, tag) {
+        Ok(tag) => Ok(Statement::Probe { source, tag }),
+        Err(error) => {
+            drop(source);
+            Err(error)
+        }
+    }
 }
 
 /// The probe that doesn't wait, with places for its names.
@@ -123,11 +210,18 @@ fn resolve_try_probe(
         option_map (line_to target) (form_resolved (tables_seen tables.entry) (try_probe_form (pattern_seen source.now) (pattern_seen tag.now) flag))
         ≡ Some (line_of statement)) }
 {
-    Ok(Statement::TryProbe {
-        source: resolve_pattern(alloc, tables, source)?,
-        tag: resolve_pattern(alloc, tables, tag)?,
-        flag: tables.variable(flag),
-    })
+    let source = resolve_pattern(alloc, tables, source)?;
+    match resolve_pattern(alloc, tables, tag) {
+        Ok(tag) => Ok(Statement::TryProbe {
+            source,
+            tag,
+            flag: tables.variable(flag),
+        }),
+        Err(error) => {
+            drop(source);
+            Err(error)
+        }
+    }
 }
 
 /// The broadcast with places for its names.
@@ -160,12 +254,19 @@ fn resolve_reduction(
     ensures { IfOk result (λ c. form_resolved (tables_seen tables.entry) (reduce_form reduction (tree_of root.now) (tree_of value.now) name)
         ≡ Some (does (collect (collective_of c)))) }
 {
-    Ok(Collective::Reduce {
-        reduction,
-        root: resolve(alloc, tables, root)?,
-        value: resolve(alloc, tables, value)?,
-        place: tables.variable(name),
-    })
+    let root = resolve(alloc, tables, root)?;
+    match resolve(alloc, tables, value) {
+        Ok(value) => Ok(Collective::Reduce {
+            reduction,
+            root,
+            value,
+            place: tables.variable(name),
+        }),
+        Err(error) => {
+            drop(root);
+            Err(error)
+        }
+    }
 }
 
 /// The statement with places for its names, which leads to a target.
@@ -182,35 +283,34 @@ pub(crate) fn resolve_form(
     match form {
         Form::Var(name) => Ok(Statement::Declare(tables.variable(*name))),
         Form::Array(name, _) => Ok(Statement::DeclareArray(tables.array(*name))),
-        Form::Let(name, value) => {
-            let value = resolve(alloc, tables, value)?;
-            Ok(Statement::Assign(tables.variable(*name), value))
-        }
+        Form::Let(name, value) => resolve_assignment(alloc, tables, *name, value),
         Form::LetItem(name, index, value) => {
-            let index = resolve(alloc, tables, index)?;
-            let value = resolve(alloc, tables, value)?;
-            Ok(Statement::AssignItem(tables.array(*name), index, value))
+            resolve_item_assignment(alloc, tables, *name, index, value)
         }
-        Form::If(test) => Ok(Statement::If(resolve(alloc, tables, test)?, target)),
+        Form::If(test) => match resolve(alloc, tables, test) {
+            Ok(test) => Ok(Statement::If(test, target)),
+            Err(error) => Err(error),
+        },
         Form::Else => Ok(Statement::Else(target)),
         // an `end` of a `while` is led back when that `while` is met
         Form::End => Ok(Statement::EndIf),
-        Form::While(test) => Ok(Statement::While(resolve(alloc, tables, test)?, target)),
-        Form::Send(destination, tag, payload) => Ok(Statement::Send {
-            destination: resolve(alloc, tables, destination)?,
-            tag: resolve(alloc, tables, tag)?,
-            payload: resolve_payload(alloc, tables, payload)?,
-        }),
+        Form::While(test) => match resolve(alloc, tables, test) {
+            Ok(test) => Ok(Statement::While(test, target)),
+            Err(error) => Err(error),
+        },
+        Form::Send(destination, tag, payload) => {
+            resolve_send(alloc, tables, destination, tag, payload)
+        }
         Form::Recv(source, tag, buffer) => resolve_receive(alloc, tables, source, tag, *buffer),
         Form::Probe(source, tag) => resolve_probe(alloc, tables, source, tag),
         Form::TryProbe(source, tag, flag) => resolve_try_probe(alloc, tables, source, tag, *flag),
-        Form::Print(value) => Ok(Statement::Print(resolve(alloc, tables, value)?)),
+        Form::Print(value) => resolve(alloc, tables, value).map(Statement::Print),
         Form::Barrier => Ok(Statement::Collect(Collective::Barrier)),
-        Form::Bcast(root, buffer) => Ok(Statement::Collect(resolve_broadcast(
-            alloc, tables, root, *buffer,
-        )?)),
-        Form::Reduce(reduction, root, value, name) => Ok(Statement::Collect(resolve_reduction(
-            alloc, tables, *reduction, root, value, *name,
-        )?)),
+        Form::Bcast(root, buffer) => {
+            resolve_broadcast(alloc, tables, root, *buffer).map(Statement::Collect)
+        }
+        Form::Reduce(reduction, root, value, name) => {
+            resolve_reduction(alloc, tables, *reduction, root, value, *name).map(Statement::Collect)
+        }
     }
 }

@@ -7,6 +7,8 @@ use Rattle.matching.specs.Inbox.{after_arrival}
 use Rattle.rank_node.specs.Frames.{after_frame, after_passed, outgoing_of, sent_off, with_inbox}
 use Rattle.rank_node.specs.Node.{Node}
 use Rattle.rank_node.specs.declared.frame.Frame.{Frame}
+use Rattle.rank_threads.specs.Phases.{HasImage, SameShelf, TookImage}
+use Rattle.rank_threads.specs.declared.phase.Phase.{Phase}
 use Rattle.rank_node.specs.declared.frame.Frame.TheVariants as frame
 
 -- a frame that came leaves it
@@ -18,6 +20,10 @@ frame_waits v from (frame.Data packet) = go (packet.source == from)
     go false = refl
 frame_waits v from (frame.Ask number) = refl
 frame_waits v from (frame.Kept number) = refl
+
+-- an image that was taken stays taken as long as the shelf is as it was
+pub took_image : (stood p : Phase) → HasImage stood → SameShelf stood p → TookImage p
+took_image stood p image same = (stood, image, same)
 
 -- what has gone leaves it
 sent_waits : (v : Node MemoryShelf DeskValue) (dest : ℕ) (f : Option Frame) → (sent_off v dest f).pending ≡ v.pending

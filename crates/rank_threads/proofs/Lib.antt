@@ -1,4 +1,5 @@
 mod Crews
+mod DroppingLemmas
 mod GateLemmas
 mod LaneLists
 mod PhaseLaws

@@ -21,6 +21,7 @@ is_report program ranks played report left rows lines calls outcome = record {
   outcome = outcome;
   desks = left.desks;
   a_desk_each = left.a_desk_each;
+  in_order = left.in_order;
   one_history = rw (rows) left.one_history;
   calls = calls ∙ ap (map (λ c. c.calls)) left.counts ∙ sym (calls_of left.desks);
   console = rw (lines) left.console;

@@ -5,6 +5,7 @@ use Rattle.ports.specs.Lanes.{Lane, TxValue, RxValue, lane_to, lane_from}
 use Rattle.lanes.specs.Ends.{to_names, from_names}
 use Rattle.event_logger.specs.Desks.{DeskValue, LoggerValue, AreDesks}
 use Rattle.rank_threads.specs.Stations.{SameStations}
+use Rattle.rank_threads.specs.Report.{AreOfRanks}
 use Rattle.rank_threads.specs.Seating.{AreDesksFrom, stations_to, stations_from, AreSeated}
 use Rattle.rank_threads.specs.declared.parcel.Parcel.{Parcel}
 
@@ -118,6 +119,10 @@ desks_at logger first (e ∷ ds) all (suc k) d low =
 pub desks_listed : (logger : LoggerValue) (ds : List DeskValue) → AreDesksFrom logger 0 ds → AreDesks logger.table ds
 desks_listed logger ds all k d low = let at = desks_at logger 0 ds all k d low in (at.0, at.1 ∙ omega arith)
 
+-- and each is its rank's
+pub desks_in_order : (logger : LoggerValue) (ranks : ℕ) (ds : List DeskValue) → AreDesksFrom logger 0 ds → length ds ≡ ranks → AreOfRanks ranks ds
+desks_in_order logger ranks ds all many k d low = let at = desks_at logger 0 ds all k d (omega (arith, many, low)) in at.1 ∙ omega arith
+
 -- and the other way round
 desks_from : (logger : LoggerValue) (first : ℕ) (ds : List DeskValue)
     → ((k : ℕ) (d : DeskValue) → k < length ds → ((slice_index_or ds k d).table ≡ logger.table) × ((slice_index_or ds k d).rank ≡ first + k))
@@ -143,7 +148,7 @@ desks_less logger first (e ∷ ds) d all =
     ((all.0, all.1, rest.0), rest.1, rest.2 ∙ omega arith)
 
 -- what carries a run from its lanes and desks to its stations, through their lives, and back
-pub ruleset played_laws = (same_to, same_from, same_seated, same_length, desks_listed, desks_ordered)
+pub ruleset played_laws = (same_to, same_from, same_seated, same_length, desks_listed, desks_in_order, desks_ordered)
 
 -- what one station more that is put together leaves
 pub ruleset seated_laws = (to_seated, from_seated, seated_more)

@@ -10,5 +10,6 @@ pub mod Plans
 pub mod Ends
 pub mod Faults
 pub mod Taking
+pub mod Dropping
 pub mod Orders
 pub mod Steps

@@ -57,6 +57,10 @@ pub record SameStable (a b : Stored MemoryShelf DeskValue) : Type 0 where
 abbrev pub SamePhase : Phase → Phase → Type 0
 SamePhase a b = SameStable (stable_of a) (stable_of b)
 
+-- the shelf of the rank is as it was
+abbrev pub SameShelf : Phase → Phase → Type 0
+SameShelf a b = (stable_of b).shelf ≡ (stable_of a).shelf
+
 -- the last image on a shelf in memory
 abbrev pub last_image : MemoryShelf → Option (List ℕ)
 last_image shelf = image_bytes shelf.image
@@ -72,6 +76,10 @@ abbrev pub HasImage : Phase → Type 0
 HasImage (phase.Running v) = last_image v.stable.shelf ≡ Some (spelling (image_of v))
 HasImage (phase.Replaying r) = ⊥
 HasImage (phase.Down s) = ⊥
+
+-- the shelf holds the image of the rank as it stood when it was taken, though frames may have come and gone since
+abbrev pub TookImage : Phase → Type 0
+TookImage p = (stood : Phase) × HasImage stood × SameShelf stood p
 
 -- These events were read of that rank's row, above that clock, and the rank is at its desk as it was; one that is down reads none.
 abbrev pub ReadsRow : Phase → ℕ → ℕ → List EventValue → Phase → Type 0

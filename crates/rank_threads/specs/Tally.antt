@@ -14,7 +14,9 @@ new_tally = record {
   idle = 0;
   is_marked = false;
   may_owe = true;
+  is_blocked = false;
   is_spent = false;
+  is_refused = false;
   seen = replicate most_ranks 0;
   fault = None;
 }
@@ -29,7 +31,7 @@ more count by = min (count + by) (2 ^ 32 - 1)
 
 -- after a frame that came: it is counted, it may be answered, and there is no mark any more
 abbrev pub woken : Tally → Tally
-woken t = record t { is_marked = false; taken = one_more t.taken; may_owe = true }
+woken t = record t { is_marked = false; taken = one_more t.taken; may_owe = true; is_blocked = false }
 
 -- after frames that came, one after another
 abbrev pub all_taken : Tally → List Frame → Tally
@@ -38,7 +40,7 @@ all_taken t (frame ∷ frames) = all_taken (woken t) frames
 
 -- at the beginning of another life: it asks every rank
 abbrev pub begun_again : Tally → Tally
-begun_again t = record t { may_owe = true; idle = 0 }
+begun_again t = record t { may_owe = true; is_blocked = false; idle = 0 }
 
 -- after so many steps, of which the limits allow `most`; only an act can leave something to put
 abbrev pub after_steps : Tally → ℕ → ℕ → Bool → Tally

@@ -13,8 +13,8 @@ use std::thread;
 use std::thread::Threads;
 
 /// Runs a keeper for each station, each on a thread of its own, and gives the
-/// stations back in their order. Where a thread can't be made, all are to leave, and all
-/// come back.
+/// stations back in their order. Where a thread can't be made, all are told to leave
+/// before its keeper is called, and all come back.
 #[cycle(crew)]
 pub fn keep_all<'p, R: Threads + Wait + Sync + Copy + Send, H: Hold + Sync>(
     rt: R,
@@ -76,7 +76,10 @@ fn beside<'p, R: Threads + Wait + Sync + Copy + Send, H: Hold + Sync>(
                     (child.join(&rt), rest)
                 }
                 Err(back) => {
-                    let parcel = unplayed(shared, (back.value)());
+                    // What comes back is the whole keeper: were it not to leave at once, it would wait
+                    // for the keepers that aren't started yet.
+                    let stopped = shared.stop_all();
+                    let parcel = unplayed((back.value)(), stopped);
                     let rest = keep_all(rt, shared, rest);
                     (parcel, rest)
                 }

@@ -1,5 +1,6 @@
 //! The frames that a crash loses.
 ghost use Rattle.std.specs.Prelude.{◌≡◌};
+ghost use Rattle.rank_threads.specs.Dropping.{DroppedBelow, DroppedFrom};
 ghost use Rattle.rank_threads.specs.Stations.{SameStation, SameRest};
 
 use crate::lanes_of::take_from;
@@ -8,10 +9,12 @@ use metered::limits::MOST_FRAMES;
 
 /// At a crash the frames in the lanes into the rank are dropped, at most as
 /// many as they hold. They count as taken.
+#[tactic(auto, using(crate::proofs::DroppingLemmas::dropped_next))]
 pub fn drop_frames(station: &mut Station<'_>)
+    ensures dropped { DroppedBelow station.old.size station.old station.new }
     ensures down { station.new.down ≡ station.old.down }
     ensures rest { SameRest station.old station.new }
-    ensures counted { station.new.tally ≡ record station.old.tally { taken = station.new.tally.taken; may_owe = station.new.tally.may_owe } }
+    ensures counted { station.new.tally ≡ record station.old.tally { taken = station.new.tally.taken; may_owe = station.new.tally.may_owe; is_blocked = station.new.tally.is_blocked } }
     ensures same { SameStation station.old station.new }
 {
     for source in 0..station.size {
@@ -19,16 +22,33 @@ pub fn drop_frames(station: &mut Station<'_>)
     }
 }
 
+#[tactic(auto, using(crate::proofs::DroppingLemmas::dropped_nothing, crate::proofs::DroppingLemmas::dropped_more))]
 fn drop_from(station: &mut Station<'_>, source: u8)
+    ensures dropped { DroppedFrom source station.old station.new }
     ensures down { station.new.down ≡ station.old.down }
     ensures rest { SameRest station.old station.new }
-    ensures counted { station.new.tally ≡ record station.old.tally { taken = station.new.tally.taken; may_owe = station.new.tally.may_owe } }
+    ensures counted { station.new.tally ≡ record station.old.tally { taken = station.new.tally.taken; may_owe = station.new.tally.may_owe; is_blocked = station.new.tally.is_blocked } }
     ensures same { SameStation station.old station.new }
 {
     for _ in 0..MOST_FRAMES {
-        if take_from(&mut station.from, source).is_none() {
+        if !drop_one(station, source) {
             break;
         }
-        station.tally.count_taken();
     }
+}
+
+// The next frame from this rank is dropped, where there is one.
+#[tactic(auto, using(crate::proofs::DroppingLemmas::dropped_none, crate::proofs::DroppingLemmas::dropped_one))]
+fn drop_one(station: &mut Station<'_>, source: u8) -> bool
+    ensures dropped { DroppedFrom source station.old station.new }
+    ensures down { station.new.down ≡ station.old.down }
+    ensures rest { SameRest station.old station.new }
+    ensures counted { station.new.tally ≡ record station.old.tally { taken = station.new.tally.taken; may_owe = station.new.tally.may_owe; is_blocked = station.new.tally.is_blocked } }
+    ensures same { SameStation station.old station.new }
+{
+    let Some(_) = take_from(&mut station.from, source) else {
+        return false;
+    };
+    station.tally.count_taken();
+    true
 }

@@ -1,5 +1,6 @@
 //! A keeper starts and joins the threads of a rank's lives.
-ghost use Rattle.std.specs.Prelude.{◌≡◌, None};
+ghost use Rattle.std.specs.Prelude.{◌≡◌, ◌≢◌, Some, None};
+ghost use Rattle.rank_node.specs.declared.fault.NodeFault.TheVariants.{Memory};
 ghost use Rattle.rank_threads.specs.Stations.{SameStation, HasRow};
 ghost use Rattle.rank_threads.specs.Tally.{begun_again};
 
@@ -7,7 +8,7 @@ use crate::dropping::drop_frames;
 use crate::hold::Hold;
 use crate::life::{life, refused};
 use crate::parcel::{Parcel, SameAs};
-use crate::shared::Shared;
+use crate::shared::{Shared, Stopped};
 use crate::station::Station;
 use std::snapshot::Snapshot;
 use std::sync::Wait;
@@ -57,6 +58,7 @@ fn fetched<'l, H>(shared: &Shared<'_, H>, station: Station<'l>) -> Station<'l>
     ensures plan { result.plan ≡ station.entry.plan }
     ensures end { result.end ≡ station.entry.end }
     ensures tally { result.tally ≡ record (begun_again station.entry.tally) { taken = result.tally.taken; fault = result.tally.fault } }
+    ensures fault { result.tally.fault ≢ Some Memory → result.tally.fault ≡ station.entry.tally.fault }
     ensures same { SameStation station.entry result }
 {
     let mut station = station;
@@ -64,7 +66,7 @@ fn fetched<'l, H>(shared: &Shared<'_, H>, station: Station<'l>) -> Station<'l>
     station.tally.begin_again();
     match station.fetch(shared.alloc) {
         Ok(()) => station,
-        Err(_) => refused(shared, station),
+        Err(_) => refused(station, shared.stop_all()),
     }
 }
 
@@ -79,20 +81,19 @@ fn play<'l, W: Wait + Drop + Copy, H: Hold>(
     Parcel { rt, station }
 }
 
-/// What comes back where no thread could be made.
-pub fn unplayed<'l, W: Wait + Drop + Copy, H>(
-    shared: &Shared<'_, H>,
-    parcel: Parcel<'l, W>,
-) -> Parcel<'l, W>
-    ensures { SameStation parcel.entry.station result.station }
+/// What comes back where no thread could be made: the rank has met want of
+/// memory, and all were told to leave.
+pub fn unplayed<'l, W: Wait + Drop + Copy>(parcel: Parcel<'l, W>, stopped: Stopped) -> Parcel<'l, W>
+    ensures fault { result.station.tally ≡ record parcel.entry.station.tally { fault = Some Memory } }
+    ensures same { SameStation parcel.entry.station result.station }
 {
     let rt = parcel.rt;
-    let station = refused(shared, parcel.open());
+    let station = refused(parcel.open(), stopped);
     Parcel { rt, station }
 }
 
-/// Plays one life in a thread. Where no thread can be made, all are to leave,
-/// and the station comes back at once.
+/// Plays one life in a thread. Where no thread can be made, all are told to
+/// leave, and only then the life is begun here: it makes no turn.
 fn one_life<'l, R: Threads + Wait + Sync + Copy + Send, H: Hold + Sync>(
     rt: R,
     shared: &Shared<'_, H>,
@@ -113,7 +114,11 @@ fn one_life<'l, R: Threads + Wait + Sync + Copy + Send, H: Hold + Sync>(
             { play(shared, parcel) };
             match scope.spawn_with(promise, whole) {
                 Ok(child) => child.join(&rt),
-                Err(back) => unplayed(shared, (back.value)()),
+                Err(back) => {
+                    // What comes back is the whole life: it has to see that it is to leave.
+                    let stopped = shared.stop_all();
+                    unplayed((back.value)(), stopped)
+                }
             }
         },
     )

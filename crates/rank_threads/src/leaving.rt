@@ -1,13 +1,13 @@
 //! What a rank does in idle turns: it marks itself, and looks whether all may
 //! leave.
-ghost use Rattle.std.specs.Prelude.{◌≡◌, ◌<◌};
+ghost use Rattle.std.specs.Prelude.{◌≡◌, ◌≢◌, ℕ, ◌<◌, slice_index_or};
 ghost use Rattle.rank_threads.specs.Seats.{SameSeat, SamePlan, SameGate};
 
 use crate::marks::{first_look, second_look};
 use crate::seat::Seat;
 use crate::shared::Shared;
 use crate::stepping::Stepped;
-use crate::taking::take_in;
+use crate::taking::none_came;
 use metered::Heap;
 use std::alloc::AllocError;
 
@@ -41,8 +41,8 @@ pub fn rest<H>(
         }
         Stepped::Ended => {}
     }
-    shared.set_mark(seat.rank, seat.tally.put, seat.tally.taken);
-    seat.tally.set_marked(true);
+    let marked = shared.set_mark(seat.rank, seat.tally.put, seat.tally.taken);
+    seat.tally.mark(marked);
     Ok(false)
 }
 
@@ -55,15 +55,16 @@ fn may_leave<H>(shared: &Shared<'_, H>, seat: &mut Seat<'_, '_>) -> Result<bool,
     let Some(first) = first_look(shared.marks) else {
         return Ok(false);
     };
-    if take_in(shared, seat)? {
+    let Some(none) = none_came(shared, seat)? else {
         seat.tally.is_busy();
         return Ok(false);
-    }
-    Ok(second_look(shared.marks, &first))
+    };
+    Ok(second_look(shared.marks, &first, none))
 }
 
 // Whether another row has grown since the last reads. All are read.
 fn others_went_on(alloc: Heap, seat: &mut Seat<'_, '_>) -> Result<bool, AllocError>
+    ensures tally { seat.new.tally ≡ record seat.old.tally { seen = seat.new.tally.seen } }
     ensures plan { SamePlan seat.old seat.new }
     ensures gate { SameGate seat.old seat.new }
     ensures same { SameSeat seat.old seat.new }
@@ -77,8 +78,12 @@ fn others_went_on(alloc: Heap, seat: &mut Seat<'_, '_>) -> Result<bool, AllocErr
     Ok(went_on)
 }
 
+// Only of that row it is noted how far the rank has read.
+#[tactic(auto, using(crate::proofs::PuttingLemmas::set_elsewhere))]
 fn has_grown(alloc: Heap, seat: &mut Seat<'_, '_>, of: u8) -> Result<bool, AllocError>
     requires { of < seat.old.node.size }
+    ensures others { (k : ℕ) → k ≢ of → slice_index_or seat.new.tally.seen k 0 ≡ slice_index_or seat.old.tally.seen k 0 }
+    ensures tally { seat.new.tally ≡ record seat.old.tally { seen = seat.new.tally.seen } }
     ensures plan { SamePlan seat.old seat.new }
     ensures gate { SameGate seat.old seat.new }
     ensures same { SameSeat seat.old seat.new }

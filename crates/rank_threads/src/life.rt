@@ -7,9 +7,9 @@ ghost use Rattle.rank_threads.specs.Stations.{SameStation, SameRest, IsLifeOf};
 use crate::hold::Hold;
 use crate::phase::Phase;
 use crate::seat::Seat;
-use crate::shared::Shared;
+use crate::shared::{Shared, Stopped};
 use crate::station::Station;
-use crate::turn::{After, turn};
+use crate::turn::{After, begin, finish, settled};
 use audit::End;
 use ports::ConsoleState;
 use rank_language::Program;
@@ -19,7 +19,8 @@ use std::sync::Wait;
 use std::thread;
 
 /// Plays a life, until the rank crashes or leaves. The rank reads the program
-/// for itself: all that a crash loses is of this thread alone.
+/// for itself: all that a crash loses is of this thread alone. Where all were
+/// told to leave, it makes no turn.
 pub fn life<'l, W: Wait, H: Hold>(
     rt: &W,
     shared: &Shared<'_, H>,
@@ -28,16 +29,13 @@ pub fn life<'l, W: Wait, H: Hold>(
     ensures { SameStation station.entry result }
 {
     let Ok(mut blank) = ConsoleState::new(shared.alloc, 0) else {
-        return refused(shared, station);
+        return refused(station, shared.stop_all());
     };
     // what is read is the canonical text of a program, so only memory can be wanting
     let Ok(program) = Program::parse(shared.alloc, shared.text) else {
-        return refused(shared, station);
+        return refused(station, shared.stop_all());
     };
-    let seat = station.begin(shared.alloc, &program);
-    if seat.tally.fault.is_some() {
-        shared.stop_all();
-    }
+    let seat = station.begin(shared, &program);
     let (seat, has_crashed) = play(rt, shared, &mut blank, seat);
     over(seat, has_crashed)
 }
@@ -72,9 +70,12 @@ fn play<'p, 'l, W: Wait, H: Hold>(
         if shared.is_stopped() {
             return (seat, false);
         }
-        let (next, after) = turn(rt, shared, blank, seat);
-        seat = next;
-        match after {
+        let begun = begin(rt, shared, blank, &mut seat);
+        // a rank is moved in memory only here, once a life
+        if seat.node.has_replayed() {
+            seat = settled(seat);
+        }
+        match finish(rt, shared, blank, &mut seat, begun) {
             After::Crash => {
                 seat.tally.count_crash();
                 return (seat, true);
@@ -87,15 +88,14 @@ fn play<'p, 'l, W: Wait, H: Hold>(
     unreachable!()
 }
 
-/// The rank has met want of memory, and all are to leave.
-pub fn refused<'l, H>(shared: &Shared<'_, H>, station: Station<'l>) -> Station<'l>
+/// The rank has met want of memory, and all were told to leave.
+pub fn refused(station: Station<'_>, stopped: Stopped) -> Station<'_>
     ensures fault { result.tally ≡ record station.entry.tally { fault = Some NodeFault.Memory } }
     ensures rest { SameRest station.entry result }
     ensures same { SameStation station.entry result }
 {
     let mut station = station;
-    station.tally.refuse(NodeFault::Memory);
-    shared.stop_all();
+    station.tally.refuse(NodeFault::Memory, stopped);
     station
 }
 

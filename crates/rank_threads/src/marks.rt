@@ -5,6 +5,9 @@
 //! frame can wake it. Its mark says so, with how many frames it has put and
 //! taken in all its lives. It takes the mark back before it does anything with
 //! a frame that comes.
+ghost use Rattle.std.specs.Prelude.{◌≡◌, ◌≢◌, true, false};
+
+use crate::taking::NoneCame;
 use crossbeam_utils::CachePadded;
 use metered::limits::MOST_RANKS;
 use std::sync::atomic::{AtomicU64, Ordering};
@@ -61,14 +64,21 @@ pub fn first_look(marks: &[CachePadded<Mark>]) -> Option<Look> {
 }
 
 /// Whether all marks are still those of the first look, and as many frames were
-/// taken as were put.
-pub fn second_look(marks: &[CachePadded<Mark>], first: &Look) -> bool {
+/// taken as were put. Between both looks no lane brought anything.
+pub fn second_look(marks: &[CachePadded<Mark>], first: &Look, _: NoneCame) -> bool {
+    let mut seen = [0u64; MOST_RANKS];
     let mut put = 0u64;
-    for (mark, seen) in marks.iter().zip(first.marks.iter()) {
+    for (mark, slot) in marks.iter().zip(seen.iter_mut()) {
         put = put.wrapping_add(mark.put.load(Ordering::SeqCst));
-        if mark.taken.load(Ordering::SeqCst) != *seen {
-            return false;
-        }
+        *slot = mark.taken.load(Ordering::SeqCst);
     }
-    put == first.taken
+    agree(first, &seen, put)
+}
+
+// Whether the marks are those of the first look, and so many frames were taken as are put by now.
+fn agree(first: &Look, seen: &[u64; MOST_RANKS], put: u64) -> bool
+    ensures agrees { result ≡ true → (first.now.marks ≡ seen.now) × (put ≡ first.now.taken) }
+    ensures differs { result ≡ false → first.now.marks ≡ seen.now → put ≢ first.now.taken }
+{
+    first.marks == *seen && put == first.taken
 }

@@ -48,7 +48,8 @@ pub fn release_all<W: Wait>(
 }
 
 // The oldest of what waits passes, if it is a send or a line. Answers whether
-// it did. The console's lock is taken for a line alone.
+// it did. The console's lock is taken for a line alone, and no line is for the
+// blank screen.
 #[tactic(auto, using(crate::proofs::ReleasingLemmas::has_clock))]
 fn release<W: Wait>(
     rt: &W,
@@ -58,6 +59,7 @@ fn release<W: Wait>(
 ) -> Result<bool, AllocError>
     ensures passed { IfOk result (λ passed. passed ≡ is_some (next_effect rank.old)) }
     ensures ok { OnOk result (rank.new ≡ released rank.old (next_effect rank.old)) }
+    ensures blank { OnOk result (blank.new ≡ blank.old) }
     ensures stable { rank.new.stable ≡ rank.old.stable }
 {
     let clock = match rank.oldest_effect() {

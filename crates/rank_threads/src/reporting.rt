@@ -1,5 +1,5 @@
 //! What is left of a run as its report, or why it has none.
-ghost use Rattle.std.specs.Prelude.{◌≡◌, ◌≤◌, IfOk, length, map};
+ghost use Rattle.std.specs.Prelude.{◌≡◌, ◌≤◌, None, IfOk, length, map};
 ghost use Rattle.metered.specs.Limits.{most_ranks};
 ghost use Rattle.rank_threads.specs.Faults.{crashes_from, fault_of, is_memory, lacked_memory, lowest_from};
 
@@ -71,8 +71,9 @@ fn lowest_fault(came: &[Came]) -> Option<RunFault>
     None
 }
 
-/// What is left of a run as its report.
+/// What is left of a run as its report, where no rank met a fault.
 pub fn reported(alloc: Heap, played: Played) -> Result<Report, AllocError>
+    requires { fault_of played.came.items ≡ None }
     ensures rows { IfOk result (λ report. report.outcome.rows ≡ played.ledger.rows) }
     ensures lines { IfOk result (λ report. report.outcome.lines ≡ played.console) }
     ensures ends { IfOk result (λ report. report.outcome.ends ≡ map (λ c. c.end) played.came.items) }

@@ -21,20 +21,21 @@ pub fn settle<W: Wait, H>(
     seat: &mut Seat<'_, '_>,
     is_imaged: bool,
 ) -> Result<(), NodeFault>
-    ensures settled { result ≡ Ok tt → seat.new.tally.is_spent ≡ false → NoneWaits seat.new.node.phase }
-    ensures image { result ≡ Ok tt → is_imaged ≡ true → seat.new.tally.is_spent ≡ false
+    ensures settled { result ≡ Ok tt → seat.new.tally.is_refused ≡ false → NoneWaits seat.new.node.phase }
+    ensures image { result ≡ Ok tt → is_imaged ≡ true → seat.new.tally.is_refused ≡ false
         → is_running seat.new.node.phase ≡ true → HasImage seat.new.node.phase }
-    ensures used { result ≡ Ok tt → is_imaged ≡ true → seat.new.tally.is_spent ≡ false
+    ensures used { result ≡ Ok tt → is_imaged ≡ true → seat.new.tally.is_refused ≡ false
         → is_running seat.new.node.phase ≡ true → seat.new.plan ≡ drop 1 seat.old.plan }
     ensures kept { is_running seat.new.node.phase ≡ false → seat.new.plan ≡ seat.old.plan }
     ensures unasked { is_imaged ≡ false → seat.new.plan ≡ seat.old.plan }
+    ensures runs { is_running seat.new.node.phase ≡ is_running seat.old.node.phase }
     ensures same { SameSeat seat.old seat.new }
 {
     let Ok(all) = seat.node.release(rt, shared.console, blank) else {
         return Err(NodeFault::Memory);
     };
     if !all {
-        seat.tally.spend();
+        seat.tally.refuse_event();
         return Ok(());
     }
     if is_imaged && seat.node.image()? {

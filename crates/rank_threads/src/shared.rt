@@ -1,10 +1,27 @@
 //! What all ranks of a run share.
+ghost use Rattle.std.specs.Prelude.{◌≡◌};
+
 use crate::marks::Mark;
 use crate::running::RunLimits;
 use crossbeam_utils::CachePadded;
 use metered::Heap;
 use ports::Console;
 use std::sync::atomic::{AtomicBool, Ordering};
+
+/// All ranks were told to leave. Only `Shared::stop_all` makes one.
+#[derive(Clone, Copy)]
+pub struct Stopped(());
+
+/// What the mark of a rank says. Only `Shared::set_mark` makes one.
+#[derive(Clone, Copy)]
+pub struct Marked {
+    put: u64,
+    taken: u64,
+}
+
+/// The mark of a rank was taken back. Only `Shared::take_mark_back` makes one.
+#[derive(Clone, Copy)]
+pub struct TakenBack(());
 
 /// What all ranks share. Of each rank there is a mark and a bell.
 pub struct Shared<'a, H> {
@@ -38,9 +55,10 @@ impl<H> Drop for Shared<'_, H> {
 }
 
 impl<H> Shared<'_, H> {
-    /// All ranks are to leave.
-    pub fn stop_all(&self) {
+    /// All ranks are to leave. A fault can be noted of a rank only behind this.
+    pub fn stop_all(&self) -> Stopped {
         self.stop.store(true, Ordering::SeqCst);
+        Stopped(())
     }
 
     /// Whether all ranks are to leave.
@@ -66,16 +84,21 @@ impl<H> Shared<'_, H> {
     }
 
     /// The mark of this rank is set.
-    pub fn set_mark(&self, rank: u8, put: u64, taken: u64) {
+    pub fn set_mark(&self, rank: u8, put: u64, taken: u64) -> Marked
+        ensures put { result.put ≡ put }
+        ensures taken { result.taken ≡ taken }
+    {
         if let Some(mark) = self.marks.get(usize::from(rank)) {
             mark.set(put, taken);
         }
+        Marked { put, taken }
     }
 
     /// The mark of this rank is taken back.
-    pub fn take_mark_back(&self, rank: u8) {
+    pub fn take_mark_back(&self, rank: u8) -> TakenBack {
         if let Some(mark) = self.marks.get(usize::from(rank)) {
             mark.take_back();
         }
+        TakenBack(())
     }
 }

@@ -1,5 +1,5 @@
 //! Part 2 of a turn: a stride or a step of the rank.
-ghost use Rattle.std.specs.Prelude.{◌≡◌, ◌≢◌, ◌+◌, Err, IfOk, OnErr};
+ghost use Rattle.std.specs.Prelude.{◌≡◌, ◌≢◌, ◌+◌, true, false, Ok, Err, IfOk, OnErr};
 ghost use Rattle.rank_threads.specs.Phases.{clock_in, want_in};
 ghost use Rattle.rank_threads.specs.Seats.{SameSeat, SamePlan};
 ghost use Rattle.rank_threads.specs.Steps.{acts_made, acts_of, turn_in};
@@ -42,11 +42,16 @@ pub fn step<W: Wait, H: Hold>(
     seat: &mut Seat<'_, '_>,
 ) -> Result<Stepped, NodeFault>
     ensures clock { IfOk result (λ stepped. clock_in seat.new.node.phase ≡ clock_in seat.old.node.phase + acts_of stepped) }
+    ensures waits { seat.old.tally.is_blocked ≡ true → seat.old.tally.is_spent ≡ false → (result ≡ Ok Stepped.Blocked) × (seat.new ≡ seat.old) }
     ensures plan { SamePlan seat.old seat.new }
     ensures same { SameSeat seat.old seat.new }
 {
     if seat.tally.is_spent {
         return Ok(Stepped::Ended);
+    }
+    if seat.tally.is_blocked {
+        tell(shared, seat);
+        return Ok(Stepped::Blocked);
     }
     let left = shared.limits.steps.saturating_sub(seat.tally.steps);
     let made = seat.node.stride(left.min(STRIDE).max(1));
@@ -70,6 +75,13 @@ pub fn step<W: Wait, H: Hold>(
     }
 }
 
+// Who holds acts is told of the one that the rank wants.
+fn tell<H: Hold>(shared: &Shared<'_, H>, seat: &Seat<'_, '_>) {
+    // No clock is near the end of its type.
+    let clock = seat.node.clock().saturating_add(1);
+    shared.hold.before(seat.rank, clock);
+}
+
 // Who holds acts is told of one before it is made, also where it turns out to
 // be blocked. The console's lock is taken for a print alone.
 fn act<W: Wait, H: Hold>(
@@ -81,6 +93,8 @@ fn act<W: Wait, H: Hold>(
     ensures answer { result ≢ Err NodeFault.Memory → result ≡ turn_in seat.old.node.phase }
     ensures clock { IfOk result (λ turn. clock_in seat.new.node.phase ≡ clock_in seat.old.node.phase + acts_made (want_in seat.old.node.phase) turn) }
     ensures err { OnErr result (seat.new.node.phase ≡ seat.old.node.phase) }
+    ensures blocks { result ≡ Ok Turn.Blocked → seat.new.tally.is_blocked ≡ true }
+    ensures blocked { seat.old.tally.is_blocked ≡ false → seat.new.tally.is_blocked ≡ true → turn_in seat.old.node.phase ≡ Ok Turn.Blocked }
     ensures plan { SamePlan seat.old seat.new }
     ensures same { SameSeat seat.old seat.new }
 {
@@ -88,11 +102,9 @@ fn act<W: Wait, H: Hold>(
         return Ok(Turn::Ended);
     };
     if want.is_act() {
-        // No clock is near the end of its type.
-        let clock = seat.node.clock().saturating_add(1);
-        shared.hold.before(seat.rank, clock);
+        tell(shared, seat);
     }
-    match want {
+    let answer = match want {
         Want::Print(_) => {
             let mut console = shared.console.lock(rt);
             seat.node.step(&mut *console)
@@ -104,5 +116,9 @@ fn act<W: Wait, H: Hold>(
         | Want::TryProbe(_)
         | Want::Halted
         | Want::Faulted(_) => seat.node.step(blank),
+    };
+    if let Ok(Turn::Blocked) = answer {
+        seat.tally.block();
     }
+    answer
 }

@@ -49,6 +49,27 @@ fn take_all_from<H>(
     Ok(took)
 }
 
+/// All lanes into a rank were looked at, and brought nothing. Only `none_came`
+/// makes one.
+#[derive(Clone, Copy)]
+pub struct NoneCame(());
+
+/// Takes what the lanes bring, and says so where that is nothing. An `Err` is
+/// want of memory.
+pub fn none_came<H>(
+    shared: &Shared<'_, H>,
+    seat: &mut Seat<'_, '_>,
+) -> Result<Option<NoneCame>, AllocError>
+    ensures plan { SamePlan seat.old seat.new }
+    ensures gate { SameGate seat.old seat.new }
+    ensures same { SameSeat seat.old seat.new }
+{
+    if take_in(shared, seat)? {
+        return Ok(None);
+    }
+    Ok(Some(NoneCame(())))
+}
+
 // The next frame from this rank arrives, where there is one.
 #[tactic(auto, using(crate::proofs::TakingLemmas::took_none, crate::proofs::TakingLemmas::took_frame))]
 fn take_one<H>(
@@ -75,8 +96,7 @@ fn wake<H>(shared: &Shared<'_, H>, seat: &mut Seat<'_, '_>)
     ensures { seat.new ≡ record seat.old { tally = woken seat.old.tally } }
 {
     if seat.tally.is_marked {
-        shared.take_mark_back(seat.rank);
-        seat.tally.set_marked(false);
+        seat.tally.unmark(shared.take_mark_back(seat.rank));
     }
     seat.tally.count_taken();
 }

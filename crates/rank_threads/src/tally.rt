@@ -1,7 +1,8 @@
 //! What a run counts of a rank over all its lives.
-ghost use Rattle.std.specs.Prelude.{◌≡◌, true, Some, slice_index_or, slice_set};
+ghost use Rattle.std.specs.Prelude.{◌≡◌, true, false, Some, slice_index_or, slice_set};
 ghost use Rattle.rank_threads.specs.Tally.{new_tally, one_more, begun_again, after_steps, is_last_idle, after_idle};
 
+use crate::shared::{Marked, Stopped, TakenBack};
 use metered::limits::MOST_RANKS;
 use rank_node::NodeFault;
 
@@ -20,8 +21,12 @@ pub struct Tally {
     pub is_marked: bool,
     /// Whether something may be outgoing.
     pub may_owe: bool,
+    /// Whether the last step was blocked, and no frame has come since.
+    pub is_blocked: bool,
     /// Whether a limit was reached, so that the rank steps no more.
     pub is_spent: bool,
+    /// Whether the logger refused an event of the rank, which is spent then.
+    pub is_refused: bool,
     /// Of each row, the clock of the last event that the rank read there.
     pub seen: [u32; MOST_RANKS],
     /// Why the rank can't go on.
@@ -41,14 +46,16 @@ impl Tally {
             idle: 0,
             is_marked: false,
             may_owe: true,
+            is_blocked: false,
             is_spent: false,
+            is_refused: false,
             seen: [0; MOST_RANKS],
             fault: None,
         }
     }
 
-    /// The rank can't go on.
-    pub fn refuse(&mut self, fault: NodeFault)
+    /// The rank can't go on, and all were told to leave.
+    pub fn refuse(&mut self, fault: NodeFault, _: Stopped)
         ensures { self.new ≡ record self.old { fault = Some fault } }
     {
         self.fault = Some(fault);
@@ -59,6 +66,14 @@ impl Tally {
         ensures { self.new ≡ record self.old { is_spent = true } }
     {
         self.is_spent = true;
+    }
+
+    /// The logger refused an event of the rank, which steps no more.
+    pub fn refuse_event(&mut self)
+        ensures { self.new ≡ record self.old { is_spent = true; is_refused = true } }
+    {
+        self.is_spent = true;
+        self.is_refused = true;
     }
 
     /// The rank made so many steps, of which `most` are allowed. Only an act
@@ -82,10 +97,11 @@ impl Tally {
 
     /// A frame was taken out of a lane, which may be answered.
     pub fn count_taken(&mut self)
-        ensures { self.new ≡ record self.old { taken = one_more self.old.taken; may_owe = true } }
+        ensures { self.new ≡ record self.old { taken = one_more self.old.taken; may_owe = true; is_blocked = false } }
     {
         self.taken = self.taken.saturating_add(1);
         self.may_owe = true;
+        self.is_blocked = false;
     }
 
     pub fn count_crash(&mut self)
@@ -99,13 +115,33 @@ impl Tally {
         ensures { self.new ≡ begun_again self.old }
     {
         self.may_owe = true;
+        self.is_blocked = false;
         self.idle = 0;
     }
 
-    pub fn set_marked(&mut self, is_marked: bool)
-        ensures { self.new ≡ record self.old { is_marked = is_marked } }
+    /// The step was blocked: only a frame can change that.
+    pub fn block(&mut self)
+        ensures { self.new ≡ record self.old { is_blocked = true } }
     {
-        self.is_marked = is_marked;
+        self.is_blocked = true;
+    }
+
+    /// The rank's mark was set, with what it has put and taken, where it owes no
+    /// other a frame.
+    pub fn mark(&mut self, _marked: Marked)
+        requires owes { self.old.may_owe ≡ false }
+        requires put { _marked.put ≡ self.old.put }
+        requires taken { _marked.taken ≡ self.old.taken }
+        ensures { self.new ≡ record self.old { is_marked = true } }
+    {
+        self.is_marked = true;
+    }
+
+    /// The rank's mark was taken back.
+    pub fn unmark(&mut self, _: TakenBack)
+        ensures { self.new ≡ record self.old { is_marked = false } }
+    {
+        self.is_marked = false;
     }
 
     pub fn set_owing(&mut self, may_owe: bool)

@@ -1,7 +1,7 @@
 //! One turn of a rank.
 ghost use Rattle.std.specs.Prelude.{◌≡◌, ◌≢◌, true, false, Ok, Some, None, IfOk, drop};
 ghost use Rattle.rank_threads.specs.Orders.{order_after, is_kill, is_image};
-ghost use Rattle.rank_threads.specs.Phases.{NoneWaits, settled_of};
+ghost use Rattle.rank_threads.specs.Phases.{NoneWaits, TookImage, is_running, settled_of};
 ghost use Rattle.rank_threads.specs.Seats.{SameSeat, SamePlan};
 
 use crate::hold::Hold;
@@ -26,38 +26,15 @@ pub enum After {
     Leave,
 }
 
-/// One turn: what the lanes bring, a stride or a step, the script's next line,
-/// what waits at the gate, what goes out, and the rank's mark.
-pub fn turn<'p, 'l, W: Wait, H: Hold>(
-    rt: &W,
-    shared: &Shared<'_, H>,
-    blank: &mut ConsoleState,
-    seat: Seat<'p, 'l>,
-) -> (Seat<'p, 'l>, After)
-    ensures settled { result.1 ≢ After.Crash → result.0.tally.fault ≡ None → result.0.tally.is_spent ≡ false → NoneWaits result.0.node.phase }
-    ensures same { SameSeat seat.entry result.0 }
-{
-    let mut seat = seat;
-    let first = begin(rt, shared, blank, &mut seat);
-    let mut seat = settled(seat);
-    let after = match first {
-        Ok(begun) => match end(rt, shared, blank, &mut seat, begun) {
-            Ok(after) => after,
-            Err(fault) => faulted(shared, &mut seat, fault),
-        },
-        Err(fault) => faulted(shared, &mut seat, fault),
-    };
-    (seat, after)
-}
-
-// What the first two parts of a turn came to.
+/// What the first two parts of a turn came to.
 #[derive(Clone, Copy)]
-struct Begun {
+pub struct Begun {
     took: bool,
-    stepped: Stepped,
+    pub stepped: Stepped,
 }
 
-fn begin<W: Wait, H: Hold>(
+/// The beginning of a turn: what the lanes bring, and a stride or a step.
+pub fn begin<W: Wait, H: Hold>(
     rt: &W,
     shared: &Shared<'_, H>,
     blank: &mut ConsoleState,
@@ -71,6 +48,30 @@ fn begin<W: Wait, H: Hold>(
     Ok(Begun { took, stepped })
 }
 
+/// The rest of a turn that began so: the script's next line, what waits at the
+/// gate, what goes out, and the rank's mark.
+pub fn finish<W: Wait, H: Hold>(
+    rt: &W,
+    shared: &Shared<'_, H>,
+    blank: &mut ConsoleState,
+    seat: &mut Seat<'_, '_>,
+    begun: Result<Begun, NodeFault>,
+) -> After
+    ensures settled { result ≢ After.Crash → seat.new.tally.fault ≡ None → seat.new.tally.is_refused ≡ false → NoneWaits seat.new.node.phase }
+    ensures same { SameSeat seat.old seat.new }
+{
+    let after = match begun {
+        Ok(begun) => end(rt, shared, blank, seat, begun),
+        Err(fault) => Err(fault),
+    };
+    match after {
+        Ok(after) => after,
+        Err(fault) => faulted(shared, seat, fault),
+    }
+}
+
+// An image that is asked for is taken before frames go out.
+#[tactic(auto, using(crate::proofs::GateLemmas::took_image))]
 fn end<W: Wait, H: Hold>(
     rt: &W,
     shared: &Shared<'_, H>,
@@ -82,7 +83,9 @@ fn end<W: Wait, H: Hold>(
     ensures crash { result ≡ Ok After.Crash → is_kill (order_after begun.stepped seat.old.plan seat.old.node.phase) ≡ true }
     ensures used { result ≡ Ok After.Crash → seat.new.plan ≡ drop 1 seat.old.plan }
     ensures unasked { order_after begun.stepped seat.old.plan seat.old.node.phase ≡ None → seat.new.plan ≡ seat.old.plan }
-    ensures settled { IfOk result (λ after. after ≢ After.Crash → seat.new.tally.is_spent ≡ false → NoneWaits seat.new.node.phase) }
+    ensures image { is_image (order_after begun.stepped seat.old.plan seat.old.node.phase) ≡ true → is_running seat.old.node.phase ≡ true
+        → seat.new.tally.is_refused ≡ false → IfOk result (λ after. after ≢ After.Crash → TookImage seat.new.node.phase) }
+    ensures settled { IfOk result (λ after. after ≢ After.Crash → seat.new.tally.is_refused ≡ false → NoneWaits seat.new.node.phase) }
     ensures same { SameSeat seat.old seat.new }
 {
     let order = order_after(begun.stepped, seat);
@@ -134,8 +137,8 @@ fn is_image(order: Option<Order>) -> bool
     }
 }
 
-// A rank that has nothing left to replay runs from now on.
-fn settled<'p, 'l>(seat: Seat<'p, 'l>) -> Seat<'p, 'l>
+/// A rank that has nothing left to replay runs from now on.
+pub fn settled<'p, 'l>(seat: Seat<'p, 'l>) -> Seat<'p, 'l>
     ensures settled { result.node.phase ≡ settled_of seat.entry.node.phase }
     ensures rest { result ≡ record seat.entry { node = result.node } }
     ensures same { SameSeat seat.entry result }
@@ -164,7 +167,6 @@ fn faulted<H>(shared: &Shared<'_, H>, seat: &mut Seat<'_, '_>, fault: NodeFault)
     ensures fault { seat.new ≡ record seat.old { tally = record seat.old.tally { fault = Some fault } } }
     ensures same { SameSeat seat.old seat.new }
 {
-    seat.tally.refuse(fault);
-    shared.stop_all();
+    seat.tally.refuse(fault, shared.stop_all());
     After::Leave
 }

@@ -49,10 +49,21 @@ print x
 /// A reduce, a broadcast and a barrier of three ranks.
 const COLLECTIVES: &str = "var x\nreduce sum, 2, rank + 1, x\nbcast 2, x\nbarrier\nprint x\n";
 
+/// A loop of 400 rounds, and two lines.
+const ROUNDS: &str = "var i\nwhile i < 400\n  let i = i + 1\nend\nprint 1\nprint 2\n";
+
+/// As many probes that miss as a rank may have events, and a line.
+const MISSES: &str =
+    "var i\nvar f\nwhile i < 4096\n  iprobe 0, 0, f\n  let i = i + 1\nend\nprint i\n";
+
+/// Rank 1 is killed at its first act in each of seven lives.
+const SEVEN: &str =
+    "kill 1 at 1\nkill 1 at 1\nkill 1 at 1\nkill 1 at 1\nkill 1 at 1\nkill 1 at 1\nkill 1 at 1\n";
+
 /// What the round trips print, with the crashes and the logger's calls.
 const OF_TRIPS: &str = "0> 9\n1> 3\nrank 0: halted\nrank 1: halted\ncrashes 2, logger calls 10\n";
 
-const KILLS: [Scripted; 14] = [
+const KILLS: [Scripted; 18] = [
     // Before the reception is stored: the row is empty, and the message is sent again. A fetch and an append.
     Scripted {
         options: "--ranks 2",
@@ -164,6 +175,38 @@ const KILLS: [Scripted; 14] = [
         script: "kill 1 at 1\n",
         status: 1,
         out: "1> 1\nrank 0: halted\nrank 1: stalled\ncrashes 1, logger calls 1\n",
+    },
+    // Seven lives end before the first reception is stored, and the eighth goes on. Seven fetches and an append.
+    Scripted {
+        options: "--ranks 2",
+        program: ANSWER,
+        script: SEVEN,
+        status: 0,
+        out: "1> 42\nrank 0: halted\nrank 1: halted\ncrashes 7, logger calls 8\n",
+    },
+    // The image stands behind the loop, whose 1202 steps aren't made again: 1205 in all.
+    Scripted {
+        options: "--ranks 1 --steps 1300",
+        program: ROUNDS,
+        script: "image 0 at 1\nkill 0 at 2\n",
+        status: 0,
+        out: "0> 1\n0> 2\nrank 0: halted\ncrashes 1, logger calls 1\n",
+    },
+    // Without the image the second life would have to make 1204 more, and has 96.
+    Scripted {
+        options: "--ranks 1 --steps 1300",
+        program: ROUNDS,
+        script: "kill 0 at 2\n",
+        status: 1,
+        out: "0> 1\n0> 2\nrank 0: unfinished\ncrashes 1, logger calls 1\n",
+    },
+    // A whole row is replayed: 4096 appends and a fetch.
+    Scripted {
+        options: "--ranks 1",
+        program: MISSES,
+        script: "kill 0 at 4097\n",
+        status: 0,
+        out: "0> 4096\nrank 0: halted\ncrashes 1, logger calls 4097\n",
     },
 ];
 

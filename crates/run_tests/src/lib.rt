@@ -10,6 +10,8 @@ mod faults;
 #[cfg(test)]
 mod helps;
 #[cfg(test)]
+mod holding;
+#[cfg(test)]
 mod kills;
 #[cfg(test)]
 mod limits;
@@ -23,6 +25,8 @@ mod refusals;
 mod reports;
 #[cfg(test)]
 mod scenes;
+#[cfg(test)]
+mod streams;
 #[cfg(test)]
 mod told;
 #[cfg(test)]

@@ -8,7 +8,7 @@ use std::test::Fail;
 use std::thread::Threads;
 
 /// Runs that `--steps` or `--idle` ends, or would end a step later.
-const LIMITS: [Run; 7] = [
+const LIMITS: [Run; 11] = [
     (
         "--ranks 1 --steps 1",
         "print 5\n",
@@ -52,6 +52,35 @@ const LIMITS: [Run; 7] = [
         0,
         "0> 400\nrank 0: halted\ncrashes 0, logger calls 0\n",
     ),
+    // The third step of rank 1 is its reception, and the last that is allowed: it is stored all the same.
+    (
+        "--ranks 2 --steps 3",
+        "var x\nif rank == 0\nsend 1, 7, 41\nelse\nrecv any, any, x\nprint x + 1\nend\n",
+        1,
+        "rank 0: unfinished\nrank 1: unfinished\ncrashes 0, logger calls 1\n",
+    ),
+    // A loop without an end: no more steps are audited than were made.
+    (
+        "--ranks 1 --steps 1000",
+        "while 1\nend\n",
+        1,
+        "rank 0: unfinished\ncrashes 0, logger calls 0\n",
+    ),
+    // Rank 0 looks at the row of rank 1, which has grown by one event, and then at what is new in it.
+    (
+        "--ranks 2 --idle 20",
+        "var x\nif rank == 0\nrecv 0, 0, x\nelse\nsend 1, 0, 5\nrecv 1, 0, x\nend\n",
+        1,
+        "rank 0: stalled\nrank 1: halted\ncrashes 0, logger calls 1\n",
+    ),
+    // No limit: more round trips, each of two receptions, than an audit might think enough.
+    (
+        "--ranks 2",
+        "var i\nvar x\nwhile i < 1001\nif rank == 0\nsend 1, 0, i\nrecv 1, 0, x\nelse\nrecv 0, 0, x\n\
+         send 0, 0, x * x\nend\nlet i = i + 1\nend\nprint x\n",
+        0,
+        "0> 1000000\n1> 1000\nrank 0: halted\nrank 1: halted\ncrashes 0, logger calls 2002\n",
+    ),
 ];
 
 #[test]
@@ -73,18 +102,51 @@ fn events_of_rounds(alloc: Global, rounds: u32) -> Result<String, AllocError> {
     Ok(events)
 }
 
-// After 4096 receptions the next one is refused, and again.
+// A crash behind so many rounds and a step into the next, and the whole replay. The frames of the wires come again.
+fn replay_of_rounds(alloc: Global, rounds: u32) -> Result<String, AllocError> {
+    let mut events = String::from_str(alloc, "crash 0\nrestart 0\nstep 0\n")?;
+    for round in 0..rounds {
+        write!(
+            events,
+            "step 0\nstep 0\narrive 0 0 {round}\nstep 0\nstep 0\n"
+        )?;
+    }
+    Ok(events)
+}
+
+// What the replay answers.
+fn replies_of_replay(alloc: Global, rounds: u32) -> Result<String, AllocError> {
+    let mut replies = String::new(alloc);
+    write!(replies, "crashed\nrestarted {rounds}\nmoved\n")?;
+    for _ in 0..rounds {
+        replies.push_str("moved\nmoved\naccepted\nmoved\nmoved\n")?;
+    }
+    Ok(replies)
+}
+
+/// A reception more than a rank may have, which is refused, and again.
+const ONE_MORE: &str = "step 0\nstep 0\nput 0 0\narrive 0 0 4096\nstep 0\nstep 0\n";
+
+// After 4096 receptions the next one is refused, and so it is behind a replay of them all.
 fn expect_4097<R: Threads + Wait + Sync + Copy + Send + AllocGlobal + Abort>(
     rt: &R,
 ) -> Result<(), Fail> {
-    let mut events = events_of_rounds(rt.alloc(), 4096)?;
-    events.push_str("step 0\nstep 0\nput 0 0\narrive 0 0 4096\nstep 0\nstep 0\n")?;
+    let alloc = rt.alloc();
+    let mut events = events_of_rounds(alloc, 4096)?;
+    events.push_str(ONE_MORE)?;
+    events.push_str(replay_of_rounds(alloc, 4096)?.as_str())?;
+    events.push_str("step 0\nstep 0\narrive 0 0 4096\nstep 0\n")?;
+    let replayed = replies_of_replay(alloc, 4096)?;
+    let replayed = replayed.as_str();
+    let want = format!(in alloc;
+        "put 4096 data 4097\naccepted\nrefused\nrefused\n{replayed}moved\nmoved\naccepted\nrefused\n"
+    )?;
     let files = [("p", TO_ITSELF), ("e", events.as_str())];
     let answer = answer_of(rt, "world --ranks 1 p e", &files)?;
     let out = answer.out();
+    assert_eq!(rt; (answer.status, answer.err()), (0, ""));
     assert!(rt; out.contains("stored 4096\nacked\nmoved\n"));
-    assert!(rt; out.ends_with("put 4096 data 4097\naccepted\nrefused\nrefused\n"));
-    assert!(rt; answer.status == 0);
+    assert!(rt; out.ends_with(want.as_str()));
     Ok(())
 }
 

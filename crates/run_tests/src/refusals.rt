@@ -1,10 +1,9 @@
-//! Refusals: of words, files and scripts, and of a write.
+//! Refusals: of words, files and scripts.
 //!
 //! The faults of programs and of events are among the runs of `examples`.
-use crate::scenes::{Table, answer_of, expect_answer, words_of};
-use runner::command;
+use crate::scenes::{answer_of, expect_answer};
+use runner::{AuditFault, NodeFault};
 use std::alloc::{AllocError, Global};
-use std::io::Write;
 use std::process::Abort;
 use std::sync::Wait;
 use std::test::Fail;
@@ -23,7 +22,7 @@ struct Refusal {
     error: &'static str,
 }
 
-const REFUSALS: [Refusal; 12] = [
+const REFUSALS: [Refusal; 16] = [
     Refusal {
         words: "run --ranks 1 none",
         program: "",
@@ -109,6 +108,36 @@ const REFUSALS: [Refusal; 12] = [
         status: 4,
         error: "out of memory\n",
     },
+    Refusal {
+        words: "world --ranks 1 p none",
+        program: "",
+        script: "",
+        status: 2,
+        error: "cannot read none\n",
+    },
+    // The events of a world, here the text of a script.
+    Refusal {
+        words: "world --ranks 1 p s",
+        program: "",
+        script: "step 0\n\nkill 0 at 1\n",
+        status: 2,
+        error: "events line 3: fault 1 BadLine\n",
+    },
+    // The program is judged before the events are read.
+    Refusal {
+        words: "world --ranks 1 p none",
+        program: "var x\nvar x\n",
+        script: "",
+        status: 2,
+        error: "line 2: fault 5 DeclaredTwice\n",
+    },
+    Refusal {
+        words: "check p",
+        program: "if 1\n",
+        script: "",
+        status: 2,
+        error: "line 2: fault 6 BlockOpen\n",
+    },
 ];
 
 // Each of these is refused so, and nothing is written to standard output.
@@ -123,8 +152,61 @@ fn are_refused<R: Threads + Wait + Sync + Copy + Send + AllocGlobal + Abort>(
     Ok(())
 }
 
+/// Faults of an audit, which no run is known to have, with the line on standard error.
+const AUDITS: [(AuditFault, &str); 5] = [
+    (AuditFault::RowLeft, "audit fault 1\n"),
+    (AuditFault::NotEligible, "audit fault 2\n"),
+    (AuditFault::Output, "audit fault 3\n"),
+    (AuditFault::EndState, "audit fault 4\n"),
+    (AuditFault::Budget, "audit fault 5\n"),
+];
+
+/// Ranks with a fault at which they couldn't go on, which no run is known to have either.
+const NODES: [(u8, NodeFault, &str); 6] = [
+    (0, NodeFault::NotSettled, "rank 0: node fault 1\n"),
+    (7, NodeFault::Shelf, "rank 7: node fault 2\n"),
+    (3, NodeFault::Image, "rank 3: node fault 3\n"),
+    (1, NodeFault::Replay, "rank 1: node fault 4\n"),
+    (2, NodeFault::ClockSpent, "rank 2: node fault 5\n"),
+    (2, NodeFault::Log, "rank 2: node fault 6\n"),
+];
+
+// This refusal is said so, behind a run, and nothing goes to standard output.
+fn is_said(
+    rt: &impl Abort,
+    alloc: Global,
+    refusal: runner::Refusal<'_>,
+    text: &str,
+) -> Result<(), Fail> {
+    let said = refusal.said(alloc)?;
+    let found = (said.status, said.out.len(), said.err.as_str());
+    assert_eq!(rt; found, (1, 0, text));
+    Ok(())
+}
+
+// Each of these is said so.
+fn are_said(
+    rt: &impl Abort,
+    alloc: Global,
+    audits: &[(AuditFault, &str)],
+    nodes: &[(u8, NodeFault, &str)],
+) -> Result<(), Fail> {
+    for (fault, text) in audits {
+        is_said(rt, alloc, runner::Refusal::Audit(*fault), text)?;
+    }
+    for (rank, fault, text) in nodes {
+        let refusal = runner::Refusal::Node {
+            rank: *rank,
+            fault: *fault,
+        };
+        is_said(rt, alloc, refusal, text)?;
+    }
+    Ok(())
+}
+
 #[test]
 fn refused(rt: HostRuntime) -> Result<(), Fail> {
+    are_said(&rt, rt.alloc(), &AUDITS, &NODES)?;
     are_refused(&rt, &REFUSALS)
 }
 
@@ -226,61 +308,4 @@ fn judge_scripts<R: Threads + Wait + Sync + Copy + Send + AllocGlobal + Abort>(
 #[test]
 fn long_scripts(rt: HostRuntime) -> Result<(), Fail> {
     judge_scripts(&rt, &SCRIPTS)
-}
-
-// A writer that refuses.
-#[derive(Drop)]
-struct Closed;
-
-impl Write for Closed {
-    fn write(&mut self, _buf: &[u8]) -> std::io::Result<usize> {
-        Err(std::io::Error::from(std::io::ErrorKind::BrokenPipe))
-    }
-
-    fn flush(&mut self) -> std::io::Result<()> {
-        Ok(())
-    }
-}
-
-/// Words, and the exit status where no stream takes a write: 5 where standard output had to, and else what it would be.
-const UNWRITTEN: [(&str, u8); 6] = [
-    ("ftmpi run --ranks 1 p", 5),
-    ("ftmpi --help", 5),
-    ("ftmpi world --ranks 1 p e", 5),
-    ("ftmpi run --ranks 1 none", 2),
-    ("ftmpi run", 3),
-    ("ftmpi run --ranks 1 large", 4),
-];
-
-// The program called with these words ends so, if it can write nothing.
-fn unwritten<R: Threads + Wait + Sync + Copy + Send + AllocGlobal>(
-    rt: &R,
-    line: &str,
-) -> Result<u8, AllocError> {
-    let alloc = rt.alloc();
-    let words = words_of(alloc, line)?;
-    let mut files = Table {
-        alloc,
-        files: &[("p", ""), ("e", "step 0")],
-    };
-    let mut out = Closed;
-    let mut err = Closed;
-    Ok(command(rt, alloc, words.as_slice(), &mut files, &mut out, &mut err))
-}
-
-// Each of these ends so.
-fn fail_to_write<R: Threads + Wait + Sync + Copy + Send + AllocGlobal + Abort>(
-    rt: &R,
-    rows: &[(&str, u8)],
-) -> Result<(), Fail> {
-    for row in rows {
-        let (line, status) = *row;
-        assert_eq!(rt; unwritten(rt, line)?, status, "at {line}");
-    }
-    Ok(())
-}
-
-#[test]
-fn failed_writes(rt: HostRuntime) -> Result<(), Fail> {
-    fail_to_write(&rt, &UNWRITTEN)
 }

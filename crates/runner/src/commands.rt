@@ -8,7 +8,8 @@
 //! | 3 | the words are refused |
 //! | 4 | there is no memory |
 //! | 5 | standard output can't be written |
-ghost use Rattle.std.specs.Prelude.{◌≤◌};
+ghost use Rattle.std.specs.Prelude.{◌≤◌, OnOk};
+ghost use Rattle.std.specs.Io.KnownBytes.{Appends};
 
 mod check;
 mod job;
@@ -18,7 +19,8 @@ mod said;
 mod world;
 
 use crate::commands::job::work;
-use crate::commands::said::Said;
+pub use crate::commands::refusal::Refusal;
+pub use crate::commands::said::Said;
 use crate::files::Files;
 use command_line::{NoJob, job_of};
 use metered::Heap;
@@ -57,7 +59,10 @@ pub fn command<R: Threads + Wait + Sync + Copy + Send + AllocGlobal, F: Files, O
     }
 }
 
-fn write_whole<W: Write>(to: &mut W, text: &[u8]) -> std::io::Result<()> {
+// What isn't flushed isn't written: a stream may keep what it takes.
+fn write_whole<W: Write>(to: &mut W, text: &[u8]) -> std::io::Result<()>
+    ensures { OnOk result (Appends (W.contents to.old) (W.contents to.new) text.now) }
+{
     if text.is_empty() {
         return Ok(());
     }

@@ -11,10 +11,11 @@ mod output;
 mod words;
 
 pub use audit::{AuditFault, End, Outcome};
-pub use commands::command;
+pub use commands::{Refusal, Said, command};
 pub use files::{FileFault, Files, MachineFiles};
 pub use ports::Line;
 pub use rank_machine::MachineFault;
+pub use rank_node::NodeFault;
 pub use rank_threads::{Hold, Report, RunFault, RunLimits, run};
 pub use script_text::{Script, ScriptFault, ScriptFaultKind, ScriptParseFault};
 pub use words::{WordsFault, words_given};

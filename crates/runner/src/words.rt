@@ -5,16 +5,19 @@ use std::alloc::AllocError;
 use std::env::FillError;
 use std::io::Write;
 use std::rt::Env;
+use thiserror::Error;
 
 // Most words fit into so many bytes.
 const FIRST_ROOM: usize = 256;
 
 /// Why there are no words.
-#[derive(Clone, Copy, Debug, PartialEq, Eq)]
+#[derive(Clone, Copy, Debug, PartialEq, Eq, Error)]
 pub enum WordsFault {
     /// The argument of this number isn't UTF-8. Arguments are counted from 1, behind
     /// the program's name, which has number 0.
+    #[error("argument {0} isn't UTF-8")]
     NotText(usize),
+    #[error("out of memory")]
     Memory,
 }
 
@@ -25,10 +28,7 @@ impl WordsFault {
         ensures not_text { (number : ℕ) → self ≡ WordsFault.NotText number → result ≡ 3 }
         ensures memory { self ≡ WordsFault.Memory → result ≡ 4 }
     {
-        let _ = match self {
-            WordsFault::NotText(number) => writeln!(err, "argument {number} isn't UTF-8"),
-            WordsFault::Memory => writeln!(err, "out of memory"),
-        };
+        let _ = writeln!(err, "{self}");
         self.status()
     }
 

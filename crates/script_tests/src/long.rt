@@ -61,8 +61,17 @@ type Full = (
     &'static str,
 );
 
+/// A line of 128 bytes.
+const LONG_LINE: &str = "kill 0                                                        at  \
+    0000000000000000000000000000000000000000000000000000000000001\n";
+
+/// A comment of 127 bytes.
+const LONG_COMMENT: &str =
+    "# nothing is asked for here, nor in any of the many lines that stand around \
+    this one, however often one would like to read it.\n";
+
 /// Scripts of 256 lines.
-const FULL: [Full; 4] = [
+const FULL: [Full; 6] = [
     ("kill 0 at 1\n", 256, "", "kill 0 at 1; ", ""),
     (
         "image 1 at 5\n",
@@ -73,6 +82,9 @@ const FULL: [Full; 4] = [
     ),
     ("# nothing\n", 256, "", "", ""),
     ("\n", 255, "kill 1 at 2", "", "kill 1 at 2; "),
+    // No text of 256 lines is too long, however long they are.
+    (LONG_LINE, 256, "", "kill 0 at 1; ", ""),
+    (LONG_COMMENT, 255, "image 1 at 5", "", "image 1 at 5; "),
 ];
 
 fn are_read(rt: &impl Abort, alloc: Heap, cases: &[Full]) -> Result<(), Fail> {

@@ -123,7 +123,7 @@ wire_is w s d frames has wire =
     cc
 
 -- the wire between two ranks
-the_wire : (w : WorldValue) (s d : ℕ) → HasWire w.wires s d → IsWire w s d (wire_of w.wires s d)
+pub the_wire : (w : WorldValue) (s d : ℕ) → HasWire w.wires s d → IsWire w s d (wire_of w.wires s d)
 the_wire w s d has = (slice_index_or w.wires s [], slice_get-get_or w.wires s [] has.0, slice_get-get_or (slice_index_or w.wires s []) d [] has.1)
 
 -- nothing arrives that isn't on the wire

@@ -1,17 +1,17 @@
 -- The index of a run, after one more act and without the last one.
 --
 -- Only what the act's own rank made changes: its count by one, and for a send the clocks for its destination, at their end.
-use Rattle.std.proofs.Common.{◌≡◌, ℕ, suc, ◌+◌, ◌-◌, ◌<◌, ◌≤◌, ◌==◌, List, [], ◌∷◌, ◌++◌, length, map, take, reverse, Option, Some, None, refl, sym}
+use Rattle.std.proofs.Common.{◌≡◌, ℕ, zero, suc, ◌+◌, ◌-◌, ◌<◌, ◌≤◌, ◌==◌, List, [], ◌∷◌, ◌++◌, length, map, take, drop, reverse, Option, Some, None, refl, sym}
 use Rattle.std.proofs.Common.{ap, ◌∙◌, subst, arith, slice_get, slice_set, get_or, ◌⊎◌, inl, inr, length-append, length-set, eq-eqb, ne_eqb}
 use native.Mathlib.Decide.{ℕ_discrete}
 use Rattle.std.specs.Prelude.{IfSome, IfNone}
-use Rattle.std.proofs.lemmas.List.{map-append, append-nil, reverse-append, length-reverse}
+use Rattle.std.proofs.lemmas.List.{map-append, append-nil, reverse-append, length-reverse, get_or-reverse}
 use Rattle.std.proofs.lemmas.Option.{slice_get_read, slice_get_within, slice_get-get_or}
 use Rattle.std.proofs.Math.Seq.{take-append_seam}
 use Rattle.rank_machine.specs.Acts.{Act, Message, sends, takes, hits, misses, prints}
 use Rattle.crash_free.specs.Runs.{Passed, at_place, history, send_at, cons_if}
 use Rattle.crash_free.proofs.Lists.{history-own, history-other, sent-own, sent-other}
-use Rattle.world_model.specs.RunIndex.{Rising, clocks, clock_at, MadeValue, made_with, made_without, clocks_with, clocks_without, IsMade, IsIndexed}
+use Rattle.world_model.specs.RunIndex.{Rising, clocks, clock_at, MadeValue, RunValue, made_with, made_without, clocks_with, clocks_without, IsMade, AreOf, IsIndexed, IsNext}
 use Rattle.world_model.proofs.Places.{slice_set-get, replaced_keeps}
 use Rattle.world_model.proofs.RunClocks.{clocks-rise, clock_at-place}
 
@@ -228,3 +228,49 @@ pub taken_back : (n : ℕ) (acts new_acts : List Passed) (p : Passed) (act : Act
     → IsIndexed n (reverse new_acts) (slice_set index k new)
 taken_back n acts new_acts p act index k m new kept shorter at made is changed =
     rw (changed, at, made) (indexed_back n new_acts p index m (subst (λ l. IsIndexed n (reverse l) index) shorter kept) (is ∙ ap (λ q. get_or index q m) at))
+
+-- ---- acts, oldest first
+
+drop_at : {A : Type 0} (C : List A) (m : ℕ) (d : A) → m < length C → drop m C ≡ get_or C m d ∷ drop (suc m) C
+drop_at [] m d l = absurd (omega (arith, l))
+drop_at (x ∷ []) zero d l = refl
+drop_at (x ∷ y ∷ C) zero d l = refl
+drop_at (x ∷ C) (suc m) d l = drop_at C m d (omega (arith, l))
+
+of_drop : (n m : ℕ) (C : List Passed) → AreOf n C → AreOf n (drop m C)
+of_drop n zero [] all = all
+of_drop n (suc m) [] all = all
+of_drop n zero (p ∷ C) all = all
+of_drop n (suc m) (p ∷ C) all = of_drop n m C all.1
+
+-- the act at a place comes next after so many
+next_is : (acts : List Passed) (i : ℕ) (p : Passed) → i < length acts → p ≡ get_or acts i p → IsNext (reverse acts) i p.rank
+next_is acts i p l is =
+    let n = length-reverse acts in
+    let m : length (reverse acts) - (i + 1) < length acts = omega (arith, l, n) in
+    let at : get_or (reverse acts) (length (reverse acts) - (i + 1)) p ≡ p =
+    get_or-reverse acts (length (reverse acts) - (i + 1)) p m
+    ∙ ap (λ z. get_or acts z p) (let e : length acts - 1 - (length (reverse acts) - (i + 1)) ≡ i = omega (arith, l, n) in e) ∙ sym is in
+    let rest : suc (length (reverse acts) - (i + 1)) ≡ length (reverse acts) - i = omega (arith, l, n) in (
+      p.act,
+      drop_at (reverse acts) (length (reverse acts) - (i + 1)) p (omega (arith, m, n))
+          ∙ ap (λ z. z ∷ drop (suc (length (reverse acts) - (i + 1))) (reverse acts)) at
+          ∙ ap (λ z. p ∷ drop z (reverse acts)) rest,
+      omega (arith, l, n),
+    )
+
+-- and is of one of the ranks
+next_of : (n : ℕ) (C : List Passed) (index : List MadeValue) (k r : ℕ) → IsIndexed n C index → IsNext C k r → r < n
+next_of n C index k r kept next = (subst (λ z. AreOf n z) next.1 (of_drop n (length C - (k + 1)) C kept.of_ranks)).0
+
+pub rank_at_is : (n i r : ℕ) (acts : List Passed) (v : RunValue) (p : Passed) → record { ranks = n; acts = reverse acts } ≡ v → i < length v.acts → p ≡ get_or acts i p
+    → r ≡ p.rank → IsNext v.acts i r
+rank_at_is n i r acts v p is l at e =
+    let a = ap (λ z. length z.acts) is in
+    let b = length-reverse acts in
+    subst (λ q. IsNext v.acts i q) (sym e) (subst (λ z. IsNext z.acts i p.rank) is (next_is acts i p (omega (arith, l, a, b)) at))
+
+pub rank_at_of : (n i r : ℕ) (acts : List Passed) (index : List MadeValue) (v : RunValue) → IsIndexed n (reverse acts) index → record { ranks = n; acts = reverse acts } ≡ v
+    → IsNext v.acts i r → r < v.ranks
+rank_at_of n i r acts index v kept is next =
+    subst (λ z. r < z.ranks) is (next_of n (reverse acts) index i r kept (subst (λ z. IsNext z.acts i r) (sym is) next))

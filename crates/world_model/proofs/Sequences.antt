@@ -1,5 +1,5 @@
 -- Events one after another.
-use Rattle.std.proofs.Common.{ℕ, ◌<◌, inl, List, [], ◌∷◌, ◌++◌, length, take, get_or, Result, Ok, Err, IfOk, OnErr, refl, subst}
+use Rattle.std.proofs.Common.{ℕ, ◌<◌, inl, inr, List, [], ◌∷◌, ◌++◌, length, take, get_or, Result, Ok, Err, IfOk, OnErr, refl, subst}
 use Rattle.std.proofs.lemmas.Option.{slice_get-get_or}
 use Rattle.std.specs.declared.alloc.AllocError.{AllocError}
 use Rattle.rank_language.specs.Program.{ProgramValue}
@@ -10,7 +10,7 @@ use Rattle.world_model.proofs.Onward.{fresh_onward, onward_after, onward_unchang
 use Rattle.world_model.specs.World.{WorldValue}
 use Rattle.world_model.specs.Headline.{StandsFor, IsFresh}
 use Rattle.world_model.specs.Retained.{NothingGone}
-use Rattle.world_model.specs.Follows.{Follows, FollowsAll, Unchanged, StoppedAt}
+use Rattle.world_model.specs.Follows.{CanNot, Follows, FollowsAll, TakesNoMemory, Unchanged, Stops}
 use Rattle.world_model.specs.declared.event.WorldEvent.{WorldEvent}
 use Rattle.world_model.specs.declared.event.WorldEvent.TheVariants.{Step, Put, Arrive, Store, Ack, Image, Crash, Restart, Release}
 use Rattle.world_model.specs.declared.reply.Reply.{Reply}
@@ -45,28 +45,24 @@ kept w w' event (Ok answer) i f e =
 kept w w' event (Err refused) i f u =
     record { stands = stands_unchanged w event w' i.stands u; onward = onward_unchanged w event w' u i.onward }
 
--- a world that is as it was is unchanged
-unchanged_same : (w : WorldValue) (event : WorldEvent) → Unchanged w event w
-unchanged_same w (Step r) = refl
-unchanged_same w (Put s d) = refl
-unchanged_same w (Arrive s d i) = refl
-unchanged_same w (Store r) = refl
-unchanged_same w (Ack r) = refl
-unchanged_same w (Image r) = refl
-unchanged_same w (Crash r) = refl
-unchanged_same w (Restart r) = inl refl
-unchanged_same w (Release r) = refl
+-- memory ends before the first event of a list
+pub stops_before : (w : WorldValue) (events : List WorldEvent) → Stops w events 0 w
+stops_before w events = inl (record { none = refl; same = refl })
 
--- memory ends at the next event of a list
+-- or at the next one
 pub stops : (w mid w' : WorldValue) (events : List WorldEvent) (replies : List Reply) (k : ℕ) (d : WorldEvent) → k < length events
-    → FollowsAll w (take k events) replies mid → Unchanged mid (get_or events k d) w' → StoppedAt w events k w'
-stops w mid w' events replies k d l followed unchanged =
-    record { replies = replies; middle = mid; followed = followed; event = get_or events k d; next = slice_get-get_or events k d l; unchanged = unchanged }
-
--- or before it
-pub stops_before : (w mid : WorldValue) (events : List WorldEvent) (replies : List Reply) (k : ℕ) (d : WorldEvent) → k < length events
-    → FollowsAll w (take k events) replies mid → StoppedAt w events k mid
-stops_before w mid events replies k d l followed = stops w mid mid events replies k d l followed (unchanged_same mid (get_or events k d))
+    → FollowsAll w (take k events) replies mid → (CanNot mid (get_or events k d) → ⊥) → (TakesNoMemory mid (get_or events k d) → ⊥)
+    → Unchanged mid (get_or events k d) w' → Stops w events k w'
+stops w mid w' events replies k d l followed possible frugal unchanged = inr (record {
+  replies = replies;
+  middle = mid;
+  followed = followed;
+  event = get_or events k d;
+  next = slice_get-get_or events k d l;
+  possible = possible;
+  frugal = frugal;
+  unchanged = unchanged;
+})
 
 -- what a list of events comes to, and where it may stop
-pub ruleset run_laws = (world_stands, world_retains, follows_push, stops)
+pub ruleset run_laws = (world_stands, world_retains, follows_push, stops, stops_before)

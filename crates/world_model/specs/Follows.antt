@@ -364,11 +364,23 @@ FollowsAll w (event ∷ events) (answer ∷ answers) w' =
 FollowsAll w [] (answer ∷ answers) w' = ⊥
 FollowsAll w (event ∷ events) [] w' = ⊥
 
--- Memory ended after so many events of a list: these happened, and the next left the world unchanged.
+-- There was no memory for the replies to a list of events: none happened.
+pub record NotBegun (w : WorldValue) (done : ℕ) (w' : WorldValue) : Type 0 where
+  pub none : done ≡ 0
+  pub same : w' ≡ w
+
+-- Memory ended after so many events of a list: these happened, and the next, which can happen and takes memory, left the
+-- world unchanged.
 pub record StoppedAt (w : WorldValue) (events : List WorldEvent) (done : ℕ) (w' : WorldValue) : Type 0 where
   pub replies : List Reply
   pub middle : WorldValue
   pub followed : FollowsAll w (take done events) replies middle
   pub event : WorldEvent
   pub next : slice_get events done ≡ Some event
+  pub possible : CanNot middle event → ⊥
+  pub frugal : TakesNoMemory middle event → ⊥
   pub unchanged : Unchanged middle event w'
+
+-- where a list of events stops for want of memory: before it begins, or at an event that takes some
+abbrev pub Stops : WorldValue → List WorldEvent → ℕ → WorldValue → Type 0
+Stops w events done w' = NotBegun w done w' ⊎ StoppedAt w events done w'

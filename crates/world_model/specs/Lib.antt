@@ -11,3 +11,6 @@ pub mod Seats
 pub mod Seat
 pub mod Wires
 pub mod Example
+pub mod View
+pub mod Way
+pub mod Driven

@@ -5,6 +5,7 @@
 ghost use Rattle.std.specs.Prelude.{◌≡◌, ◌<◌, ◌≤◌, length, MatchOption, IfOk};
 ghost use Rattle.metered.specs.Limits.{most_ranks};
 ghost use Rattle.world_model.specs.Headline.{IsFresh};
+ghost use Rattle.world_model.specs.View.{IsView};
 
 mod acking;
 mod applying;
@@ -18,9 +19,11 @@ mod replaying;
 mod restarting;
 mod stepping;
 mod storing;
+mod way;
 
 use crate::run::Run;
 use crate::seats::Seats;
+use crate::view::View;
 use crate::wires::Wires;
 use metered::Heap;
 use plain_logger::LoggerState;
@@ -113,6 +116,14 @@ impl<'p> Parts<'p> {
         ensures { result.now ≡ self.now.lines }
     {
         self.console.lines()
+    }
+
+    /// What is shown of a rank. This takes no memory.
+    pub fn view(&self, rank: u8) -> View
+        requires { rank < length self.now.ranks }
+        ensures { IsView self.now rank result }
+    {
+        self.seats.view(rank, self.run.count(rank))
     }
 
     /// The rank of this number, if there is one.

@@ -3,7 +3,7 @@
 //! An index answers what would else need a walk of the run.
 ghost use Rattle.std.specs.Prelude.{◌≡◌, ℕ, ◌<◌, [], ◌∷◌, length, drop, replicate, Some, IfSome, IfNone, IfOk, OnOk, OnErr};
 ghost use Rattle.crash_free.specs.Runs.{history};
-ghost use Rattle.world_model.specs.RunIndex.{clock_at, none_made};
+ghost use Rattle.world_model.specs.RunIndex.{clock_at, none_made, IsNext};
 
 mod clocks;
 mod made;
@@ -47,6 +47,22 @@ impl Run {
             acts: Vec::new(alloc),
             index: index_of_none(alloc, ranks)?,
         })
+    }
+
+    /// How many acts there are.
+    pub fn len(&self) -> usize
+        ensures { result ≡ length self.now.acts }
+    {
+        self.acts.len()
+    }
+
+    /// The rank of the act at this place, from 0, oldest first.
+    pub fn rank_at(&self, index: usize) -> u8
+        requires { index < length self.now.acts }
+        ensures next { IsNext self.now.acts index result }
+        ensures rank { result < self.now.ranks }
+    {
+        self.acts[index].rank
     }
 
     /// How many acts a rank made.

@@ -3,6 +3,7 @@ ghost use Rattle.std.specs.Prelude.{◌≡◌, ◌≢◌, ◌<◌, ◌≤◌, []
 ghost use Rattle.std.specs.Bool.{OnTrue, OnFalse};
 ghost use Rattle.metered.specs.Limits.{most_ranks};
 ghost use Rattle.world_model.specs.Seats.{at_work, IfLive, IsNew, IsNotAtWork, IsNotInReplay};
+ghost use Rattle.world_model.specs.View.{shown_of};
 
 mod calling;
 mod imaging;
@@ -10,6 +11,7 @@ mod living;
 mod stepping;
 
 use crate::state::State;
+use crate::view::View;
 use checkpoint::MemoryShelf;
 use metered::Heap;
 use rank_language::Program;
@@ -120,6 +122,32 @@ impl<'p> Seat<'p> {
         match &self.state {
             State::Running(running) => Some(running),
             State::Replaying(_) | State::Down(_) | State::Empty => None,
+        }
+    }
+
+    /// What is shown of the rank, which has made so many acts of the run.
+    pub fn view(&self, acts: usize) -> View
+        ensures { result ≡ shown_of self.now.live acts }
+    {
+        match &self.state {
+            State::Running(running) => View {
+                live: true,
+                left: 0,
+                clock: running.clock(),
+                acts,
+            },
+            State::Replaying(replaying) => View {
+                live: true,
+                left: replaying.left(),
+                clock: replaying.clock(),
+                acts,
+            },
+            State::Down(_) | State::Empty => View {
+                live: false,
+                left: 0,
+                clock: 0,
+                acts,
+            },
         }
     }
 }

@@ -5,6 +5,7 @@ ghost use Rattle.metered.specs.Limits.{most_ranks};
 ghost use Rattle.world_model.specs.Headline.{IsOpened};
 ghost use Rattle.world_model.specs.World.{Live};
 ghost use Rattle.world_model.specs.Seats.{at_work, AtRank, IsNew, IsNotAtWork, IsNotInReplay, SeatValue};
+ghost use Rattle.world_model.specs.View.{shown_of};
 
 mod framing;
 mod imaging;
@@ -13,6 +14,7 @@ mod stepping;
 mod storing;
 
 use crate::seat::Seat;
+use crate::view::View;
 use checkpoint::MemoryShelf;
 use metered::Heap;
 use rank_language::Program;
@@ -95,6 +97,14 @@ impl<'p> Seats<'p> {
         ensures none { IfNone result (IsSomeAnd (slice_get self.now.ranks rank) IsNotAtWork) }
     {
         self.seats[usize::from(rank)].running()
+    }
+
+    /// What is shown of a rank, which has made so many acts of the run.
+    pub fn view(&self, rank: u8, acts: usize) -> View
+        requires { rank < length self.now.ranks }
+        ensures { IsSomeAnd (slice_get self.now.ranks rank) (λ x. result ≡ shown_of x acts) }
+    {
+        self.seats[usize::from(rank)].view(acts)
     }
 }
 

@@ -3,12 +3,15 @@ ghost use Rattle.std.specs.Prelude.{◌≡◌, ◌<◌, ◌≤◌, [], length, I
 ghost use Rattle.metered.specs.Limits.{most_ranks};
 ghost use Rattle.world_model.specs.Headline.{IsFresh, StandsFor};
 ghost use Rattle.world_model.specs.Retained.{NothingGone};
+ghost use Rattle.world_model.specs.View.{IsView};
+ghost use Rattle.world_model.specs.Way.{IsWayOn};
 ghost use Rattle.world_model.specs.World.{size};
-ghost use Rattle.world_model.specs.Follows.{CanNot, Follows, FollowsAll, StoppedAt, TakesNoMemory, Unchanged};
+ghost use Rattle.world_model.specs.Follows.{CanNot, Follows, FollowsAll, Stops, TakesNoMemory, Unchanged};
 
 use crate::event::WorldEvent;
 use crate::parts::Parts;
 use crate::reply::Reply;
+use crate::view::View;
 use metered::Heap;
 use ports::Line;
 use rank_language::Program;
@@ -76,6 +79,37 @@ impl<'p> World<'p> {
         self.parts.lines()
     }
 
+    /// What is shown of a rank: whether it is live, how many events it has
+    /// left to replay and its clock, both 0 where it is down, and how many
+    /// acts of the run are its own. This takes no memory.
+    pub fn view(&self, rank: u8) -> View
+        requires { rank < size self.now }
+        ensures { IsView self.now rank result }
+    {
+        self.parts.view(rank)
+    }
+
+    /// A way on from this world, which is driven along it and ends: events
+    /// after which, on whatever course they are taken, every rank is live, has
+    /// nothing left to replay and has made its acts of the run. An `Err` is
+    /// want of memory.
+    #[tactic(auto, using(crate::proofs::WayFound::alike_self))]
+    pub fn way_on(self) -> Result<Vec<WorldEvent, Heap>, AllocError>
+        ensures { IfOk result (λ events. IsWayOn self.entry events.items) }
+    {
+        let World { mut parts } = self;
+        match parts.way() {
+            Ok(events) => {
+                parts.end();
+                Ok(events)
+            }
+            Err(_) => {
+                parts.end();
+                Err(AllocError)
+            }
+        }
+    }
+
     /// One event. An `Err` is want of memory, and comes only where the event
     /// isn't refused and takes memory: an acknowledgment and a crash take
     /// none, nor does a step that is the machine's own, is blocked or held,
@@ -95,9 +129,10 @@ impl<'p> World<'p> {
         self.parts.apply(event)
     }
 
-    /// A list of events, one after another. Where memory ends, the first
-    /// `done` of them have happened, and the next left the world as `apply`
-    /// leaves it.
+    /// A list of events, one after another. There is room for all replies
+    /// before the first, or none happens and `done` is 0. Where memory ends
+    /// later, the first `done` of them have happened, and `apply` answered want
+    /// of memory to the next.
     #[tactic(auto, using(crate::proofs::Sequences::run_laws))]
     pub fn run(&mut self, alloc: Heap, events: &[WorldEvent]) -> Result<Vec<Reply, Heap>, Stopped>
         ensures follows { IfOk result (λ replies. FollowsAll self.old events.now replies.items self.new) }
@@ -105,14 +140,14 @@ impl<'p> World<'p> {
         ensures nothing_gone { NothingGone self.new self.new.run }
 
         ensures done { IfErr result (λ stopped. stopped.done < length events.now) }
-        ensures stopped { IfErr result (λ stopped. StoppedAt self.old events.now stopped.done self.new) }
+        ensures stopped { IfErr result (λ stopped. Stops self.old events.now stopped.done self.new) }
     {
         let _parts = &self.parts;
         let mut replies = Vec::new(alloc);
+        let Ok(()) = replies.reserve(events.len()) else {
+            return Err(Stopped { done: 0 });
+        };
         for (done, event) in events.iter().enumerate() {
-            let Ok(()) = replies.reserve(1) else {
-                return Err(Stopped { done });
-            };
             let Ok(reply) = self.apply(*event) else {
                 return Err(Stopped { done });
             };

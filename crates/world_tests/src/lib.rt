@@ -21,6 +21,10 @@ mod simulations;
 #[cfg(test)]
 mod texts;
 #[cfg(test)]
+mod views;
+#[cfg(test)]
 mod waiting;
+#[cfg(test)]
+mod ways;
 #[cfg(test)]
 mod worlds;

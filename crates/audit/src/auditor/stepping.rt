@@ -1,7 +1,13 @@
 //! Steps of one rank that the outcome has.
-ghost use Rattle.std.specs.Prelude.{◌≡◌, ◌<◌, ◌≤◌, length, IfSome, IfOk, OnOk, IsTrue, is_ok};
-ghost use Rattle.crash_free.specs.Wanted.{WantsAt};
+ghost use Rattle.std.specs.Prelude.{◌≡◌, ◌≢◌, ℕ, ◌+◌, ◌<◌, ◌≤◌, true, false, length, IfSome, IfNone, IfOk, IfErr, OnOk, IsTrue, is_ok};
+ghost use Rattle.metered.specs.Limits.{greatest_clock};
+ghost use Rattle.plain_logger.specs.Event.{EventValue};
+ghost use Rattle.crash_free.specs.Runs.{history};
+ghost use Rattle.crash_free.specs.Wanted.{WantsAt, StandsAtAct};
+ghost use Rattle.audit.specs.Outcome.{OutcomeValue};
+ghost use Rattle.audit.specs.Lines.{IsSorted};
 ghost use Rattle.audit.specs.Audits.{Keeps, GoesTo, IsSendTo, Suits, Repeats};
+ghost use Rattle.audit.specs.Playing.{Plays, NoneIsOffered, IsNextEvent, IsNextLine, IsOfMessage};
 
 use crate::auditor::{Auditor, Goal};
 use crash_free::{Choice, NotAllowed};
@@ -17,6 +23,9 @@ impl Auditor<'_> {
         requires keeps { Keeps self.old.sim self.old.traces.items }
         ensures few { result ≤ most }
         ensures goes { GoesTo self.old.sim self.new.sim self.new.traces.items }
+        ensures plays { (o : OutcomeValue) (k : ℕ) → Plays o rank (k + result) k self.old.sim self.new.sim }
+        ensures stops { result < most → StandsAtAct self.new.sim.machines rank }
+        ensures same { result ≡ 0 → self.new.sim ≡ self.old.sim }
     {
         self.sim.stride(rank, most)
     }
@@ -26,19 +35,29 @@ impl Auditor<'_> {
     pub(super) fn act(&mut self, rank: u8, goal: &Goal<'_>) -> Result<bool, AllocError>
         requires rank { rank < length self.old.sim.machines }
         requires keeps { Keeps self.old.sim self.old.traces.items }
-        ensures { OnOk result (GoesTo self.old.sim self.new.sim self.new.traces.items) }
+        requires sorted { IsSorted (length self.old.sim.machines) goal.now.outcome.now.lines goal.now.lines.now }
+        ensures goes { OnOk result (GoesTo self.old.sim self.new.sim self.new.traces.items) }
+        ensures made { IfOk result (λ made. made ≡ true → (k : ℕ) → Plays goal.now.outcome.now rank (k + 1) k self.old.sim self.new.sim) }
+        ensures none { IfOk result (λ made. made ≡ false → StandsAtAct self.old.sim.machines rank → NoneIsOffered goal.now.outcome.now self.old.sim rank) }
+        ensures same { IfOk result (λ made. made ≡ false → self.new.sim ≡ self.old.sim) }
     {
         let want = self.sim.wants(rank);
         match want {
             Want::Send { dest, .. } => self.send(rank, want, dest),
-            Want::Print(value) if self.is_next_line(rank, goal, value) => self.print(rank, value),
+            Want::Print(value) => {
+                if self.is_next_line(rank, goal, value) {
+                    self.print(rank, value)
+                } else {
+                    Ok(false)
+                }
+            }
             Want::Receive(_) | Want::Probe(_) | Want::TryProbe(_) => {
                 match self.next_event(rank, goal) {
                     Some(event) => self.choose(rank, want, event),
                     None => Ok(false),
                 }
             }
-            Want::Internal | Want::Print(_) | Want::Halted | Want::Faulted(_) => Ok(false),
+            Want::Internal | Want::Halted | Want::Faulted(_) => Ok(false),
         }
     }
 
@@ -49,7 +68,10 @@ impl Auditor<'_> {
         requires keeps { Keeps self.old.sim self.old.traces.items }
         requires wanted { WantsAt self.old.sim.machines rank want }
         requires sends { IsSendTo dest want }
-        ensures { OnOk result (GoesTo self.old.sim self.new.sim self.new.traces.items) }
+        ensures goes { OnOk result (GoesTo self.old.sim self.new.sim self.new.traces.items) }
+        ensures made { IfOk result (λ made. made ≡ true → (o : OutcomeValue) (k : ℕ) → Plays o rank (k + 1) k self.old.sim self.new.sim) }
+        ensures none { IfOk result (λ made. made ≡ false → (o : OutcomeValue) → NoneIsOffered o self.old.sim rank) }
+        ensures same { IfOk result (λ made. made ≡ false → self.new.sim ≡ self.old.sim) }
     {
         let place = usize::from(rank);
         let Some(clock) = self.traces[place].next_clock() else {
@@ -67,7 +89,11 @@ impl Auditor<'_> {
         requires rank { rank < length self.old.sim.machines }
         requires keeps { Keeps self.old.sim self.old.traces.items }
         requires wanted { WantsAt self.old.sim.machines rank (Want.Print value) }
-        ensures { OnOk result (GoesTo self.old.sim self.new.sim self.new.traces.items) }
+        ensures goes { OnOk result (GoesTo self.old.sim self.new.sim self.new.traces.items) }
+        ensures made { IfOk result (λ made. made ≡ true → (o : OutcomeValue) → IsNextLine o self.old.sim rank value
+            → (k : ℕ) → Plays o rank (k + 1) k self.old.sim self.new.sim) }
+        ensures none { IfOk result (λ made. made ≡ false → (o : OutcomeValue) → NoneIsOffered o self.old.sim rank) }
+        ensures same { IfOk result (λ made. made ≡ false → self.new.sim ≡ self.old.sim) }
     {
         let place = usize::from(rank);
         let Some(clock) = self.traces[place].next_clock() else {
@@ -85,7 +111,12 @@ impl Auditor<'_> {
         requires rank { rank < length self.old.sim.machines }
         requires keeps { Keeps self.old.sim self.old.traces.items }
         requires wanted { WantsAt self.old.sim.machines rank want }
-        ensures { OnOk result (GoesTo self.old.sim self.new.sim self.new.traces.items) }
+        ensures goes { OnOk result (GoesTo self.old.sim self.new.sim self.new.traces.items) }
+        ensures made { IfOk result (λ made. made ≡ true → (o : OutcomeValue) → IsNextEvent o self.old.sim rank event
+            → (k : ℕ) → Plays o rank (k + 1) k self.old.sim self.new.sim) }
+        ensures none { IfOk result (λ made. made ≡ false → IsOfMessage want → (o : OutcomeValue) → IsNextEvent o self.old.sim rank event
+            → NoneIsOffered o self.old.sim rank) }
+        ensures same { IfOk result (λ made. made ≡ false → self.new.sim ≡ self.old.sim) }
     {
         if !suits(&want, event.kind()) {
             return Ok(false);
@@ -111,7 +142,8 @@ impl Auditor<'_> {
     fn choice_of(&self, rank: u8, event: &Event) -> Option<Choice>
         requires rank { rank < length self.now.sim.machines }
         requires keeps { Keeps self.now.sim self.now.traces.items }
-        ensures { IfSome result (Repeats self.now.sim.run rank event.now) }
+        ensures some { IfSome result (Repeats self.now.sim.run rank event.now) }
+        ensures none { IfNone result ((choice : Choice) → Repeats self.now.sim.run rank event.now choice → ⊥) }
     {
         if event.kind() == Kind::Miss {
             return Some(Choice::Miss);
@@ -129,29 +161,54 @@ impl Auditor<'_> {
     }
 
     /// The event that the outcome has next for the rank.
-    pub(super) fn next_event(&self, rank: u8, goal: &Goal<'_>) -> Option<Event> {
-        let rank = usize::from(rank);
-        let done = self.traces.get(rank)?.row().len();
+    pub(super) fn next_event(&self, rank: u8, goal: &Goal<'_>) -> Option<Event>
+        requires rank { rank < length self.now.sim.machines }
+        requires keeps { Keeps self.now.sim self.now.traces.items }
+        ensures some { IfSome result (IsNextEvent goal.now.outcome.now self.now.sim rank) }
+        ensures none { IfNone result ((event : EventValue) → IsNextEvent goal.now.outcome.now self.now.sim rank event → ⊥) }
+    {
+        let place = usize::from(rank);
+        let done = self.traces[place].row().len();
         let outcome = goal.outcome;
-        outcome.rows.get(rank)?.get(done).copied()
+        if place >= outcome.rows.len() {
+            return None;
+        }
+        outcome.rows[place].as_slice().get(done).copied()
     }
 
     /// Whether the outcome's next line of the rank has its next clock and this value.
-    pub(super) fn is_next_line(&self, rank: u8, goal: &Goal<'_>, value: i64) -> bool {
-        let rank = usize::from(rank);
-        let (Some(trace), Some(lines)) = (self.traces.get(rank), goal.lines.get(rank)) else {
+    pub(super) fn is_next_line(&self, rank: u8, goal: &Goal<'_>, value: i64) -> bool
+        requires rank { rank < length self.now.sim.machines }
+        requires keeps { Keeps self.now.sim self.now.traces.items }
+        requires sorted { IsSorted (length self.now.sim.machines) goal.now.outcome.now.lines goal.now.lines.now }
+        ensures yes { IsTrue result → IsNextLine goal.now.outcome.now self.now.sim rank value }
+        ensures no { result ≡ false → IsNextLine goal.now.outcome.now self.now.sim rank value → greatest_clock ≤ length (history self.now.sim.run rank) }
+    {
+        let place = usize::from(rank);
+        let trace = &self.traces[place];
+        let Some(next) = trace.next_clock() else {
             return false;
         };
-        match lines.as_slice().get(trace.lines().len()) {
-            Some(&(clock, printed)) => trace.next_clock() == Some(clock) && printed == value,
+        let done = trace.lines().len();
+        match goal.lines[place].as_slice().get(done) {
+            Some(line) => is_line(*line, next, value),
             None => false,
         }
     }
 }
 
+/// Whether a line has this clock and this value.
+fn is_line(line: (u32, i64), clock: u32, value: i64) -> bool
+    ensures yes { IsTrue result → line ≡ (clock, value) }
+    ensures no { result ≡ false → line ≢ (clock, value) }
+{
+    line.0 == clock && line.1 == value
+}
+
 /// Whether an event of this kind may come from what is wanted.
 fn suits(want: &Want, kind: Kind) -> bool
-    ensures { IsTrue result → Suits want.now kind }
+    ensures yes { IsTrue result → Suits want.now kind }
+    ensures no { result ≡ false → Suits want.now kind → ⊥ }
 {
     match (want, kind) {
         (Want::Receive(_), Kind::Reception)
@@ -167,7 +224,8 @@ fn suits(want: &Want, kind: Kind) -> bool
 
 /// Whether a choice was allowed; want of memory is an `Err`.
 fn was_allowed(answer: Result<(), NotAllowed>) -> Result<bool, AllocError>
-    ensures { IfOk result (λ allowed. allowed ≡ is_ok answer) }
+    ensures ok { IfOk result (λ allowed. allowed ≡ is_ok answer) }
+    ensures refused { IfOk result (λ _. IfErr answer (λ why. why ≢ NotAllowed.Memory)) }
 {
     match answer {
         Ok(()) => Ok(true),

@@ -1,5 +1,5 @@
 //! What a run that can't go on has come to.
-ghost use Rattle.std.specs.Prelude.{◌<◌, length, IfOk, IfNone, IsTrue};
+ghost use Rattle.std.specs.Prelude.{◌≡◌, ◌<◌, false, length, IfOk, IfErr, IfNone, IfSome, IsTrue};
 ghost use Rattle.audit.specs.Outcome.{MayWant, IsWaiting};
 ghost use Rattle.audit.specs.Lines.{IsSorted};
 ghost use Rattle.audit.specs.Audits.{Keeps, HasRow, HasLines, HasEnd, IsReached, AreReached};
@@ -15,7 +15,9 @@ impl Auditor<'_> {
     pub fn verdict(&self, goal: &Goal<'_>, left: &[u32]) -> Result<(), AuditFault>
         requires keeps { Keeps self.now.sim self.now.traces.items }
         requires sorted { IsSorted (length self.now.sim.machines) goal.now.outcome.now.lines goal.now.lines.now }
-        ensures { IfOk result (λ _. AreReached self.now.sim goal.now.outcome.now) }
+        ensures ok { IfOk result (λ _. AreReached self.now.sim goal.now.outcome.now) }
+        ensures err { IfErr result (λ _. length goal.now.outcome.now.rows ≡ length self.now.sim.machines
+            → length goal.now.outcome.now.ends ≡ length self.now.sim.machines → AreReached self.now.sim goal.now.outcome.now → ⊥) }
     {
         let mut waits = false;
         for rank in 0..self.sim.ranks() {
@@ -38,7 +40,9 @@ impl Auditor<'_> {
         requires rank { rank < length self.now.sim.machines }
         requires keeps { Keeps self.now.sim self.now.traces.items }
         requires sorted { IsSorted (length self.now.sim.machines) goal.now.outcome.now.lines goal.now.lines.now }
-        ensures { IfNone result (IsReached self.now.sim goal.now.outcome.now rank) }
+        ensures none { IfNone result (IsReached self.now.sim goal.now.outcome.now rank) }
+        ensures some { IfSome result (λ _. rank < length goal.now.outcome.now.rows
+            → rank < length goal.now.outcome.now.ends → IsReached self.now.sim goal.now.outcome.now rank → ⊥) }
     {
         if self.is_reached(rank, goal) {
             return None;
@@ -52,6 +56,7 @@ impl Auditor<'_> {
     /// What keeps a rank with steps left from the outcome.
     fn fault_at(&self, rank: u8, goal: &Goal<'_>) -> AuditFault
         requires rank { rank < length self.now.sim.machines }
+        requires keeps { Keeps self.now.sim self.now.traces.items }
     {
         let event_left = self.next_event(rank, goal).is_some();
         match self.sim.wants(rank) {
@@ -82,7 +87,9 @@ impl Auditor<'_> {
         requires rank { rank < length self.now.sim.machines }
         requires keeps { Keeps self.now.sim self.now.traces.items }
         requires sorted { IsSorted (length self.now.sim.machines) goal.now.outcome.now.lines goal.now.lines.now }
-        ensures { IsTrue result → IsReached self.now.sim goal.now.outcome.now rank }
+        ensures yes { IsTrue result → IsReached self.now.sim goal.now.outcome.now rank }
+        ensures no { result ≡ false → rank < length goal.now.outcome.now.rows → rank < length goal.now.outcome.now.ends
+            → IsReached self.now.sim goal.now.outcome.now rank → ⊥ }
     {
         self.has_row(rank, goal) && self.has_lines(rank, goal) && self.has_end(rank, goal)
     }
@@ -90,7 +97,8 @@ impl Auditor<'_> {
     fn has_row(&self, rank: u8, goal: &Goal<'_>) -> bool
         requires rank { rank < length self.now.sim.machines }
         requires keeps { Keeps self.now.sim self.now.traces.items }
-        ensures { IsTrue result → HasRow self.now.sim goal.now.outcome.now rank }
+        ensures yes { IsTrue result → HasRow self.now.sim goal.now.outcome.now rank }
+        ensures no { result ≡ false → rank < length goal.now.outcome.now.rows → HasRow self.now.sim goal.now.outcome.now rank → ⊥ }
     {
         let place = usize::from(rank);
         let outcome = goal.outcome;
@@ -104,7 +112,8 @@ impl Auditor<'_> {
         requires rank { rank < length self.now.sim.machines }
         requires keeps { Keeps self.now.sim self.now.traces.items }
         requires sorted { IsSorted (length self.now.sim.machines) goal.now.outcome.now.lines goal.now.lines.now }
-        ensures { IsTrue result → HasLines self.now.sim goal.now.outcome.now rank }
+        ensures yes { IsTrue result → HasLines self.now.sim goal.now.outcome.now rank }
+        ensures no { result ≡ false → HasLines self.now.sim goal.now.outcome.now rank → ⊥ }
     {
         let place = usize::from(rank);
         self.traces[place].lines() == goal.lines[place].as_slice()
@@ -112,7 +121,8 @@ impl Auditor<'_> {
 
     fn has_end(&self, rank: u8, goal: &Goal<'_>) -> bool
         requires rank { rank < length self.now.sim.machines }
-        ensures { IsTrue result → HasEnd self.now.sim goal.now.outcome.now rank }
+        ensures yes { IsTrue result → HasEnd self.now.sim goal.now.outcome.now rank }
+        ensures no { result ≡ false → rank < length goal.now.outcome.now.ends → HasEnd self.now.sim goal.now.outcome.now rank → ⊥ }
     {
         let outcome = goal.outcome;
         match outcome.ends.get(usize::from(rank)) {
@@ -133,7 +143,8 @@ impl Auditor<'_> {
 
 /// Whether a rank that ended so may want this.
 fn may_want(end: End, want: &Want) -> bool
-    ensures { IsTrue result → MayWant end want.now }
+    ensures yes { IsTrue result → MayWant end want.now }
+    ensures no { result ≡ false → MayWant end want.now → ⊥ }
 {
     match end {
         End::Halted => *want == Want::Halted,
@@ -145,7 +156,8 @@ fn may_want(end: End, want: &Want) -> bool
 
 /// Whether this is a receive, or a probe that waits.
 fn is_waiting(want: &Want) -> bool
-    ensures { IsTrue result → IsWaiting want.now }
+    ensures yes { IsTrue result → IsWaiting want.now }
+    ensures no { result ≡ false → IsWaiting want.now → ⊥ }
 {
     match want {
         Want::Receive(_) | Want::Probe(_) => true,

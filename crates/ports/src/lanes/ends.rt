@@ -1,6 +1,6 @@
 //! The beginning and the end of a lane.
 ghost use Rattle.std.specs.Prelude.{◌≡◌, ◌≤◌, [], IfOk};
-ghost use Rattle.ports.specs.Lanes.{IsLane, IsCarried, put_of, taken_of, counted};
+ghost use Rattle.ports.specs.Lanes.{IsLane, IsCarried, lane_to, put_of, room_of, taken_of, counted};
 
 use super::{Carried, Rx, Tx};
 use metered::Heap;
@@ -13,6 +13,7 @@ pub fn lane(alloc: Heap, capacity: usize) -> Result<(Tx, Rx), AllocError>
     ensures lane { IfOk result (λ ends. IsLane ends.0 ends.1) }
     ensures put { IfOk result (λ ends. put_of ends.0 ≡ []) }
     ensures taken { IfOk result (λ ends. taken_of ends.1 ≡ []) }
+    ensures room { IfOk result (λ ends. room_of (lane_to ends.0) ≡ capacity) }
 {
     let (producer, consumer) = RingBuffer::new(alloc, capacity)?;
     let tx = Tx {

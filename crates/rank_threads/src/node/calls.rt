@@ -1,9 +1,9 @@
 //! What a rank is asked for in its life.
-ghost use Rattle.std.specs.Prelude.{◌≡◌, ◌≢◌, ◌+◌, ◌<◌, ◌≤◌, true, Some, Err, IfOk, IfErr, OnOk, OnErr};
+ghost use Rattle.std.specs.Prelude.{◌≡◌, ◌≢◌, ◌+◌, ◌<◌, ◌≤◌, true, false, Some, Err, IfOk, IfErr, OnOk, OnErr};
 ghost use Rattle.rank_machine.specs.declared.want.Want.TheVariants.{Internal};
 ghost use Rattle.rank_node.specs.Fault.{MayRefuseImage};
 ghost use Rattle.ports.specs.Lanes.{lane_to, put_of};
-ghost use Rattle.rank_threads.specs.Phases.{clock_in, want_in, is_running, waiting_in, HasImage, NoneWaits, ReadsRow};
+ghost use Rattle.rank_threads.specs.Phases.{clock_in, want_in, is_running, settled_of, waiting_in, HasImage, NoneWaits, ReadsRow, SameShelf};
 ghost use Rattle.rank_threads.specs.Putting.{Puts};
 ghost use Rattle.rank_threads.specs.Seats.{SameNode};
 ghost use Rattle.rank_threads.specs.Steps.{acts_made, turn_in};
@@ -27,6 +27,14 @@ impl<'p, 'l> Node<'p, 'l> {
         &self.phase
     }
 
+    /// Whether it replays, and nothing is left to replay.
+    pub fn has_replayed(&self) -> bool
+        ensures stays { result ≡ false → settled_of self.now.phase ≡ self.now.phase }
+        ensures runs { result ≡ true → is_running (settled_of self.now.phase) ≡ true }
+    {
+        self.phase.has_replayed()
+    }
+
     /// What its machine wants next; nothing where the rank is down.
     pub fn wants(&self) -> Option<Want>
         ensures { result ≡ want_in self.now.phase }
@@ -45,6 +53,7 @@ impl<'p, 'l> Node<'p, 'l> {
     pub fn arrive(&mut self, from: u8, frame: Frame) -> Result<(), AllocError>
         requires { from < self.old.size }
         ensures ok { OnOk result (self.new.phase ≡ arrived self.old.phase from frame) }
+        ensures shelf { SameShelf self.old.phase self.new.phase }
         ensures gate { waiting_in self.new.phase ≡ waiting_in self.old.phase }
         ensures same { SameNode self.old self.new }
     {
@@ -57,6 +66,7 @@ impl<'p, 'l> Node<'p, 'l> {
         requires { dest < self.old.size }
         ensures puts { IfOk result (λ went. Puts went self.old.phase dest (put_of lane.old) self.new.phase (put_of lane.new)) }
         ensures err { OnErr result ((self.new.phase ≡ self.old.phase) × (put_of lane.new ≡ put_of lane.old)) }
+        ensures shelf { SameShelf self.old.phase self.new.phase }
         ensures gate { waiting_in self.new.phase ≡ waiting_in self.old.phase }
         ensures same { SameNode self.old self.new }
         ensures lane { lane_to lane.new ≡ lane_to lane.old }
@@ -91,6 +101,7 @@ impl<'p, 'l> Node<'p, 'l> {
     pub fn read(&mut self, alloc: Heap, of: u8, after: u32) -> Result<Vec<Event, Heap>, AllocError>
         requires { of < self.old.size }
         ensures read { IfOk result (λ events. ReadsRow self.old.phase of after events.items self.new.phase) }
+        ensures shelf { SameShelf self.old.phase self.new.phase }
         ensures err { OnErr result (self.new.phase ≡ self.old.phase) }
         ensures gate { waiting_in self.new.phase ≡ waiting_in self.old.phase }
         ensures same { SameNode self.old self.new }
@@ -104,6 +115,7 @@ impl<'p, 'l> Node<'p, 'l> {
         ensures running { IfOk result (λ took. took ≡ is_running self.new.phase) }
         ensures image { IfOk result (λ took. took ≡ true → HasImage self.new.phase) }
         ensures refused { IfErr result MayRefuseImage }
+        ensures runs { is_running self.new.phase ≡ is_running self.old.phase }
         ensures gate { waiting_in self.new.phase ≡ waiting_in self.old.phase }
         ensures same { SameNode self.old self.new }
     {
@@ -119,6 +131,7 @@ impl<'p, 'l> Node<'p, 'l> {
         blank: &mut ConsoleState,
     ) -> Result<bool, AllocError>
         ensures settled { IfOk result (λ all. all ≡ true → NoneWaits self.new.phase) }
+        ensures runs { is_running self.new.phase ≡ is_running self.old.phase }
         ensures same { SameNode self.old self.new }
     {
         let logger = self.logger;

@@ -13,7 +13,7 @@ use std::alloc::AllocError;
 use std::sync::Wait;
 
 impl<'p> Phase<'p> {
-    ghost use Rattle.rank_threads.specs.Phases.{stable_of, is_running, waiting_in, HasImage, NoneWaits, ReadsRow, SamePhase};
+    ghost use Rattle.rank_threads.specs.Phases.{stable_of, is_running, waiting_in, HasImage, NoneWaits, ReadsRow, SamePhase, SameShelf};
 
     /// The events of rank `of` whose receiver's clock is above `after`; none
     /// for a rank that is down. An `Err` is want of memory.
@@ -29,6 +29,7 @@ impl<'p> Phase<'p> {
         ensures read { IfOk result (λ events. ReadsRow self.old of after events.items self.new) }
         ensures err { OnErr result (self.new ≡ self.old) }
         ensures gate { waiting_in self.new ≡ waiting_in self.old }
+        ensures shelf { SameShelf self.old self.new }
         ensures same { SamePhase self.old self.new }
     {
         let answer = match self {
@@ -44,6 +45,7 @@ impl<'p> Phase<'p> {
         ensures running { IfOk result (λ took. took ≡ is_running self.new) }
         ensures image { IfOk result (λ took. took ≡ true → HasImage self.new) }
         ensures refused { IfErr result MayRefuseImage }
+        ensures runs { is_running self.new ≡ is_running self.old }
         ensures gate { waiting_in self.new ≡ waiting_in self.old }
         ensures same { SamePhase self.old self.new }
     {
@@ -67,6 +69,7 @@ impl<'p> Phase<'p> {
     ) -> Result<bool, AllocError>
         requires { (stable_of self.old).desk.table ≡ logger.now.table }
         ensures settled { IfOk result (λ all. all ≡ true → NoneWaits self.new) }
+        ensures runs { is_running self.new ≡ is_running self.old }
         ensures same { SamePhase self.old self.new }
     {
         match self {

@@ -9,6 +9,7 @@ use crate::node::Node;
 use crate::plan::Plan;
 use crate::row::Row;
 use crate::seat::Seat;
+use crate::shared::Shared;
 use crate::tally::Tally;
 use audit::End;
 use checkpoint::MemoryShelf;
@@ -57,8 +58,9 @@ impl<'l> Station<'l> {
         }
     }
 
-    /// A life of the rank begins. Where it can't, the seat's fault says why.
-    pub fn begin<'p>(self, alloc: Heap, program: &'p Program) -> Seat<'p, 'l>
+    /// A life of the rank begins. Where it can't, the seat's fault says why, and
+    /// all are to leave.
+    pub fn begin<'p, H>(self, shared: &Shared<'_, H>, program: &'p Program) -> Seat<'p, 'l>
         ensures begins { result.tally.fault ≡ None → Begins program.now self.entry.down self.entry.row result.node.phase }
         ensures plan { result.plan ≡ self.entry.plan }
         ensures tally { result.tally ≡ record self.entry.tally { fault = result.tally.fault } }
@@ -77,9 +79,9 @@ impl<'l> Station<'l> {
             row,
             end: _,
         } = self;
-        let (node, fault) = Node::begin(alloc, program, logger, down, row, size);
+        let (node, fault) = Node::begin(shared.alloc, program, logger, down, row, size);
         if let Some(fault) = fault {
-            tally.refuse(fault);
+            tally.refuse(fault, shared.stop_all());
         }
         Seat {
             rank,

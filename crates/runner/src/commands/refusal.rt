@@ -1,4 +1,6 @@
 //! Why the program goes no further.
+ghost use Rattle.std.specs.Prelude.{◌≡◌, [], IfOk};
+
 use crate::commands::said::Said;
 use crate::files::FileFault;
 use audit::AuditFault;
@@ -9,22 +11,34 @@ use rank_node::NodeFault;
 use rank_threads::RunFault;
 use script_text::{ScriptFault, ScriptParseFault};
 use std::alloc::AllocError;
+use thiserror::Error;
 
-/// What stands in the way of an answer.
-#[derive(Clone, Copy, Debug, PartialEq, Eq)]
+/// What stands in the way of an answer. Its text is the line on standard error.
+#[derive(Clone, Copy, Debug, Error)]
 pub enum Refusal<'a> {
+    /// The file of this name can't be read.
+    #[error("cannot read {0}")]
     CannotRead(&'a str),
+    #[error("line {}: fault {} {}", .0.line, .0.kind.number(), .0.kind)]
     Program(ProgramFault),
+    #[error("script line {}: fault {} {}", .0.line, .0.kind.number(), .0.kind)]
     Script(ScriptFault),
+    #[error("events line {line}: fault {} {kind}", .kind.number())]
     Events { line: usize, kind: EventsFaultKind },
     /// The outcome of a run isn't one of a run without crashes.
+    #[error("audit fault {}", .0.number())]
     Audit(AuditFault),
     /// A rank of a run couldn't go on.
+    #[error("rank {rank}: node fault {}", .fault.number())]
     Node { rank: u8, fault: NodeFault },
+    /// There was no memory.
+    #[error("out of memory")]
     Memory,
 }
 
 impl<'a> Refusal<'a> {
+    ghost use Rattle.runner.specs.Refusals.{status_of};
+
     pub fn of_file(name: &'a str, fault: FileFault) -> Refusal<'a> {
         match fault {
             FileFault::Cannot => Refusal::CannotRead(name),
@@ -32,54 +46,28 @@ impl<'a> Refusal<'a> {
         }
     }
 
-    /// The line on standard error, with the exit status.
-    pub fn said(self, alloc: Heap) -> Result<Said, AllocError> {
-        let text = match self {
-            Refusal::CannotRead(name) => format!(in alloc; "cannot read {name}\n")?,
-            Refusal::Program(fault) => program_line(alloc, fault)?,
-            Refusal::Script(fault) => script_line(alloc, fault)?,
-            Refusal::Events { line, kind } => events_line(alloc, line, kind)?,
-            Refusal::Audit(fault) => return audit_line(alloc, fault),
-            Refusal::Node { rank, fault } => return node_line(alloc, rank, fault),
-            Refusal::Memory => return Err(AllocError),
-        };
-        Ok(Said::refusal(alloc, 2, text))
+    /// The line on standard error, with the exit status. An `Err` is want of memory.
+    pub fn said(self, alloc: Heap) -> Result<Said, AllocError>
+        ensures status { IfOk result (λ said. said.status ≡ status_of self.entry) }
+        ensures silent { IfOk result (λ said. said.out.items ≡ []) }
+    {
+        let text = format!(in alloc; "{self}\n")?;
+        Ok(Said::refusal(alloc, self.status(), text))
     }
-}
 
-fn program_line(alloc: Heap, fault: ProgramFault) -> Result<String<Heap>, AllocError> {
-    let line = fault.line;
-    let number = fault.kind.number();
-    let name = fault.kind;
-    format!(in alloc; "line {line}: fault {number} {name}\n")
-}
-
-fn script_line(alloc: Heap, fault: ScriptFault) -> Result<String<Heap>, AllocError> {
-    let line = fault.line;
-    let number = fault.kind.number();
-    let name = fault.kind;
-    format!(in alloc; "script line {line}: fault {number} {name}\n")
-}
-
-fn events_line(
-    alloc: Heap,
-    line: usize,
-    kind: EventsFaultKind,
-) -> Result<String<Heap>, AllocError> {
-    let number = kind.number();
-    format!(in alloc; "events line {line}: fault {number} {kind}\n")
-}
-
-fn audit_line(alloc: Heap, fault: AuditFault) -> Result<Said, AllocError> {
-    let number = fault.number();
-    let text = format!(in alloc; "audit fault {number}\n")?;
-    Ok(Said::refusal(alloc, 1, text))
-}
-
-fn node_line(alloc: Heap, rank: u8, fault: NodeFault) -> Result<Said, AllocError> {
-    let number = fault.number();
-    let text = format!(in alloc; "rank {rank}: node fault {number}\n")?;
-    Ok(Said::refusal(alloc, 1, text))
+    // 1 behind a run, 4 where there is no memory, and else 2.
+    fn status(self) -> u8
+        ensures { result ≡ status_of self.entry }
+    {
+        match self {
+            Refusal::CannotRead(_)
+            | Refusal::Program(_)
+            | Refusal::Script(_)
+            | Refusal::Events { line: _, kind: _ } => 2,
+            Refusal::Audit(_) | Refusal::Node { rank: _, fault: _ } => 1,
+            Refusal::Memory => 4,
+        }
+    }
 }
 
 impl From<AllocError> for Refusal<'_> {

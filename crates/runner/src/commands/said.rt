@@ -1,5 +1,5 @@
 //! What the program says.
-ghost use Rattle.std.specs.Prelude.{◌≤◌};
+ghost use Rattle.std.specs.Prelude.{◌≡◌, ◌≤◌, [], string_bytes};
 
 use metered::Heap;
 
@@ -9,13 +9,16 @@ pub struct Said {
     pub status: u8,
     pub out: Vec<u8, Heap>,
     pub err: String<Heap>,
-    ghost known: { status ≤ 3 },
+    ghost known: { status ≤ 4 },
 }
 
 impl Said {
     /// A text for standard output.
     pub fn answer(alloc: Heap, status: u8, out: Vec<u8, Heap>) -> Said
-        requires { status ≤ 3 }
+        requires { status ≤ 4 }
+        ensures status { result.status ≡ status }
+        ensures out { result.out.items ≡ out.items }
+        ensures err { string_bytes result.err ≡ [] }
     {
         Said {
             status,
@@ -26,7 +29,10 @@ impl Said {
 
     /// A text for standard error.
     pub fn refusal(alloc: Heap, status: u8, err: String<Heap>) -> Said
-        requires { status ≤ 3 }
+        requires { status ≤ 4 }
+        ensures status { result.status ≡ status }
+        ensures out { result.out.items ≡ [] }
+        ensures err { string_bytes result.err ≡ string_bytes err }
     {
         Said {
             status,

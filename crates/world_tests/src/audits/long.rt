@@ -61,6 +61,57 @@ fn a_stream(rt: HostRuntime) -> Result<(), Fail> {
     Ok(())
 }
 
+/// Rank 0 sends a number to rank 1 and gets it back, so many times.
+fn round_trips(alloc: Heap, count: u32) -> Result<String<Heap>, Fail> {
+    Ok(format!(in alloc;
+        "var i
+var x
+while i < {count}
+let i = i + 1
+if rank == 0
+send 1, 7, i
+recv 1, 7, x
+else
+recv 0, 7, x
+send 0, 7, x
+end
+end
+"
+    )?)
+}
+
+/// What `round_trips` comes to: each rank's sends are its odd or its even acts.
+fn tripped(rt: &impl Abort, alloc: Heap, count: u32) -> Result<Outcome, Fail> {
+    assert!(rt; count <= 100_000);
+    let mut of_rank_0 = Vec::new(alloc);
+    let mut of_rank_1 = Vec::new(alloc);
+    for number in 1..=count {
+        of_rank_0.push(event_of(rt, Took(1, 2 * number, 2 * number)))?;
+        of_rank_1.push(event_of(rt, Took(0, 2 * number - 1, 2 * number - 1)))?;
+    }
+    let mut rows = Vec::new(alloc);
+    rows.push(of_rank_0)?;
+    rows.push(of_rank_1)?;
+    Ok(Outcome {
+        rows,
+        lines: Vec::new(alloc),
+        ends: vec![in alloc; End::Halted; 2]?,
+    })
+}
+
+/// Neither rank can do more than one trip before the other goes on.
+#[test]
+fn one_trip_after_another(rt: HostRuntime) -> Result<(), Fail> {
+    let alloc = rt.alloc();
+    let text = round_trips(alloc, 1001)?;
+    for (count, want) in [(1001u32, 0u8), (1000, 4)] {
+        let outcome = tripped(&rt, alloc, count)?;
+        let given = answer(alloc, text.as_bytes(), 2, &outcome, 100_000)?;
+        assert_eq!(rt; given, want, "{count} of 1001 trips");
+    }
+    Ok(())
+}
+
 /// Each of four ranks hands a number on, one more each time, three times.
 const RING: &[u8] = b"var i
 var x

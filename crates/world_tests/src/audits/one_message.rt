@@ -91,6 +91,23 @@ fn changed_ends(rt: HostRuntime) -> Result<(), Fail> {
     compare_two(&rt, rt.alloc(), ONE_MESSAGE, cases)
 }
 
+/// Where there are several faults, an event that is left goes before a line,
+/// and a line before an end.
+#[test]
+fn several_faults(rt: HostRuntime) -> Result<(), Fail> {
+    let twice: &[Stored] = &[Took(0, 1, 1), Took(0, 1, 3)];
+    let two_lines: &[Printed] = &[(1, 2, 42), (1, 3, 42)];
+    let stalled: &[End] = &[End::Halted, End::Stalled];
+    let cases: &[OfTwo<'_>] = &[
+        ("an event and a line too many", twice, two_lines, HALTED, 1),
+        ("an event too many, and stalled", twice, LINE, stalled, 1),
+        ("a line too many, and stalled", TAKEN, two_lines, stalled, 3),
+        ("all three", twice, two_lines, stalled, 1),
+        ("stalled", TAKEN, LINE, stalled, 4),
+    ];
+    compare_two(&rt, rt.alloc(), ONE_MESSAGE, cases)
+}
+
 #[test]
 fn too_many_and_too_few_rows(rt: HostRuntime) -> Result<(), Fail> {
     compare(

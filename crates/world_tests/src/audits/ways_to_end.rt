@@ -1,7 +1,7 @@
 //! Ranks that stall, fault, overtake, or go on.
 
 use crate::audits::Stored::Took;
-use crate::audits::{OfTwo, Printed, Stored, compare_two};
+use crate::audits::{Case, OfTwo, Printed, Stored, compare, compare_two};
 use rank_machine::MachineFault;
 use std::test::*;
 use world_model::End;
@@ -62,6 +62,32 @@ fn faulted(rt: HostRuntime) -> Result<(), Fail> {
         ("before its line", &[], &[], &[divided, going], 0),
     ];
     compare_two(&rt, rt.alloc(), ZERO, cases)
+}
+
+/// Rank 0 waits for what rank 1 sends after its line.
+const PRINTS_FIRST: &[u8] = b"var x
+if rank == 0
+recv 1, 7, x
+else
+print 1
+send 0, 7, 5
+end
+";
+
+/// A rank that only waits isn't named where another has a fault.
+#[test]
+fn waiting_for_another(rt: HostRuntime) -> Result<(), Fail> {
+    let rows: &[&[Stored]] = &[&[Took(1, 2, 1)], &[]];
+    let early: &[&[Stored]] = &[&[Took(1, 1, 1)], &[]];
+    let line: &[Printed] = &[(1, 1, 1)];
+    let other: &[Printed] = &[(1, 1, 2)];
+    let cases: &[Case<'_>] = &[
+        ("as it is", rows, line, HALTED, 0),
+        ("another line", rows, other, HALTED, 3),
+        ("no such message", early, line, HALTED, 2),
+        ("no such message, and another line", early, other, HALTED, 3),
+    ];
+    compare(&rt, rt.alloc(), PRINTS_FIRST, 2, cases)
 }
 
 /// Rank 0 sends two messages of tag 7 and one of tag 8, and rank 1 wants tag 8

@@ -25,6 +25,7 @@ loop-preserved c =
       whole = rw from_is (whole_more c.args.ranks from column i.whole (omega (arith, c.in_ok-column.ensures.whole)));
       to = omega (arith, i.to, c.in_ok-column.ensures.size);
       from = omega (arith, i.from, c.in_ok-push.ensures.len);
+      room = c.in_ok-column.ensures.room;
       put = c.in_ok-column.ensures.put;
       taken = rw from_is (All-push (λ (ends : Vec RxValue Global). All (λ r. taken_of r ≡ []) ends.items) from column i.taken c.in_ok-column.ensures.taken);
     }

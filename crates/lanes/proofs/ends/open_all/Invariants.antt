@@ -1,6 +1,6 @@
 use Rattle.std.proofs.Common.{◌≡◌, [], replicate, vec_len}
 use Rattle.lanes.specs.Crossed.{grow_all}
-use Rattle.lanes.specs.Ends.{to_names, from_names, AreWhole, NonePut, NoneTaken}
+use Rattle.lanes.specs.Ends.{to_names, from_names, AreWhole, HaveRoom, NonePut, NoneTaken}
 use Rattle.lanes.proofs.ends.open_all.Given as goal
 
 abbrev pub invariant-loop : goal.invariant-loop
@@ -9,6 +9,7 @@ invariant-loop l = record {
   whole : AreWhole l.fn.ranks (from_names l.from.items);
   to : vec_len l.to ≡ l.fn.ranks;
   from : vec_len l.from ≡ l.counter;
+  room : HaveRoom l.to.items;
   put : NonePut l.to.items;
   taken : NoneTaken l.from.items;
 }

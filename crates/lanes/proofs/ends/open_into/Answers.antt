@@ -4,7 +4,7 @@ use Rattle.std.proofs.lemmas.List.Elements.{All-push}
 use Rattle.ports.specs.Lanes.{TxValue, RxValue, lane_from, taken_of}
 use Rattle.lanes.specs.Crossed.{grow}
 use Rattle.lanes.specs.Ends.{to_names}
-use Rattle.lanes.proofs.EndsLemmas.{opened_more, none_put_more}
+use Rattle.lanes.proofs.EndsLemmas.{opened_more, none_put_more, room_more}
 use Rattle.lanes.proofs.ends.open_into.Goals as goal
 
 -- the new lane's two ends stand last
@@ -27,6 +27,7 @@ loop-source-preserved c =
       column = grind (arith, common_steps, column_is);
       end = l.invariant.end;
       size = l.invariant.size;
+      room = room_more to l.source row tx d l.invariant.room low row_is (c.in_ok-tx.ensures.room ∙ c.room.ensures);
       put = none_put_more to l.source row tx d l.invariant.put low row_is c.in_ok-tx.ensures.put;
       taken = rw column_is (All-push (λ (r : RxValue). taken_of r ≡ []) l.column.items rx l.invariant.taken c.in_ok-tx.ensures.taken);
     }

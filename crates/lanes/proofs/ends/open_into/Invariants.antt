@@ -1,7 +1,7 @@
 use Rattle.std.proofs.Common.{◌≡◌, [], map, length, vec_len}
 use Rattle.std.specs.List.{All}
 use Rattle.lanes.specs.Crossed.{grow}
-use Rattle.lanes.specs.Ends.{to_names, NonePut}
+use Rattle.lanes.specs.Ends.{to_names, NonePut, HaveRoom}
 use Rattle.ports.specs.Lanes.{lane_from, taken_of}
 use Rattle.lanes.proofs.ends.open_into.Given as goal
 
@@ -11,6 +11,7 @@ invariant-loop-source l = record {
   column : length l.column.items ≡ l.source;
   end : vec_len l.to ≡ l.source-end;
   size : vec_len l.to ≡ vec_len l.fn.to;
+  room : HaveRoom l.to.items;
   put : NonePut l.to.items;
   taken : All (λ rx. taken_of rx ≡ []) l.column.items;
 }

@@ -6,8 +6,7 @@ use Rattle.world_model.specs.Retained.{NothingGone}
 use Rattle.world_model.specs.Follows.{Follows, FollowsAll}
 use Rattle.world_model.specs.declared.event.WorldEvent.{WorldEvent}
 use Rattle.world_model.specs.declared.reply.Reply.{Reply}
-use Rattle.world_model.specs.declared.event.WorldEvent.TheVariants.{Step}
-use Rattle.world_model.proofs.Sequences.{follows_push, stops_before}
+use Rattle.world_model.proofs.Sequences.{follows_push}
 use Rattle.world_model.proofs.world.World.run.Goals as goal
 
 -- one more event of the list
@@ -20,14 +19,10 @@ go_on w v w' events replies k d answer l f g s n = rw (take_more events k d l) (
 pub loop-done-preserved : goal.loop-done-preserved
 loop-done-preserved c = record {
   ran = rw c.push_reserved.ensures.items
-      (rw c.in-Ok.ensures.items
       (go_on _ c.loop-done.self c.apply.new.self c.args.events.now c.loop-done.replies.items c.loop-done.done _ c.in-Ok-apply.reply (omega arith)
-      c.loop-done.invariant.ran c.in-Ok-apply.ensures.follows c.in-Ok-apply.ensures.stands c.in-Ok-apply.ensures.nothing_gone));
+      c.loop-done.invariant.ran c.in-Ok-apply.ensures.follows c.in-Ok-apply.ensures.stands c.in-Ok-apply.ensures.nothing_gone);
   stands = c.in-Ok-apply.ensures.stands;
   nothing_gone = c.in-Ok-apply.ensures.nothing_gone;
+  count = omega (arith, c.loop-done.invariant.count, c.push_reserved.ensures.len);
+  room = omega (arith, c.loop-done.invariant.room, c.push_reserved.ensures.capacity);
 }
-
--- src/world.rt
-pub returns-in_default-clause-stopped : goal.returns-in_default-clause-stopped
-returns-in_default-clause-stopped c =
-    stops_before _ c.loop-done.self c.args.events.now c.loop-done.replies.items c.loop-done.done (Step 0) c.loop-done-test.true c.loop-done.invariant.ran

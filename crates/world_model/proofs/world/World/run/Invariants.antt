@@ -1,4 +1,4 @@
-use Rattle.std.proofs.Common.{take}
+use Rattle.std.proofs.Common.{◌≡◌, ◌≤◌, length, take, vec_capacity, vec_len}
 use Rattle.world_model.specs.Follows.{FollowsAll}
 use Rattle.world_model.specs.Headline.{StandsFor}
 use Rattle.world_model.specs.Retained.{NothingGone}
@@ -9,4 +9,6 @@ invariant-loop-done l = record {
   ran : FollowsAll l.fn.self (take l.done l.events) l.replies.items l.self;
   stands : StandsFor l.self l.self.run;
   nothing_gone : NothingGone l.self l.self.run;
+  count : vec_len l.replies ≡ l.done;
+  room : length l.events ≤ vec_capacity l.replies;
 }

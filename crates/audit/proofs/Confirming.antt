@@ -1,0 +1,104 @@
+-- An audit that began with so many steps for each rank, and can't go on, has come to the outcome just where it is within reach.
+use Rattle.std.proofs.Common.{◌≡◌, ℕ, ℤ, ◌<◌, List, [], Some, length, slice_get, replicate}
+use Rattle.std.proofs.Common.{refl, sym, ap, subst, ◌∙◌, arith}
+use Rattle.std.specs.Prelude.{Result, Ok, Err, IsSomeAnd, IfErr}
+use Rattle.std.proofs.lemmas.List.{length-replicate}
+use Rattle.std.proofs.lemmas.Option.{slice_get_within}
+use Rattle.rank_language.specs.Program.{ProgramValue}
+use Rattle.crash_free.specs.Runs.{history}
+use Rattle.crash_free.specs.Sim.{SimValue, AreBegun}
+use Rattle.crash_free.specs.Wanted.{Wants}
+use Rattle.crash_free.specs.Advances.{Advances, still, first_machine}
+use Rattle.crash_free.proofs.Advancing.{begun_there}
+use Rattle.audit.specs.declared.outcome.End.{End}
+use Rattle.audit.specs.Outcome.{OutcomeValue, lines_of, MayWant}
+use Rattle.audit.specs.Lines.{IsSorted}
+use Rattle.audit.specs.Audits.{GoesTo, AreReached}
+use Rattle.audit.specs.Reachable.{IsWithinSteps, IsReachable}
+use Rattle.audit.specs.Trace.{TraceValue}
+use Rattle.audit.specs.Playing.{IsWithin, HasLeft, PlayAll, AreStuck}
+use Rattle.audit.proofs.Reaching.{there_is, some_there, comes_to}
+use Rattle.audit.proofs.Traces.{replicate_each}
+use Rattle.audit.proofs.Outcomes.{come}
+
+-- a rank at the beginning has made no step
+pub begun_left : (s : SimValue) (r total : ℕ) → AreBegun s.program (length s.machines) s.machines → s.run ≡ [] → r < length s.machines → HasLeft s r total total
+begun_left s r total begun run low =
+    let m = there_is s.machines r low in
+    let first = begun_there s.program (length s.machines) r m.0 (begun r m.0 m.1) in
+    record {
+      made = 0;
+      sum = omega arith;
+      advances = rw (m.1, run, first) still;
+      clocked = rw run (omega arith);
+    }
+
+-- no act keeps to each outcome
+pub within_none : (o : OutcomeValue) (s : SimValue) → s.run ≡ [] → IsWithin o s
+within_none o s run = record {
+  rows = λ r events there. rw run (events, refl);
+  lines = λ r. rw run (lines_of r o.lines, refl);
+}
+
+-- what holds of each error holds of an error
+pub if_err : {T E : Type 0} (result : Result T E) (P : E → Type 0) → ((e : E) → P e) → IfErr result P
+if_err (Ok x) P p = tt
+if_err (Err e) P p = p e
+
+-- An audit that began with so many steps for each rank, and can't go on, has come to each outcome that is within reach.
+pub reaches : (o : OutcomeValue) (first s : SimValue) (traces : List TraceValue) (program : ProgramValue) (n steps : ℕ) (left left' : List ℕ)
+    → first.program ≡ program → length first.machines ≡ n → AreBegun program n first.machines → first.run ≡ [] → GoesTo first s traces
+    → PlayAll o left left' first s → left ≡ replicate n steps → length left' ≡ n → AreStuck o left' s → IsReachable program n o steps → AreReached s o
+reaches o first s traces program n steps left left' same size begun run goes plays each width stuck reach =
+    let size_now : length s.machines ≡ n = goes.size ∙ size in
+    let program_now : s.program ≡ program = goes.program ∙ same in
+    let begins : AreBegun first.program (length first.machines) first.machines = rw (same, size) begun in
+    comes_to o s left' steps goes.keeps.simulates (plays.within (within_none o first run)) (width ∙ sym size_now)
+    (λ r k there.
+    let low = slice_get_within left' r k there in
+    let wide : length left ≡ n = ap length each ∙ length-replicate n steps in
+    let at = there_is left r (omega (arith, low, width, wide)) in
+    let all : at.0 ≡ steps = replicate_each n steps r at.0 (ap (λ ks. slice_get ks r) (sym each) ∙ at.1) in
+    plays.each r steps steps k (at.1 ∙ ap Some all) there (begun_left first r steps begins run (omega (arith, low, width, size))))
+    stuck (rw (program_now, size_now) reach)
+
+-- What an audit came to it came to within its steps.
+pub reached_within : (o : OutcomeValue) (first s : SimValue) (traces : List TraceValue) (sorted : List (List (ℕ × ℤ))) (program : ProgramValue) (n steps : ℕ)
+    (left left' : List ℕ) → first.program ≡ program → length first.machines ≡ n → AreBegun program n first.machines → first.run ≡ [] → GoesTo first s traces
+    → PlayAll o left left' first s → left ≡ replicate n steps → length left' ≡ n → length o.rows ≡ n → length o.ends ≡ n → IsSorted n o.lines sorted
+    → AreReached s o → IsReachable program n o steps
+reached_within o first s traces sorted program n steps left left' same size begun run goes plays each width rows ends lines reached =
+    rw (← program_now, ← size_now) (
+      s.run,
+      come s traces sorted o goes.keeps (rows ∙ sym size_now) (ends ∙ sym size_now)
+          (subst (λ k. IsSorted k o.lines sorted) (sym size_now) lines) reached,
+      λ r e there. within r e there,
+    )
+  where
+    size_now : length s.machines ≡ n
+    size_now = goes.size ∙ size
+
+    program_now : s.program ≡ program
+    program_now = goes.program ∙ same
+
+    within : (r : ℕ) (e : End) → slice_get o.ends r ≡ Some e → IsWithinSteps s.program (length s.machines) steps s.run r e
+    within r e there =
+        let low = slice_get_within o.ends r e there in
+        let wide : length left ≡ n = ap length each ∙ length-replicate n steps in
+        let begins : AreBegun first.program (length first.machines) first.machines = rw (same, size) begun in
+        let at = there_is left r (omega (arith, low, ends, wide)) in
+        let all : at.0 ≡ steps = replicate_each n steps r at.0 (ap (λ ks. slice_get ks r) (sym each) ∙ at.1) in
+        let now = there_is left' r (omega (arith, low, ends, width)) in
+        let has = plays.each r steps steps now.0 (at.1 ∙ ap Some all) now.1 (begun_left first r steps begins run (omega (arith, low, ends, size))) in
+        let sum = has.sum in
+        let m = some_there (slice_get s.machines r) (λ m. Advances has.made (first_machine s.program (length s.machines) r) (history s.run r) m) has.advances in
+        let end = (reached r (omega (arith, low, ends, size_now))).end e there in
+        let asks : Wants m.0 end.0 = subst (λ q. IsSomeAnd q (λ x. Wants x end.0)) m.1 end.1 in
+        record {
+          count = has.made;
+          few = omega (arith, sum);
+          last = m.0;
+          advances = m.2;
+          ended = subst (λ v. MayWant e v) (sym asks.at_want) end.2;
+          clocked = has.clocked;
+        }

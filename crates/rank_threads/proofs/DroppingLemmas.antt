@@ -1,0 +1,40 @@
+-- Frames that are dropped one after another.
+use Rattle.std.proofs.Common.{◌≡◌, ℕ, ◌+◌, List, [], ◌∷◌, ◌++◌, refl, sym, ◌∙◌, ap, subst}
+use Rattle.std.proofs.Math.Numerals.{add-one}
+use Rattle.rank_node.specs.declared.frame.Frame.{Frame}
+use Rattle.rank_threads.specs.Dropping.{DroppedBelow, DroppedFrom, all_lost, lost}
+use Rattle.rank_threads.specs.Taking.{Takes}
+use Rattle.rank_threads.specs.declared.station.Station.{Station}
+use Rattle.rank_threads.specs.declared.tally.Tally.{Tally}
+use Rattle.rank_threads.proofs.TakingLemmas.{takes_none, takes_then}
+
+-- frames are counted, and then more frames
+lost_then : (t : Tally) (frames more : List Frame) → all_lost t (frames ++ more) ≡ all_lost (all_lost t frames) more
+lost_then t [] more = refl
+lost_then t (frame ∷ frames) more = lost_then (lost t) frames more
+
+-- at first nothing is dropped
+pub dropped_nothing : (source : ℕ) (station : Station) → DroppedFrom source station station
+dropped_nothing source station = record { frames = []; lanes = takes_none source station.from.items; tally = refl }
+
+-- one frame is dropped
+pub dropped_one : (source : ℕ) (old new : Station) (frame : Frame) → Takes source (frame ∷ []) old.from.items new.from.items
+    → new.tally ≡ lost old.tally → DroppedFrom source old new
+dropped_one source old new frame takes counted = record { frames = frame ∷ []; lanes = takes; tally = counted }
+
+-- none was there
+pub dropped_none : (source : ℕ) (old new : Station) → Takes source [] old.from.items new.from.items → new.tally ≡ old.tally
+    → DroppedFrom source old new
+dropped_none source old new takes counted = record { frames = []; lanes = takes; tally = counted }
+
+-- some more are dropped, behind those before
+pub dropped_more : (source : ℕ) (old mid new : Station) → DroppedFrom source old mid → DroppedFrom source mid new → DroppedFrom source old new
+dropped_more source old mid new before here = record {
+  frames = before.frames ++ here.frames;
+  lanes = takes_then source before.frames here.frames old.from.items mid.from.items new.from.items before.lanes here.lanes;
+  tally = here.tally ∙ ap (λ t. all_lost t here.frames) before.tally ∙ sym (lost_then old.tally before.frames here.frames);
+}
+
+-- one lane more
+pub dropped_next : (k : ℕ) (old mid new : Station) → DroppedBelow k old mid → DroppedFrom k mid new → DroppedBelow (k + 1) old new
+dropped_next k old mid new before from = subst (λ n. DroppedBelow n old new) (sym (add-one k)) (mid, before, from)

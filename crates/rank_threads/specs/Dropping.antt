@@ -1,0 +1,27 @@
+-- The frames that a crash loses: those on their way to the rank, which count as taken.
+use Rattle.std.specs.Prelude.{◌≡◌, ℕ, zero, suc, true, false, List, [], ◌∷◌}
+use Rattle.rank_node.specs.declared.frame.Frame.{Frame}
+use Rattle.rank_threads.specs.Taking.{Takes}
+use Rattle.rank_threads.specs.Tally.{one_more}
+use Rattle.rank_threads.specs.declared.station.Station.{Station}
+use Rattle.rank_threads.specs.declared.tally.Tally.{Tally}
+
+-- after a frame that is dropped: it is counted, and may have been an answer
+abbrev pub lost : Tally → Tally
+lost t = record t { taken = one_more t.taken; may_owe = true; is_blocked = false }
+
+-- after frames that are dropped, one after another
+abbrev pub all_lost : Tally → List Frame → Tally
+all_lost t [] = t
+all_lost t (frame ∷ frames) = all_lost (lost t) frames
+
+-- What the lane from a rank brought was dropped, and each frame was counted.
+pub record DroppedFrom (source : ℕ) (old new : Station) : Type 0 where
+  pub frames : List Frame
+  pub lanes : Takes source frames old.from.items new.from.items
+  pub tally : new.tally ≡ all_lost old.tally frames
+
+-- What the lanes from the ranks below this number brought was dropped, from rank 0 on.
+abbrev pub DroppedBelow : ℕ → Station → Station → Type 0
+DroppedBelow zero old new = new ≡ old
+DroppedBelow (suc k) old new = (mid : Station) × DroppedBelow k old mid × DroppedFrom k mid new

@@ -1,0 +1,66 @@
+//! What a world shows of its ranks: before a crash, while the rank is down, and as it replays.
+use crate::scenes::ONE_MESSAGE;
+use events_text::parse_events;
+use rank_language::Program;
+use std::alloc::AllocError;
+use std::test::*;
+use world_model::{View, World, WorldEvent};
+
+/// Rank 0 sends, and rank 1 takes the packet, stores that and goes on to its line, which waits.
+const BEFORE: &[u8] = b"step 0
+step 0
+step 0
+put 0 1
+arrive 0 1 0
+step 1
+step 1
+step 1
+store 1
+step 1
+";
+
+/// The world is played, crashes, starts again and takes the packet again, and shows this of its ranks.
+#[test]
+fn what_a_world_shows(rt: HostRuntime) -> Result<(), Fail> {
+    let alloc = rt.alloc();
+    let program = Program::parse(alloc, ONE_MESSAGE)?;
+    let Ok(events) = parse_events(alloc, BEFORE) else {
+        return Err(AllocError.into());
+    };
+    let mut world = World::new(alloc, &program, 2)?;
+    let new = view_of(&world, 0);
+    let played = world.run(alloc, events.as_slice()).is_ok();
+    let sender = view_of(&world, 0);
+    let works = view_of(&world, 1);
+    let crashed = world.apply(WorldEvent::Crash { rank: 1 });
+    let down = view_of(&world, 1);
+    let restarted = world.apply(WorldEvent::Restart { rank: 1 });
+    let replays = view_of(&world, 1);
+    world.close();
+    assert_eq!(rt; new, shown(true, 0, 0, 0), "a new rank");
+    assert!(rt; played && crashed.is_ok() && restarted.is_ok(), "memory");
+    assert_eq!(rt; sender, shown(true, 0, 1, 1), "the sender");
+    assert_eq!(rt; works, shown(true, 0, 2, 1), "a rank whose line waits");
+    assert_eq!(rt; down, shown(false, 0, 0, 1), "a rank that is down");
+    assert_eq!(rt; replays, shown(true, 1, 0, 1), "a rank that replays");
+    Ok(())
+}
+
+/// What a world shows of a rank, where it has that rank.
+fn view_of(world: &World<'_>, rank: u8) -> Option<View> {
+    if rank < world.ranks() {
+        Some(world.view(rank))
+    } else {
+        None
+    }
+}
+
+/// A view of these four.
+fn shown(live: bool, left: u32, clock: u32, acts: usize) -> Option<View> {
+    Some(View {
+        live,
+        left,
+        clock,
+        acts,
+    })
+}

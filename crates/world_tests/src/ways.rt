@@ -1,0 +1,229 @@
+//! Ways on: whatever happened to a world, events without a crash bring each rank back to where it was.
+ghost use Rattle.std.specs.Prelude.{◌≡◌, ◌≤◌, ◌<◌};
+ghost use Rattle.metered.specs.Limits.{most_ranks};
+
+use crate::scenes::ONE_MESSAGE;
+use events_text::parse_events;
+use metered::Heap;
+use rank_language::Program;
+use std::alloc::AllocError;
+use std::test::*;
+use world_model::{Reply, World, WorldEvent};
+
+/// Rank 0 sends three messages of two tags, and rank 1 takes that of the second tag first.
+const TWO_TAGS: &[u8] = b"var x
+if rank == 0
+send 1, 1, 10
+send 1, 2, 20
+send 1, 1, 30
+else
+recv 0, 2, x
+print x
+recv any, any, x
+print x
+end
+";
+
+/// Rank 0 sends four numbers, and rank 1 answers each by its square.
+const SQUARES: &[u8] = b"var i
+var x
+while i < 4
+if rank == 0
+send 1, 0, i
+recv 1, 0, x
+else
+recv 0, 0, x
+send 0, 0, x * x
+end
+let i = i + 1
+end
+print x
+";
+
+/// Three probes that don't wait.
+const THREE_PROBES: &[u8] = b"var f
+iprobe any, any, f
+iprobe any, any, f
+iprobe any, any, f
+print f
+";
+
+/// The world after these events is driven on; the events of the way.
+fn way_of(
+    alloc: Heap,
+    program: &Program,
+    ranks: u8,
+    events: &[WorldEvent],
+) -> Result<Vec<WorldEvent, Heap>, AllocError>
+    requires { ranks ≤ most_ranks }
+{
+    let mut world = World::new(alloc, program, ranks)?;
+    if world.run(alloc, events).is_err() {
+        world.close();
+        return Err(AllocError);
+    }
+    world.way_on()
+}
+
+/// Whether no event of a way was refused or is a crash, and each data frame that arrived was put just before.
+fn is_own(way: &[WorldEvent], replies: &[Reply]) -> bool {
+    let mut put = None;
+    for (event, reply) in way.iter().zip(replies.iter()) {
+        match (event, reply) {
+            (_, Reply::Refused) | (WorldEvent::Crash { .. }, _) => return false,
+            (
+                WorldEvent::Arrive {
+                    source,
+                    dest,
+                    index,
+                },
+                Reply::Accepted | Reply::Repeated | Reply::Gap,
+            ) => {
+                if put != Some((*source, *dest, *index)) {
+                    return false;
+                }
+            }
+            _ => {}
+        }
+        put = match (event, reply) {
+            (WorldEvent::Put { source, dest }, Reply::PutData { index, .. }) => {
+                Some((*source, *dest, *index))
+            }
+            _ => None,
+        };
+    }
+    way.len() == replies.len()
+}
+
+/// Whether each rank of a world is live, has nothing left to replay, and has made its acts.
+fn have_caught_up(world: &World<'_>) -> bool {
+    for rank in 0..world.ranks() {
+        let view = world.view(rank);
+        if !view.live || view.left != 0 || (view.clock as usize) < view.acts {
+            return false;
+        }
+    }
+    true
+}
+
+/// Whether a world on which these events are played goes on by the way.
+fn goes_on(
+    alloc: Heap,
+    world: &mut World<'_>,
+    events: &[WorldEvent],
+    way: &[WorldEvent],
+) -> Result<bool, AllocError> {
+    let Ok(_) = world.run(alloc, events) else {
+        return Err(AllocError);
+    };
+    let Ok(replies) = world.run(alloc, way) else {
+        return Err(AllocError);
+    };
+    Ok(is_own(way, replies.as_slice()) && have_caught_up(world))
+}
+
+/// Whether the way on from the world after these events is one on another such world.
+fn leads_on(
+    alloc: Heap,
+    program: &Program,
+    ranks: u8,
+    events: &[WorldEvent],
+) -> Result<bool, AllocError>
+    requires { ranks ≤ most_ranks }
+{
+    let way = way_of(alloc, program, ranks, events)?;
+    let mut world = World::new(alloc, program, ranks)?;
+    let good = goes_on(alloc, &mut world, events, way.as_slice());
+    world.close();
+    good
+}
+
+/// The next of a fixed row of numbers.
+fn drawn(draw: &mut u64) -> u64 {
+    *draw = draw
+        .wrapping_mul(6_364_136_223_846_793_005)
+        .wrapping_add(1_442_695_040_888_963_407);
+    *draw >> 33
+}
+
+/// An event of two ranks.
+fn drawn_event(draw: &mut u64) -> WorldEvent {
+    let rank = (drawn(draw) % 2) as u32;
+    let dest = (drawn(draw) % 2) as u32;
+    match drawn(draw) % 20 {
+        0 | 1 | 2 => WorldEvent::Put { source: rank, dest },
+        3 | 4 | 5 => WorldEvent::Arrive {
+            source: rank,
+            dest,
+            index: drawn(draw) % 8,
+        },
+        6 | 7 => WorldEvent::Store { rank },
+        8 | 9 => WorldEvent::Ack { rank },
+        10 | 11 => WorldEvent::Release { rank },
+        12 => WorldEvent::Image { rank },
+        13 => WorldEvent::Crash { rank },
+        14 => WorldEvent::Restart { rank },
+        _ => WorldEvent::Step { rank },
+    }
+}
+
+/// 200 events, by the draw.
+fn drawn_events(alloc: Heap, draw: &mut u64) -> Result<Vec<WorldEvent, Heap>, AllocError> {
+    let mut events = Vec::new(alloc);
+    for _ in 0..200 {
+        events.push(drawn_event(draw))?;
+    }
+    Ok(events)
+}
+
+#[test]
+fn a_thousand_lists(rt: HostRuntime) -> Result<(), Fail> {
+    let alloc = rt.alloc();
+    let mut draw = 34;
+    for program in [TWO_TAGS, SQUARES, THREE_PROBES] {
+        let program = Program::parse(alloc, program)?;
+        for list in 0..334 {
+            let events = drawn_events(alloc, &mut draw)?;
+            let good = leads_on(alloc, &program, 2, events.as_slice())?;
+            assert!(rt; good, "list {list}");
+        }
+    }
+    Ok(())
+}
+
+/// Rank 1 is down, after it took and stored a message.
+const ONE_DOWN: &[u8] = b"step 0
+step 0
+step 0
+put 0 1
+arrive 0 1 0
+step 1
+step 1
+step 1
+store 1
+step 1
+crash 1
+";
+
+#[test]
+fn one_rank_is_down(rt: HostRuntime) -> Result<(), Fail> {
+    let alloc = rt.alloc();
+    let program = Program::parse(alloc, ONE_MESSAGE)?;
+    let Ok(events) = parse_events(alloc, ONE_DOWN) else {
+        return Err(AllocError.into());
+    };
+    assert!(rt;
+        leads_on(alloc, &program, 2, events.as_slice())?,
+        "a way on"
+    );
+    Ok(())
+}
+
+#[test]
+fn nothing_happened(rt: HostRuntime) -> Result<(), Fail> {
+    let alloc = rt.alloc();
+    let program = Program::parse(alloc, SQUARES)?;
+    let way = way_of(alloc, &program, 2, &[])?;
+    assert_eq!(rt; way.len(), 0, "the way on from a new world");
+    Ok(())
+}

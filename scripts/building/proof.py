@@ -1,0 +1,104 @@
+"""One crate while it is proved, and why a proof doesn't count."""
+
+from __future__ import annotations
+
+import contextlib
+import errno
+import os
+import re
+import shutil
+import signal
+import time
+from typing import Any
+
+from .files import text_of
+from .machine import MEGABYTE
+from .room import Group
+
+
+class Proof:
+    """A crate while rattle proves it."""
+
+    def __init__(self, crate: Any, jobs: int, niceness: int, group: Group) -> None:
+        self.crate, self.started = crate, time.monotonic()
+        os.makedirs(f"{crate.folder}/out/rlib", exist_ok=True)
+        self.file = f"{crate.folder}/out/said"
+        with open(self.file, "w", encoding="utf-8") as out:
+            self.process = group.start([crate.rattle, *words_for(crate, jobs)], crate.folder, out, niceness)
+
+    def ended(self) -> bool:
+        """Whether rattle has ended. If so, the status is its own, or the negative number of the signal that killed it."""
+        pid, status, usage = os.wait4(self.process.pid, os.WNOHANG)
+        if not pid:
+            return False
+        self.status = self.process.returncode = -os.WTERMSIG(status) if os.WIFSIGNALED(status) else os.WEXITSTATUS(status)
+        self.took = time.monotonic() - self.started, usage.ru_utime + usage.ru_stime
+        return True
+
+    def seconds(self) -> float:
+        """The processor seconds that the proof has taken until now, its ended copies' and those of the copies at work."""
+        ticks = sum(ticks_of(pid) for pid in [self.process.pid, *children_of(self.process.pid)])
+        return ticks / os.sysconf("SC_CLK_TCK")
+
+    def is_killed(self) -> bool:
+        return self.status == -signal.SIGKILL
+
+    def fault(self, verdict: re.Pattern[str]) -> str | None:
+        """Why a proof that has ended doesn't count, if it doesn't. The pattern is that of a last line by which all is proved."""
+        said = text_of(self.file)
+        why = self.why(said, verdict)
+        return f"{why}\n{what_counts(said)}" if why else None
+
+    def why(self, said: str, verdict: re.Pattern[str]) -> str | None:
+        if self.is_killed():
+            return "its check was killed again, most likely for memory"
+        if self.status:
+            return full_disk(self.crate.folder, said) or f"not proved (rattle ended with {self.status}); it said:"
+        if not verdict.search(said):
+            return "rattle's last line doesn't say that it is proved; it said:"
+        beyond = self.crate.beyond(said.rstrip("\n").rpartition("\n")[2], False)
+        return f"{beyond}; rattle said:" if beyond else None
+
+
+def words_for(crate: Any, jobs: int) -> list[str]:
+    """The words for rattle: as those of rt, a library's rlib with its statements alone, a program by LLVM."""
+    words = ["build", *crate.words(["--jobs", str(jobs)], keeps=False)]
+    if crate.is_program:
+        return [*words, "--toolchain", f"{crate.kit}/toolchain", "--backend", "llvm", "-o", f"out/{crate.name}.o"]
+    return [*words, "--statements", "-o", crate.rlib]
+
+
+def link(crate: Any) -> str | None:
+    """Links a proved program, and returns why it couldn't be, if so."""
+    said = f"{crate.folder}/out/said"
+    with open(said, "w", encoding="utf-8") as crate.out:
+        status = crate.link(f"out/{crate.name}.o", f"out/{crate.name}")
+    if not status:
+        return None
+    return f"{full_disk(crate.folder, text_of(said)) or 'it could not be linked'}\n{text_of(said)}"
+
+
+def what_counts(said: str) -> str:
+    """What rattle said of a crate that it refused, without the lines on what went well."""
+    dull = re.compile(r"(statements|libraries|logic) \S+: |.*: proved$|(fn|enum|struct|trait|impl|const) \S+: (proved|assumed)")
+    lines = [line for line in said.splitlines() if not dull.match(line)]
+    return "\n".join(lines[:200] or said.splitlines()[-20:])
+
+
+def full_disk(folder: str, said: str) -> str | None:
+    """What to say where the disk is full, or was when a command failed."""
+    free = shutil.disk_usage(folder).free / MEGABYTE
+    is_full = free < 50 or os.strerror(errno.ENOSPC) in said
+    return f"the disk that holds {folder} is full ({free:.0f} MB are free): make room, or set TMPDIR" if is_full else None
+
+
+def ticks_of(pid: int) -> int:
+    with contextlib.suppress(OSError):
+        return sum(map(int, text_of(f"/proc/{pid}/stat").rpartition(")")[2].split()[11:15]))
+    return 0
+
+
+def children_of(pid: int) -> list[int]:
+    with contextlib.suppress(OSError):
+        return [int(it) for it in text_of(f"/proc/{pid}/task/{pid}/children").split()]
+    return []

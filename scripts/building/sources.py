@@ -1,0 +1,76 @@
+"""The crates that a program is made of, and the sum of their files."""
+
+from __future__ import annotations
+
+import hashlib
+import os
+import re
+import shutil
+from collections.abc import Iterator
+
+from .ending import NotBuilt
+from .files import sum_of_file, text_of, write
+
+PARTS, KINDS = ("src", "specs", "proofs"), (".rt", ".antt")
+
+
+class Sources:
+    """A program's crate and those below it, lowest first, with their lines of crates.txt."""
+
+    def __init__(self, top: str, name: str) -> None:
+        self.top, self.name = top, name
+        lines = crate_lines(text_of(f"{top}/crates.txt"))
+        if name not in lines:
+            raise NotBuilt(f"crates.txt has no crate {name}")
+        self.lines = {it: lines[it] for it in with_those_below(name, lines)}
+
+    def files(self) -> Iterator[str]:
+        """All files that a check of these crates reads, by their paths in the repository, in one order."""
+        for name in sorted(self.lines):
+            for path in files_of_crate(f"{self.top}/crates/{name}"):
+                yield os.path.relpath(path, self.top)
+
+    def sum(self, kit: str) -> str:
+        """A sum over the paths and contents of all files, the crates' lines, what the program may call, and the kit."""
+        handles = text_of(f"{self.top}/HANDLES") if os.path.exists(f"{self.top}/HANDLES") else None
+        total = hashlib.sha256(repr((sorted(self.lines.items()), handles, kit)).encode())
+        for path in self.files():
+            total.update(repr((path, sum_of_file(f"{self.top}/{path}"))).encode())
+        return total.hexdigest()
+
+    def places(self) -> list[str]:
+        """The files and folders, by their paths in the repository, in which any change of these sources is seen."""
+        return ["crates.txt", "HANDLES", *(f"crates/{name}/{part}" for name in self.lines for part in PARTS)]
+
+    def copy_to(self, folder: str) -> Sources:
+        """Copies these crates alone, so that nothing that is edited from here on is built."""
+        for path in self.files():
+            os.makedirs(os.path.dirname(f"{folder}/{path}"), exist_ok=True)
+            shutil.copyfile(f"{self.top}/{path}", f"{folder}/{path}", follow_symlinks=False)
+        write(f"{folder}/crates.txt", "".join(f"{line}\n" for line in self.lines.values()))
+        if os.path.exists(f"{self.top}/HANDLES"):
+            shutil.copyfile(f"{self.top}/HANDLES", f"{folder}/HANDLES")
+        return Sources(folder, self.name)
+
+
+def files_of_crate(folder: str) -> Iterator[str]:
+    """The files of a crate that a check reads, in one order."""
+    for part in PARTS:
+        for at, folders, files in os.walk(f"{folder}/{part}"):
+            folders.sort()
+            yield from (f"{at}/{it}" for it in sorted(files) if it.endswith(KINDS))
+
+
+def crate_lines(text: str) -> dict[str, str]:
+    """The lines of crates.txt by the names of their crates, without comments."""
+    lines = (" ".join(line.partition("#")[0].split()) for line in text.splitlines())
+    return {re.split("[ :]", line)[0]: line for line in lines if line}
+
+
+def with_those_below(name: str, lines: dict[str, str]) -> list[str]:
+    """The crate after all of the repository's crates that it stands on."""
+    found: list[str] = []
+    for below in lines[name].partition(":")[2].replace(",", " ").split():
+        if below in lines:
+            found += [it for it in with_those_below(below, lines) if it not in found]
+    return [*found, name]

@@ -1,0 +1,109 @@
+"""Whether a program is built, and how it is."""
+
+from __future__ import annotations
+
+import contextlib
+import fcntl
+import os
+import shutil
+import sys
+import time
+from collections.abc import Iterator
+
+from .files import sum_of_file
+from .kit import Kit
+from .progress import Progress
+from .proving import Build
+from .record import Record, seen_now
+from .room import Group, room
+from .sources import Sources
+
+TOP = os.path.dirname(os.path.dirname(os.path.dirname(os.path.realpath(__file__))))
+
+
+class Program:
+    """A program of this repository, and what it is built from."""
+
+    def __init__(self, name: str) -> None:
+        self.name, self.kit, self.sources = name, Kit(), Sources(TOP, name)
+        self.path = f"{TOP}/crates/{name}/out/{name}"
+        self.places = [*self.sources.places(), f"crates/{name}/out/{name}"]
+
+    def seen(self) -> str:
+        return seen_now(TOP, self.places, self.kit.file)
+
+    def record(self) -> Record | None:
+        return Record.read(f"{self.path}.sum")
+
+    def keep(self, record: Record, seen: str) -> None:
+        """Writes the record. What find says from here on is compared with what it said."""
+        record._replace(seen=seen, places=" ".join(self.places), kit_file=self.kit.file).write(f"{self.path}.sum")
+
+    def is_built(self) -> bool:
+        """Whether it is there as it was built, from these sources and by this kit. With no kit at hand, the builder's counts."""
+        record = self.record()
+        return record is not None and self.is_same(record)
+
+    def is_same(self, record: Record) -> bool:
+        if not os.path.isfile(self.path) or sum_of_file(self.path) != record.program:
+            return False
+        identity = self.kit.identity() if self.kit.folder else record.kit
+        return (record.sources, record.kit) == (Sources(TOP, self.name).sum(identity), identity)
+
+
+def build(name: str) -> str:
+    """Builds the program if it isn't built, and returns its path."""
+    program = Program(name)
+    os.makedirs(os.path.dirname(program.path), exist_ok=True)
+    with locked(f"{TOP}/crates", name):
+        # (find first: what changes from here on is seen at the next start)
+        seen, record = program.seen(), program.record()
+        if record is None or not program.is_same(record):
+            record = build_anew(program)
+            # (where a source has changed meanwhile, the next start looks at the sums)
+            seen = program.seen() if program.is_same(record) else ""
+        program.keep(record, seen)
+    return program.path
+
+
+def build_anew(program: Program) -> Record:
+    """Proves and builds a copy of the sources, puts the program in its place, and returns what it was built from."""
+    identity, progress, begin = program.kit.identity(), Progress(program.name), time.monotonic()
+    with contextlib.ExitStack() as ending:
+        ending.callback(progress.clear)
+        folder = ending.enter_context(room())
+        group = ending.enter_context(Group(folder))
+        copied = program.sources.copy_to(folder)
+        sources = copied.sum(identity)
+        put(Build(copied, program.kit.rt(), group, progress).run(), program.path)
+        progress.say(f"proved and built in {(time.monotonic() - begin) / 60:.1f} minutes")
+    return Record("", "", "", sources, identity, sum_of_file(program.path))
+
+
+def put(built: str, path: str) -> None:
+    """Puts the program in its place in one step."""
+    new = f"{os.path.dirname(path)}/.{os.path.basename(path)}.new"
+    try:
+        shutil.copyfile(built, new)
+        os.chmod(new, 0o755)
+        os.replace(new, path)
+    finally:
+        with contextlib.suppress(FileNotFoundError):
+            os.remove(new)
+
+
+@contextlib.contextmanager
+def locked(folder: str, name: str) -> Iterator[None]:
+    """Has one call at a time build in this repository: a second one waits."""
+    lock = os.open(folder, os.O_RDONLY)
+    try:
+        # (some file systems have no locks)
+        with contextlib.suppress(OSError):
+            try:
+                fcntl.flock(lock, fcntl.LOCK_EX | fcntl.LOCK_NB)
+            except BlockingIOError:
+                print(f"{name}: another call builds in this repository: waiting for it", file=sys.stderr, flush=True)
+                fcntl.flock(lock, fcntl.LOCK_EX)
+        yield
+    finally:
+        os.close(lock)
