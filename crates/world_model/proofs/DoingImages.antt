@@ -57,7 +57,7 @@ on_shelf n r stable shelf number many =
 -- a rank takes an image
 pub image_some : (w w' : WorldValue) (r : ℕ) (x : Rank) → Stands w
     → slice_get w.ranks r ≡ Some (at_work x) → is_settled x.pending ≡ true
-    → AtRank w.ranks r (λ v. (y : Option Live) × (image : Option ImageValue) × IsImaged v y image
+    → AtRank w.ranks r (λ v. (y : Option Live) × (image : Option ImageValue) × IsImaged w.program (size w) r v y image
     × (w'.ranks ≡ slice_set w.ranks r y) × (w'.images ≡ slice_set w.images r image))
     → w'.program ≡ w.program → w'.logger ≡ w.logger → w'.wires ≡ w.wires → w'.lines ≡ w.lines → w'.run ≡ w.run
     → Follows w (Image r) reply.Imaged w'
@@ -66,9 +66,9 @@ image_some w w' r x s at settled took program logger wires lines run = follows
     v : Live
     v = record { rank = x; left = [] }
 
-    is : (y : Option Live) × (image : Option ImageValue) × IsImaged (record { rank = x; left = [] }) y image
+    is : (y : Option Live) × (image : Option ImageValue) × IsImaged w.program (size w) r (record { rank = x; left = [] }) y image
         × (w'.ranks ≡ slice_set w.ranks r y) × (w'.images ≡ slice_set w.images r image)
-    is = at_value w.ranks r x (λ u. (y : Option Live) × (image : Option ImageValue) × IsImaged u y image
+    is = at_value w.ranks r x (λ u. (y : Option Live) × (image : Option ImageValue) × IsImaged w.program (size w) r u y image
         × (w'.ranks ≡ slice_set w.ranks r y) × (w'.images ≡ slice_set w.images r image)) at took
 
     stable : with_shelf x.stable is.2.shelf ≡ stable_of (size w) r is.2.shelf
@@ -83,6 +83,7 @@ image_some w w' r x s at settled took program logger wires lines run = follows
       running = refl;
       settled = none_waits x.pending settled;
       shelf = is.2.shelf;
+      held = is.2.held ∙ is.2.taken;
       answered = refl;
       after = same_world w' _ program
           (is.3 ∙ ap (λ z. slice_set w.ranks r z) (is.2.after ∙ ap (λ z. at_work (after_image x z)) stable))

@@ -93,6 +93,7 @@ restart_some w w' r count events down fetches counts up program images wires lin
       image = begins_at w.program r (size w) there.0;
       begins = (there.0, there.1, refl);
       shelf = there.2.1.shelf;
+      held = there.2.1.held;
       answered = ap reply.Restarted counted;
       after = same_world w' _ program (there.2.2 ∙ ap (λ z. slice_set w.ranks r z) there.2.1.after) images refl wires lines run;
     }

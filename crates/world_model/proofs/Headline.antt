@@ -139,12 +139,6 @@ where_is w r v s live =
     k : RankStands (start_of w) (size w) w.run r v
     k = s.ranks r v live
 
--- it has made the acts of the run and those that the invariant names
-pub where_acts : (w : WorldValue) (r : ℕ) (v : Live) (s : StandsAt (size w) w) (live : IsLive w r v)
-    → (where_is w r v s live).acts ≡ (s.ranks r v live).acts
-unfolding where_is
-where_acts w r v s live = refl
-
 -- the invariant says that the world stands for its run
 pub stands_for : (w : WorldValue) → Stands w → StandsFor w w.run
 stands_for w t =
@@ -158,6 +152,12 @@ stands_for w t =
       lines = t.run.lines;
       ranks = λ r v live. where_is w r v t.run live;
     }
+
+-- a live rank has made the acts of the run and those that the invariant names
+pub stands_acts : (w : WorldValue) (r : ℕ) (v : Live) (t : Stands w) (live : IsLive w r v)
+    → ((stands_for w t).ranks r v live).acts ≡ (t.run.ranks r v live).acts
+unfolding stands_for where_is
+stands_acts w r v t live = refl
 
 -- a rank in replay has nothing to store, to acknowledge or to release
 pub nothing_in_replay : (w : WorldValue) (r : ℕ) (v : Live) → Stands w → IsLive w r v → v.left ≢ []

@@ -109,6 +109,12 @@ pub images_stay : {value : SeatsValue} {seats : List SeatValue} {index rank : �
 images_stay {value = value} {seats = seats} {index = index} {rank = rank} {s = s} s' t others =
     same_images seats index s s' t.there (ap (λ (z : SeatValue). z.image) others) ∙ t.all_images
 
+-- the seat is one of as many as there are ranks
+seat_size : {value : SeatsValue} {seats : List SeatValue} {index rank : ℕ} {s : SeatValue} (program : ProgramValue) → IsTaken value seats index rank s
+    → AreSeats program (length seats) seats → s.size ≡ length value.ranks
+seat_size {seats = seats} {index = index} {s = s} program t all =
+    (all index s t.there).size ∙ sym (map_length (λ (z : SeatValue). z.live) seats) ∙ ap (λ (z : List (Option Live)). length z) t.all_ranks
+
 -- a restart of the rank of the seat
 pub restarted_then : {value : SeatsValue} {seats : List SeatValue} {index rank : ℕ} {s : SeatValue} (s' : SeatValue) (program : ProgramValue)
     (row : List EventValue) → program ≡ value.program → IsTaken value seats index rank s → AreSeats program (length seats) seats
@@ -127,25 +133,30 @@ restarted_then {value = value} {seats = seats} {index = index} {rank = rank} {s 
     there = subst (λ z. slice_get value.images z ≡ Some s.image) t.number
         (subst (λ z. slice_get z index ≡ Some s.image) t.all_images (image_there seats index s t.there))
 
-    many : s.size ≡ length value.ranks
-    many = own.size ∙ sym (map_length (λ (z : SeatValue). z.live) seats) ∙ ap (λ (z : List (Option Live)). length z) t.all_ranks
-
     is : IsRestarted value.program (length value.ranks) rank s.image row s'.live
     is =
         subst (λ z. IsRestarted z (length value.ranks) rank s.image row s'.live) (own.same_program ∙ same)
-        (subst (λ z. IsRestarted s.program z rank s.image row s'.live) many
+        (subst (λ z. IsRestarted s.program z rank s.image row s'.live) (seat_size program t all)
         (subst (λ z. IsRestarted s.program s.size z s.image row s'.live) (own.rank ∙ t.number) h))
 
 -- an image of the rank of the seat
-pub imaged_then : {value : SeatsValue} {seats : List SeatValue} {index rank : ℕ} {s : SeatValue} (s' : SeatValue) → IsTaken value seats index rank s
-    → IfLive s.live (λ v. IsImaged v s'.live s'.image)
-    → AtRank value.ranks rank (λ v. (x : Option Live) × (image : Option ImageValue) × IsImaged v x image
+pub imaged_then : {value : SeatsValue} {seats : List SeatValue} {index rank : ℕ} {s : SeatValue} (s' : SeatValue) (program : ProgramValue)
+    → program ≡ value.program → IsTaken value seats index rank s → AreSeats program (length seats) seats
+    → IfLive s.live (λ v. IsImaged s.program s.size s.rank v s'.live s'.image)
+    → AtRank value.ranks rank (λ v. (x : Option Live) × (image : Option ImageValue) × IsImaged value.program (length value.ranks) rank v x image
     × (lives (slice_set seats index s') ≡ slice_set value.ranks rank x) × (images (slice_set seats index s') ≡ slice_set value.images rank image))
-imaged_then {value = value} {seats = seats} {index = index} {rank = rank} {s = s} s' t h =
-    after_call s' (λ v. IsImaged v s'.live s'.image)
-    (λ v. (x : Option Live) × (image : Option ImageValue) × IsImaged v x image
+imaged_then {value = value} {seats = seats} {index = index} {rank = rank} {s = s} s' program same t all h =
+    after_call s' (λ v. IsImaged s.program s.size s.rank v s'.live s'.image)
+    (λ v. (x : Option Live) × (image : Option ImageValue) × IsImaged value.program (length value.ranks) rank v x image
     × (lives (slice_set seats index s') ≡ slice_set value.ranks rank x) × (images (slice_set seats index s') ≡ slice_set value.images rank image)) t
-    (λ v is e. (s'.live, s'.image, e, is, images_then)) h
+    (λ v is e. (s'.live, s'.image, of_rank v e, is, images_then)) h
   where
+    of_rank : (v : Live) → IsImaged s.program s.size s.rank v s'.live s'.image → IsImaged value.program (length value.ranks) rank v s'.live s'.image
+    of_rank v is =
+        let own = all index s t.there in
+        subst (λ z. IsImaged z (length value.ranks) rank v s'.live s'.image) (own.same_program ∙ same)
+        (subst (λ z. IsImaged s.program z rank v s'.live s'.image) (seat_size program t all)
+        (subst (λ z. IsImaged s.program s.size z v s'.live s'.image) (own.rank ∙ t.number) is))
+
     images_then : images (slice_set seats index s') ≡ slice_set value.images rank s'.image
     images_then = set_images seats index s' ∙ ap (λ z. slice_set z index s'.image) t.all_images ∙ ap (λ z. slice_set value.images z s'.image) t.number

@@ -17,9 +17,9 @@ use Rattle.crash_free.specs.Runs.{Passed, History, at_place, history, sent, send
 use Rattle.world_model.specs.World.{Live, WorldValue, size, IsLive, BeginsAt, covered}
 use Rattle.world_model.specs.Stands.{packet_of, packets_from, LogStands, LogsStand, sends_of, StandsIn, ImageStands, RankStands, start_at, BasesCovered}
 use Rattle.world_model.specs.Stands.{Stands}
-use Rattle.world_model.specs.Retained.{Needed, Retains, Holds, LiveHolds, NothingGone}
+use Rattle.world_model.specs.Retained.{Needed, Retains, Holds, NothingGone}
 use Rattle.world_model.proofs.Lists.{replicate_get, get_dropped, packets_there}
-use Rattle.world_model.proofs.Headline.{where_is, where_acts}
+use Rattle.world_model.proofs.Headline.{stands_for, stands_acts}
 
 -- ---- what the first acts sent
 
@@ -171,13 +171,11 @@ module _ (w : WorldValue) (s : Stands w) where
       (below_needed w w.run q r k m i.log needed (image_bases q i b))
 
   -- a live rank's inbox
-  live_holds : (r : ℕ) (v : Live) → IsLive w r v → LiveHolds w w.run r v
-  live_holds r v live = record {
-    place = where_is w r v s.run live;
-    holds =
-        subst (λ z. Holds w.run r (take v.rank.clock (history (continue w.run r z) r)) v.rank.inbox) (sym (where_acts w r v s.run live))
-        (in_place r v (s.run.ranks r v live));
-  }
+  live_holds : (r : ℕ) (v : Live) (live : IsLive w r v)
+      → Holds w.run r (take v.rank.clock (history (continue w.run r ((stands_for w s).ranks r v live).acts) r)) v.rank.inbox
+  live_holds r v live =
+      subst (λ z. Holds w.run r (take v.rank.clock (history (continue w.run r z) r)) v.rank.inbox) (sym (stands_acts w r v s live))
+      (in_place r v (s.run.ranks r v live))
     where
       in_place : (r : ℕ) (v : Live) (i : RankStands (start_at w (size w)) (size w) w.run r v)
           → Holds w.run r (take v.rank.clock (history (continue w.run r i.acts) r)) v.rank.inbox
@@ -191,6 +189,7 @@ module _ (w : WorldValue) (s : Stands w) where
   -- the invariant says that nothing needed is gone
   pub nothing_gone : NothingGone w w.run
   nothing_gone = record {
+    stands = stands_for w s;
     live = λ q r k m v needed live. live_retains q r k m v needed live (s.run.ranks q v live);
     images = λ q r k m i needed b. image_retains q r k m i needed b (image_stands q i b);
     kept = λ r q k upto frames at e. s.covers.wires r q k frames (frame.Kept upto) at e;

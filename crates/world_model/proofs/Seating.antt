@@ -82,6 +82,14 @@ reads_of p r n (Some bytes) i e = go (reading p r n bytes) e
     go (Ok j) q = (j, refl)
     go (Err k) q = absurd cc
 
+-- the shelf holds the image that was taken
+pub image_read : (p : ProgramValue) (r n : ℕ) (v x : Rank) (is : IsImaged (λ (s : MemoryShelf). image_bytes s.image) v x) → IsOf p r n v
+    → image_on p r n (image_bytes is.shelf.image) ≡ Some (image_of v)
+image_read p r n v x is o =
+    subst (λ z. image_on z r n (image_bytes is.shelf.image) ≡ Some (image_of v)) o.same_program
+    (subst (λ z. image_on v.machine.program z n (image_bytes is.shelf.image) ≡ Some (image_of v)) o.own.rank
+    (subst (λ z. image_on v.machine.program v.stable.rank z (image_bytes is.shelf.image) ≡ Some (image_of v)) o.own.size is.reads))
+
 -- after an image was taken
 pub of_image : (p : ProgramValue) (r n : ℕ) (v x : Rank) → IsImaged (λ (s : MemoryShelf). image_bytes s.image) v x → IsOf p r n v → IsOf p r n x
 of_image p r n v x is o = record {
@@ -89,15 +97,9 @@ of_image p r n v x is o = record {
   own = record {
     rank = ap (λ (z : Rank). z.stable.rank) is.after ∙ o.own.rank;
     size = ap (λ (z : Rank). z.stable.size) is.after ∙ o.own.size;
-    reads = subst (λ z. Reads p r n z) (sym (ap (λ (z : Rank). shelf_of z.stable) is.after)) (reads_of p r n (image_bytes is.shelf.image) (image_of v) read);
+    reads = subst (λ z. Reads p r n z) (sym (ap (λ (z : Rank). shelf_of z.stable) is.after)) (reads_of p r n (image_bytes is.shelf.image) (image_of v) (image_read p r n v x is o));
   };
 }
-  where
-    read : image_on p r n (image_bytes is.shelf.image) ≡ Some (image_of v)
-    read =
-        subst (λ z. image_on z r n (image_bytes is.shelf.image) ≡ Some (image_of v)) o.same_program
-        (subst (λ z. image_on v.machine.program z n (image_bytes is.shelf.image) ≡ Some (image_of v)) o.own.rank
-        (subst (λ z. image_on v.machine.program v.stable.rank z (image_bytes is.shelf.image) ≡ Some (image_of v)) o.own.size is.reads))
 
 -- where a rank begins, its machine has the program
 begins_program : (p : ProgramValue) (r n : ℕ) (bytes : Option (List ℕ)) → (begins_at p r n (image_on p r n bytes)).machine.program ≡ p

@@ -3,6 +3,7 @@
 use Rattle.std.specs.Prelude.{◌≡◌, ◌≢◌, ℕ, ℤ, Bool, false, ◌+◌, ◌<◌, ◌⊎◌, nat_le, List, [], ◌∷◌, ◌++◌, length, take, Option, Some, None, Ok, option_map}
 use Rattle.std.specs.Prelude.{slice_get, slice_set, if◌then◌else◌}
 use Rattle.checkpoint.specs.Image.{ImageValue}
+use Rattle.checkpoint.specs.Shelf.{image_bytes}
 use Rattle.checkpoint.specs.declared.memory_shelf.MemoryShelf.{MemoryShelf}
 use Rattle.matching.specs.PacketValue as packet
 use Rattle.payload_log.specs.Backlog.{backlog}
@@ -28,7 +29,7 @@ use Rattle.rank_node.specs.Steps.{turn_of, refusal_of, takes_memory, MachineStep
 use Rattle.rank_node.specs.Frames.{outgoing_of, after_passed, arrival_of, after_frame}
 use Rattle.rank_node.specs.Storing.{next_unstored, after_store, after_ack}
 use Rattle.rank_node.specs.Releasing.{next_effect, after_release}
-use Rattle.rank_node.specs.Image.{image_of, after_image}
+use Rattle.rank_node.specs.Image.{image_of, image_on, after_image}
 use Rattle.rank_node.specs.Replay.{restarted, left_of, replay_turn_of, replay_takes_memory, after_replay, left_after, ReplayStep}
 use Rattle.ports.specs.declared.line.Line.{Line}
 use Rattle.ports.specs.Console.{after_line}
@@ -213,13 +214,18 @@ pub record AckFollows (w : WorldValue) (r : ℕ) (answer : Reply) (w' : WorldVal
   pub answered : answer ≡ reply.Acked
   pub after : w' ≡ with_rank w r (Some (record { rank = after_ack before.rank; left = before.left }))
 
--- The rank takes an image of itself, in the place of an older one, and word of it is due to those whose messages it has.
+-- the shelf of a rank holds this image, as it reads, or none
+abbrev pub IsHeld : WorldValue → ℕ → MemoryShelf → Option ImageValue → Type 0
+IsHeld w r shelf image = image_on w.program r (size w) (image_bytes shelf.image) ≡ image
+
+-- The rank takes an image of itself, which its shelf holds then, in the place of an older one, and word of it is due to those whose messages it has.
 pub record ImageFollows (w : WorldValue) (r : ℕ) (answer : Reply) (w' : WorldValue) : Type 0 where
   pub before : Live
   pub live : IsLive w r before
   pub running : before.left ≡ []
   pub settled : before.rank.pending ≡ []
   pub shelf : MemoryShelf
+  pub held : IsHeld w r shelf (Some (image_of before.rank))
   pub answered : answer ≡ reply.Imaged
   pub after : w' ≡ record w {
     ranks = slice_set w.ranks r (Some (record { rank = after_image before.rank (stable_of (size w) r shelf); left = [] }));
@@ -234,7 +240,7 @@ pub record CrashFollows (w : WorldValue) (r : ℕ) (answer : Reply) (w' : WorldV
   pub after : w' ≡ with_rank w r None
 
 -- The rank starts again: it fetches its row, and begins at its image, or at the beginning of the program, with the events
--- above that to replay.
+-- above that to replay. Its shelf holds what it held.
 pub record RestartFollows (w : WorldValue) (r : ℕ) (answer : Reply) (w' : WorldValue) : Type 0 where
   pub down : IsDown w r
   pub events : List EventValue
@@ -242,6 +248,7 @@ pub record RestartFollows (w : WorldValue) (r : ℕ) (answer : Reply) (w' : Worl
   pub image : ImageValue
   pub begins : BeginsAt w r image
   pub shelf : MemoryShelf
+  pub held : IsHeld w r shelf begins.0
   pub answered : answer ≡ reply.Restarted (length (left_of image events))
   pub after : w' ≡ record w {
     ranks = slice_set w.ranks r (Some (record { rank = restarted (stable_of (size w) r shelf) image (length events); left = left_of image events }));

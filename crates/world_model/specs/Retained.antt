@@ -10,8 +10,8 @@ use Rattle.rank_machine.specs.Acts.{Message, carried}
 use Rattle.rank_node.specs.declared.frame.Frame.{Frame}
 use Rattle.rank_node.specs.declared.frame.Frame.TheVariants as frame
 use Rattle.crash_free.specs.Runs.{Passed, History, at_place, history, sent, taken, continue}
-use Rattle.world_model.specs.World.{Live, WorldValue, size, start_of, IsLive, IsWire, BeginsAt, covered}
-use Rattle.world_model.specs.Headline.{IsWhere}
+use Rattle.world_model.specs.World.{Live, WorldValue, size, IsLive, IsWire, BeginsAt, covered}
+use Rattle.world_model.specs.Headline.{StandsFor}
 
 -- s sent r this message as its kth in the run, and what r's last image had accepted from s doesn't reach so far
 pub record Needed (w : WorldValue) (C : List Passed) (s r k : ℕ) (m : Message) : Type 0 where
@@ -45,22 +45,19 @@ pub record Holds (C : List Passed) (r : ℕ) (acts : History) (box : Mailbox) : 
   pub once : (i j : ℕ) (p q : packet.PacketValue) → slice_get box.packets i ≡ Some p → slice_get box.packets j ≡ Some q
       → p.source ≡ q.source → p.number ≡ q.number → i ≡ j
 
--- The inbox of a live rank goes with its first acts, as many as its clock says, in a run where the rank is: the run that
--- goes on by what it owes.
-pub record LiveHolds (w : WorldValue) (C : List Passed) (r : ℕ) (v : Live) : Type 0 where
-  pub place : IsWhere (start_of w) (size w) C r v
-  pub holds : Holds C r (take v.rank.clock (history (continue C r place.acts) r)) v.rank.inbox
-
--- Nothing that is needed is gone: each message that the last image of its receiver hadn't accepted is retained by its
+-- The world stands for the run, and nothing that is needed is gone: each message that the last image of its receiver hadn't accepted is retained by its
 -- sender, where that is live, and by the sender's image, or the beginning where it has none; each Kept on a wire names at
--- most what the last image of its sender accepted; inboxes, of live ranks and in images, hold what was accepted and isn't
--- taken.
+-- most what the last image of its sender accepted; inboxes hold what was accepted and isn't taken, in an image by the acts
+-- of the run that it has made, and of a live rank by its first acts, as many as its clock says, in the run that goes on by
+-- what the rank owes.
 pub record NothingGone (w : WorldValue) (C : List Passed) : Type 0 where
+  pub stands : StandsFor w C
   pub live : (s r k : ℕ) (m : Message) (v : Live) → Needed w C s r k m → IsLive w s v
       → Retains v.rank.clock v.rank.log s r k m
   pub images : (s r k : ℕ) (m : Message) (i : ImageValue) → Needed w C s r k m → BeginsAt w s i
       → Retains i.clock i.log s r k m
   pub kept : (r s k upto : ℕ) (frames : List Frame) → IsWire w r s frames → slice_get frames k ≡ Some (frame.Kept upto)
       → upto ≤ covered w.images r s
-  pub live_inbox : (r : ℕ) (v : Live) → IsLive w r v → LiveHolds w C r v
+  pub live_inbox : (r : ℕ) (v : Live) (live : IsLive w r v)
+      → Holds C r (take v.rank.clock (history (continue C r (stands.ranks r v live).acts) r)) v.rank.inbox
   pub image_inbox : (r : ℕ) (i : ImageValue) → BeginsAt w r i → Holds C r (take i.clock (history C r)) i.inbox

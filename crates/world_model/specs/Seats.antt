@@ -1,6 +1,7 @@
 -- The ranks of a world, by their numbers, and what the calls on one come to.
 use Rattle.std.specs.Prelude.{◌≡◌, ◌≢◌, ℕ, List, [], ◌∷◌, length, map, Option, Some, None, IsSomeAnd, slice_get, slice_set, Ok}
 use Rattle.checkpoint.specs.Image.{ImageValue}
+use Rattle.checkpoint.specs.Shelf.{image_bytes}
 use Rattle.checkpoint.specs.declared.memory_shelf.MemoryShelf.{MemoryShelf}
 use Rattle.plain_logger.specs.Event.{EventValue}
 use Rattle.plain_logger.specs.History.{StateValue, reply_of}
@@ -9,7 +10,7 @@ use Rattle.plain_logger.specs.declared.call.Reply.TheVariants.{Length}
 use Rattle.rank_language.specs.Program.{ProgramValue}
 use Rattle.rank_machine.specs.Machine.{MachineValue, machine_want}
 use Rattle.rank_node.specs.declared.turn.Turn.{Turn}
-use Rattle.rank_node.specs.Image.{begins_at, image_of, after_image, with_shelf}
+use Rattle.rank_node.specs.Image.{begins_at, image_of, image_on, after_image, with_shelf}
 use Rattle.rank_node.specs.Replay.{Replay, restarted, left_of, replay_turn_of, after_replay, left_after, ReplayStep}
 use Rattle.rank_node.specs.Steps.{turn_of, MachineStep, after_step}
 use Rattle.crash_free.specs.Runs.{Passed}
@@ -127,12 +128,14 @@ pub record IsRestarted (program : ProgramValue) (n r : ℕ) (image : Option Imag
     rank = restarted (stable_of n r shelf) (begins_at program r n image) (length row);
     left = left_of (begins_at program r n image) row;
   })
+  pub held : image_on program r n (image_bytes shelf.image) ≡ image
 
--- The rank took an image of itself.
-pub record IsImaged (v : Live) (x : Option Live) (image : Option ImageValue) : Type 0 where
+-- The rank r of n took an image of itself, which its shelf holds.
+pub record IsImaged (program : ProgramValue) (n r : ℕ) (v : Live) (x : Option Live) (image : Option ImageValue) : Type 0 where
   pub shelf : MemoryShelf
   pub after : x ≡ with_rank_value v (after_image v.rank (with_shelf v.rank.stable shelf))
   pub taken : image ≡ Some (image_of v.rank)
+  pub held : image_on program r n (image_bytes shelf.image) ≡ image
 
 -- there is an event, and the logger accepts it
 abbrev pub IsAccepted : StateValue → ℕ → Option EventValue → Type 0

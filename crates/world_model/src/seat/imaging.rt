@@ -13,7 +13,7 @@ impl<'p> Seat<'p> {
     pub fn image(&mut self) -> Result<(), AllocError>
         requires work { IfLive self.old.live (λ v. v.left ≡ []) }
         requires settled { IfLive self.old.live (λ v. v.rank.pending ≡ []) }
-        ensures ok { OnOk result (IfLive self.old.live (λ v. IsImaged v self.new.live self.new.image)) }
+        ensures ok { OnOk result (IfLive self.old.live (λ v. IsImaged self.old.program self.old.size self.old.rank v self.new.live self.new.image)) }
         ensures others { self.new ≡ with_both self.old self.new.live self.new.image }
         ensures err { OnErr result (self.new ≡ self.old) }
     {

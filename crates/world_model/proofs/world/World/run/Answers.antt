@@ -1,4 +1,4 @@
-use Rattle.std.proofs.Common.{ℕ, ◌+◌, ◌<◌, List, [], ◌∷◌, ◌++◌, length, take, get_or, arith}
+use Rattle.std.proofs.Common.{ℕ, ◌+◌, ◌<◌, List, [], ◌∷◌, ◌++◌, length, take, get_or, arith, refl, subst, sym, ◌∙◌}
 use Rattle.std.proofs.lemmas.List.{take_more}
 use Rattle.world_model.specs.World.{WorldValue}
 use Rattle.world_model.specs.Headline.{StandsFor}
@@ -6,7 +6,7 @@ use Rattle.world_model.specs.Retained.{NothingGone}
 use Rattle.world_model.specs.Follows.{Follows, FollowsAll}
 use Rattle.world_model.specs.declared.event.WorldEvent.{WorldEvent}
 use Rattle.world_model.specs.declared.reply.Reply.{Reply}
-use Rattle.world_model.proofs.Sequences.{follows_push}
+use Rattle.world_model.proofs.Sequences.{follows_push, stops, world_stands, world_retains}
 use Rattle.world_model.proofs.world.World.run.Goals as goal
 
 -- one more event of the list
@@ -14,6 +14,20 @@ go_on : (w v w' : WorldValue) (events : List WorldEvent) (replies : List Reply) 
     → FollowsAll w (take k events) replies v → Follows v (get_or events k d) answer w' → StandsFor w' w'.run → NothingGone w' w'.run
     → FollowsAll w (take (k + 1) events) (replies ++ answer ∷ []) w'
 go_on w v w' events replies k d answer l f g s n = rw (take_more events k d l) (follows_push w v w' (take k events) replies (get_or events k d) answer f g s n)
+
+-- src/world.rt
+pub returns-in_default-clause-nothing_gone : goal.returns-in_default-clause-nothing_gone
+returns-in_default-clause-nothing_gone c = subst (λ w. NothingGone w w.run) c.self.view_is (world_retains c.self.inside.parts c.self.invariant)
+
+-- src/world.rt
+pub loop-done-init : goal.loop-done-init
+loop-done-init c = record {
+  ran = subst (λ z. FollowsAll c.args.self.now [] z c.args.self.now) (sym (c.reserve.ensures.items ∙ c.new-replies.ensures.items)) refl;
+  stands = subst (λ w. StandsFor w w.run) c.self.view_is (world_stands c.self.inside.parts c.self.invariant);
+  nothing_gone = subst (λ w. NothingGone w w.run) c.self.view_is (world_retains c.self.inside.parts c.self.invariant);
+  count = omega (arith, c.reserve.ensures.len, c.new-replies.ensures.len);
+  room = grind (arith, c.in-Ok.ensures.ok, c.reserve.ensures.len, c.new-replies.ensures.len);
+}
 
 -- src/world.rt
 pub loop-done-preserved : goal.loop-done-preserved
@@ -26,3 +40,9 @@ loop-done-preserved c = record {
   count = omega (arith, c.loop-done.invariant.count, c.push_reserved.ensures.len);
   room = omega (arith, c.loop-done.invariant.room, c.push_reserved.ensures.capacity);
 }
+
+-- src/world.rt
+pub returns-in_default-apply-clause-stopped : goal.returns-in_default-apply-clause-stopped
+returns-in_default-apply-clause-stopped c =
+    stops c.args.self.now c.loop-done.self c.apply.new.self c.args.events.now c.loop-done.replies.items c.loop-done.done _ (omega arith)
+    c.loop-done.invariant.ran c.in_default-apply.ensures.possible c.in_default-apply.ensures.frugal c.in_default-apply.ensures.err
