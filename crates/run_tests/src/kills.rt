@@ -21,7 +21,7 @@ end
 ";
 
 /// Four round trips of two ranks.
-const TRIPS: &str = "var i
+pub const TRIPS: &str = "var i
 var x
 while i < 4
   if rank == 0
@@ -37,7 +37,7 @@ print x
 ";
 
 /// A rank takes two messages of its own.
-const OWN: &str = "var x
+pub const OWN: &str = "var x
 send 0, 3, 6
 send 0, 3, 7
 recv 0, 3, x
@@ -47,7 +47,7 @@ print x
 ";
 
 /// A reduce, a broadcast and a barrier of three ranks.
-const COLLECTIVES: &str = "var x\nreduce sum, 2, rank + 1, x\nbcast 2, x\nbarrier\nprint x\n";
+pub const COLLECTIVES: &str = "var x\nreduce sum, 2, rank + 1, x\nbcast 2, x\nbarrier\nprint x\n";
 
 /// A loop of 400 rounds, and two lines.
 const ROUNDS: &str = "var i\nwhile i < 400\n  let i = i + 1\nend\nprint 1\nprint 2\n";

@@ -6,6 +6,8 @@
 #![tactic(auto)]
 
 #[cfg(test)]
+mod everywhere;
+#[cfg(test)]
 mod faults;
 #[cfg(test)]
 mod helps;
