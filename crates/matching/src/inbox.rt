@@ -68,6 +68,16 @@ impl Inbox {
         }
     }
 
+    /// The same inbox, in memory of its own. An `Err` is want of memory.
+    pub fn copy(&self, alloc: Heap) -> Result<Inbox, AllocError>
+        ensures { IfOk result (λ copy. copy ≡ self.now) }
+    {
+        Ok(Inbox {
+            packets: self.packets.as_slice().to_vec(alloc)?,
+            accepted: self.accepted.as_slice().to_vec(alloc)?,
+        })
+    }
+
     /// Whether a packet of this source and number can stand behind those that
     /// are there: it was accepted, and those of its source have lower numbers.
     pub fn may_follow(&self, source: u8, number: u32) -> bool
