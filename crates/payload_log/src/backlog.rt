@@ -4,6 +4,7 @@ ghost use Rattle.metered.specs.Limits.{greatest_clock};
 
 use matching::Packet;
 use metered::Heap;
+use std::alloc::AllocError;
 use std::collections::VecDeque;
 use std::marker::Model;
 
@@ -26,6 +27,21 @@ impl Model for Backlog {
     ghost view = { λ k. backlog_of k.base k.sent k.cursor k.packets.items };
 
     ghost invariant = { λ k. IsBacklog (backlog_of k.base k.sent k.cursor k.packets.items) };
+}
+
+// Lists of backlogs are copied by the calls of `std`.
+impl Clone for Backlog {
+    ghost is_clone = { λ backlog clone. clone ≡ backlog };
+
+    #[tactic(auto, using(std::proofs::lemmas::List::Elements::same_from_all_zip))]
+    fn clone(&self) -> Result<Backlog, AllocError> {
+        Ok(Backlog {
+            base: self.base,
+            sent: self.sent,
+            cursor: self.cursor,
+            packets: self.packets.clone()?,
+        })
+    }
 }
 
 impl Backlog {

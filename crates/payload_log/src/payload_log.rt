@@ -46,6 +46,15 @@ impl PayloadLog {
         PayloadLog { kept }
     }
 
+    /// The same log, in memory of its own. An `Err` is want of memory.
+    pub fn copy(&self, alloc: Heap) -> Result<PayloadLog, AllocError>
+        ensures { IfOk result (λ copy. copy ≡ self.now) }
+    {
+        Ok(PayloadLog {
+            kept: self.kept.as_slice().to_vec(alloc)?,
+        })
+    }
+
     /// What is kept for each destination.
     pub fn destinations(&self) -> &[Backlog]
         ensures { result.now ≡ self.now }
