@@ -35,6 +35,16 @@ impl Gathered {
         })
     }
 
+    /// The same values with the same room, in memory of their own.
+    pub fn copy(&self, alloc: Heap) -> Result<Gathered, AllocError>
+        ensures { IfOk result (λ copy. copy ≡ self.now) }
+    {
+        Ok(Gathered {
+            slots: self.slots.as_slice().to_vec(alloc)?,
+            count: self.count,
+        })
+    }
+
     /// A value goes last.
     pub fn push(&mut self, value: i64)
         requires { length self.old.values < self.old.room }

@@ -29,6 +29,18 @@ impl Model for Items {
     ghost invariant = { λ a. (1 ≤ length a.items.items) × (length a.items.items ≤ most_items) };
 }
 
+// Lists of arrays are copied by the calls of `std`.
+impl Clone for Items {
+    ghost is_clone = { λ items clone. clone ≡ items };
+
+    fn clone(&self) -> Result<Items, AllocError> {
+        let alloc = *self.items.allocator();
+        Ok(Items {
+            items: self.items.as_slice().to_vec(alloc)?,
+        })
+    }
+}
+
 impl Items {
     /// So many items, each of them 0.
     pub fn new(alloc: Heap, length: usize) -> Result<Items, AllocError>
