@@ -9,3 +9,4 @@ pub mod Frames
 pub mod Image
 pub mod Replay
 pub mod Desked
+pub mod Copied

@@ -3,6 +3,7 @@ ghost use Rattle.std.specs.Prelude.{◌≡◌, ◌≤◌, ◌+◌};
 ghost use Rattle.metered.specs.Limits.{greatest_clock};
 
 use matching::Packet;
+use std::alloc::AllocError;
 use std::marker::Model;
 
 /// The number from which a rank asks for packets: from 1 to one more than the greatest.
@@ -92,4 +93,17 @@ pub enum Frame {
     Ask { from: AskFrom },
     /// The sender's image has the receiver's packets up to this number.
     Kept { upto: KeptUpto },
+}
+
+// Wires are copied by the calls of `std`.
+impl Clone for Frame {
+    ghost is_clone = { λ frame clone. clone ≡ frame };
+
+    fn clone(&self) -> Result<Frame, AllocError> {
+        Ok(match self {
+            Frame::Data(packet) => Frame::Data(packet.clone()?),
+            Frame::Ask { from } => Frame::Ask { from: *from },
+            Frame::Kept { upto } => Frame::Kept { upto: *upto },
+        })
+    }
 }

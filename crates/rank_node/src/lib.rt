@@ -2,6 +2,7 @@
 //! the choices it rests on are stored and acknowledged.
 #![tactic(auto)]
 
+mod copying;
 mod desk_calls;
 mod down;
 mod due;

@@ -4,6 +4,8 @@ ghost use Rattle.std.specs.Prelude.{IsTrue, IsSome, ◌↔◌, OnOk, OnErr};
 ghost use Rattle.std.specs.Bool.{OnTrue, OnFalse};
 ghost use Rattle.rank_node.specs.declared.waiting.Waiting.TheVariants as waits;
 
+mod copying;
+
 use crate::waiting::Waiting;
 use metered::Heap;
 use metered::limits::MOST_EFFECTS;

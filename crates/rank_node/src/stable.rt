@@ -30,6 +30,7 @@ impl<S: Shelf, D> Model for Stable<S, D> {
 }
 
 impl<S: Shelf, D> Stable<S, D> {
+    ghost use Rattle.rank_node.specs.Copied.{stored_with};
     ghost use Rattle.rank_node.specs.Image.{with_shelf};
 
     /// What outlives the crashes of this rank.
@@ -57,6 +58,24 @@ impl<S: Shelf, D> Stable<S, D> {
             size: _,
         } = self;
         (desk, shelf)
+    }
+
+    pub(crate) fn shelf(&self) -> &S
+        ensures { result.now ≡ self.now.shelf }
+    {
+        &self.shelf
+    }
+
+    // The same rank, with this desk and this shelf.
+    pub(crate) fn with(&self, desk: D, shelf: S) -> Stable<S, D>
+        ensures { result ≡ stored_with self.now desk shelf }
+    {
+        Stable {
+            desk,
+            shelf,
+            rank: self.rank,
+            size: self.size,
+        }
     }
 
     pub(crate) fn rank(&self) -> u8
