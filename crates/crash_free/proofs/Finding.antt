@@ -1,7 +1,7 @@
 -- Receptions and hits: what is found in the slots of a pair of ranks may be taken or hit, and where nothing is found nothing may.
 use Rattle.std.proofs.Common.{◌≡◌, ◌≢◌, ℕ, zero, suc, ◌+◌, ◌<◌, ◌≤◌, List, [], ◌∷◌, Some, None, length, refl, sym, ap, ◌∙◌, subst, arith}
 use Rattle.std.proofs.Common.{slice_get, ◌⊎◌, inl, inr, true}
-use Rattle.std.specs.Prelude.{position, IsSomeAnd, IsSome}
+use Rattle.std.specs.Prelude.{position, IsSomeAnd, IsSome, IfSome, IsNone, Option}
 use Rattle.std.proofs.lemmas.Option.{slice_get_within, get_or_from_slice_get}
 use Rattle.matching.specs.declared.selector.Selector.{Selector}
 use Rattle.matching.specs.PacketValue as packet
@@ -306,3 +306,36 @@ pub done_hit : {program : ProgramValue} {machines : List MachineValue} {lanes : 
 done_hit {program} {machines} {lanes} {C} {r} {source} {index} {s} {i} {m} {m'} {v} {w} {p} k kept there a found slot state position stays =
     done_found program machines lanes lanes C r source index s i m m' v w hits p k kept there a found slot state position stays
     (mail_hit (length machines) lanes C r s (suc i) kept.mail)
+
+-- what was found first of a source is eligible
+pub first_found : {now : SimValue} {program : ProgramValue} {machines : List MachineValue} {lanes : List (List Slot)} {C : List Passed} (r s : ℕ)
+    (w : Selector) (o : Option ℕ) → value_of program machines C ≡ now → IsKept program machines lanes C → r < length now.machines → s < length now.machines
+    → o ≡ position (passes w) (lane lanes s r) → IfSome o (λ index. IsEligible (inbound_of now.run r) (history now.run r) s (suc index) w)
+first_found {now} {program} {machines} {lanes} {C} r s w o seen kept =
+    subst (λ (z : SimValue). r < length z.machines → s < length z.machines → o ≡ position (passes w) (lane lanes s r)
+    → IfSome o (λ index. IsEligible (inbound_of z.run r) (history z.run r) s (suc index) w)) seen (go o)
+  where
+    go : (o : Option ℕ) → r < length machines → s < length machines → o ≡ position (passes w) (lane lanes s r)
+        → IfSome o (λ index. IsEligible (inbound_of C r) (history C r) s (suc index) w)
+    go None rank source e = tt
+    go (Some i) rank source e = found_eligible program machines lanes C r s i w kept rank source (sym e)
+
+-- and where nothing was found nothing is
+pub none_found : {now : SimValue} {program : ProgramValue} {machines : List MachineValue} {lanes : List (List Slot)} {C : List Passed} (r s : ℕ)
+    (w : Selector) (o : Option ℕ) → value_of program machines C ≡ now → IsKept program machines lanes C → r < length now.machines → s < length now.machines
+    → o ≡ position (passes w) (lane lanes s r) → IsNone o → (j : ℕ) → IsEligible (inbound_of now.run r) (history now.run r) s j w → ⊥
+none_found {now} {program} {machines} {lanes} {C} r s w o seen kept =
+    subst (λ (z : SimValue). r < length z.machines → s < length z.machines → o ≡ position (passes w) (lane lanes s r) → IsNone o
+    → (j : ℕ) → IsEligible (inbound_of z.run r) (history z.run r) s j w → ⊥) seen (go o)
+  where
+    no_place : (x : Message) (xs : List Message) → at_place xs zero ≡ Some x → ⊥
+    no_place x xs e = cc
+
+    go : (o : Option ℕ) → r < length machines → s < length machines → o ≡ position (passes w) (lane lanes s r) → IsNone o
+        → (j : ℕ) → IsEligible (inbound_of C r) (history C r) s j w → ⊥
+    go (Some i) rank source e none j eligible = absurd cc
+    go None rank source none is_none zero e = no_place e.message (inbound_of C r s) e.there
+    go None rank source none is_none (suc i) e =
+        let found : position (passes w) (lane lanes s r) ≡ Some i =
+        ap (position (passes w)) (kept.mail.each r s rank source) ∙ first_eligible (inbound_of C r) (history C r) s i w e in
+        (let q : None ≡ Some i = none ∙ found in cc)
