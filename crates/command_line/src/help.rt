@@ -165,3 +165,29 @@ Example, at the top of the repository:
   ./ftmpi world --ranks 2 examples/answer.rank examples/crash.events
 
 docs/WORLDS.md is a guide to worlds, event by event.";
+
+/// Behind the help of `catch-up`.
+pub const CATCH_UP: &str = "\
+The events are given to the ranks as by `ftmpi world`, and no reply is printed.
+What is printed is a way on from there: events, one a line, after which every
+rank is up, has nothing left to replay, and has made each act of its own that
+had passed. None of them is a crash. Of the frames that were on the wires, only
+asks for packets arrive; each packet that arrives is put first. Where nothing
+is to be done, nothing is printed.
+
+The lines can be put behind those of EVENTS and given to `ftmpi world`, as long
+as both together have at most 100000 lines.
+
+Faults of the events, as `events line L: fault K NAME`: the first faulty line,
+and on it the lowest fault. `ftmpi check --help` has the faults of a program,
+`ftmpi world --help` the events.
+  1 BadLine  the line has none of the forms of an event
+  2 Limit    there are more than 100000 lines
+
+Exit status: 0 where the way on is printed, 2 where the program or the events
+are refused or can't be read; `ftmpi --help` has the others.
+
+Example, at the top of the repository:
+  ./ftmpi catch-up --ranks 2 examples/answer.rank examples/all_down.events
+
+docs/WORLDS.md is a guide to worlds, and shows a way on.";

@@ -1,7 +1,7 @@
 //! Runs, checks and worlds of the examples.
 
 /// The words of each run, after the program's name.
-pub const RUNS: [&str; 66] = [
+pub const RUNS: [&str; 71] = [
     "run --ranks 2 examples/answer.rank",
     "run --ranks 4 examples/ring.rank",
     "run --ranks 2 examples/ping_pong.rank",
@@ -65,6 +65,11 @@ pub const RUNS: [&str; 66] = [
     "world --ranks 2 examples/overtaking.rank examples/store_waits.events",
     "world --ranks 2 examples/answer.rank examples/replaying.events",
     "world --ranks 2 examples/answer.rank examples/cannot.events",
+    "catch-up --ranks 2 examples/answer.rank examples/all_down.events",
+    "world --ranks 2 examples/answer.rank examples/led_on.events",
+    "catch-up --ranks 2 examples/answer.rank examples/none.events",
+    "catch-up --ranks 2 examples/answer.rank examples/bad_line.events",
+    "catch-up --ranks 2 examples/refused.rank examples/none.events",
     "world --ranks 2 examples/answer.rank examples/bad_line.events",
     "world --ranks 2 examples/answer.rank examples/none.events",
     "world --ranks 2 examples/refused.rank examples/none.events",

@@ -12,10 +12,11 @@ Runs one rank program on several ranks that exchange messages
 Usage: ftmpi <COMMAND>
 
 Commands:
-  check  Prints a program's canonical text, or its first fault
-  run    Runs a program and prints its lines and how each rank ended
-  world  Gives a program's ranks the events of a file and prints each reply
-  help   Print this message or the help of the given subcommand(s)
+  check     Prints a program's canonical text, or its first fault
+  run       Runs a program and prints its lines and how each rank ended
+  world     Gives a program's ranks the events of a file and prints each reply
+  catch-up  Prints events that bring a world's ranks back to where they were
+  help      Print this message or the help of the given subcommand(s)
 
 Options:
   -h, --help     Print help
@@ -225,8 +226,47 @@ Example, at the top of the repository:
 docs/WORLDS.md is a guide to worlds, event by event.
 ";
 
+/// The help of `catch-up`.
+const CATCH_UP: &str = "\
+Prints events that bring a world's ranks back to where they were
+
+Usage: ftmpi catch-up --ranks <N> <PROGRAM> <EVENTS>
+
+Arguments:
+  <PROGRAM>  The file of the rank program
+  <EVENTS>   The file of events (below)
+
+Options:
+      --ranks <N>  The number of ranks, 1 to 8
+  -h, --help       Print help
+
+The events are given to the ranks as by `ftmpi world`, and no reply is printed.
+What is printed is a way on from there: events, one a line, after which every
+rank is up, has nothing left to replay, and has made each act of its own that
+had passed. None of them is a crash. Of the frames that were on the wires, only
+asks for packets arrive; each packet that arrives is put first. Where nothing
+is to be done, nothing is printed.
+
+The lines can be put behind those of EVENTS and given to `ftmpi world`, as long
+as both together have at most 100000 lines.
+
+Faults of the events, as `events line L: fault K NAME`: the first faulty line,
+and on it the lowest fault. `ftmpi check --help` has the faults of a program,
+`ftmpi world --help` the events.
+  1 BadLine  the line has none of the forms of an event
+  2 Limit    there are more than 100000 lines
+
+Exit status: 0 where the way on is printed, 2 where the program or the events
+are refused or can't be read; `ftmpi --help` has the others.
+
+Example, at the top of the repository:
+  ./ftmpi catch-up --ranks 2 examples/answer.rank examples/all_down.events
+
+docs/WORLDS.md is a guide to worlds, and shows a way on.
+";
+
 /// Words, and all that they print.
-const HELPS: [(&str, &str); 8] = [
+const HELPS: [(&str, &str); 9] = [
     ("--version", "ftmpi 0.1.0\n"),
     ("--help", PROGRAM),
     ("help", PROGRAM),
@@ -235,6 +275,7 @@ const HELPS: [(&str, &str); 8] = [
     ("run -h", RUN),
     ("help run", RUN),
     ("world --help", WORLD),
+    ("catch-up --help", CATCH_UP),
 ];
 
 // Each of these prints this to standard output, and nothing to standard error.

@@ -22,7 +22,7 @@ struct Refusal {
     error: &'static str,
 }
 
-const REFUSALS: [Refusal; 16] = [
+const REFUSALS: [Refusal; 19] = [
     Refusal {
         words: "run --ranks 1 none",
         program: "",
@@ -123,6 +123,27 @@ const REFUSALS: [Refusal; 16] = [
         status: 2,
         error: "events line 3: fault 1 BadLine\n",
     },
+    Refusal {
+        words: "catch-up --ranks 1 p large",
+        program: "",
+        script: "",
+        status: 4,
+        error: "out of memory\n",
+    },
+    Refusal {
+        words: "catch-up --ranks 1 p none",
+        program: "",
+        script: "",
+        status: 2,
+        error: "cannot read none\n",
+    },
+    Refusal {
+        words: "catch-up --ranks 1 p s",
+        program: "",
+        script: "step 0\n\nkill 0 at 1\n",
+        status: 2,
+        error: "events line 3: fault 1 BadLine\n",
+    },
     // The program is judged before the events are read.
     Refusal {
         words: "world --ranks 1 p none",
@@ -211,7 +232,7 @@ fn refused(rt: HostRuntime) -> Result<(), Fail> {
 }
 
 /// Words that are refused, or that ask for help, or for a run, with the exit status.
-const WORDS: [(&str, u8); 29] = [
+const WORDS: [(&str, u8); 34] = [
     ("run --ranks 1 p", 0),
     ("run --ranks 8 --script s --idle 1 --steps 1000000000 p", 0),
     ("run --ranks 02 p", 0),
@@ -241,6 +262,11 @@ const WORDS: [(&str, u8); 29] = [
     ("world --ranks 0 p s", 3),
     ("world --ranks 9 p s", 3),
     ("world --ranks 1 --idle 1 p s", 3),
+    ("catch-up --help", 0),
+    ("catch-up p s", 3),
+    ("catch-up --ranks 1 p", 3),
+    ("catch-up --ranks 0 p s", 3),
+    ("catch-up --ranks 9 p s", 3),
 ];
 
 // Where words are refused nothing is written to standard output, and else nothing to standard error.

@@ -75,3 +75,5 @@ pub mod Advancing
 pub mod Listening
 pub mod ActsMade
 pub mod WayFound
+pub mod AlikeWorlds
+pub mod Copying

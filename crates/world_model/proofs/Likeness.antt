@@ -52,7 +52,7 @@ alike_set (z ∷ xs) [] r x y a b = absurd a
 alike_set (z ∷ xs) (k ∷ ys) zero x y a b = (b, a.1)
 alike_set (z ∷ xs) (k ∷ ys) (suc r) x y a b = (a.0, alike_set xs ys r x y a.1 b)
 
-alike_length : (xs ys : List (Option Live)) → AreAlike xs ys → length ys ≡ length xs
+pub alike_length : (xs ys : List (Option Live)) → AreAlike xs ys → length ys ≡ length xs
 alike_length [] [] a = refl
 alike_length [] (y ∷ ys) a = absurd a
 alike_length (x ∷ xs) [] a = absurd a
@@ -62,13 +62,13 @@ pub alike_size : (a b : WorldValue) → Alike a b → size b ≡ size a
 alike_size a b k = alike_length a.ranks b.ranks k.ranks
 
 -- a live rank of the second is one of the first
-record Was (a : WorldValue) (r : ℕ) (v : Live) : Type 0 where
-  rank : Live
-  live : IsLive a r rank
-  shelf : MemoryShelf
-  same : v ≡ shelved rank shelf
+pub record Was (a : WorldValue) (r : ℕ) (v : Live) : Type 0 where
+  pub rank : Live
+  pub live : IsLive a r rank
+  pub shelf : MemoryShelf
+  pub same : v ≡ shelved rank shelf
 
-alike_live : (a b : WorldValue) (r : ℕ) (v : Live) → Alike a b → IsLive b r v → Was a r v
+pub alike_live : (a b : WorldValue) (r : ℕ) (v : Live) → Alike a b → IsLive b r v → Was a r v
 alike_live a b r v k live = go (alike_at a.ranks b.ranks r (Some v) k.ranks live)
   where
     of : (o : Option Live) → slice_get a.ranks r ≡ Some o → IsAlike o (Some v) → Was a r v

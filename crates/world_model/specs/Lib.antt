@@ -14,3 +14,4 @@ pub mod Example
 pub mod View
 pub mod Way
 pub mod Driven
+pub mod Copied

@@ -10,6 +10,7 @@ ghost use Rattle.world_model.specs.View.{IsView};
 mod acking;
 mod applying;
 mod arriving;
+mod copying;
 mod crashing;
 mod imaging;
 mod passing;

@@ -49,6 +49,17 @@ impl Run {
         })
     }
 
+    /// The same run, in memory of its own. An `Err` is want of memory.
+    pub fn copy(&self, alloc: Heap) -> Result<Run, AllocError>
+        ensures { IfOk result (λ copy. copy ≡ self.now) }
+    {
+        Ok(Run {
+            ranks: self.ranks,
+            acts: self.acts.as_slice().to_vec(alloc)?,
+            index: self.index.as_slice().to_vec(alloc)?,
+        })
+    }
+
     /// How many acts there are.
     pub fn len(&self) -> usize
         ensures { result ≡ length self.now.acts }

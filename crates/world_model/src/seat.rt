@@ -6,6 +6,7 @@ ghost use Rattle.world_model.specs.Seats.{at_work, IfLive, IsNew, IsNotAtWork, I
 ghost use Rattle.world_model.specs.View.{shown_of};
 
 mod calling;
+mod copying;
 mod imaging;
 mod living;
 mod stepping;

@@ -7,6 +7,7 @@ ghost use Rattle.world_model.specs.World.{Live};
 ghost use Rattle.world_model.specs.Seats.{at_work, AtRank, IsNew, IsNotAtWork, IsNotInReplay, SeatValue};
 ghost use Rattle.world_model.specs.View.{shown_of};
 
+mod copying;
 mod framing;
 mod imaging;
 mod living;

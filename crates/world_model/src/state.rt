@@ -7,6 +7,8 @@ ghost use Rattle.rank_node.specs.Replay.{left_of};
 ghost use Rattle.world_model.specs.Seats.{in_replay, IsRestarted};
 ghost use Rattle.world_model.specs.Seat.{bytes_of, live_of, shelf_of, HasLeft, IsOf, IsStanding};
 
+mod copying;
+
 use checkpoint::MemoryShelf;
 use metered::Heap;
 use plain_logger::Event;

@@ -21,6 +21,18 @@ impl Model for Wire {
     ghost view = { λ w. w.frames.items };
 }
 
+// Wires are copied by the calls of `std`.
+impl Clone for Wire {
+    ghost is_clone = { λ wire clone. clone ≡ wire };
+
+    fn clone(&self) -> Result<Wire, AllocError> {
+        let alloc = *self.frames.allocator();
+        Ok(Wire {
+            frames: self.frames.as_slice().to_vec(alloc)?,
+        })
+    }
+}
+
 impl Wire {
     /// A wire on which nothing was put.
     pub fn new(alloc: Heap) -> Wire

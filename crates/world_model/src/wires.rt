@@ -23,6 +23,17 @@ impl Model for WiresFrom {
     ghost view = { λ w. w.wires.items };
 }
 
+impl Clone for WiresFrom {
+    ghost is_clone = { λ wires clone. clone ≡ wires };
+
+    fn clone(&self) -> Result<WiresFrom, AllocError> {
+        let alloc = *self.wires.allocator();
+        Ok(WiresFrom {
+            wires: self.wires.as_slice().to_vec(alloc)?,
+        })
+    }
+}
+
 impl WiresFrom {
     fn new(alloc: Heap, ranks: usize) -> Result<WiresFrom, AllocError>
         ensures { IfOk result (λ wires. wires ≡ replicate ranks []) }
@@ -76,6 +87,15 @@ impl Wires {
             from.push(WiresFrom::new(alloc, ranks)?)?;
         }
         Ok(Wires { from })
+    }
+
+    /// The same wires, in memory of their own. An `Err` is want of memory.
+    pub fn copy(&self, alloc: Heap) -> Result<Wires, AllocError>
+        ensures { IfOk result (λ copy. copy ≡ self.now) }
+    {
+        Ok(Wires {
+            from: self.from.as_slice().to_vec(alloc)?,
+        })
     }
 
     /// The wire from one rank to another.

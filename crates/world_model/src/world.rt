@@ -89,25 +89,21 @@ impl<'p> World<'p> {
         self.parts.view(rank)
     }
 
-    /// A way on from this world, which is driven along it and ends: events
-    /// after which, on whatever course they are taken, every rank is live, has
-    /// nothing left to replay and has made its acts of the run. An `Err` is
-    /// want of memory.
-    #[tactic(auto, using(crate::proofs::WayFound::alike_self))]
-    pub fn way_on(self) -> Result<Vec<WorldEvent, Heap>, AllocError>
-        ensures { IfOk result (λ events. IsWayOn self.entry events.items) }
+    /// A way on from this world, which stays: events after which, on whatever
+    /// course they are taken, every rank is live, has nothing left to replay
+    /// and has made its acts of the run. None of them is a crash, and what was
+    /// put before the first isn't let arrive again, but where it asks for
+    /// messages. An `Err` is want of memory.
+    ///
+    /// It takes memory for a copy of the world, which is driven along the way.
+    #[tactic(auto, using(crate::proofs::AlikeWorlds::alike_world))]
+    pub fn catch_up(&self) -> Result<Vec<WorldEvent, Heap>, AllocError>
+        ensures { IfOk result (λ events. IsWayOn self.now events.items) }
     {
-        let World { mut parts } = self;
-        match parts.way() {
-            Ok(events) => {
-                parts.end();
-                Ok(events)
-            }
-            Err(_) => {
-                parts.end();
-                Err(AllocError)
-            }
-        }
+        let mut copy = self.parts.copy()?;
+        let found = copy.way();
+        copy.end();
+        found
     }
 
     /// One event. An `Err` is want of memory, and comes only where the event

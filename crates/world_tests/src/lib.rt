@@ -13,6 +13,8 @@ mod collectives;
 #[cfg(test)]
 mod crashes;
 #[cfg(test)]
+mod down;
+#[cfg(test)]
 mod images;
 #[cfg(test)]
 mod scenes;

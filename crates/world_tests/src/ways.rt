@@ -1,14 +1,9 @@
 //! Ways on: whatever happened to a world, events without a crash bring each rank back to where it was.
-ghost use Rattle.std.specs.Prelude.{◌≡◌, ◌≤◌, ◌<◌};
-ghost use Rattle.metered.specs.Limits.{most_ranks};
-
-use crate::scenes::ONE_MESSAGE;
-use events_text::parse_events;
 use metered::Heap;
 use rank_language::Program;
 use std::alloc::AllocError;
 use std::test::*;
-use world_model::{Reply, World, WorldEvent};
+use world_model::{Reply, View, World, WorldEvent};
 
 /// Rank 0 sends three messages of two tags, and rank 1 takes that of the second tag first.
 const TWO_TAGS: &[u8] = b"var x
@@ -25,7 +20,7 @@ end
 ";
 
 /// Rank 0 sends four numbers, and rank 1 answers each by its square.
-const SQUARES: &[u8] = b"var i
+pub const SQUARES: &[u8] = b"var i
 var x
 while i < 4
 if rank == 0
@@ -47,23 +42,6 @@ iprobe any, any, f
 iprobe any, any, f
 print f
 ";
-
-/// The world after these events is driven on; the events of the way.
-fn way_of(
-    alloc: Heap,
-    program: &Program,
-    ranks: u8,
-    events: &[WorldEvent],
-) -> Result<Vec<WorldEvent, Heap>, AllocError>
-    requires { ranks ≤ most_ranks }
-{
-    let mut world = World::new(alloc, program, ranks)?;
-    if world.run(alloc, events).is_err() {
-        world.close();
-        return Err(AllocError);
-    }
-    world.way_on()
-}
 
 /// Whether no event of a way was refused or is a crash, and each data frame that arrived was put just before.
 fn is_own(way: &[WorldEvent], replies: &[Reply]) -> bool {
@@ -106,36 +84,37 @@ fn have_caught_up(world: &World<'_>) -> bool {
     true
 }
 
-/// Whether a world on which these events are played goes on by the way.
-fn goes_on(
+/// What a world shows of its ranks.
+fn views(alloc: Heap, world: &World<'_>) -> Result<Vec<View, Heap>, AllocError> {
+    let mut views = Vec::new(alloc);
+    for rank in 0..world.ranks() {
+        views.push(world.view(rank))?;
+    }
+    Ok(views)
+}
+
+/// Whether a way on from a world leaves it as it was, and then leads it on.
+pub fn leads_on(alloc: Heap, world: &mut World<'_>) -> Result<bool, AllocError> {
+    let before = views(alloc, world)?;
+    let way = world.catch_up()?;
+    let after = views(alloc, world)?;
+    let Ok(replies) = world.run(alloc, way.as_slice()) else {
+        return Err(AllocError);
+    };
+    let unchanged = before.as_slice() == after.as_slice();
+    Ok(unchanged && is_own(way.as_slice(), replies.as_slice()) && have_caught_up(world))
+}
+
+/// The same from a world after these events.
+fn leads_on_after(
     alloc: Heap,
     world: &mut World<'_>,
     events: &[WorldEvent],
-    way: &[WorldEvent],
 ) -> Result<bool, AllocError> {
     let Ok(_) = world.run(alloc, events) else {
         return Err(AllocError);
     };
-    let Ok(replies) = world.run(alloc, way) else {
-        return Err(AllocError);
-    };
-    Ok(is_own(way, replies.as_slice()) && have_caught_up(world))
-}
-
-/// Whether the way on from the world after these events is one on another such world.
-fn leads_on(
-    alloc: Heap,
-    program: &Program,
-    ranks: u8,
-    events: &[WorldEvent],
-) -> Result<bool, AllocError>
-    requires { ranks ≤ most_ranks }
-{
-    let way = way_of(alloc, program, ranks, events)?;
-    let mut world = World::new(alloc, program, ranks)?;
-    let good = goes_on(alloc, &mut world, events, way.as_slice());
-    world.close();
-    good
+    leads_on(alloc, world)
 }
 
 /// The next of a fixed row of numbers.
@@ -184,38 +163,12 @@ fn a_thousand_lists(rt: HostRuntime) -> Result<(), Fail> {
         let program = Program::parse(alloc, program)?;
         for list in 0..334 {
             let events = drawn_events(alloc, &mut draw)?;
-            let good = leads_on(alloc, &program, 2, events.as_slice())?;
-            assert!(rt; good, "list {list}");
+            let mut world = World::new(alloc, &program, 2)?;
+            let good = leads_on_after(alloc, &mut world, events.as_slice());
+            world.close();
+            assert!(rt; good?, "list {list}");
         }
     }
-    Ok(())
-}
-
-/// Rank 1 is down, after it took and stored a message.
-const ONE_DOWN: &[u8] = b"step 0
-step 0
-step 0
-put 0 1
-arrive 0 1 0
-step 1
-step 1
-step 1
-store 1
-step 1
-crash 1
-";
-
-#[test]
-fn one_rank_is_down(rt: HostRuntime) -> Result<(), Fail> {
-    let alloc = rt.alloc();
-    let program = Program::parse(alloc, ONE_MESSAGE)?;
-    let Ok(events) = parse_events(alloc, ONE_DOWN) else {
-        return Err(AllocError.into());
-    };
-    assert!(rt;
-        leads_on(alloc, &program, 2, events.as_slice())?,
-        "a way on"
-    );
     Ok(())
 }
 
@@ -223,7 +176,9 @@ fn one_rank_is_down(rt: HostRuntime) -> Result<(), Fail> {
 fn nothing_happened(rt: HostRuntime) -> Result<(), Fail> {
     let alloc = rt.alloc();
     let program = Program::parse(alloc, SQUARES)?;
-    let way = way_of(alloc, &program, 2, &[])?;
-    assert_eq!(rt; way.len(), 0, "the way on from a new world");
+    let world = World::new(alloc, &program, 2)?;
+    let way = world.catch_up();
+    world.close();
+    assert_eq!(rt; way?.len(), 0, "the way on from a new world");
     Ok(())
 }

@@ -21,6 +21,17 @@ impl Model for Clocks {
     ghost view = { λ c. c.items.items };
 }
 
+impl Clone for Clocks {
+    ghost is_clone = { λ clocks clone. clone ≡ clocks };
+
+    fn clone(&self) -> Result<Clocks, AllocError> {
+        let alloc = *self.items.allocator();
+        Ok(Clocks {
+            items: self.items.as_slice().to_vec(alloc)?,
+        })
+    }
+}
+
 impl Clocks {
     pub(super) fn new(alloc: Heap) -> Self
         ensures { result ≡ [] }

@@ -25,6 +25,18 @@ impl Model for Made {
     ghost view = { λ m. record { count = m.count; clocks = m.clocks.items } };
 }
 
+impl Clone for Made {
+    ghost is_clone = { λ made clone. clone ≡ made };
+
+    fn clone(&self) -> Result<Made, AllocError> {
+        let alloc = *self.clocks.allocator();
+        Ok(Made {
+            count: self.count,
+            clocks: self.clocks.as_slice().to_vec(alloc)?,
+        })
+    }
+}
+
 impl Made {
     pub(super) fn new(alloc: Heap, ranks: u8) -> Result<Made, AllocError>
         ensures { IfOk result (λ made. made ≡ none_made ranks) }

@@ -1,0 +1,121 @@
+-- A world like one that is a world is one too: what the invariant says names no shelf but by its image, and not the logger's
+-- history.
+use Rattle.std.proofs.Common.{◌≡◌, ℕ, ◌<◌, List, [], length, Option, Some, refl, sym, ap, subst, ◌∙◌, slice_get}
+use Rattle.checkpoint.specs.Image.{ImageValue}
+use Rattle.checkpoint.specs.declared.memory_shelf.MemoryShelf.{MemoryShelf}
+use Rattle.crash_free.specs.Runs.{Passed}
+use Rattle.plain_logger.specs.Event.{EventValue}
+use Rattle.rank_machine.specs.States.{State}
+use Rattle.world_model.specs.World.{Live, WorldValue, size, IsLive}
+use Rattle.world_model.specs.Counts.{RankCounts, Counts}
+use Rattle.world_model.specs.Stands.{RankStands, StandsAt, RankCovers, Covers, Stands, start_at}
+use Rattle.world_model.specs.Onward.{Behind, Asked, RankOnward, Onward, IsWorld}
+use Rattle.world_model.specs.Driven.{shelved, Alike}
+use Rattle.world_model.proofs.Likeness.{Was, alike_live, alike_size}
+
+-- ---- a rank on another shelf
+
+stands_shelf : (start : ℕ → State) (n : ℕ) (C : List Passed) (r : ℕ) (v : Live) (shelf : MemoryShelf) → RankStands start n C r v → RankStands start n C r (shelved v shelf)
+stands_shelf start n C r v shelf k =
+    record {
+      number = k.number;
+      size = k.size;
+      acts = k.acts;
+      pending = k.pending;
+      stored = k.stored;
+      all_made = k.all_made;
+      left = k.left;
+      logs = k.logs;
+      at = k.at;
+    }
+
+covers_shelf : (images : List (Option ImageValue)) (r : ℕ) (v : Live) (shelf : MemoryShelf) → RankCovers images r v → RankCovers images r (shelved v shelf)
+covers_shelf images r v shelf k = record { bases = k.bases; dues = k.dues; since = k.since }
+
+counts_shelf : (v : Live) (shelf : MemoryShelf) (events : List EventValue) → RankCounts v events → RankCounts (shelved v shelf) events
+counts_shelf v shelf events k = record { made = k.made; few = k.few }
+
+-- ---- the second world, in the words of the first
+
+-- the first with the ranks and the logger of the second
+moved : WorldValue → WorldValue → WorldValue
+moved a b = record a { ranks = b.ranks; logger = b.logger }
+
+is_moved : (a b : WorldValue) → Alike a b → b ≡ moved a b
+is_moved a b k =
+    ap (λ z. record { program = z; ranks = b.ranks; images = b.images; logger = b.logger; wires = b.wires; lines = b.lines; run = b.run }) k.program
+    ∙ ap (λ z. record { program = a.program; ranks = b.ranks; images = z; logger = b.logger; wires = b.wires; lines = b.lines; run = b.run }) k.images
+    ∙ ap (λ z. record { program = a.program; ranks = b.ranks; images = a.images; logger = b.logger; wires = z; lines = b.lines; run = b.run }) k.wires
+    ∙ ap (λ z. record { program = a.program; ranks = b.ranks; images = a.images; logger = b.logger; wires = a.wires; lines = z; run = b.run }) k.lines
+    ∙ ap (λ z. record { program = a.program; ranks = b.ranks; images = a.images; logger = b.logger; wires = a.wires; lines = a.lines; run = z }) k.run
+
+-- a rank of the second on which something holds, where it holds of that of the first on any shelf
+on_live : (a b : WorldValue) (r : ℕ) (v : Live) (P : Live → Type 0) → Alike a b → IsLive b r v
+    → ((u : Live) (shelf : MemoryShelf) → IsLive a r u → P (shelved u shelf)) → P v
+on_live a b r v P k live f = let was = alike_live a b r v k live in subst P (sym was.same) (f was.rank was.shelf was.live)
+
+-- the row of a rank is that of the first
+row_is : (a b : WorldValue) (r : ℕ) (events : List EventValue) → Alike a b → slice_get b.logger.rows r ≡ Some events → slice_get a.logger.rows r ≡ Some events
+row_is a b r events k e = ap (λ z. slice_get z r) (sym k.rows) ∙ e
+
+stands_at : (a b : WorldValue) (n : ℕ) → Alike a b → StandsAt n a → StandsAt n (moved a b)
+stands_at a b n k s =
+    record {
+      is_run = s.is_run;
+      as_many_rows = ap length k.rows ∙ s.as_many_rows;
+      rows = λ r events e. s.rows r events (row_is a b r events k e);
+      as_many_wires = s.as_many_wires;
+      wires_to_all = s.wires_to_all;
+      packets = s.packets;
+      lines = s.lines;
+      as_many_images = s.as_many_images;
+      images = s.images;
+      ranks = λ r v live. on_live a b r v (λ z. RankStands (start_at a n) n a.run r z) k live (λ u shelf l. stands_shelf (start_at a n) n a.run r u shelf (s.ranks r u l));
+    }
+
+covers : (a b : WorldValue) → Alike a b → Covers a → Covers (moved a b)
+covers a b k c =
+    record {
+      images = c.images;
+      wires = c.wires;
+      ranks = λ r v live. on_live a b r v (λ z. RankCovers a.images r z) k live (λ u shelf l. covers_shelf a.images r u shelf (c.ranks r u l));
+    }
+
+counts : (a b : WorldValue) → Alike a b → Counts a → Counts (moved a b)
+counts a b k c =
+    record {
+      rows = λ r events e. c.rows r events (row_is a b r events k e);
+      ranks = λ r v events live e. on_live a b r v (λ z. RankCounts z events) k live
+          (λ u shelf l. counts_shelf u shelf events (c.ranks r u events l (row_is a b r events k e)));
+    }
+
+-- a rank can get on
+can_get_on : (a b : WorldValue) (r : ℕ) (v : Live) (shelf : MemoryShelf) → Alike a b → RankOnward a r v → RankOnward (moved a b) r (shelved v shelf)
+can_get_on a b r v shelf k o =
+    record {
+      clock = o.clock;
+      above = o.above;
+      settled = o.settled;
+      asked = λ behind s l. o.asked behind s (subst (λ z. s < z) (alike_size a b k) l);
+    }
+
+onward : (a b : WorldValue) → Alike a b → Onward a → Onward (moved a b)
+onward a b k o =
+    record {
+      acts = o.acts;
+      images = o.images;
+      ranks = λ r v live. on_live a b r v (λ z. RankOnward (moved a b) r z) k live (λ u shelf l. can_get_on a b r u shelf k (o.ranks r u l));
+    }
+
+-- a world like one is a world
+pub alike_world : (a b : WorldValue) → Alike a b → IsWorld a → IsWorld b
+alike_world a b k i =
+    subst (λ z. IsWorld z) (sym (is_moved a b k))
+    (record {
+      stands = record {
+        run = subst (λ n. StandsAt n (moved a b)) (sym (alike_size a b k)) (stands_at a b (size a) k i.stands.run);
+        covers = covers a b k i.stands.covers;
+        counts = counts a b k i.stands.counts;
+      };
+      onward = onward a b k i.onward;
+    })

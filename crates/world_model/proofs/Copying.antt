@@ -1,0 +1,105 @@
+-- Copies of a rank, of a seat and of all seats.
+use Rattle.std.proofs.Common.{◌≡◌, ℕ, ◌+◌, ◌<◌, zero, suc, List, [], ◌∷◌, ◌++◌, length, take, refl, sym, ap, subst, ◌∙◌, arith, Some, None, Option, slice_get}
+use Rattle.std.specs.List.{AllZip}
+use Rattle.checkpoint.specs.Image.{ImageValue}
+use Rattle.checkpoint.specs.Shelf.{image_bytes}
+use Rattle.checkpoint.specs.declared.memory_shelf.MemoryShelf.{MemoryShelf}
+use Rattle.rank_language.specs.Program.{ProgramValue}
+use Rattle.rank_node.specs.Copied.{node_with, stored_with}
+use Rattle.rank_node.specs.Image.{Reads, image_on}
+use Rattle.rank_node.specs.Replay.{Replay}
+use Rattle.rank_node.specs.Stored.{Stored}
+use Rattle.world_model.specs.declared.state.State.{State}
+use Rattle.world_model.specs.declared.state.State.TheVariants.{Running, Replaying, Down, Empty}
+use Rattle.world_model.specs.World.{Rank, Live}
+use Rattle.world_model.specs.Seats.{SeatValue, IsSeat, AreSeats, lives, images}
+use Rattle.world_model.specs.Seat.{IsOwn, IsOf, IsKept, bytes_of, live_of, shelf_of}
+use Rattle.world_model.specs.Driven.{AreAlike}
+use Rattle.world_model.specs.Copied.{IsStateCopy, IsSeatCopy}
+use Rattle.world_model.proofs.Lists.{get_map}
+
+-- ---- what stands at a seat
+
+-- what is stable is this rank's still
+own_copy : (program : ProgramValue) (r n : ℕ) (s : Stored MemoryShelf (Unit {0})) (shelf : MemoryShelf) → image_bytes shelf.image ≡ shelf_of s
+    → IsOwn program r n s → IsOwn program r n (stored_with s tt shelf)
+own_copy program r n s shelf b k = record { rank = k.rank; size = k.size; reads = subst (λ z. Reads program r n z) (sym b) k.reads }
+
+of_copy : (program : ProgramValue) (r n : ℕ) (v : Rank) (shelf : MemoryShelf) → image_bytes shelf.image ≡ shelf_of v.stable
+    → IsOf program r n v → IsOf program r n (node_with v tt shelf)
+of_copy program r n v shelf b k = record { same_program = k.same_program; own = own_copy program r n v.stable shelf b k.own }
+
+-- a rank at work
+pub running_copy : (v c : Rank) (shelf : MemoryShelf) → image_bytes shelf.image ≡ shelf_of v.stable → c ≡ node_with v tt shelf → IsStateCopy (Running v) (Running c)
+running_copy v c shelf b e =
+    subst (λ z. IsStateCopy (Running v) (Running z)) (sym e)
+    (record { live = (shelf, refl); bytes = b; standing = λ program r n k. of_copy program r n v shelf b k; left = λ k. k })
+
+-- a rank that replays
+pub replaying_copy : (v c : Replay MemoryShelf (Unit {0})) (shelf : MemoryShelf) → image_bytes shelf.image ≡ shelf_of v.node.stable
+    → c ≡ record { node = node_with v.node tt shelf; left = v.left } → IsStateCopy (Replaying v) (Replaying c)
+replaying_copy v c shelf b e =
+    subst (λ z. IsStateCopy (Replaying v) (Replaying z)) (sym e)
+    (record { live = (shelf, refl); bytes = b; standing = λ program r n k. of_copy program r n v.node shelf b k; left = λ k. k })
+
+-- a rank that is down
+pub down_copy : (s c : Stored MemoryShelf (Unit {0})) (shelf : MemoryShelf) → image_bytes shelf.image ≡ shelf_of s → c ≡ stored_with s tt shelf → IsStateCopy (Down s) (Down c)
+down_copy s c shelf b e =
+    subst (λ z. IsStateCopy (Down s) (Down z)) (sym e)
+    (record { live = tt; bytes = b; standing = λ program r n k. own_copy program r n s shelf b k; left = λ k. k })
+
+pub empty_copy : IsStateCopy Empty Empty
+empty_copy = record { live = tt; bytes = refl; standing = λ program r n k. k; left = λ k. k }
+
+-- ---- seats
+
+-- what holds of a seat holds of its copy
+pub kept_copy : (program : ProgramValue) (r n : ℕ) (s c : State) → IsKept program r n s → IsStateCopy s c → IsKept program r n c
+kept_copy program r n s c k copy = record { standing = copy.standing program r n k.standing; left = copy.left k.left }
+
+-- the image is the same
+pub seat_copy : (program : ProgramValue) (r n : ℕ) (s c : State) → IsStateCopy s c → IsSeatCopy
+    (record { program = program; rank = r; size = n; live = live_of s; image = image_on program r n (bytes_of s) })
+    (record { program = program; rank = r; size = n; live = live_of c; image = image_on program r n (bytes_of c) })
+seat_copy program r n s c copy =
+    record { same_program = refl; rank = refl; size = refl; live = copy.live; image = ap (λ z. image_on program r n z) copy.bytes }
+
+-- ---- all seats
+
+-- copies of seats are as many
+pub as_many : (seats copies : List SeatValue) → AllZip IsSeatCopy seats copies → length copies ≡ length seats
+as_many [] [] a = refl
+as_many [] (y ∷ ys) a = absurd a
+as_many (x ∷ xs) [] a = absurd a
+as_many (x ∷ xs) (y ∷ ys) a = ap suc (as_many xs ys a.1)
+
+-- the copy at a place is of the seat there
+copy_at : (seats copies : List SeatValue) (r : ℕ) (c : SeatValue) → AllZip IsSeatCopy seats copies → slice_get copies r ≡ Some c
+    → (s : SeatValue) × (slice_get seats r ≡ Some s) × IsSeatCopy s c
+copy_at [] [] r c a e = absurd cc
+copy_at [] (y ∷ ys) r c a e = absurd a
+copy_at (x ∷ xs) [] r c a e = absurd a
+copy_at (x ∷ xs) (y ∷ ys) zero c a e = (x, refl, (let q : y ≡ c = cc in subst (λ z. IsSeatCopy x z) q a.0))
+copy_at (x ∷ xs) (y ∷ ys) (suc r) c a e = copy_at xs ys r c a.1 e
+
+-- copies of seats are seats
+pub are_seats : (program : ProgramValue) (seats copies : List SeatValue) → AreSeats program (length seats) seats → AllZip IsSeatCopy seats copies
+    → AreSeats program (length copies) copies
+are_seats program seats copies are all r c at =
+    let s = copy_at seats copies r c all at in
+    let k = are r s.0 s.1 in
+    record { same_program = s.2.same_program ∙ k.same_program; rank = s.2.rank ∙ k.rank; size = s.2.size ∙ k.size ∙ sym (as_many seats copies all) }
+
+-- their ranks are alike
+pub are_alike : (seats copies : List SeatValue) → AllZip IsSeatCopy seats copies → AreAlike (lives seats) (lives copies)
+are_alike [] [] a = tt
+are_alike [] (y ∷ ys) a = absurd a
+are_alike (x ∷ xs) [] a = absurd a
+are_alike (x ∷ xs) (y ∷ ys) a = (a.0.live, are_alike xs ys a.1)
+
+-- and have the same images
+pub same_images : (seats copies : List SeatValue) → AllZip IsSeatCopy seats copies → images copies ≡ images seats
+same_images [] [] a = refl
+same_images [] (y ∷ ys) a = absurd a
+same_images (x ∷ xs) [] a = absurd a
+same_images (x ∷ xs) (y ∷ ys) a = ap (λ z. y.image ∷ z) (same_images xs ys a.1) ∙ ap (λ z. z ∷ images xs) a.0.image
