@@ -1,0 +1,63 @@
+//! What is made once more where memory was refused.
+ghost use Rattle.std.specs.Prelude.{◌≡◌, ◌≤◌, length, IfOk};
+
+use matching::{Context, Packet};
+use metered::Heap;
+use rank_language::Program;
+use std::alloc::AllocError;
+use std::fmt::Debug;
+use std::io;
+
+/// Says where a refusal left something else than could be seen before it.
+pub fn compare<R: Print, T: PartialEq + Debug + Copy>(
+    rt: &R,
+    before: T,
+    after: T,
+) -> io::Result<()> {
+    if before != after {
+        println!(rt; "a refusal made {after:?} of {before:?}")?;
+    }
+    Ok(())
+}
+
+/// The program of a text.
+pub fn program_of(alloc: Heap, text: &[u8]) -> Result<Program, AllocError> {
+    match Program::parse(alloc, text) {
+        Ok(program) => Ok(program),
+        Err(_) => Program::parse(alloc, text).map_err(|_| AllocError),
+    }
+}
+
+/// A value goes last in a list.
+pub fn push<T: Copy>(list: &mut Vec<T, Heap>, value: T) -> Result<(), AllocError> {
+    if list.push(value).is_err() {
+        list.push(value)?;
+    }
+    Ok(())
+}
+
+/// The packet of this number that a rank sends with tag 7, each act of it a
+/// send: the one item is ten times its number.
+pub fn packet(alloc: Heap, source: u8, number: u32) -> Result<Packet, AllocError>
+    requires { (1 ≤ number) × (number ≤ 5000) }
+    ensures source { IfOk result (λ packet. packet.source ≡ source) }
+    ensures number { IfOk result (λ packet. packet.number ≡ number) }
+{
+    Ok(Packet {
+        source,
+        clock: number,
+        number,
+        context: Context::PointToPoint,
+        tag: 7,
+        payload: one_item(alloc, 10 * i64::from(number))?,
+    })
+}
+
+fn one_item(alloc: Heap, item: i64) -> Result<Vec<i64, Heap>, AllocError>
+    ensures { IfOk result (λ items. length items.items ≡ 1) }
+{
+    match vec![in alloc; item; 1] {
+        Ok(items) => Ok(items),
+        Err(_) => vec![in alloc; item; 1],
+    }
+}

@@ -1,0 +1,104 @@
+//! A machine from its beginning to its end.
+ghost use Rattle.std.specs.Prelude.{◌≡◌, ◌<◌, true};
+ghost use Rattle.matching.specs.Matching.{matches};
+
+use crate::again::{packet, program_of};
+use crate::frugal::follow;
+use matching::{Context, Packet, Selector};
+use metered::Heap;
+use rank_language::Program;
+use rank_machine::{Machine, Want};
+use std::alloc::AllocError;
+use std::io;
+
+/// Rank 1 of two comes through each kind of want, and gathers values.
+const TEXT: &[u8] = b"var x
+array a[2]
+send 0, 3, a
+iprobe any, 9, x
+probe 0, 7
+recv 0, 7, x
+print x
+reduce sum, 1, x, x
+print x
+print 1 / 0
+";
+
+/// What came of a want, and whether the machine goes on.
+fn serve(machine: &mut Machine<'_>, packet: &mut Option<Packet>) -> bool {
+    match machine.wants() {
+        Want::Internal => machine.internal(),
+        Want::Print(_) => machine.did_print(),
+        Want::Send { .. } => machine.did_send(),
+        Want::Receive(selector) => match packet.take() {
+            Some(one) if comes(machine, &selector, &one) => machine.give(one),
+            _ => return false,
+        },
+        Want::Probe(selector) => match packet {
+            Some(one) if comes(machine, &selector, one) => machine.show(one),
+            _ => return false,
+        },
+        Want::TryProbe(selector) => match packet {
+            Some(one) if comes(machine, &selector, one) => machine.show(one),
+            _ => machine.miss(),
+        },
+        Want::Halted | Want::Faulted(_) => return false,
+    }
+    true
+}
+
+/// Whether the packet is of a rank of the run, and one that the selector names.
+fn comes(machine: &Machine<'_>, selector: &Selector, packet: &Packet) -> bool
+    ensures source { result ≡ true → packet.now.source < machine.now.store.size }
+    ensures named { result ≡ true → matches selector.now packet.now ≡ true }
+{
+    packet.source < machine.size() && selector.matches(packet)
+}
+
+/// Serves a machine, with this packet for its next receive and the probes
+/// before that.
+fn run<R: Print>(rt: &R, machine: &mut Machine<'_>, packet: Packet) -> io::Result<()> {
+    let mut packet = Some(packet);
+    for _ in 0..64 {
+        println!(rt; "{:?}", machine.wants())?;
+        if !serve(machine, &mut packet) {
+            break;
+        }
+    }
+    Ok(())
+}
+
+/// What rank 0 sends to the reduce: its kind, its root, its ordinal and 5.
+fn part(alloc: Heap) -> Result<Packet, AllocError> {
+    let items: [i64; 4] = [2, 1, 1, 5];
+    let payload = match items.as_slice().to_vec(alloc) {
+        Ok(payload) => payload,
+        Err(_) => items.as_slice().to_vec(alloc)?,
+    };
+    Ok(Packet {
+        source: 0,
+        clock: 2,
+        number: 2,
+        context: Context::Collective,
+        tag: 0,
+        payload,
+    })
+}
+
+fn machine_of<'p>(alloc: Heap, program: &'p Program) -> Result<Machine<'p>, AllocError> {
+    match Machine::new(alloc, program, 1, 2) {
+        Ok(machine) => Ok(machine),
+        Err(_) => Machine::new(alloc, program, 1, 2),
+    }
+}
+
+/// Serves a machine by a message and then by what the reduce gathers.
+pub fn play<R: AllocGlobal + Print + Eprint>(rt: &R) -> io::Result<()> {
+    let program = program_of(rt.alloc(), TEXT)?;
+    let mut machine = machine_of(rt.alloc(), &program)?;
+    let message = packet(rt.alloc(), 0, 1)?;
+    let part = part(rt.alloc())?;
+    follow(rt, "a machine, and what it wants")?;
+    run(rt, &mut machine, message)?;
+    run(rt, &mut machine, part)
+}
