@@ -31,6 +31,8 @@ echo "${0##*/}" >>"$STAND_IN/scripts"
 [ ! -e "$STAND_IN/${0##*/}" ]
 """
 OWN = ["manual_is_run", "guide_is_run", "wrong_bodies", "refused_by_the_compiler"]
+# Those that stand behind `rt ci`.
+BEHIND = ["refuse_threads", "refuse_memory"]
 
 
 class Gate:
@@ -38,7 +40,7 @@ class Gate:
 
     def __init__(self, stage: Stage) -> None:
         shutil.copy(f"{TOP}/check", stage.top)
-        for name in (*OWN, "refuse_threads"):
+        for name in (*OWN, *BEHIND):
             write(f"{stage.top}/scripts/{name}", SCRIPT, is_program=True)
         write(f"{stage.kit}/bin/rt", RT, is_program=True)
         self.words = [f"{stage.top}/check"]
@@ -52,7 +54,7 @@ def what_the_gate_built_counts_as_built(stage: Stage) -> None:
     stage.change("crates/low/src/lib.rt")
     status, printed, said = stage.call(program=Gate(stage).words)
     assert (status, last_line(printed)) == (0, "4 passed, 0 failed"), (printed, said)
-    assert text_of(f"{stage.stand_in}/scripts").split() == [*OWN, "refuse_threads"]
+    assert text_of(f"{stage.stand_in}/scripts").split() == [*OWN, *BEHIND]
     before = stage.pythons()
     assert stage.call("x")[:2] == (0, "x\n") and (stage.builds(), stage.pythons()) == (1, before)
     assert not stage.rooms_left()
@@ -60,7 +62,7 @@ def what_the_gate_built_counts_as_built(stage: Stage) -> None:
 
 def each_script_that_fails_is_named_last(stage: Stage) -> None:
     check = Gate(stage).words
-    for name in (*OWN, "refuse_threads"):
+    for name in (*OWN, *BEHIND):
         write(f"{stage.stand_in}/{name}", "fails")
         status, printed, _ = stage.call(program=check)
         os.remove(f"{stage.stand_in}/{name}")
