@@ -1,5 +1,5 @@
 -- Copies of a rank, of a seat and of all seats.
-use Rattle.std.proofs.Common.{◌≡◌, ℕ, ◌+◌, ◌<◌, zero, suc, List, [], ◌∷◌, ◌++◌, length, take, refl, sym, ap, subst, ◌∙◌, arith, Some, None, Option, slice_get}
+use Rattle.std.proofs.Common.{◌≡◌, ℕ, ◌+◌, ◌<◌, zero, suc, List, [], ◌∷◌, ◌++◌, length, take, add-one, refl, sym, ap, subst, ◌∙◌, arith, Some, None, Option, slice_get}
 use Rattle.std.specs.List.{AllZip}
 use Rattle.checkpoint.specs.Image.{ImageValue}
 use Rattle.checkpoint.specs.Shelf.{image_bytes}
@@ -103,3 +103,18 @@ same_images [] [] a = refl
 same_images [] (y ∷ ys) a = absurd a
 same_images (x ∷ xs) [] a = absurd a
 same_images (x ∷ xs) (y ∷ ys) a = ap (λ z. y.image ∷ z) (same_images xs ys a.1) ∙ ap (λ z. z ∷ images xs) a.0.image
+
+-- one more copy
+more : (seats copies : List SeatValue) (k : ℕ) (s c : SeatValue) → slice_get seats k ≡ Some s → IsSeatCopy s c
+    → AllZip IsSeatCopy (take k seats) copies → AllZip IsSeatCopy (take (suc k) seats) (copies ++ c ∷ [])
+more [] copies k s c e y a = absurd cc
+more (x ∷ xs) [] zero s c e y a = ((let q : x ≡ s = cc in subst (λ z. IsSeatCopy z c) (sym q) y), tt)
+more (x ∷ xs) (d ∷ ds) zero s c e y a = absurd a
+more (x ∷ xs) [] (suc k) s c e y a = absurd a
+more (x ∷ xs) (d ∷ ds) (suc k) s c e y a = (a.0, more xs ds k s c e y a.1)
+
+pub copy_more : (seats copies items : List SeatValue) (k : ℕ) (s c : SeatValue) → items ≡ copies ++ c ∷ [] → slice_get seats k ≡ Some s → IsSeatCopy s c
+    → AllZip IsSeatCopy (take k seats) copies → AllZip IsSeatCopy (take (k + 1) seats) items
+copy_more seats copies items k s c is e y a =
+    subst (λ z. AllZip IsSeatCopy (take z seats) items) (sym (add-one k))
+    (subst (λ z. AllZip IsSeatCopy (take (suc k) seats) z) (sym is) (more seats copies k s c e y a))
