@@ -18,13 +18,15 @@ else
 end
 ";
 
-/// What is changed of the outcome, or nothing.
+/// An outcome of two ranks, and how many steps each may make.
 #[derive(Clone, Copy)]
 struct Case {
     about: &'static str,
     /// Of each event of rank 1 the clock of its sender and its own.
     row: &'static [(u32, u32)],
+    /// What the line of rank 1 says.
     value: i64,
+    /// How rank 0 ended.
     first: End,
     steps: u32,
 }

@@ -69,6 +69,7 @@ fn run(
 }
 
 fn play<R: AllocGlobal + Print>(rt: &R, row: Row) -> io::Result<()> {
+    println!(rt; "== {}, as one list", row.about)?;
     let program = program_of(rt.alloc(), row.program)?;
     let events = listed(rt.alloc(), row)?;
     let want = expected(rt, &program, row.ranks, events.as_slice())?;
@@ -77,11 +78,7 @@ fn play<R: AllocGlobal + Print>(rt: &R, row: Row) -> io::Result<()> {
     let shown = show_lines(rt, &world);
     world.close();
     shown?;
-    println!(rt;
-        "== {} events in a list, answered alike: {}",
-        events.len(),
-        same?
-    )
+    println!(rt; "{} events, answered alike: {}", events.len(), same?)
 }
 
 /// Plays each row as one list.
