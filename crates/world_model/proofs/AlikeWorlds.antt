@@ -38,7 +38,7 @@ counts_shelf v shelf events k = record { made = k.made; few = k.few }
 -- ---- the second world, in the words of the first
 
 -- the first with the ranks and the logger of the second
-moved : WorldValue → WorldValue → WorldValue
+abbrev moved : WorldValue → WorldValue → WorldValue
 moved a b = record a { ranks = b.ranks; logger = b.logger }
 
 is_moved : (a b : WorldValue) → Alike a b → b ≡ moved a b

@@ -4,7 +4,8 @@ ghost use Rattle.world_model.specs.Follows.{arrived_as};
 
 use crate::parts::Parts;
 use crate::reply::Reply;
-use rank_node::Arrived;
+use metered::Heap;
+use rank_node::{Arrived, Frame};
 use std::alloc::AllocError;
 
 impl<'p> Parts<'p> {
@@ -33,7 +34,7 @@ impl<'p> Parts<'p> {
         let Some(frame) = self.wires.wire(source, dest).get(index as usize) else {
             return Ok(Reply::Refused);
         };
-        let frame = frame.clone()?;
+        let frame = copy(self.alloc, frame)?;
         let arrived = self.seats.arrive(dest, source, frame)?;
         Ok(arrived_as(arrived))
     }
@@ -51,4 +52,15 @@ fn arrived_as(arrived: Arrived) -> Reply
         Arrived::Noted => Reply::Noted,
         Arrived::Foreign => unreachable!(),
     }
+}
+
+/// The same frame, in memory of its own.
+fn copy(alloc: Heap, frame: &Frame) -> Result<Frame, AllocError>
+    ensures { IfOk result (λ copy. copy ≡ frame.now) }
+{
+    Ok(match frame {
+        Frame::Data(packet) => Frame::Data(packet.copy(alloc)?),
+        Frame::Ask { from } => Frame::Ask { from: *from },
+        Frame::Kept { upto } => Frame::Kept { upto: *upto },
+    })
 }
