@@ -93,7 +93,7 @@ struct Seen {
 }
 
 /// What a world shows of its last rank before and after it is led on.
-fn seen(alloc: Heap, world: &mut World<'_>, last: u8) -> Result<Option<Seen>, AllocError> {
+fn lead_on(alloc: Heap, world: &mut World<'_>, last: u8) -> Result<Option<Seen>, AllocError> {
     if world.ranks() <= last {
         return Ok(None);
     }
@@ -113,14 +113,14 @@ fn seen(alloc: Heap, world: &mut World<'_>, last: u8) -> Result<Option<Seen>, Al
 }
 
 /// The same of a world that was played and in which all ranks crashed.
-fn seen_down(
+fn lead_on_down(
     alloc: Heap,
     world: &mut World<'_>,
     imaged: u32,
     last: u8,
 ) -> Result<Option<Seen>, AllocError> {
     play(world, imaged)?;
-    seen(alloc, world, last)
+    lead_on(alloc, world, last)
 }
 
 /// A view of these four.
@@ -142,7 +142,7 @@ fn one_rank_is_down(rt: HostRuntime) -> Result<(), Fail> {
     };
     let mut world = World::new(alloc, &program, 2)?;
     let played = world.run(alloc, events.as_slice()).is_ok();
-    let seen = seen(alloc, &mut world, 1);
+    let seen = lead_on(alloc, &mut world, 1);
     world.close();
     let Some(seen) = seen? else {
         return Err(AllocError.into());
@@ -169,7 +169,7 @@ fn all_ranks_are_down(rt: HostRuntime) -> Result<(), Fail> {
     ] {
         let program = Program::parse(alloc, text)?;
         let mut world = World::new(alloc, &program, ranks)?;
-        let seen = seen_down(alloc, &mut world, imaged, ranks - 1);
+        let seen = lead_on_down(alloc, &mut world, imaged, ranks - 1);
         world.close();
         let Some(seen) = seen? else {
             return Err(AllocError.into());
