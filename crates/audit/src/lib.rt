@@ -4,6 +4,7 @@
 mod auditing;
 mod auditor;
 mod clocks;
+mod counts;
 mod fault;
 mod lines;
 mod outcome;
