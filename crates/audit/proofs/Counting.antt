@@ -283,8 +283,8 @@ row_at f items rows i x all low is =
     ap (λ ls. slice_get ls i) (sym all) ∙ slice_get-map f items i ∙ ap (option_map f) (slice_get_read items (length items) i x refl low is)
 
 -- the numbers of some rows, and of the next of them
-pub counted_on : {A : Type 0} (f : A → List EventValue) (items : List A) (rows : List (List EventValue)) (i : ℕ) (x : A) (counts : List (List ℕ)) (ends : List ℕ)
-    → map f items ≡ rows → i < length items → x ≡ get_or items i x → counts ≡ map (ends_from 0) (take i rows) → ends ≡ ends_from 0 (f x)
+pub counted_on : {A : Type 0} (f : A → List EventValue) (xs : List A) (rows : List (List EventValue)) (i : ℕ) (x : A) (counts : List (List ℕ)) (ends : List ℕ)
+    → map f xs ≡ rows → i < length xs → x ≡ get_or xs i x → counts ≡ map (ends_from 0) (take i rows) → ends ≡ ends_from 0 (f x)
     → counts ++ ends ∷ [] ≡ map (ends_from 0) (take (i + 1) rows)
 counted_on f items rows i x counts ends all low is before one =
     let at = row_at f items rows i x all low is in

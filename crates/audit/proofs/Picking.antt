@@ -325,7 +325,8 @@ row_told o s r (Some x) false is some nothing within = (λ e. cc, λ e. has_more
 
 -- where there is no row there is no next event
 pub no_row : (o : OutcomeValue) (s : SimValue) (r : ℕ) → length o.rows ≤ r → (e : EventValue) → IsNextEvent o s r e → ⊥
-no_row o s r past e next = subst (λ rows. IsSomeAnd rows (λ events. slice_get (expand events) (length (row s.run r)) ≡ Some e)) (slice_get_past o.rows r past) next
+no_row o s r past e next =
+    subst (λ rows. IsSomeAnd rows (λ events. slice_get (expand events) (length (row s.run r)) ≡ Some e)) (slice_get_past o.rows r past) next
 
 -- what is read of the outcome's lines of a rank, as far as the run's, is its next line, if it has one
 pub read_line : {R : Type 0} (s : SimValue) (traces : List TraceValue) (r k : ℕ) (t : TraceValue) (o : OutcomeValue) (sorted : List (List (ℕ × ℤ)))
