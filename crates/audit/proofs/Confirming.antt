@@ -13,13 +13,10 @@ use Rattle.crash_free.proofs.Advancing.{begun_there}
 use Rattle.audit.specs.declared.outcome.End.{End}
 use Rattle.audit.specs.Outcome.{OutcomeValue, lines_of, MayWant}
 use Rattle.audit.specs.Lines.{IsSorted}
-use Rattle.audit.specs.Rows.{expand}
-use Rattle.audit.specs.Counts.{AreTooMany}
 use Rattle.audit.specs.Audits.{GoesTo, AreReached}
 use Rattle.audit.specs.Reachable.{IsWithinSteps, IsReachable}
 use Rattle.audit.specs.Trace.{TraceValue}
 use Rattle.audit.specs.Playing.{IsWithin, HasLeft, PlayAll, AreStuck}
-use Rattle.audit.proofs.Counting.{row_few}
 use Rattle.audit.proofs.Reaching.{there_is, some_there, comes_to}
 use Rattle.audit.proofs.Traces.{replicate_each}
 use Rattle.audit.proofs.Outcomes.{come}
@@ -39,7 +36,7 @@ begun_left s r total begun run low =
 -- no act keeps to each outcome
 pub within_none : (o : OutcomeValue) (s : SimValue) → s.run ≡ [] → IsWithin o s
 within_none o s run = record {
-  rows = λ r events there. rw run (expand events, refl);
+  rows = λ r events there. rw run (events, refl);
   lines = λ r. rw run (lines_of r o.lines, refl);
 }
 
@@ -47,20 +44,6 @@ within_none o s run = record {
 pub if_err : {T E : Type 0} (result : Result T E) (P : E → Type 0) → ((e : E) → P e) → IfErr result P
 if_err (Ok x) P p = tt
 if_err (Err e) P p = p e
-
--- an outcome with a row of more events than a rank may make acts is of no run
-pub too_long : (program : ProgramValue) (n steps : ℕ) (o : OutcomeValue) → AreTooMany o.rows → IsReachable program n o steps → ⊥
-too_long program n steps o many reach =
-    let outcome = reach.1 in
-    let rows = outcome.as_many_rows in
-    let ends = outcome.as_many_ends in
-    let low = slice_get_within o.rows many.0 many.1 many.2 in
-    let last = there_is o.ends many.0 (omega (arith, low, rows, ends)) in
-    let clocked = (reach.2 many.0 last.0 last.1).clocked in
-    let few = row_few reach.0 many.0 in
-    let long = ap length (outcome.rows many.0 many.1 many.2) in
-    let more = many.3 in
-    omega (arith, clocked, few, long, more)
 
 -- An audit that began with so many steps for each rank, and can't go on, has come to each outcome that is within reach.
 pub reaches : (o : OutcomeValue) (first s : SimValue) (traces : List TraceValue) (program : ProgramValue) (n steps : ℕ) (left left' : List ℕ)

@@ -3,13 +3,12 @@ ghost use Rattle.std.specs.Prelude.{◌≡◌, ◌≤◌, length, IfOk, IfErr};
 ghost use Rattle.metered.specs.Limits.{most_ranks};
 ghost use Rattle.audit.specs.Outcome.{IsOfSomeRun};
 ghost use Rattle.audit.specs.Lines.{IsSorted};
-ghost use Rattle.audit.specs.Counts.{AreCounted};
 ghost use Rattle.audit.specs.Reachable.{IsReachable};
 
 use crate::auditor::{Auditor, Goal};
 use crate::fault::AuditFault;
+use crate::lines;
 use crate::outcome::Outcome;
-use crate::{counts, lines};
 use metered::Heap;
 use rank_language::Program;
 
@@ -45,12 +44,8 @@ pub fn audit(
     let Some(lines) = lines::sort(alloc, ranks, outcome.lines.as_slice())? else {
         return Err(AuditFault::Output);
     };
-    let Some(counts) = counts::count(alloc, outcome)? else {
-        return Err(AuditFault::RowLeft);
-    };
     let goal = Goal {
         outcome,
-        counts: counts.as_slice(),
         lines: lines.as_slice(),
     };
     confirm(alloc, program, ranks, &goal, steps)
@@ -69,7 +64,6 @@ fn confirm(
     requires rows { length goal.now.outcome.now.rows ≡ ranks }
     requires ends { length goal.now.outcome.now.ends ≡ ranks }
     requires sorted { IsSorted ranks goal.now.outcome.now.lines goal.now.lines.now }
-    requires counted { AreCounted goal.now.outcome.now.rows goal.now.counts.now }
     ensures ok { IfOk result (λ _. IsOfSomeRun program.now ranks goal.now.outcome.now) }
     ensures within { IfOk result (λ _. IsReachable program.now ranks goal.now.outcome.now steps) }
     ensures err { IfErr result (λ fault. IsReachable program.now ranks goal.now.outcome.now steps → fault ≡ AuditFault.Memory) }

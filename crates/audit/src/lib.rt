@@ -4,7 +4,6 @@
 mod auditing;
 mod auditor;
 mod clocks;
-mod counts;
 mod fault;
 mod lines;
 mod outcome;

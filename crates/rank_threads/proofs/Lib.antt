@@ -9,7 +9,6 @@ mod ReleasingLemmas
 mod ReportLemmas
 mod RowLemmas
 mod SeatingLemmas
-mod SettlingLemmas
 mod StationLemmas
 mod StepLaws
 mod TakingLemmas

@@ -3,16 +3,12 @@ use Rattle.std.proofs.lemmas.List.{length-replicate}
 use Rattle.audit.specs.Audits.{GoesTo}
 use Rattle.audit.specs.Lines.{IsSorted}
 use Rattle.audit.proofs.Outcomes.{confirmed}
-use Rattle.audit.proofs.Confirming.{if_err, within_none, reached_within, reaches}
+use Rattle.audit.proofs.Confirming.{if_err, reached_within, reaches}
 use Rattle.audit.proofs.auditing.confirm.Goals as goal
 
 pub verdict-requires-clause-sorted : goal.verdict-requires-clause-sorted
 verdict-requires-clause-sorted c = subst (λ n. IsSorted n c.args.goal.now.outcome.now.lines c.args.goal.now.lines.now)
     (sym (c.in_ok-play.ensures.goes.size ∙ c.in_ok-auditor.ensures.size)) c.requires.sorted
-
-pub verdict-requires-clause-within : goal.verdict-requires-clause-within
-verdict-requires-clause-within c =
-    c.in_ok-play.ensures.plays.within (within_none c.args.goal.now.outcome.now c.in_ok-auditor.auditor.sim c.in_ok-auditor.ensures.run)
 
 pub returns-clause-ok : goal.returns-clause-ok
 returns-clause-ok c =
