@@ -13,10 +13,14 @@ use Rattle.crash_free.proofs.Advancing.{begun_there}
 use Rattle.audit.specs.declared.outcome.End.{End}
 use Rattle.audit.specs.Outcome.{OutcomeValue, lines_of, MayWant}
 use Rattle.audit.specs.Lines.{IsSorted}
+use Rattle.audit.specs.Rows.{expand}
+use Rattle.audit.specs.Counts.{AreTooMany}
 use Rattle.audit.specs.Audits.{GoesTo, AreReached}
 use Rattle.audit.specs.Reachable.{IsWithinSteps, IsReachable}
+use Rattle.audit.specs.Found.{IsFound}
 use Rattle.audit.specs.Trace.{TraceValue}
 use Rattle.audit.specs.Playing.{IsWithin, HasLeft, PlayAll, AreStuck}
+use Rattle.audit.proofs.Counting.{row_few}
 use Rattle.audit.proofs.Reaching.{there_is, some_there, comes_to}
 use Rattle.audit.proofs.Traces.{replicate_each}
 use Rattle.audit.proofs.Outcomes.{come}
@@ -36,7 +40,7 @@ begun_left s r total begun run low =
 -- no act keeps to each outcome
 pub within_none : (o : OutcomeValue) (s : SimValue) → s.run ≡ [] → IsWithin o s
 within_none o s run = record {
-  rows = λ r events there. rw run (events, refl);
+  rows = λ r events there. rw run (expand events, refl);
   lines = λ r. rw run (lines_of r o.lines, refl);
 }
 
@@ -44,6 +48,20 @@ within_none o s run = record {
 pub if_err : {T E : Type 0} (result : Result T E) (P : E → Type 0) → ((e : E) → P e) → IfErr result P
 if_err (Ok x) P p = tt
 if_err (Err e) P p = p e
+
+-- an outcome with a row of more events than a rank may make acts is of no run
+pub too_long : (program : ProgramValue) (n steps : ℕ) (o : OutcomeValue) → AreTooMany o.rows → IsReachable program n o steps → ⊥
+too_long program n steps o many reach =
+    let outcome = reach.1 in
+    let rows = outcome.as_many_rows in
+    let ends = outcome.as_many_ends in
+    let low = slice_get_within o.rows many.0 many.1 many.2 in
+    let last = there_is o.ends many.0 (omega (arith, low, rows, ends)) in
+    let clocked = (reach.2 many.0 last.0 last.1).clocked in
+    let few = row_few reach.0 many.0 in
+    let long = ap length (outcome.rows many.0 many.1 many.2) in
+    let more = many.3 in
+    omega (arith, clocked, few, long, more)
 
 -- An audit that began with so many steps for each rank, and can't go on, has come to each outcome that is within reach.
 pub reaches : (o : OutcomeValue) (first s : SimValue) (traces : List TraceValue) (program : ProgramValue) (n steps : ℕ) (left left' : List ℕ)
@@ -62,18 +80,19 @@ reaches o first s traces program n steps left left' same size begun run goes pla
     plays.each r steps steps k (at.1 ∙ ap Some all) there (begun_left first r steps begins run (omega (arith, low, width, size))))
     stuck (rw (program_now, size_now) reach)
 
--- What an audit came to it came to within its steps.
-pub reached_within : (o : OutcomeValue) (first s : SimValue) (traces : List TraceValue) (sorted : List (List (ℕ × ℤ))) (program : ProgramValue) (n steps : ℕ)
+-- What an audit came to is the outcome, and it came to it within its steps.
+pub found : (o : OutcomeValue) (first s : SimValue) (traces : List TraceValue) (sorted : List (List (ℕ × ℤ))) (program : ProgramValue) (n steps : ℕ)
     (left left' : List ℕ) → first.program ≡ program → length first.machines ≡ n → AreBegun program n first.machines → first.run ≡ [] → GoesTo first s traces
     → PlayAll o left left' first s → left ≡ replicate n steps → length left' ≡ n → length o.rows ≡ n → length o.ends ≡ n → IsSorted n o.lines sorted
-    → AreReached s o → IsReachable program n o steps
-reached_within o first s traces sorted program n steps left left' same size begun run goes plays each width rows ends lines reached =
-    rw (← program_now, ← size_now) (
-      s.run,
-      come s traces sorted o goes.keeps (rows ∙ sym size_now) (ends ∙ sym size_now)
-          (subst (λ k. IsSorted k o.lines sorted) (sym size_now) lines) reached,
-      λ r e there. within r e there,
-    )
+    → AreReached s o → IsFound program n o steps s
+found o first s traces sorted program n steps left left' same size begun run goes plays each width rows ends lines reached = record {
+  program = program_now;
+  size = size_now;
+  outcome = rw (← program_now, ← size_now) (come s traces sorted o goes.keeps (rows ∙ sym size_now) (ends ∙ sym size_now)
+      (subst (λ k. IsSorted k o.lines sorted) (sym size_now) lines) reached);
+  reached = reached;
+  within = rw (← program_now, ← size_now) within;
+}
   where
     size_now : length s.machines ≡ n
     size_now = goes.size ∙ size

@@ -1,10 +1,10 @@
 -- Which choice repeats the outcome's next event of a rank: just one, by which the rank makes the act that is offered.
 use Rattle.std.proofs.Common.{◌≡◌, ℕ, ℤ, zero, suc, ◌+◌, ◌<◌, ◌≤◌, List, [], ◌∷◌, ◌++◌, length, map, slice_get, get_or, Option, Some, None}
 use Rattle.std.proofs.Common.{refl, sym, ap, subst, ◌∙◌, arith, ◌⊎◌, inl, inr}
-use Rattle.std.specs.Prelude.{IsSomeAnd, IfSome, IfNone, option_map, is_some, nat_lt}
+use Rattle.std.specs.Prelude.{IsSomeAnd, IfSome, IfNone, option_map, is_some, nat_lt, Bool, true, false, not}
 use Rattle.std.proofs.lemmas.Bool.Decides.{nat_tests}
-use Rattle.std.proofs.lemmas.List.{append_assoc, length-map}
-use Rattle.std.proofs.lemmas.Option.{slice_get-get_or, slice_get-map, slice_get_read, slice_get_past, get_or_from_slice_get}
+use Rattle.std.proofs.lemmas.List.{append-nil, append_assoc, length-map}
+use Rattle.std.proofs.lemmas.Option.{slice_get-get_or, slice_get-map, slice_get_read, slice_get_past, slice_get_within, get_or_from_slice_get}
 use Rattle.plain_logger.specs.Event.{EventValue, event_of}
 use Rattle.plain_logger.specs.declared.kind.Kind.TheVariants as kind
 use Rattle.matching.specs.declared.packet.Context.TheVariants.{PointToPoint}
@@ -25,10 +25,11 @@ use Rattle.crash_free.proofs.Lists.{printed-own}
 use Rattle.crash_free.proofs.Taking.{no_history}
 use Rattle.audit.specs.Outcome.{OutcomeValue, lines_of}
 use Rattle.audit.specs.Lines.{IsSorted}
-use Rattle.audit.specs.Rows.{row, event_at, cons_some}
+use Rattle.audit.specs.Rows.{row, event_at, cons_some, expand}
+use Rattle.audit.specs.Counts.{ends_from, AreCounted}
 use Rattle.audit.specs.Trace.{TraceValue, clocks_to, AreInOrder}
-use Rattle.audit.specs.Audits.{Keeps, Suits, Repeats}
-use Rattle.audit.specs.Playing.{IsOffered, IsNextEvent, IsNextLine, IsOfMessage}
+use Rattle.audit.specs.Audits.{Keeps, Suits, Repeats, HasRow}
+use Rattle.audit.specs.Playing.{IsWithin, IsOffered, IsNextEvent, IsNextLine, IsOfMessage}
 use Rattle.audit.proofs.Rows.{row-own}
 use Rattle.audit.proofs.Fitting.{IsTake, IsHit, take_fits, hit_fits, try_fits, print_fits}
 use Rattle.audit.proofs.Alike.{take_event, hit_event, miss_event}
@@ -109,14 +110,14 @@ pub record IsPicked (s : SimValue) (r : ℕ) (m : MachineValue) (w : Want) (e : 
 event_offered : (o : OutcomeValue) (s : SimValue) (r : ℕ) (e x : EventValue) (act : Act) → IsOffered o s r act → IsNextEvent o s r e
     → event_at (length (history s.run r) + 1) act (looked_up (inbound_of s.run r) act) ≡ Some x → e ≡ x
 event_offered o s r e x act offered next is =
-    let rows = some_there (slice_get o.rows r) (λ events. IsBeginning (row (record { rank = r; act = act } ∷ s.run) r) events) offered.rows in
-    let at = some_there (slice_get o.rows r) (λ events. slice_get events (length (row s.run r)) ≡ Some e) next in
+    let rows = some_there (slice_get o.rows r) (λ events. IsBeginning (row (record { rank = r; act = act } ∷ s.run) r) (expand events)) offered.rows in
+    let at = some_there (slice_get o.rows r) (λ events. slice_get (expand events) (length (row s.run r)) ≡ Some e) next in
     let same : Some rows.0 ≡ Some at.0 = sym rows.1 ∙ at.1 in
     let events : rows.0 ≡ at.0 = cc in
-    let further : IsBeginning (row s.run r ++ x ∷ []) rows.0 =
-    subst (λ es. IsBeginning es rows.0) (row-own s.run r act ∙ ap (λ z. row s.run r ++ cons_some z []) is) rows.2 in
-    let there = next_of_beginning (row s.run r) rows.0 x further in
-    let both : Some e ≡ Some x = sym at.2 ∙ ap (λ es. slice_get es (length (row s.run r))) (sym events) ∙ there in
+    let further : IsBeginning (row s.run r ++ x ∷ []) (expand rows.0) =
+    subst (λ es. IsBeginning es (expand rows.0)) (row-own s.run r act ∙ ap (λ z. row s.run r ++ cons_some z []) is) rows.2 in
+    let there = next_of_beginning (row s.run r) (expand rows.0) x further in
+    let both : Some e ≡ Some x = sym at.2 ∙ ap (λ es. slice_get (expand es) (length (row s.run r))) (sym events) ∙ there in
     cc
 
 -- a reception
@@ -200,10 +201,10 @@ some_event o s r m w act of asked offered = by_want w of asked.fits
     by_event : (x : EventValue) → event_at (length (history s.run r) + 1) act (looked_up (inbound_of s.run r) act) ≡ Some x
         → (e : EventValue) × IsNextEvent o s r e
     by_event x is =
-        let rows = some_there (slice_get o.rows r) (λ events. IsBeginning (row (record { rank = r; act = act } ∷ s.run) r) events) offered.rows in
-        let further : IsBeginning (row s.run r ++ x ∷ []) rows.0 =
-        subst (λ es. IsBeginning es rows.0) (row-own s.run r act ∙ ap (λ z. row s.run r ++ cons_some z []) is) rows.2 in
-        (x, rw rows.1 (next_of_beginning (row s.run r) rows.0 x further))
+        let rows = some_there (slice_get o.rows r) (λ events. IsBeginning (row (record { rank = r; act = act } ∷ s.run) r) (expand events)) offered.rows in
+        let further : IsBeginning (row s.run r ++ x ∷ []) (expand rows.0) =
+        subst (λ es. IsBeginning es (expand rows.0)) (row-own s.run r act ∙ ap (λ z. row s.run r ++ cons_some z []) is) rows.2 in
+        (x, rw rows.1 (next_of_beginning (row s.run r) (expand rows.0) x further))
 
     by_want : (w : Want) → IsOfMessage w → Fits w (payload (state_of m)) act (looked_up (inbound_of s.run r) act) → (e : EventValue) × IsNextEvent o s r e
     by_want (want.Receive w) of f = by_event _ (take_event (length (history s.run r) + 1) act _ (take_fits w (payload (state_of m)) act _ f))
@@ -274,15 +275,58 @@ mapped_at f xs r k x at is low =
     subst (λ i. slice_get (map f xs) i ≡ Some (f x)) at
     (slice_get-map f xs k ∙ ap (option_map f) (slice_get_read xs (length xs) k x refl low is))
 
+-- what is at a place of a list that was mapped
+pub row_read : {A : Type 0} (f : A → List EventValue) (items : List A) (rows : List (List EventValue)) (r k : ℕ) (x : A) → map f items ≡ rows → k ≡ r
+    → x ≡ get_or items k x → k < length items → slice_get rows r ≡ Some (f x)
+row_read f items rows r k x all at is low = ap (λ es. slice_get es r) (sym all) ∙ mapped_at f items r k x at is low
+
 -- what stands next in the row of a rank is its next event
 pub next_of_row : (o : OutcomeValue) (s : SimValue) (r : ℕ) (events : List EventValue) (result : Option EventValue) → slice_get o.rows r ≡ Some events
-    → result ≡ slice_get events (length (row s.run r)) → IfSome result (IsNextEvent o s r) × IfNone result ((e : EventValue) → IsNextEvent o s r e → ⊥)
+    → result ≡ slice_get (expand events) (length (row s.run r)) → IfSome result (IsNextEvent o s r) × IfNone result ((e : EventValue) → IsNextEvent o s r e → ⊥)
 next_of_row o s r events (Some e) there is = (rw there (sym is), tt)
-next_of_row o s r events None there is = (tt, λ e next. (let at : slice_get events (length (row s.run r)) ≡ Some e = rw there at next in cc))
+next_of_row o s r events None there is = (tt, λ e next. (let at : slice_get (expand events) (length (row s.run r)) ≡ Some e = rw there at next in cc))
+
+-- the numbers of a rank's row
+pub counted_there : (rows : List (List EventValue)) (counts : List (List ℕ)) (r k : ℕ) (events : List EventValue) (found : List ℕ) → AreCounted rows counts
+    → slice_get rows r ≡ Some events → k ≡ r → found ≡ get_or counts k found → found ≡ ends_from 0 events
+counted_there rows counts r k events found counted there at is =
+    let one : slice_get counts r ≡ Some (ends_from 0 events) =
+    ap (λ cs. slice_get cs r) counted ∙ slice_get-map (ends_from 0) rows r ∙ ap (option_map (ends_from 0)) there in
+    is ∙ ap (λ q. get_or counts q found) at ∙ get_or_from_slice_get counts r (ends_from 0 events) found one
+
+-- a rank that has no next event has all of the outcome's row
+pub has_all : (o : OutcomeValue) (s : SimValue) (r : ℕ) → IsWithin o s → ((e : EventValue) → IsNextEvent o s r e → ⊥) → HasRow s o r
+has_all o s r within none events there = go b.0 b.1
+  where
+    b : IsBeginning (row s.run r) (expand events)
+    b = within.rows r events there
+
+    go : (later : List EventValue) → expand events ≡ row s.run r ++ later → expand events ≡ row s.run r
+    go [] e = e ∙ append-nil (row s.run r)
+    go (x ∷ later) e =
+        absurd (none x (rw there (next_of_beginning (row s.run r) (expand events) x (later, e ∙ sym (append_assoc (row s.run r) (x ∷ []) later)))))
+
+-- and one that has a next event has not
+pub has_more : (o : OutcomeValue) (s : SimValue) (r : ℕ) (e : EventValue) → IsNextEvent o s r e → HasRow s o r → ⊥
+has_more o s r e next has =
+    let at = some_there (slice_get o.rows r) (λ events. slice_get (expand events) (length (row s.run r)) ≡ Some e) next in
+    let low : length (row s.run r) < length (row s.run r) =
+    slice_get_within (row s.run r) (length (row s.run r)) e (ap (λ es. slice_get es (length (row s.run r))) (sym (has at.0 at.1)) ∙ at.2) in
+    omega (arith, low)
+
+-- whether a rank has a next event says whether it has all of the outcome's row
+pub row_told : (o : OutcomeValue) (s : SimValue) (r : ℕ) (result : Option EventValue) (none : Bool) → is_some result ≡ not none
+    → IfSome result (IsNextEvent o s r) → IfNone result ((e : EventValue) → IsNextEvent o s r e → ⊥) → IsWithin o s
+    → (none ≡ true → HasRow s o r) × (none ≡ false → HasRow s o r → ⊥)
+row_told o s r None true is some nothing within = (λ e. has_all o s r within nothing, λ e. cc)
+row_told o s r None false is some nothing within = absurd cc
+row_told o s r (Some x) true is some nothing within = absurd cc
+row_told o s r (Some x) false is some nothing within = (λ e. cc, λ e. has_more o s r x some)
 
 -- where there is no row there is no next event
 pub no_row : (o : OutcomeValue) (s : SimValue) (r : ℕ) → length o.rows ≤ r → (e : EventValue) → IsNextEvent o s r e → ⊥
-no_row o s r past e next = subst (λ rows. IsSomeAnd rows (λ events. slice_get events (length (row s.run r)) ≡ Some e)) (slice_get_past o.rows r past) next
+no_row o s r past e next =
+    subst (λ rows. IsSomeAnd rows (λ events. slice_get (expand events) (length (row s.run r)) ≡ Some e)) (slice_get_past o.rows r past) next
 
 -- what is read of the outcome's lines of a rank, as far as the run's, is its next line, if it has one
 pub read_line : {R : Type 0} (s : SimValue) (traces : List TraceValue) (r k : ℕ) (t : TraceValue) (o : OutcomeValue) (sorted : List (List (ℕ × ℤ)))

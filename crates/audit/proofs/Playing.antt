@@ -1,6 +1,6 @@
 -- Acts that are made: a rank that makes an act which the outcome has next keeps to the outcome, and each step and act of a rank is
 -- counted.
-use Rattle.std.proofs.Common.{◌≡◌, ◌≢◌, ℕ, ℤ, suc, ◌+◌, ◌<◌, ◌≤◌, List, [], ◌∷◌, ◌++◌, Option, Some, length, slice_get, slice_set, sum, ◌⊎◌, inl, inr}
+use Rattle.std.proofs.Common.{◌≡◌, ◌≢◌, ℕ, ℤ, suc, ◌+◌, ◌<◌, ◌≤◌, List, [], ◌∷◌, ◌++◌, Option, Some, length, slice_get, slice_set, ◌⊎◌, inl, inr}
 use Rattle.std.proofs.Common.{refl, sym, ap, subst, ◌∙◌, arith, length-set}
 use Rattle.std.specs.Prelude.{IsSomeAnd}
 use Rattle.std.proofs.lemmas.Bool.{cases_eq}
@@ -27,7 +27,7 @@ use Rattle.crash_free.proofs.Lists.{history-own, history-other, printed-own, pri
 use Rattle.crash_free.proofs.Keeping.{set_there, set_apart}
 use Rattle.crash_free.proofs.Advancing.{Advances-act, Advances-stride, no_stride}
 use Rattle.audit.specs.Outcome.{OutcomeValue, lines_of}
-use Rattle.audit.specs.Rows.{row, event_at}
+use Rattle.audit.specs.Rows.{row, event_at, expand}
 use Rattle.audit.specs.Audits.{IsSendTo, Suits, Repeats}
 use Rattle.audit.specs.Following.{IsSendAct}
 use Rattle.audit.specs.Playing.{IsWithin, IsNextEvent, IsNextLine, Plays}
@@ -41,8 +41,8 @@ use Rattle.audit.proofs.Acting.{Acted, acted}
 
 -- what the outcome has of a rank begins with what the run has after this act, if it did before
 pub record KeepsTo (o : OutcomeValue) (s : SimValue) (r : ℕ) (act : Act) : Type 0 where
-  pub row : (events : List EventValue) → slice_get o.rows r ≡ Some events → IsBeginning (row s.run r) events
-      → IsBeginning (row (record { rank = r; act = act } ∷ s.run) r) events
+  pub row : (events : List EventValue) → slice_get o.rows r ≡ Some events → IsBeginning (row s.run r) (expand events)
+      → IsBeginning (row (record { rank = r; act = act } ∷ s.run) r) (expand events)
   pub lines : IsBeginning (printed s.run r) (lines_of r o.lines) → IsBeginning (printed (record { rank = r; act = act } ∷ s.run) r) (lines_of r o.lines)
 
 -- so does what the outcome has of each rank
@@ -54,12 +54,12 @@ within_after o s r m' act keeps within = record {
 }
   where
     of_rows : (q : ℕ) (events : List EventValue) → slice_get o.rows q ≡ Some events → (r ≡ q) ⊎ (r ≡ q → ⊥)
-        → IsBeginning (row (record { rank = r; act = act } ∷ s.run) q) events
+        → IsBeginning (row (record { rank = r; act = act } ∷ s.run) q) (expand events)
     of_rows q events there (inl own) =
-        subst (λ z. IsBeginning (row (record { rank = r; act = act } ∷ s.run) z) events) own
-        (keeps.row events (ap (slice_get o.rows) own ∙ there) (subst (λ z. IsBeginning (row s.run z) events) (sym own) (within.rows q events there)))
+        subst (λ z. IsBeginning (row (record { rank = r; act = act } ∷ s.run) z) (expand events)) own
+        (keeps.row events (ap (slice_get o.rows) own ∙ there) (subst (λ z. IsBeginning (row s.run z) (expand events)) (sym own) (within.rows q events there)))
     of_rows q events there (inr apart) =
-        subst (λ es. IsBeginning es events) (sym (row-other s.run (record { rank = r; act = act }) q apart)) (within.rows q events there)
+        subst (λ es. IsBeginning es (expand events)) (sym (row-other s.run (record { rank = r; act = act }) q apart)) (within.rows q events there)
 
     of_lines : (q : ℕ) → (r ≡ q) ⊎ (r ≡ q → ⊥) → IsBeginning (printed (record { rank = r; act = act } ∷ s.run) q) (lines_of q o.lines)
     of_lines q (inl own) =
@@ -112,7 +112,7 @@ plays_act o s s' r w c a keeps clocked k = subst (λ z. Plays o r (k + 1) k s z)
 pub plays_stride : (o : OutcomeValue) (s s' : SimValue) (r made : ℕ) → GoesInside s r made s' → (k : ℕ) → Plays o r (k + made) k s s'
 plays_stride o s s' r made inside k = record {
   within = λ within. record {
-    rows = λ q events there. subst (λ C. IsBeginning (row C q) events) (sym inside.run) (within.rows q events there);
+    rows = λ q events there. subst (λ C. IsBeginning (row C q) (expand events)) (sym inside.run) (within.rows q events there);
     lines = λ q. subst (λ C. IsBeginning (printed C q) (lines_of q o.lines)) (sym inside.run) (within.lines q);
   };
   own = λ total has.
@@ -183,7 +183,7 @@ same_inside s s' r made inside none =
 -- a send keeps to each outcome
 keeps_send : (o : OutcomeValue) (s : SimValue) (r : ℕ) (a : Act) → IsSendAct a → KeepsTo o s r a
 keeps_send o s r a i = record {
-  row = λ events there b. subst (λ es. IsBeginning es events) (sym (row_of_effect s.run r r a (send_is_effect a i))) b;
+  row = λ events there b. subst (λ es. IsBeginning es (expand events)) (sym (row_of_effect s.run r r a (send_is_effect a i))) b;
   lines = λ b.
       subst (λ ls. IsBeginning ls (lines_of r o.lines))
       (sym (printed-own s.run r a ∙ ap (λ z. printed s.run r ++ z) (no_line (length (history s.run r) + 1) a i) ∙ append-nil (printed s.run r))) b;
@@ -192,7 +192,7 @@ keeps_send o s r a i = record {
 -- a print keeps to an outcome that has its line next
 keeps_print : (o : OutcomeValue) (s : SimValue) (r : ℕ) (value : ℤ) → IsNextLine o s r value → KeepsTo o s r (prints value)
 keeps_print o s r value next = record {
-  row = λ events there b. subst (λ es. IsBeginning es events) (sym (row_of_effect s.run r r (prints value) tt)) b;
+  row = λ events there b. subst (λ es. IsBeginning es (expand events)) (sym (row_of_effect s.run r r (prints value) tt)) b;
   lines = λ b.
       subst (λ ls. IsBeginning ls (lines_of r o.lines)) (sym (printed-own s.run r (prints value)))
       (beginning_of_next (printed s.run r) (lines_of r o.lines) (length (history s.run r) + 1, value) b next);
@@ -204,9 +204,9 @@ keeps_event : (o : OutcomeValue) (s : SimValue) (r : ℕ) (a : Act) (e : EventVa
     → IsNextEvent o s r e → KeepsTo o s r a
 keeps_event o s r a e is next = record {
   row = λ events there b.
-      let at : slice_get events (length (row s.run r)) ≡ Some e =
-      subst (λ z. IsSomeAnd z (λ events. slice_get events (length (row s.run r)) ≡ Some e)) there next in
-      subst (λ es. IsBeginning es events) (sym (row_one_more s.run r a e is)) (beginning_of_next (row s.run r) events e b at);
+      let at : slice_get (expand events) (length (row s.run r)) ≡ Some e =
+      subst (λ z. IsSomeAnd z (λ events. slice_get (expand events) (length (row s.run r)) ≡ Some e)) there next in
+      subst (λ es. IsBeginning es (expand events)) (sym (row_one_more s.run r a e is)) (beginning_of_next (row s.run r) (expand events) e b at);
   lines = λ b.
       subst (λ ls. IsBeginning ls (lines_of r o.lines))
       (sym (printed-own s.run r a ∙ ap (λ z. printed s.run r ++ z)

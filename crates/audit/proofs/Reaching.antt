@@ -27,7 +27,7 @@ use Rattle.crash_free.proofs.Advancing.{behind, IsUpTo, up_to}
 use Rattle.audit.specs.declared.outcome.End.{End}
 use Rattle.audit.specs.declared.outcome.End.TheVariants as end
 use Rattle.audit.specs.Outcome.{OutcomeValue, lines_of, IsWaiting, MayWant, IsOutcome}
-use Rattle.audit.specs.Rows.{row, event_at, events_from, cons_some}
+use Rattle.audit.specs.Rows.{row, event_at, events_from, cons_some, expand}
 use Rattle.audit.specs.Audits.{HasEnd, AreReached}
 use Rattle.audit.specs.Following.{IsSendAct, AreSends, GoesBeyond, Follows}
 use Rattle.audit.specs.Playing.{IsWithin, IsOffered, HasLeft, AreStuck}
@@ -156,8 +156,8 @@ module _ (o : OutcomeValue) (s : SimValue) (left : List ℕ) (steps : ℕ) (C : 
       let there = there_is o.rows r (omega (arith, low, rows)) in
       let last = there_is o.ends r (omega (arith, low, ends)) in
       let x : Act × Option Message = (act, looked_up (λ q. sent s.run q r) act) in
-      let row_goes_on : IsBeginning (row (record { rank = r; act = act } ∷ s.run) r) there.0 =
-      subst (λ es. IsBeginning es there.0) (sym (row-own s.run r act))
+      let row_goes_on : IsBeginning (row (record { rank = r; act = act } ∷ s.run) r) (expand there.0) =
+      subst (λ es. IsBeginning es (expand there.0)) (sym (row-own s.run r act))
       (subst (λ es. IsBeginning (row s.run r ++ cons_some (event_at (length (history s.run r) + 1) act x.1) []) es)
       (sym (outcome.rows r there.0 there.1 ∙ ap (λ h. events_from 0 h) next.whole)) (next_event (history s.run r) next.later x)) in
       let lines_go_on : IsBeginning (printed (record { rank = r; act = act } ∷ s.run) r) (lines_of r o.lines) =

@@ -6,7 +6,7 @@ use Rattle.std.specs.Prelude.{false}
 use Rattle.std.proofs.lemmas.Bool.{cases_eq, eq-eqb, ne_eqb}
 use Rattle.std.proofs.lemmas.List.Sums.{sum_by-set}
 use Rattle.std.proofs.lemmas.Option.{slice_get_within, get_or_from_slice_get}
-use Rattle.crash_free.specs.Sim.{SimValue, other}
+use Rattle.crash_free.specs.Sim.{SimValue}
 use Rattle.crash_free.proofs.Keeping.{set_cases}
 use Rattle.audit.specs.Outcome.{OutcomeValue}
 use Rattle.audit.specs.Playing.{HasLeft, Plays, PlayAll, IsStuck}

@@ -3,12 +3,15 @@ ghost use Rattle.std.specs.Prelude.{◌≡◌, ◌≤◌, length, IfOk, IfErr};
 ghost use Rattle.metered.specs.Limits.{most_ranks};
 ghost use Rattle.audit.specs.Outcome.{IsOfSomeRun};
 ghost use Rattle.audit.specs.Lines.{IsSorted};
+ghost use Rattle.audit.specs.Counts.{AreCounted};
 ghost use Rattle.audit.specs.Reachable.{IsReachable};
+ghost use Rattle.audit.specs.Found.{IsFound};
 
 use crate::auditor::{Auditor, Goal};
 use crate::fault::AuditFault;
-use crate::lines;
 use crate::outcome::Outcome;
+use crate::{counts, lines};
+use crash_free::Sim;
 use metered::Heap;
 use rank_language::Program;
 
@@ -35,6 +38,32 @@ pub fn audit(
     ensures within { IfOk result (λ _. IsReachable program.now ranks outcome.now steps) }
     ensures err { IfErr result (λ fault. IsReachable program.now ranks outcome.now steps → fault ≡ AuditFault.Memory) }
 {
+    match find_run(alloc, program, ranks, outcome, steps) {
+        Ok(run) => {
+            drop(run);
+            Ok(Audited)
+        }
+        Err(fault) => Err(fault),
+    }
+}
+
+/// The run that `audit` finds: one of the program without crashes that has the
+/// outcome, with each rank where it is said to have ended.
+///
+/// It answers as `audit` does, and takes as long. Of an unfinished rank it has
+/// what the rank can do with its row, its lines and its steps.
+pub fn find_run<'p>(
+    alloc: Heap,
+    program: &'p Program,
+    ranks: u8,
+    outcome: &Outcome,
+    steps: u32,
+) -> Result<Sim<'p>, AuditFault>
+    requires some { 1 ≤ ranks }
+    requires few { ranks ≤ most_ranks }
+    ensures ok { IfOk result (λ run. IsFound program.entry.now ranks outcome.now steps run) }
+    ensures err { IfErr result (λ fault. IsReachable program.entry.now ranks outcome.now steps → fault ≡ AuditFault.Memory) }
+{
     if outcome.rows_count() != usize::from(ranks) {
         return Err(AuditFault::RowLeft);
     }
@@ -44,33 +73,37 @@ pub fn audit(
     let Some(lines) = lines::sort(alloc, ranks, outcome.lines.as_slice())? else {
         return Err(AuditFault::Output);
     };
+    let Some(counts) = counts::count(alloc, outcome)? else {
+        return Err(AuditFault::RowLeft);
+    };
     let goal = Goal {
         outcome,
+        counts: counts.as_slice(),
         lines: lines.as_slice(),
     };
-    confirm(alloc, program, ranks, &goal, steps)
+    come_to(alloc, program, ranks, &goal, steps)
 }
 
 /// The same, where the outcome has a row, its lines and an end of each rank.
-fn confirm(
+fn come_to<'p>(
     alloc: Heap,
-    program: &Program,
+    program: &'p Program,
     ranks: u8,
     goal: &Goal<'_>,
     steps: u32,
-) -> Result<Audited, AuditFault>
+) -> Result<Sim<'p>, AuditFault>
     requires some { 1 ≤ ranks }
     requires few { ranks ≤ most_ranks }
     requires rows { length goal.now.outcome.now.rows ≡ ranks }
     requires ends { length goal.now.outcome.now.ends ≡ ranks }
     requires sorted { IsSorted ranks goal.now.outcome.now.lines goal.now.lines.now }
-    ensures ok { IfOk result (λ _. IsOfSomeRun program.now ranks goal.now.outcome.now) }
-    ensures within { IfOk result (λ _. IsReachable program.now ranks goal.now.outcome.now steps) }
-    ensures err { IfErr result (λ fault. IsReachable program.now ranks goal.now.outcome.now steps → fault ≡ AuditFault.Memory) }
+    requires counted { AreCounted goal.now.outcome.now.rows goal.now.counts.now }
+    ensures ok { IfOk result (λ run. IsFound program.entry.now ranks goal.now.outcome.now steps run) }
+    ensures err { IfErr result (λ fault. IsReachable program.entry.now ranks goal.now.outcome.now steps → fault ≡ AuditFault.Memory) }
 {
     let mut left = vec![in alloc; steps; usize::from(ranks)]?;
     let mut auditor = Auditor::new(alloc, program, ranks)?;
     auditor.play(goal, &mut left)?;
     auditor.verdict(goal, left.as_slice())?;
-    Ok(Audited)
+    Ok(auditor.into_run())
 }

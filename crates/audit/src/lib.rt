@@ -4,12 +4,13 @@
 mod auditing;
 mod auditor;
 mod clocks;
+mod counts;
 mod fault;
 mod lines;
 mod outcome;
 mod trace;
 
-pub use auditing::{Audited, audit};
+pub use auditing::{Audited, audit, find_run};
 pub use fault::AuditFault;
 pub use outcome::{End, Outcome};
 pub use ports::Line;

@@ -12,13 +12,13 @@ use plain_logger::Event;
 use std::alloc::AllocError;
 use std::marker::Model;
 
-/// The number of a rank's acts, the clocks of what it sent to each rank, its
-/// events and its lines.
+/// The number of a rank's acts, the clocks of what it sent to each rank, the
+/// number of its events, and its lines.
 #[derive(Drop)]
 pub struct Trace {
     clock: u32,
     sent: Vec<Clocks, Heap>,
-    row: Vec<Event, Heap>,
+    events: u32,
     lines: RankLines,
 }
 
@@ -27,7 +27,7 @@ impl Model for Trace {
 
     ghost Value = { TraceValue };
 
-    ghost view = { λ t. record { clock = t.clock; sent = t.sent.items; row = t.row.items; lines = t.lines } };
+    ghost view = { λ t. record { clock = t.clock; sent = t.sent.items; events = t.events; lines = t.lines } };
 }
 
 impl Trace {
@@ -41,7 +41,7 @@ impl Trace {
         Ok(Trace {
             clock: 0,
             sent,
-            row: Vec::new(alloc),
+            events: 0,
             lines: RankLines::new(alloc),
         })
     }
@@ -70,10 +70,10 @@ impl Trace {
         self.sent[usize::from(dest)].place_of(clock)
     }
 
-    pub fn row(&self) -> &[Event]
-        ensures { result.now ≡ self.now.row }
+    pub fn events(&self) -> u32
+        ensures { result ≡ self.now.events }
     {
-        self.row.as_slice()
+        self.events
     }
 
     pub fn lines(&self) -> &[(u32, i64)]
@@ -91,12 +91,12 @@ impl Trace {
         Ok(())
     }
 
-    pub fn note_event(&mut self, event: Event) -> Result<(), AllocError>
-        ensures { OnOk result (self.new ≡ with_event self.old event) }
+    pub fn note_event(&mut self, event: Event)
+        requires { self.old.events < greatest_clock }
+        ensures { self.new ≡ with_event self.old event }
     {
-        self.row.push(event)?;
+        self.events += 1;
         self.clock = event.receiver_clock();
-        Ok(())
     }
 
     pub fn note_line(&mut self, clock: u32, value: i64) -> Result<(), AllocError>

@@ -10,11 +10,11 @@ use Rattle.payload_log.specs.Backlog.{BacklogValue}
 use Rattle.payload_log.specs.Sender.{WasBefore, IsSentBy}
 use Rattle.rank_language.specs.Program.{ProgramValue}
 use Rattle.checkpoint.specs.declared.fault.ImageFault.{ImageFault}
+use Rattle.checkpoint.specs.declared.format.Format.{Format}
 use Rattle.checkpoint.specs.Image.{ImageValue, rewound, at_rest}
 use Rattle.checkpoint.specs.Savable.{IsSavable}
-use Rattle.checkpoint.specs.Spelling.{spelling}
 use Rattle.checkpoint.specs.Reading.{last_clock}
-use Rattle.checkpoint.specs.Legal.{AllAfter, IsNextKept, IsLane, IsImage}
+use Rattle.checkpoint.specs.Legal.{AllAfter, IsNextKept, IsLane, IsImage, IsTextOf}
 use Rattle.checkpoint.proofs.Loop.{last_clock-push}
 use Rattle.checkpoint.proofs.Rows.{all_of_row}
 
@@ -56,8 +56,9 @@ sent_is rank clock b is =
     }
 
 -- an image can be saved
-savable_is : (p : ProgramValue) (rank size : ℕ) (i : ImageValue) → size ≤ most_ranks → IsImage p rank size i → IsSavable i
-savable_is p rank size i few is =
+savable_is : (format : Format) (p : ProgramValue) (rank size : ℕ) (i : ImageValue) → size ≤ most_ranks → IsImage format p rank size i
+    → IsSavable i
+savable_is format p rank size i few is =
     let ranks = is.machine.ranks in
     record {
       ranks = omega (arith, ranks, few);
@@ -79,18 +80,18 @@ lanes_stay rank clock before (b ∷ bs) row =
     λ i. one i ∷ rest i
 
 -- so is the image
-rests : (p : ProgramValue) (rank size : ℕ) (i : ImageValue) → IsImage p rank size i → at_rest i ≡ i
-rests p rank size i is = let stay = lanes_stay rank i.clock [] i.log is.log.each in λ j. record i { log = stay j }
+rests : (format : Format) (p : ProgramValue) (rank size : ℕ) (i : ImageValue) → IsImage format p rank size i → at_rest i ≡ i
+rests format p rank size i is = let stay = lanes_stay rank i.clock [] i.log is.log.each in λ j. record i { log = stay j }
 
 -- what was found can be saved
 pub found_savable : {X : Type 0} (p : ProgramValue) (rank size : ℕ) (bytes : List ℕ) (r : Result X ImageFault) (view : X → ImageValue)
     → size ≤ most_ranks
-    → IfOk r (λ x. (bytes ≡ spelling (view x)) × IsImage p rank size (view x)) → IfOk r (λ x. IsSavable (view x))
-found_savable p rank size bytes (Ok x) view few found = savable_is p rank size (view x) few found.1
+    → IfOk r (λ x. IsTextOf p rank size bytes (view x)) → IfOk r (λ x. IsSavable (view x))
+found_savable p rank size bytes (Ok x) view few found = savable_is found.0 p rank size (view x) few found.1.image
 found_savable p rank size bytes (Err e) view few found = tt
 
 -- and it is at rest
 pub found_rests : {X : Type 0} (p : ProgramValue) (rank size : ℕ) (bytes : List ℕ) (r : Result X ImageFault) (view : X → ImageValue)
-    → IfOk r (λ x. (bytes ≡ spelling (view x)) × IsImage p rank size (view x)) → IfOk r (λ x. at_rest (view x) ≡ view x)
-found_rests p rank size bytes (Ok x) view found = rests p rank size (view x) found.1
+    → IfOk r (λ x. IsTextOf p rank size bytes (view x)) → IfOk r (λ x. at_rest (view x) ≡ view x)
+found_rests p rank size bytes (Ok x) view found = rests found.0 p rank size (view x) found.1.image
 found_rests p rank size bytes (Err e) view found = tt

@@ -18,6 +18,7 @@ use Rattle.rank_language.specs.Block.{size}
 use Rattle.rank_language.specs.Program.{ProgramValue, block_of, AllSized}
 use Rattle.rank_machine.specs.Machine.{MachineValue, IsMachine}
 use Rattle.checkpoint.specs.Image.{ImageValue, call_of, lengths_of, rewound, at_rest}
+use Rattle.checkpoint.specs.declared.format.Format.TheVariants.{Two}
 use Rattle.checkpoint.specs.Savable.{IsSavable}
 use Rattle.checkpoint.specs.Spelling.{FitsBytes}
 use Rattle.checkpoint.specs.Reading.{last_clock}
@@ -103,7 +104,7 @@ packet_row size accepted before (m ∷ ms) count few was are rises =
 
 -- an inbox is legal
 pub inbox_is : (size : ℕ) (b : Mailbox) → length b.accepted ≡ size → size ≤ most_ranks → IsMailbox b
-    → length b.packets ≤ length b.accepted * (greatest_clock + 1) → All IsPacket b.packets → IsSavedInbox size b
+    → length b.packets ≤ length b.accepted * greatest_clock → All IsPacket b.packets → IsSavedInbox size b
 inbox_is size b count few is many are = record {
   accepted = record { count = count; each = row_of (λ n. n ≤ greatest_clock) [] b.accepted is.counts };
   count = omega (arith, count, few, many);
@@ -252,9 +253,9 @@ machine_is m is lines few ranks gathered variables arrays =
 -- what can be saved is an image once its cursors are at rest
 pub image_is : (i : ImageValue) → IsSavable i → IsMachine i.machine → IsTable i.machine.program
     → IsSaved i.machine.program i.machine.store.rank i.machine.store.size i.machine
-    → IsMailbox i.inbox → length i.inbox.packets ≤ length i.inbox.accepted * (greatest_clock + 1) → All IsPacket i.inbox.packets
+    → IsMailbox i.inbox → length i.inbox.packets ≤ length i.inbox.accepted * greatest_clock → All IsPacket i.inbox.packets
     → All IsStored i.log
-    → IsImage i.machine.program i.machine.store.rank i.machine.store.size (at_rest i)
+    → IsImage Two i.machine.program i.machine.store.rank i.machine.store.size (at_rest i)
 image_is i savable is table saved mailbox many packets stored =
     let few = savable.ranks in
     let rank = is.limits.rank in
@@ -262,6 +263,7 @@ image_is i savable is table saved mailbox many packets stored =
       table = table;
       own = omega (arith, rank, few);
       ranks = omega (arith, few);
+      few = few;
       machine = saved;
       clock = savable.clock;
       inbox = inbox_is i.machine.store.size i.inbox savable.accepted few mailbox many packets;

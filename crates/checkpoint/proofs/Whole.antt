@@ -1,6 +1,7 @@
--- The two laws of images: what is read is spelled so, each byte of it, and what is spelled so is read.
+-- The two laws of images: what is read is its image in one of the formats, each byte of it, and in either format an image is read
+-- from its bytes.
 use Rattle.std.proofs.Common.{◌≡◌, ℕ, ◌≤◌, Bool, true, false, List, [], ◌∷◌, ◌++◌, length, map, Result, Ok, Err, refl, sym, ap, subst}
-use Rattle.std.proofs.Common.{◌∙◌, arith}
+use Rattle.std.proofs.Common.{◌∙◌, slice_index, arith}
 use Rattle.std.specs.Prelude.{nat_le, ◌==◌, IfOk}
 use Rattle.payload_log.specs.Backlog.{BacklogValue}
 use Rattle.std.specs.List.{flat_map}
@@ -13,8 +14,10 @@ use Rattle.rank_language.specs.Program.{ProgramValue}
 use Rattle.checkpoint.specs.declared.fault.ImageFault.{ImageFault}
 use Rattle.checkpoint.specs.declared.fault.ImageFault.TheVariants.{Field, Long}
 use Rattle.checkpoint.specs.Image.{ImageValue, rewound, at_rest}
-use Rattle.checkpoint.specs.Spelling.{FitsBytes, packet, lane, origin, table, machine, inbox, spelling}
-use Rattle.checkpoint.specs.Legal.{IsRow, IsLane, IsSavedInbox, IsImage}
+use Rattle.checkpoint.specs.declared.format.Format.{Format}
+use Rattle.checkpoint.specs.declared.format.Format.TheVariants.{One, Two}
+use Rattle.checkpoint.specs.Spelling.{FitsBytes, packet, lane, heading, origin, table, machine, inbox, text_in}
+use Rattle.checkpoint.specs.Legal.{IsRow, IsLane, IsSavedInbox, IsImage, IsTextOf}
 use Rattle.checkpoint.specs.Reading.{Read, Gives, ◌>>=◌, where_holds, count_at, log_at, inbox_at, image_at, reading}
 use Rattle.checkpoint.proofs.Fields.{IsBytes, Takes, takes_then, IsReader, IsPassed, step, again_then, again_last, ok_is, number}
 use Rattle.checkpoint.proofs.Fields.{field_reader, many_reader}
@@ -77,14 +80,20 @@ log_reader rank clock size small = many_reader (λ before. lane_reader rank cloc
 
 -- ---- the whole image
 
--- the bytes of an image of this rank and program
-abbrev spelled : ProgramValue → ℕ → ℕ → ImageValue → List ℕ
-spelled p rank size i = origin rank size
+-- the bytes of an image of this rank and program in a format
+abbrev spelled : Format → ProgramValue → ℕ → ℕ → ImageValue → List ℕ
+spelled format p rank size i = origin format rank size
     ++ (table p ++ (machine i.machine ++ (big_bytes 4 i.clock ++ (inbox i.inbox ++ flat_map lane i.log))))
 
--- an image that is read is legal, and has its bytes
+-- a legal image in a format was taken from the front of the bytes, and this is left
+record TakesImage (p : ProgramValue) (rank size : ℕ) (bytes : List ℕ) (i : ImageValue) (rest : List ℕ) : Type 0 where
+  format : Format
+  took : Takes bytes (spelled format p rank size i) rest
+  is : IsImage format p rank size i
+
+-- an image that is read is legal in some format, and has its bytes there
 image_takes : (p : ProgramValue) (rank size : ℕ) → FitsBytes 1 rank → FitsBytes 1 size → (bytes : List ℕ) (i : ImageValue) (rest : List ℕ)
-    → IsBytes bytes → image_at p rank size bytes ≡ Ok (i, rest) → Takes bytes (spelled p rank size i) rest × IsImage p rank size i
+    → IsBytes bytes → image_at p rank size bytes ≡ Ok (i, rest) → TakesImage p rank size bytes i rest
 unfolding image_at
 image_takes p rank size small few bytes i rest fits e =
     let s0 = step (origin_reader rank size small few) bytes _ (i, rest) fits e in
@@ -101,26 +110,27 @@ image_takes p rank size small few bytes i rest fits e =
     t35 in
     let t15 = takes_then s0.rest (table p) s1.rest (machine s2.item ++ (big_bytes 4 s3.item ++ (inbox s4.item ++ flat_map lane s5.item)))
     s5.rest s1.took t25 in
-    let t05 = takes_then bytes (origin rank size) s0.rest
+    let t05 = takes_then bytes (origin s0.item rank size) s0.rest
     (table p ++ (machine s2.item ++ (big_bytes 4 s3.item ++ (inbox s4.item ++ flat_map lane s5.item)))) s5.rest s0.took t15 in
-    let is : IsImage p rank size made = record {
+    let is : IsImage s0.item p rank size made = record {
       table = s1.is;
       own = small;
       ranks = few;
+      few = s0.is;
       machine = s2.is;
       clock = s3.is;
       inbox = s4.is;
       log = s5.is;
     } in
-    subst (λ (x : ImageValue × List ℕ). Takes bytes (spelled p rank size x.0) x.1 × IsImage p rank size x.0) same (t05, is)
+    subst (λ (x : ImageValue × List ℕ). TakesImage p rank size bytes x.0 x.1) same (record { format = s0.item; took = t05; is = is })
 
--- a legal image is read from its bytes
-image_again : (p : ProgramValue) (rank size : ℕ) (i : ImageValue) (rest : List ℕ) → IsImage p rank size i
-    → image_at p rank size (spelled p rank size i ++ rest) ≡ Ok (i, rest)
+-- a legal image is read from its bytes, in either format
+image_again : (format : Format) (p : ProgramValue) (rank size : ℕ) (i : ImageValue) (rest : List ℕ) → IsImage format p rank size i
+    → image_at p rank size (spelled format p rank size i ++ rest) ≡ Ok (i, rest)
 unfolding image_at
-image_again p rank size i rest is =
-    again_then (origin_reader rank size is.own is.ranks) tt
-    (table p ++ (machine i.machine ++ (big_bytes 4 i.clock ++ (inbox i.inbox ++ flat_map lane i.log)))) rest _ _ tt
+image_again format p rank size i rest is =
+    again_then (origin_reader rank size is.own is.ranks) format
+    (table p ++ (machine i.machine ++ (big_bytes 4 i.clock ++ (inbox i.inbox ++ flat_map lane i.log)))) rest _ _ is.few
     (again_then (table_reader p) tt (machine i.machine ++ (big_bytes 4 i.clock ++ (inbox i.inbox ++ flat_map lane i.log))) rest _ _
     is.table
     (again_then (machine_reader p rank size) i.machine (big_bytes 4 i.clock ++ (inbox i.inbox ++ flat_map lane i.log)) rest _ _
@@ -130,44 +140,55 @@ image_again p rank size i rest is =
     (again_last (log_reader rank i.clock size is.clock) i.log rest _ _ is.log refl)))))
 
 -- the bytes of an image name its own program, rank and number of ranks
-spelling_is : (p : ProgramValue) (rank size : ℕ) (i : ImageValue) → IsImage p rank size i → spelled p rank size i ≡ spelling i
-unfolding spelling
-spelling_is p rank size i is = rw (← is.machine.program, ← is.machine.own, ← is.machine.ranks) refl
+text_is : (format : Format) (p : ProgramValue) (rank size : ℕ) (i : ImageValue) → IsImage format p rank size i
+    → spelled format p rank size i ≡ text_in format i
+unfolding text_in
+text_is format p rank size i is = rw (← is.machine.program, ← is.machine.own, ← is.machine.ranks) refl
 
 -- where nothing is a fault, no bytes are left
 ended : {A : Type 0} (b : Bool) (x y : A) → where_holds b Long x ≡ Ok y → (b ≡ true) × (x ≡ y)
 ended true x y e = (refl, cc)
 ended false x y e = absurd cc
 
--- bytes that are read are the spelling of their image
-pub read_is_spelled : (p : ProgramValue) (rank size : ℕ) → FitsBytes 1 rank → FitsBytes 1 size → (bytes : List ℕ) (i : ImageValue) → IsBytes bytes
-    → reading p rank size bytes ≡ Ok i → (bytes ≡ spelling i) × IsImage p rank size i
-unfolding reading
-read_is_spelled p rank size small few bytes i fits e =
-    let whole : IsReader (image_at p rank size) (spelled p rank size) (IsImage p rank size) =
-    record { takes = image_takes p rank size small few; again = image_again p rank size } in
-    let s = step whole bytes _ i fits e in
-    let g = ended (length s.rest == 0) s.item i s.on in
-    let nothing : s.rest ≡ [] = nil_from_length s.rest (eqb-true _ _ g.0) in
-    let parts : bytes ≡ spelled p rank size s.item = s.took.parts ∙ ap (λ (r : List ℕ). spelled p rank size s.item ++ r) nothing
-    ∙ append-nil (spelled p rank size s.item) in
-    subst (λ (x : ImageValue). (bytes ≡ spelling x) × IsImage p rank size x) g.1 (parts ∙ spelling_is p rank size s.item s.is, s.is)
+-- where all of the bytes were read, they were read up to their end
+read_whole : (read : Read ImageValue) (i : ImageValue) → (read >>= λ x. where_holds (length x.1 == 0) Long x.0) ≡ Ok i → read ≡ Ok (i, [])
+read_whole (Ok x) i e =
+    let g = ended (length x.1 == 0) x.0 i e in
+    let nothing : x.1 ≡ [] = nil_from_length x.1 (eqb-true _ _ g.0) in
+    λ k. Ok (g.1 k, nothing k)
+read_whole (Err f) i e = absurd cc
 
--- a legal image is read from its spelling
-pub spelled_is_read : (p : ProgramValue) (rank size : ℕ) (i : ImageValue) → IsImage p rank size i → reading p rank size (spelling i) ≡ Ok i
+-- bytes that are read are their image in one of the formats
+pub read_is_text : (p : ProgramValue) (rank size : ℕ) → FitsBytes 1 rank → FitsBytes 1 size → (bytes : List ℕ) (i : ImageValue) → IsBytes bytes
+    → reading p rank size bytes ≡ Ok i → IsTextOf p rank size bytes i
 unfolding reading
-spelled_is_read p rank size i is =
-    let again = image_again p rank size i [] is in
-    let same : spelling i ≡ spelled p rank size i ++ [] = sym (spelling_is p rank size i is) ∙ sym (append-nil (spelled p rank size i)) in
+read_is_text p rank size small few bytes i fits e =
+    let t = image_takes p rank size small few bytes i [] fits (read_whole (image_at p rank size bytes) i e) in
+    let parts : bytes ≡ spelled t.format p rank size i = t.took.parts ∙ append-nil (spelled t.format p rank size i) in
+    (t.format, record { spelled = parts ∙ text_is t.format p rank size i t.is; image = t.is })
+
+-- a legal image is read from its bytes, in either format
+pub text_is_read : (format : Format) (p : ProgramValue) (rank size : ℕ) (i : ImageValue) → IsImage format p rank size i
+    → reading p rank size (text_in format i) ≡ Ok i
+unfolding reading
+text_is_read format p rank size i is =
+    let again = image_again format p rank size i [] is in
+    let same : text_in format i ≡ spelled format p rank size i ++ [] = sym (text_is format p rank size i is)
+    ∙ sym (append-nil (spelled format p rank size i)) in
     ap (λ (b : List ℕ). image_at p rank size b >>= λ x. where_holds (length x.1 == 0) Long x.0) same
     ∙ ap (λ (r : Read ImageValue). r >>= λ x. where_holds (length x.1 == 0) Long x.0) again
 
--- what a call read is spelled so
+-- what a call read is an image in one of the formats
 pub is_found : {X : Type 0} (p : ProgramValue) (rank size : ℕ) → FitsBytes 1 rank → FitsBytes 1 size
     → (bytes : List ℕ) (r : Result X ImageFault) (view : X → ImageValue) → IsBytes bytes → Gives view r (reading p rank size bytes) →
-    IfOk r (λ x. (bytes ≡ spelling (view x)) × IsImage p rank size (view x))
-is_found p rank size small few bytes (Ok x) view fits given = read_is_spelled p rank size small few bytes (view x) fits given
+    IfOk r (λ x. IsTextOf p rank size bytes (view x))
+is_found p rank size small few bytes (Ok x) view fits given = read_is_text p rank size small few bytes (view x) fits given
 is_found p rank size small few bytes (Err e) view fits given = tt
+
+-- the first byte tells the formats apart
+pub texts_apart : (i j : ImageValue) → text_in One i ≡ text_in Two j → ⊥
+unfolding text_in origin heading
+texts_apart i j same = absurd (omega (arith, ap (λ (bytes : List ℕ). slice_index bytes 0) same))
 
 -- the cursors of lanes aren't in the bytes
 lanes_rest : (log : List BacklogValue) → flat_map lane (map rewound log) ≡ flat_map lane log
@@ -176,9 +197,9 @@ lanes_rest [] = refl
 lanes_rest (b ∷ bs) = ap (λ (rest : List ℕ). lane b ++ rest) (lanes_rest bs)
 
 -- the cursors aren't in the bytes
-pub spelled_at_rest : (i : ImageValue) → spelling (at_rest i) ≡ spelling i
-unfolding spelling
-spelled_at_rest i =
-    let front : List ℕ → List ℕ = λ rest. origin i.machine.store.rank i.machine.store.size
+pub text_at_rest : (format : Format) (i : ImageValue) → text_in format (at_rest i) ≡ text_in format i
+unfolding text_in
+text_at_rest format i =
+    let front : List ℕ → List ℕ = λ rest. origin format i.machine.store.rank i.machine.store.size
     ++ (table i.machine.program ++ (machine i.machine ++ (big_bytes 4 i.clock ++ (inbox i.inbox ++ rest)))) in
     ap front (lanes_rest i.log)

@@ -12,9 +12,10 @@ use Rattle.rank_machine.specs.Faults.{IsLeft}
 use Rattle.rank_machine.specs.Collectives.{greatest_ordinal}
 use Rattle.rank_machine.specs.Machine.{MachineValue, HasStage}
 use Rattle.rank_machine.specs.declared.status.Status.{Status}
-use Rattle.checkpoint.specs.Spelling.{FitsBytes}
+use Rattle.checkpoint.specs.declared.format.Format.{Format}
+use Rattle.checkpoint.specs.Spelling.{FitsBytes, text_in}
 use Rattle.checkpoint.specs.Image.{ImageValue, Standing, standing_of, call_of, status_of, lengths_of}
-use Rattle.checkpoint.specs.Reading.{last_clock}
+use Rattle.checkpoint.specs.Reading.{last_clock, most_ranks_in}
 
 -- each item is legal behind those before it
 abbrev pub AllAfter : {A : Type 0} → (List A → A → Type 0) → List A → List A → Type 0
@@ -121,12 +122,22 @@ pub record IsSavedInbox (size : ℕ) (b : Mailbox) : Type 0 where
   pub count : FitsBytes 4 (length b.packets)
   pub packets : IsRow (IsNextPacket size b.accepted) (length b.packets) b.packets
 
--- an image of this program, rank and number of ranks
-pub record IsImage (p : ProgramValue) (rank size : ℕ) (i : ImageValue) : Type 0 where
+-- an image in this format, of this program, rank and number of ranks
+pub record IsImage (format : Format) (p : ProgramValue) (rank size : ℕ) (i : ImageValue) : Type 0 where
   pub table : IsTable p
   pub own : FitsBytes 1 rank
   pub ranks : FitsBytes 1 size
+  pub few : size ≤ most_ranks_in format
   pub machine : IsSaved p rank size i.machine
   pub clock : i.clock ≤ greatest_clock
   pub inbox : IsSavedInbox size i.inbox
   pub log : IsRow (λ before. IsLane rank i.clock) size i.log
+
+-- these bytes are this image in this format
+pub record IsText (format : Format) (p : ProgramValue) (rank size : ℕ) (bytes : List ℕ) (i : ImageValue) : Type 0 where
+  pub spelled : bytes ≡ text_in format i
+  pub image : IsImage format p rank size i
+
+-- these bytes are this image in one of the formats
+abbrev pub IsTextOf : ProgramValue → ℕ → ℕ → List ℕ → ImageValue → Type 0
+IsTextOf p rank size bytes i = (format : Format) × IsText format p rank size bytes i

@@ -20,7 +20,9 @@ use Rattle.checkpoint.specs.declared.fault.ImageFault.{ImageFault}
 use Rattle.checkpoint.specs.declared.fault.ImageFault.TheVariants.{Version, Short, Long, Field, WrongProgram, Memory}
 use Rattle.matching.specs.Inbox.{Mailbox, may_follow}
 use Rattle.rank_machine.specs.declared.status.Status.{Status}
-use Rattle.checkpoint.specs.Spelling.{format}
+use Rattle.checkpoint.specs.declared.format.Format.{Format}
+use Rattle.checkpoint.specs.declared.format.Format.TheVariants.{One, Two}
+use Rattle.checkpoint.specs.Spelling.{number_of, event_version}
 use Rattle.checkpoint.specs.Image.{ImageValue, Standing, machine_of, lengths_of, is_underway}
 
 -- what is read, and the bytes behind it; or the first fault
@@ -143,13 +145,35 @@ inbox_at size bytes = do
   packets ← many_at (packet_at size accepted.0) count.0 [] count.1
   Ok (record { packets = packets.0; accepted = accepted.0 }, packets.1)
 
--- the format, and the caller's rank and number of ranks
-unfoldable pub origin_at : ℕ → ℕ → List ℕ → Read (Unit {0})
+-- the format of a number
+abbrev pub format_of : ℕ → Format
+format_of x = if x == number_of One then One else Two
+
+-- what an image of this format says of the version of event words, which is one alone
+abbrev pub events_at : Format → List ℕ → Read Format
+events_at One bytes = Ok (One, bytes)
+events_at Two bytes = do
+  version ← field 1 Version (λ x. x == event_version) bytes
+  Ok (Two, version.1)
+
+-- the format, with what it says of event words
+unfoldable pub format_at : List ℕ → Read Format
+format_at bytes = do
+  version ← field 1 Version (λ x. x == number_of One || x == number_of Two) bytes
+  events_at (format_of version.0) version.1
+
+-- the most ranks of a run that has images of a format
+abbrev pub most_ranks_in : Format → ℕ
+most_ranks_in One = limits.most_ranks_of_format_1
+most_ranks_in Two = limits.most_ranks
+
+-- the format, and the caller's rank and number of ranks, which are as many as the format can have
+unfoldable pub origin_at : ℕ → ℕ → List ℕ → Read Format
 origin_at rank size bytes = do
-  version ← field 1 Version (λ x. x == format) bytes
-  own ← field 1 WrongProgram (λ x. x == rank) version.1
-  ranks ← field 1 WrongProgram (λ x. x == size) own.1
-  Ok (tt, ranks.1)
+  format ← format_at bytes
+  own ← field 1 WrongProgram (λ x. x == rank) format.1
+  ranks ← field 1 WrongProgram (λ x. x == size && nat_le x (most_ranks_in format.0)) own.1
+  Ok (format.0, ranks.1)
 
 -- the length of each array is the program's
 unfoldable pub lengths_at : List (List ℕ × ℕ) → List ℕ → Read (Unit {0})

@@ -1,5 +1,5 @@
 -- The bytes of an image (docs/FORMATS.md, "Images"): all numbers big-endian, one field after the other.
-use Rattle.std.specs.Prelude.{ℕ, ◌<◌, ◌^◌, List, ◌++◌, length, ℤ, Option, Some, None}
+use Rattle.std.specs.Prelude.{ℕ, ◌<◌, ◌^◌, List, [], ◌++◌, length, ℤ, Option, Some, None}
 use Rattle.std.specs.List.{flat_map}
 use Rattle.std.specs.Int.{w64, cast_unsigned}
 use Rattle.byteorder.specs.Endian.{big_bytes}
@@ -13,15 +13,27 @@ use Rattle.rank_machine.specs.Faults.{fault_number}
 use Rattle.rank_machine.specs.Machine.{MachineValue}
 use Rattle.matching.specs.Inbox.{Mailbox}
 use Rattle.rank_machine.specs.declared.status.Status.{Status}
+use Rattle.checkpoint.specs.declared.format.Format.{Format}
+use Rattle.checkpoint.specs.declared.format.Format.TheVariants.{One, Two}
 use Rattle.checkpoint.specs.Image.{ImageValue, Standing, standing_of, status_of}
 
 -- a number that so many bytes can spell
 abbrev pub FitsBytes : ℕ → ℕ → Type 0
 FitsBytes n x = x < 256 ^ n
 
--- the number of this format, with which every image begins
-abbrev pub format : ℕ
-format = 1
+-- the number of a format, with which every image begins
+abbrev pub number_of : Format → ℕ
+number_of One = 1
+number_of Two = 2
+
+-- the version of the event words that a rank logs and replays (docs/FORMATS.md, "Events")
+abbrev pub event_version : ℕ
+event_version = 2
+
+-- what an image says of the version of event words: in format 1 nothing
+abbrev pub events : Format → List ℕ
+events One = []
+events Two = big_bytes 1 event_version
 
 -- a value takes 8 bytes, in two's complement
 unfoldable pub value : ℤ → List ℕ
@@ -51,9 +63,13 @@ kept m = big_bytes 4 m.clock ++ tail m
 unfoldable pub lane : BacklogValue → List ℕ
 lane b = big_bytes 4 b.sent ++ (big_bytes 4 b.base ++ flat_map kept b.kept)
 
+-- the format, with what it says of event words
+unfoldable pub heading : Format → List ℕ
+heading format = big_bytes 1 (number_of format) ++ events format
+
 -- the format, the rank and the number of ranks
-unfoldable pub origin : ℕ → ℕ → List ℕ
-origin rank size = big_bytes 1 format ++ (big_bytes 1 rank ++ big_bytes 1 size)
+unfoldable pub origin : Format → ℕ → ℕ → List ℕ
+origin format rank size = heading format ++ (big_bytes 1 rank ++ big_bytes 1 size)
 
 -- the length of each array
 abbrev pub lengths : List (List ℕ × ℕ) → List ℕ
@@ -88,8 +104,12 @@ machine m =
 unfoldable pub inbox : Mailbox → List ℕ
 inbox b = flat_map (big_bytes 4) b.accepted ++ (big_bytes 4 (length b.packets) ++ flat_map packet b.packets)
 
--- the bytes of an image
-unfoldable pub spelling : ImageValue → List ℕ
-spelling i =
-    origin i.machine.store.rank i.machine.store.size
+-- the bytes of an image in a format: behind the format, both have the same
+unfoldable pub text_in : Format → ImageValue → List ℕ
+text_in format i =
+    origin format i.machine.store.rank i.machine.store.size
     ++ (table i.machine.program ++ (machine i.machine ++ (big_bytes 4 i.clock ++ (inbox i.inbox ++ flat_map lane i.log))))
+
+-- the bytes of an image as it is written
+abbrev pub spelling : ImageValue → List ℕ
+spelling i = text_in Two i

@@ -6,7 +6,7 @@ ghost use Rattle.rank_language.specs.Program.{block_of};
 ghost use Rattle.rank_machine.specs.Machine.{IsMachine};
 ghost use Rattle.checkpoint.specs.Image.{at_rest};
 ghost use Rattle.checkpoint.specs.Savable.{IsSavable};
-ghost use Rattle.checkpoint.specs.Legal.{IsTable, IsImage};
+ghost use Rattle.checkpoint.specs.Legal.{IsTable, IsTextOf};
 ghost use Rattle.checkpoint.specs.Spelling.{FitsBytes, spelling};
 ghost use Rattle.checkpoint.specs.Reading.{Gives, image_at, reading};
 
@@ -47,7 +47,7 @@ impl<'p> Model for Image<'p> {
     ghost view = { λ i. record { machine = i.machine; clock = i.clock; inbox = i.inbox; log = i.log } };
 }
 
-/// The bytes of an image.
+/// The bytes of an image, in the second format.
 pub fn encode(alloc: Heap, image: &Image<'_>) -> Result<Vec<u8, Heap>, AllocError>
     requires { IsSavable image.now }
     ensures spelled { IfOk result (λ bytes. bytes.items ≡ spelling image.now) }
@@ -58,8 +58,8 @@ pub fn encode(alloc: Heap, image: &Image<'_>) -> Result<Vec<u8, Heap>, AllocErro
     encode_parts(alloc, &image.machine, image.clock, &image.inbox, &image.log)
 }
 
-/// The bytes of the image that has these parts.
-#[tactic(auto, unfolding(crate::specs::Spelling::spelling))]
+/// The bytes of the image that has these parts, in the second format.
+#[tactic(auto, unfolding(crate::specs::Spelling::text_in))]
 pub fn encode_parts(
     alloc: Heap,
     machine: &Machine<'_>,
@@ -135,7 +135,7 @@ fn image_of<'p, 'b>(
     requires { rank < size }
     ensures { Gives (λ x. (x.0, x.1.now)) result (image_at program.entry.now rank size bytes.now) }
 {
-    let rest = origin_of(rank, size, bytes)?;
+    let (_, rest) = origin_of(rank, size, bytes)?;
     let rest = table_of(program, rest)?;
     let (machine, rest) = machine_of(alloc, program, rank, size, rest)?;
     let (clock, rest) = count_of(rest)?;
@@ -169,7 +169,7 @@ fn whole_of<'p>(
     Ok(image)
 }
 
-/// The image of this rank of the program that is all of the bytes.
+/// The image of this rank of the program that is all of the bytes, in either format.
 ///
 /// An `Err` is the first fault of the bytes from left to right, or want of memory.
 pub fn decode<'p>(
@@ -181,8 +181,8 @@ pub fn decode<'p>(
 ) -> Result<Image<'p>, ImageFault>
     requires rank { rank < size }
     requires size { size ≤ most_ranks }
-    // What is read is spelled so, each byte of it.
-    ensures found { IfOk result (λ i. (bytes.now ≡ spelling i) × IsImage program.entry.now rank size i) }
+    // What is read is an image in one of the formats, each byte of it.
+    ensures found { IfOk result (λ i. IsTextOf program.entry.now rank size bytes.now i) }
     ensures savable { IfOk result (λ i. IsSavable i) }
     ensures rest { IfOk result (λ i. at_rest i ≡ i) }
     // Which fault it is, and what is read.

@@ -3,6 +3,7 @@
 #![tactic(auto)]
 
 mod fault;
+mod format;
 mod image;
 mod laws;
 mod memory_shelf;
@@ -15,6 +16,7 @@ mod write_image;
 mod writing;
 
 pub use fault::ImageFault;
+pub use format::Format;
 pub use image::{Image, decode, encode, encode_parts};
 pub use laws::law_images;
 pub use memory_shelf::MemoryShelf;

@@ -6,19 +6,17 @@ ghost use Rattle.rank_language.specs.Program.{AllSized};
 ghost use Rattle.rank_machine.specs.Faults.{IsLeft};
 ghost use Rattle.rank_machine.specs.Collectives.{greatest_ordinal};
 ghost use Rattle.checkpoint.specs.declared.fault.ImageFault.TheVariants.{WrongProgram, Field};
-ghost use Rattle.checkpoint.specs.Reading.{Gives, field, where_holds, origin_at, lengths_at, table_at};
+ghost use Rattle.checkpoint.specs.Reading.{Gives, field, where_holds, format_at, origin_at, lengths_at, table_at};
 ghost use Rattle.checkpoint.specs.Reading.{fault_at, standing_at, status_at, arrays_at, machine_at};
 ghost use Rattle.checkpoint.specs.Seen.{standing_seen};
 
 use crate::fault::ImageFault;
+use crate::format::{EVENT_VERSION, Format};
 use crate::reading::{u8_at, u16_at, u32_at, values_of};
 use metered::Heap;
 use metered::limits::{GREATEST_CLOCK, GREATEST_TAG, MOST_ITEMS};
 use rank_language::{Array, Program};
 use rank_machine::{Gathered, Items, Machine, MachineFault, Parts, Status};
-
-/// The number of this format, with which every image begins.
-pub const FORMAT: u8 = 1;
 
 /// Where a machine stands.
 #[derive(Drop)]
@@ -30,24 +28,40 @@ pub struct Standing {
     pub finished: u32,
 }
 
-/// The format, the rank and the number of ranks.
-#[tactic(auto, unfolding(crate::specs::Reading::origin_at, crate::specs::Reading::field))]
-pub fn origin_of(rank: u8, size: u8, bytes: &[u8]) -> Result<&[u8], ImageFault>
-    ensures { Gives (λ x. (tt, x.now)) result (origin_at rank size bytes.now) }
+// The format. The second one names the version of event words, which is one alone.
+#[tactic(auto, unfolding(crate::specs::Reading::format_at, crate::specs::Reading::field))]
+fn format_of(bytes: &[u8]) -> Result<(Format, &[u8]), ImageFault>
+    ensures { Gives (λ x. (x.0, x.1.now)) result (format_at bytes.now) }
 {
     let (version, rest) = u8_at(bytes)?;
-    if version != FORMAT {
-        return Err(ImageFault::Version);
+    match version {
+        1 => Ok((Format::One, rest)),
+        2 => {
+            let (events, rest) = u8_at(rest)?;
+            if events != EVENT_VERSION {
+                return Err(ImageFault::Version);
+            }
+            Ok((Format::Two, rest))
+        }
+        _ => Err(ImageFault::Version),
     }
+}
+
+/// The format, the rank and the number of ranks.
+#[tactic(auto, unfolding(crate::specs::Reading::origin_at, crate::specs::Reading::field))]
+pub fn origin_of(rank: u8, size: u8, bytes: &[u8]) -> Result<(Format, &[u8]), ImageFault>
+    ensures { Gives (λ x. (x.0, x.1.now)) result (origin_at rank size bytes.now) }
+{
+    let (format, rest) = format_of(bytes)?;
     let (own, rest) = u8_at(rest)?;
     if own != rank {
         return Err(ImageFault::WrongProgram);
     }
     let (ranks, rest) = u8_at(rest)?;
-    if ranks != size {
+    if ranks != size || usize::from(ranks) > format.most_ranks() {
         return Err(ImageFault::WrongProgram);
     }
-    Ok(rest)
+    Ok((format, rest))
 }
 
 // A number that has to be the length of an array.

@@ -8,10 +8,12 @@ ghost use Rattle.rank_checker.specs.SeenLines.{arrays_seen};
 ghost use Rattle.rank_language.specs.Program.{AllSized};
 ghost use Rattle.checkpoint.specs.Image.{standing_of, status_of};
 ghost use Rattle.checkpoint.specs.Legal.{IsTable, IsPacket, IsStored};
+ghost use Rattle.checkpoint.specs.declared.format.Format.TheVariants.{Two};
 ghost use Rattle.checkpoint.specs.Spelling.{FitsBytes, values, packet, kept, lane, origin, lengths, table};
 ghost use Rattle.checkpoint.specs.Spelling.{fault_field, standing, status, machine, inbox};
 
-use crate::read_machine::{FORMAT, array_count};
+use crate::format::{EVENT_VERSION, Format};
+use crate::read_machine::array_count;
 use crate::writing::{put_tail, put_u8, put_u16, put_u32, put_values};
 use matching::{Inbox, Packet};
 use metered::Heap;
@@ -104,11 +106,12 @@ pub fn put_lanes(out: &mut Vec<u8, Heap>, log: &[Backlog]) -> Result<(), AllocEr
     Ok(())
 }
 
-#[tactic(auto, unfolding(crate::specs::Spelling::origin))]
+#[tactic(auto, unfolding(crate::specs::Spelling::origin, crate::specs::Spelling::heading))]
 pub fn put_origin(out: &mut Vec<u8, Heap>, rank: u8, size: u8) -> Result<(), AllocError>
-    ensures { OnOk result (out.new.items ≡ out.old.items ++ origin rank size) }
+    ensures { OnOk result (out.new.items ≡ out.old.items ++ origin Two rank size) }
 {
-    put_u8(out, FORMAT)?;
+    put_u8(out, Format::Two.number())?;
+    put_u8(out, EVENT_VERSION)?;
     put_u8(out, rank)?;
     put_u8(out, size)
 }

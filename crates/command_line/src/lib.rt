@@ -4,10 +4,14 @@
 //! which limits it runs.
 #![tactic(auto)]
 
+mod explain;
+mod exploring;
 mod help;
 mod job;
 mod no_job;
 mod syntax;
 
+pub use explain::ExplainJob;
+pub use exploring::ExploreJob;
 pub use job::{CheckJob, Job, RunJob, WorldJob, job_of};
 pub use no_job::NoJob;

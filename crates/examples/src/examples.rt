@@ -1,7 +1,7 @@
 //! Runs, checks and worlds of the examples.
 
 /// The words of each run, after the program's name.
-pub const RUNS: [&str; 71] = [
+pub const RUNS: [&str; 77] = [
     "run --ranks 2 examples/answer.rank",
     "run --ranks 4 examples/ring.rank",
     "run --ranks 2 examples/ping_pong.rank",
@@ -30,6 +30,7 @@ pub const RUNS: [&str; 71] = [
     "run --ranks 3 examples/reduce_min.rank",
     "run --ranks 3 examples/fold_overflow.rank",
     "run --ranks 3 examples/collectives.rank",
+    "run --ranks 16 examples/sixteen.rank",
     "run --ranks 4 examples/dot_product.rank",
     "run --ranks 3 examples/table.rank",
     "run --ranks 3 examples/relaxation.rank",
@@ -46,14 +47,19 @@ pub const RUNS: [&str; 71] = [
     "run --ranks 1 examples/array_length.rank",
     "run --ranks 1 examples/fault_number_range.rank",
     "run --ranks 1 examples/canonical.rank",
+    "explore --ranks 3 examples/first_come.rank",
     "check examples/canonical.rank",
     "check examples/refused.rank",
+    "explain examples/refused.rank",
+    "explain examples/fault_bad_form.rank",
     "world --ranks 2 examples/answer.rank examples/answer.events",
     "world --ranks 2 examples/overtaking.rank examples/overtaking.events",
     "world --ranks 2 examples/two_prints.rank examples/two_prints.events",
     "world --ranks 2 examples/probing.rank examples/missed.events",
     "world --ranks 2 examples/probing.rank examples/shown.events",
     "world --ranks 2 examples/probing.rank examples/too_late.events",
+    "run --ranks 1 examples/polls.rank",
+    "world --ranks 1 examples/polls.rank examples/polls.events",
     "world --ranks 2 examples/probe.rank examples/probe.events",
     "world --ranks 2 examples/answer.rank examples/crash.events",
     "world --ranks 2 examples/probing.rank examples/crash_after_miss.events",

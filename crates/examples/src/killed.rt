@@ -2,7 +2,7 @@
 
 /// The words of each run, after the program's name. A script named for a number
 /// of ranks has each of them crash once, after its first act.
-pub const RUNS: [&str; 30] = [
+pub const RUNS: [&str; 31] = [
     "run --ranks 2 --script examples/answer.script examples/answer.rank",
     "run --ranks 2 --script examples/kills_of_2.script examples/answer.rank",
     "run --ranks 4 --script examples/kills_of_4.script examples/ring.rank",
@@ -27,6 +27,7 @@ pub const RUNS: [&str; 30] = [
     "run --ranks 3 --script examples/kills_of_3.script examples/reduce_min.rank",
     "run --ranks 3 --script examples/kills_of_3.script examples/fold_overflow.rank",
     "run --ranks 3 --script examples/kills_of_3.script examples/collectives.rank",
+    "run --ranks 16 --script examples/kills_of_16.script examples/sixteen.rank",
     "run --ranks 4 --script examples/kills_of_4.script examples/dot_product.rank",
     "run --ranks 3 --script examples/kills_of_3.script examples/table.rank",
     "run --ranks 3 --script examples/kills_of_3.script examples/relaxation.rank",

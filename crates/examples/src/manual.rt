@@ -2,7 +2,7 @@
 
 /// The words of each run, after the program's name: the texts of docs/LANGUAGE.md
 /// in its order.
-pub const RUNS: [&str; 79] = [
+pub const RUNS: [&str; 83] = [
     "run --ranks 1 manual/var.rank",
     "run --ranks 1 manual/array.rank",
     "run --ranks 1 manual/let.rank",
@@ -82,4 +82,8 @@ pub const RUNS: [&str; 79] = [
     "run --ranks 1 manual/first.rank",
     "run --ranks 1 manual/free.rank",
     "check manual/free.rank",
+    "explore --ranks 3 manual/in_order.rank",
+    "explore --ranks 3 manual/harmless.rank",
+    "explore --ranks 3 manual/one_order.rank",
+    "explore --ranks 3 manual/mended.rank",
 ];

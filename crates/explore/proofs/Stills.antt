@@ -1,5 +1,5 @@
 -- Where each rank stands still the run is maximal, and its outcome is what the ranks printed and asked for last.
-use Rattle.std.proofs.Common.{◌≡◌, ℕ, ◌<◌, List, Some, length, slice_get, ◌+◌, ◌⊎◌, inl, inr, subst, arith}
+use Rattle.std.proofs.Common.{◌≡◌, ℕ, ◌<◌, List, [], ◌∷◌, ◌++◌, Some, length, slice_get, ◌+◌, ◌⊎◌, inl, inr, sym, ap, subst, ◌∙◌, arith}
 use Rattle.std.specs.Prelude.{map}
 use Rattle.std.proofs.lemmas.Bool.{cases_eq}
 use Rattle.std.proofs.lemmas.Option.{slice_get_within}
@@ -7,17 +7,18 @@ use Rattle.matching.specs.declared.selector.Selector.{Selector}
 use Rattle.rank_machine.specs.declared.want.Want.{Want}
 use Rattle.rank_machine.specs.declared.want.Want.TheVariants as want
 use Rattle.rank_machine.specs.Acts.{Act}
-use Rattle.rank_machine.specs.Machine.{MachineValue}
+use Rattle.rank_machine.specs.Machine.{MachineValue, machine_want}
 use Rattle.crash_free.specs.Runs.{history, prints_from, IsEligible}
 use Rattle.crash_free.specs.Sim.{SimValue, Simulates, start_of, inbound_of}
 use Rattle.crash_free.specs.Wanted.{Wants, WantsAt}
+use Rattle.crash_free.proofs.Lists.{push_cases}
 use Rattle.explore.specs.Exploring.{MayFollow, IsMaximal, RankOutcome, IsOutcomeOf, end_of}
-use Rattle.explore.specs.Stills.{HasNothing, StandsStill}
-use Rattle.explore.proofs.Making.{there_is}
+use Rattle.explore.specs.Stills.{HasNothing, StandsStill, AllStill, EndsAt}
+use Rattle.explore.proofs.Choosing.{there_is}
 use Rattle.explore.proofs.Simulating.{takes_eligible, hits_eligible, none_of_halted, none_of_faulted, outcome_there}
 
 -- who has nothing makes no act
-no_act : (s : SimValue) (r : ℕ) (m : MachineValue) (w : Want) (act : Act) → Simulates s → slice_get s.machines r ≡ Some m → Wants m w → HasNothing s r w
+pub no_act : (s : SimValue) (r : ℕ) (m : MachineValue) (w : Want) (act : Act) → Simulates s → slice_get s.machines r ≡ Some m → Wants m w → HasNothing s r w
     → MayFollow (start_of s.program (length s.machines)) (length s.machines) s.run r act → ⊥
 no_act s r m want.Halted act stands there asks none may = none_of_halted s r m act stands there asks may
 no_act s r m (want.Faulted k) act stands there asks none may = none_of_faulted s r m k act stands there asks may
@@ -77,3 +78,29 @@ none_further s r w k before here q j low e = go (cases_eq q k)
     go : (q ≡ k) ⊎ (q ≡ k → ⊥) → ⊥
     go (inl same) = here j (subst (λ z. IsEligible (inbound_of s.run r) (history s.run r) z j w) same e)
     go (inr apart) = before q j (omega (arith, low, apart)) e
+
+-- a rank that stands still ends as it is seen
+ends_there : (s : SimValue) (r : ℕ) (x : RankOutcome) → (still : StandsStill s r) → EndsAt s r x → end_of still.want ≡ Some x.end
+ends_there s r x still ends =
+    let m = there_is (slice_get s.machines r) (λ m. Wants m ends.want) ends.asks in
+    let one : Some still.machine ≡ Some m.0 = sym still.there ∙ m.1 in
+    let same : still.machine ≡ m.0 = cc in
+    let it : still.want ≡ ends.want = sym still.asks.at_want ∙ ap machine_want same ∙ m.2.at_want in
+    ap end_of it ∙ ends.ended
+
+-- so these are the outcomes of a run in which each stands still
+pub outcome_of_ends : (s : SimValue) (o : List RankOutcome) → Simulates s → AllStill s → length o ≡ length s.machines
+    → ((r : ℕ) (x : RankOutcome) → slice_get o r ≡ Some x → EndsAt s r x)
+    → IsOutcomeOf (start_of s.program (length s.machines)) (length s.machines) s.run o
+outcome_of_ends s o stands still as_many each =
+    outcome_of_still s o stands still as_many (λ r x e. (each r x e).lines) (λ r low x e. ends_there s r x (still r low) (each r x e))
+
+-- one more
+pub ends_push : (s : SimValue) (k : ℕ) (xs : List RankOutcome) (x : RankOutcome) → length xs ≡ k
+    → ((r : ℕ) (y : RankOutcome) → slice_get xs r ≡ Some y → EndsAt s r y) → EndsAt s k x
+    → (r : ℕ) (y : RankOutcome) → slice_get (xs ++ x ∷ []) r ≡ Some y → EndsAt s r y
+ends_push s k xs x size each one r y e = go (push_cases xs x r y e)
+  where
+    go : (slice_get xs r ≡ Some y) ⊎ ((r ≡ length xs) × (y ≡ x)) → EndsAt s r y
+    go (inl before) = each r y before
+    go (inr last) = subst (λ q. EndsAt s q y) (sym (last.0 ∙ size)) (subst (λ z. EndsAt s k z) (sym last.1) one)

@@ -1,8 +1,17 @@
 //! All outcomes of a program.
 #![tactic(auto)]
 
+mod branch;
+mod explored;
+mod limits;
+mod moves;
+mod outcome;
+mod play;
+mod search;
 mod steps;
-mod still;
 
-pub use steps::{Made, go_on, make_fixed};
-pub use still::stands_still;
+pub use explored::{Explored, Outcome};
+pub use limits::Limits;
+pub use moves::{Move, Noted};
+pub use outcome::RankEnd;
+pub use search::explore;

@@ -1,10 +1,12 @@
 //! Acts that a search makes without a branch.
-ghost use Rattle.std.specs.Prelude.{◌≡◌, ◌<◌, ◌≤◌, length};
+ghost use Rattle.std.specs.Prelude.{◌≡◌, ◌<◌, ◌≤◌, true, length, sum};
+ghost use Rattle.metered.specs.Limits.{most_ranks};
 ghost use Rattle.crash_free.specs.Sim.{Simulates};
 ghost use Rattle.explore.specs.Making.{MakesFixed, AsksOne, AwaitsAt, LeadsTo};
 
 use crash_free::{Choice, Sim};
 use matching::Selector;
+use metered::limits::MOST_RANKS;
 use rank_machine::Want;
 
 /// Whether an act was made.
@@ -14,6 +16,68 @@ pub enum Made {
     Fixed,
     /// None, and all is as it was.
     Nothing,
+}
+
+/// Makes fixed acts of all ranks, and the steps of their own before each,
+/// until there are none or a rank has no steps left. A search may go on with
+/// what this leaves alone.
+#[tactic(auto, using(crate::proofs::Making::leads_nowhere, crate::proofs::Making::leads_further))]
+pub fn advance(sim: &mut Sim<'_>, left: &mut [u32; MOST_RANKS])
+    requires few { length sim.old.machines ≤ most_ranks }
+    requires stands { Simulates sim.old }
+    ensures leads { LeadsTo sim.old sim.new }
+    ensures less { sum left.new ≤ sum left.old }
+{
+    loop {
+        if !round(sim, left) {
+            break;
+        }
+    }
+}
+
+// The same, once for each rank. Answers whether a step was made.
+#[tactic(auto, using(crate::proofs::Making::leads_nowhere, crate::proofs::Making::leads_further))]
+fn round(sim: &mut Sim<'_>, left: &mut [u32; MOST_RANKS]) -> bool
+    requires few { length sim.old.machines ≤ most_ranks }
+    requires stands { Simulates sim.old }
+    ensures leads { LeadsTo sim.old sim.new }
+    ensures less { sum left.new ≤ sum left.old }
+    ensures some { result ≡ true → sum left.new < sum left.old }
+{
+    let ranks = sim.ranks();
+    let mut some = false;
+    let mut rank = 0;
+    while rank < ranks {
+        let made = go_on(sim, rank, left[usize::from(rank)]);
+        left[usize::from(rank)] -= made;
+        some = some || made > 0;
+        rank += 1;
+    }
+    some
+}
+
+/// Makes fixed acts of this rank, and the steps of its own before each, at
+/// most so many in all. Answers how many. A search may go on with what this
+/// leaves alone.
+#[tactic(auto, using(crate::proofs::Making::leads_nowhere, crate::proofs::Making::leads_inside, crate::proofs::Making::leads_fixed))]
+pub fn go_on(sim: &mut Sim<'_>, rank: u8, most: u32) -> u32
+    requires rank { rank < length sim.old.machines }
+    requires stands { Simulates sim.old }
+    ensures few { result ≤ most }
+    ensures leads { LeadsTo sim.old sim.new }
+{
+    let mut left = most;
+    while left > 0 {
+        left -= sim.stride(rank, left);
+        if left == 0 {
+            break;
+        }
+        match make_fixed(sim, rank) {
+            Made::Fixed => left -= 1,
+            Made::Nothing => break,
+        }
+    }
+    most - left
 }
 
 /// Makes the act of this rank that is fixed, if one is: the send or the print
@@ -83,25 +147,4 @@ fn take_named(sim: &mut Sim<'_>, rank: u8, selector: &Selector) -> Made
             index: place,
         },
     )
-}
-
-/// Makes fixed acts of this rank, and the steps of its own before each, at
-/// most so many acts and before each at most so many steps. Answers how many
-/// acts it made. A search may go on with what this leaves alone.
-#[tactic(auto, using(crate::proofs::Making::leads_nowhere, crate::proofs::Making::leads_inside, crate::proofs::Making::leads_fixed))]
-pub fn go_on(sim: &mut Sim<'_>, rank: u8, acts: u32, steps: u32) -> u32
-    requires rank { rank < length sim.old.machines }
-    requires stands { Simulates sim.old }
-    ensures few { result ≤ acts }
-    ensures leads { LeadsTo sim.old sim.new }
-{
-    let mut left = acts;
-    while left > 0 {
-        sim.stride(rank, steps);
-        match make_fixed(sim, rank) {
-            Made::Fixed => left -= 1,
-            Made::Nothing => break,
-        }
-    }
-    acts - left
 }

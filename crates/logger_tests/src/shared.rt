@@ -1,4 +1,4 @@
-//! The logger that threads share: eight ranks, each on a thread of its own.
+//! The logger that threads share: sixteen ranks, each on a thread of its own.
 ghost use Rattle.std.specs.Prelude.{◌≡◌, ◌<◌, ◌≤◌, length, vec_len};
 ghost use Rattle.metered.specs.Limits.{most_ranks};
 ghost use Rattle.event_logger.specs.Desks.{AreDesks, IsSameDesk};
@@ -146,13 +146,13 @@ fn assert_full(rt: &impl Abort, ledger: &Ledger, ranks: usize) {
 }
 
 #[test]
-fn eight_ranks_on_threads(rt: HostRuntime) -> Result<(), Fail> {
+fn sixteen_ranks_on_threads(rt: HostRuntime) -> Result<(), Fail> {
     let alloc = rt.alloc();
-    let (logger, mut desks) = Logger::new(alloc, 8)?;
+    let (logger, mut desks) = Logger::new(alloc, 16)?;
     all_live(&rt, alloc, &logger, desks.as_mut_slice());
     all_read(&rt, alloc, &logger, desks.as_mut_slice());
     let ledger = logger.close(alloc, desks)?;
-    assert_full(&rt, &ledger, 8);
+    assert_full(&rt, &ledger, 16);
     Ok(())
 }
 

@@ -41,9 +41,10 @@ after_arrivals box (m ∷ ms) = after_arrivals (after_arrival box m) ms
 abbrev pub without : Mailbox → ℕ → Mailbox
 without box index = record { packets = remove box.packets index; accepted = box.accepted }
 
--- the message's source is a rank, and its number isn't above what was accepted from there
+-- the message's source is a rank, and its number is one of those that were accepted from there
 pub record WasAccepted (accepted : List ℕ) (m : PacketValue) : Type 0 where
   pub source : m.source < length accepted
+  pub least : 1 ≤ m.number
   pub number : m.number ≤ slice_index accepted m.source
 
 -- of one source the earlier packet has the lower number

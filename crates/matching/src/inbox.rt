@@ -197,7 +197,7 @@ impl Inbox {
     /// A law, for proofs alone: there are no more packets than numbers for
     /// them, since those of one source have numbers of their own.
     pub fn law_few_packets(&self)
-        ensures { length self.now.packets ≤ length self.now.accepted * (greatest_clock + 1) }
+        ensures { length self.now.packets ≤ length self.now.accepted * greatest_clock }
     {
         let _packets = &self.packets;
     }

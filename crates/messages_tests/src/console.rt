@@ -87,15 +87,15 @@ fn a_line_is_shown_once(rt: HostRuntime) -> Result<(), Fail> {
     Ok(())
 }
 
-/// The line of this place: one of each of eight ranks in turn, and every other
+/// The line of this place: one of each of sixteen ranks in turn, and every other
 /// clock.
 fn line(place: u32) -> Line
     requires { place ≤ 299 }
     ensures { 1 ≤ result.clock }
 {
     Line {
-        rank: (place % 8) as u8,
-        clock: 2 * (place / 8) + 1,
+        rank: (place % 16) as u8,
+        clock: 2 * (place / 16) + 1,
         value: 1000 - i64::from(place),
     }
 }
@@ -118,8 +118,8 @@ fn shows_300(
 }
 
 #[test]
-fn three_hundred_lines_of_eight_ranks(rt: HostRuntime) -> Result<(), Fail> {
-    let mut console = ConsoleState::new(rt.alloc(), 8)?;
+fn three_hundred_lines_of_sixteen_ranks(rt: HostRuntime) -> Result<(), Fail> {
+    let mut console = ConsoleState::new(rt.alloc(), 16)?;
     let want = shows_300(&rt, rt.alloc(), &mut console)?;
     has(&rt, &console, want.as_slice());
     Ok(())

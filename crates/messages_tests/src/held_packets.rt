@@ -37,13 +37,13 @@ type Row = (usize, Step, Stands);
 
 const STEPS: [Row; 25] = [
     (1, Step::Hold, (0, 0, None, 1, Some(1001))),
-    (7, Step::Save, (1, 0, Some(7001), 0, None)),
-    (7, Step::Hold, (1, 0, Some(7001), 1, Some(7002))),
+    (15, Step::Save, (1, 0, Some(15001), 0, None)),
+    (15, Step::Hold, (1, 0, Some(15001), 1, Some(15002))),
     // what is held isn't transmitted, not even where it is asked for
-    (7, Step::Transmit, (1, 0, None, 1, Some(7002))),
-    (7, Step::Ask(2), (1, 0, None, 1, Some(7002))),
-    (7, Step::Ask(1), (1, 0, Some(7001), 1, Some(7002))),
-    (7, Step::Transmit, (1, 0, None, 1, Some(7002))),
+    (15, Step::Transmit, (1, 0, None, 1, Some(15002))),
+    (15, Step::Ask(2), (1, 0, None, 1, Some(15002))),
+    (15, Step::Ask(1), (1, 0, Some(15001), 1, Some(15002))),
+    (15, Step::Transmit, (1, 0, None, 1, Some(15002))),
     // a packet is numbered after those held
     (1, Step::Hold, (0, 0, None, 2, Some(1001))),
     (1, Step::Free, (1, 0, Some(1001), 1, Some(1002))),
@@ -55,25 +55,25 @@ const STEPS: [Row; 25] = [
     (1, Step::Save, (4, 1, Some(1002), 0, None)),
     (1, Step::Prune(4), (4, 4, None, 0, None)),
     // a prune goes past two packets that are still held
-    (7, Step::Hold, (1, 0, None, 2, Some(7002))),
-    (7, Step::Hold, (1, 0, None, 3, Some(7002))),
-    (7, Step::Prune(3), (1, 3, None, 3, Some(7002))),
-    (7, Step::Free, (2, 3, None, 2, Some(7003))),
-    (7, Step::Free, (3, 3, None, 1, Some(7004))),
-    (7, Step::Free, (4, 3, Some(7004), 0, None)),
-    (7, Step::Save, (5, 3, Some(7004), 0, None)),
-    (7, Step::Ask(1), (5, 3, Some(7004), 0, None)),
-    (7, Step::Transmit, (5, 3, Some(7005), 0, None)),
+    (15, Step::Hold, (1, 0, None, 2, Some(15002))),
+    (15, Step::Hold, (1, 0, None, 3, Some(15002))),
+    (15, Step::Prune(3), (1, 3, None, 3, Some(15002))),
+    (15, Step::Free, (2, 3, None, 2, Some(15003))),
+    (15, Step::Free, (3, 3, None, 1, Some(15004))),
+    (15, Step::Free, (4, 3, Some(15004), 0, None)),
+    (15, Step::Save, (5, 3, Some(15004), 0, None)),
+    (15, Step::Ask(1), (5, 3, Some(15004), 0, None)),
+    (15, Step::Transmit, (5, 3, Some(15005), 0, None)),
 ];
 
 /// Takes these steps, one after another.
 fn takes_steps(rt: &impl Abort, alloc: Heap, log: &mut PayloadLog, rows: &[Row]) -> Result<(), Fail>
-    requires { 7 < length log.old }
+    requires { 15 < length log.old }
     ensures { length log.new ≡ length log.old }
 {
     for row in rows {
         let (dest, step, now) = *row;
-        assert!(rt; dest < 8);
+        assert!(rt; dest < 16);
         take_step(rt, alloc, log, dest, step)?;
         assert_eq!(rt; stands(log, dest), now, "after {step:?} for {dest}");
     }
@@ -82,9 +82,9 @@ fn takes_steps(rt: &impl Abort, alloc: Heap, log: &mut PayloadLog, rows: &[Row])
 
 #[test]
 fn two_destinations_hold_in_turn(rt: HostRuntime) -> Result<(), Fail> {
-    let mut log = PayloadLog::new(rt.alloc(), 8)?;
+    let mut log = PayloadLog::new(rt.alloc(), 16)?;
     takes_steps(&rt, rt.alloc(), &mut log, &STEPS)?;
-    for dest in 2..7usize {
+    for dest in 2..15usize {
         assert_eq!(rt; stands(&log, dest), (0, 0, None, 0, None), "for {dest}");
     }
     Ok(())
@@ -93,7 +93,7 @@ fn two_destinations_hold_in_turn(rt: HostRuntime) -> Result<(), Fail> {
 /// Holds as many packets as may wait at a rank and one more, for each of two
 /// destinations in turn.
 fn holds_in_turn(rt: &impl Abort, alloc: Heap, log: &mut PayloadLog) -> Result<(), Fail>
-    requires { 7 < length log.old }
+    requires { 15 < length log.old }
     ensures { length log.new ≡ length log.old }
 {
     for count in 0..130u32 {
@@ -105,7 +105,7 @@ fn holds_in_turn(rt: &impl Abort, alloc: Heap, log: &mut PayloadLog) -> Result<(
 /// Frees 65 packets of a destination: each is then the next to transmit.
 fn frees_each(rt: &impl Abort, alloc: Heap, log: &mut PayloadLog, dest: usize) -> Result<(), Fail>
     requires there { dest < length log.old }
-    requires few { dest < 8 }
+    requires few { dest < 16 }
     ensures { length log.new ≡ length log.old }
 {
     for number in 1..66i64 {
@@ -121,7 +121,7 @@ fn frees_each(rt: &impl Abort, alloc: Heap, log: &mut PayloadLog, dest: usize) -
 
 #[test]
 fn sixty_five_held_packets_each(rt: HostRuntime) -> Result<(), Fail> {
-    let mut log = PayloadLog::new(rt.alloc(), 8)?;
+    let mut log = PayloadLog::new(rt.alloc(), 16)?;
     holds_in_turn(&rt, rt.alloc(), &mut log)?;
     assert_eq!(rt; stands(&log, 0), (0, 0, None, 65, Some(1)));
     frees_each(&rt, rt.alloc(), &mut log, 0)?;

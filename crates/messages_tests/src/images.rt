@@ -1,15 +1,23 @@
 //! Images: their bytes, and the fault of each field.
 ghost use Rattle.std.specs.Prelude.{◌<◌, ◌≤◌};
 ghost use Rattle.metered.specs.Limits.{most_ranks};
+ghost use Rattle.checkpoint.specs.Savable.{IsSavable};
 
-use checkpoint::{ImageFault, decode, encode};
+use checkpoint::{Image, ImageFault, decode, encode};
 use metered::Heap;
+use metered::limits::MOST_RANKS;
 use rank_language::Program;
 use std::process::Abort;
 use std::test::*;
 
 /// `print 5` on one rank, after its print.
-const PRINTED: [u8; 41] = [
+const PRINTED: [u8; 42] = [
+    2, 2, 0, 1, 0, 1, 0, 0, 0, 1, 0, 0, 0, 0, 0, 0, 0, 0, 0, 0, 0, 0, 0, 0, 0, 1, 0, 0, 0, 0, 0, 0,
+    0, 0, 0, 0, 0, 0, 0, 0, 0, 0,
+];
+
+/// The same image in format 1.
+const PRINTED_BEFORE: [u8; 41] = [
     1, 0, 1, 0, 1, 0, 0, 0, 1, 0, 0, 0, 0, 0, 0, 0, 0, 0, 0, 0, 0, 0, 0, 0, 1, 0, 0, 0, 0, 0, 0, 0,
     0, 0, 0, 0, 0, 0, 0, 0, 0,
 ];
@@ -17,8 +25,8 @@ const PRINTED: [u8; 41] = [
 const PRINTING: &[u8] = b"print 5\n";
 
 /// Rank 0 of two: a position, a status, a variable, an array, two packets in the inbox, and two kept for rank 1.
-const BUSY: [u8; 173] = [
-    1, 0, 2, 0, 4, 1, 1, 0, 2, // whose image it is
+const BUSY: [u8; 174] = [
+    2, 2, 0, 2, 0, 4, 1, 1, 0, 2, // its format, and whose image it is
     0, 3, 0, 0, 0, 0, 0, 0, 0, // where its machine stands
     1, 0, 7, 0, 1, // of the last message: source, tag, number of items
     255, 255, 255, 255, 255, 255, 255, 255, // the variable
@@ -37,93 +45,136 @@ const BUSY: [u8; 173] = [
 
 const BUSY_PROGRAM: &[u8] = b"var x\narray a[2]\nsend 1, 7, 41\nprint x\n";
 
-/// A byte at a place of the image, and the fault that it makes.
+/// Rank 0 of two at the end of the same program: a packet of each rank in the inbox, and packets kept for both.
+const KEEPING: [u8; 224] = [
+    2, 2, 0, 2, 0, 4, 1, 1, 0, 2, // its format, and whose image it is
+    0, 4, 0, 0, 0, 0, 0, 0, 0, // where its machine stands
+    0, 0, 1, 0, 2, // of the last message: source, tag, number of items
+    0, 0, 0, 0, 0, 0, 0, 1, // the variable
+    0, 0, 0, 0, 0, 0, 0, 2, 0, 0, 0, 0, 0, 0, 0, 3, // the items of the array
+    0, 0, 0, 9, // the clock
+    0, 0, 0, 2, 0, 0, 0, 1, // what was accepted of each rank
+    0, 0, 0, 2, // how many packets lie in the inbox
+    0, 0, 0, 0, 3, 0, 0, 0, 2, 0, 0, 1, 0, 2, 0, 0, 0, 0, 0, 0, 0, 4, 0, 0, 0, 0, 0, 0, 0, 5, //
+    1, 0, 0, 0, 5, 0, 0, 0, 1, 1, 0, 0, 0, 3, 0, 0, 0, 0, 0, 0, 0, 0, 0, 0, 0, 0, 0, 0, 0, 0, 0, 0,
+    0, 0, 0, 0, 0, 1, //
+    0, 0, 0, 2, 0, 0, 0, 1, // sent to rank 0 and let go
+    0, 0, 0, 3, 0, 0, 1, 0, 2, 0, 0, 0, 0, 0, 0, 0, 4, 0, 0, 0, 0, 0, 0, 0, 5, //
+    0, 0, 0, 3, 0, 0, 0, 0, // sent to rank 1, and nothing let go
+    0, 0, 0, 1, 0, 0, 7, 0, 1, 0, 0, 0, 0, 0, 0, 0, 6, //
+    0, 0, 0, 5, 0, 0, 7, 0, 1, 0, 0, 0, 0, 0, 0, 0, 7, //
+    0, 0, 0, 9, 0, 0, 7, 0, 1, 0, 0, 0, 0, 0, 0, 0, 8,
+];
+
+/// A byte at a place of the image in format 2, behind what says of its format, and the fault that it makes.
 pub type Change = (usize, u8, ImageFault);
 
-const OF_PRINTED: [Change; 18] = [
-    (0, 2, ImageFault::Version),
-    (1, 1, ImageFault::WrongProgram),
-    (2, 2, ImageFault::WrongProgram),
-    (4, 2, ImageFault::WrongProgram),
-    (5, 1, ImageFault::WrongProgram),
-    (8, 2, ImageFault::Field),
-    (9, 1, ImageFault::Field),
+const OF_PRINTED: [Change; 17] = [
+    (2, 1, ImageFault::WrongProgram),
+    (3, 2, ImageFault::WrongProgram),
+    (5, 2, ImageFault::WrongProgram),
+    (6, 1, ImageFault::WrongProgram),
+    (9, 2, ImageFault::Field),
     (10, 1, ImageFault::Field),
     (11, 1, ImageFault::Field),
-    (16, 1, ImageFault::Field),
-    (17, 128, ImageFault::Field),
-    (19, 2, ImageFault::Field),
-    (21, 16, ImageFault::Field),
-    (25, 16, ImageFault::Field),
-    (32, 2, ImageFault::Field),
-    (36, 1, ImageFault::Short),
-    (36, 2, ImageFault::Field),
-    (37, 16, ImageFault::Field),
+    (12, 1, ImageFault::Field),
+    (17, 1, ImageFault::Field),
+    (18, 128, ImageFault::Field),
+    (20, 2, ImageFault::Field),
+    (22, 16, ImageFault::Field),
+    (26, 16, ImageFault::Field),
+    (33, 2, ImageFault::Field),
+    (37, 1, ImageFault::Short),
+    (37, 2, ImageFault::Field),
+    (38, 16, ImageFault::Field),
 ];
 
 /// One change or more in each field.
-const OF_BUSY: [Change; 49] = [
-    (0, 0, ImageFault::Version),
-    (1, 1, ImageFault::WrongProgram),
+const OF_BUSY: [Change; 48] = [
     (2, 1, ImageFault::WrongProgram),
-    (2, 3, ImageFault::WrongProgram),
     (3, 1, ImageFault::WrongProgram),
-    (4, 5, ImageFault::WrongProgram),
-    (5, 2, ImageFault::WrongProgram),
-    (6, 0, ImageFault::WrongProgram),
-    (7, 1, ImageFault::WrongProgram),
-    (8, 3, ImageFault::WrongProgram),
+    (3, 3, ImageFault::WrongProgram),
+    (4, 1, ImageFault::WrongProgram),
+    (5, 5, ImageFault::WrongProgram),
+    (6, 2, ImageFault::WrongProgram),
+    (7, 0, ImageFault::WrongProgram),
+    (8, 1, ImageFault::WrongProgram),
+    (9, 3, ImageFault::WrongProgram),
     // the position, what is done, the fault, what is gathered, and how many collectives were finished
-    (10, 5, ImageFault::Field),
-    (11, 1, ImageFault::Field),
+    (11, 5, ImageFault::Field),
     (12, 1, ImageFault::Field),
-    (12, 5, ImageFault::Field),
-    (12, 8, ImageFault::Field),
     (13, 1, ImageFault::Field),
-    (14, 16, ImageFault::Field),
+    (13, 5, ImageFault::Field),
+    (13, 8, ImageFault::Field),
+    (14, 1, ImageFault::Field),
+    (15, 16, ImageFault::Field),
     // the last message
-    (18, 2, ImageFault::Field),
-    (19, 128, ImageFault::Field),
-    (21, 1, ImageFault::Field),
+    (19, 2, ImageFault::Field),
+    (20, 128, ImageFault::Field),
+    (22, 1, ImageFault::Field),
     // the clock, also where it is below what was sent
-    (47, 16, ImageFault::Field),
-    (50, 2, ImageFault::Field),
+    (48, 16, ImageFault::Field),
+    (51, 2, ImageFault::Field),
     // what was accepted, also where a packet has a higher number
-    (51, 16, ImageFault::Field),
-    (58, 2, ImageFault::Field),
-    (62, 1, ImageFault::Field),
-    (62, 3, ImageFault::Field),
+    (52, 16, ImageFault::Field),
+    (59, 2, ImageFault::Field),
+    (63, 1, ImageFault::Field),
+    (63, 3, ImageFault::Field),
     // the first packet of the inbox
-    (63, 2, ImageFault::Field),
-    (64, 16, ImageFault::Field),
-    (67, 0, ImageFault::Field),
-    (71, 0, ImageFault::Field),
-    (71, 4, ImageFault::Field),
-    (72, 1, ImageFault::Field),
-    (72, 2, ImageFault::Field),
-    (73, 128, ImageFault::Field),
-    (75, 1, ImageFault::Field),
-    (76, 0, ImageFault::Field),
+    (64, 2, ImageFault::Field),
+    (65, 16, ImageFault::Field),
+    (68, 0, ImageFault::Field),
+    (72, 0, ImageFault::Field),
+    (72, 4, ImageFault::Field),
+    (73, 1, ImageFault::Field),
+    (73, 2, ImageFault::Field),
+    (74, 128, ImageFault::Field),
+    (76, 1, ImageFault::Field),
+    (77, 0, ImageFault::Field),
     // the number of the second doesn't rise
-    (93, 2, ImageFault::Field),
+    (94, 2, ImageFault::Field),
     // what was sent to rank 1, and what of it was let go
-    (110, 6, ImageFault::Field),
-    (111, 16, ImageFault::Field),
-    (118, 2, ImageFault::Long),
-    (118, 4, ImageFault::Short),
-    (122, 0, ImageFault::Short),
-    (122, 3, ImageFault::Long),
+    (111, 6, ImageFault::Field),
+    (112, 16, ImageFault::Field),
+    (119, 2, ImageFault::Long),
+    (119, 4, ImageFault::Short),
+    (123, 0, ImageFault::Short),
+    (123, 3, ImageFault::Long),
     // the clocks of what is kept
-    (126, 0, ImageFault::Field),
-    (143, 2, ImageFault::Field),
-    (143, 6, ImageFault::Field),
-    // the packet of a collective
+    (127, 0, ImageFault::Field),
     (144, 2, ImageFault::Field),
-    (146, 1, ImageFault::Field),
-    (148, 2, ImageFault::Field),
+    (144, 6, ImageFault::Field),
+    // the packet of a collective
+    (145, 2, ImageFault::Field),
+    (147, 1, ImageFault::Field),
+    (149, 2, ImageFault::Field),
 ];
 
-/// An image of rank 0 is read, and written as it was read.
+/// The same image in format 1: it says nothing of event words.
+fn in_format_1(alloc: Heap, image: &[u8]) -> Result<Vec<u8, Heap>, Fail> {
+    let mut bytes = Vec::new(alloc);
+    bytes.push(1)?;
+    if let [_, _, rest @ ..] = image {
+        bytes.extend_from_slice(rest)?;
+    }
+    Ok(bytes)
+}
+
+/// The image that is read is written as these bytes, or is these bytes in format 1 where they begin so.
+fn is_written(rt: &impl Abort, alloc: Heap, image: &Image<'_>, bytes: &[u8]) -> Result<(), Fail>
+    requires { IsSavable image.now }
+{
+    let written = encode(alloc, image)?;
+    if bytes.first() == Some(&1) {
+        let before = in_format_1(alloc, &written)?;
+        assert_eq!(rt; before.as_slice(), bytes);
+    } else {
+        assert_eq!(rt; written.as_slice(), bytes);
+    }
+    Ok(())
+}
+
+/// An image of rank 0 is read in both formats, and written as it was read, or as the same image.
 pub fn reads(
     rt: &impl Abort,
     alloc: Heap,
@@ -136,6 +187,9 @@ pub fn reads(
 {
     let image = decode(alloc, program, 0, size, bytes)?;
     assert_eq!(rt; encode(alloc, &image)?.as_slice(), bytes);
+    let before = in_format_1(alloc, bytes)?;
+    let same = decode(alloc, program, 0, size, &before)?;
+    assert_eq!(rt; encode(alloc, &same)?.as_slice(), bytes);
     Ok(())
 }
 
@@ -144,8 +198,11 @@ fn an_image_is_read_and_written(rt: HostRuntime) -> Result<(), Fail> {
     let alloc = rt.alloc();
     let printing = Program::parse(alloc, PRINTING)?;
     reads(&rt, alloc, &printing, 1, &PRINTED)?;
+    let before = in_format_1(alloc, &PRINTED)?;
+    assert_eq!(rt; before.as_slice(), PRINTED_BEFORE.as_slice());
     let busy = Program::parse(alloc, BUSY_PROGRAM)?;
-    reads(&rt, alloc, &busy, 2, &BUSY)
+    reads(&rt, alloc, &busy, 2, &BUSY)?;
+    reads(&rt, alloc, &busy, 2, &KEEPING)
 }
 
 #[test]
@@ -176,7 +233,26 @@ fn an_image_says_what_its_bytes_say(rt: HostRuntime) -> Result<(), Fail> {
     Ok(())
 }
 
-/// Makes each change by itself.
+/// The fault that these bytes make with another byte at this place.
+fn fault_with(
+    alloc: Heap,
+    program: &Program,
+    size: u8,
+    image: &[u8],
+    change: (usize, u8),
+) -> Result<Option<ImageFault>, Fail>
+    requires least { 0 < size }
+    requires most { size ≤ most_ranks }
+{
+    let (place, value) = change;
+    let mut bytes = Vec::from_slice(alloc, image)?;
+    if let Some(byte) = bytes.get_mut(place) {
+        *byte = value;
+    }
+    Ok(decode(alloc, program, 0, size, &bytes).err())
+}
+
+/// Makes each change by itself, in both formats.
 pub fn fails_each(
     rt: &impl Abort,
     alloc: Heap,
@@ -188,14 +264,14 @@ pub fn fails_each(
     requires least { 0 < size }
     requires most { size ≤ most_ranks }
 {
+    let before = in_format_1(alloc, image)?;
     for change in changes {
         let (place, value, want) = *change;
-        let mut bytes = Vec::from_slice(alloc, image)?;
-        if let Some(byte) = bytes.get_mut(place) {
-            *byte = value;
-        }
-        let answer = decode(alloc, program, 0, size, &bytes).err();
+        let answer = fault_with(alloc, program, size, image, (place, value))?;
         assert_eq!(rt; answer, Some(want), "{value} at {place}");
+        let place = place.saturating_sub(1);
+        let answer = fault_with(alloc, program, size, &before, (place, value))?;
+        assert_eq!(rt; answer, Some(want), "{value} at {place} in format 1");
     }
     Ok(())
 }
@@ -206,18 +282,78 @@ fn each_field_has_its_fault(rt: HostRuntime) -> Result<(), Fail> {
     let printing = Program::parse(alloc, PRINTING)?;
     fails_each(&rt, alloc, &printing, 1, &PRINTED, &OF_PRINTED)?;
     let busy = Program::parse(alloc, BUSY_PROGRAM)?;
-    fails_each(&rt, alloc, &busy, 2, &BUSY, &OF_BUSY)?;
-    let mut more = Vec::from_slice(alloc, &PRINTED)?;
-    more.push(0)?;
-    assert_eq!(rt;
-        decode(alloc, &printing, 0, 1, &more).err(),
-        Some(ImageFault::Long)
-    );
+    fails_each(&rt, alloc, &busy, 2, &BUSY, &OF_BUSY)
+}
+
+/// Beginnings of images of rank 0 of so many, and their faults.
+const BEGINNINGS: [(u8, &[u8], ImageFault); 22] = [
+    (1, &[], ImageFault::Short),
+    (1, &[0], ImageFault::Version),
+    (1, &[1], ImageFault::Short),
+    (1, &[2], ImageFault::Short),
+    (1, &[3], ImageFault::Version),
+    (1, &[255], ImageFault::Version),
+    (1, &[2, 0], ImageFault::Version),
+    (1, &[2, 1], ImageFault::Version),
+    (1, &[2, 2], ImageFault::Short),
+    (1, &[2, 3], ImageFault::Version),
+    (1, &[1, 0], ImageFault::Short),
+    (1, &[1, 1], ImageFault::WrongProgram),
+    (1, &[2, 2, 0], ImageFault::Short),
+    (1, &[2, 2, 1], ImageFault::WrongProgram),
+    (1, &[2, 2, 0, 0], ImageFault::WrongProgram),
+    (8, &[1, 0, 8], ImageFault::Short),
+    (9, &[1, 0], ImageFault::Short),
+    (9, &[1, 1], ImageFault::WrongProgram),
+    (9, &[1, 0, 9], ImageFault::WrongProgram),
+    (9, &[2, 2, 0, 9], ImageFault::Short),
+    (16, &[1, 0, 16], ImageFault::WrongProgram),
+    (16, &[2, 2, 0, 16], ImageFault::Short),
+];
+
+#[test]
+fn each_beginning_has_its_fault(rt: HostRuntime) -> Result<(), Fail> {
+    let alloc = rt.alloc();
+    let printing = Program::parse(alloc, PRINTING)?;
+    for (size, bytes, want) in BEGINNINGS {
+        assert!(rt; 0 < size && usize::from(size) <= MOST_RANKS);
+        let answer = decode(alloc, &printing, 0, size, bytes).err();
+        assert_eq!(rt; answer, Some(want), "{bytes:?} of {size} ranks");
+    }
     Ok(())
 }
 
-/// Each shorter beginning is short.
-pub fn beginnings_are_short(
+/// `print 5` on so many ranks, rank 0 after its print.
+fn printed_among(alloc: Heap, size: u8) -> Result<Vec<u8, Heap>, Fail> {
+    let mut bytes = Vec::from_slice(alloc, &[2, 2, 0, size])?;
+    bytes.extend_from_slice(&PRINTED[4..26])?;
+    // nothing was accepted of any rank; no packet lies there, and nothing was sent
+    bytes.resize(30 + 12 * usize::from(size), 0)?;
+    Ok(bytes)
+}
+
+#[test]
+fn images_of_each_number_of_ranks(rt: HostRuntime) -> Result<(), Fail> {
+    let alloc = rt.alloc();
+    let printing = Program::parse(alloc, PRINTING)?;
+    for size in 1..=16u8 {
+        let bytes = printed_among(alloc, size)?;
+        let image = decode(alloc, &printing, 0, size, &bytes)?;
+        assert_eq!(rt; encode(alloc, &image)?.as_slice(), bytes.as_slice());
+        let before = in_format_1(alloc, &bytes)?;
+        let answer = decode(alloc, &printing, 0, size, &before).err();
+        let want = if size <= 8 {
+            None
+        } else {
+            Some(ImageFault::WrongProgram)
+        };
+        assert_eq!(rt; answer, want, "{size} ranks in format 1");
+    }
+    Ok(())
+}
+
+/// Each shorter beginning is short, and with a byte more the image is long.
+fn beginnings_are_short(
     rt: &impl Abort,
     alloc: Heap,
     program: &Program,
@@ -231,21 +367,25 @@ pub fn beginnings_are_short(
         let answer = decode(alloc, program, 0, size, &image[..length]).err();
         assert_eq!(rt; answer, Some(ImageFault::Short), "{length} bytes");
     }
+    let mut more = Vec::from_slice(alloc, image)?;
+    more.push(0)?;
+    let answer = decode(alloc, program, 0, size, &more).err();
+    assert_eq!(rt; answer, Some(ImageFault::Long));
     Ok(())
 }
 
 /// Where a byte is another, the bytes are refused, or are the spelling of what is read. Answers how many are read.
-pub fn changed(
+fn changed(
     rt: &impl Abort,
     alloc: Heap,
     program: &Program,
     size: u8,
     image: &[u8],
-) -> Result<u32, Fail>
+) -> Result<usize, Fail>
     requires least { 0 < size }
     requires most { size ≤ most_ranks }
 {
-    let mut read = 0u32;
+    let mut read = 0usize;
     for place in 0..image.len() {
         for value in 0..=255u8 {
             let mut bytes = Vec::from_slice(alloc, image)?;
@@ -253,7 +393,7 @@ pub fn changed(
                 *byte = value;
             }
             if let Ok(other) = decode(alloc, program, 0, size, &bytes) {
-                assert_eq!(rt; encode(alloc, &other)?.as_slice(), bytes.as_slice());
+                is_written(rt, alloc, &other, &bytes)?;
                 read = read.saturating_add(1);
             }
         }
@@ -261,14 +401,32 @@ pub fn changed(
     Ok(read)
 }
 
+/// Each damage of the image, in both formats: a byte that is missing or is another. Every place has the byte that it had
+/// among the others, and some have one more that is read.
+pub fn is_damaged(
+    rt: &impl Abort,
+    alloc: Heap,
+    program: &Program,
+    size: u8,
+    image: &[u8],
+) -> Result<(), Fail>
+    requires least { 0 < size }
+    requires most { size ≤ most_ranks }
+{
+    let before = in_format_1(alloc, image)?;
+    beginnings_are_short(rt, alloc, program, size, image)?;
+    beginnings_are_short(rt, alloc, program, size, &before)?;
+    assert!(rt; changed(rt, alloc, program, size, image)? > image.len());
+    assert!(rt; changed(rt, alloc, program, size, &before)? > before.len());
+    Ok(())
+}
+
 #[test]
 fn each_beginning_is_short_and_each_change_is_refused_or_read(rt: HostRuntime) -> Result<(), Fail> {
     let alloc = rt.alloc();
     let printing = Program::parse(alloc, PRINTING)?;
-    beginnings_are_short(&rt, alloc, &printing, 1, &PRINTED)?;
-    assert!(rt; changed(&rt, alloc, &printing, 1, &PRINTED)? > 41);
+    is_damaged(&rt, alloc, &printing, 1, &PRINTED)?;
     let busy = Program::parse(alloc, BUSY_PROGRAM)?;
-    beginnings_are_short(&rt, alloc, &busy, 2, &BUSY)?;
-    assert!(rt; changed(&rt, alloc, &busy, 2, &BUSY)? > 173);
-    Ok(())
+    is_damaged(&rt, alloc, &busy, 2, &BUSY)?;
+    is_damaged(&rt, alloc, &busy, 2, &KEEPING)
 }

@@ -13,14 +13,14 @@ const ARRIVALS: [(u8, u32, Accept, u32); 11] = [
     (1, 2, Accept::Gap, 0),
     (1, 1, Accept::Accepted, 1),
     (1, 1, Accept::Repeated, 1),
-    (7, 2, Accept::Gap, 0),
+    (15, 2, Accept::Gap, 0),
     (1, 3, Accept::Gap, 1),
     (1, 2, Accept::Accepted, 2),
-    (7, 1, Accept::Accepted, 1),
+    (15, 1, Accept::Accepted, 1),
     (1, 1, Accept::Repeated, 2),
     (0, 1, Accept::Accepted, 1),
     (1, 3, Accept::Accepted, 3),
-    (7, 9, Accept::Gap, 1),
+    (15, 9, Accept::Gap, 1),
 ];
 
 /// Lets a packet arrive; this is to become of it.
@@ -44,11 +44,11 @@ fn arrive_all(
     inbox: &mut Inbox,
     rows: &[(u8, u32, Accept, u32)],
 ) -> Result<(), Fail>
-    requires { length inbox.old.accepted ≡ 8 }
+    requires { length inbox.old.accepted ≡ 16 }
 {
     for row in rows {
         let (source, number, want, accepted) = *row;
-        assert!(rt; source < 8 && 0 < number && number < 10);
+        assert!(rt; source < 16 && 0 < number && number < 10);
         let arrival = packet(alloc, source, number, Context::PointToPoint, 0, &[7])?;
         arrives(rt, inbox, arrival, want)?;
         assert_eq!(rt;
@@ -62,7 +62,7 @@ fn arrive_all(
 
 #[test]
 fn only_the_next_number_is_accepted(rt: HostRuntime) -> Result<(), Fail> {
-    let mut inbox = Inbox::new(rt.alloc(), 8)?;
+    let mut inbox = Inbox::new(rt.alloc(), 16)?;
     arrive_all(&rt, rt.alloc(), &mut inbox, &ARRIVALS)
 }
 
@@ -76,28 +76,32 @@ fn selector(context: Context, source: Option<u8>, tag: Option<u16>) -> Selector 
 }
 
 /// The point-to-point packets of the next test: source, number and tag.
-const PACKETS: [(u8, u32, u16); 3] = [(1, 1, 5), (7, 2, 6), (1, 2, 6)];
+const PACKETS: [(u8, u32, u16); 3] = [(1, 1, 5), (15, 2, 6), (1, 2, 6)];
 
 /// A source and a tag, and where the first packet stands that they name.
 const NAMED: [(Option<u8>, Option<u16>, Option<usize>); 6] = [
     (None, None, Some(1)),
-    (Some(7), None, Some(2)),
+    (Some(15), None, Some(2)),
     (None, Some(6), Some(2)),
     (Some(1), Some(6), Some(3)),
     (Some(0), None, None),
-    (Some(7), Some(5), None),
+    (Some(15), Some(5), None),
 ];
 
 /// A source and a clock, and where the packet stands that they name.
-const SENT_AT: [(u8, u32, Option<usize>); 3] = [(1, 20, Some(3)), (7, 20, Some(2)), (7, 30, None)];
+const SENT_AT: [(u8, u32, Option<usize>); 3] = [
+    (1, 20, Some(3)),
+    (15, 20, Some(2)),
+    (15, 30, None),
+];
 
 #[test]
 fn the_first_match_of_its_context(rt: HostRuntime) -> Result<(), Fail> {
-    let mut inbox = Inbox::new(rt.alloc(), 8)?;
-    let collective = packet(rt.alloc(), 7, 1, Context::Collective, 0, &[7, 7, 7])?;
+    let mut inbox = Inbox::new(rt.alloc(), 16)?;
+    let collective = packet(rt.alloc(), 15, 1, Context::Collective, 0, &[7, 7, 7])?;
     arrives(&rt, &mut inbox, collective, Accept::Accepted)?;
     for (source, number, tag) in PACKETS {
-        assert!(rt; source < 8 && 0 < number && number < 3 && tag < 7);
+        assert!(rt; source < 16 && 0 < number && number < 3 && tag < 7);
         let arrival = packet(rt.alloc(), source, number, Context::PointToPoint, tag, &[7])?;
         arrives(&rt, &mut inbox, arrival, Accept::Accepted)?;
     }
@@ -122,22 +126,22 @@ fn finds(rt: &impl Abort, inbox: &Inbox) {
 
 #[test]
 fn three_hundred_packets_of_one_source(rt: HostRuntime) -> Result<(), Fail> {
-    let mut inbox = Inbox::new(rt.alloc(), 8)?;
+    let mut inbox = Inbox::new(rt.alloc(), 16)?;
     three_hundred_arrive(&rt, rt.alloc(), &mut inbox)?;
     one_of_each_other_source(&rt, rt.alloc(), &mut inbox)?;
-    assert_eq!(rt; inbox.accepted(7), 300);
-    assert_eq!(rt; inbox.find_named(7, 3000), Some(299));
+    assert_eq!(rt; inbox.accepted(15), 300);
+    assert_eq!(rt; inbox.find_named(15, 3000), Some(299));
     takes_them_all(&rt, &mut inbox)
 }
 
-/// Packets of rank 7: odd numbers have tag 1, and even ones tag 0.
+/// Packets of rank 15: odd numbers have tag 1, and even ones tag 0.
 fn three_hundred_arrive(rt: &impl Abort, alloc: Heap, inbox: &mut Inbox) -> Result<(), Fail>
-    requires { 7 < length inbox.old.accepted }
+    requires { 15 < length inbox.old.accepted }
     ensures { length inbox.new.accepted ≡ length inbox.old.accepted }
 {
     for number in 1..301u32 {
         let tag = (number % 2) as u16;
-        let arrival = packet(alloc, 7, number, Context::PointToPoint, tag, &[7])?;
+        let arrival = packet(alloc, 15, number, Context::PointToPoint, tag, &[7])?;
         arrives(rt, inbox, arrival, Accept::Accepted)?;
     }
     Ok(())
@@ -145,10 +149,10 @@ fn three_hundred_arrive(rt: &impl Abort, alloc: Heap, inbox: &mut Inbox) -> Resu
 
 /// Packets of a collective.
 fn one_of_each_other_source(rt: &impl Abort, alloc: Heap, inbox: &mut Inbox) -> Result<(), Fail>
-    requires { 7 < length inbox.old.accepted }
+    requires { 15 < length inbox.old.accepted }
     ensures { length inbox.new.accepted ≡ length inbox.old.accepted }
 {
-    for source in 0..7u8 {
+    for source in 0..15u8 {
         let arrival = packet(alloc, source, 1, Context::Collective, 0, &[7, 7, 7])?;
         arrives(rt, inbox, arrival, Accept::Accepted)?;
     }
@@ -158,19 +162,19 @@ fn one_of_each_other_source(rt: &impl Abort, alloc: Heap, inbox: &mut Inbox) -> 
 /// Takes the even numbers, then the odd ones, and last those of the
 /// collective.
 fn takes_them_all(rt: &impl Abort, inbox: &mut Inbox) -> Result<(), Fail> {
-    let even = selector(Context::PointToPoint, Some(7), Some(0));
+    let even = selector(Context::PointToPoint, Some(15), Some(0));
     for k in 0..150u32 {
         // the odd ones before it are still there
-        take(rt, inbox, &even, (k as usize + 1, 7, 2 * k + 2))?;
+        take(rt, inbox, &even, (k as usize + 1, 15, 2 * k + 2))?;
     }
     assert_eq!(rt; inbox.find(&even), None);
     let any = selector(Context::PointToPoint, None, None);
     for k in 0..150u32 {
-        take(rt, inbox, &any, (0, 7, 2 * k + 1))?;
+        take(rt, inbox, &any, (0, 15, 2 * k + 1))?;
     }
     assert_eq!(rt; inbox.find(&any), None);
     let collective = selector(Context::Collective, None, None);
-    for source in 0..7u8 {
+    for source in 0..15u8 {
         take(rt, inbox, &collective, (0, source, 1))?;
     }
     assert_eq!(rt; inbox.find(&collective), None);

@@ -21,13 +21,13 @@ pub enum Step {
 }
 
 /// Saves the next packet for a destination, whose item says both: that of
-/// number 3 for destination 7 is 7003.
+/// number 3 for destination 15 is 15003.
 fn save(rt: &impl Abort, alloc: Heap, log: &mut PayloadLog, dest: usize) -> Result<(), Fail>
     requires { dest < length log.old }
     ensures { length log.new ≡ length log.old }
 {
     let number = log.sent(dest).saturating_add(1);
-    assert!(rt; dest < 8 && number <= 999);
+    assert!(rt; dest < 16 && number <= 999);
     let item = 1000 * dest as i64 + i64::from(number);
     let payload = packet(alloc, 2, number, Context::PointToPoint, 0, &[item])?;
     assert!(rt; log.sent(dest) + 1 == payload.number && log.held(dest) == 0);
@@ -43,7 +43,7 @@ fn hold(rt: &impl Abort, alloc: Heap, log: &mut PayloadLog, dest: usize) -> Resu
     ensures { length log.new ≡ length log.old }
 {
     let (sent, held) = (log.sent(dest), log.held(dest));
-    assert!(rt; dest < 8 && sent <= 499 && held <= 499);
+    assert!(rt; dest < 16 && sent <= 499 && held <= 499);
     let number = sent + held + 1;
     let item = 1000 * dest as i64 + i64::from(number);
     let payload = packet(alloc, 2, number, Context::PointToPoint, 0, &[item])?;
@@ -113,75 +113,75 @@ fn stands(log: &PayloadLog, dest: usize) -> Stands
     (log.sent(dest), log.base(dest), next_item(log, dest))
 }
 
-/// A destination and a step, and how it stands then with 1 and with 7.
+/// A destination and a step, and how it stands then with 1 and with 15.
 type Row = (usize, Step, Stands, Stands);
 
 /// Takes these steps, one after another.
 fn takes_steps(rt: &impl Abort, alloc: Heap, log: &mut PayloadLog, rows: &[Row]) -> Result<(), Fail>
-    requires { 7 < length log.old }
+    requires { 15 < length log.old }
     ensures { length log.new ≡ length log.old }
 {
     for row in rows {
-        let (dest, step, at_1, at_7) = *row;
-        assert!(rt; dest < 8);
+        let (dest, step, at_1, at_15) = *row;
+        assert!(rt; dest < 16);
         take_step(rt, alloc, log, dest, step)?;
         assert_eq!(rt; stands(log, 1), at_1, "1 after {step:?} for {dest}");
-        assert_eq!(rt; stands(log, 7), at_7, "7 after {step:?} for {dest}");
+        assert_eq!(rt; stands(log, 15), at_15, "15 after {step:?} for {dest}");
     }
     Ok(())
 }
 
 const STEPS: [Row; 29] = [
     (1, Step::Save, (1, 0, Some(1001)), (0, 0, None)),
-    (7, Step::Save, (1, 0, Some(1001)), (1, 0, Some(7001))),
-    (1, Step::Save, (2, 0, Some(1001)), (1, 0, Some(7001))),
-    (1, Step::Transmit, (2, 0, Some(1002)), (1, 0, Some(7001))),
-    (1, Step::Save, (3, 0, Some(1002)), (1, 0, Some(7001))),
-    (7, Step::Transmit, (3, 0, Some(1002)), (1, 0, None)),
-    (7, Step::Save, (3, 0, Some(1002)), (2, 0, Some(7002))),
-    (1, Step::Transmit, (3, 0, Some(1003)), (2, 0, Some(7002))),
-    (1, Step::Transmit, (3, 0, None), (2, 0, Some(7002))),
-    (1, Step::Save, (4, 0, Some(1004)), (2, 0, Some(7002))),
-    (1, Step::Save, (5, 0, Some(1004)), (2, 0, Some(7002))),
-    (1, Step::Ask(2), (5, 0, Some(1002)), (2, 0, Some(7002))),
-    (1, Step::Ask(3), (5, 0, Some(1002)), (2, 0, Some(7002))),
-    (1, Step::Prune(2), (5, 2, Some(1003)), (2, 0, Some(7002))),
-    (7, Step::Ask(1), (5, 2, Some(1003)), (2, 0, Some(7001))),
-    (1, Step::Ask(1), (5, 2, Some(1003)), (2, 0, Some(7001))),
-    (1, Step::Prune(1), (5, 2, Some(1003)), (2, 0, Some(7001))),
+    (15, Step::Save, (1, 0, Some(1001)), (1, 0, Some(15001))),
+    (1, Step::Save, (2, 0, Some(1001)), (1, 0, Some(15001))),
+    (1, Step::Transmit, (2, 0, Some(1002)), (1, 0, Some(15001))),
+    (1, Step::Save, (3, 0, Some(1002)), (1, 0, Some(15001))),
+    (15, Step::Transmit, (3, 0, Some(1002)), (1, 0, None)),
+    (15, Step::Save, (3, 0, Some(1002)), (2, 0, Some(15002))),
+    (1, Step::Transmit, (3, 0, Some(1003)), (2, 0, Some(15002))),
+    (1, Step::Transmit, (3, 0, None), (2, 0, Some(15002))),
+    (1, Step::Save, (4, 0, Some(1004)), (2, 0, Some(15002))),
+    (1, Step::Save, (5, 0, Some(1004)), (2, 0, Some(15002))),
+    (1, Step::Ask(2), (5, 0, Some(1002)), (2, 0, Some(15002))),
+    (1, Step::Ask(3), (5, 0, Some(1002)), (2, 0, Some(15002))),
+    (1, Step::Prune(2), (5, 2, Some(1003)), (2, 0, Some(15002))),
+    (15, Step::Ask(1), (5, 2, Some(1003)), (2, 0, Some(15001))),
+    (1, Step::Ask(1), (5, 2, Some(1003)), (2, 0, Some(15001))),
+    (1, Step::Prune(1), (5, 2, Some(1003)), (2, 0, Some(15001))),
     // no rank has sent it that many
-    (7, Step::Prune(5), (5, 2, Some(1003)), (2, 5, None)),
-    (7, Step::Save, (5, 2, Some(1003)), (3, 5, None)),
+    (15, Step::Prune(5), (5, 2, Some(1003)), (2, 5, None)),
+    (15, Step::Save, (5, 2, Some(1003)), (3, 5, None)),
     (1, Step::Transmit, (5, 2, Some(1004)), (3, 5, None)),
-    (7, Step::Save, (5, 2, Some(1004)), (4, 5, None)),
-    (7, Step::Save, (5, 2, Some(1004)), (5, 5, None)),
-    (7, Step::Save, (5, 2, Some(1004)), (6, 5, Some(7006))),
-    (7, Step::Ask(1), (5, 2, Some(1004)), (6, 5, Some(7006))),
-    (7, Step::Transmit, (5, 2, Some(1004)), (6, 5, None)),
-    (7, Step::Ask(7), (5, 2, Some(1004)), (6, 5, None)),
-    (7, Step::Ask(6), (5, 2, Some(1004)), (6, 5, Some(7006))),
-    (1, Step::Prune(5), (5, 5, None), (6, 5, Some(7006))),
-    (1, Step::Save, (6, 5, Some(1006)), (6, 5, Some(7006))),
+    (15, Step::Save, (5, 2, Some(1004)), (4, 5, None)),
+    (15, Step::Save, (5, 2, Some(1004)), (5, 5, None)),
+    (15, Step::Save, (5, 2, Some(1004)), (6, 5, Some(15006))),
+    (15, Step::Ask(1), (5, 2, Some(1004)), (6, 5, Some(15006))),
+    (15, Step::Transmit, (5, 2, Some(1004)), (6, 5, None)),
+    (15, Step::Ask(7), (5, 2, Some(1004)), (6, 5, None)),
+    (15, Step::Ask(6), (5, 2, Some(1004)), (6, 5, Some(15006))),
+    (1, Step::Prune(5), (5, 5, None), (6, 5, Some(15006))),
+    (1, Step::Save, (6, 5, Some(1006)), (6, 5, Some(15006))),
 ];
 
 #[test]
 fn two_destinations_in_turn(rt: HostRuntime) -> Result<(), Fail> {
-    let mut log = PayloadLog::new(rt.alloc(), 8)?;
+    let mut log = PayloadLog::new(rt.alloc(), 16)?;
     takes_steps(&rt, rt.alloc(), &mut log, &STEPS)?;
-    for dest in 2..7usize {
+    for dest in 2..15usize {
         assert_eq!(rt; stands(&log, dest), (0, 0, None), "for {dest}");
     }
     Ok(())
 }
 
-/// Saves packets, one for each of the 8 destinations in turn, and then
+/// Saves packets, one for each of the 16 destinations in turn, and then
 /// transmits them.
 fn saves_in_turn(rt: &impl Abort, alloc: Heap, log: &mut PayloadLog) -> Result<(), Fail>
-    requires { 7 < length log.old }
+    requires { 15 < length log.old }
     ensures { length log.new ≡ length log.old }
 {
-    for count in 0..2400u32 {
-        save(rt, alloc, log, count as usize % 8)?;
+    for count in 0..4800u32 {
+        save(rt, alloc, log, count as usize % 16)?;
     }
     Ok(())
 }
@@ -190,7 +190,7 @@ fn saves_in_turn(rt: &impl Abort, alloc: Heap, log: &mut PayloadLog) -> Result<(
 /// this number to the 300th.
 fn transmits_from(rt: &impl Abort, log: &mut PayloadLog, dest: usize, from: i64)
     requires there { dest < length log.old }
-    requires few { dest < 8 }
+    requires few { dest < 16 }
     ensures { length log.new ≡ length log.old }
 {
     for number in from..301 {
@@ -208,19 +208,19 @@ fn transmits_from(rt: &impl Abort, log: &mut PayloadLog, dest: usize, from: i64)
 const ASKED: [(usize, Step, i64); 4] = [
     (0, Step::Ask(1), 1),
     (3, Step::Ask(299), 299),
-    (7, Step::Prune(200), 301),
-    (7, Step::Ask(1), 201),
+    (15, Step::Prune(200), 301),
+    (15, Step::Ask(1), 201),
 ];
 
 #[test]
 fn three_hundred_packets_each(rt: HostRuntime) -> Result<(), Fail> {
-    let mut log = PayloadLog::new(rt.alloc(), 8)?;
+    let mut log = PayloadLog::new(rt.alloc(), 16)?;
     saves_in_turn(&rt, rt.alloc(), &mut log)?;
-    for each in 0..8usize {
+    for each in 0..16usize {
         transmits_from(&rt, &mut log, each, 1);
     }
     for (dest, step, from) in ASKED {
-        assert!(rt; dest < 8);
+        assert!(rt; dest < 16);
         take_step(&rt, rt.alloc(), &mut log, dest, step)?;
         transmits_from(&rt, &mut log, dest, from);
         transmits_from(&rt, &mut log, 1, 301);

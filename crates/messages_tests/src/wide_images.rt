@@ -53,16 +53,16 @@ fn put_tail(out: &mut Vec<u8, Heap>, context: u64, tag: u64, count: u64) -> Resu
     put_values(out, count)
 }
 
-/// What was accepted of each of eight ranks, and 400 packets, 50 of each: the first eight are as long as packets are.
+/// What was accepted of each of sixteen ranks, and 400 packets, 25 of each: the first eight are as long as packets are.
 fn put_inbox(out: &mut Vec<u8, Heap>) -> Result<(), Fail> {
-    for _ in 0..8u32 {
+    for _ in 0..16u32 {
         put(out, 4, 268435455)?;
     }
     put(out, 4, 400)?;
     for packet in 0..400u64 {
-        put(out, 1, packet % 8)?;
+        put(out, 1, packet % 16)?;
         put(out, 4, 268435455 - packet)?;
-        put(out, 4, 268435405 + packet / 8)?;
+        put(out, 4, 268435405 + packet / 16)?;
         if packet < 4 {
             put_tail(out, 0, 32767, 256)?;
         } else if packet < 8 {
@@ -74,9 +74,9 @@ fn put_inbox(out: &mut Vec<u8, Heap>) -> Result<(), Fail> {
     Ok(())
 }
 
-/// What is kept for each of eight ranks: 300 packets, or none where more was let go than was sent.
+/// What is kept for each of sixteen ranks: 300 packets, or none where more was let go than was sent.
 fn put_log(out: &mut Vec<u8, Heap>) -> Result<(), Fail> {
-    for dest in 0..8u64 {
+    for dest in 0..16u64 {
         put(out, 4, 268435455)?;
         if dest == 5 {
             put(out, 4, 268435455)?;
@@ -91,12 +91,13 @@ fn put_log(out: &mut Vec<u8, Heap>) -> Result<(), Fail> {
     Ok(())
 }
 
-/// The image of rank 3 of eight at the end of the wide program.
+/// The image of rank 13 of sixteen at the end of the wide program.
 fn wide_image(alloc: Heap) -> Result<Vec<u8, Heap>, Fail> {
     let mut out = Vec::new(alloc);
-    put(&mut out, 1, 1)?;
-    put(&mut out, 1, 3)?;
-    put(&mut out, 1, 8)?;
+    put(&mut out, 1, 2)?;
+    put(&mut out, 1, 2)?;
+    put(&mut out, 1, 13)?;
+    put(&mut out, 1, 16)?;
     put(&mut out, 2, 80)?;
     put(&mut out, 1, 64)?;
     put(&mut out, 1, 16)?;
@@ -109,7 +110,7 @@ fn wide_image(alloc: Heap) -> Result<Vec<u8, Heap>, Fail> {
     put(&mut out, 1, 7)?;
     put(&mut out, 1, 0)?;
     put(&mut out, 4, 0)?;
-    put(&mut out, 1, 7)?;
+    put(&mut out, 1, 15)?;
     put(&mut out, 2, 32767)?;
     put(&mut out, 2, 256)?;
     put_values(&mut out, 64)?;
@@ -126,7 +127,7 @@ fn an_image_of_the_greatest_sizes_is_read_and_written(rt: HostRuntime) -> Result
     let text = wide_program(alloc)?;
     let program = Program::parse(alloc, text.as_bytes())?;
     let bytes = wide_image(alloc)?;
-    let image = decode(alloc, &program, 3, 8, &bytes)?;
+    let image = decode(alloc, &program, 13, 16, &bytes)?;
     assert_eq!(rt;
         (
             image.machine.variables().len(),

@@ -3,7 +3,11 @@ use Rattle.std.specs.Prelude.{ℕ}
 
 -- the ranks of a run
 abbrev pub most_ranks : ℕ
-most_ranks = 8
+most_ranks = 16
+
+-- the ranks of a run whose images are of format 1
+abbrev pub most_ranks_of_format_1 : ℕ
+most_ranks_of_format_1 = 8
 
 -- the lines of a program's text
 abbrev pub most_lines : ℕ

@@ -4,14 +4,17 @@
 //! both have the same numbers, so a wrong one here is no proof anywhere.
 
 ghost use Rattle.std.specs.Prelude.{◌≡◌};
-ghost use Rattle.metered.specs.Limits.{most_ranks, most_lines, most_line_bytes, most_blocks};
+ghost use Rattle.metered.specs.Limits.{most_ranks, most_ranks_of_format_1, most_lines, most_line_bytes, most_blocks};
 ghost use Rattle.metered.specs.Limits.{most_variables, most_arrays, most_name_bytes, most_nodes, most_parentheses};
 ghost use Rattle.metered.specs.Limits.{most_items, most_collective_items, greatest_tag, greatest_clock};
 ghost use Rattle.metered.specs.Limits.{greatest_sender, most_events, most_effects, most_frames, most_script_lines};
 ghost use Rattle.metered.specs.Limits.{most_event_lines};
 
 /// The most ranks of a run.
-pub const MOST_RANKS: usize = 8;
+pub const MOST_RANKS: usize = 16;
+
+/// The most ranks of a run whose images are of format 1.
+pub const MOST_RANKS_OF_FORMAT_1: usize = 8;
 
 /// The most lines of a program's text.
 pub const MOST_LINES: usize = 1000;
@@ -70,6 +73,7 @@ pub const MOST_EVENT_LINES: usize = 100_000;
 /// A law: the numbers of code are those of the definitions.
 pub fn law_limits()
     ensures ranks { MOST_RANKS ≡ most_ranks }
+    ensures ranks_of_format_1 { MOST_RANKS_OF_FORMAT_1 ≡ most_ranks_of_format_1 }
     ensures lines { MOST_LINES ≡ most_lines }
     ensures line_bytes { MOST_LINE_BYTES ≡ most_line_bytes }
     ensures blocks { MOST_BLOCKS ≡ most_blocks }

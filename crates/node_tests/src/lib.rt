@@ -21,6 +21,8 @@ mod limits;
 #[cfg(test)]
 mod machines;
 #[cfg(test)]
+mod old_images;
+#[cfg(test)]
 mod outgoing;
 #[cfg(test)]
 mod plays;

@@ -1,10 +1,10 @@
-//! Ranks at their limits: the last of eight, messages of 256 items, 300 packets through one rank, strides, and as many events
+//! Ranks at their limits: the last of sixteen, messages of 256 items, 300 packets through one rank, strides, and as many events
 //! as a rank may make.
 
-use crate::plays::Answer::{Counted, Goes, Refused, Stepped, Wanted, Was, Worked};
+use crate::plays::Answer::{Counted, Goes, Refused, Stepped, Stored, Wanted, Was, Worked};
 use crate::plays::Call::{
     Arrive, ArriveLong, ArriveMany, Ask, Clock, FedRounds, GiveBack, Kept, Next, Pass, Refusal,
-    Rounds, Silent, Step, Stride, Wants, Work,
+    Rounds, Silent, Step, Store, Stride, Wants, Work,
 };
 use crate::plays::{ACCEPTED, Answer, BLOCKED, Call, MOVED, Play, play_all};
 use crate::strides::COUNTS;
@@ -13,36 +13,36 @@ use rank_node::NodeFault;
 use std::test::*;
 
 /// The last rank sends to two others, and then takes a message of each other one.
-const LAST_OF_EIGHT: &[u8] = b"var x
+const LAST_OF_SIXTEEN: &[u8] = b"var x
 var n
 send 0, 1, 10
 send 3, 2, 20
 send 0, 3, 30
-while n < 7
+while n < 15
   recv n, any, x
   let n = n + 1
 end
 print x + source
 ";
 
-/// Packets for two ranks wait at once, each with the next number of its pair of ranks. The print waits for all seven
+/// Packets for two ranks wait at once, each with the next number of its pair of ranks. The print waits for all fifteen
 /// receptions.
 const AS_THE_LAST: &[(Call, Answer)] = &[
     (Work, Worked(6, 0)),
     (Next(0), Goes(Some((1, 1, 1, Some(10))))),
     (Next(3), Goes(Some((1, 2, 1, Some(20))))),
-    (Silent, Counted(6)),
+    (Silent, Counted(14)),
     (Pass(0), Was(true)),
     (Next(0), Goes(Some((2, 3, 1, Some(30))))),
     (Next(3), Goes(Some((1, 2, 1, Some(20))))),
-    (Silent, Counted(6)),
+    (Silent, Counted(14)),
     (Pass(3), Was(true)),
     (Next(0), Goes(Some((2, 3, 1, Some(30))))),
     (Next(3), Goes(None)),
-    (Silent, Counted(7)),
+    (Silent, Counted(15)),
     (Pass(0), Was(true)),
-    (Silent, Counted(8)),
-    (Pass(7), Was(false)),
+    (Silent, Counted(16)),
+    (Pass(15), Was(false)),
     (Arrive(0, 0, 1), ACCEPTED),
     (Arrive(1, 1, 1), ACCEPTED),
     (Arrive(2, 2, 1), ACCEPTED),
@@ -50,7 +50,15 @@ const AS_THE_LAST: &[(Call, Answer)] = &[
     (Arrive(4, 4, 1), ACCEPTED),
     (Arrive(5, 5, 1), ACCEPTED),
     (Arrive(6, 6, 1), ACCEPTED),
-    (Work, Worked(29, 1)),
+    (Arrive(7, 7, 1), ACCEPTED),
+    (Arrive(8, 8, 1), ACCEPTED),
+    (Arrive(9, 9, 1), ACCEPTED),
+    (Arrive(10, 10, 1), ACCEPTED),
+    (Arrive(11, 11, 1), ACCEPTED),
+    (Arrive(12, 12, 1), ACCEPTED),
+    (Arrive(13, 13, 1), ACCEPTED),
+    (Arrive(14, 14, 1), ACCEPTED),
+    (Work, Worked(61, 1)),
 ];
 
 /// Sends 256 items to rank 1, takes as many of it, and prints the sum of the first and the last.
@@ -124,17 +132,45 @@ while 1
 end
 ";
 
-/// An answer more than a rank may have events is refused, whether a message is there or not.
+/// Misses in succession are one event, however many: 5000 of them, and a hit, are two.
 const ASKING_ON: &[(Call, Answer)] = &[
-    (Rounds(4096), Counted(4096)),
+    (Rounds(5000), Counted(5000)),
     (Stride(9), Counted(2)),
-    (Refusal, Refused(Some(NodeFault::Log))),
-    (Step, Stepped(Err(NodeFault::Log))),
-    (Clock, Counted(4096)),
+    (Refusal, Refused(None)),
+    (Clock, Counted(5000)),
     (Arrive(1, 1, 1), ACCEPTED),
+    (Step, MOVED),
+    (Clock, Counted(5001)),
+    (Store, Stored(Ok(Some(1)))),
+    (Store, Stored(Ok(Some(2)))),
+    (Store, Stored(Ok(None))),
+];
+
+/// Takes 4095 messages, and then asks for ever.
+const TAKES_AND_ASKS_ON: &[u8] = b"var x
+while x < 40950
+  recv 1, 7, x
+end
+while 1
+  iprobe any, any, x
+end
+";
+
+/// A miss is the last event that the rank may make. Further ones join it, and a hit is refused.
+const TAKING_AND_ASKING_ON: &[(Call, Answer)] = &[
+    (FedRounds(4095), Counted(4095)),
+    (Stride(9), Counted(3)),
+    (Step, MOVED),
+    (Clock, Counted(4096)),
+    (Stride(9), Counted(2)),
+    (Refusal, Refused(None)),
+    (Step, MOVED),
+    (Clock, Counted(4097)),
+    (Stride(9), Counted(2)),
+    (Arrive(1, 1, 4096), ACCEPTED),
     (Refusal, Refused(Some(NodeFault::Log))),
     (Step, Stepped(Err(NodeFault::Log))),
-    (Clock, Counted(4096)),
+    (Clock, Counted(4097)),
 ];
 
 /// Each stride goes on where the one before ended, none is an act, and the print is then one step.
@@ -153,13 +189,13 @@ const STRIDING: &[(Call, Answer)] = &[
     (Clock, Counted(1)),
 ];
 
-const PLAYS: [Play; 6] = [
+const PLAYS: [Play; 7] = [
     Play {
-        number: 7,
-        text: LAST_OF_EIGHT,
+        number: 15,
+        text: LAST_OF_SIXTEEN,
         later: None,
         calls: AS_THE_LAST,
-        left: "Some((7, 11, 16)); 7 has 7: Reception 0@1 at 4 Reception 1@1 at 5 Reception 2@1 at 6 \
+        left: "Some((15, 19, 24)); 15 has 15: Reception 0@1 at 4 Reception 1@1 at 5 Reception 2@1 at 6 \
          Reception 3@1 at 7 Reception 4@1 at 8 Reception 5@1 at 9 Reception 6@1 at 10",
     },
     Play {
@@ -189,6 +225,13 @@ const PLAYS: [Play; 6] = [
         text: ASKS_ON,
         later: None,
         calls: ASKING_ON,
+        left: "None; 0 has 2: Misses 0@5000 at 5000 Hit 1@1 at 5001",
+    },
+    Play {
+        number: 0,
+        text: TAKES_AND_ASKS_ON,
+        later: None,
+        calls: TAKING_AND_ASKING_ON,
         left: "None",
     },
     Play {

@@ -1,4 +1,4 @@
-//! Ranks of a run of eight from call to call: each call with what it answers.
+//! Ranks of a run of sixteen from call to call: each call with what it answers.
 ghost use Rattle.std.specs.Prelude.{◌≡◌, ◌<◌};
 
 use crate::outgoing::{Outgoing, next_packet, notes, passes};
@@ -83,7 +83,7 @@ pub const ACKED: Answer = Answer::Was(true);
 
 pub const NONE_RELEASED: Answer = Answer::Released(Ok(None));
 
-/// A rank of eight, and what is called on it.
+/// A rank of sixteen, and what is called on it.
 #[derive(Clone, Copy)]
 pub struct Play {
     pub number: u8,
@@ -115,10 +115,10 @@ pub fn play_all(rt: &impl Abort, alloc: Heap, plays: &[Play]) -> Result<(), Fail
 
 // Makes the calls on a rank, and gives what they left around it.
 fn perform(rt: &impl Abort, alloc: Heap, one: Play) -> Result<Scene, Fail> {
-    assert!(rt; one.number < 8);
+    assert!(rt; one.number < 16);
     let program = Program::parse(alloc, one.text)?;
     let mut scene = scene_with(rt, alloc, one.number, one.later)?;
-    let mut rank = start(alloc, &program, one.number, 8)?;
+    let mut rank = start(alloc, &program, one.number, 16)?;
     let outcome = make_all(rt, alloc, &mut rank, &mut scene, one.calls);
     let _ = rank.retire().parts();
     outcome?;
@@ -127,10 +127,10 @@ fn perform(rt: &impl Abort, alloc: Heap, one: Play) -> Result<Scene, Fail> {
 
 // A screen, and a logger that has a reception of this rank from rank 0 with this clock, if there is one.
 fn scene_with(rt: &impl Abort, alloc: Heap, number: u8, later: Option<u32>) -> Result<Scene, Fail>
-    requires { number < 8 }
+    requires { number < 16 }
 {
-    let mut logger = LoggerState::new(alloc, 8)?;
-    assert!(rt; logger.ranks() == 8);
+    let mut logger = LoggerState::new(alloc, 16)?;
+    assert!(rt; logger.ranks() == 16);
     if let Some(clock) = later {
         let event = Event::new(Kind::Reception, 0, 1, clock).ok_or("out of range")?;
         logger.append(usize::from(number), event)?;
@@ -171,8 +171,8 @@ fn make_all(
     scene: &mut Scene,
     calls: &[(Call, Answer)],
 ) -> Result<(), Fail>
-    requires size { rank.old.stable.size ≡ 8 }
-    requires number { rank.old.stable.rank < 8 }
+    requires size { rank.old.stable.size ≡ 16 }
+    requires number { rank.old.stable.rank < 16 }
 {
     let mut place = 0usize;
     for row in calls {
@@ -192,8 +192,8 @@ fn make(
     scene: &mut Scene,
     call: Call,
 ) -> Result<Answer, Fail>
-    requires size { rank.old.stable.size ≡ 8 }
-    requires number { rank.old.stable.rank < 8 }
+    requires size { rank.old.stable.size ≡ 16 }
+    requires number { rank.old.stable.rank < 16 }
     ensures { rank.new.stable ≡ rank.old.stable }
 {
     match call {
@@ -230,15 +230,15 @@ fn store(
     rank: &mut Rank,
     logger: &mut LoggerState,
 ) -> Result<Option<u32>, NodeFault>
-    requires { rank.old.stable.rank < 8 }
+    requires { rank.old.stable.rank < 16 }
     ensures { rank.new.stable ≡ rank.old.stable }
 {
-    assert!(rt; logger.ranks() == 8);
+    assert!(rt; logger.ranks() == 16);
     rank.store_state(logger)
 }
 
 fn work(rt: &impl Abort, rank: &mut Rank, scene: &mut Scene) -> Result<Answer, Fail>
-    requires { rank.old.stable.rank < 8 }
+    requires { rank.old.stable.rank < 16 }
     ensures { rank.new.stable ≡ rank.old.stable }
 {
     let mut moved = 0u32;
@@ -256,7 +256,7 @@ fn work(rt: &impl Abort, rank: &mut Rank, scene: &mut Scene) -> Result<Answer, F
 
 // All that waits is stored and acknowledged or released, in its order. Answers how many sends and lines were released.
 fn settle(rt: &impl Abort, rank: &mut Rank, scene: &mut Scene) -> Result<u32, Fail>
-    requires { rank.old.stable.rank < 8 }
+    requires { rank.old.stable.rank < 16 }
     ensures { rank.new.stable ≡ rank.old.stable }
 {
     let mut released = 0u32;
@@ -292,7 +292,7 @@ fn fed_rounds(
     screen: &mut LastLine,
     most: u32,
 ) -> Result<Answer, Fail>
-    requires size { rank.old.stable.size ≡ 8 }
+    requires size { rank.old.stable.size ≡ 16 }
     ensures { rank.new.stable ≡ rank.old.stable }
 {
     let mut made = 0u32;
@@ -314,16 +314,16 @@ fn arrive_one(
     source: u8,
     number: u32,
 ) -> Result<Answer, Fail>
-    requires size { rank.old.stable.size ≡ 8 }
+    requires size { rank.old.stable.size ≡ 16 }
     ensures { rank.new.stable ≡ rank.old.stable }
 {
-    assert!(rt; from < 8 && source < 8 && 0 < number && number <= 5000);
+    assert!(rt; from < 16 && source < 16 && 0 < number && number <= 5000);
     let frame = Frame::Data(packet(alloc, source, number)?);
     Ok(arrive(rank, from, frame))
 }
 
 fn arrive_many(rt: &impl Abort, alloc: Heap, rank: &mut Rank, most: u32) -> Result<Answer, Fail>
-    requires size { rank.old.stable.size ≡ 8 }
+    requires size { rank.old.stable.size ≡ 16 }
     ensures { rank.new.stable ≡ rank.old.stable }
 {
     let mut came = 0u32;
@@ -350,17 +350,17 @@ fn arrive(rank: &mut Rank, from: u8, frame: Frame) -> Answer
 }
 
 fn next(rt: &impl Abort, rank: &Rank, dest: u8) -> Result<Answer, Fail>
-    requires { rank.now.stable.size ≡ 8 }
+    requires { rank.now.stable.size ≡ 16 }
 {
-    assert!(rt; dest < 8);
+    assert!(rt; dest < 16);
     Ok(Answer::Goes(next_packet(rank, dest)?))
 }
 
 fn silent(rank: &Rank) -> Result<Answer, Fail>
-    requires { rank.now.stable.size ≡ 8 }
+    requires { rank.now.stable.size ≡ 16 }
 {
     let mut count = 0u32;
-    for dest in 0..8 {
+    for dest in 0..16 {
         if rank.outgoing(dest)?.is_none() {
             count = count.saturating_add(1);
         }
@@ -369,16 +369,16 @@ fn silent(rank: &Rank) -> Result<Answer, Fail>
 }
 
 fn pass(rt: &impl Abort, rank: &mut Rank, dest: u8) -> Result<Answer, Fail>
-    requires { rank.old.stable.size ≡ 8 }
+    requires { rank.old.stable.size ≡ 16 }
     ensures { rank.new.stable ≡ rank.old.stable }
 {
-    assert!(rt; dest < 8);
+    assert!(rt; dest < 16);
     Ok(Answer::Was(passes(rank, dest)?))
 }
 
 // Each packet is ten times its number and one more, and was sent by every second act.
 fn give_back(rank: &mut Rank, first: u32) -> Result<Answer, Fail>
-    requires { rank.old.stable.size ≡ 8 }
+    requires { rank.old.stable.size ≡ 16 }
     ensures { rank.new.stable ≡ rank.old.stable }
 {
     let mut gone = 0u32;
@@ -394,7 +394,7 @@ fn give_back(rank: &mut Rank, first: u32) -> Result<Answer, Fail>
 }
 
 fn ask(rt: &impl Abort, rank: &mut Rank, number: u32) -> Answer
-    requires { rank.old.stable.size ≡ 8 }
+    requires { rank.old.stable.size ≡ 16 }
     ensures { rank.new.stable ≡ rank.old.stable }
 {
     assert!(rt; 0 < number && number < 301);
@@ -403,7 +403,7 @@ fn ask(rt: &impl Abort, rank: &mut Rank, number: u32) -> Answer
 }
 
 fn keep(rt: &impl Abort, rank: &mut Rank, number: u32) -> Answer
-    requires { rank.old.stable.size ≡ 8 }
+    requires { rank.old.stable.size ≡ 16 }
     ensures { rank.new.stable ≡ rank.old.stable }
 {
     assert!(rt; number < 301);

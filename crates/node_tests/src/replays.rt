@@ -93,6 +93,85 @@ const PROBES: Life = Life {
     settles: true,
 };
 
+/// A run of misses misses once for each, whatever has come by then, and is one event until its last one.
+const RUN_OF_MISSES: Life = Life {
+    text: b"var x\niprobe 0, 7, x\niprobe 0, 7, x\niprobe 0, 7, x\nprint x\n",
+    row: &[(Kind::Misses, 0, 3, 3)],
+    calls: &[
+        (Call::Left, Answer::Counted(1)),
+        (Call::Step, MOVED),
+        (Call::Step, MOVED),
+        (Call::Clock, Answer::Counted(1)),
+        (Call::Left, Answer::Counted(1)),
+        (Call::Arrive(1), ACCEPTED),
+        (Call::Step, MOVED),
+        (Call::Left, Answer::Counted(1)),
+        (Call::Step, MOVED),
+        (Call::Clock, Answer::Counted(3)),
+        (Call::Left, Answer::Counted(0)),
+    ],
+    line: None,
+    settles: true,
+};
+
+/// Two runs with a line between them, and a single miss.
+const RUNS_AND_A_LINE: Life = Life {
+    text: b"var x\niprobe 0, 7, x\niprobe 0, 7, x\nprint 4\niprobe 0, 7, x\niprobe 0, 7, x\nprint 5\niprobe 0, 7, x\n",
+    row: &[
+        (Kind::Misses, 0, 2, 2),
+        (Kind::Misses, 0, 2, 5),
+        (Kind::Miss, 0, 0, 7),
+    ],
+    calls: &[
+        (Call::Step, MOVED),
+        (Call::Step, MOVED),
+        (Call::Left, Answer::Counted(3)),
+        (Call::Step, MOVED),
+        (Call::Left, Answer::Counted(2)),
+        (Call::Step, MOVED),
+        (Call::Step, MOVED),
+        (Call::Left, Answer::Counted(2)),
+        (Call::Step, MOVED),
+        (Call::Left, Answer::Counted(1)),
+        (Call::Step, MOVED),
+        (Call::Step, MOVED),
+        (Call::Clock, Answer::Counted(7)),
+        (Call::Left, Answer::Counted(0)),
+    ],
+    line: Some((1, 6, 5)),
+    settles: true,
+};
+
+/// Another act between the misses of a run doesn't fit, nor does a hit.
+const WITHIN_A_RUN: [Life; 2] = [
+    Life {
+        text: b"var x\niprobe 0, 7, x\nprint 4\niprobe 0, 7, x\n",
+        row: &[(Kind::Misses, 0, 2, 2)],
+        calls: &[
+            (Call::Step, MOVED),
+            (Call::Step, MOVED),
+            (Call::Step, NO_FIT),
+            (Call::Clock, Answer::Counted(1)),
+            (Call::Left, Answer::Counted(1)),
+        ],
+        line: None,
+        settles: false,
+    },
+    Life {
+        text: b"var x\niprobe 0, 7, x\nrecv 0, 7, x\n",
+        row: &[(Kind::Misses, 0, 2, 2)],
+        calls: &[
+            (Call::Arrive(1), ACCEPTED),
+            (Call::Step, MOVED),
+            (Call::Step, MOVED),
+            (Call::Step, NO_FIT),
+            (Call::Clock, Answer::Counted(1)),
+        ],
+        line: None,
+        settles: false,
+    },
+];
+
 /// It asks each rank, itself too, and sends again what it had sent, from the first on.
 const SENDS: Life = Life {
     text: b"var x\nsend 0, 1, 5\nsend 0, 1, 6\nrecv 0, 7, x\n",
@@ -345,6 +424,16 @@ fn replays_by_hand(rt: HostRuntime) -> Result<(), Fail> {
         live(&rt, rt.alloc(), life)?;
     }
     for life in OTHER_CLOCK {
+        live(&rt, rt.alloc(), life)?;
+    }
+    Ok(())
+}
+
+#[test]
+fn replays_runs_of_misses(rt: HostRuntime) -> Result<(), Fail> {
+    live(&rt, rt.alloc(), RUN_OF_MISSES)?;
+    live(&rt, rt.alloc(), RUNS_AND_A_LINE)?;
+    for life in WITHIN_A_RUN {
         live(&rt, rt.alloc(), life)?;
     }
     Ok(())

@@ -3,6 +3,7 @@
 use crate::machines::{same, standing};
 use crate::scenes::{LastLine, Rank, start};
 use metered::Heap;
+use metered::limits::MOST_RANKS;
 use rank_language::Program;
 use rank_machine::Machine;
 use rank_node::{NodeFault, Turn};
@@ -34,7 +35,7 @@ fn begin_rank(
     rank: u8,
     size: u8,
 ) -> Result<(), Fail> {
-    assert!(rt; rank < size && size <= 8);
+    assert!(rt; rank < size && usize::from(size) <= MOST_RANKS);
     let (turn, clock, line) = first_act(start(alloc, program, rank, size)?);
     let value = 10 * i64::from(rank) + i64::from(size);
     assert_eq!(rt; (turn, clock), (Ok(Turn::Moved), 1));
@@ -57,7 +58,7 @@ fn first_act(rank: Rank) -> (Result<Turn, NodeFault>, u32, Option<(u8, u32, i64)
 
 /// Each rank of each size.
 fn begin_all(rt: &impl Abort, alloc: Heap, program: &Program) -> Result<(), Fail> {
-    for size in 1..=8 {
+    for size in 1..=16 {
         for rank in 0..size {
             begin_machine(rt, alloc, program, rank, size)?;
             begin_rank(rt, alloc, program, rank, size)?;

@@ -14,7 +14,7 @@ use Rattle.payload_log.specs.Sender.{IsSentBy}
 use Rattle.rank_language.specs.Program.{ProgramValue}
 use Rattle.checkpoint.specs.Image.{ImageValue, rewound, at_rest}
 use Rattle.checkpoint.specs.Savable.{IsSavable}
-use Rattle.checkpoint.specs.Spelling.{spelling, lane}
+use Rattle.checkpoint.specs.Spelling.{spelling, text_in, lane}
 use Rattle.rank_node.specs.declared.due.Due.{Due}
 use Rattle.rank_node.specs.Stored.{Stored}
 use Rattle.rank_node.specs.Node.{Node, IsNode}
@@ -65,7 +65,7 @@ lanes_rest (b ∷ log) = ap (λ bytes. lane b ++ bytes) (lanes_rest log)
 
 -- so an image is spelled as it will be read
 pub spelling_rest : (i : ImageValue) → spelling (at_rest i) ≡ spelling i
-unfolding spelling
+unfolding text_in
 spelling_rest i = rw (lanes_rest i.log)
 
 -- ---- the shelf

@@ -2,6 +2,7 @@
 ghost use Rattle.std.specs.Prelude.{◌≡◌, ◌+◌, ◌-◌, ◌<◌, true, [], ◌∷◌, ◌++◌, length, take, drop, slice_get, option_and_then};
 ghost use Rattle.std.specs.Prelude.{IsTrue, IsSome, ◌↔◌, OnOk, OnErr};
 ghost use Rattle.std.specs.Bool.{OnTrue, OnFalse};
+ghost use Rattle.metered.specs.Limits.{greatest_clock};
 ghost use Rattle.rank_node.specs.declared.waiting.Waiting.TheVariants as waits;
 
 mod copying;
@@ -38,7 +39,7 @@ impl Model for Pending {
 }
 
 impl Pending {
-    ghost use Rattle.rank_node.specs.Waiting.{IsGate, is_settled, has_room, event_in};
+    ghost use Rattle.rank_node.specs.Waiting.{AreMade, IsGate, is_settled, has_room, event_in, joins, misses_only, with_joined};
     ghost use Rattle.rank_node.specs.Releasing.{effect_of};
 
     /// Nothing waits.
@@ -75,6 +76,54 @@ impl Pending {
     {
         self.waiting.push_back(Waiting::Event(event))?;
         Ok(())
+    }
+
+    /// Whether a miss joins what waits last: a miss or a run of misses that
+    /// isn't stored.
+    #[tactic(auto, using(crate::proofs::Joining::joins_stored, crate::proofs::Joining::joins_last))]
+    pub fn joins(&self) -> bool
+        ensures { result ≡ joins self.now.stored self.now.waiting }
+    {
+        if self.stored >= self.waiting.len() {
+            return false;
+        }
+        match self.waiting.back() {
+            Some(Waiting::Event(event)) => event.finds_none(),
+            Some(Waiting::Send { .. } | Waiting::Line { .. }) | None => false,
+        }
+    }
+
+    /// The miss or run of misses that waits last and isn't stored is one miss
+    /// longer. Answers whether there is one. It takes no memory.
+    #[tactic(auto, using(crate::proofs::Joining::joins_stored, crate::proofs::Joining::joins_last, crate::proofs::Joining::made_last, crate::proofs::Joining::joined_last, crate::proofs::Joining::joined_effects, crate::proofs::Joining::joined_begins))]
+    pub fn join(&mut self) -> bool
+        requires { AreMade (greatest_clock - 1) self.old.waiting }
+        ensures value { result ≡ joins self.old.stored self.old.waiting }
+        ensures joined { OnTrue result (self.new ≡ record { waiting = with_joined self.old.waiting; stored = self.old.stored }) }
+        ensures none { OnFalse result (self.new ≡ self.old) }
+        ensures gate { IsGate self.new }
+    {
+        if self.stored >= self.waiting.len() {
+            return false;
+        }
+        let last = match self.waiting.back() {
+            Some(Waiting::Event(event)) => *event,
+            Some(Waiting::Send { .. } | Waiting::Line { .. }) | None => return false,
+        };
+        if !last.finds_none() {
+            return false;
+        }
+        let place = self.waiting.len() - 1;
+        self.waiting[place] = Waiting::Event(last.joined());
+        true
+    }
+
+    /// Whether just one miss or run of misses waits, and isn't stored.
+    #[tactic(auto, using(crate::proofs::Joining::only_misses))]
+    pub fn misses_only(&self) -> bool
+        ensures { result ≡ misses_only self.now.stored self.now.waiting }
+    {
+        self.waiting.len() == 1 && self.joins()
     }
 
     /// A send to a rank goes last, where there is room. An `Err` is want of

@@ -1,12 +1,12 @@
 //! How a rank starts again.
-ghost use Rattle.std.specs.Prelude.{◌≡◌, ◌<◌, ◌≤◌, ◌⊎◌, length, map, IfOk, IfErr, OnOk, IsErrOf};
+ghost use Rattle.std.specs.Prelude.{◌≡◌, ◌<◌, ◌≤◌, ◌⊎◌, length, map, true, IfOk, IfErr, OnOk, IsErrOf};
 ghost use Rattle.metered.specs.Limits.{most_events, most_ranks};
 ghost use Rattle.plain_logger.specs.History.{above};
 ghost use Rattle.checkpoint.specs.Savable.{IsSavable};
 ghost use Rattle.checkpoint.specs.Shelf.{Grew, image_bytes};
-ghost use Rattle.rank_node.specs.Fault.{MayRefuseRestart};
+ghost use Rattle.rank_node.specs.Fault.{MayRefuseReading, MayRefuseRestart};
 ghost use Rattle.rank_node.specs.Image.{BeginsAgain, KeepsImage, Reads, begins_at, image_on, with_shelf};
-ghost use Rattle.rank_node.specs.Replay.{ask_after};
+ghost use Rattle.rank_node.specs.Replay.{ask_after, cuts};
 
 use crate::down::Down;
 use crate::due::Due;
@@ -28,7 +28,9 @@ impl<S: Shelf, D> Down<S, D> {
     /// itself too, for what it hasn't accepted.
     ///
     /// An `Err` gives the rank back: the shelf's device failed, its bytes are
-    /// no image of this rank of the program, or there was no memory.
+    /// no image of this rank of the program, the image cuts an event of the
+    /// row, or there was no memory.
+    #[tactic(auto, using(crate::proofs::Refusing::reading_refuses, crate::proofs::Refusing::reading_cuts_none))]
     pub fn restart<'p>(
         mut self,
         alloc: Heap,
@@ -43,11 +45,16 @@ impl<S: Shelf, D> Down<S, D> {
         ensures refused { IfErr result (λ refused. MayRefuseRestart refused.1) }
         ensures device { IfErr result (λ refused. refused.1 ≡ NodeFault.Shelf → Grew (S.failures self.shelf) (S.failures refused.0.shelf)) }
         ensures unreadable { IfErr result (λ refused. refused.1 ≡ NodeFault.Image → Reads program.entry.now self.rank self.size (S.last self.shelf) → ⊥) }
+        ensures cut { IfErr result (λ refused. refused.1 ≡ NodeFault.Replay → let begins = begins_at program.entry.now self.rank self.size
+            (image_on program.entry.now self.rank self.size (S.last self.shelf)) in cuts begins.clock row.items ≡ true) }
     {
         let image = match self.last_image(alloc, program) {
             Ok(image) => image,
             Err(fault) => return Err((self, fault)),
         };
+        if cuts(image.clock, &row) {
+            return Err((self, NodeFault::Replay));
+        }
         let Ok(dues) = asks(alloc, &image.inbox, self.stable.size()) else {
             return Err((self, NodeFault::Memory));
         };
@@ -72,7 +79,7 @@ impl<S: Shelf, D> Down<S, D> {
         ensures same { self.new ≡ with_shelf self.old self.new.shelf }
         ensures kept { S.last self.new.shelf ≡ S.last self.old.shelf }
 
-        ensures refused { IfErr result MayRefuseRestart }
+        ensures refused { IfErr result MayRefuseReading }
         ensures device { IsErrOf result NodeFault.Shelf → Grew (S.failures self.old.shelf) (S.failures self.new.shelf) }
         ensures unreadable { IsErrOf result NodeFault.Image → Reads program.entry.now self.old.rank self.old.size (S.last self.old.shelf) → ⊥ }
     {
@@ -122,6 +129,13 @@ fn asks(alloc: Heap, inbox: &Inbox, size: u8) -> Result<Vec<Due, Heap>, AllocErr
         })?;
     }
     Ok(dues)
+}
+
+// Whether some event of the row is cut by this clock.
+fn cuts(clock: u32, row: &[Event]) -> bool
+    ensures { result ≡ cuts clock row.now }
+{
+    row.iter().any(|event| event.first_clock() <= clock && clock < event.receiver_clock())
 }
 
 // The events of a row that come after this clock.

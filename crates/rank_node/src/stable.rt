@@ -9,7 +9,7 @@ use std::marker::Model;
 
 /// A rank's desk at the logger, its shelf, and which of how many ranks it is.
 ///
-/// There are at most 8 ranks. The value must be spent.
+/// There are at most `MOST_RANKS` of `metered::limits`. The value must be spent.
 pub struct Stable<S: Shelf, D> {
     pub(crate) desk: D,
     shelf: S,

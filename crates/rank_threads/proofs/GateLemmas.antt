@@ -1,4 +1,4 @@
--- What waits at the gate stays where frames come and go.
+-- What waits at the gate stays where frames come and go, and when a turn leaves misses there.
 use Rattle.std.proofs.Common.{◌≡◌, ℕ, Bool, true, false, Option, Some, None, refl, ◌==◌}
 use Rattle.std.specs.Prelude.{if◌then◌else◌}
 use Rattle.checkpoint.specs.declared.memory_shelf.MemoryShelf.{MemoryShelf}
@@ -7,15 +7,15 @@ use Rattle.matching.specs.Inbox.{after_arrival}
 use Rattle.rank_node.specs.Frames.{after_frame, after_passed, outgoing_of, sent_off, with_inbox}
 use Rattle.rank_node.specs.Node.{Node}
 use Rattle.rank_node.specs.declared.frame.Frame.{Frame}
-use Rattle.rank_threads.specs.Phases.{HasImage, SameShelf, TookImage}
+use Rattle.rank_threads.specs.Phases.{gate_of, misses_only_in, HasImage, SameShelf, TookImage}
 use Rattle.rank_threads.specs.declared.phase.Phase.{Phase}
 use Rattle.rank_node.specs.declared.frame.Frame.TheVariants as frame
 
 -- a frame that came leaves it
-pub frame_waits : (v : Node MemoryShelf DeskValue) (from : ℕ) (f : Frame) → (after_frame v from f).pending ≡ v.pending
+pub frame_waits : (v : Node MemoryShelf DeskValue) (from : ℕ) (f : Frame) → gate_of (after_frame v from f) ≡ gate_of v
 frame_waits v from (frame.Data packet) = go (packet.source == from)
   where
-    go : (b : Bool) → (if b then with_inbox v (after_arrival v.inbox packet) else v).pending ≡ v.pending
+    go : (b : Bool) → gate_of (if b then with_inbox v (after_arrival v.inbox packet) else v) ≡ gate_of v
     go true = refl
     go false = refl
 frame_waits v from (frame.Ask number) = refl
@@ -26,12 +26,12 @@ pub took_image : (stood p : Phase) → HasImage stood → SameShelf stood p → 
 took_image stood p image same = (stood, image, same)
 
 -- what has gone leaves it
-sent_waits : (v : Node MemoryShelf DeskValue) (dest : ℕ) (f : Option Frame) → (sent_off v dest f).pending ≡ v.pending
+sent_waits : (v : Node MemoryShelf DeskValue) (dest : ℕ) (f : Option Frame) → gate_of (sent_off v dest f) ≡ gate_of v
 sent_waits v dest None = refl
 sent_waits v dest (Some (frame.Ask number)) = refl
 sent_waits v dest (Some (frame.Kept number)) = refl
 sent_waits v dest (Some (frame.Data packet)) = refl
 
 -- so does what was outgoing
-pub passed_waits : (v : Node MemoryShelf DeskValue) (dest : ℕ) → (after_passed v dest).pending ≡ v.pending
+pub passed_waits : (v : Node MemoryShelf DeskValue) (dest : ℕ) → gate_of (after_passed v dest) ≡ gate_of v
 passed_waits v dest = sent_waits v dest (outgoing_of v dest)

@@ -9,6 +9,7 @@ mod ReleasingLemmas
 mod ReportLemmas
 mod RowLemmas
 mod SeatingLemmas
+mod SettlingLemmas
 mod StationLemmas
 mod StepLaws
 mod TakingLemmas

@@ -116,6 +116,7 @@ received_clock : (v : Node MemoryShelf DeskValue) (m : MachineValue) (s : Select
 received_clock v m s f k false t answer = absurd cc
 received_clock v m s f kind.Hit true t answer = absurd cc
 received_clock v m s f kind.Miss true t answer = absurd cc
+received_clock v m s f kind.Misses true t answer = absurd cc
 received_clock v m s None kind.Reception true t answer = rw (one_turn (Ok turn.Blocked) turn.Blocked t refl answer) (omega arith)
 received_clock v m s (Some f) kind.Reception true t answer = go (matches s f.1) answer
   where
@@ -135,6 +136,7 @@ probed_clock v m s f k false t answer = absurd cc
 probed_clock v m s f kind.Reception true t answer = absurd cc
 probed_clock v m s f kind.Hit true t answer = shown_clock v m s f t answer
 probed_clock v m s f kind.Miss true t answer = absurd cc
+probed_clock v m s f kind.Misses true t answer = absurd cc
 
 -- a probe that doesn't wait
 tried_clock : (v : Node MemoryShelf DeskValue) (m : MachineValue) (s : Selector) (f : Option (ℕ × PacketValue)) (k : Kind) (now : Bool) (t : Turn)
@@ -143,6 +145,7 @@ tried_clock v m s f k false t answer = absurd cc
 tried_clock v m s f kind.Reception true t answer = absurd cc
 tried_clock v m s f kind.Hit true t answer = shown_clock v m s f t answer
 tried_clock v m s f kind.Miss true t answer = rw (one_turn (Ok turn.Moved) turn.Moved t refl answer) refl
+tried_clock v m s f kind.Misses true t answer = rw (one_turn (Ok turn.Moved) turn.Moved t refl answer) refl
 
 -- a rank that replays makes an act just where it moves and that isn't a step of its own
 replay_clock : (v : Node MemoryShelf DeskValue) (e : EventValue) (w : Want) (m : MachineValue) (t : Turn) → replay_turn_at v e w ≡ Ok t
@@ -174,7 +177,7 @@ again_answers v (e ∷ rest) (Err f) some ok refused memory = sym (refused (λ s
 pub again_clocks : (old new : Replay MemoryShelf DeskValue) (left : List EventValue) (t : Turn) → left ≢ []
     → ((e : EventValue) (rest : List EventValue) → left ≡ e ∷ rest → replay_turn_of old.node e ≡ Ok t)
     → ((e : EventValue) (rest : List EventValue) → left ≡ e ∷ rest →
-    new ≡ record { node = after_replay old.node e new.node.machine; left = left_after (machine_want old.node.machine) t e rest })
+    new ≡ record { node = after_replay old.node e new.node.machine; left = left_after old.node (machine_want old.node.machine) t e rest })
     → new.node.clock ≡ old.node.clock + acts_made (Some (machine_want old.node.machine)) t
 again_clocks old new [] t some answer after = absurd (some refl)
 again_clocks old new (e ∷ rest) t some answer after =
@@ -184,7 +187,7 @@ again_clocks old new (e ∷ rest) t some answer after =
 pub again_ok_clocks : (old new : Replay MemoryShelf DeskValue) (answer : Result Turn NodeFault) → old.left ≢ []
     → IfOk answer (λ t. (e : EventValue) (rest : List EventValue) → old.left ≡ e ∷ rest → replay_turn_of old.node e ≡ Ok t)
     → IfOk answer (λ t. (e : EventValue) (rest : List EventValue) → old.left ≡ e ∷ rest →
-    new ≡ record { node = after_replay old.node e new.node.machine; left = left_after (machine_want old.node.machine) t e rest })
+    new ≡ record { node = after_replay old.node e new.node.machine; left = left_after old.node (machine_want old.node.machine) t e rest })
     → IfOk answer (λ t. new.node.clock ≡ old.node.clock + acts_made (Some (machine_want old.node.machine)) t)
 again_ok_clocks old new (Ok t) some does after = again_clocks old new old.left t some does after
 again_ok_clocks old new (Err e) some does after = tt

@@ -11,10 +11,10 @@ use Rattle.rank_machine.specs.declared.want.Want.{Want}
 use Rattle.rank_machine.specs.Machine.{machine_want}
 use Rattle.rank_node.specs.Desked.{at_desk}
 use Rattle.rank_node.specs.Image.{BeginsAgain, image_of}
-use Rattle.rank_node.specs.Node.{opening}
+use Rattle.rank_node.specs.Node.{Node, opening}
 use Rattle.rank_node.specs.Replay.{Replay}
 use Rattle.rank_node.specs.Stored.{Stored}
-use Rattle.rank_node.specs.declared.waiting.Waiting.{Waiting}
+use Rattle.rank_node.specs.Waiting.{Gate, misses_only}
 use Rattle.rank_threads.specs.declared.row.Row.{Row}
 use Rattle.rank_threads.specs.declared.phase.Phase.{Phase}
 use Rattle.rank_threads.specs.declared.phase.Phase.TheVariants as phase
@@ -37,15 +37,23 @@ want_in (phase.Running v) = Some (machine_want v.machine)
 want_in (phase.Replaying r) = Some (machine_want r.node.machine)
 want_in (phase.Down s) = None
 
--- what waits at the gate of the rank; nothing where it replays or is down
-abbrev pub waiting_in : Phase → List Waiting
-waiting_in (phase.Running v) = v.pending
-waiting_in (phase.Replaying r) = []
-waiting_in (phase.Down s) = []
+-- the gate of a rank that runs: what waits there, with how many of its first events are stored
+abbrev pub gate_of : Node MemoryShelf DeskValue → Gate
+gate_of v = record { waiting = v.pending; stored = v.stored }
+
+-- the gate of the rank; nothing waits where it replays or is down
+abbrev pub gate_in : Phase → Gate
+gate_in (phase.Running v) = gate_of v
+gate_in (phase.Replaying r) = record { waiting = []; stored = 0 }
+gate_in (phase.Down s) = record { waiting = []; stored = 0 }
 
 -- nothing waits at the gate
 abbrev pub NoneWaits : Phase → Type 0
-NoneWaits p = waiting_in p ≡ []
+NoneWaits p = (gate_in p).waiting ≡ []
+
+-- just one miss or run of misses waits at the gate, and isn't stored
+abbrev pub misses_only_in : Phase → Bool
+misses_only_in p = misses_only (gate_in p).stored (gate_in p).waiting
 
 -- the same desk, whatever it has been asked, and the same rank of as many
 pub record SameStable (a b : Stored MemoryShelf DeskValue) : Type 0 where

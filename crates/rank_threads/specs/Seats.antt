@@ -1,7 +1,7 @@
 -- What stays of a rank's seat within a life.
 use Rattle.std.specs.Prelude.{◌≡◌}
 use Rattle.rank_threads.specs.Lanes.{SameTxs, SameRxs}
-use Rattle.rank_threads.specs.Phases.{SamePhase, SameShelf, waiting_in}
+use Rattle.rank_threads.specs.Phases.{SamePhase, SameShelf, gate_in}
 use Rattle.rank_threads.specs.declared.node.Node.{Node}
 use Rattle.rank_threads.specs.declared.seat.Seat.{Seat}
 
@@ -17,7 +17,7 @@ SameSeat a b = (b.rank ≡ a.rank) × SameNode a.node b.node × SameTxs a.to.ite
 abbrev pub SamePlan : Seat → Seat → Type 0
 SamePlan a b = b.plan ≡ a.plan
 
--- the same waits at the gate, the logger has refused an event of the rank or hasn't, as before, and its shelf is as it was
+-- the same waits at the gate, with as many events stored, the logger has refused an event of the rank or hasn't, as before, and its shelf is as it was
 abbrev pub SameGate : Seat → Seat → Type 0
 SameGate a b =
-    (waiting_in b.node.phase ≡ waiting_in a.node.phase) × (b.tally.is_refused ≡ a.tally.is_refused) × SameShelf a.node.phase b.node.phase
+    (gate_in b.node.phase ≡ gate_in a.node.phase) × (b.tally.is_refused ≡ a.tally.is_refused) × SameShelf a.node.phase b.node.phase

@@ -10,23 +10,26 @@ use crate::life::{life, refused};
 use crate::parcel::{Parcel, SameAs};
 use crate::shared::{Shared, Stopped};
 use crate::station::Station;
+use audit::End;
 use std::snapshot::Snapshot;
 use std::sync::Wait;
 use std::thread;
 use std::thread::Threads;
 
-/// Plays lives until one doesn't crash.
+/// Plays lives until one doesn't crash, or all are told to leave: the rank has
+/// come to its end either way.
 pub fn keep<'l, R: Threads + Wait + Sync + Copy + Send, H: Hold + Sync>(
     rt: R,
     shared: &Shared<'_, H>,
     station: Station<'l>,
 ) -> Station<'l>
-    ensures { SameStation station.entry result }
+    ensures ended { result.end ≢ None }
+    ensures same { SameStation station.entry result }
 {
     let mut station = station;
     for _ in rt.forever() {
-        if shared.is_stopped() {
-            return station;
+        if let Some(stopped) = shared.stopped() {
+            return told_to_leave(station, stopped);
         }
         station = lived(rt, shared, station);
         if station.end.is_some() {
@@ -34,6 +37,17 @@ pub fn keep<'l, R: Threads + Wait + Sync + Copy + Send, H: Hold + Sync>(
         }
     }
     unreachable!()
+}
+
+// All were told to leave, so the rank lives no more.
+fn told_to_leave(station: Station<'_>, _: Stopped) -> Station<'_>
+    ensures end { result.end ≡ Some End.Unfinished }
+    ensures tally { result.tally ≡ station.entry.tally }
+    ensures same { SameStation station.entry result }
+{
+    let mut station = station;
+    station.end = Some(End::Unfinished);
+    station
 }
 
 // A life, and the row for the next one where the rank is to live on.

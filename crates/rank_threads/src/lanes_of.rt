@@ -1,7 +1,7 @@
 //! One of a rank's lanes among all of them.
 ghost use Rattle.std.specs.Prelude.{◌≡◌, ◌<◌, IfOk};
 ghost use Rattle.rank_threads.specs.Lanes.{SameTxs, SameRxs};
-ghost use Rattle.rank_threads.specs.Phases.{waiting_in, SameShelf};
+ghost use Rattle.rank_threads.specs.Phases.{gate_in, SameShelf};
 ghost use Rattle.rank_threads.specs.Putting.{PutsInto};
 ghost use Rattle.rank_threads.specs.Seats.{SameNode};
 ghost use Rattle.rank_threads.specs.Taking.{Takes, those_of};
@@ -36,7 +36,7 @@ pub fn put_to(
 ) -> Result<Went, AllocError>
     requires { dest < node.old.size }
     ensures puts { IfOk result (λ went. PutsInto went node.old.phase dest lanes.old.items node.new.phase lanes.new.items) }
-    ensures gate { waiting_in node.new.phase ≡ waiting_in node.old.phase }
+    ensures gate { gate_in node.new.phase ≡ gate_in node.old.phase }
     ensures shelf { SameShelf node.old.phase node.new.phase }
     ensures lanes { SameTxs lanes.old.items lanes.new.items }
     ensures node { SameNode node.old node.new }

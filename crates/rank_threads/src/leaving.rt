@@ -3,7 +3,7 @@
 ghost use Rattle.std.specs.Prelude.{◌≡◌, ◌≢◌, ℕ, ◌<◌, slice_index_or};
 ghost use Rattle.rank_threads.specs.Seats.{SameSeat, SamePlan, SameGate};
 
-use crate::marks::{first_look, second_look};
+use crate::marks::{AllAtRest, first_look, second_look};
 use crate::seat::Seat;
 use crate::shared::Shared;
 use crate::stepping::Stepped;
@@ -11,7 +11,7 @@ use crate::taking::none_came;
 use metered::Heap;
 use std::alloc::AllocError;
 
-/// What an idle turn leads to: whether the rank leaves.
+/// What an idle turn leads to: the rank leaves where all are at rest.
 ///
 /// A rank that owes no other a frame marks itself: at once where it has ended
 /// or steps no more, and where it waits, after as many idle turns as the limits
@@ -20,7 +20,7 @@ pub fn rest<H>(
     shared: &Shared<'_, H>,
     seat: &mut Seat<'_, '_>,
     stepped: Stepped,
-) -> Result<bool, AllocError>
+) -> Result<Option<AllAtRest>, AllocError>
     ensures plan { SamePlan seat.old seat.new }
     ensures gate { SameGate seat.old seat.new }
     ensures same { SameSeat seat.old seat.new }
@@ -29,35 +29,38 @@ pub fn rest<H>(
         return may_leave(shared, seat);
     }
     if seat.tally.may_owe {
-        return Ok(false);
+        return Ok(None);
     }
     match stepped {
-        Stepped::Moved | Stepped::Acted | Stepped::Held => return Ok(false),
+        Stepped::Moved | Stepped::Acted | Stepped::Held => return Ok(None),
         Stepped::Blocked => {
             let waited = seat.tally.has_waited(shared.limits.idle);
             if !waited || others_went_on(shared.alloc, seat)? {
-                return Ok(false);
+                return Ok(None);
             }
         }
         Stepped::Ended => {}
     }
     let marked = shared.set_mark(seat.rank, seat.tally.put, seat.tally.taken);
     seat.tally.mark(marked);
-    Ok(false)
+    Ok(None)
 }
 
 // Between two looks that see the same marks, all of this rank's lanes are looked at once more.
-fn may_leave<H>(shared: &Shared<'_, H>, seat: &mut Seat<'_, '_>) -> Result<bool, AllocError>
+fn may_leave<H>(
+    shared: &Shared<'_, H>,
+    seat: &mut Seat<'_, '_>,
+) -> Result<Option<AllAtRest>, AllocError>
     ensures plan { SamePlan seat.old seat.new }
     ensures gate { SameGate seat.old seat.new }
     ensures same { SameSeat seat.old seat.new }
 {
     let Some(first) = first_look(shared.marks) else {
-        return Ok(false);
+        return Ok(None);
     };
     let Some(none) = none_came(shared, seat)? else {
         seat.tally.is_busy();
-        return Ok(false);
+        return Ok(None);
     };
     Ok(second_look(shared.marks, &first, none))
 }

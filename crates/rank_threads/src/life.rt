@@ -67,7 +67,7 @@ fn play<'p, 'l, W: Wait, H: Hold>(
 {
     let mut seat = seat;
     for _ in rt.forever() {
-        if shared.is_stopped() {
+        if let Some(_stopped) = shared.stopped() {
             return (seat, false);
         }
         let begun = begin(rt, shared, blank, &mut seat);

@@ -5,9 +5,11 @@
 //! frame can wake it. Its mark says so, with how many frames it has put and
 //! taken in all its lives. It takes the mark back before it does anything with
 //! a frame that comes.
-ghost use Rattle.std.specs.Prelude.{◌≡◌, ◌≢◌, true, false};
+mod agreeing;
 
 use crate::taking::NoneCame;
+use agreeing::agreed;
+pub use agreeing::{AllAtRest, Look};
 use crossbeam_utils::CachePadded;
 use metered::limits::MOST_RANKS;
 use std::sync::atomic::{AtomicU64, Ordering};
@@ -41,13 +43,6 @@ impl Mark {
     }
 }
 
-/// What one look at all marks saw, where all were set.
-#[derive(Clone, Copy)]
-pub struct Look {
-    marks: [u64; MOST_RANKS],
-    taken: u64,
-}
-
 /// The marks of all ranks, where all are set.
 pub fn first_look(marks: &[CachePadded<Mark>]) -> Option<Look> {
     let mut seen = [0u64; MOST_RANKS];
@@ -63,22 +58,15 @@ pub fn first_look(marks: &[CachePadded<Mark>]) -> Option<Look> {
     Some(Look { marks: seen, taken })
 }
 
-/// Whether all marks are still those of the first look, and as many frames were
-/// taken as were put. Between both looks no lane brought anything.
-pub fn second_look(marks: &[CachePadded<Mark>], first: &Look, _: NoneCame) -> bool {
+/// Every rank is at rest, if all marks are still those of the first look and as
+/// many frames were taken as were put. Between both looks no lane brought
+/// anything.
+pub fn second_look(marks: &[CachePadded<Mark>], first: &Look, _: NoneCame) -> Option<AllAtRest> {
     let mut seen = [0u64; MOST_RANKS];
     let mut put = 0u64;
     for (mark, slot) in marks.iter().zip(seen.iter_mut()) {
         put = put.wrapping_add(mark.put.load(Ordering::SeqCst));
         *slot = mark.taken.load(Ordering::SeqCst);
     }
-    agree(first, &seen, put)
-}
-
-// Whether the marks are those of the first look, and so many frames were taken as are put by now.
-fn agree(first: &Look, seen: &[u64; MOST_RANKS], put: u64) -> bool
-    ensures agrees { result ≡ true → (first.now.marks ≡ seen.now) × (put ≡ first.now.taken) }
-    ensures differs { result ≡ false → first.now.marks ≡ seen.now → put ≢ first.now.taken }
-{
-    first.marks == *seen && put == first.taken
+    agreed(first, &seen, put)
 }

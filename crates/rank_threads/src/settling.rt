@@ -2,19 +2,68 @@
 ghost use Rattle.std.specs.Prelude.{◌≡◌, true, false, Ok, drop};
 ghost use Rattle.rank_threads.specs.Phases.{is_running, HasImage, NoneWaits};
 ghost use Rattle.rank_threads.specs.Seats.{SameSeat};
+ghost use Rattle.rank_threads.specs.Settling.{has_stepped, leaves_misses};
 
 use crate::seat::Seat;
 use crate::shared::Shared;
+use crate::stepping::Stepped;
 use ports::ConsoleState;
 use rank_node::NodeFault;
 use std::sync::Wait;
 
-/// Stores and acknowledges every event of the rank, lets what waits pass, and
-/// takes the image that was noted. A rank that replays takes none: its line
-/// stays next.
-///
-/// A rank whose event the logger refuses is spent, and steps no more.
+/// Lets what waits pass, and takes the image that was noted. Just one miss or
+/// run of misses is left as it is, so that a rank that polls goes on with one
+/// event, unless the rank made no step, is to take an image, or was stopped by
+/// a limit.
+#[tactic(auto, using(crate::proofs::SettlingLemmas::left_unimaged))]
 pub fn settle<W: Wait, H>(
+    rt: &W,
+    shared: &Shared<'_, H>,
+    blank: &mut ConsoleState,
+    seat: &mut Seat<'_, '_>,
+    stepped: Stepped,
+    is_imaged: bool,
+) -> Result<(), NodeFault>
+    ensures settled { leaves_misses stepped is_imaged seat.old.tally.is_spent seat.old.node.phase ≡ false → result ≡ Ok tt
+        → seat.new.tally.is_refused ≡ false → NoneWaits seat.new.node.phase }
+    ensures left { leaves_misses stepped is_imaged seat.old.tally.is_spent seat.old.node.phase ≡ true → seat.new ≡ seat.old }
+    ensures image { result ≡ Ok tt → is_imaged ≡ true → seat.new.tally.is_refused ≡ false
+        → is_running seat.new.node.phase ≡ true → HasImage seat.new.node.phase }
+    ensures used { result ≡ Ok tt → is_imaged ≡ true → seat.new.tally.is_refused ≡ false
+        → is_running seat.new.node.phase ≡ true → seat.new.plan ≡ drop 1 seat.old.plan }
+    ensures kept { is_running seat.new.node.phase ≡ false → seat.new.plan ≡ seat.old.plan }
+    ensures unasked { is_imaged ≡ false → seat.new.plan ≡ seat.old.plan }
+    ensures runs { is_running seat.new.node.phase ≡ is_running seat.old.node.phase }
+    ensures same { SameSeat seat.old seat.new }
+{
+    if leaves_misses(seat, stepped, is_imaged) {
+        return Ok(());
+    }
+    pass_all(rt, shared, blank, seat, is_imaged)
+}
+
+// Whether misses may go on waiting.
+fn leaves_misses(seat: &Seat<'_, '_>, stepped: Stepped, is_imaged: bool) -> bool
+    ensures { result ≡ leaves_misses stepped is_imaged seat.now.tally.is_spent seat.now.node.phase }
+{
+    has_stepped(stepped) && !is_imaged && !seat.tally.is_spent && seat.node.misses_only()
+}
+
+fn has_stepped(stepped: Stepped) -> bool
+    ensures { result ≡ has_stepped stepped }
+{
+    match stepped {
+        Stepped::Moved | Stepped::Acted => true,
+        Stepped::Blocked | Stepped::Held | Stepped::Ended => false,
+    }
+}
+
+// Stores and acknowledges every event of the rank, lets what waits pass, and
+// takes the image that was noted. A rank that replays takes none: its line
+// stays next.
+//
+// A rank whose event the logger refuses is spent, and steps no more.
+fn pass_all<W: Wait, H>(
     rt: &W,
     shared: &Shared<'_, H>,
     blank: &mut ConsoleState,

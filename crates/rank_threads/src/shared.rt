@@ -8,7 +8,8 @@ use metered::Heap;
 use ports::Console;
 use std::sync::atomic::{AtomicBool, Ordering};
 
-/// All ranks were told to leave. Only `Shared::stop_all` makes one.
+/// All ranks were told to leave. Only `Shared` makes one, as it tells them or
+/// sees that they were told.
 #[derive(Clone, Copy)]
 pub struct Stopped(());
 
@@ -62,8 +63,11 @@ impl<H> Shared<'_, H> {
     }
 
     /// Whether all ranks are to leave.
-    pub fn is_stopped(&self) -> bool {
-        self.stop.load(Ordering::SeqCst)
+    pub fn stopped(&self) -> Option<Stopped> {
+        if self.stop.load(Ordering::SeqCst) {
+            return Some(Stopped(()));
+        }
+        None
     }
 
     /// A frame was put into a lane to this rank.

@@ -1,5 +1,6 @@
 //! Part 1 of a turn: what the lanes bring.
 ghost use Rattle.std.specs.Prelude.{◌≡◌, ◌<◌, IfOk};
+ghost use Rattle.std.specs.Option.{is_none};
 ghost use Rattle.rank_threads.specs.Seats.{SameSeat, SamePlan, SameGate};
 ghost use Rattle.rank_threads.specs.Taking.{TookFrom, TookBelow};
 ghost use Rattle.rank_threads.specs.Tally.{woken};
@@ -60,6 +61,7 @@ pub fn none_came<H>(
     shared: &Shared<'_, H>,
     seat: &mut Seat<'_, '_>,
 ) -> Result<Option<NoneCame>, AllocError>
+    ensures took { IfOk result (λ none. TookBelow seat.old.node.size seat.old seat.new (is_none none)) }
     ensures plan { SamePlan seat.old seat.new }
     ensures gate { SameGate seat.old seat.new }
     ensures same { SameSeat seat.old seat.new }

@@ -1,8 +1,9 @@
 //! One turn of a rank.
 ghost use Rattle.std.specs.Prelude.{◌≡◌, ◌≢◌, true, false, Ok, Some, None, IfOk, drop};
 ghost use Rattle.rank_threads.specs.Orders.{order_after, is_kill, is_image};
-ghost use Rattle.rank_threads.specs.Phases.{NoneWaits, TookImage, is_running, settled_of};
+ghost use Rattle.rank_threads.specs.Phases.{NoneWaits, TookImage, gate_in, is_running, misses_only_in, settled_of};
 ghost use Rattle.rank_threads.specs.Seats.{SameSeat, SamePlan};
+ghost use Rattle.rank_threads.specs.Settling.{leaves_misses};
 
 use crate::hold::Hold;
 use crate::leaving::rest;
@@ -18,7 +19,7 @@ use script_text::Order;
 use std::sync::Wait;
 
 /// What follows a turn.
-#[derive(Clone, Copy, Debug, PartialEq, Eq)]
+#[derive(Clone, Copy)]
 pub enum After {
     /// Another turn; after an idle one others go first.
     Turn { is_idle: bool },
@@ -49,7 +50,9 @@ pub fn begin<W: Wait, H: Hold>(
 }
 
 /// The rest of a turn that began so: the script's next line, what waits at the
-/// gate, what goes out, and the rank's mark.
+/// gate, what goes out, and the rank's mark. Nothing waits then but misses of a
+/// rank that goes on.
+#[tactic(auto, using(crate::proofs::SettlingLemmas::left_unspent, crate::proofs::SettlingLemmas::left_only))]
 pub fn finish<W: Wait, H: Hold>(
     rt: &W,
     shared: &Shared<'_, H>,
@@ -57,7 +60,11 @@ pub fn finish<W: Wait, H: Hold>(
     seat: &mut Seat<'_, '_>,
     begun: Result<Begun, NodeFault>,
 ) -> After
-    ensures settled { result ≢ After.Crash → seat.new.tally.fault ≡ None → seat.new.tally.is_refused ≡ false → NoneWaits seat.new.node.phase }
+    ensures settled { result ≢ After.Crash → seat.new.tally.fault ≡ None → seat.new.tally.is_refused ≡ false
+        → misses_only_in seat.new.node.phase ≡ false → NoneWaits seat.new.node.phase }
+    ensures spent { result ≢ After.Crash → seat.new.tally.fault ≡ None → seat.new.tally.is_refused ≡ false
+        → seat.old.tally.is_spent ≡ true → NoneWaits seat.new.node.phase }
+    ensures left { result ≡ After.Leave → seat.new.tally.fault ≡ None → seat.new.tally.is_refused ≡ false → NoneWaits seat.new.node.phase }
     ensures same { SameSeat seat.old seat.new }
 {
     let after = match begun {
@@ -71,7 +78,7 @@ pub fn finish<W: Wait, H: Hold>(
 }
 
 // An image that is asked for is taken before frames go out.
-#[tactic(auto, using(crate::proofs::GateLemmas::took_image))]
+#[tactic(auto, using(crate::proofs::GateLemmas::took_image, crate::proofs::SettlingLemmas::left_stepped))]
 fn end<W: Wait, H: Hold>(
     rt: &W,
     shared: &Shared<'_, H>,
@@ -85,7 +92,11 @@ fn end<W: Wait, H: Hold>(
     ensures unasked { order_after begun.stepped seat.old.plan seat.old.node.phase ≡ None → seat.new.plan ≡ seat.old.plan }
     ensures image { is_image (order_after begun.stepped seat.old.plan seat.old.node.phase) ≡ true → is_running seat.old.node.phase ≡ true
         → seat.new.tally.is_refused ≡ false → IfOk result (λ after. after ≢ After.Crash → TookImage seat.new.node.phase) }
-    ensures settled { IfOk result (λ after. after ≢ After.Crash → seat.new.tally.is_refused ≡ false → NoneWaits seat.new.node.phase) }
+    ensures settled { leaves_misses begun.stepped (is_image (order_after begun.stepped seat.old.plan seat.old.node.phase)) seat.old.tally.is_spent seat.old.node.phase ≡ false
+        → IfOk result (λ after. after ≢ After.Crash → seat.new.tally.is_refused ≡ false → NoneWaits seat.new.node.phase) }
+    ensures kept { leaves_misses begun.stepped (is_image (order_after begun.stepped seat.old.plan seat.old.node.phase)) seat.old.tally.is_spent seat.old.node.phase ≡ true
+        → IfOk result (λ after. after ≢ After.Crash → gate_in seat.new.node.phase ≡ gate_in seat.old.node.phase) }
+    ensures left { result ≡ Ok After.Leave → seat.new.tally.is_refused ≡ false → NoneWaits seat.new.node.phase }
     ensures same { SameSeat seat.old seat.new }
 {
     let order = order_after(begun.stepped, seat);
@@ -93,7 +104,7 @@ fn end<W: Wait, H: Hold>(
         seat.plan.use_one();
         return Ok(After::Crash);
     }
-    settle(rt, shared, blank, seat, is_image(order))?;
+    settle(rt, shared, blank, seat, begun.stepped, is_image(order))?;
     let put = put_out(shared, seat)?;
     let is_busy = match begun.stepped {
         Stepped::Moved | Stepped::Acted | Stepped::Held => true,
@@ -103,10 +114,10 @@ fn end<W: Wait, H: Hold>(
         seat.tally.is_busy();
         return Ok(After::Turn { is_idle: false });
     }
-    if rest(shared, seat, begun.stepped)? {
-        return Ok(After::Leave);
+    match rest(shared, seat, begun.stepped)? {
+        Some(_) => Ok(After::Leave),
+        None => Ok(After::Turn { is_idle: true }),
     }
-    Ok(After::Turn { is_idle: true })
 }
 
 // What the script's next line asks for after this step.

@@ -16,6 +16,8 @@ Commands:
   run       Runs a program and prints its lines and how each rank ended
   world     Gives a program's ranks the events of a file and prints each reply
   catch-up  Prints events that bring a world's ranks back to where they were
+  explain   Tells a text's first fault: where it stands and what was expected
+  explore   Finds every outcome that a program can have, whatever the order
   help      Print this message or the help of the given subcommand(s)
 
 Options:
@@ -25,6 +27,8 @@ Options:
 Exit status, with what standard error says:
   0  done; help and the version too    nothing
   1  a rank of a run isn't halted      nothing
+     not all outcomes were found, or
+     one in which a rank isn't halted  nothing
      a run ends without a report       audit fault K, or rank R: node fault K
   2  the program is refused            line L: fault K NAME
      the script is refused             script line L: fault K NAME
@@ -34,8 +38,9 @@ Exit status, with what standard error says:
      an argument isn't UTF-8           argument K isn't UTF-8
   4  there is no memory                out of memory
   5  standard output can't be written  nothing
-Standard output is empty with status 2, 3 or 4, and where a run ends without a
-report. The help of each command says what its faults mean.
+Standard output is empty with status 2, 3 or 4, but for what `explain` tells,
+and where a run ends without a report. The help of each command says what its
+faults mean.
 
 Examples, at the top of the repository:
   ./ftmpi check examples/canonical.rank
@@ -93,7 +98,7 @@ Arguments:
   <PROGRAM>  The file of the rank program
 
 Options:
-      --ranks <N>      The number of ranks, 1 to 8
+      --ranks <N>      The number of ranks, 1 to 16
       --script <FILE>  Which ranks crash or take images, and when (below)
       --idle <T>       Idle turns (below), 1 to 1000000000 [default: 1000000]
       --steps <S>      Steps a rank may make, 1 to 1000000000 [default: 1000000]
@@ -172,7 +177,7 @@ Arguments:
   <EVENTS>   The file of events (below)
 
 Options:
-      --ranks <N>  The number of ranks, 1 to 8
+      --ranks <N>  The number of ranks, 1 to 16
   -h, --help       Print help
 
 Events, one a line; R and S are ranks:
@@ -237,7 +242,7 @@ Arguments:
   <EVENTS>   The file of events (below)
 
 Options:
-      --ranks <N>  The number of ranks, 1 to 8
+      --ranks <N>  The number of ranks, 1 to 16
   -h, --help       Print help
 
 The events are given to the ranks as by `ftmpi world`, and no reply is printed.
@@ -265,8 +270,84 @@ Example, at the top of the repository:
 docs/WORLDS.md is a guide to worlds, and shows a way on.
 ";
 
+/// The help of `explain`.
+const EXPLAIN: &str = "\
+Tells a text's first fault: where it stands and what was expected
+
+Usage: ftmpi explain [OPTIONS] <PROGRAM>
+
+Arguments:
+  <PROGRAM>  The file of the rank program
+
+Options:
+      --ranks <N>      The number of ranks, 1 to 16
+      --script <FILE>  The script of a run of N ranks
+      --events <FILE>  The events of a world
+  -h, --help           Print help
+
+Of the program, then of the script, then of the events the first fault is told:
+  the fault, as `ftmpi check`, `run` and `world` name it
+  its line, with a mark below the place
+  what was expected there, or what is wrong, with a near word if there is one
+  where the manual tells of it
+Where no text has a fault, `no fault` is printed, and behind it the first line
+of the script that no run can use.
+
+Exit status: 0 where there is no fault, 2 where there is one or a file can't be
+read; `ftmpi --help` has the others. What is told of a fault goes to standard
+output.
+
+Example, at the top of the repository:
+  ./ftmpi explain examples/fault_bad_form.rank
+";
+
+/// The help of `explore`.
+const EXPLORE: &str = "\
+Finds every outcome that a program can have, whatever the order
+
+Usage: ftmpi explore [OPTIONS] --ranks <N> <PROGRAM>
+
+Arguments:
+  <PROGRAM>  The file of the rank program
+
+Options:
+      --ranks <N>  The number of ranks, 1 to 16
+      --runs <M>   Runs looked at, 1 to 1000000000 [default: 100000]
+      --steps <S>  Steps of a rank in a run, 1 to 1000000000 [default: 100000]
+  -h, --help       Print help
+
+Looks at the program's runs, one for each order of the ranks that matters: which
+message a receive or a probe of any source gets, and whether a probe that
+doesn't wait hits or misses. An outcome is what each rank prints, and how it
+ends. Each is printed once, in the order in which they are found:
+  outcome K     a number, from 1
+  R> V          rank R printed V; the lines stand rank by rank
+  rank R: END   halted, fault K or stalled, as `ftmpi run --help` has it
+  # rank R at line L takes from A before B
+                what leads there, and not to the outcomes before: at line L
+                rank R takes a message of rank A, and there took one of B
+  # rank R at line L finds one from A, not one from B
+                the same of a probe, which may also find none
+and a blank line. The last lines are
+  # ...         what it means, in words
+  outcomes K, runs R, complete
+                these are all outcomes, and no order goes on for ever
+  outcomes K, runs R, stopped
+                there may be others: M runs were looked at, or a rank made S
+                steps in one of them
+
+Exit status: 0 where all was looked at and each rank halts in each outcome, 1
+where not, 2 where the program is refused or can't be read; `ftmpi --help` has
+the others.
+
+Example, at the top of the repository:
+  ./ftmpi explore --ranks 3 examples/first_come.rank
+
+docs/LANGUAGE.md has a page on programs that are right whatever the order.
+";
+
 /// Words, and all that they print.
-const HELPS: [(&str, &str); 9] = [
+const HELPS: [(&str, &str); 11] = [
     ("--version", "ftmpi 0.1.0\n"),
     ("--help", PROGRAM),
     ("help", PROGRAM),
@@ -276,6 +357,8 @@ const HELPS: [(&str, &str); 9] = [
     ("help run", RUN),
     ("world --help", WORLD),
     ("catch-up --help", CATCH_UP),
+    ("explain --help", EXPLAIN),
+    ("explore --help", EXPLORE),
 ];
 
 // Each of these prints this to standard output, and nothing to standard error.

@@ -1,5 +1,5 @@
 //! Runs whose ranks are killed, with what they write.
-use crate::scenes::{Scripted, expect_scripted};
+use crate::scenes::{Scripted, expect_answer, expect_scripted};
 use std::test::Fail;
 
 /// Rank 0 sends 41, and rank 1 prints one more.
@@ -52,9 +52,46 @@ pub const COLLECTIVES: &str = "var x\nreduce sum, 2, rank + 1, x\nbcast 2, x\nba
 /// A loop of 400 rounds, and two lines.
 const ROUNDS: &str = "var i\nwhile i < 400\n  let i = i + 1\nend\nprint 1\nprint 2\n";
 
-/// As many probes that miss as a rank may have events, and a line.
-const MISSES: &str =
-    "var i\nvar f\nwhile i < 4096\n  iprobe 0, 0, f\n  let i = i + 1\nend\nprint i\n";
+/// As many messages of its own as a rank may have events, and a line.
+const FULL_ROW: &str = "var i
+var x
+while i < 4096
+  send 0, 0, i
+  recv 0, 0, x
+  let i = i + 1
+end
+print x
+";
+
+/// Five probes that miss, and a line.
+const FIVE_MISSES: &str = "var f
+iprobe any, any, f
+iprobe any, any, f
+iprobe any, any, f
+iprobe any, any, f
+iprobe any, any, f
+print f
+";
+
+/// Misses, a line, misses, and a line.
+const MISSES_AND_LINES: &str = "var f
+iprobe any, any, f
+iprobe any, any, f
+print f
+iprobe any, any, f
+iprobe any, any, f
+iprobe any, any, f
+print f + 1
+";
+
+/// A hundred thousand probes that miss, and nothing else.
+const POLLS: &str = "var i
+var f
+while i < 100000
+  iprobe any, any, f
+  let i = i + 1
+end
+";
 
 /// Rank 1 is killed at its first act in each of seven lives.
 const SEVEN: &str =
@@ -203,14 +240,91 @@ const KILLS: [Scripted; 18] = [
     // A whole row is replayed: 4096 appends and a fetch.
     Scripted {
         options: "--ranks 1",
-        program: MISSES,
-        script: "kill 0 at 4097\n",
+        program: FULL_ROW,
+        script: "kill 0 at 8193\n",
         status: 0,
-        out: "0> 4096\nrank 0: halted\ncrashes 1, logger calls 4097\n",
+        out: "0> 4095\nrank 0: halted\ncrashes 1, logger calls 4097\n",
     },
 ];
 
 #[test]
 fn kills(rt: HostRuntime) -> Result<(), Fail> {
     expect_scripted(&rt, &KILLS)
+}
+
+/// Polls by a rank that is killed or not, with how often the logger is called.
+const POLLED: [Scripted; 8] = [
+    Scripted {
+        options: "--ranks 1",
+        program: FIVE_MISSES,
+        script: "",
+        status: 0,
+        out: "0> 0\nrank 0: halted\ncrashes 0, logger calls 1\n",
+    },
+    // The image parts the misses: two runs, and a fetch.
+    Scripted {
+        options: "--ranks 1",
+        program: FIVE_MISSES,
+        script: "image 0 at 2\nkill 0 at 4\n",
+        status: 0,
+        out: "0> 0\nrank 0: halted\ncrashes 1, logger calls 3\n",
+    },
+    // The first kill loses two misses, which are stored in the next life; the image stores a third by itself, and the second kill loses what comes after it.
+    Scripted {
+        options: "--ranks 1",
+        program: MISSES_AND_LINES,
+        script: "kill 0 at 3\nimage 0 at 4\nkill 0 at 6\n",
+        status: 0,
+        out: "0> 0\n0> 1\nrank 0: halted\ncrashes 2, logger calls 5\n",
+    },
+    Scripted {
+        options: "--ranks 1",
+        program: MISSES_AND_LINES,
+        script: "",
+        status: 0,
+        out: "0> 0\n0> 1\nrank 0: halted\ncrashes 0, logger calls 2\n",
+    },
+    // The line waits behind its misses, and both are lost at the kill: a fetch, and the two runs.
+    Scripted {
+        options: "--ranks 1",
+        program: MISSES_AND_LINES,
+        script: "kill 0 at 3\n",
+        status: 0,
+        out: "0> 0\n0> 1\nrank 0: halted\ncrashes 1, logger calls 3\n",
+    },
+    // The first run is replayed, and the second one made anew.
+    Scripted {
+        options: "--ranks 1",
+        program: MISSES_AND_LINES,
+        script: "kill 0 at 5\nkill 0 at 7\n",
+        status: 0,
+        out: "0> 0\n0> 1\nrank 0: halted\ncrashes 2, logger calls 4\n",
+    },
+    Scripted {
+        options: "--ranks 1",
+        program: POLLS,
+        script: "",
+        status: 0,
+        out: "rank 0: halted\ncrashes 0, logger calls 1\n",
+    },
+    // Past the middle: the misses before the kill were stored nowhere, and all are made again.
+    Scripted {
+        options: "--ranks 1",
+        program: POLLS,
+        script: "kill 0 at 60000\n",
+        status: 0,
+        out: "rank 0: halted\ncrashes 1, logger calls 2\n",
+    },
+];
+
+#[test]
+fn misses_in_succession_are_one_call(rt: HostRuntime) -> Result<(), Fail> {
+    expect_scripted(&rt, &POLLED)?;
+    for clock in 1..=6u32 {
+        let script = format!(in rt.alloc(); "kill 0 at {clock}\n")?;
+        let files = [("p", FIVE_MISSES), ("s", script.as_str())];
+        let out = "0> 0\nrank 0: halted\ncrashes 1, logger calls 2\n";
+        expect_answer(&rt, "run --ranks 1 --script s p", &files, (0, out, ""))?;
+    }
+    Ok(())
 }

@@ -8,6 +8,8 @@
 #[cfg(test)]
 mod everywhere;
 #[cfg(test)]
+mod explains;
+#[cfg(test)]
 mod faults;
 #[cfg(test)]
 mod helps;
@@ -21,6 +23,8 @@ mod limits;
 mod lines;
 #[cfg(test)]
 mod meeting;
+#[cfg(test)]
+mod outcomes;
 #[cfg(test)]
 mod refusals;
 #[cfg(test)]

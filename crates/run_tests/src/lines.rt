@@ -71,11 +71,12 @@ const PROGRAMS: [Run; 8] = [
     ),
     // The empty text.
     (
-        "--ranks 8",
+        "--ranks 16",
         "",
         0,
         "rank 0: halted\nrank 1: halted\nrank 2: halted\nrank 3: halted\nrank 4: halted\nrank 5: halted\n\
-         rank 6: halted\nrank 7: halted\ncrashes 0, logger calls 0\n",
+         rank 6: halted\nrank 7: halted\nrank 8: halted\nrank 9: halted\nrank 10: halted\nrank 11: halted\n\
+         rank 12: halted\nrank 13: halted\nrank 14: halted\nrank 15: halted\ncrashes 0, logger calls 0\n",
     ),
     // A rank's own message, and what the reception shows.
     (

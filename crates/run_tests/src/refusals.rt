@@ -232,16 +232,15 @@ fn refused(rt: HostRuntime) -> Result<(), Fail> {
 }
 
 /// Words that are refused, or that ask for help, or for a run, with the exit status.
-const WORDS: [(&str, u8); 34] = [
+const WORDS: [(&str, u8); 33] = [
     ("run --ranks 1 p", 0),
-    ("run --ranks 8 --script s --idle 1 --steps 1000000000 p", 0),
+    ("run --ranks 16 --script s --idle 1 --steps 1000000000 p", 0),
     ("run --ranks 02 p", 0),
     ("--help", 0),
     ("run --help", 0),
     ("run p", 3),
     ("run --ranks 1", 3),
     ("run --ranks 0 p", 3),
-    ("run --ranks 9 p", 3),
     ("run --ranks 17 p", 3),
     ("run --ranks two p", 3),
     ("run --ranks 1 --ranks 2 p", 3),
@@ -260,13 +259,13 @@ const WORDS: [(&str, u8); 34] = [
     ("world p s", 3),
     ("world --ranks 1 p", 3),
     ("world --ranks 0 p s", 3),
-    ("world --ranks 9 p s", 3),
+    ("world --ranks 17 p s", 3),
     ("world --ranks 1 --idle 1 p s", 3),
     ("catch-up --help", 0),
     ("catch-up p s", 3),
     ("catch-up --ranks 1 p", 3),
     ("catch-up --ranks 0 p s", 3),
-    ("catch-up --ranks 9 p s", 3),
+    ("catch-up --ranks 17 p s", 3),
 ];
 
 // Where words are refused nothing is written to standard output, and else nothing to standard error.

@@ -3,6 +3,7 @@ ghost use Rattle.std.specs.Prelude.{◌≤◌};
 ghost use Rattle.metered.specs.Limits.{most_ranks};
 
 use crate::told::{Told, described};
+use metered::limits::MOST_RANKS;
 use rank_language::Program;
 use runner::{RunLimits, Script, run};
 use std::process::Abort;
@@ -68,12 +69,12 @@ const OF_PAIR_KILLED: &str = concat!(
     "crashes 3, calls 4 3\n",
 );
 
-/// Each of 8 ranks sends its number to the next one.
+/// Each of sixteen ranks sends its number to the next one.
 const ROUND: &str = "var x\nsend (rank + 1) % size, rank, rank\nrecv any, any, x\nprint x\n";
 
 const OF_ROUND: &str = concat!(
-    "told 0@3 1@3 2@3 3@3 4@3 5@3 6@3 7@3\n",
-    "events of 0: Reception 7@1 at 2\n",
+    "told 0@3 1@3 2@3 3@3 4@3 5@3 6@3 7@3 8@3 9@3 10@3 11@3 12@3 13@3 14@3 15@3\n",
+    "events of 0: Reception 15@1 at 2\n",
     "events of 1: Reception 0@1 at 2\n",
     "events of 2: Reception 1@1 at 2\n",
     "events of 3: Reception 2@1 at 2\n",
@@ -81,9 +82,19 @@ const OF_ROUND: &str = concat!(
     "events of 5: Reception 4@1 at 2\n",
     "events of 6: Reception 5@1 at 2\n",
     "events of 7: Reception 6@1 at 2\n",
-    "0@3> 7\n1@3> 0\n2@3> 1\n3@3> 2\n4@3> 3\n5@3> 4\n6@3> 5\n7@3> 6\n",
-    "ends halted halted halted halted halted halted halted halted\n",
-    "crashes 0, calls 1 1 1 1 1 1 1 1\n",
+    "events of 8: Reception 7@1 at 2\n",
+    "events of 9: Reception 8@1 at 2\n",
+    "events of 10: Reception 9@1 at 2\n",
+    "events of 11: Reception 10@1 at 2\n",
+    "events of 12: Reception 11@1 at 2\n",
+    "events of 13: Reception 12@1 at 2\n",
+    "events of 14: Reception 13@1 at 2\n",
+    "events of 15: Reception 14@1 at 2\n",
+    "0@3> 15\n1@3> 0\n2@3> 1\n3@3> 2\n4@3> 3\n5@3> 4\n6@3> 5\n7@3> 6\n",
+    "8@3> 7\n9@3> 8\n10@3> 9\n11@3> 10\n12@3> 11\n13@3> 12\n14@3> 13\n15@3> 14\n",
+    "ends halted halted halted halted halted halted halted halted",
+    " halted halted halted halted halted halted halted halted\n",
+    "crashes 0, calls 1 1 1 1 1 1 1 1 1 1 1 1 1 1 1 1\n",
 );
 
 // Rank 1 takes one message and waits for another that never comes.
@@ -174,7 +185,7 @@ const REPORTS: [Row; 8] = [
         want: OF_PAIR_KILLED,
     },
     Row {
-        ranks: 8,
+        ranks: 16,
         idle: 10,
         program: ROUND,
         script: "",
@@ -224,7 +235,7 @@ fn expect_all<R: Threads + Wait + Sync + Copy + Send + AllocGlobal + Abort>(
     rows: &[Row],
 ) -> Result<(), Fail> {
     for row in rows {
-        assert!(rt; 0 < row.ranks && row.ranks <= 8);
+        assert!(rt; 0 < row.ranks && usize::from(row.ranks) <= MOST_RANKS);
         expect(rt, row)?;
     }
     Ok(())

@@ -11,7 +11,7 @@ use std::test::Fail;
 /// The words of a run, with its ranks, idle turns, steps and program.
 const RUNS: [(&str, &str); 4] = [
     ("ftmpi run --ranks 1 p", "1 1000000 1000000 p"),
-    ("ftmpi run --ranks 8 --idle 5 p", "8 5 1000000 p"),
+    ("ftmpi run --ranks 16 --idle 5 p", "16 5 1000000 p"),
     ("ftmpi run --ranks 2 --steps 7 p", "2 1000000 7 p"),
     (
         "ftmpi run --steps 1000000000 --ranks 2 --idle 1000000000 p",

@@ -12,6 +12,8 @@ ghost use Rattle.std.specs.Prelude.{◌≤◌, OnOk};
 ghost use Rattle.std.specs.Io.KnownBytes.{Appends};
 
 mod check;
+mod explain;
+mod exploring;
 mod job;
 mod reading;
 mod refusal;

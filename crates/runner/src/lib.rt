@@ -7,6 +7,7 @@
 
 mod commands;
 mod files;
+mod outcomes;
 mod output;
 mod words;
 

@@ -66,23 +66,23 @@ const RANGES: [Case; 16] = [
     (b"kill 0 at 1", 0, "line 1: fault 2 BadRank"),
     (b"kill 255 at 1", 255, "line 1: fault 2 BadRank"),
     // Numbers that would be 0 if they lost bits.
-    (b"kill 256 at 1", 8, "line 1: fault 2 BadRank"),
-    (b"kill 4294967296 at 1", 8, "line 1: fault 2 BadRank"),
+    (b"kill 256 at 1", 16, "line 1: fault 2 BadRank"),
+    (b"kill 4294967296 at 1", 16, "line 1: fault 2 BadRank"),
     (
         b"kill 18446744073709551616 at 1",
-        8,
+        16,
         "line 1: fault 2 BadRank",
     ),
     (
         b"kill 123456789012345678901234567890 at 1",
-        8,
+        16,
         "line 1: fault 2 BadRank",
     ),
     // Of two faults the lower one.
     (b"kill 9 at 0", 2, "line 1: fault 1 BadLine"),
     (
         b"kill 123456789012345678901234567890 at 268435456",
-        8,
+        16,
         "line 1: fault 1 BadLine",
     ),
 ];

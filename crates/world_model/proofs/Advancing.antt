@@ -1,7 +1,6 @@
 -- What the calls of the way come to, one after another.
 use Rattle.std.proofs.Common.{◌≡◌, ◌≢◌, ℕ, ◌+◌, ◌<◌, ◌≤◌, ◌⊎◌, inl, inr, ⊎_elim, Bool, true, false, if◌then◌else◌, MatchBool, List, [], ◌∷◌, ◌++◌, Option, Some, None, length, refl, sym, ap, subst, ◌∙◌, arith, slice_get, slice_set}
 use Rattle.std.proofs.lemmas.Bool.{cases_lt}
-use Rattle.std.proofs.lemmas.List.{length_push}
 use Rattle.matching.specs.PacketValue as packet
 use Rattle.rank_node.specs.declared.frame.Frame.{Frame}
 use Rattle.rank_node.specs.declared.frame.Frame.TheVariants as frame
@@ -15,10 +14,12 @@ use Rattle.world_model.specs.World.{Live, WorldValue, size, IsLive, IsWire}
 use Rattle.world_model.specs.Follows.{CanNot, Happens, Follows, PutFollows, ArriveFollows, put_as}
 use Rattle.world_model.specs.Onward.{IsWorld}
 use Rattle.world_model.specs.Way.{IsOwn}
+use Rattle.world_model.specs.Measures.{outstanding_at}
 use Rattle.world_model.specs.Driven.{IsUsed, Driven, AllLive, NoGaps, DrainedFrom, LiveTo, HeardTo, is_refused, listed, index_of, Advanced, Flushed, IsGone, Emptied, Listened}
 use Rattle.world_model.proofs.WayPlaces.{set_get_same, get_last}
 use Rattle.world_model.proofs.Acts.{all_live_kept}
 use Rattle.world_model.proofs.Driving.{happened, world_after, size_after, driven_push, put_own}
+use Rattle.world_model.proofs.Outstanding.{round_less}
 use Rattle.world_model.proofs.Flushing.{flush_none, flush_more, round_keeps, gone_asks, gone_drained}
 use Rattle.world_model.proofs.Hearing.{hear_none, hear_more, hear_keeps, hear_next, hear_other}
 use Rattle.world_model.proofs.Restarting.{live_refused, live_restarted}
@@ -157,13 +158,13 @@ put_there w s d answer mid f = (
 -- one round: a frame is put and arrives
 pub round_flushed : (w : WorldValue) (events : List WorldEvent) (s d i : ℕ) (a : Reply) (mid : WorldValue) (b : Reply) (w' : WorldValue) → IsWorld w → AllLive w → d < size w
     → Follows w (Put s d) a mid → index_of a ≡ Some i → Follows mid (Arrive s d i) b w'
-    → Flushed w events w' (listed (listed events (Put s d) a) (Arrive s d i) b) × (length events < length (listed (listed events (Put s d) a) (Arrive s d i) b))
+    → Flushed w events w' (listed (listed events (Put s d) a) (Arrive s d i) b) × (outstanding_at s d w' < outstanding_at s d w)
 round_flushed w events s d i a mid b w' world all l f some g = (
   record {
     advanced = both;
     keeps = round_keeps w mid w' s d a b put arrived world first.is_world;
   },
-  longer,
+  round_less w mid w' s d a b put arrived world,
 )
   where
     h : (f : PutFollows w s d a mid) × (i ≡ length f.frames) × (is_refused a ≡ false)
@@ -216,13 +217,6 @@ round_flushed w events s d i a mid b w' world all l f some g = (
               λ start e. driven_push start (events ++ Put s d ∷ []) mid (Arrive s d i) b w' (first.driven start e) tt (own start e) here.0 g
               (ap (λ z. z.run) arrived.after);
         })
-
-    longer : length events < length (listed (listed events (Put s d) a) (Arrive s d i) b)
-    longer =
-        let e = ap length listed_both in
-        let n = length_push events (Put s d) in
-        let k = length_push (events ++ Put s d ∷ []) (Arrive s d i) in
-        omega (arith, e, n, k)
 
 -- ---- all that goes from a rank to another
 
@@ -318,14 +312,19 @@ round_none w x z s s' d d' answer w' es ed i l f e none =
 
 pub round_some : (w : WorldValue) (x y z : List WorldEvent) (s d s1 d1 s2 d2 i : ℕ) (p q : Reply) (mid w' : WorldValue) → s1 ≡ s → d1 ≡ d → s2 ≡ s → d2 ≡ d
     → IsWorld w → AllLive w → d < size w → Follows w (Put s1 d1) p mid → y ≡ listed x (Put s1 d1) p → Some i ≡ index_of p → Follows mid (Arrive s2 d2 i) q w'
-    → z ≡ listed y (Arrive s2 d2 i) q → Flushed w x w' z × (length x < length z)
+    → z ≡ listed y (Arrive s2 d2 i) q → Flushed w x w' z × (outstanding_at s d w' < outstanding_at s d w)
 round_some w x y z s d s1 d1 s2 d2 i p q mid w' e1 e2 e3 e4 world all l f ey some g ez =
     let put : Follows w (Put s d) p mid = subst (λ h. Follows w (Put s h) p mid) e2 (subst (λ h. Follows w (Put h d1) p mid) e1 f) in
     let come : Follows mid (Arrive s d i) q w' = subst (λ h. Follows mid (Arrive s h i) q w') e4 (subst (λ h. Follows mid (Arrive h d2 i) q w') e3 g) in
     let after_put : y ≡ listed x (Put s d) p = ey ∙ ap (λ h. listed x (Put h d1) p) e1 ∙ ap (λ h. listed x (Put s h) p) e2 in
     let after_come : z ≡ listed (listed x (Put s d) p) (Arrive s d i) q =
     ez ∙ ap (λ h. listed y (Arrive h d2 i) q) e3 ∙ ap (λ h. listed y (Arrive s h i) q) e4 ∙ ap (λ h. listed h (Arrive s d i) q) after_put in
-    subst (λ h. Flushed w x w' h × (length x < length h)) (sym after_come) (round_flushed w x s d i p mid q w' world all l put (sym some) come)
+    subst (λ h. Flushed w x w' h × (outstanding_at s d w' < outstanding_at s d w)) (sym after_come) (round_flushed w x s d i p mid q w' world all l put (sym some) come)
+
+-- the first of two facts, where a test passed
+pub where_true : (A B : Type 0) (b : Bool) → b ≡ true → MatchBool b A B → A
+where_true A B true e m = m
+where_true A B false e m = absurd cc
 
 -- the second of two facts, where a test failed
 pub where_false : (A B : Type 0) (b : Bool) → b ≡ false → MatchBool b A B → B

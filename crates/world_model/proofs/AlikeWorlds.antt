@@ -1,6 +1,6 @@
 -- A world like one that is a world is one too: what the invariant says names no shelf but by its image, and not the logger's
 -- history.
-use Rattle.std.proofs.Common.{◌≡◌, ℕ, ◌<◌, List, [], length, Option, Some, refl, sym, ap, subst, ◌∙◌, slice_get}
+use Rattle.std.proofs.Common.{◌≡◌, ℕ, ◌<◌, List, [], ◌∷◌, map, option_map, length, Option, Some, None, refl, sym, ap, subst, ◌∙◌, slice_get}
 use Rattle.checkpoint.specs.Image.{ImageValue}
 use Rattle.checkpoint.specs.declared.memory_shelf.MemoryShelf.{MemoryShelf}
 use Rattle.crash_free.specs.Runs.{Passed}
@@ -10,7 +10,11 @@ use Rattle.world_model.specs.World.{Live, WorldValue, size, IsLive}
 use Rattle.world_model.specs.Counts.{RankCounts, Counts}
 use Rattle.world_model.specs.Stands.{RankStands, StandsAt, RankCovers, Covers, Stands, start_at}
 use Rattle.world_model.specs.Onward.{Behind, Asked, RankOnward, Onward, IsWorld}
-use Rattle.world_model.specs.Driven.{shelved, Alike}
+use Rattle.plain_logger.specs.Misses.{expand}
+use Rattle.rank_node.specs.Image.{begins_at}
+use Rattle.rank_node.specs.Replay.{is_cut}
+use Rattle.world_model.specs.Plain.{plain, without_runs, RankRuns, RunsOfMisses}
+use Rattle.world_model.specs.Driven.{shelved, IsAlike, AreAlike, Alike}
 use Rattle.world_model.proofs.Likeness.{Was, alike_live, alike_size}
 
 -- ---- a rank on another shelf
@@ -89,6 +93,42 @@ counts a b k c =
           (λ u shelf l. counts_shelf u shelf events (c.ranks r u events l (row_is a b r events k e)));
     }
 
+-- without runs of misses they are alike too
+alike_ranks : (xs ys : List (Option Live)) → AreAlike xs ys → AreAlike (map (option_map plain) xs) (map (option_map plain) ys)
+alike_ranks [] [] k = tt
+alike_ranks [] (y ∷ ys) k = absurd k
+alike_ranks (x ∷ xs) [] k = absurd k
+alike_ranks (x ∷ xs) (y ∷ ys) k = (one x y k.0, alike_ranks xs ys k.1)
+  where
+    one : (x y : Option Live) → IsAlike x y → IsAlike (option_map plain x) (option_map plain y)
+    one None None k = tt
+    one None (Some v) k = absurd k
+    one (Some u) None k = absurd k
+    one (Some u) (Some v) k = (k.0, ap plain k.1)
+
+plain_alike : (a b : WorldValue) → Alike a b → Alike (without_runs a) (without_runs b)
+plain_alike a b k =
+    record {
+      program = k.program;
+      ranks = alike_ranks a.ranks b.ranks k.ranks;
+      images = k.images;
+      rows = ap (λ z. map expand z) k.rows;
+      wires = k.wires;
+      lines = k.lines;
+      run = k.run;
+    }
+
+-- and their runs of misses are the same
+runs : (a b : WorldValue) → Alike a b → RunsOfMisses a → RunsOfMisses (moved a b)
+runs a b k c =
+    record {
+      rows = λ r events e. c.rows r events (row_is a b r events k e);
+      uncut = λ r j events e o at there im.
+          ap (λ n. is_cut (begins_at a.program r n o).clock e) (alike_size a b k) ∙ c.uncut r j events e o (row_is a b r events k at) there im;
+      ranks = λ r v live. on_live a b r v (λ z. RankRuns z) k live
+          (λ u shelf l. (let h = c.ranks r u l in record { unstored = h.unstored; left = h.left; later = h.later }));
+    }
+
 -- a rank can get on
 can_get_on : (a b : WorldValue) (r : ℕ) (v : Live) (shelf : MemoryShelf) → Alike a b → RankOnward a r v → RankOnward (moved a b) r (shelved v shelf)
 can_get_on a b r v shelf k o =
@@ -113,9 +153,12 @@ alike_world a b k i =
     subst (λ z. IsWorld z) (sym (is_moved a b k))
     (record {
       stands = record {
-        run = subst (λ n. StandsAt n (moved a b)) (sym (alike_size a b k)) (stands_at a b (size a) k i.stands.run);
+        run =
+            subst (λ n. StandsAt n (without_runs (moved a b))) (sym (alike_size a b k))
+            (stands_at (without_runs a) (without_runs b) (size a) (plain_alike a b k) i.stands.run);
         covers = covers a b k i.stands.covers;
         counts = counts a b k i.stands.counts;
+        runs = runs a b k i.stands.runs;
       };
       onward = onward a b k i.onward;
     })

@@ -1,7 +1,7 @@
 -- A step keeps what its rank counts: of a rank at work, and of one that replays.
 use Rattle.std.proofs.lemmas.List.{append-nil, length_push, drop-append-le}
-use Rattle.std.proofs.Common.{◌≡◌, ℕ, ◌+◌, ◌<◌, ◌≤◌, Bool, true, false, ◌==◌, nat_lt, if◌then◌else◌}
-use Rattle.std.proofs.Common.{is_some, List, [], ◌∷◌, ◌++◌, Option, Some, None, length, drop, refl, ap, ◌∙◌, arith}
+use Rattle.std.proofs.Common.{◌≡◌, ℕ, zero, suc, ◌+◌, ◌<◌, ◌≤◌, Bool, true, false, ◌==◌, nat_lt, if◌then◌else◌}
+use Rattle.std.proofs.Common.{is_some, List, [], ◌∷◌, ◌++◌, Option, Some, None, length, drop, refl, sym, ap, ◌∙◌, arith}
 use Rattle.std.proofs.Common.{option_and_then, position}
 use Rattle.std.proofs.lemmas.Bool.{ltb-true}
 use Rattle.plain_logger.specs.Event.{EventValue, event_of}
@@ -13,10 +13,10 @@ use Rattle.matching.specs.Matching.{matches}
 use Rattle.rank_machine.specs.Machine.{MachineValue, machine_want}
 use Rattle.rank_machine.specs.declared.want.Want.{Want}
 use Rattle.rank_machine.specs.declared.want.Want.TheVariants as want
-use Rattle.rank_node.specs.Waiting.{is_settled, events_in, has_room}
+use Rattle.rank_node.specs.Waiting.{is_settled, events_in, has_room, joins, with_joined, with_miss}
 use Rattle.rank_node.specs.declared.fault.NodeFault.TheVariants.{ClockSpent, Log}
 use Rattle.rank_node.specs.Steps.{step_at, refusal_at, event_refusal, received, probed, tried, at_index, after_send, after_print, made_send}
-use Rattle.rank_node.specs.Steps.{made_print, after_hold, after_wait, after_reception, after_probe}
+use Rattle.rank_node.specs.Steps.{made_print, after_hold, after_wait, after_reception, after_probe, after_miss, try_refusal, clock_refusal}
 use Rattle.world_model.specs.World.{Live, unpassed, unstored, WorldValue, IsLive}
 use Rattle.rank_node.specs.declared.waiting.Waiting.{Waiting}
 use Rattle.rank_node.specs.declared.waiting.Waiting.TheVariants as waits
@@ -25,6 +25,25 @@ use Rattle.world_model.specs.declared.reply.Reply.{Reply}
 use Rattle.rank_node.specs.Replay.{replayed_at, taken_named, shown_named, tried_named, named}
 use Rattle.world_model.specs.Counts.{RankCounts, Counts}
 use Rattle.world_model.proofs.Counts.{Counts-rank, one}
+use Rattle.world_model.proofs.Lists.{drop_zero}
+
+-- with a miss more in the last of them there are as many events
+joined_length : (xs : List Waiting) → length (events_in (with_joined xs)) ≡ length (events_in xs)
+joined_length [] = refl
+joined_length (waits.Event e ∷ []) = refl
+joined_length (waits.Send d c ∷ []) = refl
+joined_length (waits.Line c v ∷ []) = refl
+joined_length (waits.Event e ∷ (y ∷ xs)) = ap suc (joined_length (y ∷ xs))
+joined_length (waits.Send d c ∷ (y ∷ xs)) = joined_length (y ∷ xs)
+joined_length (waits.Line c v ∷ (y ∷ xs)) = joined_length (y ∷ xs)
+
+-- also of those behind the first
+joined_drop : (k : ℕ) (xs : List Waiting) → length (events_in (drop k (with_joined xs))) ≡ length (events_in (drop k xs))
+joined_drop zero xs =
+    ap (λ z. length (events_in z)) (drop_zero (with_joined xs)) ∙ joined_length xs ∙ sym (ap (λ z. length (events_in z)) (drop_zero xs))
+joined_drop (suc k) [] = refl
+joined_drop (suc k) (x ∷ []) = refl
+joined_drop (suc k) (x ∷ (y ∷ xs)) = joined_drop k (y ∷ xs)
 
 -- the events of two lists
 events_append : (xs ys : List Waiting) → events_in (xs ++ ys) ≡ events_in xs ++ events_in ys
@@ -84,9 +103,41 @@ module _ (v : Live) (m : MachineValue) (left : List EventValue)
   probed_counts None e (Some f) q = absurd cc
   probed_counts (Some i) e (Some f) q = probe_counts kind.Hit f.1.source f.1.clock e
 
-  tried_counts : event_refusal v.rank ≡ None → (f : Option (ℕ × packet.PacketValue)) → RankCounts (record { rank = tried v.rank m f; left = left }) events
-  tried_counts e None = probe_counts kind.Miss 0 0 e
-  tried_counts e (Some f) = probe_counts kind.Hit f.1.source f.1.clock e
+  -- a miss that joins what waits last is no event more
+  missed_counts : (joins v.rank.stored v.rank.pending ≡ false → event_refusal v.rank ≡ None)
+      → RankCounts (record { rank = after_miss v.rank m; left = left }) events
+  missed_counts may = go (joins v.rank.stored v.rank.pending) refl
+    where
+      go : (b : Bool) → joins v.rank.stored v.rank.pending ≡ b → RankCounts (record { rank = after_miss v.rank m; left = left }) events
+      go true is =
+          let a = k.made in
+          let b = k.few in
+          let same : (if joins v.rank.stored v.rank.pending then v.rank.made else v.rank.made + 1) ≡ v.rank.made =
+          ap (λ y. if y then v.rank.made else v.rank.made + 1) is in
+          let l : length (events_in (drop v.rank.stored (with_miss v.rank.stored v.rank.pending (v.rank.clock + 1)))) ≡ length (unstored v.rank) =
+          ap (λ y. length (events_in (drop v.rank.stored (if y then with_joined v.rank.pending
+          else v.rank.pending ++ waits.Event (event_of kind.Miss 0 0 (v.rank.clock + 1)) ∷ [])))) is ∙ joined_drop v.rank.stored v.rank.pending in
+          record { made = omega (arith, a, same, l); few = omega (arith, b, same) }
+      go false is =
+          let z = one_more (event_of kind.Miss 0 0 (v.rank.clock + 1)) (allowed_few (may is)) in
+          let z0 = z.0 in
+          let z1 = z.1 in
+          let same : (if joins v.rank.stored v.rank.pending then v.rank.made else v.rank.made + 1) ≡ v.rank.made + 1 =
+          ap (λ y. if y then v.rank.made else v.rank.made + 1) is in
+          let l : length (events_in (drop v.rank.stored (with_miss v.rank.stored v.rank.pending (v.rank.clock + 1))))
+          ≡ length (events_in (drop v.rank.stored (v.rank.pending ++ waits.Event (event_of kind.Miss 0 0 (v.rank.clock + 1)) ∷ []))) =
+          ap (λ y. length (events_in (drop v.rank.stored (if y then with_joined v.rank.pending
+          else v.rank.pending ++ waits.Event (event_of kind.Miss 0 0 (v.rank.clock + 1)) ∷ [])))) is in
+          record { made = omega (arith, z0, same, l); few = omega (arith, z1, same) }
+
+  tried_counts : (o : Option ℕ) → try_refusal v.rank o ≡ None → (f : Option (ℕ × packet.PacketValue))
+      → f ≡ option_and_then (at_index v.rank.inbox.packets) o
+      → RankCounts (record { rank = tried v.rank m f; left = left }) events
+  tried_counts None e None q =
+      missed_counts (λ is. sym (ap (λ b. if b then clock_refusal v.rank else event_refusal v.rank) is) ∙ e)
+  tried_counts (Some i) e None q = missed_counts (λ is. e)
+  tried_counts None e (Some f) q = absurd cc
+  tried_counts (Some i) e (Some f) q = probe_counts kind.Hit f.1.source f.1.clock e
 
   pub step_counts : (w : Want) → refusal_at v.rank w ≡ None → RankCounts (record { rank = step_at v.rank w m; left = left }) events
   step_counts want.Internal e = record { made = k.made; few = k.few }
@@ -101,7 +152,7 @@ module _ (v : Live) (m : MachineValue) (left : List EventValue)
       go false = stays
   step_counts (want.Receive s) e = received_counts (position (matches s) v.rank.inbox.packets) e _ refl
   step_counts (want.Probe s) e = probed_counts (position (matches s) v.rank.inbox.packets) e _ refl
-  step_counts (want.TryProbe s) e = tried_counts e _
+  step_counts (want.TryProbe s) e = tried_counts (position (matches s) v.rank.inbox.packets) e _ refl
   step_counts (want.Print z) e = go (has_room v.rank.pending)
     where
       made : (b : Bool) → RankCounts (record { rank = if b then after_print v.rank m else after_wait v.rank m z; left = left }) events
@@ -128,6 +179,7 @@ module _ (v : Live) (m : MachineValue) (left : List EventValue)
   tried_named_counts : (f : Option (ℕ × packet.PacketValue)) (w : Kind) → RankCounts (record { rank = tried_named v.rank m f w; left = left }) events
   tried_named_counts f kind.Hit = shown_counts f
   tried_named_counts f kind.Miss = print_counts
+  tried_named_counts f kind.Misses = print_counts
   tried_named_counts f kind.Reception = stays
 
   -- what is replayed is stored already

@@ -19,6 +19,7 @@ use Rattle.world_model.specs.Headline.{IsReal}
 use Rattle.world_model.specs.Seats.{AtRank, with_value}
 use Rattle.world_model.specs.Follows.{CanNot, Follows, PutFollows, ArriveFollows, put_as, arrived_as}
 use Rattle.world_model.specs.Stands.{Stands}
+use Rattle.world_model.proofs.PlainWorlds.{rank_of}
 use Rattle.world_model.specs.declared.event.WorldEvent.TheVariants.{Put, Arrive}
 use Rattle.world_model.specs.declared.reply.Reply.{Reply}
 use Rattle.world_model.specs.declared.reply.Reply.TheVariants as reply
@@ -44,7 +45,7 @@ put_none w s d h = (λ v live l. sym (subst (λ z. IsSomeAnd z (λ y. IsSomeAnd 
 pub live_size : (w : WorldValue) (r d : ℕ) → Stands w → AtRank w.ranks r (λ v. Unit {0}) → d < length w.ranks → AtRank w.ranks r (λ v. d < v.rank.stable.size)
 live_size w r d st h l =
     let v = live_at w.ranks r _ h in
-    let e = (st.run.ranks r v.0 v.1).size in
+    let e = (rank_of st r v.0 v.1).size in
     subst (λ z. IsSomeAnd z (λ y. IsSomeAnd y (λ (u : Live). d < u.rank.stable.size))) (sym v.1) (omega (arith, e, l))
 
 -- there is a wire between ranks that are there
@@ -60,7 +61,7 @@ pub put_due : (w : WorldValue) (s d : ℕ) (f : Frame) → Stands w → d < leng
     → AtRank w.ranks s (λ v. (d < v.rank.stable.size) × IsSome (outgoing_of v.rank d))
 put_due w s d f st l h =
     let v = live_at w.ranks s _ h in
-    let e = (st.run.ranks s v.0 v.1).size in
+    let e = (rank_of st s v.0 v.1).size in
     subst (λ z. IsSomeAnd z (λ y. IsSomeAnd y (λ (u : Live). (d < u.rank.stable.size) × IsSome (outgoing_of u.rank d)))) (sym v.1)
     (omega (arith, e, l), subst (λ z. IsSome z) v.2 refl)
 

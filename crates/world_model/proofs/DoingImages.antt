@@ -12,6 +12,7 @@ use Rattle.world_model.specs.Headline.{stable_of}
 use Rattle.world_model.specs.Seats.{at_work, AtRank, IsImaged, IsNotAtWork}
 use Rattle.world_model.specs.Follows.{CanNot, Follows}
 use Rattle.world_model.specs.Stands.{Stands}
+use Rattle.world_model.proofs.PlainWorlds.{rank_of}
 use Rattle.world_model.specs.declared.event.WorldEvent.TheVariants.{Image}
 use Rattle.world_model.specs.declared.reply.Reply.TheVariants as reply
 use Rattle.world_model.proofs.Doing.{none_live, same_live, at_value, value_at, live_in_replay, same_world}
@@ -73,7 +74,7 @@ image_some w w' r x s at settled took program logger wires lines run = follows
 
     stable : with_shelf x.stable is.2.shelf ≡ stable_of (size w) r is.2.shelf
     stable =
-        let k = s.run.ranks r (record { rank = x; left = [] }) at in
+        let k = rank_of s r (record { rank = x; left = [] }) at in
         on_shelf (size w) r x.stable is.2.shelf k.number k.size
 
     follows : Follows w (Image r) reply.Imaged w'

@@ -1,5 +1,5 @@
 -- What a crash and a restart come to.
-use Rattle.std.proofs.Common.{◌≡◌, ℕ, ◌<◌, ◌≤◌, inr, List, [], Option, Some, None, length, refl, sym}
+use Rattle.std.proofs.Common.{◌≡◌, ℕ, ◌<◌, ◌≤◌, false, inr, List, [], Option, Some, None, length, refl, sym}
 use Rattle.std.proofs.Common.{ap, subst, ◌∙◌, arith, slice_get, slice_set, slice_index_or, IsSomeAnd}
 use Rattle.std.proofs.lemmas.Option.{slice_get_within, slice_get-get_or}
 use Rattle.metered.specs.Limits.{most_events}
@@ -9,9 +9,7 @@ use Rattle.plain_logger.specs.History.{Answers, StateValue, above}
 use Rattle.plain_logger.specs.declared.call.Call.TheVariants.{Fetch}
 use Rattle.plain_logger.specs.declared.call.Reply.TheVariants.{Events}
 use Rattle.rank_node.specs.Image.{begins_at}
-use Rattle.rank_node.specs.Replay.{left_of}
-use Rattle.crash_free.specs.Runs.{history}
-use Rattle.world_model.specs.Rows.{row}
+use Rattle.rank_node.specs.Replay.{cuts, left_of}
 use Rattle.world_model.specs.World.{Live, WorldValue, size}
 use Rattle.world_model.specs.Seats.{AtRank, IsRestarted}
 use Rattle.world_model.specs.Follows.{CanNot, Follows, Unchanged}
@@ -19,7 +17,9 @@ use Rattle.world_model.specs.Stands.{Stands}
 use Rattle.world_model.specs.declared.event.WorldEvent.TheVariants.{Crash, Restart}
 use Rattle.world_model.specs.declared.reply.Reply.TheVariants as reply
 use Rattle.world_model.proofs.Doing.{none_live, live_at, not_down, same_world}
-use Rattle.world_model.proofs.Ranks.{above_whole}
+use Rattle.world_model.proofs.PlainEvents.{cuts_none}
+use Rattle.world_model.proofs.PlainWorlds.{as_many_rows}
+use Rattle.world_model.proofs.StandingRestarts.{row_whole}
 
 -- no rank is there to crash
 pub crash_nowhere : (w : WorldValue) (r : ℕ) → size w ≤ r → Follows w (Crash r) reply.Refused w
@@ -49,7 +49,7 @@ restart_live w r h = (λ down. (let v = live_at w.ranks r _ h in not_down w r v.
 
 -- its row is at the logger
 pub restart_row : (w : WorldValue) (r : ℕ) → Stands w → r < length w.ranks → r < length w.logger.rows
-restart_row w r s l = let e = s.run.as_many_rows in omega (arith, e, l)
+restart_row w r s l = let e = as_many_rows s in omega (arith, e, l)
 
 -- and has no more events than there may be
 pub restart_few : (w : WorldValue) (r : ℕ) (events : List EventValue) (logger : StateValue) → Stands w → r < length w.ranks
@@ -58,10 +58,33 @@ restart_few w r events logger s l fetched =
     let q : Events events ≡ Events (above 0 (slice_index_or w.logger.rows r [])) = fetched.replied in
     let e : events ≡ above 0 (slice_index_or w.logger.rows r []) = cc in
     let there = slice_get-get_or w.logger.rows r [] (restart_row w r s l) in
-    let is : slice_index_or w.logger.rows r [] ≡ row w.run r = s.run.rows r (slice_index_or w.logger.rows r []) there in
-    let whole : above 0 (slice_index_or w.logger.rows r []) ≡ slice_index_or w.logger.rows r [] =
-    ap (λ z. above 0 z) is ∙ above_whole 0 0 (history w.run r) (omega arith) ∙ sym is in
-    subst (λ z. length z ≤ most_events) (sym (e ∙ whole)) (s.counts.rows r (slice_index_or w.logger.rows r []) there)
+    subst (λ z. length z ≤ most_events) (sym (e ∙ row_whole w r s (slice_index_or w.logger.rows r []) there))
+    (s.counts.rows r (slice_index_or w.logger.rows r []) there)
+
+-- and no image cuts one of them
+pub restart_uncut : (w : WorldValue) (r : ℕ) (events : List EventValue) (logger : StateValue) → Stands w → r < length w.ranks
+    → Answers w.logger r (Fetch 0) (Events events) logger
+    → IsSomeAnd (slice_get w.images r) (λ image. cuts (begins_at w.program r (length w.ranks) image).clock events ≡ false)
+restart_uncut w r events logger s l fetched = go (slice_get w.images r) refl
+  where
+    there : slice_get w.logger.rows r ≡ Some (slice_index_or w.logger.rows r [])
+    there = slice_get-get_or w.logger.rows r [] (restart_row w r s l)
+
+    is : events ≡ slice_index_or w.logger.rows r []
+    is =
+        let q : Events events ≡ Events (above 0 (slice_index_or w.logger.rows r [])) = fetched.replied in
+        let e : events ≡ above 0 (slice_index_or w.logger.rows r []) = cc in
+        e ∙ row_whole w r s (slice_index_or w.logger.rows r []) there
+
+    go : (o : Option (Option ImageValue)) → slice_get w.images r ≡ o
+        → IsSomeAnd o (λ image. cuts (begins_at w.program r (length w.ranks) image).clock events ≡ false)
+    go None e =
+        absurd (let many = s.run.as_many_images in
+        let q : None ≡ Some (slice_index_or w.images r None) = sym e ∙ slice_get-get_or w.images r None (omega (arith, many, l)) in
+        cc)
+    go (Some image) e =
+        cuts_none (begins_at w.program r (length w.ranks) image).clock events
+        (λ k x at. s.runs.uncut r k (slice_index_or w.logger.rows r []) x image there (ap (λ z. slice_get z k) (sym is) ∙ at) e)
 
 -- what holds of what stands at a place, and that it stands there
 some_there : {A : Type 0} (o : Option A) (P : A → Type 0) → IsSomeAnd o P → (x : A) × (o ≡ Some x) × P x
@@ -123,4 +146,4 @@ restart_fetched w w' r events down fetches program ranks images wires lines run 
     inr (record { down = down; events = events; fetches = fetches; after = same_world w' _ program ranks images refl wires lines run })
 
 -- what a restart comes to, and what its calls ask for
-pub ruleset restart_laws = (restart_nowhere, restart_live, restart_row, restart_few, restart_some, restart_possible, restart_fetched)
+pub ruleset restart_laws = (restart_nowhere, restart_live, restart_row, restart_few, restart_uncut, restart_some, restart_possible, restart_fetched)

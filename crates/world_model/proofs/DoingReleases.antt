@@ -10,6 +10,7 @@ use Rattle.world_model.specs.World.{Rank, Live, WorldValue, size}
 use Rattle.world_model.specs.Seats.{at_work, AtRank, with_value, IsNotAtWork}
 use Rattle.world_model.specs.Follows.{CanNot, Follows, passed_at, lines_released, released_act}
 use Rattle.world_model.specs.Stands.{Stands}
+use Rattle.world_model.proofs.PlainWorlds.{rank_of}
 use Rattle.world_model.specs.declared.event.WorldEvent.TheVariants.{Release}
 use Rattle.world_model.specs.declared.reply.Reply.TheVariants as reply
 use Rattle.world_model.proofs.Doing.{none_live, same_live, at_value, value_at, live_in_replay, same_world}
@@ -51,7 +52,7 @@ release_some w w' r x effect act before clock s at oldest acts clocked ranks sho
           same_world w' _ program (at_value w.ranks r x _ at ranks ∙ ap (λ z. with_value w.ranks r (record { rank = x; left = [] }) (released x z))
           (sym oldest)) images logger wires
           (shown_effect x effect w.lines w'.lines (subst (λ z. ShowsEffect Shows x z w.lines w'.lines) (sym oldest) (at_value w.ranks r x _ at shows))
-          ∙ ap (λ z. lines_released w.lines z effect) (s.run.ranks r (record { rank = x; left = [] }) at).number)
+          ∙ ap (λ z. lines_released w.lines z effect) (rank_of s r (record { rank = x; left = [] }) at).number)
           (run ∙ ap (λ z. passed_at w.run r z (Some act)) (let q : Some before ≡ Some clock = sym is_before ∙ of_it in cc));
     }
   where

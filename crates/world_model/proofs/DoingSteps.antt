@@ -23,12 +23,13 @@ use Rattle.world_model.specs.Seats.{at_work, AtRank, IsFitting, IsReplayed, IsSt
 use Rattle.world_model.specs.Follows.{CanNot, Happens, Follows, StepFollows, ReplayFollows}
 use Rattle.world_model.specs.Follows.{TakesNoMemory, lines_after, shown_where_moved, effect_at, where_moved, at_once}
 use Rattle.world_model.specs.Follows.{passed_at, stepped, step_takes_memory}
-use Rattle.world_model.specs.Stands.{start_at, RankStands, Stands}
+use Rattle.world_model.specs.Stands.{Stands}
 use Rattle.world_model.specs.declared.event.WorldEvent.{WorldEvent}
 use Rattle.world_model.specs.declared.event.WorldEvent.TheVariants.{Step}
 use Rattle.world_model.specs.declared.reply.Reply.TheVariants as reply
 use Rattle.world_model.proofs.Doing.{none_live, same_live, at_value, value_at, live_at, not_down, is_then_down, same_world}
-use Rattle.world_model.proofs.Replays.{replays, settled, behind}
+use Rattle.world_model.proofs.PlainReplays.{fitting, none_waiting, is_behind}
+use Rattle.world_model.proofs.PlainWorlds.{rank_of}
 use Rattle.world_model.proofs.MadeAgain.{passed_again}
 use Rattle.world_model.proofs.Showing.{Shows}
 
@@ -88,7 +89,7 @@ step_some w w' r x t s at none turned step run program images logger wires = tur
     answered = at_value w.ranks r x (λ v. t ≡ turn_of v.rank) at turned
 
     number : x.stable.rank ≡ r
-    number = (s.run.ranks r (record { rank = x; left = [] }) at).number
+    number = (rank_of s r (record { rank = x; left = [] }) at).number
 
     lines : w'.lines ≡ lines_after w.lines r x (machine_want x.machine) (turn_of x)
     lines = is.1.shown ∙ ap (λ z. lines_after w.lines z x (machine_want x.machine) (turn_of x)) number
@@ -205,9 +206,7 @@ pub replay_fits : (w : WorldValue) (r : ℕ) → Stands w → AtRank w.ranks r (
 replay_fits w r s h =
     let v = live_at w.ranks r _ h in
     subst (λ z. IsSomeAnd z (λ y. IsSomeAnd y IsFitting)) (sym v.1)
-    (λ e rest left. (
-    let g = replays (start_at w (size w)) (size w) w.run r v.0 s.run.is_run (s.run.ranks r v.0 v.1) e rest left (machine_want v.0.rank.machine) refl in
-    (g.turn, g.turned)))
+    (λ e rest left. fitting w r v.0 s v.1 e rest left (machine_want v.0.rank.machine) refl)
 
 -- a print that is replayed moves
 print_moves : (v : Rank) (e : EventValue) (x : ℤ) (t : Turn) (b : Bool) → (if b then Ok turn.Moved else Err Replay) ≡ Ok t → t ≡ turn.Moved
@@ -246,14 +245,11 @@ replay_some w w' r t s step shows run program images logger wires = turn_cases (
     is : IsReplayed x.0 t x.2.0
     is = x.2.1
 
-    k : RankStands (start_at w (size w)) (size w) w.run r x.0
-    k = s.run.ranks r x.0 x.1
-
     none : x.0.rank.pending ≡ []
-    none = settled (start_at w (size w)) (size w) w.run r x.0 s.run.is_run k x.2.1.event x.2.1.rest x.2.1.replaying
+    none = none_waiting w r x.0 s x.1 x.2.1.event x.2.1.rest x.2.1.replaying
 
     behind_run : x.0.rank.clock < length (history w.run r)
-    behind_run = behind (start_at w (size w)) (size w) w.run r x.0 s.run.is_run k x.2.1.event x.2.1.rest x.2.1.replaying
+    behind_run = is_behind w r x.0 s x.1 x.2.1.event x.2.1.rest x.2.1.replaying
 
     shown : ShowsReplay Shows x.0.rank w.lines w'.lines
     shown = subst (λ z. IsSomeAnd z (λ y. IsSomeAnd y (λ (u : Live). ShowsReplay Shows u.rank w.lines w'.lines))) x.1 shows
@@ -261,7 +257,7 @@ replay_some w w' r t s step shows run program images logger wires = turn_cases (
     lines : w'.lines ≡ lines_after w.lines r x.0.rank (machine_want x.0.rank.machine) t
     lines =
         shown_again x.0.rank (machine_want x.0.rank.machine) x.2.1.event t w.lines w'.lines none x.2.1.turned shown
-        ∙ ap (λ z. lines_after w.lines z x.0.rank (machine_want x.0.rank.machine) t) k.number
+        ∙ ap (λ z. lines_after w.lines z x.0.rank (machine_want x.0.rank.machine) t) (rank_of s r x.0 x.1).number
 
     follows : ReplayFollows w r (stepped t) w'
     follows = record {

@@ -1,27 +1,33 @@
 -- What a store and an acknowledgment come to.
-use Rattle.std.proofs.Common.{◌≡◌, ◌≢◌, ℕ, ◌+◌, ◌<◌, ◌≤◌, [], ◌∷◌, Option, Some, None, length, refl, sym}
+use Rattle.std.proofs.Common.{◌≡◌, ◌≢◌, ℕ, zero, suc, ◌+◌, ◌<◌, ◌≤◌, true, false, List, [], ◌∷◌, ◌++◌, Option, Some, None, length, drop, replicate, refl, sym}
 use Rattle.std.proofs.Common.{ap, subst, ◌∙◌, arith, slice_get, IsSomeAnd, option_map}
+use Rattle.std.proofs.lemmas.List.{append-nil}
 use Rattle.std.proofs.lemmas.Option.{slice_get_within}
-use Rattle.plain_logger.specs.Event.{EventValue, event_of}
+use Rattle.plain_logger.specs.Event.{EventValue, event_of, finds_none, count_of}
+use Rattle.plain_logger.specs.Misses.{parts_of}
 use Rattle.plain_logger.specs.History.{Answers}
 use Rattle.plain_logger.specs.declared.call.Call.TheVariants.{Append}
 use Rattle.plain_logger.specs.declared.call.Reply.TheVariants.{Length}
+use Rattle.plain_logger.specs.declared.kind.Kind.{Kind}
 use Rattle.plain_logger.specs.declared.kind.Kind.TheVariants as kind
+use Rattle.plain_logger.proofs.Misses.{one_part}
 use Rattle.rank_machine.specs.Acts.{Act, Message, sends, takes, hits, misses, prints}
 use Rattle.rank_node.specs.Storing.{next_unstored, after_store, after_ack, Appends}
-use Rattle.crash_free.specs.Runs.{at_place, history, sent, looked_up}
-use Rattle.world_model.specs.Rows.{event_at}
-use Rattle.world_model.specs.RunIndex.{clock_at}
+use Rattle.crash_free.specs.Runs.{Passed, at_place, history, sent, looked_up, continue}
+use Rattle.world_model.specs.Rows.{row, event_at}
+use Rattle.world_model.specs.RunIndex.{clock_at, with_misses}
 use Rattle.world_model.specs.World.{Rank, Live, WorldValue, size}
-use Rattle.world_model.specs.Seats.{at_work, AtRank, with_value, IsAccepted, IsNotAtWork}
+use Rattle.world_model.specs.Seats.{at_work, AtRank, with_value, IsAccepted, IsNotAtWork, NotedAs}
 use Rattle.world_model.specs.Follows.{CanNot, Follows}
 use Rattle.world_model.specs.Stands.{start_at, Stands}
 use Rattle.world_model.specs.declared.event.WorldEvent.TheVariants.{Store, Ack}
 use Rattle.world_model.specs.declared.reply.Reply.TheVariants as reply
+use Rattle.world_model.proofs.Lists.{drop_zero}
 use Rattle.world_model.proofs.Rows.{row_one_more, event_clock}
 use Rattle.world_model.proofs.Headline.{nothing_in_replay}
 use Rattle.world_model.proofs.Doing.{none_live, same_live, at_value, value_at, live_at, live_in_replay, same_world}
-use Rattle.world_model.proofs.Storing.{oldest_act, accepts, sender_below}
+use Rattle.world_model.proofs.PlainWorlds.{rank_of, as_many_rows}
+use Rattle.world_model.proofs.Storing.{oldest_act, oldest_counted, oldest_first, accepts, sender_below, misses_noted, misses_run, copies}
 
 -- no rank is there to acknowledge anything
 pub ack_nowhere : (w : WorldValue) (r : ℕ) → size w ≤ r → Follows w (Ack r) reply.Refused w
@@ -96,58 +102,50 @@ named_by w r x misses e ne = absurd (ne (ap (λ z. z.kind) (misses_of (length (h
 named_by w r x (sends d c t items) e ne = absurd cc
 named_by w r x (prints v) e ne = absurd cc
 
--- so does the oldest unstored event
-names : (w : WorldValue) (r : ℕ) (x : EventValue) → Stands w → AtRank w.ranks r (λ v. next_unstored v.rank ≡ Some x) → x.kind ≢ kind.Miss → Names w r x
-names w r x s h ne =
+-- what found a message is no miss, and no run of misses
+found_some : (x : EventValue) (k : Kind) → finds_none k ≡ true → finds_none x.kind ≡ false → x.kind ≡ k → ⊥
+found_some x k none some is = (let q : true ≡ false = sym none ∙ sym (ap finds_none is) ∙ some in cc)
+
+-- so it is of one act, the next of its rank
+found_act : (w : WorldValue) (r : ℕ) (x : EventValue) → Stands w → AtRank w.ranks r (λ v. next_unstored v.rank ≡ Some x) → finds_none x.kind ≡ false
+    → (a : Act) × (event_at (length (history w.run r) + 1) a (looked_up (λ q. sent w.run q r) a) ≡ Some x)
+found_act w r x s h some =
     let v = live_at w.ranks r _ h in
     let a = oldest_act w r v.0 x s v.1 v.2 in
-    named_by w r x a.0 a.1 ne
+    let one : x ∷ [] ≡ a.1 ∷ a.2 = sym (one_part x (found_some x kind.Misses refl some)) ∙ a.3 in
+    let same : x ≡ a.1 = cc in
+    (a.0, a.5 ∙ ap Some (sym same))
+
+-- and names a message
+names : (w : WorldValue) (r : ℕ) (x : EventValue) → Stands w → AtRank w.ranks r (λ v. next_unstored v.rank ≡ Some x) → finds_none x.kind ≡ false → Names w r x
+names w r x s h some = (let a = found_act w r x s h some in named_by w r x a.0 a.1 (found_some x kind.Miss refl some))
 
 -- its sender is one of the ranks
-pub names_a_rank : (w : WorldValue) (r n : ℕ) (x : EventValue) → Stands w → AtRank w.ranks r (λ v. next_unstored v.rank ≡ Some x) → x.kind ≢ kind.Miss
-    → n ≡ length w.ranks → x.sender < n
-names_a_rank w r n x s h ne e =
-    let m = names w r x s h ne in
+pub names_a_rank : (w : WorldValue) (r n : ℕ) (x : EventValue) → Stands w → AtRank w.ranks r (λ v. next_unstored v.rank ≡ Some x)
+    → finds_none x.kind ≡ false → n ≡ length w.ranks → x.sender < n
+names_a_rank w r n x s h some e =
+    let m = names w r x s h some in
     let l = sender_below (start_at w (size w)) (size w) w.run x.sender r m.place m.message s.run.is_run m.there in
     omega (arith, e, l)
 
 -- and sent a message with its clock
-pub names_a_message : (w : WorldValue) (r : ℕ) (x : EventValue) → Stands w → AtRank w.ranks r (λ v. next_unstored v.rank ≡ Some x) → x.kind ≢ kind.Miss
-    → ((j : ℕ) → clock_at w.run x.sender r j ≡ Some x.sender_clock → ⊥) → ⊥
-names_a_message w r x s h ne none =
-    let m = names w r x s h ne in
+pub names_a_message : (w : WorldValue) (r : ℕ) (x : EventValue) → Stands w → AtRank w.ranks r (λ v. next_unstored v.rank ≡ Some x)
+    → finds_none x.kind ≡ false → ((j : ℕ) → clock_at w.run x.sender r j ≡ Some x.sender_clock → ⊥) → ⊥
+names_a_message w r x s h some none =
+    let m = names w r x s h some in
     none m.place (ap (λ o. option_map (λ (y : Message). y.clock) o) m.there ∙ ap Some m.clock)
 
--- the clock of an oldest event is the next of its rank in the run
-own_clock : (w : WorldValue) (r : ℕ) (x : EventValue) → Stands w → AtRank w.ranks r (λ v. next_unstored v.rank ≡ Some x)
+-- its clock is the next of its rank in the run
+own_clock : (w : WorldValue) (r : ℕ) (x : EventValue) → Stands w → AtRank w.ranks r (λ v. next_unstored v.rank ≡ Some x) → finds_none x.kind ≡ false
     → x.receiver_clock ≡ length (history w.run r) + 1
-own_clock w r x s h =
-    let v = live_at w.ranks r _ h in
-    let a = oldest_act w r v.0 x s v.1 v.2 in
-    event_clock (length (history w.run r) + 1) a.0 (looked_up (λ q. sent w.run q r) a.0) x a.1
+own_clock w r x s h some = (let a = found_act w r x s h some in event_clock (length (history w.run r) + 1) a.0 (looked_up (λ q. sent w.run q r) a.0) x a.1)
 
 -- a message with this clock
 with_clock : (o : Option Message) (clock : ℕ) → option_map (λ (y : Message). y.clock) o ≡ Some clock → (m : Message) × (o ≡ Some m) × (m.clock ≡ clock)
 with_clock None clock e = absurd cc
 with_clock (Some m) clock e = (m, refl, cc)
 
--- a miss is its event's act
-pub miss_stands : (w : WorldValue) (r : ℕ) (x : EventValue) → Stands w → AtRank w.ranks r (λ v. next_unstored v.rank ≡ Some x) → x.kind ≡ kind.Miss
-    → ◌≡◌ {A = Option EventValue} (Some (event_of kind.Miss 0 0 (length (history w.run r) + 1))) (Some x)
-miss_stands w r x s h is =
-    let v = live_at w.ranks r _ h in
-    let a = oldest_act w r v.0 x s v.1 v.2 in
-    go a.0 a.1
-  where
-    go : (a : Act) → event_at (length (history w.run r) + 1) a (looked_up (λ q. sent w.run q r) a) ≡ Some x
-        → ◌≡◌ {A = Option EventValue} (Some (event_of kind.Miss 0 0 (length (history w.run r) + 1))) (Some x)
-    go (takes q j) e = let z = sym is ∙ ap (λ y. y.kind) (takes_of _ q j (at_place (sent w.run q r) j) x e).2 in absurd cc
-    go (hits q j) e = let z = sym is ∙ ap (λ y. y.kind) (hits_of _ q j (at_place (sent w.run q r) j) x e).2 in absurd cc
-    go misses e = e
-    go (sends d c t items) e = absurd cc
-    go (prints v) e = absurd cc
-
--- a hit of the message that is named is
+-- a hit of the message that is named is of its event
 pub hit_stands : (w : WorldValue) (r : ℕ) (x : EventValue) (j : ℕ) → Stands w → AtRank w.ranks r (λ v. next_unstored v.rank ≡ Some x) → x.kind ≡ kind.Hit
     → clock_at w.run x.sender r j ≡ Some x.sender_clock
     → event_at (length (history w.run r) + 1) (hits x.sender j) (at_place (sent w.run x.sender r) j) ≡ Some x
@@ -155,7 +153,8 @@ hit_stands w r x j s h is at =
     let m = with_clock (at_place (sent w.run x.sender r) j) x.sender_clock at in
     ap (λ o. event_at (length (history w.run r) + 1) (hits x.sender j) o) m.1
     ∙ ap Some (ap (λ k. event_of k x.sender m.0.clock (length (history w.run r) + 1)) (sym is) ∙ ap
-    (λ k. event_of x.kind x.sender k (length (history w.run r) + 1)) m.2 ∙ ap (λ k. event_of x.kind x.sender x.sender_clock k) (sym (own_clock w r x s h)))
+    (λ k. event_of x.kind x.sender k (length (history w.run r) + 1)) m.2
+    ∙ ap (λ k. event_of x.kind x.sender x.sender_clock k) (sym (own_clock w r x s h (ap finds_none is))))
 
 -- and so is a reception
 pub reception_stands : (w : WorldValue) (r : ℕ) (x : EventValue) (j : ℕ) → Stands w → AtRank w.ranks r (λ v. next_unstored v.rank ≡ Some x)
@@ -166,7 +165,50 @@ reception_stands w r x j s h is at =
     let m = with_clock (at_place (sent w.run x.sender r) j) x.sender_clock at in
     ap (λ o. event_at (length (history w.run r) + 1) (takes x.sender j) o) m.1
     ∙ ap Some (ap (λ k. event_of k x.sender m.0.clock (length (history w.run r) + 1)) (sym is) ∙ ap
-    (λ k. event_of x.kind x.sender k (length (history w.run r) + 1)) m.2 ∙ ap (λ k. event_of x.kind x.sender x.sender_clock k) (sym (own_clock w r x s h)))
+    (λ k. event_of x.kind x.sender k (length (history w.run r) + 1)) m.2
+    ∙ ap (λ k. event_of x.kind x.sender x.sender_clock k) (sym (own_clock w r x s h (ap finds_none is))))
+
+-- the one act of an event that found a message
+pub noted_one : (w : WorldValue) (r : ℕ) (x : EventValue) (a : Act) (C' : List Passed) → finds_none x.kind ≡ false
+    → event_at (length (history w.run r) + 1) a (looked_up (λ q. sent w.run q r) a) ≡ Some x → C' ≡ record { rank = r; act = a } ∷ w.run
+    → NotedAs w.run r x 1 C'
+noted_one w r x a C' some event after =
+    let one = one_part x (found_some x kind.Misses refl some) in
+    record {
+      acts = a ∷ [];
+      noted = record {
+        row_grows = row_one_more w.run r a x event ∙ ap (λ z. row w.run r ++ z) (sym (append-nil (parts_of x) ∙ one));
+        as_many = sym (ap length (append-nil (parts_of x) ∙ one));
+      };
+      after = after;
+      as_many = refl;
+    }
+
+-- the acts of a miss, or of a run of misses
+pub noted_misses : (w : WorldValue) (r count : ℕ) (x : EventValue) (C' : List Passed) → Stands w → AtRank w.ranks r (λ v. next_unstored v.rank ≡ Some x)
+    → finds_none x.kind ≡ true → count ≡ count_of x → C' ≡ with_misses r count w.run → NotedAs w.run r x count C'
+noted_misses w r count x C' s h none is after =
+    let v = live_at w.ranks r _ h in
+    record {
+      acts = replicate (count_of x) misses;
+      noted = misses_noted w.run r x none (oldest_counted w r v.0 x s v.1 v.2) (oldest_first w r v.0 x s v.1 v.2);
+      after = after ∙ ap (λ n. with_misses r n w.run) is ∙ misses_run w.run r (count_of x);
+      as_many = is ∙ sym (copies (count_of x));
+    }
+
+-- what was noted may be taken back
+pub noted_back : (C C' : List Passed) (r count : ℕ) (x : EventValue) → NotedAs C r x count C' → drop count C' ≡ C
+noted_back C C' r count x n = ap (λ z. drop z C') n.as_many ∙ ap (λ z. drop (length n.acts) z) n.after ∙ back C n.acts
+  where
+    back : (D : List Passed) (acts : List Act) → drop (length acts) (continue D r acts) ≡ D
+    back D [] = drop_zero D
+    back D (a ∷ acts) = one (continue (record { rank = r; act = a } ∷ D) r acts) (length acts) (record { rank = r; act = a }) D (back (record { rank = r; act = a } ∷ D) acts)
+      where
+        one : (xs : List Passed) (k : ℕ) (x : Passed) (E : List Passed) → drop k xs ≡ x ∷ E → drop (suc k) xs ≡ E
+        one [] zero x E e = absurd cc
+        one [] (suc k) x E e = absurd cc
+        one (y ∷ xs) zero x E e = (let q : xs ≡ E = cc in drop_zero xs ∙ q)
+        one (y ∷ xs) (suc k) x E e = one xs k x E e
 
 -- no rank is there to store anything
 pub store_nowhere : (w : WorldValue) (r : ℕ) → size w ≤ r → Follows w (Store r) reply.Refused w
@@ -184,9 +226,9 @@ store_none w r x at none = (λ v live. subst (λ z. next_unstored z.rank ≡ Non
 pub store_row : (w : WorldValue) (r : ℕ) (x : Rank) → Stands w → slice_get w.ranks r ≡ Some (at_work x)
     → AtRank w.ranks r (λ v. (v.rank.stable.rank ≡ r) × (r < length w.logger.rows))
 store_row w r x s at =
-    let k = s.run.ranks r (record { rank = x; left = [] }) at in
+    let k = rank_of s r (record { rank = x; left = [] }) at in
     let l = slice_get_within w.ranks r (at_work x) at in
-    value_at w.ranks r x (λ v. (v.rank.stable.rank ≡ r) × (r < length w.logger.rows)) at (k.number, let e = s.run.as_many_rows in omega (arith, l, e))
+    value_at w.ranks r x (λ v. (v.rank.stable.rank ≡ r) × (r < length w.logger.rows)) at (k.number, let e = as_many_rows s in omega (arith, l, e))
 
 -- the logger accepts the event
 pub store_accepted : (w : WorldValue) (r : ℕ) (x : Rank) (e : EventValue) → Stands w → slice_get w.ranks r ≡ Some (at_work x) → next_unstored x ≡ Some e
@@ -205,15 +247,14 @@ appended : (e : EventValue) (o : Option EventValue) (r count : ℕ) (w w' : Worl
 appended e o r count w w' q h = subst (λ z. Appends z r w.logger (Length count) w'.logger) q h
 
 -- an event is stored
-pub store_some : (w w' : WorldValue) (r : ℕ) (x : Rank) (e : EventValue) (a : Act) (count : ℕ)
+pub store_some : (w w' : WorldValue) (r acts : ℕ) (x : Rank) (e : EventValue) (count : ℕ)
     → slice_get w.ranks r ≡ Some (at_work x) → next_unstored x ≡ Some e
-    → event_at (length (history w.run r) + 1) a (looked_up (λ q. sent w.run q r) a) ≡ Some e
-    → w'.run ≡ record { rank = r; act = a } ∷ w.run
+    → NotedAs w.run r e acts w'.run
     → AtRank w.ranks r (λ v. Appends (next_unstored v.rank) r w.logger (Length count) w'.logger)
     → AtRank w.ranks r (λ v. w'.ranks ≡ with_value w.ranks r v (after_store v.rank))
     → w'.program ≡ w.program → w'.images ≡ w.images → w'.wires ≡ w.wires → w'.lines ≡ w.lines
     → Follows w (Store r) (reply.Stored count) w'
-store_some w w' r x e a count at oldest event run appends ranks program images wires lines =
+store_some w w' r acts x e count at oldest noted appends ranks program images wires lines =
     record {
       before = record { rank = x; left = [] };
       live = at;
@@ -222,22 +263,21 @@ store_some w w' r x e a count at oldest event run appends ranks program images w
       count = count;
       answered = refl;
       appends = appended e (next_unstored x) r count w w' oldest (at_value w.ranks r x _ at appends);
-      acts = a ∷ [];
-      noted = record { row_grows = row_one_more w.run r a e event; as_many = refl };
-      after = same_world w' _ program (at_value w.ranks r x _ at ranks) images refl wires lines run;
+      acts = noted.acts;
+      noted = noted.noted;
+      after = same_world w' _ program (at_value w.ranks r x _ at ranks) images refl wires lines noted.after;
     }
 
 -- the same, of a rank whose number the event names
-pub store_named : (w w' : WorldValue) (r named : ℕ) (x : Rank) (e : EventValue) (a : Act) (count : ℕ) → r ≡ named
+pub store_named : (w w' : WorldValue) (r named acts : ℕ) (x : Rank) (e : EventValue) (count : ℕ) → r ≡ named
     → slice_get w.ranks r ≡ Some (at_work x) → next_unstored x ≡ Some e
-    → event_at (length (history w.run r) + 1) a (looked_up (λ q. sent w.run q r) a) ≡ Some e
-    → w'.run ≡ record { rank = r; act = a } ∷ w.run
+    → NotedAs w.run r e acts w'.run
     → AtRank w.ranks r (λ v. Appends (next_unstored v.rank) r w.logger (Length count) w'.logger)
     → AtRank w.ranks r (λ v. w'.ranks ≡ with_value w.ranks r v (after_store v.rank))
     → w'.program ≡ w.program → w'.images ≡ w.images → w'.wires ≡ w.wires → w'.lines ≡ w.lines
     → Follows w (Store named) (reply.Stored count) w'
-store_named w w' r named x e a count same at oldest event run appends ranks program images wires lines =
-    subst (λ z. Follows w (Store z) (reply.Stored count) w') same (store_some w w' r x e a count at oldest event run appends ranks program images wires lines)
+store_named w w' r named acts x e count same at oldest noted appends ranks program images wires lines =
+    subst (λ z. Follows w (Store z) (reply.Stored count) w') same (store_some w w' r acts x e count at oldest noted appends ranks program images wires lines)
 
 -- where memory ends a store could happen
 pub store_possible : (w : WorldValue) (r : ℕ) (x : Rank) (e : EventValue) → slice_get w.ranks r ≡ Some (at_work x) → next_unstored x ≡ Some e
@@ -245,7 +285,7 @@ pub store_possible : (w : WorldValue) (r : ℕ) (x : Rank) (e : EventValue) → 
 store_possible w r x e at oldest cannot = let none : Some e ≡ None = sym oldest ∙ cannot (record { rank = x; left = [] }) at in cc
 
 -- what a store comes to, and what its calls ask for
-pub ruleset store_laws = (store_nowhere, store_idle, store_none, store_some, store_row, store_accepted, store_oldest, store_possible)
+pub ruleset store_laws = (store_nowhere, store_idle, store_none, store_some, store_row, store_accepted, store_oldest, store_possible, noted_back)
 
 -- what an acknowledgment comes to
 pub ruleset ack_laws = (ack_nowhere, ack_idle, ack_none, ack_some)

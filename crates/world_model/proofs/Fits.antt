@@ -4,7 +4,8 @@ use Rattle.std.proofs.Common.{slice_get}
 use Rattle.std.proofs.lemmas.Bool.{cases_eq}
 use Rattle.matching.specs.declared.packet.Context.{Context}
 use Rattle.matching.specs.declared.selector.Selector.{Selector}
-use Rattle.plain_logger.specs.Event.{EventValue}
+use Rattle.plain_logger.specs.Event.{EventValue, event_of, first_clock}
+use Rattle.plain_logger.specs.declared.kind.Kind.TheVariants as kind
 use Rattle.rank_machine.specs.declared.fault.MachineFault.{MachineFault}
 use Rattle.rank_machine.specs.declared.want.Want.{Want}
 use Rattle.rank_machine.specs.declared.want.Want.TheVariants as want
@@ -151,3 +152,23 @@ first_event_late k (x ∷ h) e rest q = go (event_at (k + 1) x.0 x.1) refl q (λ
         let c = event_clock (k + 1) x.0 x.1 y is in
         let z : e.receiver_clock ≡ k + 1 = ap (λ u. u.receiver_clock) same ∙ c in
         omega (arith, z))
+
+-- an act's event is of that act alone
+event_first : (c : ℕ) (a : Act) (m : Option Message) (x : EventValue) → event_at c a m ≡ Some x → first_clock x ≡ x.receiver_clock
+event_first c (sends d context t items) m x e = absurd cc
+event_first c (takes s j) (Some y) x e = (let q : event_of kind.Reception s y.clock c ≡ x = cc in subst (λ z. first_clock z ≡ z.receiver_clock) q refl)
+event_first c (takes s j) None x e = absurd cc
+event_first c (hits s j) (Some y) x e = (let q : event_of kind.Hit s y.clock c ≡ x = cc in subst (λ z. first_clock z ≡ z.receiver_clock) q refl)
+event_first c (hits s j) None x e = absurd cc
+event_first c misses m x e = (let q : event_of kind.Miss 0 0 c ≡ x = cc in subst (λ z. first_clock z ≡ z.receiver_clock) q refl)
+event_first c (prints v) m x e = absurd cc
+
+-- so is the first event of acts
+pub first_event_first : (k : ℕ) (h : History) (e : EventValue) (rest : List EventValue) → e ∷ rest ≡ events_from k h → first_clock e ≡ e.receiver_clock
+first_event_first k [] e rest q = absurd cc
+first_event_first k (x ∷ h) e rest q = go (event_at (k + 1) x.0 x.1) refl q (λ f. first_event_first (k + 1) h e rest f)
+  where
+    go : (o : Option EventValue) → event_at (k + 1) x.0 x.1 ≡ o → e ∷ rest ≡ cons_some o (events_from (k + 1) h)
+        → (e ∷ rest ≡ events_from (k + 1) h → first_clock e ≡ e.receiver_clock) → first_clock e ≡ e.receiver_clock
+    go None is q f = f q
+    go (Some y) is q f = (let same : y ≡ e = cc in subst (λ z. first_clock z ≡ z.receiver_clock) same (event_first (k + 1) x.0 x.1 y is))

@@ -1,20 +1,21 @@
 -- Each event keeps the invariant; the invariant says that the world stands for its run and that nothing needed is gone; and a new world has it.
-use Rattle.std.proofs.Common.{slice_index_or, ◌≡◌, ◌≢◌, ℕ, zero, suc, ◌+◌, ◌≤◌, inl, ⊎_elim, List, [], ◌∷◌, Option, Some, None, length, drop}
+use Rattle.std.proofs.Common.{◌≡◌, ◌≢◌, ℕ, zero, suc, ◌+◌, ◌≤◌, inl, ⊎_elim, map, List, [], ◌∷◌, ◌++◌, Option, Some, None, length, drop}
 use Rattle.std.proofs.Common.{replicate, refl, sym, ap, subst, ◌∙◌, arith, slice_get, option_and_then}
 use Rattle.world_model.specs.Counts.{RankCounts, Counts}
+use Rattle.world_model.specs.Plain.{plain_rank, plain, without_runs, RankRuns, RunsOfMisses}
 use Rattle.world_model.specs.Follows.{RestartFollows, ReleaseFollows, CanNot, Happens, Follows, Fetched, Unchanged}
-use Rattle.rank_node.specs.Waiting.{BeginsWithEvents, event_in, effects, events_in}
-use Rattle.world_model.proofs.Pending.{begins_effect, begins_within, continue_is_run, row_with_pending, as_many_acts}
+use Rattle.rank_node.specs.Waiting.{BeginsWithEvents, event_in, effects, events_in, expanded}
+use Rattle.world_model.proofs.Pending.{begins_effect, continue_is_run, row_with_pending, as_many_acts}
 use Rattle.world_model.proofs.StandingFrames.{Stands-putting, Stands-arrive}
-use Rattle.world_model.proofs.StandingStores.{Stands-store, Stands-ack}
+use Rattle.world_model.proofs.StandingStores.{Stands-ack}
+use Rattle.world_model.proofs.StandingParts.{Stands-store}
 use Rattle.world_model.proofs.StandingReleases.{effect_there, Stands-release}
 use Rattle.world_model.proofs.Counts.{Counts-put, Counts-arrive, Counts-crash, Counts-restart, Counts-ack, Counts-store, Counts-release}
 use Rattle.world_model.proofs.CountsOfSteps.{Counts-step, Counts-replay}
-use Rattle.world_model.proofs.Ranks.{above_whole, settled_behind, ahead, first_image_stands}
+use Rattle.world_model.proofs.Ranks.{settled_behind, ahead, first_image_stands}
 use Rattle.plain_logger.specs.Event.{EventValue}
-use Rattle.plain_logger.specs.History.{above}
-use Rattle.plain_logger.specs.declared.call.Reply.TheVariants.{Events}
-use Rattle.std.proofs.lemmas.Option.{get_or_from_slice_get, slice_get_within}
+use Rattle.plain_logger.specs.Misses.{expand}
+use Rattle.std.proofs.lemmas.Option.{slice_get_within}
 use Rattle.checkpoint.specs.declared.memory_shelf.MemoryShelf.{MemoryShelf}
 use Rattle.payload_log.specs.Backlog.{new_backlog}
 use Rattle.rank_language.specs.Program.{ProgramValue, block_of}
@@ -26,7 +27,7 @@ use Rattle.rank_node.specs.declared.due.Due.{Due}
 use Rattle.rank_node.specs.declared.frame.Frame.{Frame}
 use Rattle.crash_free.specs.Runs.{history, printed, IsRun}
 use Rattle.world_model.specs.Rows.{row}
-use Rattle.world_model.specs.World.{Live, unpassed, WorldValue, size, start_of, IsLive, IsWire, covered}
+use Rattle.world_model.specs.World.{Live, unpassed, unstored, WorldValue, size, start_of, IsLive, IsWire, covered}
 use Rattle.world_model.specs.Headline.{stable_of, lines_of, IsWhere, owed, StandsFor, IsFresh, IsOpened}
 use Rattle.rank_node.specs.declared.waiting.Waiting.{Waiting}
 use Rattle.rank_node.specs.Releasing.{effect_of, next_effect}
@@ -38,44 +39,47 @@ use Rattle.checkpoint.specs.Image.{ImageValue}
 use Rattle.rank_node.specs.Image.{first_image, begins_at}
 use Rattle.world_model.specs.Stands.{ImageStands, RankStands, start_at, StandsAt, DueCovered, RankCovers, Stands}
 use Rattle.rank_node.specs.Storing.{next_unstored}
-use Rattle.world_model.proofs.Lists.{replicate_get, replicate_length, drop_none}
+use Rattle.world_model.proofs.Lists.{replicate_get, replicate_length, drop_none, get_map, map_length}
 use Rattle.world_model.proofs.Worlds.{Goes}
-use Rattle.world_model.proofs.Crashes.{Stands-crash, Stands-restart}
+use Rattle.world_model.proofs.Crashes.{Stands-crash}
+use Rattle.world_model.proofs.StandingRestarts.{fetched_whole, Stands-restart}
 use Rattle.world_model.proofs.Imaging.{Stands-image, Counts-image}
 use Rattle.world_model.proofs.StandingReplays.{Stands-replay}
-use Rattle.world_model.proofs.Turns.{Stands-step}
+use Rattle.world_model.proofs.StandingSteps.{Stands-step}
+use Rattle.world_model.proofs.RunsKept.{Runs-put, Runs-arrive, Runs-ack, Runs-release, Runs-step, Runs-replay, Runs-crash, Runs-restart, Runs-image, Runs-store}
+use Rattle.world_model.proofs.Plain.{unpassed_plain, events_expanded, effects_expanded}
+use Rattle.world_model.proofs.PlainRanks.{none_waits, none_left}
+use Rattle.world_model.proofs.PlainFollows.{put_plainly, arrive_plainly, ack_plainly, release_plainly, image_plainly, crash_plainly}
+use Rattle.world_model.proofs.PlainReplays.{replay_plainly}
+use Rattle.world_model.proofs.PlainWorlds.{GoesOn, goes_plainly, plainly_goes, IsPlain, is_plain, rank_of, as_many_rows, row_of, stored_first, stored_low}
+
+-- what an event does to the world without runs of misses
+plain_goes : (w w' : WorldValue) → Stands w → (Goes (without_runs w) → Goes (without_runs w')) → GoesOn w'
+plain_goes w w' s goes = plainly_goes w' (goes (goes_plainly w s))
 
 -- each event
-goes_on : (w : WorldValue) (event : WorldEvent) (answer : Reply) (w' : WorldValue) → Stands w → Happens w event answer w' → Goes w'
-goes_on w (Step r) answer w' s h = ⊎_elim (λ f. Stands-step w r answer w' s f) (λ f. Stands-replay w r answer w' s f) h
-goes_on w (Put r d) answer w' s h = Stands-putting w r d answer w' s h
-goes_on w (Arrive from r i) answer w' s h = Stands-arrive w from r i answer w' s h
+goes_on : (w : WorldValue) (event : WorldEvent) (answer : Reply) (w' : WorldValue) → Stands w → Happens w event answer w' → GoesOn w'
+goes_on w (Step r) answer w' s h =
+    ⊎_elim (λ f. Stands-step w r answer w' s f)
+    (λ f. plain_goes w w' s (λ g. Stands-replay (without_runs w) r answer (without_runs w') g (replay_plainly w r answer w' s f))) h
+goes_on w (Put r d) answer w' s h = plain_goes w w' s (λ g. Stands-putting (without_runs w) r d answer (without_runs w') g (put_plainly w r d answer w' h))
+goes_on w (Arrive from r i) answer w' s h =
+    plain_goes w w' s (λ g. Stands-arrive (without_runs w) from r i answer (without_runs w') g (arrive_plainly w from r i answer w' h))
 goes_on w (Store r) answer w' s h = Stands-store w r answer w' s h
-goes_on w (Ack r) answer w' s h = Stands-ack w r answer w' s h
-goes_on w (Image r) answer w' s h = Stands-image w r answer w' s h
-goes_on w (Crash r) answer w' s h = Stands-crash w r answer w' s h
+goes_on w (Ack r) answer w' s h = plain_goes w w' s (λ g. Stands-ack (without_runs w) r answer (without_runs w') g (ack_plainly w r answer w' h))
+goes_on w (Image r) answer w' s h = plain_goes w w' s (λ g. Stands-image (without_runs w) r answer (without_runs w') g (image_plainly w r answer w' h))
+goes_on w (Crash r) answer w' s h = plain_goes w w' s (λ g. Stands-crash (without_runs w) r answer (without_runs w') g (crash_plainly w r answer w' h))
 goes_on w (Restart r) answer w' s h = Stands-restart w r answer w' s h
-goes_on w (Release r) answer w' s h = Stands-release w r answer w' s h
-
--- no more is stored than waits
-stored_low : (w : WorldValue) (r : ℕ) → Stands w → (v : Live) → IsLive w r v → v.rank.stored ≤ length v.rank.pending
-stored_low w r s v live = begins_within v.rank.stored v.rank.pending (s.run.ranks r v live).stored
-
--- a fetch after 0 gets the whole row
-fetched_whole : (w : WorldValue) (r : ℕ) (answer : Reply) (w' : WorldValue) → Stands w → (f : RestartFollows w r answer w')
-    → (events : List EventValue) → slice_get w.logger.rows r ≡ Some events → f.events ≡ events
-fetched_whole w r answer w' s f events there =
-    let q : Events f.events ≡ Events (above 0 (slice_index_or w.logger.rows r [])) = f.fetches.replied in
-    let e : f.events ≡ above 0 (slice_index_or w.logger.rows r []) = cc in
-    e ∙ ap (λ z. above 0 z) (get_or_from_slice_get w.logger.rows r events [] there ∙ s.run.rows r events there) ∙ above_whole 0 0 (history w.run r)
-    (omega arith) ∙ sym (s.run.rows r events there)
+goes_on w (Release r) answer w' s h =
+    plain_goes w w' s (λ g. Stands-release (without_runs w) r answer (without_runs w') g
+    (release_plainly w r answer w' h (stored_first w r s h.before h.live)))
 
 -- where an effect is released nothing is stored
 none_stored : (w : WorldValue) (r : ℕ) (answer : Reply) (w' : WorldValue) → Stands w → (f : ReleaseFollows w r answer w') → f.before.rank.stored ≡ 0
 none_stored w r answer w' s f =
     let e = effect_there f.before.rank.pending f.effect f.oldest in
     begins_effect f.before.rank.stored f.effect (drop 1 f.before.rank.pending) e.1
-    (subst (λ z. BeginsWithEvents f.before.rank.stored z) e.0 (s.run.ranks r f.before f.live).stored)
+    (subst (λ z. BeginsWithEvents f.before.rank.stored z) e.0 (stored_first w r s f.before f.live))
 
 -- each event keeps the counts
 counts_on : (w : WorldValue) (event : WorldEvent) (answer : Reply) (w' : WorldValue) → Stands w → Happens w event answer w' → Counts w'
@@ -90,9 +94,23 @@ counts_on w (Crash r) answer w' s h = Counts-crash w r answer w' s.counts h
 counts_on w (Restart r) answer w' s h = Counts-restart w r answer w' s.counts h (fetched_whole w r answer w' s h)
 counts_on w (Release r) answer w' s h = Counts-release w r answer w' s.counts h (none_stored w r answer w' s h)
 
+-- each event keeps the runs of misses
+runs_on : (w : WorldValue) (event : WorldEvent) (answer : Reply) (w' : WorldValue) → Stands w → Happens w event answer w' → RunsOfMisses w'
+runs_on w (Step r) answer w' s h = ⊎_elim (λ f. Runs-step w r answer w' s f) (λ f. Runs-replay w r answer w' s f) h
+runs_on w (Put r d) answer w' s h = Runs-put w r d answer w' s h
+runs_on w (Arrive from r i) answer w' s h = Runs-arrive w from r i answer w' s h
+runs_on w (Store r) answer w' s h = Runs-store w r answer w' s h
+runs_on w (Ack r) answer w' s h = Runs-ack w r answer w' s h
+runs_on w (Image r) answer w' s h = Runs-image w r answer w' s h
+runs_on w (Crash r) answer w' s h = Runs-crash w r answer w' s h
+runs_on w (Restart r) answer w' s h = Runs-restart w r answer w' s h
+runs_on w (Release r) answer w' s h = Runs-release w r answer w' s h (none_stored w r answer w' s h)
+
 -- each event that happens keeps the invariant
 happens : (w : WorldValue) (event : WorldEvent) (answer : Reply) (w' : WorldValue) → Stands w → Happens w event answer w' → Stands w'
-happens w event answer w' s h = (let g = goes_on w event answer w' s h in record { run = g.run; covers = g.covers; counts = counts_on w event answer w' s h })
+happens w event answer w' s h =
+    let g = goes_on w event answer w' s h in
+    record { run = g.run; covers = g.covers; counts = counts_on w event answer w' s h; runs = runs_on w event answer w' s h }
 
 -- each event does
 pub stands_after : (w : WorldValue) (event : WorldEvent) (answer : Reply) (w' : WorldValue) → Stands w → Follows w event answer w' → Stands w'
@@ -119,43 +137,54 @@ stands_after w event (reply.Released clock) w' s f = happens w event (reply.Rele
 nothing_owed : (v : Live) → v.rank.pending ≡ [] → owed v ≡ 0
 nothing_owed v none =
     let e : unpassed v.rank ≡ [] = ap (λ z. drop v.rank.stored z) none ∙ drop_none v.rank.stored in
-    ap (λ z. length (events_in z) + effects z) e
+    ap (λ z. length (expand (events_in z)) + effects z) e
+
+-- what a rank owes is what the rank without runs has pending
+owed_plainly : (v : Live) → length (events_in (unpassed (plain_rank v.rank))) + effects (unpassed (plain_rank v.rank)) ≡ owed v
+owed_plainly v =
+    ap (λ z. length (events_in z) + effects z) (unpassed_plain v.rank)
+    ∙ ap (λ z. length z + effects (expanded (unpassed v.rank))) (events_expanded (unpassed v.rank))
+    ∙ ap (λ n. length (expand (unstored v.rank)) + n) (effects_expanded (unpassed v.rank))
 
 -- a live rank is where it should be
-pub where_is : (w : WorldValue) (r : ℕ) (v : Live) → StandsAt (size w) w → IsLive w r v → IsWhere (start_of w) (size w) w.run r v
+pub where_is : (w : WorldValue) (r : ℕ) (v : Live) (s : Stands w) → IsLive w r v → IsWhere (start_of w) (size w) w.run r v
 where_is w r v s live =
     record {
       acts = k.acts;
-      as_many = as_many_acts (start_of w) w.run r k.acts (unpassed v.rank) k.pending;
-      is_run = continue_is_run (start_of w) (size w) w.run r k.acts (unpassed v.rank) (slice_get_within w.ranks r (Some v) live) s.is_run k.pending;
-      events = row_with_pending (start_of w) w.run r k.acts (unpassed v.rank) k.pending;
+      as_many = as_many_acts (start_of w) w.run r k.acts (unpassed (plain_rank v.rank)) k.pending ∙ owed_plainly v;
+      is_run =
+          continue_is_run (start_of w) (size w) w.run r k.acts (unpassed (plain_rank v.rank)) (slice_get_within w.ranks r (Some v) live) s.run.is_run k.pending;
+      events =
+          row_with_pending (start_of w) w.run r k.acts (unpassed (plain_rank v.rank)) k.pending
+          ∙ ap (λ z. row w.run r ++ z) (ap (λ z. events_in z) (unpassed_plain v.rank) ∙ events_expanded (unpassed v.rank));
       within = k.at.within;
       after = k.at.after;
       reached = k.at.reached;
       inner = k.at.inner;
-      all_made = λ some. ⊎_elim (λ (none : v.rank.pending ≡ []). absurd (some (nothing_owed v none))) (λ all. all) k.all_made;
+      all_made = λ some. ⊎_elim
+          (λ (none : (plain v).rank.pending ≡ []). absurd (some (nothing_owed v (none_waits v (s.runs.ranks r v live) none)))) (λ all. all) k.all_made;
     }
   where
-    k : RankStands (start_of w) (size w) w.run r v
-    k = s.ranks r v live
+    k : RankStands (start_of w) (size w) w.run r (plain v)
+    k = rank_of s r v live
 
 -- the invariant says that the world stands for its run
 pub stands_for : (w : WorldValue) → Stands w → StandsFor w w.run
 stands_for w t =
     record {
       is_run = t.run.is_run;
-      as_many_rows = t.run.as_many_rows;
-      rows = t.run.rows;
+      as_many_rows = as_many_rows t;
+      rows = λ r events e. row_of t r events e;
       as_many_wires = t.run.as_many_wires;
       wires_to_all = t.run.wires_to_all;
       packets = t.run.packets;
       lines = t.run.lines;
-      ranks = λ r v live. where_is w r v t.run live;
+      ranks = λ r v live. where_is w r v t live;
     }
 
 -- a live rank has made the acts of the run and those that the invariant names
 pub stands_acts : (w : WorldValue) (r : ℕ) (v : Live) (t : Stands w) (live : IsLive w r v)
-    → ((stands_for w t).ranks r v live).acts ≡ (t.run.ranks r v live).acts
+    → ((stands_for w t).ranks r v live).acts ≡ (rank_of t r v live).acts
 unfolding stands_for where_is
 stands_acts w r v t live = refl
 
@@ -163,9 +192,10 @@ stands_acts w r v t live = refl
 pub nothing_in_replay : (w : WorldValue) (r : ℕ) (v : Live) → Stands w → IsLive w r v → v.left ≢ []
     → (next_unstored v.rank ≡ None) × (v.rank.stored ≡ 0) × (next_effect v.rank ≡ None)
 nothing_in_replay w r v t live some =
-    let k = t.run.ranks r v live in
-    let e : v.rank.pending ≡ [] = settled_behind (start_at w (size w)) (size w) w.run r v k some in
-    let l : v.rank.stored ≤ length v.rank.pending = begins_within v.rank.stored v.rank.pending k.stored in
+    let k = t.runs.ranks r v live in
+    let e : v.rank.pending ≡ [] =
+    none_waits v k (settled_behind (start_at w (size w)) (size w) w.run r (plain v) (rank_of t r v live) (λ z. some (none_left v k z))) in
+    let l : v.rank.stored ≤ length v.rank.pending = stored_low w r t v live in
     let z = ap length e in
     (ap (λ y. option_and_then event_in (slice_get y v.rank.stored)) e, omega (arith, l, z), ap (λ y. option_and_then effect_of (slice_get y 0)) e)
 
@@ -178,8 +208,8 @@ fetched_stands w r w' s f =
     (record {
       run = record {
         is_run = s.run.is_run;
-        as_many_rows = ap length rows ∙ s.run.as_many_rows;
-        rows = λ q events e. s.run.rows q events (subst (λ z. slice_get z q ≡ Some events) rows e);
+        as_many_rows = ap (λ z. length (map expand z)) rows ∙ s.run.as_many_rows;
+        rows = λ q events e. s.run.rows q events (subst (λ z. slice_get (map expand z) q ≡ Some events) rows e);
         as_many_wires = s.run.as_many_wires;
         wires_to_all = s.run.wires_to_all;
         packets = s.run.packets;
@@ -195,6 +225,12 @@ fetched_stands w r w' s f =
                 (subst (λ z. slice_get z q ≡ Some events) rows e);
             ranks = λ q v events live e. s.counts.ranks q v events live
                 (subst (λ z. slice_get z q ≡ Some events) rows e);
+          };
+      runs =
+          record {
+            rows = λ q events e. s.runs.rows q events (subst (λ z. slice_get z q ≡ Some events) rows e);
+            uncut = λ q k events e o at there image. s.runs.uncut q k events e o (subst (λ z. slice_get z q ≡ Some events) rows at) there image;
+            ranks = s.runs.ranks;
           };
     })
   where
@@ -218,8 +254,9 @@ stands_unchanged w (Release r) w' s u = subst (λ z. Stands z) (sym u) s
 -- a rank with something to release replays nothing
 release_running : (w : WorldValue) (r : ℕ) (v : Live) → Stands w → IsLive w r v → (x : Waiting) → next_effect v.rank ≡ Some x → v.left ≡ []
 release_running w r v s live x there =
-    ahead (start_at w (size w)) (size w) w.run r v (s.run.ranks r v live)
-    (λ e. (let q : None ≡ Some x = sym (ap (λ y. option_and_then effect_of (slice_get y 0)) e) ∙ there in cc))
+    let k = s.runs.ranks r v live in
+    none_left v k (ahead (start_at w (size w)) (size w) w.run r (plain v) (rank_of s r v live)
+    (λ e. (let q : None ≡ Some x = sym (ap (λ y. option_and_then effect_of (slice_get y 0)) (none_waits v k e)) ∙ there in cc)))
 
 -- nothing both happens and can't
 pub happens_can : (w : WorldValue) (event : WorldEvent) (answer : Reply) (w' : WorldValue) → Stands w → Happens w event answer w' → CanNot w event → ⊥
@@ -251,7 +288,7 @@ fresh_image w n r = first_image_stands (start_at w n) n [] r w.program refl (ope
 
 -- so does a rank at its beginning
 fresh_rank : (w : WorldValue) (n r : ℕ) (shelf : MemoryShelf)
-    → RankStands (start_at w n) n [] r (record { rank = node.opening w.program (stable_of n r shelf); left = [] })
+    → RankStands (start_at w n) n [] r (plain (record { rank = node.opening w.program (stable_of n r shelf); left = [] }))
 fresh_rank w n r shelf =
     record {
       number = refl;
@@ -275,7 +312,7 @@ none_covered (suc n) (suc d) s = none_covered n d s
 pub stands_fresh : (program : ProgramValue) (n : ℕ) (w : WorldValue) → IsFresh program n w → Stands w
 stands_fresh program n w f =
     record {
-      run = subst (λ k. StandsAt k w) (sym f.as_many) at;
+      run = subst (λ k. StandsAt k (without_runs w)) (sym f.as_many) at;
       covers = record {
         images = λ s i e. absurd (no_image s i e);
         wires = λ q s k frames g there e. absurd (nothing_put q s k frames g there e);
@@ -284,6 +321,11 @@ stands_fresh program n w f =
       counts = record {
         rows = λ r events e. (let l = ap length (empty r events e) in omega (arith, l));
         ranks = λ r v events live e. rank_counts r v events (f.ranks r (Some v) live) (empty r events e);
+      };
+      runs = record {
+        rows = λ r events e k x at. absurd (no_event events (empty r events e) k x at);
+        uncut = λ r k events x o e at image. absurd (no_event events (empty r events e) k x at);
+        ranks = λ r v live. rank_runs v (f.ranks r (Some v) live);
       };
     }
   where
@@ -302,12 +344,20 @@ stands_fresh program n w f =
     no_image : (r : ℕ) (i : ImageValue) → slice_get w.images r ≡ Some (Some i) → ⊥
     no_image r i e = (let q : Some i ≡ None = of_images r (Some i) e in cc)
 
-    rank_is : (r : ℕ) (v : Live) → IsOpened program n r (Some v) → RankStands (start_at w n) n w.run r v
+    rank_is : (r : ℕ) (v : Live) → IsOpened program n r (Some v) → RankStands (start_at w n) n w.run r (plain v)
     rank_is r v h =
-        subst (λ z. RankStands (start_at w n) n z r v) (sym f.run)
-        (subst (λ z. RankStands (start_at w n) n [] r z) (sym
+        subst (λ z. RankStands (start_at w n) n z r (plain v)) (sym f.run)
+        (subst (λ z. RankStands (start_at w n) n [] r (plain z)) (sym
         (subst (λ p. v ≡ record { rank = node.opening p (stable_of n r v.rank.stable.shelf); left = [] }) (sym f.same_program) h.0))
         (fresh_rank w n r v.rank.stable.shelf))
+
+    plain_is : (r : ℕ) (v : Live) → IsPlain w r v → RankStands (start_at w n) n w.run r v
+    plain_is r v u = subst (λ z. RankStands (start_at w n) n w.run r z) (sym u.same) (rank_is r u.rank (f.ranks r (Some u.rank) u.live))
+
+    empty_plainly : (r : ℕ) (events : List EventValue) → slice_get (map expand w.logger.rows) r ≡ Some events → events ≡ []
+    empty_plainly r events e =
+        (let z = get_map expand w.logger.rows r events e in
+        z.2 ∙ ap (λ y. expand y) (replicate_get n [] r z.0 (subst (λ y. slice_get y r ≡ Some z.0) f.rows z.1)))
 
     empty : (r : ℕ) (events : List EventValue) → slice_get w.logger.rows r ≡ Some events → events ≡ []
     empty r events e = replicate_get n [] r events (subst (λ z. slice_get z r ≡ Some events) f.rows e)
@@ -318,6 +368,14 @@ stands_fresh program n w f =
         let l = ap length none in
         record { made = (let z : 0 ≡ length events + 0 = omega (arith, l) in z); few = omega arith })
 
+    no_event : (events : List EventValue) → events ≡ [] → (k : ℕ) (x : EventValue) → slice_get events k ≡ Some x → ⊥
+    no_event [] e k x at = cc
+    no_event (y ∷ events) e k x at = cc
+
+    rank_runs : {r : ℕ} (v : Live) → IsOpened program n r (Some v) → RankRuns v
+    rank_runs v h =
+        subst (λ z. RankRuns z) (sym h.0) (record { unstored = λ k x at. absurd cc; left = λ k x at. absurd cc; later = λ k x at. absurd cc })
+
     rank_covers : (r : ℕ) (v : Live) → IsOpened program n r (Some v) → RankCovers w.images r v
     rank_covers r v h =
         subst (λ z. RankCovers w.images r z) (sym h.0)
@@ -327,11 +385,11 @@ stands_fresh program n w f =
           since = λ s. (let z = ap (λ y. covered y r s) f.images ∙ none_covered n r s in omega (arith, z));
         })
 
-    at : StandsAt n w
+    at : StandsAt n (without_runs w)
     at = record {
       is_run = subst (λ z. IsRun (start_at w n) n z) (sym f.run) tt;
-      as_many_rows = ap length f.rows ∙ replicate_length n [];
-      rows = λ r events e. replicate_get n [] r events (subst (λ z. slice_get z r ≡ Some events) f.rows e) ∙ sym (ap (λ z. row z r) f.run);
+      as_many_rows = map_length expand w.logger.rows ∙ ap length f.rows ∙ replicate_length n [];
+      rows = λ r events e. empty_plainly r events e ∙ sym (ap (λ z. row z r) f.run);
       as_many_wires = ap length f.wires ∙ replicate_length n (replicate n []);
       wires_to_all = λ s x e. ap length (of_wires s x e) ∙ replicate_length n [];
       packets = λ s d k frames g there e. absurd (nothing_put s d k frames g there e);
@@ -339,5 +397,5 @@ stands_fresh program n w f =
       as_many_images = ap length f.images ∙ replicate_length n None;
       images = λ r o e. subst (λ z. ImageStands (start_at w n) n z r (begins_at w.program r n o)) (sym f.run)
           (subst (λ z. ImageStands (start_at w n) n [] r (begins_at w.program r n z)) (sym (of_images r o e)) (fresh_image w n r));
-      ranks = λ r v live. rank_is r v (f.ranks r (Some v) live);
+      ranks = λ r v live. plain_is r v (is_plain w r v live);
     }

@@ -11,6 +11,7 @@ use Rattle.world_model.specs.declared.reply.Reply.{Reply}
 use Rattle.world_model.specs.World.{Live, WorldValue, size, IsLive, IsWire}
 use Rattle.world_model.specs.Follows.{ArriveFollows}
 use Rattle.world_model.specs.Onward.{Behind, IsWorld}
+use Rattle.world_model.proofs.PlainWorlds.{rank_of}
 use Rattle.world_model.specs.Driven.{AllLive, NoGaps, NoAskDue, HeardTo, Heard, HearKeeps}
 use Rattle.world_model.proofs.Passing.{who, base_of}
 use Rattle.world_model.proofs.Draining.{ask_there}
@@ -130,7 +131,7 @@ module _ (w : WorldValue) (r s i : ℕ) (answer : Reply) (w' : WorldValue) (f : 
               subst (λ z. (backlog z.rank.log r).cursor ≤ max ((backlog z.rank.log r).base + 1) from) (sym c.1)
               (subst (λ z. (backlog (slice_set f.before.rank.log r (asked (backlog f.before.rank.log r) n)) r).cursor
               ≤ max ((backlog (slice_set f.before.rank.log r (asked (backlog f.before.rank.log r) n)) r).base + 1) z) number
-              (asked_reached f.before.rank.log r n (let e1 = (world.stands.run.ranks s f.before f.live).at.logged in omega (arith, lt, e1))))
+              (asked_reached f.before.rank.log r n (let e1 = (rank_of world.stands s f.before f.live).at.logged in omega (arith, lt, e1))))
 
       go : (j < i) ⊎ (i ≤ j) → (backlog u.rank.log r).cursor ≤ max ((backlog u.rank.log r).base + 1) from
       go (inl b) = kept i r s h j from frames u b wire there live

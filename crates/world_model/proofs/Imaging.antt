@@ -47,7 +47,7 @@ Stands-imaged n w r v i s k j =
         (subst (λ z. ImageStands (start_at w n) n w.run z i) (sym h.0) j)
 
 -- what goes with the run, and what senders may drop
-pub Stands-image : (w : WorldValue) (r : ℕ) (answer : Reply) (w' : WorldValue) → Stands w → ImageFollows w r answer w' → Goes w'
+pub Stands-image : (w : WorldValue) (r : ℕ) (answer : Reply) (w' : WorldValue) → Goes w → ImageFollows w r answer w' → Goes w'
 Stands-image w r answer w' s f =
     subst (λ z. Goes z) (sym f.after)
     (record {

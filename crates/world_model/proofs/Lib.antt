@@ -1,5 +1,16 @@
 pub mod Lists
 pub use Rattle.audit.proofs.Rows
+pub mod PlainEvents
+pub mod Plain
+pub mod PlainRanks
+pub mod PlainWorlds
+pub mod PlainFollows
+pub mod PlainReplays
+pub mod StandingParts
+pub mod StandingSteps
+pub mod StandingRestarts
+pub mod RunsKept
+pub mod Missing
 pub mod Pending
 pub mod Places
 pub mod Inboxes
@@ -68,6 +79,7 @@ pub mod Rounds
 pub mod Acts
 pub mod Driving
 pub mod Flushing
+pub mod Outstanding
 pub mod Hearing
 pub mod Restarting
 pub mod Making

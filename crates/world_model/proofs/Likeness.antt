@@ -168,18 +168,18 @@ replays_alike a b r x y a' b' k f g = go (alike_live a b r g.before k g.live)
         sym g.turned ∙ ap (λ z. replay_turn_of z.rank g.event) same ∙ ap (λ z. replay_turn_of (on_shelf u.rank s) z) left.0
         ∙ replay_turn_shelf u.rank s f.event (machine_want u.rank.machine) ∙ f.turned in
         let turn : g.turn ≡ f.turn = cc in
-        let after : b' ≡ after_turn b r (shelved u s) g.turn (after_replay (on_shelf u.rank s) g.event g.machine) (left_after (machine_want u.rank.machine) g.turn g.event g.rest) =
-        g.after ∙ ap (λ z. after_turn b r z g.turn (after_replay z.rank g.event g.machine) (left_after (machine_want z.rank.machine) g.turn g.event g.rest)) same in
-        let at : b' ≡ after_turn b r (shelved u s) f.turn (after_replay (on_shelf u.rank s) f.event f.machine) (left_after (machine_want u.rank.machine) f.turn f.event f.rest) =
+        let after : b' ≡ after_turn b r (shelved u s) g.turn (after_replay (on_shelf u.rank s) g.event g.machine) (left_after u.rank (machine_want u.rank.machine) g.turn g.event g.rest) =
+        g.after ∙ ap (λ z. after_turn b r z g.turn (after_replay z.rank g.event g.machine) (left_after z.rank (machine_want z.rank.machine) g.turn g.event g.rest)) same in
+        let at : b' ≡ after_turn b r (shelved u s) f.turn (after_replay (on_shelf u.rank s) f.event f.machine) (left_after u.rank (machine_want u.rank.machine) f.turn f.event f.rest) =
         after
-        ∙ ap (λ z. after_turn b r (shelved u s) z (after_replay (on_shelf u.rank s) g.event g.machine) (left_after (machine_want u.rank.machine) z g.event g.rest)) turn
-        ∙ ap (λ z. after_turn b r (shelved u s) f.turn (after_replay (on_shelf u.rank s) g.event z) (left_after (machine_want u.rank.machine) f.turn g.event g.rest)) machine
-        ∙ ap (λ z. after_turn b r (shelved u s) f.turn (after_replay (on_shelf u.rank s) z f.machine) (left_after (machine_want u.rank.machine) f.turn z g.rest)) left.0
-        ∙ ap (λ z. after_turn b r (shelved u s) f.turn (after_replay (on_shelf u.rank s) f.event f.machine) (left_after (machine_want u.rank.machine) f.turn f.event z)) left.1 in
-        same_alike a b a' b' (after_turn a r u f.turn (after_replay u.rank f.event f.machine) (left_after (machine_want u.rank.machine) f.turn f.event f.rest))
-        (after_turn b r (shelved u s) f.turn (after_replay (on_shelf u.rank s) f.event f.machine) (left_after (machine_want u.rank.machine) f.turn f.event f.rest)) f.after at
+        ∙ ap (λ z. after_turn b r (shelved u s) z (after_replay (on_shelf u.rank s) g.event g.machine) (left_after u.rank (machine_want u.rank.machine) z g.event g.rest)) turn
+        ∙ ap (λ z. after_turn b r (shelved u s) f.turn (after_replay (on_shelf u.rank s) g.event z) (left_after u.rank (machine_want u.rank.machine) f.turn g.event g.rest)) machine
+        ∙ ap (λ z. after_turn b r (shelved u s) f.turn (after_replay (on_shelf u.rank s) z f.machine) (left_after u.rank (machine_want u.rank.machine) f.turn z g.rest)) left.0
+        ∙ ap (λ z. after_turn b r (shelved u s) f.turn (after_replay (on_shelf u.rank s) f.event f.machine) (left_after u.rank (machine_want u.rank.machine) f.turn f.event z)) left.1 in
+        same_alike a b a' b' (after_turn a r u f.turn (after_replay u.rank f.event f.machine) (left_after u.rank (machine_want u.rank.machine) f.turn f.event f.rest))
+        (after_turn b r (shelved u s) f.turn (after_replay (on_shelf u.rank s) f.event f.machine) (left_after u.rank (machine_want u.rank.machine) f.turn f.event f.rest)) f.after at
         (turn_alike a b r u s f.turn (after_replay u.rank f.event f.machine) (after_replay (on_shelf u.rank s) f.event f.machine)
-        (left_after (machine_want u.rank.machine) f.turn f.event f.rest) k (replayed_shelf u.rank s f.event (machine_want u.rank.machine) f.machine))
+        (left_after u.rank (machine_want u.rank.machine) f.turn f.event f.rest) k (replayed_shelf u.rank s f.event (machine_want u.rank.machine) f.machine))
 
 -- the one replays where the other does
 left_alike : (a b : WorldValue) (r : ℕ) (u v : Live) → Alike a b → IsLive a r u → IsLive b r v → v.left ≡ u.left

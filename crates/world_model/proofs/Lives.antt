@@ -1,11 +1,13 @@
 -- The ranks and the images of seats, by the seat of one rank.
-use Rattle.std.proofs.Common.{◌≡◌, ℕ, ◌<◌, List, Option, Some, None, length, option_map, refl, sym, ap, subst, ◌∙◌}
+use Rattle.std.proofs.Common.{◌≡◌, ℕ, ◌<◌, false, List, Option, Some, None, length, option_map, refl, sym, ap, subst, ◌∙◌}
 use Rattle.std.proofs.Common.{arith, get_or, slice_get, slice_set, IsSomeAnd, length-set}
 use Rattle.std.proofs.lemmas.Option.{slice_get-map, slice_get_read}
 use Rattle.std.proofs.lemmas.List.{map-set}
 use Rattle.checkpoint.specs.Image.{ImageValue}
 use Rattle.plain_logger.specs.Event.{EventValue}
 use Rattle.rank_language.specs.Program.{ProgramValue}
+use Rattle.rank_node.specs.Image.{begins_at}
+use Rattle.rank_node.specs.Replay.{cuts}
 use Rattle.world_model.specs.World.{Rank, Live}
 use Rattle.world_model.specs.Seats.{SeatValue, SeatsValue, IsSeat, AreSeats, lives, images, IfLive, AtRank}
 use Rattle.world_model.specs.Seats.{with_live, with_rank_value, with_value, IsImaged, IsRestarted}
@@ -138,6 +140,24 @@ restarted_then {value = value} {seats = seats} {index = index} {rank = rank} {s 
         subst (λ z. IsRestarted z (length value.ranks) rank s.image row s'.live) (own.same_program ∙ same)
         (subst (λ z. IsRestarted s.program z rank s.image row s'.live) (seat_size program t all)
         (subst (λ z. IsRestarted s.program s.size z s.image row s'.live) (own.rank ∙ t.number) h))
+
+-- the image of the seat cuts no event of a row, where that of its place cuts none
+pub uncut_there : {value : SeatsValue} {seats : List SeatValue} {index rank : ℕ} {s : SeatValue} (program : ProgramValue) (row : List EventValue)
+    → program ≡ value.program → IsTaken value seats index rank s → AreSeats program (length seats) seats
+    → IsSomeAnd (slice_get value.images rank) (λ image. cuts (begins_at value.program rank (length value.ranks) image).clock row ≡ false)
+    → cuts (begins_at s.program s.rank s.size s.image).clock row ≡ false
+uncut_there {value = value} {seats = seats} {index = index} {rank = rank} {s = s} program row same t all h =
+    ap (λ z. cuts (begins_at z s.rank s.size s.image).clock row) (own.same_program ∙ same)
+    ∙ ap (λ z. cuts (begins_at value.program z s.size s.image).clock row) (own.rank ∙ t.number)
+    ∙ ap (λ z. cuts (begins_at value.program rank z s.image).clock row) (seat_size program t all)
+    ∙ subst (λ z. IsSomeAnd z (λ image. cuts (begins_at value.program rank (length value.ranks) image).clock row ≡ false)) there h
+  where
+    own : IsSeat program (length seats) index s
+    own = all index s t.there
+
+    there : slice_get value.images rank ≡ Some s.image
+    there = subst (λ z. slice_get value.images z ≡ Some s.image) t.number
+        (subst (λ z. slice_get z index ≡ Some s.image) t.all_images (image_there seats index s t.there))
 
 -- an image of the rank of the seat
 pub imaged_then : {value : SeatsValue} {seats : List SeatValue} {index rank : ℕ} {s : SeatValue} (s' : SeatValue) (program : ProgramValue)

@@ -23,7 +23,7 @@ use Rattle.crash_free.specs.Runs.{Passed, history, sent, looked_up, continue}
 use Rattle.crash_free.proofs.Lists.{history-own, history-other}
 use Rattle.crash_free.proofs.Going.{count_continued}
 use Rattle.world_model.specs.declared.reply.Reply.{Reply}
-use Rattle.world_model.specs.World.{Live, unpassed, WorldValue, size}
+use Rattle.world_model.specs.World.{Live, unpassed, WorldValue, size, IsLive}
 use Rattle.world_model.specs.Headline.{stable_of}
 use Rattle.world_model.specs.Stands.{Pending, RankStands, Stands, start_at}
 use Rattle.world_model.specs.Follows.{passed_at, RestartFollows, StoreFollows, ReleaseFollows}
@@ -31,7 +31,13 @@ use Rattle.world_model.specs.Onward.{AreAbove, RankOnward, Onward}
 use Rattle.world_model.proofs.Lists.{drop_zero}
 use Rattle.world_model.proofs.Pending.{begins_effect}
 use Rattle.world_model.proofs.Ranks.{nothing_unpassed}
-use Rattle.world_model.proofs.StandingStores.{event_there, drop_first}
+use Rattle.world_model.specs.Plain.{plainly, plain}
+use Rattle.world_model.proofs.StandingStores.{some_pending, event_there}
+use Rattle.world_model.proofs.StandingParts.{set_there}
+use Rattle.world_model.proofs.Plain.{unpassed_plain}
+use Rattle.world_model.proofs.PlainRanks.{none_waits}
+use Rattle.world_model.proofs.PlainFollows.{effect_plainly}
+use Rattle.world_model.proofs.PlainWorlds.{rank_of, stored_first}
 use Rattle.world_model.proofs.StandingReleases.{effect_there}
 use Rattle.world_model.proofs.OnwardRanks.{same_wires, valued, OneChanged, GetsOn, onward_changed, onward_gets_on, one_changed, live_is}
 use Rattle.world_model.proofs.OnwardFrames.{above_set}
@@ -164,14 +170,20 @@ Onward-store w r answer w' t t' f k =
     oldest : slice_get f.before.rank.pending f.before.rank.stored ≡ Some (waits.Event f.event)
     oldest = event_there f.before.rank.pending f.before.rank.stored f.event f.oldest
 
+    stored_live : IsLive w' r (valued f.before (after_store f.before.rank))
+    stored_live =
+        subst (λ z. slice_get z.ranks r ≡ Some (Some (valued f.before (after_store f.before.rank)))) (sym f.after)
+        (set_there w.ranks r (Some f.before) (Some (valued f.before (after_store f.before.rank))) f.live)
+
     made : length (history w'.run r) ≤ f.before.rank.clock
     made =
-        let more = made_more w r f.before (waits.Event f.event) (drop (f.before.rank.stored + 1) f.before.rank.pending) (t.run.ranks r f.before f.live)
-        (drop_first f.before.rank.pending f.before.rank.stored (waits.Event f.event) oldest) in
-        let c = count_continued w.run r f.acts in
-        let one : length f.acts ≡ 1 = f.noted.as_many in
-        let e = ap (λ z. length (history z.run r)) f.after in
-        omega (arith, more, c, one, e)
+        let k = rank_of t' r (valued f.before (after_store f.before.rank)) stored_live in
+        ⊎_elim
+        (λ (none : (plain (valued f.before (after_store f.before.rank))).rank.pending ≡ []). absurd
+        (some_pending f.before.rank.pending f.before.rank.stored (waits.Event f.event) oldest
+        (none_waits (valued f.before (after_store f.before.rank)) (t'.runs.ranks r (valued f.before (after_store f.before.rank)) stored_live) none)))
+        (λ (all : f.before.rank.clock ≡ length (history (continue w'.run r k.acts) r)). (let c = count_continued w'.run r k.acts in omega (arith, all, c)))
+        k.all_made
 
     changed : OneChanged w w' r (Some (valued f.before (after_store f.before.rank)))
     changed =
@@ -224,12 +236,14 @@ Onward-release w r answer w' t t' f k =
     none_stored : f.before.rank.stored ≡ 0
     none_stored =
         begins_effect f.before.rank.stored f.effect (drop 1 f.before.rank.pending) there.1
-        (subst (λ z. BeginsWithEvents f.before.rank.stored z) there.0 (t.run.ranks r f.before f.live).stored)
+        (subst (λ z. BeginsWithEvents f.before.rank.stored z) there.0 (stored_first w r t f.before f.live))
 
     made : length (history w'.run r) ≤ f.before.rank.clock
     made =
-        let more = made_more w r f.before f.effect (drop 1 f.before.rank.pending) (t.run.ranks r f.before f.live)
-        (ap (λ z. drop z f.before.rank.pending) none_stored ∙ drop_zero f.before.rank.pending ∙ there.0) in
+        let more = made_more w r (plain f.before) f.effect (plainly 0 (drop 1 f.before.rank.pending)) (rank_of t r f.before f.live)
+        (unpassed_plain f.before.rank
+        ∙ ap (λ z. plainly 0 z) (ap (λ z. drop z f.before.rank.pending) none_stored ∙ drop_zero f.before.rank.pending ∙ there.0)
+        ∙ effect_plainly f.effect (drop 1 f.before.rank.pending) there.1) in
         let e = ap (λ z. length (history z.run r)) f.after in
         ⊎_elim (λ same. omega (arith, more, e, same)) (λ p. (let one = p.one_more in omega (arith, more, e, one)))
         (passed_count w.run r f.clock (Some f.act))

@@ -18,7 +18,10 @@ use Rattle.world_model.specs.World.{Rank, Live, WorldValue, size, IsLive}
 use Rattle.world_model.specs.Stands.{RankStands, Stands, start_at}
 use Rattle.world_model.specs.Follows.{AckFollows, CrashFollows}
 use Rattle.world_model.specs.Onward.{Behind, OnWire, AreAbove, RankOnward, Onward}
+use Rattle.world_model.specs.Plain.{plain}
 use Rattle.world_model.proofs.Places.{slice_set-get}
+use Rattle.world_model.proofs.PlainRanks.{none_waits}
+use Rattle.world_model.proofs.PlainWorlds.{rank_of}
 
 -- ---- where a rank is behind the run
 
@@ -32,7 +35,8 @@ settled_behind_run start n C r v s b =
 
 -- the same in a world
 pub settled_in : (w : WorldValue) (r : ℕ) (v : Live) → Stands w → IsLive w r v → Behind w.run r v → v.rank.pending ≡ []
-settled_in w r v t live b = settled_behind_run (start_at w (size w)) (size w) w.run r v (t.run.ranks r v live) b
+settled_in w r v t live b =
+    none_waits v (t.runs.ranks r v live) (settled_behind_run (start_at w (size w)) (size w) w.run r (plain v) (rank_of t r v live) b)
 
 -- ---- a change of one rank
 

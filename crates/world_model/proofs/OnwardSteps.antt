@@ -20,17 +20,17 @@ use Rattle.rank_node.specs.declared.fault.NodeFault.TheVariants as fault
 use Rattle.rank_node.specs.declared.turn.Turn.{Turn}
 use Rattle.rank_node.specs.declared.turn.Turn.TheVariants as turn
 use Rattle.rank_node.specs.Node.{no_due}
-use Rattle.rank_node.specs.Waiting.{has_room, is_settled}
+use Rattle.rank_node.specs.Waiting.{has_room, is_settled, joins}
 use Rattle.rank_node.specs.Steps.{message_of, with_machine, after_send, after_print, after_hold, after_wait, made_send, made_print, after_reception}
-use Rattle.rank_node.specs.Steps.{after_probe, received, probed, tried, step_at, turn_at, refusal_at, clock_refusal, event_refusal, at_index, found}
+use Rattle.rank_node.specs.Steps.{after_probe, after_miss, received, probed, tried, step_at, turn_at, refusal_at, clock_refusal, event_refusal, try_refusal, at_index, found}
 use Rattle.rank_node.specs.Replay.{named, replayed_at, taken_named, shown_named, tried_named, left_after}
 use Rattle.crash_free.specs.Runs.{history}
 use Rattle.world_model.specs.declared.reply.Reply.{Reply}
 use Rattle.world_model.specs.World.{Rank, Live, WorldValue, size, IsLive}
-use Rattle.world_model.specs.Stands.{Stands, start_at}
+use Rattle.world_model.specs.Stands.{Stands}
 use Rattle.world_model.specs.Follows.{effect_at, passed_at, StepFollows, ReplayFollows}
 use Rattle.world_model.specs.Onward.{AreAbove, RankOnward, Onward}
-use Rattle.world_model.proofs.Replays.{behind}
+use Rattle.world_model.proofs.PlainReplays.{is_behind as behind_run}
 use Rattle.world_model.proofs.OnwardRanks.{same_wires, OneChanged, GetsOn, onward_gets_on}
 use Rattle.world_model.proofs.OnwardFrames.{above_set}
 use Rattle.world_model.proofs.OnwardPasses.{others_passed, passed_count}
@@ -95,6 +95,7 @@ turned_shown v m (Some f) = turned_print v m
 turned_tried : (v : Rank) (m : MachineValue) (o : Option (ℕ × packet.PacketValue)) (k : Kind) → Turned v (tried_named v m o k)
 turned_tried v m o kind.Hit = turned_shown v m o
 turned_tried v m o kind.Miss = turned_print v m
+turned_tried v m o kind.Misses = turned_print v m
 turned_tried v m o kind.Reception = turned_not v
 
 -- each replayed step
@@ -142,6 +143,15 @@ unspent_event v e q =
     let z : Some fault.ClockSpent ≡ None =
     sym (ap (λ y. if y then Some fault.ClockSpent else (if nat_lt v.made most_events then None else Some fault.Log)) b) ∙ e in
     cc
+
+-- and one that does or may find nothing
+unspent_try : (v : Rank) (o : Option ℕ) → try_refusal v o ≡ None → v.clock ≢ greatest_clock
+unspent_try v (Some index) e = unspent_event v e
+unspent_try v None e = go (joins v.stored v.pending) e
+  where
+    go : (b : Bool) → (if b then clock_refusal v else event_refusal v) ≡ None → v.clock ≢ greatest_clock
+    go true f = unspent_act v f
+    go false f = unspent_event v f
 
 -- where no act is made
 stepped_not : (v : Rank) (x : Want) (t : Turn) → effect_at v x t ≡ None → Stepped v v x t
@@ -218,11 +228,12 @@ stepped_try v s m e = at (found s v.inbox.packets)
   where
     at : (o : Option (ℕ × packet.PacketValue)) → Stepped v (tried v m o) (want.TryProbe s) turn.Moved
     at None =
-        stepped_act v (after_probe v m kind.Miss 0 0) (want.TryProbe s) turn.Moved
-        (turned_act v (after_probe v m kind.Miss 0 0) refl refl refl refl) refl (unspent_event v e)
+        stepped_act v (after_miss v m) (want.TryProbe s) turn.Moved
+        (turned_act v (after_miss v m) refl refl refl refl) refl (unspent_try v (position (matches s) v.inbox.packets) e)
     at (Some g) =
         stepped_act v (after_probe v m kind.Hit g.1.source g.1.clock) (want.TryProbe s) turn.Moved
-        (turned_act v (after_probe v m kind.Hit g.1.source g.1.clock) refl refl refl refl) refl (unspent_event v e)
+        (turned_act v (after_probe v m kind.Hit g.1.source g.1.clock) refl refl refl refl) refl
+        (unspent_try v (position (matches s) v.inbox.packets) e)
 
 -- each step
 stepped_all : (v : Rank) (x : Want) (m : MachineValue) → refusal_at v x ≡ None → Stepped v (step_at v x m) x (turn_at v x)
@@ -287,7 +298,7 @@ Onward-replay w r answer w' t t' f k =
     onward_turned w w' r f.before
     (record {
       rank = replayed_at f.before.rank f.event (machine_want f.before.rank.machine) f.machine;
-      left = left_after (machine_want f.before.rank.machine) f.turn f.event f.rest;
+      left = left_after f.before.rank (machine_want f.before.rank.machine) f.turn f.event f.rest;
     })
     (effect_at f.before.rank (machine_want f.before.rank.machine) f.turn) t' f.live
     (ap (λ z. z.ranks) f.after) (ap (λ z. z.images) f.after) (ap (λ z. z.wires) f.after)
@@ -298,7 +309,7 @@ Onward-replay w r answer w' t t' f k =
     turned = turned_replayed f.before.rank f.event (machine_want f.before.rank.machine) f.machine
 
     is_behind : f.before.rank.clock < length (history w.run r)
-    is_behind = behind (start_at w (size w)) (size w) w.run r f.before t.run.is_run (t.run.ranks r f.before f.live) f.event f.rest f.replaying
+    is_behind = behind_run w r f.before t f.live f.event f.rest f.replaying
 
     few : (replayed_at f.before.rank f.event (machine_want f.before.rank.machine) f.machine).clock ≤ greatest_clock
     few =

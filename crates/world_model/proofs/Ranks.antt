@@ -92,11 +92,11 @@ above_row k (suc n) (x ∷ h) l =
 
 -- A rank that starts again at an image of any earlier life goes with the run.
 pub RankStands-restarted : (start : ℕ → State) (n : ℕ) (C : List Passed) (r : ℕ)
-    (stable : Stored MemoryShelf (Unit {0})) (i : ImageValue) (events : List EventValue)
+    (stable : Stored MemoryShelf (Unit {0})) (i : ImageValue) (events : List EventValue) (made : ℕ)
     → stable.rank ≡ r → stable.size ≡ n → events ≡ row C r
     → ImageStands start n C r i
-    → RankStands start n C r (record { rank = restarted stable i (length events); left = left_of i events })
-RankStands-restarted start n C r stable i events number size same s =
+    → RankStands start n C r (record { rank = restarted stable i made; left = left_of i events })
+RankStands-restarted start n C r stable i events made number size same s =
     record {
       number = number;
       size = size;

@@ -1,7 +1,7 @@
 -- A rank that replays is never refused, and each of its steps keeps it with the run.
-use Rattle.std.proofs.Common.{◌≡◌, ℕ, ℤ, ◌+◌, ◌<◌, ◌≤◌, ◌⊎◌, inl, inr, ⊎_elim, true, false, if◌then◌else◌, List, [], ◌∷◌, ◌++◌, Option, Some}
-use Rattle.std.proofs.Common.{None, Ok, Err, length, take, drop, refl, sym, ap, subst, ◌∙◌, slice_get, slice_set, position, option_and_then}
-use Rattle.std.proofs.lemmas.Bool.{cases_lt, lt-ltb, eq-eqb}
+use Rattle.std.proofs.Common.{◌≡◌, ℕ, ℤ, ◌+◌, ◌<◌, ◌≤◌, ◌⊎◌, inl, inr, ⊎_elim, true, false, ◌&&◌, nat_le, nat_lt, if◌then◌else◌, List, [], ◌∷◌, ◌++◌, Option, Some}
+use Rattle.std.proofs.Common.{None, Ok, Err, length, take, drop, refl, sym, ap, subst, ◌∙◌, arith, slice_get, slice_set, position, option_and_then}
+use Rattle.std.proofs.lemmas.Bool.{cases_lt, lt-ltb, le-leb, eq-eqb}
 use Rattle.std.proofs.lemmas.List.{length-set}
 use Rattle.std.proofs.lemmas.Option.{get_or_from_slice_get}
 use Rattle.std.proofs.lemmas.List.Quantifiers.{position-Some}
@@ -11,7 +11,8 @@ use Rattle.matching.specs.PacketValue as packet
 use Rattle.matching.specs.Matching.{matches, is_named}
 use Rattle.matching.specs.Inbox.{Mailbox, without}
 use Rattle.payload_log.specs.Backlog.{BacklogValue, backlog, saved}
-use Rattle.plain_logger.specs.Event.{EventValue, event_of}
+use Rattle.plain_logger.specs.Event.{EventValue, event_of, first_clock}
+use Rattle.plain_logger.proofs.RowLaws.{first_low}
 use Rattle.plain_logger.specs.declared.kind.Kind.{Kind}
 use Rattle.plain_logger.specs.declared.kind.Kind.TheVariants as kind
 use Rattle.rank_machine.specs.declared.want.Want.{Want}
@@ -29,14 +30,14 @@ use Rattle.world_model.specs.Rows.{event_at, events_from, cons_some}
 use Rattle.world_model.specs.World.{Live}
 use Rattle.world_model.specs.Stands.{InboxStands, LogStands, LogsStand, StandsIn, RankStands}
 use Rattle.world_model.proofs.Inboxes.{matches_if_named, InboxStands-noted, InboxStands-taken}
-use Rattle.rank_node.specs.Replay.{named, is_now, is_before, replay_turn_at, replayed_at, ReplayStepAt, left_after, taken_named, shown_named}
+use Rattle.rank_node.specs.Replay.{named, is_now, is_before, is_last, replay_turn_at, replayed_at, ReplayStepAt, left_after, taken_named, shown_named}
 use Rattle.rank_node.specs.Replay.{named_turn, receive_turn, probe_turn, try_turn, tried_named, TriesNamed}
 use Rattle.world_model.proofs.Lists.{next_of_drop, drop_beyond}
 use Rattle.world_model.proofs.In.{StandsIn-moved, NextAct, next_act, run_reaches}
 use Rattle.world_model.proofs.Ranks.{at_run, left_run, logs_run, settled_behind, RankStands-settled, RankStands-same_clock, after_again}
 use Rattle.world_model.proofs.Ranks.{RankStands-again}
 use Rattle.world_model.proofs.Fits.{fits_send, fits_print, FitsTakes, fits_receive, FitsHits, fits_probe, fits_try, fits_ended, wanted, stopped}
-use Rattle.world_model.proofs.Fits.{history_looks_up, first_event_late}
+use Rattle.world_model.proofs.Fits.{history_looks_up, first_event_late, first_event_first}
 use Rattle.world_model.proofs.ReplayParts.{logs_saved, logs_quiet, named_parts, IsOf, one_message}
 
 module _ (start : ℕ → State) (n : ℕ) (C : List Passed) (r : ℕ) (v : Live)
@@ -79,7 +80,7 @@ module _ (start : ℕ → State) (n : ℕ) (C : List Passed) (r : ℕ) (v : Live
     pub turn : Turn
     pub turned : replay_turn_at v.rank e w ≡ Ok turn
     pub stands : (m : MachineValue) → ReplayStepAt v.rank e w m
-        → RankStands start n C r (record { rank = replayed_at v.rank e w m; left = left_after w turn e rest })
+        → RankStands start n C r (record { rank = replayed_at v.rank e w m; left = left_after v.rank w turn e rest })
 
   stays : RankStands start n C r (record { rank = v.rank; left = e ∷ rest })
   stays = subst (λ z. RankStands start n C r (record { rank = v.rank; left = z })) left s
@@ -88,8 +89,11 @@ module _ (start : ℕ → State) (n : ℕ) (C : List Passed) (r : ℕ) (v : Live
   before : (x : NextAct (history C r) v.rank.clock v.rank.machine) → event_at (v.rank.clock + 1) x.act x.message ≡ None
       → (e ∷ rest ≡ events_from (v.rank.clock + 1) x.rest) × (is_before v.rank e ≡ true)
   before x quiet =
-      let q : e ∷ rest ≡ events_from (v.rank.clock + 1) x.rest = left_is x ∙ ap (λ z. cons_some z (events_from (v.rank.clock + 1) x.rest)) quiet in
-      (q, lt-ltb (v.rank.clock + 1) e.receiver_clock (first_event_late (v.rank.clock + 1) x.rest e rest q))
+      let q : e ∷ rest ≡ events_from (v.rank.clock + 1) x.rest = left_is x ∙ ap (λ z. cons_some z (events_from (v.rank.clock + 1) x.rest)) quiet in (
+        q,
+        ap (λ n. nat_lt (v.rank.clock + 1) n) (first_event_first (v.rank.clock + 1) x.rest e rest q)
+            ∙ lt-ltb (v.rank.clock + 1) e.receiver_clock (first_event_late (v.rank.clock + 1) x.rest e rest q),
+      )
 
   -- an event is the next
   now : (x : NextAct (history C r) v.rank.clock v.rank.machine) (y : EventValue) → event_at (v.rank.clock + 1) x.act x.message ≡ Some y
@@ -162,6 +166,20 @@ module _ (start : ℕ → State) (n : ℕ) (C : List Passed) (r : ℕ) (v : Live
             (logs_quiet r (history C r) v.rank (prints z) None (λ c d. refl) logs) b.0;
       }
 
+  -- the next act is the event's
+  is_now_true : (k : Kind) (source clock : ℕ) → e ≡ event_of k source clock (v.rank.clock + 1) → is_now v.rank e ≡ true
+  is_now_true k source clock ee =
+      ap (λ z. is_now v.rank z) ee
+      ∙ ap (λ b. b && nat_le (v.rank.clock + 1) (v.rank.clock + 1))
+      (le-leb (first_clock (event_of k source clock (v.rank.clock + 1))) (v.rank.clock + 1) (first_low k clock (v.rank.clock + 1)))
+      ∙ le-leb (v.rank.clock + 1) (v.rank.clock + 1) (omega arith)
+
+  -- and its last: what is left then is behind it
+  used : (k : Kind) (source clock : ℕ) (x : NextAct (history C r) v.rank.clock v.rank.machine) → e ≡ event_of k source clock (v.rank.clock + 1)
+      → rest ≡ events_from (v.rank.clock + 1) x.rest → (if is_last v.rank e then rest else e ∷ rest) ≡ events_from (v.rank.clock + 1) x.rest
+  used k source clock x ee er =
+      ap (λ b. if b then rest else e ∷ rest) (ap (λ z. is_last v.rank z) ee ∙ eq-eqb (v.rank.clock + 1) (v.rank.clock + 1) refl) ∙ er
+
   missing : (selector : Selector) → machine_want v.rank.machine ≡ want.TryProbe selector → (x : NextAct (history C r) v.rank.clock v.rank.machine)
       → x.act ≡ misses → x.message ≡ None → Goes (want.TryProbe selector)
   missing selector is x ea eo =
@@ -172,15 +190,15 @@ module _ (start : ℕ → State) (n : ℕ) (C : List Passed) (r : ℕ) (v : Live
       go ee er = record {
         turn = Moved;
         turned =
-            ap (λ z. replay_turn_at v.rank z (want.TryProbe selector)) ee ∙ ap (λ b. if b then Ok Moved else Err fault.Replay)
-            (eq-eqb (v.rank.clock + 1) (v.rank.clock + 1) refl);
+            ap (λ b. if b then try_turn selector (named v.rank e) e.kind else Err fault.Replay) (is_now_true kind.Miss 0 0 ee)
+            ∙ ap (λ k. try_turn selector (named v.rank e) k) (ap (λ z. z.kind) ee);
         stands =
             subst (λ z. (m : MachineValue) → ReplayStepAt v.rank z (want.TryProbe selector) m → RankStands start n C r
-            (record { rank = replayed_at v.rank z (want.TryProbe selector) m; left = rest })) (sym ee)
-            (λ m did. goes_on x m v.rank.inbox v.rank.log misses None rest ea eo
+            (record { rank = replayed_at v.rank z (want.TryProbe selector) m; left = if is_last v.rank e then rest else e ∷ rest })) (sym ee)
+            (λ m did. goes_on x m v.rank.inbox v.rank.log misses None (if is_last v.rank e then rest else e ∷ rest) ea eo
             did.state
             at.counted (quietly misses None (λ q j. refl)) at.logged
-            (logs_quiet r (history C r) v.rank misses None (λ c d. refl) logs) er);
+            (logs_quiet r (history C r) v.rank misses None (λ c d. refl) logs) (used kind.Miss 0 0 x ee er));
       }
 
   -- the packet that the event names, if it is there
@@ -208,9 +226,6 @@ module _ (start : ℕ → State) (n : ℕ) (C : List Passed) (r : ℕ) (v : Live
           → (slice_get v.rank.inbox.packets i ≡ Some p) × (p.source ≡ e.sender) × (p.clock ≡ e.sender_clock)
       go None f h = absurd cc
       go (Some k) f h = at_it k (slice_get v.rank.inbox.packets k) refl f h
-
-  is_now_true : (k : Kind) (source clock : ℕ) → e ≡ event_of k source clock (v.rank.clock + 1) → is_now v.rank e ≡ true
-  is_now_true k source clock ee = ap (λ z. is_now v.rank z) ee ∙ eq-eqb (v.rank.clock + 1) (v.rank.clock + 1) refl
 
   -- the packet of the next act, where it is there
   packet_is : (i source place : ℕ) (m : Message) (p : packet.PacketValue) → named v.rank e ≡ Some (i, p) → (k : Kind)
@@ -271,29 +286,33 @@ module _ (start : ℕ → State) (n : ℕ) (C : List Passed) (r : ℕ) (v : Live
                     (names_it selector f.source f.place f.message g.1 k.1 f.matching);
                 stands =
                     subst (λ z. (m : MachineValue) → TakesFound z v.rank.machine m → RankStands start n C r
-                    (record { rank = taken_named v.rank m z; left = rest })) (sym eo)
-                    (λ m did. goes_on x m (without v.rank.inbox g.0) v.rank.log (takes g.1.source g.1.number) (Some (carried g.1)) rest
+                    (record { rank = taken_named v.rank m z; left = if is_last v.rank e then rest else e ∷ rest })) (sym eo)
+                    (λ m did. goes_on x m (without v.rank.inbox g.0) v.rank.log (takes g.1.source g.1.number) (Some (carried g.1))
+                    (if is_last v.rank e then rest else e ∷ rest)
                     (f.act ∙ ap (λ z. takes z f.place) (sym k.1.source) ∙ ap (λ z. takes g.1.source z) (sym k.1.number))
                     (f.found ∙ ap Some (sym k.1.message))
                     (did.state g.1.number)
                     at.counted
                     (InboxStands-taken v.rank.inbox (λ q. sent C q r) (take v.rank.clock (history C r)) g.0 g.1 (Some (carried g.1)) k.0 at.inbox)
                     at.logged
-                    (logs_quiet r (history C r) v.rank (takes g.1.source g.1.number) (Some (carried g.1)) (λ c d. refl) logs) er);
+                    (logs_quiet r (history C r) v.rank (takes g.1.source g.1.number) (Some (carried g.1)) (λ c d. refl) logs)
+                    (used kind.Reception f.source f.message.clock x ee er));
               }
 
   -- a hit is shown the packet that the event names
   shown_goes : (x : NextAct (history C r) v.rank.clock v.rank.machine) (selector : Selector) (f : FitsHits selector x.act x.message)
       (m : MachineValue) (g : ℕ × packet.PacketValue)
+      → e ≡ event_of kind.Hit f.source f.message.clock (v.rank.clock + 1)
       → rest ≡ events_from (v.rank.clock + 1) x.rest → IsOf f.source f.place f.message g.1 → WasShown g.1 v.rank.machine m
-      → RankStands start n C r (record { rank = shown_named v.rank m (Some g); left = rest })
-  shown_goes x selector f m g er k did =
-      goes_on x m v.rank.inbox v.rank.log (hits g.1.source g.1.number) (Some (carried g.1)) rest
+      → RankStands start n C r (record { rank = shown_named v.rank m (Some g); left = if is_last v.rank e then rest else e ∷ rest })
+  shown_goes x selector f m g ee er k did =
+      goes_on x m v.rank.inbox v.rank.log (hits g.1.source g.1.number) (Some (carried g.1)) (if is_last v.rank e then rest else e ∷ rest)
       (f.act ∙ ap (λ z. hits z f.place) (sym k.source) ∙ ap (λ z. hits g.1.source z) (sym k.number))
       (f.found ∙ ap Some (sym k.message))
       (did.state g.1.number)
       at.counted (quietly (hits g.1.source g.1.number) (Some (carried g.1)) (λ q j. refl)) at.logged
-      (logs_quiet r (history C r) v.rank (hits g.1.source g.1.number) (Some (carried g.1)) (λ c d. refl) logs) er
+      (logs_quiet r (history C r) v.rank (hits g.1.source g.1.number) (Some (carried g.1)) (λ c d. refl) logs)
+      (used kind.Hit f.source f.message.clock x ee er)
 
   hit_now : (x : NextAct (history C r) v.rank.clock v.rank.machine) (selector : Selector) (f : FitsHits selector x.act x.message)
       → (e ≡ event_of kind.Hit f.source f.message.clock (v.rank.clock + 1)) × (rest ≡ events_from (v.rank.clock + 1) x.rest)
@@ -340,8 +359,8 @@ module _ (start : ℕ → State) (n : ℕ) (C : List Passed) (r : ℕ) (v : Live
                     (names_it selector f.source f.place f.message g.1 k.1 f.matching);
                 stands =
                     subst (λ z. (m : MachineValue) → IsShownFound z v.rank.machine m → RankStands start n C r
-                    (record { rank = shown_named v.rank m z; left = rest })) (sym eo)
-                    (λ m did. shown_goes x selector f m g er k.1 did);
+                    (record { rank = shown_named v.rank m z; left = if is_last v.rank e then rest else e ∷ rest })) (sym eo)
+                    (λ m did. shown_goes x selector f m g ee er k.1 did);
               }
 
   trying : (selector : Selector) → machine_want v.rank.machine ≡ want.TryProbe selector → Goes (want.TryProbe selector)
@@ -385,10 +404,10 @@ module _ (start : ℕ → State) (n : ℕ) (C : List Passed) (r : ℕ) (v : Live
                     (names_it selector f.source f.place f.message g.1 k.1 f.matching);
                 stands =
                     subst (λ y. (m : MachineValue) → TriesNamed (named v.rank e) y v.rank.machine m → RankStands start n C r
-                    (record { rank = tried_named v.rank m (named v.rank e) y; left = rest })) (sym (kinds ee))
+                    (record { rank = tried_named v.rank m (named v.rank e) y; left = if is_last v.rank e then rest else e ∷ rest })) (sym (kinds ee))
                     (subst (λ z. (m : MachineValue) → IsShownFound z v.rank.machine m → RankStands start n C r
-                    (record { rank = shown_named v.rank m z; left = rest })) (sym eo)
-                    (λ m did. shown_goes x selector f m g er k.1 did));
+                    (record { rank = shown_named v.rank m z; left = if is_last v.rank e then rest else e ∷ rest })) (sym eo)
+                    (λ m did. shown_goes x selector f m g ee er k.1 did));
               }
 
   going : Goes want.Internal

@@ -17,6 +17,8 @@ use Rattle.crash_free.specs.Runs.{Passed, History, at_place, history, sent, send
 use Rattle.world_model.specs.World.{Live, WorldValue, size, IsLive, BeginsAt, covered}
 use Rattle.world_model.specs.Stands.{packet_of, packets_from, LogStands, LogsStand, sends_of, StandsIn, ImageStands, RankStands, start_at, BasesCovered}
 use Rattle.world_model.specs.Stands.{Stands}
+use Rattle.world_model.specs.Plain.{plain}
+use Rattle.world_model.proofs.PlainWorlds.{rank_of}
 use Rattle.world_model.specs.Retained.{Needed, Retains, Holds, NothingGone}
 use Rattle.world_model.proofs.Lists.{replicate_get, get_dropped, packets_there}
 use Rattle.world_model.proofs.Headline.{stands_for, stands_acts}
@@ -158,7 +160,7 @@ module _ (w : WorldValue) (s : Stands w) where
 
   -- a live rank retains what is needed
   live_retains : (q r k : ℕ) (m : Message) (v : Live) → Needed w w.run q r k m → IsLive w q v
-      → RankStands (start_at w (size w)) (size w) w.run q v → Retains v.rank.clock v.rank.log q r k m
+      → RankStands (start_at w (size w)) (size w) w.run q (plain v) → Retains v.rank.clock v.rank.log q r k m
   live_retains q r k m v needed live i =
       retains q (history w.run q) v.rank.clock i.acts v.rank.log (size w) r k m i.logs i.at.logged needed.to needed.there
       (below_needed w w.run q r k m v.rank.log needed (s.covers.ranks q v live).bases)
@@ -175,9 +177,9 @@ module _ (w : WorldValue) (s : Stands w) where
       → Holds w.run r (take v.rank.clock (history (continue w.run r ((stands_for w s).ranks r v live).acts) r)) v.rank.inbox
   live_holds r v live =
       subst (λ z. Holds w.run r (take v.rank.clock (history (continue w.run r z) r)) v.rank.inbox) (sym (stands_acts w r v s live))
-      (in_place r v (s.run.ranks r v live))
+      (in_place r v (rank_of s r v live))
     where
-      in_place : (r : ℕ) (v : Live) (i : RankStands (start_at w (size w)) (size w) w.run r v)
+      in_place : (r : ℕ) (v : Live) (i : RankStands (start_at w (size w)) (size w) w.run r (plain v))
           → Holds w.run r (take v.rank.clock (history (continue w.run r i.acts) r)) v.rank.inbox
       in_place r v i =
           holds (start_at w (size w) r) (size w) r w.run (history (continue w.run r i.acts) r) v.rank.clock v.rank.machine v.rank.inbox v.rank.log i.at
@@ -190,7 +192,7 @@ module _ (w : WorldValue) (s : Stands w) where
   pub nothing_gone : NothingGone w w.run
   nothing_gone = record {
     stands = stands_for w s;
-    live = λ q r k m v needed live. live_retains q r k m v needed live (s.run.ranks q v live);
+    live = λ q r k m v needed live. live_retains q r k m v needed live (rank_of s q v live);
     images = λ q r k m i needed b. image_retains q r k m i needed b (image_stands q i b);
     kept = λ r q k upto frames at e. s.covers.wires r q k frames (frame.Kept upto) at e;
     live_inbox = live_holds;

@@ -1,13 +1,13 @@
 -- An event names one act: the clocks of what a rank sent to another rise, so a source and a clock name one message.
-use Rattle.std.proofs.Common.{◌≡◌, ℕ, ◌+◌, List, [], ◌∷◌, Option, Some, None, length, refl, sym, ap, subst, ◌∙◌, arith}
-use Rattle.std.proofs.lemmas.List.{append_cancel_left}
+use Rattle.std.proofs.Common.{◌≡◌, ℕ, suc, ◌+◌, ◌≤◌, List, [], ◌∷◌, ◌++◌, Option, Some, None, length, refl, sym, ap, subst, ◌∙◌, arith, append_assoc}
+use Rattle.std.proofs.lemmas.List.{append_cancel_left, append-nil}
 use Rattle.plain_logger.specs.Event.{EventValue, event_of}
 use Rattle.plain_logger.specs.declared.kind.Kind.{Kind}
 use Rattle.plain_logger.specs.declared.kind.Kind.TheVariants as kind
 use Rattle.rank_machine.specs.Acts.{Act, Message, sends, takes, hits, misses, prints}
-use Rattle.crash_free.specs.Runs.{Passed, at_place, history, sent, looked_up}
+use Rattle.crash_free.specs.Runs.{Passed, at_place, history, sent, looked_up, continue}
 use Rattle.crash_free.proofs.Clocks.{one_clock}
-use Rattle.world_model.specs.Rows.{row, event_at, cons_some, Noted}
+use Rattle.world_model.specs.Rows.{row, event_at, cons_some}
 use Rattle.world_model.proofs.Rows.{row-own}
 
 -- the event of a reception names the source and the clock of the message that was taken
@@ -75,19 +75,63 @@ module _ (C : List Passed) (r c : ℕ) (x : EventValue) where
   same_event _ (sends d context t items) e f = absurd cc
   same_event _ (prints v) e f = absurd cc
 
--- where an act's event makes one event, it is that event
-one_some : (o : Option EventValue) (x : EventValue) → cons_some o [] ≡ x ∷ [] → o ≡ Some x
-one_some None x e = absurd cc
-one_some (Some y) x e = let q : y ≡ x = cc in ap Some q
+-- ---- what an event stands for
 
--- what an event stands for is one act, with that event
-pub noted_act : (C : List Passed) (r : ℕ) (acts : List Act) (x : EventValue) → Noted C r acts x
-    → (a : Act) × (acts ≡ a ∷ []) × (event_at (length (history C r) + 1) a (looked_up (λ s. sent C s r) a) ≡ Some x)
-noted_act C r [] x n = let e = n.as_many in absurd (omega (arith, e))
-noted_act C r (a ∷ []) x n = (
-  a,
-  refl,
-  one_some _ x (append_cancel_left (row C r) (cons_some (event_at (length (history C r) + 1) a (looked_up (λ s. sent C s r) a)) [])
-      (x ∷ []) (sym (row-own C r a) ∙ n.row_grows)),
-)
-noted_act C r (a ∷ (b ∷ acts)) x n = let e = n.as_many in absurd (omega (arith, e))
+-- acts make no more events than they are
+grows : (C : List Passed) (r : ℕ) (acts : List Act) → (es : List EventValue) × (row (continue C r acts) r ≡ row C r ++ es) × (length es ≤ length acts)
+grows C r [] = ([], sym (append-nil (row C r)), omega arith)
+grows C r (a ∷ acts) =
+    let g = grows (record { rank = r; act = a } ∷ C) r acts in (
+      cons_some (event_at (length (history C r) + 1) a (looked_up (λ s. sent C s r) a)) [] ++ g.0,
+      g.1 ∙ ap (λ z. z ++ g.0) (row-own C r a)
+          ∙ append_assoc (row C r) (cons_some (event_at (length (history C r) + 1) a (looked_up (λ s. sent C s r) a)) []) g.0,
+      more (event_at (length (history C r) + 1) a (looked_up (λ s. sent C s r) a)) g.0 g.2,
+    )
+  where
+    more : (o : Option EventValue) (es : List EventValue) → length es ≤ length acts → length (cons_some o [] ++ es) ≤ suc (length acts)
+    more None es l = omega (arith, l)
+    more (Some x) es l = omega (arith, l)
+
+-- the first of as many acts as events makes the first of them
+record FirstNoted (C : List Passed) (r : ℕ) (a : Act) (acts : List Act) (x : EventValue) (es : List EventValue) : Type 0 where
+  event : event_at (length (history C r) + 1) a (looked_up (λ s. sent C s r) a) ≡ Some x
+  others : row (continue (record { rank = r; act = a } ∷ C) r acts) r ≡ row (record { rank = r; act = a } ∷ C) r ++ es
+
+first_noted : (C : List Passed) (r : ℕ) (a : Act) (acts : List Act) (x : EventValue) (es : List EventValue)
+    → row (continue (record { rank = r; act = a } ∷ C) r acts) r ≡ row C r ++ x ∷ es → length acts ≡ length es → FirstNoted C r a acts x es
+first_noted C r a acts x es is many = go (event_at (length (history C r) + 1) a (looked_up (λ s. sent C s r) a)) refl
+  where
+    go : (o : Option EventValue) → event_at (length (history C r) + 1) a (looked_up (λ s. sent C s r) a) ≡ o → FirstNoted C r a acts x es
+    go None e =
+        let g = grows (record { rank = r; act = a } ∷ C) r acts in
+        let same : row (record { rank = r; act = a } ∷ C) r ≡ row C r = row-own C r a ∙ ap (λ o. row C r ++ cons_some o []) e ∙ append-nil (row C r) in
+        let q : g.0 ≡ x ∷ es = append_cancel_left (row C r) g.0 (x ∷ es) (sym (g.1 ∙ ap (λ z. z ++ g.0) same) ∙ is) in
+        let l = ap length q in
+        let m = g.2 in
+        absurd (omega (arith, l, m, many))
+    go (Some y) e =
+        let g = grows (record { rank = r; act = a } ∷ C) r acts in
+        let same : row (record { rank = r; act = a } ∷ C) r ≡ row C r ++ y ∷ [] = row-own C r a ∙ ap (λ o. row C r ++ cons_some o []) e in
+        let whole : row (continue (record { rank = r; act = a } ∷ C) r acts) r ≡ row C r ++ y ∷ g.0 =
+        g.1 ∙ ap (λ z. z ++ g.0) same ∙ append_assoc (row C r) (y ∷ []) g.0 in
+        let q : y ∷ g.0 ≡ x ∷ es = append_cancel_left (row C r) (y ∷ g.0) (x ∷ es) (sym whole ∙ is) in
+        let h : y ≡ x = cc in
+        let t : g.0 ≡ es = cc in
+        record { event = e ∙ ap Some h; others = g.1 ∙ ap (λ z. row (record { rank = r; act = a } ∷ C) r ++ z) t }
+
+-- as many acts as events that make these are the same acts
+pub noted_acts : (C : List Passed) (r : ℕ) (acts acts' : List Act) (es : List EventValue)
+    → row (continue C r acts) r ≡ row C r ++ es → length acts ≡ length es
+    → row (continue C r acts') r ≡ row C r ++ es → length acts' ≡ length es → acts ≡ acts'
+noted_acts C r [] [] es n m n' m' = refl
+noted_acts C r [] (b ∷ acts') es n m n' m' = absurd (omega (arith, m, m'))
+noted_acts C r (a ∷ acts) [] es n m n' m' = absurd (omega (arith, m, m'))
+noted_acts C r (a ∷ acts) (b ∷ acts') [] n m n' m' = absurd (omega (arith, m))
+noted_acts C r (a ∷ acts) (b ∷ acts') (x ∷ es) n m n' m' =
+    let first = first_noted C r a acts x es n (omega (arith, m)) in
+    let second = first_noted C r b acts' x es n' (omega (arith, m')) in
+    let same : a ≡ b = same_event C r (length (history C r) + 1) x a b first.event second.event in
+    ap (λ z. z ∷ acts) same
+    ∙ ap (λ z. b ∷ z) (noted_acts (record { rank = r; act = b } ∷ C) r acts acts' es
+    (subst (λ z. row (continue (record { rank = r; act = z } ∷ C) r acts) r ≡ row (record { rank = r; act = z } ∷ C) r ++ es) same first.others) (omega (arith, m))
+    second.others (omega (arith, m')))

@@ -1,9 +1,9 @@
 -- What a call on a rank leaves of its seat: the machine keeps its program, and what is stable stays, but for the shelf
 -- where an image is taken.
-use Rattle.std.proofs.Common.{◌≡◌, ◌≢◌, ℕ, List, [], ◌∷◌, Option, Some, None, Result, Ok, Err, refl, sym, ap, subst, ◌∙◌, ◌⊎◌, inl, inr}
+use Rattle.std.proofs.Common.{◌≡◌, ◌≢◌, ℕ, true, false, List, [], ◌∷◌, Option, Some, None, Result, Ok, Err, refl, sym, ap, subst, ◌∙◌, ◌⊎◌, inl, inr, ◌<◌, arith}
 use Rattle.checkpoint.specs.Image.{ImageValue}
 use Rattle.checkpoint.specs.Reading.{reading}
-use Rattle.checkpoint.specs.Shelf.{image_bytes}
+use Rattle.checkpoint.specs.Shelf.{image_bytes, Grew}
 use Rattle.checkpoint.specs.declared.fault.ImageFault.{ImageFault}
 use Rattle.checkpoint.specs.declared.memory_shelf.MemoryShelf.{MemoryShelf}
 use Rattle.matching.specs.PacketValue as packet
@@ -15,16 +15,17 @@ use Rattle.rank_machine.specs.declared.want.Want.{Want}
 use Rattle.rank_machine.specs.declared.want.Want.TheVariants as want
 use Rattle.rank_machine.specs.Machine.{MachineValue, machine_want}
 use Rattle.rank_node.specs.declared.fault.NodeFault.{NodeFault}
+use Rattle.rank_node.specs.Fault.{MayRefuseRestart}
 use Rattle.rank_node.specs.declared.fault.NodeFault.TheVariants.{NotSettled, Shelf, Image, Replay, ClockSpent, Log, Memory}
 use Rattle.rank_node.specs.Image.{image_of, image_on, begins_at, where_read, IsImaged, BeginsAgain, Reads}
 use Rattle.rank_node.specs.Stored.{Stored}
 use Rattle.rank_node.specs.Steps.{TakesFound, IsShownFound}
 use Rattle.rank_node.specs.Replay as replay
-use Rattle.rank_node.specs.Replay.{named, ReplayStep, ReplayStepAt, TriesNamed}
+use Rattle.rank_node.specs.Replay.{named, cuts, ReplayStep, ReplayStepAt, TriesNamed}
 use Rattle.world_model.specs.World.{Rank}
 use Rattle.world_model.specs.declared.state.State.{State}
-use Rattle.world_model.specs.declared.state.State.TheVariants.{Running, Replaying}
-use Rattle.world_model.specs.Seat.{shelf_of, HasLeft, IsKept, IsOf, IsOwn, IsStanding}
+use Rattle.world_model.specs.declared.state.State.TheVariants.{Running, Replaying, Down, Empty}
+use Rattle.world_model.specs.Seat.{bytes_of, live_of, shelf_of, HasLeft, IsKept, IsOf, IsOwn, IsStanding}
 use Rattle.world_model.proofs.Reading.{read_program}
 
 -- ---- the machine keeps its program
@@ -44,6 +45,7 @@ may_try_named : (f : Option (ℕ × packet.PacketValue)) (k : Kind) (m m' : Mach
 may_try_named f kind.Reception m m' s = ap (λ (z : MachineValue). z.program) s
 may_try_named f kind.Hit m m' s = may_show f m m' s
 may_try_named f kind.Miss m m' s = s.stays.program
+may_try_named f kind.Misses m m' s = s.stays.program
 
 -- whatever the machine wants
 replay_program_at : (v : Rank) (e : EventValue) (w : Want) (m : MachineValue) → ReplayStepAt v e w m → m.program ≡ v.machine.program
@@ -151,6 +153,63 @@ is_memory p r n old taken fault kept same refused is = go is
     go (inr (inr (inr (inl e)))) = (let q : Memory ≡ Replay = sym memory ∙ e in cc)
     go (inr (inr (inr (inr (inl e))))) = (let q : Memory ≡ ClockSpent = sym memory ∙ e in cc)
     go (inr (inr (inr (inr (inr e))))) = (let q : Memory ≡ Log = sym memory ∙ e in cc)
+
+-- the image of a rank that is down cuts no event of a row, whatever rank it is said to be
+pub uncut_then : (p : ProgramValue) (r n : ℕ) (old taken : State) (row : List EventValue) → IsKept p r n old → taken ≡ old → live_of old ≡ None
+    → cuts (begins_at p r n (image_on p r n (bytes_of old))).clock row ≡ false
+    → (q k : ℕ) → IsStanding p q k taken → cuts (begins_at p q k (image_on p q k (bytes_of taken))).clock row ≡ false
+uncut_then p r n old taken row kept same down uncut q k standing =
+    subst (λ z. cuts (begins_at p q k (image_on p q k (bytes_of z))).clock row ≡ false) (sym same)
+    (go old kept.standing down uncut (subst (λ z. IsStanding p q k z) same standing))
+  where
+    go : (state : State) → IsStanding p r n state → live_of state ≡ None → cuts (begins_at p r n (image_on p r n (bytes_of state))).clock row ≡ false
+        → IsStanding p q k state → cuts (begins_at p q k (image_on p q k (bytes_of state))).clock row ≡ false
+    go (Running v) s d u h = absurd cc
+    go (Replaying v) s d u h = absurd cc
+    go Empty s d u h = absurd s
+    go (Down stable) s d u h =
+        subst (λ z. cuts (begins_at p z k (image_on p z k (bytes_of (Down stable)))).clock row ≡ false) (sym s.rank ∙ h.rank)
+        (subst (λ z. cuts (begins_at p r z (image_on p r z (bytes_of (Down stable)))).clock row ≡ false) (sym s.size ∙ h.size) u)
+
+-- a rank whose image cuts no event isn't refused for that
+pub not_cut : (p : ProgramValue) (r n : ℕ) (stable : Stored MemoryShelf (Unit {0})) (row : List EventValue) (fault : NodeFault)
+    → (fault ≡ Replay → cuts (begins_at p stable.rank stable.size (image_on p stable.rank stable.size (image_bytes stable.shelf.image))).clock row ≡ true)
+    → ((q k : ℕ) → IsStanding p q k (Down stable) → cuts (begins_at p q k (image_on p q k (bytes_of (Down stable)))).clock row ≡ false)
+    → IsStanding p r n (Down stable) → fault ≡ Replay → ⊥
+not_cut p r n stable row fault cut uncut s is =
+    let u : cuts (begins_at p stable.rank stable.size (image_on p stable.rank stable.size (image_bytes stable.shelf.image))).clock row ≡ false =
+    subst (λ z. cuts (begins_at p z stable.size (image_on p z stable.size (image_bytes stable.shelf.image))).clock row ≡ false) (sym s.rank)
+    (subst (λ z. cuts (begins_at p r z (image_on p r z (image_bytes stable.shelf.image))).clock row ≡ false) (sym s.size) (uncut r n s)) in
+    let q : true ≡ false = sym (cut is) ∙ u in
+    cc
+
+-- a shelf in memory never fails
+none_grew : Grew 0 0 → ⊥
+none_grew (inl low) = omega (arith, low)
+none_grew (inr same) = omega (arith, same)
+
+-- where nothing else may refuse a restart, memory does
+memory_alone : (fault : NodeFault) → MayRefuseRestart fault → (fault ≡ Shelf → Grew 0 0) → (fault ≡ Image → ⊥) → (fault ≡ Replay → ⊥) → fault ≡ Memory
+memory_alone NotSettled may shelf image replay = absurd may
+memory_alone Shelf may shelf image replay = absurd (none_grew (shelf refl))
+memory_alone Image may shelf image replay = absurd (image refl)
+memory_alone Replay may shelf image replay = absurd (replay refl)
+memory_alone ClockSpent may shelf image replay = absurd may
+memory_alone Log may shelf image replay = absurd may
+memory_alone Memory may shelf image replay = refl
+
+-- a rank whose shelf holds an image of it, which cuts no event, is refused for want of memory alone
+pub refused_alone : (p : ProgramValue) (r n : ℕ) (stable : Stored MemoryShelf (Unit {0})) (row : List EventValue) (fault : NodeFault) → MayRefuseRestart fault
+    → (fault ≡ Shelf → Grew 0 0) → (fault ≡ Image → Reads p stable.rank stable.size (image_bytes stable.shelf.image) → ⊥)
+    → (fault ≡ Replay → cuts (begins_at p stable.rank stable.size (image_on p stable.rank stable.size (image_bytes stable.shelf.image))).clock row ≡ true)
+    → ((q k : ℕ) → IsStanding p q k (Down stable) → cuts (begins_at p q k (image_on p q k (bytes_of (Down stable)))).clock row ≡ false)
+    → IsStanding p r n (Down stable) → fault ≡ Memory
+refused_alone p r n stable row fault may shelf image cut uncut s =
+    memory_alone fault may shelf (λ is. image is reads) (not_cut p r n stable row fault cut uncut s)
+  where
+    reads : Reads p stable.rank stable.size (image_bytes stable.shelf.image)
+    reads = subst (λ z. Reads p z stable.size (image_bytes stable.shelf.image)) (sym s.rank)
+        (subst (λ z. Reads p r z (image_bytes stable.shelf.image)) (sym s.size) s.reads)
 
 -- a rank that replayed a step, and what it settled to
 pub replayed_then : (p : ProgramValue) (r n : ℕ) (old taken new put : State) (v x : replay.Replay MemoryShelf (Unit {0})) → IsKept p r n old

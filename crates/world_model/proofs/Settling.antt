@@ -63,7 +63,7 @@ settled_live r result done more x e =
 pub replayed_is : (r after : replay.Replay MemoryShelf (Unit {0})) (t : Turn) → r.left ≢ []
     → ((e : EventValue) (rest : List EventValue) → r.left ≡ e ∷ rest → replay_turn_of r.node e ≡ Ok t)
     → ((e : EventValue) (rest : List EventValue) → r.left ≡ e ∷ rest
-    → after ≡ record { node = after_replay r.node e after.node.machine; left = left_after (machine_want r.node.machine) t e rest })
+    → after ≡ record { node = after_replay r.node e after.node.machine; left = left_after r.node (machine_want r.node.machine) t e rest })
     → ((e : EventValue) (rest : List EventValue) → r.left ≡ e ∷ rest → ReplayStep r.node e after.node.machine)
     → IsReplayed (record { rank = r.node; left = r.left }) t (in_replay after)
 replayed_is r after t some turned is steps = go r.left refl

@@ -1,5 +1,6 @@
--- A rank that runs, changed where nothing passes, keeps what a world stands for: so does each new reception, hit or miss.
-use Rattle.std.proofs.Common.{◌≡◌, ℕ, ◌+◌, ◌<◌, ◌⊎◌, inl, inr, ⊎_elim, if◌then◌else◌, is_some, []}
+-- A rank that runs, changed where nothing passes, keeps what a world stands for: so does each new reception, hit or miss. In
+-- a world without runs of misses each is an event of its own, and how many events a rank has made isn't told.
+use Rattle.std.proofs.Common.{◌≡◌, ℕ, ◌+◌, ◌<◌, ◌⊎◌, inl, inr, ⊎_elim, []}
 use Rattle.std.proofs.Common.{Option, Some, None, length, take, refl, sym, subst, ◌∙◌, slice_get}
 use Rattle.std.proofs.Common.{option_and_then, position}
 use Rattle.plain_logger.specs.Event.{event_of}
@@ -13,8 +14,8 @@ use Rattle.rank_machine.specs.Acts.{takes, hits, misses, carried, Fits, Makes}
 use Rattle.rank_machine.specs.Machine.{MachineValue, state_of, machine_want}
 use Rattle.rank_machine.specs.declared.want.Want.{Want}
 use Rattle.rank_machine.specs.declared.want.Want.TheVariants as want
-use Rattle.rank_node.specs.Steps.{event_refusal, Missed, Took, WasShown, TakesFound, IsShownFound}
-use Rattle.rank_node.specs.Steps.{TriesFound, received, probed, tried, at_index}
+use Rattle.rank_node.specs.Steps.{Missed, Took, WasShown, TakesFound, IsShownFound}
+use Rattle.rank_node.specs.Steps.{TriesFound, received, probed, found, step_at, at_index}
 use Rattle.rank_node.specs.Steps.{after_reception, after_probe}
 use Rattle.crash_free.specs.Runs.{History, history, sent, IsFree, continue}
 use Rattle.crash_free.proofs.Going.{free_silent}
@@ -25,6 +26,26 @@ use Rattle.world_model.proofs.Lists.{take_whole}
 use Rattle.world_model.proofs.Fits.{wanted}
 use Rattle.world_model.proofs.Steps.{IsEventWant, caught_up, RankStands-event}
 use Rattle.world_model.proofs.Worlds.{changed, Stands-rank}
+
+-- the second rank, which has made as many events as the first
+abbrev pub uncounted : Rank → Rank → Rank
+uncounted v u = record u { made = v.made }
+
+-- a probe that doesn't wait hits what was found, and misses where nothing was: each miss is an event
+abbrev pub plain_tried : Rank → MachineValue → Option (ℕ × packet.PacketValue) → Rank
+plain_tried v m None = after_probe v m kind.Miss 0 0
+plain_tried v m (Some f) = after_probe v m kind.Hit f.1.source f.1.clock
+
+-- a step without runs of misses
+abbrev pub plain_step_at : Rank → Want → MachineValue → Rank
+plain_step_at v want.Internal m = step_at v want.Internal m
+plain_step_at v (want.Send d c t) m = step_at v (want.Send d c t) m
+plain_step_at v (want.Receive selector) m = uncounted v (step_at v (want.Receive selector) m)
+plain_step_at v (want.Probe selector) m = uncounted v (step_at v (want.Probe selector) m)
+plain_step_at v (want.TryProbe selector) m = uncounted v (plain_tried v m (found selector v.inbox.packets))
+plain_step_at v (want.Print x) m = step_at v (want.Print x) m
+plain_step_at v want.Halted m = step_at v want.Halted m
+plain_step_at v (want.Faulted k) m = step_at v (want.Faulted k) m
 
 module _ (n : ℕ) (w : WorldValue) (r : ℕ) (v : Live) (m : MachineValue) (s : StandsAt n w) (live : IsLive w r v) (lt : r < n) (running : v.left ≡ []) where
   k : RankStands (start_at w n) n w.run r v
@@ -61,10 +82,10 @@ module _ (n : ℕ) (w : WorldValue) (r : ℕ) (v : Live) (m : MachineValue) (s :
 
   receiving : (selector : Selector) → machine_want v.rank.machine ≡ want.Receive selector → (i : ℕ) (p : packet.PacketValue)
       → position (matches selector) v.rank.inbox.packets ≡ Some i → slice_get v.rank.inbox.packets i ≡ Some p
-      → event_refusal v.rank ≡ None → Took p v.rank.machine m
-      → StandsAt n (changed w r (Some (record { rank = after_reception v.rank m i p; left = [] })) w.images w.logger w.lines w.run)
-  receiving selector e i p first there allowed took =
-      alone (after_reception v.rank m i p)
+      → Took p v.rank.machine m
+      → StandsAt n (changed w r (Some (record { rank = uncounted v.rank (after_reception v.rank m i p); left = [] })) w.images w.logger w.lines w.run)
+  receiving selector e i p first there took =
+      alone (uncounted v.rank (after_reception v.rank m i p))
       (RankStands-event (start_at w n) n w.run r v (s.ranks r v live) (takes p.source p.number) (Some (carried p)) m running
       (eventful (want.Receive selector) e tt)
       (subst (λ z. Fits z (payload (state_of v.rank.machine)) (takes p.source p.number) (Some (carried p))) (sym wants_it) here.matching)
@@ -88,10 +109,10 @@ module _ (n : ℕ) (w : WorldValue) (r : ℕ) (v : Live) (m : MachineValue) (s :
   hitting : (x : Want) (selector : Selector) → machine_want v.rank.machine ≡ x → (x ≡ want.Probe selector) ⊎ (x ≡ want.TryProbe selector)
       → (i : ℕ) (p : packet.PacketValue)
       → position (matches selector) v.rank.inbox.packets ≡ Some i → slice_get v.rank.inbox.packets i ≡ Some p
-      → event_refusal v.rank ≡ None → WasShown p v.rank.machine m
-      → StandsAt n (changed w r (Some (record { rank = after_probe v.rank m kind.Hit p.source p.clock; left = [] })) w.images w.logger w.lines w.run)
-  hitting x selector e which i p first there allowed did =
-      alone (after_probe v.rank m kind.Hit p.source p.clock)
+      → WasShown p v.rank.machine m
+      → StandsAt n (changed w r (Some (record { rank = uncounted v.rank (after_probe v.rank m kind.Hit p.source p.clock); left = [] })) w.images w.logger w.lines w.run)
+  hitting x selector e which i p first there did =
+      alone (uncounted v.rank (after_probe v.rank m kind.Hit p.source p.clock))
       (RankStands-event (start_at w n) n w.run r v (s.ranks r v live) (hits p.source p.number) (Some (carried p)) m running
       (eventful x e (⊎_elim (λ q. subst (λ z. IsEventWant z) (sym q) tt) (λ q. subst (λ z. IsEventWant z) (sym q) tt) which))
       (⊎_elim (λ q. subst (λ z. Fits z (payload (state_of v.rank.machine)) (hits p.source p.number) (Some (carried p)))
@@ -116,10 +137,10 @@ module _ (n : ℕ) (w : WorldValue) (r : ℕ) (v : Live) (m : MachineValue) (s :
       here : Found selector v.rank.inbox.packets i p
       here = found_at selector v.rank.inbox.packets i p first there
 
-  missing : (selector : Selector) → machine_want v.rank.machine ≡ want.TryProbe selector → event_refusal v.rank ≡ None → Missed v.rank.machine m
-      → StandsAt n (changed w r (Some (record { rank = after_probe v.rank m kind.Miss 0 0; left = [] })) w.images w.logger w.lines w.run)
-  missing selector e allowed did =
-      alone (after_probe v.rank m kind.Miss 0 0)
+  missing : (selector : Selector) → machine_want v.rank.machine ≡ want.TryProbe selector → Missed v.rank.machine m
+      → StandsAt n (changed w r (Some (record { rank = uncounted v.rank (after_probe v.rank m kind.Miss 0 0); left = [] })) w.images w.logger w.lines w.run)
+  missing selector e did =
+      alone (uncounted v.rank (after_probe v.rank m kind.Miss 0 0))
       (RankStands-event (start_at w n) n w.run r v (s.ranks r v live) misses None m running (eventful (want.TryProbe selector) e tt)
       makes refl
       (free_silent (wants (state_of v.rank.machine)) misses (λ q. sent w.run q r) (history (continue w.run r (s.ranks r v live).acts) r) tt)
@@ -135,48 +156,45 @@ module _ (n : ℕ) (w : WorldValue) (r : ℕ) (v : Live) (m : MachineValue) (s :
   -- what is found, if anything is
   pub finding : (selector : Selector) → machine_want v.rank.machine ≡ want.Receive selector → (o : Option ℕ)
       → position (matches selector) v.rank.inbox.packets ≡ o
-      → (if is_some o then event_refusal v.rank else None) ≡ None
       → TakesFound (option_and_then (at_index v.rank.inbox.packets) o) v.rank.machine m
-      → StandsAt n (changed w r (Some (record { rank = received v.rank m (option_and_then (at_index v.rank.inbox.packets) o); left = [] }))
+      → StandsAt n (changed w r (Some (record { rank = uncounted v.rank (received v.rank m (option_and_then (at_index v.rank.inbox.packets) o)); left = [] }))
       w.images w.logger w.lines w.run)
-  finding selector e None there allowed steps = Stands-still
-  finding selector e (Some i) there allowed steps = go (slice_get v.rank.inbox.packets i) refl steps
+  finding selector e None there steps = Stands-still
+  finding selector e (Some i) there steps = go (slice_get v.rank.inbox.packets i) refl steps
     where
       go : (o : Option packet.PacketValue) → slice_get v.rank.inbox.packets i ≡ o
           → TakesFound (option_and_then {U = ℕ × packet.PacketValue} (λ p. Some (i, p)) o) v.rank.machine m
-          → StandsAt n (changed w r (Some (record { rank = received v.rank m (option_and_then {U = ℕ × packet.PacketValue} (λ p. Some (i, p)) o); left = [] }))
+          → StandsAt n (changed w r (Some (record { rank = uncounted v.rank (received v.rank m (option_and_then {U = ℕ × packet.PacketValue} (λ p. Some (i, p)) o)); left = [] }))
           w.images w.logger w.lines w.run)
       go None f t = Stands-still
-      go (Some p) f t = receiving selector e i p there f allowed t
+      go (Some p) f t = receiving selector e i p there f t
 
   pub probing : (selector : Selector) → machine_want v.rank.machine ≡ want.Probe selector → (o : Option ℕ)
       → position (matches selector) v.rank.inbox.packets ≡ o
-      → (if is_some o then event_refusal v.rank else None) ≡ None
       → IsShownFound (option_and_then (at_index v.rank.inbox.packets) o) v.rank.machine m
-      → StandsAt n (changed w r (Some (record { rank = probed v.rank m (option_and_then (at_index v.rank.inbox.packets) o); left = [] }))
+      → StandsAt n (changed w r (Some (record { rank = uncounted v.rank (probed v.rank m (option_and_then (at_index v.rank.inbox.packets) o)); left = [] }))
       w.images w.logger w.lines w.run)
-  probing selector e None there allowed steps = Stands-still
-  probing selector e (Some i) there allowed steps = go (slice_get v.rank.inbox.packets i) refl steps
+  probing selector e None there steps = Stands-still
+  probing selector e (Some i) there steps = go (slice_get v.rank.inbox.packets i) refl steps
     where
       go : (o : Option packet.PacketValue) → slice_get v.rank.inbox.packets i ≡ o
           → IsShownFound (option_and_then {U = ℕ × packet.PacketValue} (λ p. Some (i, p)) o) v.rank.machine m
-          → StandsAt n (changed w r (Some (record { rank = probed v.rank m (option_and_then {U = ℕ × packet.PacketValue} (λ p. Some (i, p)) o); left = [] }))
+          → StandsAt n (changed w r (Some (record { rank = uncounted v.rank (probed v.rank m (option_and_then {U = ℕ × packet.PacketValue} (λ p. Some (i, p)) o)); left = [] }))
           w.images w.logger w.lines w.run)
       go None f t = Stands-still
-      go (Some p) f t = hitting (want.Probe selector) selector e (inl refl) i p there f allowed t
+      go (Some p) f t = hitting (want.Probe selector) selector e (inl refl) i p there f t
 
   pub trying : (selector : Selector) → machine_want v.rank.machine ≡ want.TryProbe selector → (o : Option ℕ)
       → position (matches selector) v.rank.inbox.packets ≡ o
-      → event_refusal v.rank ≡ None
       → TriesFound (option_and_then (at_index v.rank.inbox.packets) o) v.rank.machine m
-      → StandsAt n (changed w r (Some (record { rank = tried v.rank m (option_and_then (at_index v.rank.inbox.packets) o); left = [] }))
+      → StandsAt n (changed w r (Some (record { rank = uncounted v.rank (plain_tried v.rank m (option_and_then (at_index v.rank.inbox.packets) o)); left = [] }))
       w.images w.logger w.lines w.run)
-  trying selector e None there allowed steps = missing selector e allowed steps
-  trying selector e (Some i) there allowed steps = go (slice_get v.rank.inbox.packets i) refl steps
+  trying selector e None there steps = missing selector e steps
+  trying selector e (Some i) there steps = go (slice_get v.rank.inbox.packets i) refl steps
     where
       go : (o : Option packet.PacketValue) → slice_get v.rank.inbox.packets i ≡ o
           → TriesFound (option_and_then {U = ℕ × packet.PacketValue} (λ p. Some (i, p)) o) v.rank.machine m
-          → StandsAt n (changed w r (Some (record { rank = tried v.rank m (option_and_then {U = ℕ × packet.PacketValue} (λ p. Some (i, p)) o); left = [] }))
+          → StandsAt n (changed w r (Some (record { rank = uncounted v.rank (plain_tried v.rank m (option_and_then {U = ℕ × packet.PacketValue} (λ p. Some (i, p)) o)); left = [] }))
           w.images w.logger w.lines w.run)
-      go None f t = missing selector e allowed t
-      go (Some p) f t = hitting (want.TryProbe selector) selector e (inr refl) i p there f allowed t
+      go None f t = missing selector e t
+      go (Some p) f t = hitting (want.TryProbe selector) selector e (inr refl) i p there f t

@@ -181,7 +181,7 @@ module _ (n : ℕ) (w : WorldValue) (r : ℕ) (v : Live) (s : StandsAt n w) (c :
       go true = record { bases = c.bases; dues = c.dues; since = λ q. (let a = c.since q in let b = arrival_more v.rank.inbox p q in omega (arith, a, b)) }
 
 -- a frame is put
-pub Stands-putting : (w : WorldValue) (r d : ℕ) (answer : Reply) (w' : WorldValue) → Stands w → PutFollows w r d answer w' → Goes w'
+pub Stands-putting : (w : WorldValue) (r d : ℕ) (answer : Reply) (w' : WorldValue) → Goes w → PutFollows w r d answer w' → Goes w'
 Stands-putting w r d answer w' s f =
     subst (λ z. Goes z) (sym f.after)
     (record {
@@ -211,7 +211,7 @@ pub one_cover : (images : List (Option ImageValue)) (r : ℕ) (v : Live) → Ran
 one_cover images r v k u e = (let q : v ≡ u = cc in subst (λ z. RankCovers images r z) q k)
 
 -- a frame arrives
-pub Stands-arrive : (w : WorldValue) (from r i : ℕ) (answer : Reply) (w' : WorldValue) → Stands w → ArriveFollows w from r i answer w' → Goes w'
+pub Stands-arrive : (w : WorldValue) (from r i : ℕ) (answer : Reply) (w' : WorldValue) → Goes w → ArriveFollows w from r i answer w' → Goes w'
 Stands-arrive w from r i answer w' s f =
     subst (λ z. Goes z) (sym f.after)
     (record {

@@ -96,7 +96,7 @@ freed_base b = go b.held
     go (m ∷ ms) = refl
 
 -- the oldest effect is released
-pub Stands-release : (w : WorldValue) (r : ℕ) (answer : Reply) (w' : WorldValue) → Stands w → ReleaseFollows w r answer w' → Goes w'
+pub Stands-release : (w : WorldValue) (r : ℕ) (answer : Reply) (w' : WorldValue) → Goes w → ReleaseFollows w r answer w' → Goes w'
 Stands-release w r answer w' s f =
     subst (λ z. Goes z) (sym f.after)
     (record {

@@ -27,13 +27,13 @@ use Rattle.world_model.proofs.Crashes.{resized}
 use Rattle.world_model.proofs.StepCovers.{replay_covers}
 
 -- a step of a rank that replays
-pub Stands-replay : (w : WorldValue) (r : ℕ) (answer : Reply) (w' : WorldValue) → Stands w → ReplayFollows w r answer w' → Goes w'
+pub Stands-replay : (w : WorldValue) (r : ℕ) (answer : Reply) (w' : WorldValue) → Goes w → ReplayFollows w r answer w' → Goes w'
 Stands-replay w r answer w' s f =
     subst (λ z. Goes z) (sym f.after)
     (record {
       run =
           resized w (after_turn w r f.before f.turn (replayed_at f.before.rank f.event (machine_want f.before.rank.machine) f.machine)
-          (left_after (machine_want f.before.rank.machine) f.turn f.event f.rest)) (length-set w.ranks r _)
+          (left_after f.before.rank (machine_want f.before.rank.machine) f.turn f.event f.rest)) (length-set w.ranks r _)
           (subst (λ z. StandsAt (size w) (changed w r (Some v) w.images w.logger z
           (passed_at w.run r (f.before.rank.clock + 1) (effect_at f.before.rank (machine_want f.before.rank.machine) f.turn))))
           (sym (lines_same (machine_want f.before.rank.machine) f.turn refl))
@@ -43,9 +43,9 @@ Stands-replay w r answer w' s f =
           (λ u e. (let q : v ≡ u = cc in subst (λ z. RankStands (start_at w (size w)) (size w) w.run r z) q stands)))));
       covers =
           Covers-rank w (after_turn w r f.before f.turn (replayed_at f.before.rank f.event (machine_want f.before.rank.machine) f.machine)
-          (left_after (machine_want f.before.rank.machine) f.turn f.event f.rest)) r (Some v) refl refl refl
+          (left_after f.before.rank (machine_want f.before.rank.machine) f.turn f.event f.rest)) r (Some v) refl refl refl
           (λ u e. (let q : v ≡ u = cc in subst (λ z. RankCovers w.images r z) q
-          (replay_covers w.images r f.before f.machine (left_after (machine_want f.before.rank.machine) f.turn f.event f.rest)
+          (replay_covers w.images r f.before f.machine (left_after f.before.rank (machine_want f.before.rank.machine) f.turn f.event f.rest)
           (s.covers.ranks r f.before f.live) f.event (machine_want f.before.rank.machine)))) s.covers;
     })
   where
@@ -54,7 +54,7 @@ Stands-replay w r answer w' s f =
         record {
           rank = replayed_at f.before.rank f.event (machine_want f.before.rank.machine) f.machine;
           left = left_after
-              (machine_want f.before.rank.machine) f.turn f.event f.rest;
+              f.before.rank (machine_want f.before.rank.machine) f.turn f.event f.rest;
         }
 
     k : RankStands (start_at w (size w)) (size w) w.run r f.before
@@ -75,14 +75,14 @@ Stands-replay w r answer w' s f =
     stands : RankStands (start_at w (size w)) (size w) w.run r
         (record {
           rank = replayed_at f.before.rank f.event (machine_want f.before.rank.machine) f.machine;
-          left = left_after (machine_want f.before.rank.machine) f.turn f.event f.rest;
+          left = left_after f.before.rank (machine_want f.before.rank.machine) f.turn f.event f.rest;
         })
     stands =
         subst (λ t. RankStands (start_at w (size w)) (size w) w.run r
         (record {
           rank = replayed_at f.before.rank f.event (machine_want f.before.rank.machine) f.machine;
           left = left_after
-              (machine_want f.before.rank.machine) t f.event f.rest;
+              f.before.rank (machine_want f.before.rank.machine) t f.event f.rest;
         })) same_turn
         (goes.stands f.machine f.steps)
 

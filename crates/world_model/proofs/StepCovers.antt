@@ -56,6 +56,7 @@ module _ (images : List (Option ImageValue)) (r : ℕ) (v : Live) (m : MachineVa
   tried_covers : (o : Option (ℕ × packet.PacketValue)) (k : Kind) → RankCovers images r (record { rank = tried_named v.rank m o k; left = left })
   tried_covers o kind.Hit = shown_covers o
   tried_covers o kind.Miss = print_covers
+  tried_covers o kind.Misses = print_covers
   tried_covers o kind.Reception = same_covers
 
   pub replay_covers : (e : EventValue) (w : Want) → RankCovers images r (record { rank = replayed_at v.rank e w m; left = left })

@@ -213,15 +213,15 @@ module _ (start : ℕ → State) (n : ℕ) (C : List Passed) (r : ℕ) (v : Live
       (subst (λ z. LogStands r (sends_from 0 d (take v.rank.clock (history C r))) z b)
       (sym (sends_more d ∙ ap (λ z. sends_of (length (history C r)) d s.acts ++ z) (none d) ∙ append-nil _)) (s.logs d b e))
 
-  -- a new event
+  -- a new event; how many its rank has made is told elsewhere
   pub RankStands-event : (x : EventValue) (inbox : Mailbox)
       → event_at (v.rank.clock + 1) a o ≡ Some x
       → state_of m ≡ next (state_of v.rank.machine) a o
       → length inbox.accepted ≡ n
       → InboxStands inbox (λ q. sent C q r) (take v.rank.clock (history (continue C r s.acts) r) ++ (a, o) ∷ [])
-      → RankStands start n C r (record { rank = after_act v.rank m (v.rank.made + 1) inbox v.rank.log (waits.Event x); left = [] })
+      → RankStands start n C r (record { rank = after_act v.rank m v.rank.made inbox v.rank.log (waits.Event x); left = [] })
   RankStands-event x inbox event state counted box =
-      RankStands-waits (waits.Event x) (v.rank.made + 1) inbox v.rank.log event_there
+      RankStands-waits (waits.Event x) v.rank.made inbox v.rank.log event_there
       state counted box s.at.logged (same_logs (λ d. event_sends_none (v.rank.clock + 1) d _ a o x event))
     where
       event_there : event_at (length (history (continue C r s.acts) r) + 1) a (looked_up (λ q. sent (continue C r s.acts) q r) a) ≡ Some x

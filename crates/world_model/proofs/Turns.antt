@@ -20,7 +20,7 @@ use Rattle.rank_machine.specs.declared.want.Want.TheVariants as want
 use Rattle.rank_machine.proofs.Making.{makes_sent, makes_printed}
 use Rattle.rank_node.specs.Waiting.{is_settled, has_room}
 use Rattle.rank_node.specs.declared.turn.Turn.TheVariants.{Moved, Held}
-use Rattle.rank_node.specs.Steps.{turn_at, step_at, refusal_at, MachineStepAt, DidAct}
+use Rattle.rank_node.specs.Steps.{turn_at, MachineStepAt, DidAct}
 use Rattle.rank_node.specs.Steps.{message_of, after_send, after_print, made_send, made_print}
 use Rattle.rank_node.specs.Steps.{after_hold, after_wait, with_machine}
 use Rattle.crash_free.specs.Runs.{Passed, history, sent, printed, sends_from, IsFree, continue}
@@ -48,7 +48,7 @@ use Rattle.world_model.proofs.Covers.{Covers-rank}
 use Rattle.world_model.proofs.Worlds.{Goes, changed, Stands-passed}
 use Rattle.world_model.proofs.Crashes.{resized}
 use Rattle.world_model.proofs.StepCovers.{step_covers}
-use Rattle.world_model.proofs.StandingEvents.{alone, stays, Stands-still, finding, probing, trying}
+use Rattle.world_model.proofs.StandingEvents.{uncounted, plain_step_at, alone, stays, Stands-still, finding, probing, trying}
 
 -- nothing waits
 settled_none : (pending : List Waiting) → is_settled pending ≡ true → pending ≡ []
@@ -236,18 +236,18 @@ module _ (n : ℕ) (w : WorldValue) (r : ℕ) (v : Live) (m : MachineValue) (s :
       (free_silent (wants (state_of v.rank.machine)) (prints x) (λ q. sent w.run q r) (history (continue w.run r (s.ranks r v live).acts) r) tt)
       x refl (did.state (prints x) None (makes_printed v.rank.machine x e)))
 
-  -- a step that isn't refused
-  pub stepping : (x : Want) → machine_want v.rank.machine ≡ x → refusal_at v.rank x ≡ None → MachineStepAt v.rank x m
-      → StandsAt n (changed w r (Some (record { rank = step_at v.rank x m; left = [] })) w.images w.logger
+  -- a step
+  pub stepping : (x : Want) → machine_want v.rank.machine ≡ x → MachineStepAt v.rank x m
+      → StandsAt n (changed w r (Some (record { rank = plain_step_at v.rank x m; left = [] })) w.images w.logger
       (lines_after w.lines r v.rank x (turn_at v.rank x))
       (passed_at w.run r (v.rank.clock + 1) (effect_at v.rank x (turn_at v.rank x))))
-  stepping want.Internal e allowed steps =
+  stepping want.Internal e steps =
       let unmoved = stays n w r v m s live lt running in
       alone n w r v m s live lt running (with_machine v.rank m)
       (RankStands-same_clock (start_at w n) n w.run r (record { rank = v.rank; left = [] })
       unmoved v.rank.stable m v.rank.inbox v.rank.log v.rank.dues unmoved.number unmoved.size unmoved.logs
       (StandsIn-moved (start_at w n r) n r (λ q. sent w.run q r) _ v.rank.clock v.rank.machine m v.rank.inbox v.rank.log steps.state unmoved.at))
-  stepping (want.Send d c t) e allowed steps = room (has_room v.rank.pending) steps
+  stepping (want.Send d c t) e steps = room (has_room v.rank.pending) steps
     where
       gate : (b : Bool) → is_settled v.rank.pending ≡ b → DidAct v.rank.machine m
           → StandsAt n (changed w r (Some (record { rank = if b then after_send v.rank m d c t else after_hold v.rank m d c t; left = [] }))
@@ -262,7 +262,7 @@ module _ (n : ℕ) (w : WorldValue) (r : ℕ) (v : Live) (m : MachineValue) (s :
           (passed_at w.run r (v.rank.clock + 1) (effect_at v.rank (want.Send d c t) (if b then Moved else Held))))
       room true did = gate (is_settled v.rank.pending) refl did
       room false did = Stands-still n w r v m s live lt running
-  stepping (want.Print x) e allowed steps = room (has_room v.rank.pending) steps
+  stepping (want.Print x) e steps = room (has_room v.rank.pending) steps
     where
       gate : (b : Bool) → is_settled v.rank.pending ≡ b → DidAct v.rank.machine m
           → StandsAt n (changed w r (Some (record { rank = if b then after_print v.rank m else after_wait v.rank m x; left = [] })) w.images w.logger
@@ -277,30 +277,11 @@ module _ (n : ℕ) (w : WorldValue) (r : ℕ) (v : Live) (m : MachineValue) (s :
           (passed_at w.run r (v.rank.clock + 1) (effect_at v.rank (want.Print x) (if b then Moved else Held))))
       room true did = gate (is_settled v.rank.pending) refl did
       room false did = Stands-still n w r v m s live lt running
-  stepping (want.Receive selector) e allowed steps =
-      finding n w r v m s live lt running selector e (position (matches selector) v.rank.inbox.packets) refl allowed steps
-  stepping (want.Probe selector) e allowed steps =
-      probing n w r v m s live lt running selector e (position (matches selector) v.rank.inbox.packets) refl allowed steps
-  stepping (want.TryProbe selector) e allowed steps =
-      trying n w r v m s live lt running selector e (position (matches selector) v.rank.inbox.packets) refl allowed steps
-  stepping want.Halted e allowed steps = Stands-still n w r v m s live lt running
-  stepping (want.Faulted q) e allowed steps = Stands-still n w r v m s live lt running
-
--- a step of a rank that runs
-pub Stands-step : (w : WorldValue) (r : ℕ) (answer : Reply) (w' : WorldValue) → Stands w → StepFollows w r answer w' → Goes w'
-Stands-step w r answer w' s f =
-    subst (λ z. Goes z) (sym f.after)
-    (record {
-      run =
-          resized w (after_turn w r f.before (turn_at f.before.rank (machine_want f.before.rank.machine))
-          (step_at f.before.rank (machine_want f.before.rank.machine) f.machine) []) (length-set w.ranks r _)
-          (stepping (size w) w r f.before f.machine s.run f.live (slice_get_within w.ranks r (Some f.before) f.live) f.running
-          (machine_want f.before.rank.machine) refl f.allowed f.steps);
-      covers =
-          Covers-rank w (after_turn w r f.before (turn_at f.before.rank (machine_want f.before.rank.machine))
-          (step_at f.before.rank (machine_want f.before.rank.machine) f.machine) []) r
-          (Some (record { rank = step_at f.before.rank (machine_want f.before.rank.machine) f.machine; left = [] })) refl refl refl
-          (λ u e. (let q : record { rank = step_at f.before.rank (machine_want f.before.rank.machine) f.machine; left = [] } ≡ u = cc in
-          subst (λ z. RankCovers w.images r z) q (step_covers w.images r f.before f.machine [] (s.covers.ranks r f.before f.live)
-          (machine_want f.before.rank.machine)))) s.covers;
-    })
+  stepping (want.Receive selector) e steps =
+      finding n w r v m s live lt running selector e (position (matches selector) v.rank.inbox.packets) refl steps
+  stepping (want.Probe selector) e steps =
+      probing n w r v m s live lt running selector e (position (matches selector) v.rank.inbox.packets) refl steps
+  stepping (want.TryProbe selector) e steps =
+      trying n w r v m s live lt running selector e (position (matches selector) v.rank.inbox.packets) refl steps
+  stepping want.Halted e steps = Stands-still n w r v m s live lt running
+  stepping (want.Faulted q) e steps = Stands-still n w r v m s live lt running

@@ -1,5 +1,6 @@
 pub use Rattle.audit.specs.Rows
 pub mod World
+pub mod Plain
 pub mod Headline
 pub mod Retained
 pub mod Follows
@@ -13,5 +14,6 @@ pub mod Wires
 pub mod Example
 pub mod View
 pub mod Way
+pub mod Measures
 pub mod Driven
 pub mod Copied

@@ -1,6 +1,6 @@
 -- The run that a world keeps, and its index: for each rank how many acts it made, and the clocks of what it sent to each
 -- rank, so that no look-up walks the run.
-use Rattle.std.specs.Prelude.{◌≡◌, ℕ, ◌+◌, ◌-◌, ◌<◌, ◌≤◌, List, [], ◌∷◌, ◌++◌, length, map, take, drop, replicate, slice_get, slice_set, slice_index_or}
+use Rattle.std.specs.Prelude.{◌≡◌, ℕ, zero, suc, ◌+◌, ◌-◌, ◌<◌, ◌≤◌, List, [], ◌∷◌, ◌++◌, length, map, take, drop, replicate, slice_get, slice_set, slice_index_or}
 use Rattle.std.specs.Prelude.{Option, Some, option_map}
 use Rattle.rank_machine.specs.Acts.{Act, sends, takes, hits, misses, prints}
 use Rattle.crash_free.specs.Runs.{Passed, at_place, history, sent}
@@ -9,6 +9,11 @@ use Rattle.crash_free.specs.Runs.{Passed, at_place, history, sent}
 pub record RunValue : Type 0 where
   pub ranks : ℕ
   pub acts : List Passed
+
+-- the run after so many misses more of a rank
+abbrev pub with_misses : ℕ → ℕ → List Passed → List Passed
+with_misses r zero C = C
+with_misses r (suc n) C = record { rank = r; act = misses } ∷ with_misses r n C
 
 -- the clocks of what one rank sent to another, in order
 abbrev pub clocks : List Passed → ℕ → ℕ → List ℕ

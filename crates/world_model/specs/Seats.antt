@@ -13,8 +13,10 @@ use Rattle.rank_node.specs.declared.turn.Turn.{Turn}
 use Rattle.rank_node.specs.Image.{begins_at, image_of, image_on, after_image, with_shelf}
 use Rattle.rank_node.specs.Replay.{Replay, restarted, left_of, replay_turn_of, after_replay, left_after, ReplayStep}
 use Rattle.rank_node.specs.Steps.{turn_of, MachineStep, after_step}
-use Rattle.crash_free.specs.Runs.{Passed}
+use Rattle.rank_machine.specs.Acts.{Act}
+use Rattle.crash_free.specs.Runs.{Passed, continue}
 use Rattle.ports.specs.declared.line.Line.{Line}
+use Rattle.world_model.specs.Rows.{Noted}
 use Rattle.world_model.specs.World.{Rank, Live, WorldValue}
 use Rattle.world_model.specs.Headline.{stable_of, IsOpened}
 use Rattle.world_model.specs.Follows.{lines_after}
@@ -119,7 +121,7 @@ pub record IsReplayed (v : Live) (turn : Turn) (x : Option Live) : Type 0 where
   pub turned : replay_turn_of v.rank event ≡ Ok turn
   pub machine : MachineValue
   pub steps : ReplayStep v.rank event machine
-  pub after : x ≡ Some (record { rank = after_replay v.rank event machine; left = left_after (machine_want v.rank.machine) turn event rest })
+  pub after : x ≡ Some (record { rank = after_replay v.rank event machine; left = left_after v.rank (machine_want v.rank.machine) turn event rest })
 
 -- the rank r of n started again at this image, or at the beginning of the program, with these events in its row
 pub record IsRestarted (program : ProgramValue) (n r : ℕ) (image : Option ImageValue) (row : List EventValue) (x : Option Live) : Type 0 where
@@ -145,3 +147,10 @@ IsAccepted logger r (Some e) = (count : ℕ) × (reply_of logger.rows r (Append 
 -- the world with this run, and all else as it was
 abbrev pub with_run : WorldValue → List Passed → WorldValue
 with_run w C = record w { run = C }
+
+-- The run went on by the acts that an event of a rank stands for, which are so many.
+pub record NotedAs (C : List Passed) (r : ℕ) (e : EventValue) (count : ℕ) (C' : List Passed) : Type 0 where
+  pub acts : List Act
+  pub noted : Noted C r acts e
+  pub after : C' ≡ continue C r acts
+  pub as_many : count ≡ length acts

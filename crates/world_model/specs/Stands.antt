@@ -1,5 +1,6 @@
--- The invariant of a world: how its ranks, inboxes, payload logs and images go with the run, and what senders may drop.
--- That the world stands for its run, and that nothing needed is gone, follow from it.
+-- The invariant of a world: how its ranks, inboxes, payload logs and images go with the run, and what senders may drop. Of
+-- what goes with the run all is said of the world without runs of misses, where each event is of one act. That the world
+-- stands for its run, and that nothing needed is gone, follow from it.
 use Rattle.std.specs.Prelude.{◌≡◌, ℕ, ◌+◌, ◌<◌, ◌≤◌, ◌⊎◌, true, false, List, [], ◌∷◌, length, take, drop, Option, Some, None, slice_get}
 use Rattle.plain_logger.specs.Event.{EventValue}
 use Rattle.matching.specs.PacketValue as packet
@@ -21,6 +22,7 @@ use Rattle.world_model.specs.Headline.{IsReal, lines_of}
 use Rattle.checkpoint.specs.Image.{ImageValue}
 use Rattle.rank_node.specs.Image.{begins_at}
 use Rattle.world_model.specs.Counts.{Counts}
+use Rattle.world_model.specs.Plain.{without_runs, RunsOfMisses}
 
 -- The inbox of a rank with this history, to which each sender sent what is inbound: each packet is what was sent under
 -- its number, isn't taken and was accepted; what was accepted and isn't taken is there, in the order of its numbers.
@@ -161,6 +163,7 @@ pub record Covers (w : WorldValue) : Type 0 where
 
 -- The invariant of a world.
 pub record Stands (w : WorldValue) : Type 0 where
-  pub run : StandsAt (size w) w
+  pub run : StandsAt (size w) (without_runs w)
   pub covers : Covers w
   pub counts : Counts w
+  pub runs : RunsOfMisses w

@@ -3,12 +3,12 @@
 //! An index answers what would else need a walk of the run.
 ghost use Rattle.std.specs.Prelude.{◌≡◌, ℕ, ◌<◌, [], ◌∷◌, length, drop, replicate, Some, IfSome, IfNone, IfOk, OnOk, OnErr};
 ghost use Rattle.crash_free.specs.Runs.{history};
-ghost use Rattle.world_model.specs.RunIndex.{clock_at, none_made, IsNext};
+ghost use Rattle.world_model.specs.RunIndex.{clock_at, none_made, with_misses, IsNext};
 
 mod clocks;
 mod made;
 
-use crash_free::Passed;
+use crash_free::{Act, Passed};
 use made::Made;
 use metered::Heap;
 use std::alloc::AllocError;
@@ -108,6 +108,36 @@ impl Run {
         self.index[usize::from(passed.rank)].note(&passed.act)?;
         self.acts.push_reserved(passed);
         Ok(())
+    }
+
+    /// Puts so many misses of a rank, or none where memory ends. An `Err` is
+    /// want of memory.
+    #[tactic(auto, using(crate::proofs::Missing::misses_more, crate::proofs::Missing::misses_back))]
+    pub fn push_misses(&mut self, rank: u8, count: u32) -> Result<(), AllocError>
+        requires { rank < self.old.ranks }
+        ensures ok { OnOk result (self.new.acts ≡ with_misses rank count self.old.acts) }
+        ensures ranks { self.new.ranks ≡ self.old.ranks }
+        ensures err { OnErr result (self.new.acts ≡ self.old.acts) }
+    {
+        for done in 0..count {
+            let act = Act::Misses;
+            let Ok(()) = self.push(Passed { rank, act }) else {
+                self.take_back_many(done);
+                return Err(AllocError);
+            };
+        }
+        Ok(())
+    }
+
+    /// Takes so many of the newest acts back. This takes no memory.
+    #[tactic(auto, using(crate::proofs::Missing::drop_next, crate::proofs::Lists::drop_zero))]
+    pub fn take_back_many(&mut self, count: u32)
+        ensures acts { self.new.acts ≡ drop count self.old.acts }
+        ensures ranks { self.new.ranks ≡ self.old.ranks }
+    {
+        for _ in 0..count {
+            self.take_back();
+        }
     }
 
     /// Takes the newest act back, if there is one. This takes no memory.

@@ -1,9 +1,9 @@
 //! The states of a rank of a world.
-ghost use Rattle.std.specs.Prelude.{◌≡◌, ◌≤◌, ℕ, None, length, IfOk, IfErr};
+ghost use Rattle.std.specs.Prelude.{◌≡◌, ◌≤◌, ℕ, false, None, length, IfOk, IfErr};
 ghost use Rattle.metered.specs.Limits.{most_events};
 ghost use Rattle.rank_language.specs.Program.{ProgramValue};
 ghost use Rattle.rank_node.specs.Image.{begins_at, image_on};
-ghost use Rattle.rank_node.specs.Replay.{left_of};
+ghost use Rattle.rank_node.specs.Replay.{cuts, left_of};
 ghost use Rattle.world_model.specs.Seats.{in_replay, IsRestarted};
 ghost use Rattle.world_model.specs.Seat.{bytes_of, live_of, shelf_of, HasLeft, IsOf, IsStanding};
 
@@ -87,8 +87,8 @@ impl<'p> State<'p> {
     }
 
     /// The rank, which is down, starts again at its image, or at the beginning
-    /// of the program, and this is how many events of its row are left to
-    /// replay.
+    /// of the program, which cuts no event of its row, and this is how many
+    /// events of that are left to replay.
     pub fn restart(
         self,
         alloc: Heap,
@@ -97,6 +97,8 @@ impl<'p> State<'p> {
     ) -> Result<(State<'p>, u32), (State<'p>, NodeFault)>
         requires down { live_of self ≡ None }
         requires row { length row.items ≤ most_events }
+        requires uncut { (r n : ℕ) → IsStanding program.now r n self →
+            cuts (begins_at program.now r n (image_on program.now r n (bytes_of self))).clock row.items ≡ false }
         ensures count { IfOk result (λ up. (r n : ℕ) → IsStanding program.entry.now r n self.entry →
             up.1 ≡ length (left_of (begins_at program.entry.now r n (image_on program.entry.now r n (bytes_of self.entry))) row.items)) }
         ensures ok { IfOk result (λ up. (r n : ℕ) → IsStanding program.entry.now r n self.entry →

@@ -29,6 +29,8 @@ pub enum Stored {
     Saw(u8, u32, u32),
     /// A probe found no message.
     Missed(u32),
+    /// So many probes in succession found no message, the last of them at this clock.
+    MissedOn(u32, u32),
 }
 
 /// A line, as the tables write it: the rank, its clock and the value.
@@ -50,6 +52,7 @@ fn event_of(rt: &impl Abort, stored: Stored) -> Event {
         Stored::Took(sender, sent, received) => Event::new(Kind::Reception, sender, sent, received),
         Stored::Saw(sender, sent, received) => Event::new(Kind::Hit, sender, sent, received),
         Stored::Missed(received) => Event::new(Kind::Miss, 0, 0, received),
+        Stored::MissedOn(count, received) => Event::new(Kind::Misses, 0, count, received),
     };
     event.expect(rt, "an event in its ranges")
 }

@@ -17,6 +17,8 @@ mod down;
 #[cfg(test)]
 mod images;
 #[cfg(test)]
+mod misses;
+#[cfg(test)]
 mod scenes;
 #[cfg(test)]
 mod simulations;

@@ -217,9 +217,9 @@ fn no_message_overtakes(rt: HostRuntime) -> Result<(), Fail> {
 
 const NEXT: Choice = Choice::Next;
 
-/// The first message of rank 7.
-const OF_7: Choice = Choice::Take {
-    source: 7,
+/// The first message of rank 15.
+const OF_15: Choice = Choice::Take {
+    source: 15,
     index: 1,
 };
 
@@ -228,10 +228,10 @@ const FIRST: [(u8, Choice); 3] = [(0, NEXT), (0, NEXT), (0, NEXT)];
 
 /// It takes what comes back, and has ended after one step more.
 const BACK: [(u8, Choice); 6] = [
-    (0, OF_7),
+    (0, OF_15),
     (0, NEXT),
     (0, NEXT),
-    (7, NEXT),
+    (15, NEXT),
     (0, NEXT),
     (1, NEXT),
 ];
@@ -241,7 +241,7 @@ const LAST: [Move; 4] = [
     (1, Next, Ok(())),
     (1, Next, Ok(())),
     (1, Next, ENDED),
-    (7, Next, Ok(())),
+    (15, Next, Ok(())),
 ];
 
 /// Makes choices at once, and compares where that stopped and why.
@@ -257,7 +257,7 @@ fn compare_run(
 
 /// Each rank but the first takes from the one before it and sends on.
 fn hand_on(rt: &impl Abort, sim: &mut Sim) {
-    for rank in 1..8u8 {
+    for rank in 1..16u8 {
         let taken = take(u32::from(rank) - 1, 1);
         let choices = [(rank, NEXT), (rank, NEXT), (rank, taken), (rank, NEXT)];
         compare_run(rt, sim, &choices, Ok(()));
@@ -265,16 +265,16 @@ fn hand_on(rt: &impl Abort, sim: &mut Sim) {
 }
 
 #[test]
-fn eight_ranks_at_once(rt: HostRuntime) -> Result<(), Fail> {
+fn sixteen_ranks_at_once(rt: HostRuntime) -> Result<(), Fail> {
     let program = Program::parse(rt.alloc(), RING)?;
-    let mut sim = Sim::new(rt.alloc(), &program, 8)?;
+    let mut sim = Sim::new(rt.alloc(), &program, 16)?;
     compare_run(&rt, &mut sim, &FIRST, Ok(()));
     hand_on(&rt, &mut sim);
     compare_run(&rt, &mut sim, &BACK, Err((4, NotAllowed::Ended)));
     play(&rt, &mut sim, &LAST);
     assert!(rt;
-        !sim.are_of_ranks(&[(0, NEXT), (8, NEXT)]),
-        "there is no rank 8"
+        !sim.are_of_ranks(&[(0, NEXT), (16, NEXT)]),
+        "there is no rank 16"
     );
     Ok(())
 }

@@ -47,7 +47,7 @@ fn what_a_world_shows(rt: HostRuntime) -> Result<(), Fail> {
 }
 
 /// What a world shows of a rank, where it has that rank.
-fn view_of(world: &World<'_>, rank: u8) -> Option<View> {
+pub fn view_of(world: &World<'_>, rank: u8) -> Option<View> {
     if rank < world.ranks() {
         Some(world.view(rank))
     } else {
@@ -56,7 +56,7 @@ fn view_of(world: &World<'_>, rank: u8) -> Option<View> {
 }
 
 /// A view of these four.
-fn shown(live: bool, left: u32, clock: u32, acts: usize) -> Option<View> {
+pub fn shown(live: bool, left: u32, clock: u32, acts: usize) -> Option<View> {
     Some(View {
         live,
         left,

@@ -6,6 +6,7 @@ ghost use Rattle.crash_free.specs.Runs.{history};
 ghost use Rattle.crash_free.specs.Wanted.{WantsAt, StandsAtAct};
 ghost use Rattle.audit.specs.Outcome.{OutcomeValue};
 ghost use Rattle.audit.specs.Lines.{IsSorted};
+ghost use Rattle.audit.specs.Counts.{AreCounted};
 ghost use Rattle.audit.specs.Audits.{Keeps, GoesTo, IsSendTo, Suits, Repeats};
 ghost use Rattle.audit.specs.Playing.{Plays, NoneIsOffered, IsNextEvent, IsNextLine, IsOfMessage};
 
@@ -36,6 +37,7 @@ impl Auditor<'_> {
         requires rank { rank < length self.old.sim.machines }
         requires keeps { Keeps self.old.sim self.old.traces.items }
         requires sorted { IsSorted (length self.old.sim.machines) goal.now.outcome.now.lines goal.now.lines.now }
+        requires counted { AreCounted goal.now.outcome.now.rows goal.now.counts.now }
         ensures goes { OnOk result (GoesTo self.old.sim self.new.sim self.new.traces.items) }
         ensures made { IfOk result (λ made. made ≡ true → (k : ℕ) → Plays goal.now.outcome.now rank (k + 1) k self.old.sim self.new.sim) }
         ensures none { IfOk result (λ made. made ≡ false → StandsAtAct self.old.sim.machines rank → NoneIsOffered goal.now.outcome.now self.old.sim rank) }
@@ -134,7 +136,7 @@ impl Auditor<'_> {
         if !was_allowed(self.sim.act(rank, choice))? {
             return Ok(false);
         }
-        self.traces[place].note_event(event)?;
+        self.traces[place].note_event(event);
         Ok(true)
     }
 
@@ -164,16 +166,17 @@ impl Auditor<'_> {
     pub(super) fn next_event(&self, rank: u8, goal: &Goal<'_>) -> Option<Event>
         requires rank { rank < length self.now.sim.machines }
         requires keeps { Keeps self.now.sim self.now.traces.items }
+        requires counted { AreCounted goal.now.outcome.now.rows goal.now.counts.now }
         ensures some { IfSome result (IsNextEvent goal.now.outcome.now self.now.sim rank) }
         ensures none { IfNone result ((event : EventValue) → IsNextEvent goal.now.outcome.now self.now.sim rank event → ⊥) }
     {
         let place = usize::from(rank);
-        let done = self.traces[place].row().len();
+        let done = self.traces[place].events();
         let outcome = goal.outcome;
         if place >= outcome.rows.len() {
             return None;
         }
-        outcome.rows[place].as_slice().get(done).copied()
+        goal.counts[place].event_after(outcome.rows[place].as_slice(), done)
     }
 
     /// Whether the outcome's next line of the rank has its next clock and this value.
@@ -214,9 +217,9 @@ fn suits(want: &Want, kind: Kind) -> bool
         (Want::Receive(_), Kind::Reception)
         | (Want::Probe(_), Kind::Hit)
         | (Want::TryProbe(_), Kind::Hit | Kind::Miss) => true,
-        (Want::Receive(_), Kind::Hit | Kind::Miss)
-        | (Want::Probe(_), Kind::Reception | Kind::Miss)
-        | (Want::TryProbe(_), Kind::Reception)
+        (Want::Receive(_), Kind::Hit | Kind::Miss | Kind::Misses)
+        | (Want::Probe(_), Kind::Reception | Kind::Miss | Kind::Misses)
+        | (Want::TryProbe(_), Kind::Reception | Kind::Misses)
         | (Want::Internal | Want::Send { .. } | Want::Print(_), _)
         | (Want::Halted | Want::Faulted(_), _) => false,
     }

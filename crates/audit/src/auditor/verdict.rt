@@ -2,7 +2,9 @@
 ghost use Rattle.std.specs.Prelude.{◌≡◌, ◌<◌, false, length, IfOk, IfErr, IfNone, IfSome, IsTrue};
 ghost use Rattle.audit.specs.Outcome.{MayWant, IsWaiting};
 ghost use Rattle.audit.specs.Lines.{IsSorted};
+ghost use Rattle.audit.specs.Counts.{AreCounted};
 ghost use Rattle.audit.specs.Audits.{Keeps, HasRow, HasLines, HasEnd, IsReached, AreReached};
+ghost use Rattle.audit.specs.Playing.{IsWithin};
 
 use crate::auditor::{Auditor, Goal};
 use crate::fault::AuditFault;
@@ -15,6 +17,8 @@ impl Auditor<'_> {
     pub fn verdict(&self, goal: &Goal<'_>, left: &[u32]) -> Result<(), AuditFault>
         requires keeps { Keeps self.now.sim self.now.traces.items }
         requires sorted { IsSorted (length self.now.sim.machines) goal.now.outcome.now.lines goal.now.lines.now }
+        requires counted { AreCounted goal.now.outcome.now.rows goal.now.counts.now }
+        requires within { IsWithin goal.now.outcome.now self.now.sim }
         ensures ok { IfOk result (λ _. AreReached self.now.sim goal.now.outcome.now) }
         ensures err { IfErr result (λ _. length goal.now.outcome.now.rows ≡ length self.now.sim.machines
             → length goal.now.outcome.now.ends ≡ length self.now.sim.machines → AreReached self.now.sim goal.now.outcome.now → ⊥) }
@@ -40,6 +44,8 @@ impl Auditor<'_> {
         requires rank { rank < length self.now.sim.machines }
         requires keeps { Keeps self.now.sim self.now.traces.items }
         requires sorted { IsSorted (length self.now.sim.machines) goal.now.outcome.now.lines goal.now.lines.now }
+        requires counted { AreCounted goal.now.outcome.now.rows goal.now.counts.now }
+        requires within { IsWithin goal.now.outcome.now self.now.sim }
         ensures none { IfNone result (IsReached self.now.sim goal.now.outcome.now rank) }
         ensures some { IfSome result (λ _. rank < length goal.now.outcome.now.rows
             → rank < length goal.now.outcome.now.ends → IsReached self.now.sim goal.now.outcome.now rank → ⊥) }
@@ -57,6 +63,7 @@ impl Auditor<'_> {
     fn fault_at(&self, rank: u8, goal: &Goal<'_>) -> AuditFault
         requires rank { rank < length self.now.sim.machines }
         requires keeps { Keeps self.now.sim self.now.traces.items }
+        requires counted { AreCounted goal.now.outcome.now.rows goal.now.counts.now }
     {
         let event_left = self.next_event(rank, goal).is_some();
         match self.sim.wants(rank) {
@@ -87,6 +94,8 @@ impl Auditor<'_> {
         requires rank { rank < length self.now.sim.machines }
         requires keeps { Keeps self.now.sim self.now.traces.items }
         requires sorted { IsSorted (length self.now.sim.machines) goal.now.outcome.now.lines goal.now.lines.now }
+        requires counted { AreCounted goal.now.outcome.now.rows goal.now.counts.now }
+        requires within { IsWithin goal.now.outcome.now self.now.sim }
         ensures yes { IsTrue result → IsReached self.now.sim goal.now.outcome.now rank }
         ensures no { result ≡ false → rank < length goal.now.outcome.now.rows → rank < length goal.now.outcome.now.ends
             → IsReached self.now.sim goal.now.outcome.now rank → ⊥ }
@@ -94,18 +103,17 @@ impl Auditor<'_> {
         self.has_row(rank, goal) && self.has_lines(rank, goal) && self.has_end(rank, goal)
     }
 
+    /// Whether it has made as many events as the outcome's row stands for.
     fn has_row(&self, rank: u8, goal: &Goal<'_>) -> bool
         requires rank { rank < length self.now.sim.machines }
         requires keeps { Keeps self.now.sim self.now.traces.items }
+        requires counted { AreCounted goal.now.outcome.now.rows goal.now.counts.now }
+        requires within { IsWithin goal.now.outcome.now self.now.sim }
         ensures yes { IsTrue result → HasRow self.now.sim goal.now.outcome.now rank }
         ensures no { result ≡ false → rank < length goal.now.outcome.now.rows → HasRow self.now.sim goal.now.outcome.now rank → ⊥ }
     {
-        let place = usize::from(rank);
         let outcome = goal.outcome;
-        if place >= outcome.rows.len() {
-            return false;
-        }
-        self.traces[place].row() == outcome.rows[place].as_slice()
+        usize::from(rank) < outcome.rows.len() && self.next_event(rank, goal).is_none()
     }
 
     fn has_lines(&self, rank: u8, goal: &Goal<'_>) -> bool

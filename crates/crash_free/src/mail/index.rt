@@ -31,6 +31,19 @@ impl Model for Index {
     ghost invariant = { λ i. AreThere (record { kinds = i.kinds.entries; queues = i.queues.items }) };
 }
 
+impl Clone for Index {
+    ghost is_clone = { λ index clone. clone ≡ index };
+
+    #[tactic(auto, using(crate::proofs::Copying::same_entries))]
+    fn clone(&self) -> Result<Index, AllocError> {
+        Ok(Index {
+            alloc: self.alloc,
+            kinds: self.kinds.clone()?,
+            queues: self.queues.as_slice().to_vec(self.alloc)?,
+        })
+    }
+}
+
 impl Index {
     pub fn new(alloc: Heap) -> Index
         ensures { result ≡ record { kinds = []; queues = [] } }

@@ -1,5 +1,5 @@
 //! The messages of one rank to another.
-ghost use Rattle.std.specs.Prelude.{◌≡◌, [], ◌∷◌, ◌++◌, Some, None, OnOk, OnErr, IsSomeAnd, IsSome, position, slice_get, slice_set};
+ghost use Rattle.std.specs.Prelude.{◌≡◌, [], ◌∷◌, ◌++◌, Some, None, IfOk, OnOk, OnErr, IsSomeAnd, IsSome, position, slice_get, slice_set};
 ghost use Rattle.crash_free.specs.Slots.{passes};
 
 use crate::mail::index::Index;
@@ -27,6 +27,32 @@ impl Model for Lane {
     ghost view = { λ l. l.slots.items };
 
     ghost invariant = { λ l. IsIndex l.index l.slots.items };
+}
+
+impl Clone for Lane {
+    ghost is_clone = { λ lane clone. clone ≡ lane };
+
+    fn clone(&self) -> Result<Lane, AllocError> {
+        Ok(Lane {
+            slots: copied(*self.slots.allocator(), &self.slots)?,
+            index: self.index.clone()?,
+        })
+    }
+}
+
+// The same slots, in memory of their own.
+fn copied(alloc: Heap, slots: &[Option<Packet>]) -> Result<Vec<Option<Packet>, Heap>, AllocError>
+    ensures { IfOk result (λ copies. copies.items ≡ slots.now) }
+{
+    let mut copies = Vec::with_capacity(alloc, slots.len())?;
+    for slot in slots {
+        let copy = match slot {
+            Some(packet) => Some(packet.clone()?),
+            None => None,
+        };
+        copies.push(copy)?;
+    }
+    Ok(copies)
 }
 
 impl Lane {

@@ -24,6 +24,19 @@ impl Model for Queue {
     ghost view = { λ q. q.places.items };
 }
 
+impl Clone for Queue {
+    ghost is_clone = { λ queue clone. clone ≡ queue };
+
+    fn clone(&self) -> Result<Queue, AllocError> {
+        let (first, rest) = self.places.as_slices();
+        let mut places = first.to_vec(*self.places.allocator())?;
+        places.extend_from_slice(rest)?;
+        Ok(Queue {
+            places: VecDeque::from_vec(places),
+        })
+    }
+}
+
 impl Queue {
     pub fn new(alloc: Heap) -> Queue
         ensures { result ≡ [] }

@@ -3,7 +3,7 @@ ghost use Rattle.std.specs.Prelude.{◌≡◌, ◌≢◌, ◌+◌, ◌<◌, ◌�
 ghost use Rattle.rank_machine.specs.declared.want.Want.TheVariants.{Internal};
 ghost use Rattle.rank_node.specs.Fault.{MayRefuseImage};
 ghost use Rattle.ports.specs.Lanes.{lane_to, put_of};
-ghost use Rattle.rank_threads.specs.Phases.{clock_in, want_in, is_running, settled_of, waiting_in, HasImage, NoneWaits, ReadsRow, SameShelf};
+ghost use Rattle.rank_threads.specs.Phases.{clock_in, gate_in, misses_only_in, want_in, is_running, settled_of, HasImage, NoneWaits, ReadsRow, SameShelf};
 ghost use Rattle.rank_threads.specs.Putting.{Puts};
 ghost use Rattle.rank_threads.specs.Seats.{SameNode};
 ghost use Rattle.rank_threads.specs.Steps.{acts_made, turn_in};
@@ -35,6 +35,14 @@ impl<'p, 'l> Node<'p, 'l> {
         self.phase.has_replayed()
     }
 
+    /// Whether just one miss or run of misses waits at its gate, and isn't
+    /// stored.
+    pub fn misses_only(&self) -> bool
+        ensures { result ≡ misses_only_in self.now.phase }
+    {
+        self.phase.misses_only()
+    }
+
     /// What its machine wants next; nothing where the rank is down.
     pub fn wants(&self) -> Option<Want>
         ensures { result ≡ want_in self.now.phase }
@@ -54,7 +62,7 @@ impl<'p, 'l> Node<'p, 'l> {
         requires { from < self.old.size }
         ensures ok { OnOk result (self.new.phase ≡ arrived self.old.phase from frame) }
         ensures shelf { SameShelf self.old.phase self.new.phase }
-        ensures gate { waiting_in self.new.phase ≡ waiting_in self.old.phase }
+        ensures gate { gate_in self.new.phase ≡ gate_in self.old.phase }
         ensures same { SameNode self.old self.new }
     {
         self.phase.arrive(from, frame)
@@ -67,7 +75,7 @@ impl<'p, 'l> Node<'p, 'l> {
         ensures puts { IfOk result (λ went. Puts went self.old.phase dest (put_of lane.old) self.new.phase (put_of lane.new)) }
         ensures err { OnErr result ((self.new.phase ≡ self.old.phase) × (put_of lane.new ≡ put_of lane.old)) }
         ensures shelf { SameShelf self.old.phase self.new.phase }
-        ensures gate { waiting_in self.new.phase ≡ waiting_in self.old.phase }
+        ensures gate { gate_in self.new.phase ≡ gate_in self.old.phase }
         ensures same { SameNode self.old self.new }
         ensures lane { lane_to lane.new ≡ lane_to lane.old }
     {
@@ -103,7 +111,7 @@ impl<'p, 'l> Node<'p, 'l> {
         ensures read { IfOk result (λ events. ReadsRow self.old.phase of after events.items self.new.phase) }
         ensures shelf { SameShelf self.old.phase self.new.phase }
         ensures err { OnErr result (self.new.phase ≡ self.old.phase) }
-        ensures gate { waiting_in self.new.phase ≡ waiting_in self.old.phase }
+        ensures gate { gate_in self.new.phase ≡ gate_in self.old.phase }
         ensures same { SameNode self.old self.new }
     {
         let logger = self.logger;
@@ -116,7 +124,7 @@ impl<'p, 'l> Node<'p, 'l> {
         ensures image { IfOk result (λ took. took ≡ true → HasImage self.new.phase) }
         ensures refused { IfErr result MayRefuseImage }
         ensures runs { is_running self.new.phase ≡ is_running self.old.phase }
-        ensures gate { waiting_in self.new.phase ≡ waiting_in self.old.phase }
+        ensures gate { gate_in self.new.phase ≡ gate_in self.old.phase }
         ensures same { SameNode self.old self.new }
     {
         self.phase.image()

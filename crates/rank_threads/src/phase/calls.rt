@@ -13,7 +13,7 @@ use std::alloc::AllocError;
 use std::sync::Wait;
 
 impl<'p> Phase<'p> {
-    ghost use Rattle.rank_threads.specs.Phases.{stable_of, is_running, waiting_in, HasImage, NoneWaits, ReadsRow, SamePhase, SameShelf};
+    ghost use Rattle.rank_threads.specs.Phases.{stable_of, is_running, gate_in, HasImage, NoneWaits, ReadsRow, SamePhase, SameShelf};
 
     /// The events of rank `of` whose receiver's clock is above `after`; none
     /// for a rank that is down. An `Err` is want of memory.
@@ -28,7 +28,7 @@ impl<'p> Phase<'p> {
         requires named { of < logger.now.ranks }
         ensures read { IfOk result (λ events. ReadsRow self.old of after events.items self.new) }
         ensures err { OnErr result (self.new ≡ self.old) }
-        ensures gate { waiting_in self.new ≡ waiting_in self.old }
+        ensures gate { gate_in self.new ≡ gate_in self.old }
         ensures shelf { SameShelf self.old self.new }
         ensures same { SamePhase self.old self.new }
     {
@@ -46,7 +46,7 @@ impl<'p> Phase<'p> {
         ensures image { IfOk result (λ took. took ≡ true → HasImage self.new) }
         ensures refused { IfErr result MayRefuseImage }
         ensures runs { is_running self.new ≡ is_running self.old }
-        ensures gate { waiting_in self.new ≡ waiting_in self.old }
+        ensures gate { gate_in self.new ≡ gate_in self.old }
         ensures same { SamePhase self.old self.new }
     {
         match self {

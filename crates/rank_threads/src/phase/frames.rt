@@ -1,6 +1,7 @@
 //! The frames of a rank in its lanes.
 ghost use Rattle.std.specs.Prelude.{◌≡◌, ◌<◌, IfOk, OnOk, OnErr};
 ghost use Rattle.ports.specs.Lanes.{lane_to, put_of};
+ghost use Rattle.rank_threads.specs.Phases.{gate_of};
 ghost use Rattle.rank_threads.specs.Putting.{Puts};
 ghost use Rattle.rank_threads.specs.Taking.{arrived};
 
@@ -23,7 +24,7 @@ pub enum Went {
 }
 
 impl<'p> Phase<'p> {
-    ghost use Rattle.rank_threads.specs.Phases.{stable_of, waiting_in};
+    ghost use Rattle.rank_threads.specs.Phases.{stable_of, gate_in};
 
     /// Takes in a frame that came from this rank. One that is down drops it.
     /// An `Err` is want of memory.
@@ -31,7 +32,7 @@ impl<'p> Phase<'p> {
     pub fn arrive(&mut self, from: u8, frame: Frame) -> Result<(), AllocError>
         requires { from < (stable_of self.old).size }
         ensures ok { OnOk result (self.new ≡ arrived self.old from frame) }
-        ensures gate { waiting_in self.new ≡ waiting_in self.old }
+        ensures gate { gate_in self.new ≡ gate_in self.old }
         ensures stable { stable_of self.new ≡ stable_of self.old }
     {
         let answer = match self {
@@ -48,7 +49,7 @@ impl<'p> Phase<'p> {
         requires { dest < (stable_of self.old).size }
         ensures puts { IfOk result (λ went. Puts went self.old dest (put_of lane.old) self.new (put_of lane.new)) }
         ensures err { OnErr result ((self.new ≡ self.old) × (put_of lane.new ≡ put_of lane.old)) }
-        ensures gate { waiting_in self.new ≡ waiting_in self.old }
+        ensures gate { gate_in self.new ≡ gate_in self.old }
         ensures stable { stable_of self.new ≡ stable_of self.old }
         ensures lane { lane_to lane.new ≡ lane_to lane.old }
     {
@@ -70,7 +71,7 @@ fn put_running(
     requires { dest < rank.old.stable.size }
     ensures puts { IfOk result (λ went. Puts went (Phase.Running rank.old) dest (put_of lane.old) (Phase.Running rank.new) (put_of lane.new)) }
     ensures err { OnErr result ((rank.new ≡ rank.old) × (put_of lane.new ≡ put_of lane.old)) }
-    ensures gate { rank.new.pending ≡ rank.old.pending }
+    ensures gate { gate_of rank.new ≡ gate_of rank.old }
     ensures stable { rank.new.stable ≡ rank.old.stable }
     ensures lane { lane_to lane.new ≡ lane_to lane.old }
 {

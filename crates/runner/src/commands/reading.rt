@@ -7,6 +7,14 @@ use rank_language::Program;
 use script_text::Script;
 use world_model::WorldEvent;
 
+/// The bytes of the file with this name.
+pub fn text_in<'a, F: Files>(name: &'a str, files: &mut F) -> Result<Vec<u8>, Refusal<'a>> {
+    match files.read(name) {
+        Ok(text) => Ok(text),
+        Err(fault) => Err(Refusal::of_file(name, fault)),
+    }
+}
+
 /// The program of the file with this name.
 pub fn program_in<'a, F: Files>(
     alloc: Heap,

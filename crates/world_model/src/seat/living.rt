@@ -1,8 +1,8 @@
 //! How a rank goes down and comes up again.
-ghost use Rattle.std.specs.Prelude.{◌≡◌, ◌≤◌, None, length, IfOk, OnOk, OnErr};
+ghost use Rattle.std.specs.Prelude.{◌≡◌, ◌≤◌, false, None, length, IfOk, OnOk, OnErr};
 ghost use Rattle.metered.specs.Limits.{most_events};
 ghost use Rattle.rank_node.specs.Image.{begins_at};
-ghost use Rattle.rank_node.specs.Replay.{left_of};
+ghost use Rattle.rank_node.specs.Replay.{cuts, left_of};
 ghost use Rattle.world_model.specs.Seats.{with_live, IsRestarted};
 
 use crate::seat::Seat;
@@ -22,11 +22,13 @@ impl<'p> Seat<'p> {
     }
 
     /// The rank, which is down, starts again at its image, or at the beginning
-    /// of the program where it has none, and this is how many events of its
-    /// row are left to replay. An `Err` is want of memory.
+    /// of the program where it has none, which cuts no event of its row, and
+    /// this is how many events of that are left to replay. An `Err` is want of
+    /// memory.
     pub fn restart(&mut self, alloc: Heap, row: Vec<Event, Heap>) -> Result<u32, AllocError>
         requires down { self.old.live ≡ None }
         requires row { length row.items ≤ most_events }
+        requires uncut { cuts (begins_at self.old.program self.old.rank self.old.size self.old.image).clock row.items ≡ false }
         ensures count { IfOk result (λ count. count ≡ length (left_of (begins_at self.old.program self.old.rank self.old.size self.old.image) row.items)) }
         ensures ok { OnOk result (IsRestarted self.old.program self.old.size self.old.rank self.old.image row.items self.new.live) }
         ensures others { self.new ≡ with_live self.old self.new.live }

@@ -1,8 +1,8 @@
 //! How the ranks of a world go down and come up again.
-ghost use Rattle.std.specs.Prelude.{◌≡◌, ◌<◌, ◌≤◌, None, Option, Some, length, slice_get, slice_set, IfOk, OnOk, OnErr, IsSomeAnd};
+ghost use Rattle.std.specs.Prelude.{◌≡◌, ◌<◌, ◌≤◌, false, None, Option, Some, length, slice_get, slice_set, IfOk, OnOk, OnErr, IsSomeAnd};
 ghost use Rattle.metered.specs.Limits.{most_events};
 ghost use Rattle.rank_node.specs.Image.{begins_at};
-ghost use Rattle.rank_node.specs.Replay.{left_of};
+ghost use Rattle.rank_node.specs.Replay.{cuts, left_of};
 ghost use Rattle.world_model.specs.World.{Live};
 ghost use Rattle.world_model.specs.Seats.{IsRestarted};
 
@@ -23,8 +23,9 @@ impl<'p> Seats<'p> {
     }
 
     /// A rank, which is down, starts again at its image, or at the beginning of
-    /// the program where it has none, and this is how many events of its row
-    /// are left to replay. An `Err` is want of memory.
+    /// the program where it has none, which cuts no event of its row, and this
+    /// is how many events of that are left to replay. An `Err` is want of
+    /// memory.
     #[tactic(auto, using(crate::proofs::Places::set_same))]
     pub fn restart(
         &mut self,
@@ -35,6 +36,8 @@ impl<'p> Seats<'p> {
         requires rank { rank < length self.old.ranks }
         requires down { slice_get self.old.ranks rank ≡ Some None }
         requires row { length row.items ≤ most_events }
+        requires uncut { IsSomeAnd (slice_get self.old.images rank) (λ image.
+            cuts (begins_at self.old.program rank (length self.old.ranks) image).clock row.items ≡ false) }
         ensures count { IfOk result (λ count. IsSomeAnd (slice_get self.old.images rank) (λ image.
             count ≡ length (left_of (begins_at self.old.program rank (length self.old.ranks) image) row.items))) }
         ensures ok { OnOk result (IsSomeAnd (slice_get self.old.images rank) (λ image.

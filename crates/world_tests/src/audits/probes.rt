@@ -1,6 +1,6 @@
 //! Hits and misses.
 
-use crate::audits::Stored::{Missed, Saw, Took};
+use crate::audits::Stored::{Missed, MissedOn, Saw, Took};
 use crate::audits::{OfTwo, Printed, Stored, compare_two};
 use crate::scenes::PROBES;
 use std::test::*;
@@ -34,6 +34,13 @@ fn hits_and_misses(rt: HostRuntime) -> Result<(), Fail> {
         Saw(0, 3, 5),
         Took(0, 2, 6),
     ];
+    let twice_as_one: &[Stored] = &[
+        Saw(0, 1, 1),
+        Took(0, 1, 2),
+        MissedOn(2, 4),
+        Saw(0, 3, 5),
+        Took(0, 2, 6),
+    ];
     let twice_seen: &[Stored] = &[
         Saw(0, 1, 1),
         Took(0, 1, 2),
@@ -45,6 +52,7 @@ fn hits_and_misses(rt: HostRuntime) -> Result<(), Fail> {
     let cases: &[OfTwo<'_>] = &[
         ("as it is", RIGHT, LINE, HALTED, 0),
         ("two misses", twice_missed, LINE, HALTED, 0),
+        ("two misses as one event", twice_as_one, LINE, HALTED, 0),
         ("two hits", twice_seen, LINE, HALTED, 0),
         ("another value", RIGHT, &[(1, 7, 12)], HALTED, 3),
     ];
@@ -55,6 +63,15 @@ fn hits_and_misses(rt: HostRuntime) -> Result<(), Fail> {
 #[test]
 fn wrong_hits_and_misses(rt: HostRuntime) -> Result<(), Fail> {
     let third_missed_late: &[Stored] = &[Saw(0, 1, 1), Took(0, 1, 2), Missed(4)];
+    let run_too_long: &[Stored] = &[Saw(0, 1, 1), Took(0, 1, 2), MissedOn(3, 5), Took(0, 2, 6)];
+    let run_over_a_hit: &[Stored] = &[
+        Saw(0, 1, 1),
+        Took(0, 1, 2),
+        Saw(0, 2, 3),
+        MissedOn(2, 4),
+        Saw(0, 3, 5),
+        Took(0, 2, 6),
+    ];
     let taken_by_a_probe: &[Stored] = &[Saw(0, 1, 1), Took(0, 1, 2), Took(0, 2, 3)];
     let seen_by_a_receive: &[Stored] = &[Saw(0, 1, 1), Saw(0, 1, 2)];
     let seen_again: &[Stored] = &[Saw(0, 1, 1), Took(0, 1, 2), Saw(0, 1, 3)];
@@ -80,6 +97,8 @@ fn wrong_hits_and_misses(rt: HostRuntime) -> Result<(), Fail> {
             HALTED,
             2,
         ),
+        ("a run too long", run_too_long, LINE, HALTED, 2),
+        ("a run over a hit", run_over_a_hit, LINE, HALTED, 2),
         ("a try took", taken_by_a_probe, LINE, HALTED, 2),
         ("a receive saw", seen_by_a_receive, LINE, HALTED, 2),
         ("a miss too many", one_more, LINE, HALTED, 1),

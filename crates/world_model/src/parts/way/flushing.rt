@@ -1,5 +1,5 @@
 //! Frames that are put and arrive at once.
-ghost use Rattle.std.specs.Prelude.{◌≡◌, ◌<◌, ◌^◌, ℕ, length, IfOk, OnOk, MatchBool};
+ghost use Rattle.std.specs.Prelude.{◌≡◌, ◌<◌, ℕ, IfOk, OnOk, MatchBool};
 ghost use Rattle.world_model.specs.World.{size};
 ghost use Rattle.world_model.specs.Driven.{index_of};
 
@@ -12,9 +12,10 @@ use std::alloc::AllocError;
 impl<'p> Parts<'p> {
     ghost use Rattle.world_model.specs.Onward.{IsWorld};
     ghost use Rattle.world_model.specs.Driven.{AllLive, Flushed, Emptied, IsGone};
+    ghost use Rattle.world_model.specs.Measures.{outstanding_at};
 
     /// What goes next from a rank to another, if anything does, is put and
-    /// arrives; whether something did.
+    /// arrives; whether something did. Less is outstanding then.
     fn round(
         &mut self,
         source: u8,
@@ -25,16 +26,13 @@ impl<'p> Parts<'p> {
         requires live { AllLive self.old }
         requires dest { dest < size self.old }
         ensures flushed { OnOk result (Flushed self.old events.old.items self.new events.new.items) }
-        ensures more { IfOk result (λ more. MatchBool more (length events.old.items < length events.new.items) (IsGone source dest self.new)) }
-        ensures bound { length events.new.items < 2 ^ 64 }
+        ensures more { IfOk result (λ more. MatchBool more (outstanding_at source dest self.new < outstanding_at source dest self.old) (IsGone source dest self.new)) }
     {
         let put = WorldEvent::Put {
             source: u32::from(source),
             dest: u32::from(dest),
         };
-        let _before = events.len();
         let Some(index) = index_of(&self.drive(put, events)?) else {
-            let _count = events.len();
             return Ok(false);
         };
         let arrive = WorldEvent::Arrive {
@@ -43,11 +41,11 @@ impl<'p> Parts<'p> {
             index,
         };
         self.drive(arrive, events)?;
-        let _count = events.len();
         Ok(true)
     }
 
-    /// All that goes from a rank to another is put and arrives.
+    /// All that goes from a rank to another is put and arrives: no more frames
+    /// than are outstanding.
     fn flush(
         &mut self,
         source: u8,

@@ -1,10 +1,25 @@
 use Rattle.std.proofs.Common.{◌∙◌, ◌+◌, ◌≤◌, sym, ap, subst, arith}
 use Rattle.metered.specs.Limits.{greatest_clock}
+use Rattle.crash_free.specs.Runs.{history}
 use Rattle.audit.specs.Audits.{Suits}
+use Rattle.audit.proofs.Counting.{events_few}
 use Rattle.audit.proofs.Playing.{plays_event}
 use Rattle.audit.proofs.Refusing.{no_clock, no_fitting_event, no_event_allowed, why_refused}
 use Rattle.audit.proofs.Steps.{on_ok, repeated_one, trace_there}
 use Rattle.audit.proofs.auditor.Auditor.choose.Goals as goal
+
+pub note_event-requires : goal.note_event-requires
+note_event-requires c =
+    let trace = trace_there c.args.self.now.sim c.args.self.now.traces.items c.args.rank c.from-place.result c.index.result.now c.requires.keeps c.requires.rank
+    c.from-place.ensures c.index.ensures in
+    let noted = trace_there c.args.self.now.sim c.args.self.now.traces.items c.args.rank c.from-place.result c.index_mut.result.now c.requires.keeps
+    c.requires.rank c.from-place.ensures c.index_mut.ensures.value in
+    let few = events_few 0 (history c.args.self.now.sim.run c.args.rank) in
+    let events = noted.events in
+    let clock = trace.clock in
+    let next = c.in-Some-next_clock.ensures.some in
+    let most = c.in-Some-next_clock.ensures.few in
+    omega (arith, few, events, clock, next, most)
 
 pub returns-clause-goes : goal.returns-clause-goes
 returns-clause-goes c =
@@ -14,7 +29,7 @@ returns-clause-goes c =
     repeated_one c.args.self.now.sim c.act.new.self c.args.self.now.traces.items c.args.rank c.args.want c.in-Some.choice c.args.event c.from-place.result
     c.index_mut.result.now c.index.result.now c.note_event.new.self c.requires.keeps c.requires.rank c.from-place.ensures c.index.ensures
     c.index_mut.ensures.value c.requires.wanted suits c.in-Some.ensures.some c.receiver_clock.ensures.event (on_ok c.act.result _ was c.act.ensures.ok)
-    c.act.ensures.ranks c.act.ensures.stands next c.in_ok-note_event.ensures
+    c.act.ensures.ranks c.act.ensures.stands next c.note_event.ensures
 
 pub returns-then-not-suits-clause-none : goal.returns-then-not-suits-clause-none
 returns-then-not-suits-clause-none c = λ no of o next.

@@ -1,13 +1,22 @@
-use Rattle.std.proofs.Common.{◌≡◌, length, Option, Some, None, ap, subst, ◌∙◌, slice_get, slice_set, IsSomeAnd}
+use Rattle.std.proofs.Common.{◌≡◌, length, Option, Some, None, ap, subst, ◌∙◌, slice_get, slice_set, IsSomeAnd, false, sym}
 use Rattle.plain_logger.specs.History.{Answers}
 use Rattle.plain_logger.specs.declared.call.Call.TheVariants.{Fetch}
 use Rattle.plain_logger.specs.declared.call.Reply.TheVariants.{Events}
 use Rattle.rank_node.specs.Image.{begins_at}
-use Rattle.rank_node.specs.Replay.{left_of}
-use Rattle.world_model.specs.World.{Live}
+use Rattle.rank_node.specs.Replay.{left_of, cuts}
+use Rattle.world_model.specs.World.{Live, WorldValue}
 use Rattle.world_model.specs.Seats.{IsRestarted}
-use Rattle.world_model.proofs.DoingLives.{restart_named}
+use Rattle.world_model.proofs.DoingLives.{restart_named, restart_uncut}
 use Rattle.world_model.proofs.parts.Parts.restart.Goals as goal
+
+-- src/parts/restarting.rt
+pub restart-requires-clause-uncut : goal.restart-requires-clause-uncut
+restart-requires-clause-uncut c =
+    subst (λ (z : WorldValue). IsSomeAnd (slice_get z.images c.in-Some.rank) (λ image.
+    cuts (begins_at z.program c.in-Some.rank (length z.ranks) image).clock c.in-Ok.row.items ≡ false)) (sym c.self.view_is)
+    (restart_uncut c.args.self.now c.in-Some.rank c.in-Ok.row.items c.fetch.new.self c.requires c.in-Some.ensures.1
+    (subst (λ (z : WorldValue). Answers z.logger c.in-Some.rank (Fetch 0) (Events c.in-Ok.row.items) c.fetch.new.self) c.self.view_is
+    (subst (λ r. Answers c.self.inside.logger r (Fetch 0) (Events c.in-Ok.row.items) c.fetch.new.self) c.from.ensures c.in-Ok.ensures.ok)))
 
 -- src/parts/restarting.rt
 pub returns-clause-follows : goal.returns-clause-follows

@@ -16,6 +16,10 @@ go_on : (w v w' : WorldValue) (events : List WorldEvent) (replies : List Reply) 
 go_on w v w' events replies k d answer l f g s n = rw (take_more events k d l) (follows_push w v w' (take k events) replies (get_or events k d) answer f g s n)
 
 -- src/world.rt
+pub returns-in_default-clause-stands : goal.returns-in_default-clause-stands
+returns-in_default-clause-stands c = subst (λ w. StandsFor w w.run) c.self.view_is (world_stands c.self.inside.parts c.self.invariant)
+
+-- src/world.rt
 pub returns-in_default-clause-nothing_gone : goal.returns-in_default-clause-nothing_gone
 returns-in_default-clause-nothing_gone c = subst (λ w. NothingGone w w.run) c.self.view_is (world_retains c.self.inside.parts c.self.invariant)
 

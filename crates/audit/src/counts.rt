@@ -1,0 +1,102 @@
+//! How many acts the stored events of a rank stand for.
+ghost use Rattle.std.specs.Prelude.{◌≡◌, ◌<◌, ◌-◌, length, slice_get, IfSome, IfNone, IfOk};
+ghost use Rattle.metered.specs.Limits.{greatest_clock};
+ghost use Rattle.plain_logger.specs.Event.{count_of};
+ghost use Rattle.plain_logger.specs.Misses.{parts_of};
+ghost use Rattle.audit.specs.Rows.{expand};
+ghost use Rattle.audit.specs.Counts.{ends_from, AreCounted, AreTooMany, IsPlace};
+
+use crate::outcome::Outcome;
+use metered::Heap;
+use metered::limits::GREATEST_CLOCK;
+use plain_logger::{Event, Kind};
+use std::alloc::AllocError;
+use std::marker::Model;
+
+/// After each event of a rank, how many acts it and those before it stand for.
+#[derive(Drop)]
+pub struct Counts {
+    ends: Vec<u32, Heap>,
+}
+
+impl Model for Counts {
+    ghost use Rattle.std.specs.Prelude.{ℕ, List};
+
+    ghost Value = { List ℕ };
+
+    ghost view = { λ c. c.ends.items };
+}
+
+impl Counts {
+    /// Of these events, or `None` where they stand for more acts than a rank
+    /// may make.
+    fn of(alloc: Heap, events: &[Event]) -> Result<Option<Counts>, AllocError>
+        ensures some { IfOk result (λ counts. IfSome counts (λ counts. counts ≡ ends_from 0 events.now)) }
+        ensures none { IfOk result (λ counts. IfNone counts (greatest_clock < length (expand events.now))) }
+    {
+        let mut ends = Vec::new(alloc);
+        let mut total = 0;
+        for event in events {
+            let count = event.count();
+            if count > GREATEST_CLOCK - total {
+                return Ok(None);
+            }
+            total += count;
+            ends.push(total)?;
+        }
+        Ok(Some(Counts { ends }))
+    }
+
+    /// The event of the act that comes after so many, of these events.
+    pub fn event_after(&self, events: &[Event], done: u32) -> Option<Event>
+        requires { self.now ≡ ends_from 0 events.now }
+        ensures { result ≡ slice_get (expand events.now) done }
+    {
+        let place = self.place_after(events, done);
+        if place >= events.len() {
+            return None;
+        }
+        let event = events[place];
+        part(event, event.count(), self.ends[place] - done - 1)
+    }
+
+    /// The place of the event that stands for the act after so many.
+    fn place_after(&self, events: &[Event], done: u32) -> usize
+        requires { self.now ≡ ends_from 0 events.now }
+        ensures { IsPlace events.now done result }
+    {
+        match self.ends.as_slice().binary_search(&done) {
+            Ok(last) => last + 1,
+            Err(next) => next,
+        }
+    }
+}
+
+/// The event of one of so many acts that an event stands for: of that after
+/// which so many come.
+fn part(event: Event, count: u32, later: u32) -> Option<Event>
+    requires count { count ≡ count_of event }
+    requires later { later < count }
+    ensures { result ≡ slice_get (parts_of event) (count - 1 - later) }
+{
+    match event.kind() {
+        Kind::Reception | Kind::Hit | Kind::Miss => Some(event),
+        Kind::Misses => Event::new(Kind::Miss, 0, 0, event.receiver_clock() - later),
+    }
+}
+
+/// Of each rank's row, or `None` where one stands for more acts than a rank may
+/// make.
+pub fn count(alloc: Heap, outcome: &Outcome) -> Result<Option<Vec<Counts, Heap>>, AllocError>
+    ensures some { IfOk result (λ all. IfSome all (λ all. AreCounted outcome.now.rows all.items)) }
+    ensures none { IfOk result (λ all. IfNone all (AreTooMany outcome.now.rows)) }
+{
+    let mut all = Vec::new(alloc);
+    for row in outcome.rows.as_slice() {
+        let Some(counts) = Counts::of(alloc, row.as_slice())? else {
+            return Ok(None);
+        };
+        all.push(counts)?;
+    }
+    Ok(Some(all))
+}

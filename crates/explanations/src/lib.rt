@@ -1,0 +1,23 @@
+//! What is wrong with a text, told to the person who wrote it: the line, the
+//! place in it, what was expected there, and a near word where there is one.
+//!
+//! The faults themselves are those of `rank_language`, `script_text` and
+//! `events_text`; here they are only explained.
+#![tactic(auto)]
+
+mod declared;
+mod events;
+mod fitting;
+mod limits;
+mod near;
+mod piece;
+mod program;
+mod script;
+mod shown;
+mod unmet;
+mod value;
+
+pub use events::explain_events;
+pub use program::explain_program;
+pub use script::explain_script;
+pub use unmet::{Unmet, first_unmet};

@@ -1,0 +1,52 @@
+use Rattle.std.proofs.Common.{◌≡◌, ◌<◌, ◌≤◌, refl, Some, length, subst, arith}
+use Rattle.std.specs.Prelude.{slice_get, vec_len}
+use Rattle.std.proofs.lemmas.Option.{slice_get_read}
+use Rattle.metered.specs.Limits.{most_ranks}
+use Rattle.explore.specs.Moves.{HasAll, AreOfRanks}
+use Rattle.explore.specs.Outcomes.{IsAmong}
+use Rattle.explore.specs.Searching.{BranchesOff}
+use Rattle.explore.proofs.Among.{has_first}
+use Rattle.explore.proofs.Searching.{plays_along, plays_moves}
+use Rattle.explore.proofs.play.play.Goals as goal
+
+pub is_spent-requires : goal.is_spent-requires
+is_spent-requires c = λ m a.
+    (let plays = c.loop-branch.invariant.0 in
+    let few : length c.advance.new.sim.machines ≤ most_ranks = omega (arith, c.requires.few, plays.alike.ranks, c.advance.ensures.leads.ranks) in
+    let acts : AreOfRanks c.advance.new.sim c.in-Some.found.items = rw c.in-Some.is at c.in_ok-found.ensures.acts in
+    let low = (acts m (subst (λ xs. IsAmong xs m) c.deref.ensures.value a)).0 in
+    omega (arith, low, few))
+
+pub branch_off-requires-clause-acts : goal.branch_off-requires-clause-acts
+branch_off-requires-clause-acts c = λ m a.
+    (let acts : AreOfRanks c.advance.new.sim c.in-Some.found.items = rw c.in-Some.is at c.in_ok-found.ensures.acts in
+    acts m (subst (λ xs. IsAmong xs m) c.deref-in-loop-branch.ensures.value a))
+
+pub choose-requires-clause-rank : goal.choose-requires-clause-rank
+choose-requires-clause-rank c =
+    let acts : AreOfRanks c.advance.new.sim c.in-Some.found.items = rw c.in-Some.is at c.in_ok-found.ensures.acts in
+    let size : length c.in-Some.found.items ≡ vec_len c.in-Some.found = subst (λ xs. length xs ≡ vec_len c.in-Some.found) c.deref.ensures.value c.deref.ensures.len in
+    let some : 0 < length c.in-Some.found.items = has_first c.in-Some.found.items (vec_len c.in-Some.found) c.is_empty.result c.is_empty.ensures c.if-is_empty.false size in
+    let there : slice_get c.in-Some.found.items 0 ≡ Some c.index.result.now =
+    slice_get_read c.in-Some.found.items (length c.in-Some.found.items) 0 c.index.result.now refl some c.index.ensures in
+    (acts c.index.result.now (0, there)).0
+
+pub loop-branch-preserved : goal.loop-branch-preserved
+loop-branch-preserved c =
+    let all : HasAll c.advance.new.sim c.in-Some.found.items = rw c.in-Some.is at c.in_ok-found.ensures.all in
+    let acts : AreOfRanks c.advance.new.sim c.in-Some.found.items = rw c.in-Some.is at c.in_ok-found.ensures.acts in
+    let size : length c.in-Some.found.items ≡ vec_len c.in-Some.found = subst (λ xs. length xs ≡ vec_len c.in-Some.found) c.deref.ensures.value c.deref.ensures.len in
+    let some : 0 < length c.in-Some.found.items = has_first c.in-Some.found.items (vec_len c.in-Some.found) c.is_empty.result c.is_empty.ensures c.if-is_empty.false size in
+    let there : slice_get c.in-Some.found.items 0 ≡ Some c.index.result.now =
+    slice_get_read c.in-Some.found.items (length c.in-Some.found.items) 0 c.index.result.now refl some c.index.ensures in
+    let off =
+    subst (λ xs. BranchesOff c.advance.new.sim xs 1 c.loop-branch.pending.items c.branch_off.new.pending.items) c.deref-in-loop-branch.ensures.value
+    c.in_ok-branch_off.ensures in
+    let plays =
+    plays_along c.args.branch.now.sim c.args.pending.now.items c.loop-branch.branch.sim c.advance.new.sim c.loop-branch.pending.items c.loop-branch.invariant.0
+    c.advance.ensures.leads in (
+      plays_moves c.args.branch.now.sim c.args.pending.now.items c.advance.new.sim c.choose.new.self.sim c.loop-branch.pending.items
+          c.branch_off.new.pending.items c.in-Some.found.items c.index.result.now plays c.advance.ensures.leads.stands c.in_ok-choose.ensures.stands all acts there off
+          c.in_ok-choose.ensures.allowed,
+      c.in_ok-choose.ensures.stands,
+    )

@@ -1,0 +1,10 @@
+use Rattle.std.proofs.Common.{◌≤◌, sum}
+use Rattle.explore.specs.Making.{LeadsTo}
+use Rattle.explore.proofs.steps.advance.Given as goal
+
+-- what is made so far leads on
+abbrev pub invariant-loop : goal.invariant-loop
+invariant-loop l = LeadsTo l.initial.sim l.sim × (sum l.left ≤ sum l.initial.left)
+
+abbrev pub decreases-loop : goal.decreases-loop
+decreases-loop l = sum l.left

@@ -1,0 +1,11 @@
+//! How far a search may go.
+
+/// How far a search may go.
+#[derive(Clone, Copy, Debug, PartialEq, Eq)]
+pub struct Limits {
+    /// How many runs are looked at.
+    pub runs: u32,
+    /// How many steps each rank makes in each of them: its acts, and the steps
+    /// of its own between them.
+    pub steps: u32,
+}

@@ -1,0 +1,81 @@
+//! One run of a search, which leaves branches behind.
+ghost use Rattle.std.specs.Prelude.{◌≡◌, ◌<◌, ◌≤◌, true, false, IfOk, OnOk, length};
+ghost use Rattle.metered.specs.Limits.{most_ranks};
+ghost use Rattle.crash_free.specs.Sim.{Simulates};
+ghost use Rattle.explore.specs.Moves.{AreOfRanks, HasAll};
+ghost use Rattle.explore.specs.Outcomes.{IsAmong};
+ghost use Rattle.explore.specs.Searching.{AreAlike, BranchesOff, HaveLeft, PlaysOn};
+ghost use Rattle.explore.specs.Stills.{AllStill};
+
+use crate::branch::Branch;
+use crate::moves::{Move, moves};
+use crate::steps::advance;
+use metered::Heap;
+use metered::limits::MOST_RANKS;
+use std::alloc::AllocError;
+
+/// Goes on with the branch until no rank can, and leaves a branch behind for
+/// each move that it doesn't make. Answers whether the run came to its end: no
+/// if a rank came to its limit of steps before. An `Err` is want of memory.
+pub fn play<'p>(
+    alloc: Heap,
+    branch: &mut Branch<'p>,
+    pending: &mut Vec<Branch<'p>, Heap>,
+) -> Result<bool, AllocError>
+    requires few { length branch.old.sim.machines ≤ most_ranks }
+    requires alike { AreAlike branch.old.sim pending.old.items }
+    ensures plays { IfOk result (λ _. PlaysOn branch.old.sim pending.old.items branch.new.sim pending.new.items) }
+    ensures stands { IfOk result (λ _. Simulates branch.new.sim) }
+    ensures still { IfOk result (λ ended. ended ≡ true → AllStill branch.new.sim) }
+{
+    let _ = branch.sim.ranks();
+    loop {
+        advance(&mut branch.sim, &mut branch.left);
+        let Some(found) = moves(alloc, &branch.sim)? else {
+            return Ok(false);
+        };
+        if found.is_empty() {
+            return Ok(true);
+        }
+        if is_spent(&branch.left, &found) {
+            return Ok(false);
+        }
+        branch_off(branch, &found, pending)?;
+        branch.choose(found[0], found.len() > 1)?;
+    }
+}
+
+// Whether one of the moves is of a rank that has no steps left.
+fn is_spent(left: &[u32; MOST_RANKS], moves: &[Move]) -> bool
+    requires { (m : Move) → IsAmong moves.now m → m.rank < most_ranks }
+    ensures { result ≡ false → HaveLeft left.now moves.now }
+{
+    for each in moves {
+        if left[usize::from(each.rank)] == 0 {
+            return true;
+        }
+    }
+    false
+}
+
+// Adds a branch for each of the moves but the first, so that the second is the last one added.
+fn branch_off<'p>(
+    branch: &Branch<'p>,
+    moves: &[Move],
+    pending: &mut Vec<Branch<'p>, Heap>,
+) -> Result<(), AllocError>
+    requires few { length branch.now.sim.machines ≤ most_ranks }
+    requires stands { Simulates branch.now.sim }
+    requires acts { AreOfRanks branch.now.sim moves.now }
+    requires left { HaveLeft branch.now.left moves.now }
+    ensures { OnOk result (BranchesOff branch.now.sim moves.now 1 pending.old.items pending.new.items) }
+{
+    let mut at = moves.len();
+    while at > 1 {
+        at -= 1;
+        let mut next = branch.copy()?;
+        next.choose(moves[at], true)?;
+        pending.push(next)?;
+    }
+    Ok(())
+}

@@ -1,0 +1,91 @@
+//! The search for all outcomes of a program.
+ghost use Rattle.std.specs.Prelude.{◌≡◌, ◌≤◌, ◌⊎◌, true, false, [], IfOk, IsTrue, List, length};
+ghost use Rattle.metered.specs.Limits.{most_ranks};
+ghost use Rattle.crash_free.specs.Sim.{start_of};
+ghost use Rattle.explore.specs.Exploring.{AlwaysEnds, IsPossible, RankOutcome};
+ghost use Rattle.explore.specs.Outcomes.{AreAll, AreDistinct, IsAmong};
+ghost use Rattle.explore.specs.Searching.{AreAlike, Looks};
+
+use crate::branch::Branch;
+use crate::explored::{Explored, Outcome, note};
+use crate::limits::Limits;
+use crate::outcome::outcome_of;
+use crate::play::play;
+use metered::Heap;
+use rank_language::Program;
+use std::alloc::AllocError;
+
+/// Looks for all outcomes of the program on so many ranks, depth first, within
+/// these limits. An `Err` is want of memory.
+pub fn explore(
+    alloc: Heap,
+    program: &Program,
+    ranks: u8,
+    limits: Limits,
+) -> Result<Explored, AllocError>
+    requires some { 1 ≤ ranks }
+    requires few { ranks ≤ most_ranks }
+    ensures possible { IfOk result (λ e. (o : List RankOutcome) → IsAmong e.outcomes o → IsPossible program.now ranks o) }
+    ensures complete { IfOk result (λ e. e.complete ≡ true → AreAll program.now ranks e.outcomes) }
+    ensures ends { IfOk result (λ e. e.complete ≡ true → AlwaysEnds (start_of program.now ranks) ranks []) }
+    ensures stopped { IfOk result (λ e. e.complete ≡ false → (e.runs ≡ limits.runs) ⊎ IsTrue e.out_of_steps) }
+    ensures distinct { IfOk result (λ e. AreDistinct e.outcomes) }
+    ensures few_runs { IfOk result (λ e. e.runs ≤ limits.runs) }
+{
+    let mut pending = Vec::new(alloc);
+    pending.push(Branch::new(alloc, program, ranks, limits.steps)?)?;
+    let mut outcomes = Vec::new(alloc);
+    let mut runs = 0;
+    let mut out_of_steps = false;
+    while runs < limits.runs {
+        let Some(branch) = pending.pop() else {
+            break;
+        };
+        let ended = look(alloc, branch, &mut pending, &mut outcomes)?;
+        out_of_steps = is_cut(out_of_steps, ended);
+        runs += 1;
+    }
+    let complete = is_complete(&pending, out_of_steps);
+    Ok(Explored {
+        outcomes,
+        runs,
+        complete,
+        out_of_steps,
+    })
+}
+
+// Whether a run was cut off, this one or one before.
+fn is_cut(before: bool, ended: bool) -> bool
+    ensures { result ≡ false → (before ≡ false) × (ended ≡ true) }
+{
+    before || !ended
+}
+
+// Whether all was searched.
+fn is_complete(pending: &[Branch<'_>], out_of_steps: bool) -> bool
+    ensures yes { result ≡ true → (pending.now ≡ []) × (out_of_steps ≡ false) }
+    ensures no { result ≡ false → pending.now ≡ [] → out_of_steps ≡ true }
+{
+    pending.is_empty() && !out_of_steps
+}
+
+// Goes on with one branch to an end of its run, and notes the outcome that it
+// has there. Answers whether it came to an end.
+fn look<'p>(
+    alloc: Heap,
+    mut branch: Branch<'p>,
+    pending: &mut Vec<Branch<'p>, Heap>,
+    outcomes: &mut Vec<Outcome, Heap>,
+) -> Result<bool, AllocError>
+    requires few { length branch.sim.machines ≤ most_ranks }
+    requires alike { AreAlike branch.sim pending.old.items }
+    ensures { IfOk result (λ ended. Looks branch.entry.sim ended pending.old.items pending.new.items outcomes.old.items outcomes.new.items) }
+{
+    let ended = play(alloc, &mut branch, pending)?;
+    if ended {
+        let ranks = outcome_of(alloc, &branch.sim)?;
+        let choices = branch.choices;
+        note(outcomes, Outcome { ranks, choices })?;
+    }
+    Ok(ended)
+}
