@@ -1,5 +1,6 @@
 -- The acts of the run are made again, one after another.
-use Rattle.std.proofs.Common.{◌≡◌, ℕ, zero, suc, ◌+◌, ◌-◌, ◌<◌, ◌≤◌, ◌⊎◌, inl, inr, ⊎_elim, List, [], ◌∷◌, ◌++◌, Option, Some, None, length, refl, sym, ap, subst, ◌∙◌, arith, slice_get, slice_set, slice_index_or, get_or, take, drop, replicate}
+use Rattle.std.proofs.Common.{◌≡◌, ℕ, zero, suc, ◌+◌, ◌-◌, ◌<◌, ◌≤◌, ◌⊎◌, inl, inr, ⊎_elim, List, [], ◌∷◌, ◌++◌, Option, Some, None, length, refl, sym, ap}
+use Rattle.std.proofs.Common.{subst, ◌∙◌, arith, slice_get, slice_set, slice_index_or, get_or, take, drop, replicate}
 use Rattle.std.specs.Prelude.{IsSomeAnd}
 use Rattle.std.proofs.lemmas.Bool.{cases_lt, cases_eq}
 use Rattle.std.proofs.lemmas.List.{length-set, length_push, take-append-drop}
@@ -53,13 +54,15 @@ one_more early r a =
     let n = length_push (history early r) (a, looked_up (λ k. sent early k r) a) in
     omega (arith, e, n)
 
+-- an event that moved its rank is listed, so the list is longer
 listed_moved : (events : List WorldEvent) (event : WorldEvent) (answer : Reply) → answer ≡ reply.Moved → length events < length (listed events event answer)
 listed_moved events event answer e =
     let q = ap (λ z. length (listed events event z)) e in
     let n = length_push events event in
     omega (arith, q, n)
 
-module _ (a b : WorldValue) (x y : List WorldEvent) (k r count : ℕ) (view : View) (next : IsNext a.run k r) (is : count ≡ length (history (earliest k a.run) r) + 1) (lr : r < size b)
+module _ (a b : WorldValue) (x y : List WorldEvent) (k r count : ℕ) (view : View) (next : IsNext a.run k r)
+    (is : count ≡ length (history (earliest k a.run) r) + 1) (lr : r < size b)
     (f : Advanced a x b y) (seen : IsView b r view) where
   abbrev p : Passed
   p = record { rank = r; act = next.0 }
@@ -68,7 +71,8 @@ module _ (a b : WorldValue) (x y : List WorldEvent) (k r count : ℕ) (view : Vi
   run = f.same_run ∙ run_parts a.run k p next.1
 
   -- the next act is nearer by a step, which goes on the list
-  pub step_next : (c : WorldValue) (z : List WorldEvent) (r1 : ℕ) (answer : Reply) → r1 ≡ r → IsNear a.run k r b → view.clock < count → Follows b (Step r1) answer c
+  pub step_next : (c : WorldValue) (z : List WorldEvent) (r1 : ℕ) (answer : Reply) → r1 ≡ r → IsNear a.run k r b → view.clock < count
+      → Follows b (Step r1) answer c
       → z ≡ listed y (Step r1) answer → Advanced a x c z × IsNear a.run k r c × (length y < length z)
   step_next c z r1 answer e1 near low g1 ez1 = go near
     where
@@ -82,8 +86,10 @@ module _ (a b : WorldValue) (x y : List WorldEvent) (k r count : ℕ) (view : Vi
       go (inl ready) =
           let v = ready.all_live r lr in
           let shown = clock_of b r v.0 view seen v.1 in
-          let s = make_next b (earliest k a.run) (take (length a.run - (k + 1)) a.run) r next.0 v.0 answer c ready run v.1 (omega (arith, low, shown, is)) g in (
-            advanced_more a b c x y z f (subst (λ q. Advanced b y c q) ez (advanced_by b y (Step r) answer c f.is_world tt (λ start d. tt) (λ ne. s.same_run) g)),
+          let s =
+          make_next b (earliest k a.run) (take (length a.run - (k + 1)) a.run) r next.0 v.0 answer c ready run v.1 (omega (arith, low, shown, is)) g in (
+            advanced_more a b c x y z f
+                (subst (λ q. Advanced b y c q) ez (advanced_by b y (Step r) answer c f.is_world tt (λ start d. tt) (λ ne. s.same_run) g)),
             ⊎_elim (λ h. inl h) (λ h. inr (next.0, next.1, h)) s.on,
             subst (λ q. length y < length q) ez (listed_moved y (Step r) answer s.moved),
           )
@@ -104,11 +110,13 @@ module _ (a b : WorldValue) (x y : List WorldEvent) (k r count : ℕ) (view : Vi
 
 -- ---- counting
 
+-- what was set at an index is there
 index_same : (xs : List ℕ) (i y : ℕ) → i < length xs → slice_index_or (slice_set xs i y) i 0 ≡ y
 index_same [] i y l = absurd (omega (arith, l))
 index_same (x ∷ xs) zero y l = refl
 index_same (x ∷ xs) (suc i) y l = index_same xs i y (omega (arith, l))
 
+-- another index has what it had
 index_other : (xs : List ℕ) (i k y : ℕ) → (k ≡ i → ⊥) → slice_index_or (slice_set xs i y) k 0 ≡ slice_index_or xs k 0
 index_other [] i k y ne = refl
 index_other (x ∷ xs) zero zero y ne = absurd (ne refl)
@@ -116,6 +124,7 @@ index_other (x ∷ xs) zero (suc k) y ne = refl
 index_other (x ∷ xs) (suc i) zero y ne = refl
 index_other (x ∷ xs) (suc i) (suc k) y ne = index_other xs i k y (λ e. ne (ap suc e))
 
+-- the counts of a run's first acts, with one more for the rank of the next act, are those of one act more
 pub counted_next : (n : ℕ) (C : List Passed) (k r : ℕ) (counts : List ℕ) → r < n → IsNext C k r → IsCounted n (earliest k C) counts
     → IsCounted n (earliest (k + 1) C) (slice_set counts r (slice_index_or counts r 0 + 1))
 counted_next n C k r counts l next c =
@@ -136,6 +145,7 @@ counted_next n C k r counts l next c =
         index_other counts r q (slice_index_or counts r 0 + 1) ne ∙ c.count q m
         ∙ sym (ap length (history-other (earliest k C) (record { rank = r; act = next.0 }) q (λ e. ne (sym e))))
 
+-- before the first act each rank's count is 0
 pub counted_first : (n : ℕ) (C : List Passed) → IsCounted n (earliest 0 C) (replicate n 0)
 counted_first n C =
     subst (λ z. IsCounted n z (replicate n 0)) (sym (earliest_none C)) (record { width = width n; count = λ r l. nothing n r })
@@ -150,11 +160,14 @@ counted_first n C =
     nothing (suc m) (suc r) = nothing m r
 
 -- what is read of the counts, and what is written
-old_count : (n r f old : ℕ) (early : List Passed) (counts : List ℕ) → f ≡ r → r < n → IsCounted n early counts → old ≡ get_or counts f old → old ≡ slice_index_or counts r 0
+old_count : (n r f old : ℕ) (early : List Passed) (counts : List ℕ) → f ≡ r → r < n → IsCounted n early counts → old ≡ get_or counts f old
+    → old ≡ slice_index_or counts r 0
 old_count n r f old early counts e l c is =
     is ∙ ap (λ z. get_or counts z old) e ∙ get_or_default_zero counts r old (let w = c.width in omega (arith, l, w))
 
-pub new_count : (n k r f g old new : ℕ) (C : List Passed) (counts : List ℕ) → f ≡ r → g ≡ r → r < n → IsCounted n (earliest k C) counts → old ≡ get_or counts f old
+-- the count of the rank of the next act, with one more, says how many acts the rank has made once it makes that one
+pub new_count : (n k r f g old new : ℕ) (C : List Passed) (counts : List ℕ) → f ≡ r → g ≡ r → r < n → IsCounted n (earliest k C) counts
+    → old ≡ get_or counts f old
     → new ≡ get_or (slice_set counts f (old + 1)) g new → new ≡ length (history (earliest k C) r) + 1
 new_count n k r f g old new C counts e1 e2 l c is now =
     let o = old_count n r f old (earliest k C) counts e1 l c is in
@@ -165,7 +178,9 @@ new_count n k r f g old new C counts e1 e2 l c is now =
     let h = c.count r l in
     omega (arith, at, o, h)
 
-pub counted_set : (n k r f old : ℕ) (C : List Passed) (counts : List ℕ) → f ≡ r → r < n → IsNext C k r → IsCounted n (earliest k C) counts → old ≡ get_or counts f old
+-- counts stay those of the run's first acts where the rank of the next act gets one more
+pub counted_set : (n k r f old : ℕ) (C : List Passed) (counts : List ℕ) → f ≡ r → r < n → IsNext C k r → IsCounted n (earliest k C) counts
+    → old ≡ get_or counts f old
     → IsCounted n (earliest (k + 1) C) (slice_set counts f (old + 1))
 counted_set n k r f old C counts e l next c is =
     let o = old_count n r f old (earliest k C) counts e l c is in
@@ -183,7 +198,8 @@ count_low w k r counts ready l c =
     omega (arith, made, most, is)
 
 -- what is counted is within the limit of clocks
-pub low_count : (w : WorldValue) (k r f old : ℕ) (counts : List ℕ) → Ready w (earliest k w.run) → f ≡ r → r < size w → IsCounted (size w) (earliest k w.run) counts
+pub low_count : (w : WorldValue) (k r f old : ℕ) (counts : List ℕ) → Ready w (earliest k w.run) → f ≡ r → r < size w
+    → IsCounted (size w) (earliest k w.run) counts
     → old ≡ get_or counts f old → old ≤ greatest_clock
 low_count w k r f old counts ready e l c is =
     let o = old_count (size w) r f old (earliest k w.run) counts e l c is in
@@ -192,6 +208,7 @@ low_count w k r f old counts ready e l c is =
 
 -- ---- one act after another
 
+-- after one more act of the run is made and what is outgoing is flushed, the world is ready for the act after that, and the counts are right
 pub make_all_next : (a b c d : WorldValue) (x y z u : List WorldEvent) (k r : ℕ) (counts : List ℕ) → Advanced a x b y → Advanced b y c z → MadeAt b.run k r c
     → IsCounted (size b) (earliest (k + 1) b.run) counts → Flushed c z d u → ((t : ℕ) → t < size d → Emptied r t c d)
     → Advanced a x d u × Ready d (earliest (k + 1) a.run) × IsCounted (size a) (earliest (k + 1) a.run) counts
@@ -199,7 +216,8 @@ make_all_next a b c d x y z u k r counts f g made counted h emptied = (
   advanced_more a c d x z u (advanced_more a b c x y z f g) h.advanced,
   subst (λ C. Ready d (earliest (k + 1) C)) f.same_run
       (subst (λ early. Ready d early) (sym made.1)
-      (ready_after c d (record { rank = r; act = made.0 }) (earliest k b.run) made.2 h.advanced.is_world h.keeps (λ t l. (emptied t l).drained made.2.no_gaps))),
+      (ready_after c d (record { rank = r; act = made.0 }) (earliest k b.run) made.2 h.advanced.is_world h.keeps
+      (λ t l. (emptied t l).drained made.2.no_gaps))),
   subst (λ n. IsCounted n (earliest (k + 1) a.run) counts) f.same_size (subst (λ C. IsCounted (size b) (earliest (k + 1) C) counts) f.same_run counted),
 )
 
@@ -207,6 +225,7 @@ make_all_next a b c d x y z u k r counts f g made counted h emptied = (
 pub ready_at : (a b : WorldValue) (x y : List WorldEvent) (k : ℕ) → Advanced a x b y → Ready b (earliest k a.run) → Ready b (earliest k b.run)
 ready_at a b x y k f g = subst (λ C. Ready b (earliest k C)) (sym f.same_run) g
 
+-- counts of the first acts of a run are right in a world that advanced, as its run and its size are the same
 pub counted_at : (a b : WorldValue) (x y : List WorldEvent) (k : ℕ) (counts : List ℕ) → Advanced a x b y → IsCounted (size a) (earliest k a.run) counts
     → IsCounted (size b) (earliest k b.run) counts
 counted_at a b x y k counts f g =

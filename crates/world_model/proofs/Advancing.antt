@@ -1,5 +1,6 @@
 -- What the calls of the way come to, one after another.
-use Rattle.std.proofs.Common.{◌≡◌, ◌≢◌, ℕ, ◌+◌, ◌<◌, ◌≤◌, ◌⊎◌, inl, inr, ⊎_elim, Bool, true, false, if◌then◌else◌, MatchBool, List, [], ◌∷◌, ◌++◌, Option, Some, None, length, refl, sym, ap, subst, ◌∙◌, arith, slice_get, slice_set}
+use Rattle.std.proofs.Common.{◌≡◌, ◌≢◌, ℕ, ◌+◌, ◌<◌, ◌≤◌, ◌⊎◌, inl, inr, ⊎_elim, Bool, true, false, if◌then◌else◌, MatchBool, List, [], ◌∷◌, ◌++◌, Option, Some}
+use Rattle.std.proofs.Common.{None, length, refl, sym, ap, subst, ◌∙◌, arith, slice_get, slice_set}
 use Rattle.std.proofs.lemmas.Bool.{cases_lt}
 use Rattle.matching.specs.PacketValue as packet
 use Rattle.rank_node.specs.declared.frame.Frame.{Frame}
@@ -15,7 +16,8 @@ use Rattle.world_model.specs.Follows.{CanNot, Happens, Follows, PutFollows, Arri
 use Rattle.world_model.specs.Onward.{IsWorld}
 use Rattle.world_model.specs.Way.{IsOwn}
 use Rattle.world_model.specs.Measures.{outstanding_at}
-use Rattle.world_model.specs.Driven.{IsUsed, Driven, AllLive, NoGaps, DrainedFrom, LiveTo, HeardTo, is_refused, listed, index_of, Advanced, Flushed, IsGone, Emptied, Listened}
+use Rattle.world_model.specs.Driven.{IsUsed, Driven, AllLive, NoGaps, DrainedFrom, LiveTo, HeardTo, is_refused, listed, index_of, Advanced, Flushed, IsGone}
+use Rattle.world_model.specs.Driven.{Emptied, Listened}
 use Rattle.world_model.proofs.WayPlaces.{set_get_same, get_last}
 use Rattle.world_model.proofs.Acts.{all_live_kept}
 use Rattle.world_model.proofs.Driving.{happened, world_after, size_after, driven_push, put_own}
@@ -26,26 +28,38 @@ use Rattle.world_model.proofs.Restarting.{live_refused, live_restarted}
 
 -- ---- one after another
 
+-- with no event at all a world has advanced to itself
 pub advanced_none : (w : WorldValue) (events : List WorldEvent) → IsWorld w → Advanced w events w events
 advanced_none w events i = record { is_world = i; same_size = refl; same_run = refl; driven = λ start d. d }
 
+-- one advance after another is an advance
 pub advanced_more : (a b c : WorldValue) (x y z : List WorldEvent) → Advanced a x b y → Advanced b y c z → Advanced a x c z
-advanced_more a b c x y z f g = record { is_world = g.is_world; same_size = g.same_size ∙ f.same_size; same_run = g.same_run ∙ f.same_run; driven = λ start d. g.driven start (f.driven start d) }
+advanced_more a b c x y z f g = record {
+  is_world = g.is_world;
+  same_size = g.same_size ∙ f.same_size;
+  same_run = g.same_run ∙ f.same_run;
+  driven = λ start d. g.driven start (f.driven start d);
+}
 
+-- with no event at all a world is flushed, and nothing has changed
 pub flushed_none : (w : WorldValue) (events : List WorldEvent) → IsWorld w → Flushed w events w events
 flushed_none w events i = record { advanced = advanced_none w events i; keeps = flush_none w }
 
+-- one flush after another is a flush
 pub flushed_more : (a b c : WorldValue) (x y z : List WorldEvent) → Flushed a x b y → Flushed b y c z → Flushed a x c z
 flushed_more a b c x y z f g = record { advanced = advanced_more a b c x y z f.advanced g.advanced; keeps = flush_more a b c f.keeps g.keeps }
 
+-- with no event at all a world has listened, and nothing has changed
 pub listened_none : (w : WorldValue) (events : List WorldEvent) → IsWorld w → Listened w events w events
 listened_none w events i = record { advanced = advanced_none w events i; keeps = hear_none w }
 
+-- what is heard after other asks is heard with them
 pub listened_more : (a b c : WorldValue) (x y z : List WorldEvent) → Listened a x b y → Listened b y c z → Listened a x c z
 listened_more a b c x y z f g = record { advanced = advanced_more a b c x y z f.advanced g.advanced; keeps = hear_more a b c f.keeps g.keeps }
 
 -- ---- an event that is driven
 
+-- an event was refused, or it wasn't and its reply says so
 pub refused_or : (answer : Reply) → (answer ≡ reply.Refused) ⊎ ((answer ≢ reply.Refused) × (is_refused answer ≡ false))
 refused_or reply.Refused = inl refl
 refused_or reply.Moved = inr (λ e. cc, refl)
@@ -67,7 +81,8 @@ refused_or (reply.Restarted count) = inr (λ e. cc, refl)
 refused_or (reply.Released clock) = inr (λ e. cc, refl)
 
 -- a refused event leaves all as it was
-pub refused_same : (w : WorldValue) (event : WorldEvent) (answer : Reply) (w' : WorldValue) → answer ≡ reply.Refused → Follows w event answer w' → CanNot w event × (w' ≡ w)
+pub refused_same : (w : WorldValue) (event : WorldEvent) (answer : Reply) (w' : WorldValue) → answer ≡ reply.Refused → Follows w event answer w'
+    → CanNot w event × (w' ≡ w)
 refused_same w event answer w' e f = subst (λ z. Follows w event z w') e f
 
 -- an event of the way that leaves the run drives a world on
@@ -95,6 +110,7 @@ pub advanced_restart : (w : WorldValue) (events : List WorldEvent) (k : ℕ) (an
 advanced_restart w events k answer w' i f =
     advanced_by w events (Restart k) answer w' i tt (λ start d. tt) (λ ne. ap (λ z. z.run) (happened w (Restart k) answer w' ne f).after) f
 
+-- after its restart, refused or not, one rank more is live
 pub live_next : (w : WorldValue) (k : ℕ) (answer : Reply) (w' : WorldValue) → Follows w (Restart k) answer w' → LiveTo k w → LiveTo (k + 1) w'
 live_next w k answer w' f all = go (refused_or answer)
   where
@@ -110,11 +126,14 @@ put_index n (frame.Data p) = refl
 put_index n (frame.Ask from) = refl
 put_index n (frame.Kept upto) = refl
 
-pub put_none : (w : WorldValue) (events : List WorldEvent) (s d : ℕ) (answer : Reply) (w' : WorldValue) → IsWorld w → d < size w → Follows w (Put s d) answer w' → index_of answer ≡ None
+-- a put that answers with no index was refused or put nothing, so nothing goes to that destination
+pub put_none : (w : WorldValue) (events : List WorldEvent) (s d : ℕ) (answer : Reply) (w' : WorldValue) → IsWorld w → d < size w → Follows w (Put s d) answer w'
+    → index_of answer ≡ None
     → Flushed w events w' (listed events (Put s d) answer) × IsGone s d w'
 put_none w events s d answer w' i l f none = go (refused_or answer)
   where
-    go : (answer ≡ reply.Refused) ⊎ ((answer ≢ reply.Refused) × (is_refused answer ≡ false)) → Flushed w events w' (listed events (Put s d) answer) × IsGone s d w'
+    go : (answer ≡ reply.Refused) ⊎ ((answer ≢ reply.Refused) × (is_refused answer ≡ false))
+        → Flushed w events w' (listed events (Put s d) answer) × IsGone s d w'
     go (inr ne) =
         let h : PutFollows w s d answer w' = happened w (Put s d) answer w' ne.0 f in
         let q : Some (length h.frames) ≡ None = sym (put_index (length h.frames) h.frame) ∙ ap index_of (sym h.answered) ∙ none in
@@ -136,7 +155,8 @@ put_some w s d answer mid i f some = go (refused_or answer)
     one : (n : ℕ) → ◌≡◌ {A = Option ℕ} (Some n) (Some i) → i ≡ n
     one n q = cc
 
-    go : (answer ≡ reply.Refused) ⊎ ((answer ≢ reply.Refused) × (is_refused answer ≡ false)) → (f : PutFollows w s d answer mid) × (i ≡ length f.frames) × (is_refused answer ≡ false)
+    go : (answer ≡ reply.Refused) ⊎ ((answer ≢ reply.Refused) × (is_refused answer ≡ false))
+        → (f : PutFollows w s d answer mid) × (i ≡ length f.frames) × (is_refused answer ≡ false)
     go (inl e) = absurd (none (ap index_of (sym e) ∙ some))
     go (inr ne) =
         let h : PutFollows w s d answer mid = happened w (Put s d) answer mid ne.0 f in
@@ -156,7 +176,8 @@ put_there w s d answer mid f = (
 )
 
 -- one round: a frame is put and arrives
-pub round_flushed : (w : WorldValue) (events : List WorldEvent) (s d i : ℕ) (a : Reply) (mid : WorldValue) (b : Reply) (w' : WorldValue) → IsWorld w → AllLive w → d < size w
+pub round_flushed : (w : WorldValue) (events : List WorldEvent) (s d i : ℕ) (a : Reply) (mid : WorldValue) (b : Reply) (w' : WorldValue) → IsWorld w
+    → AllLive w → d < size w
     → Follows w (Put s d) a mid → index_of a ≡ Some i → Follows mid (Arrive s d i) b w'
     → Flushed w events w' (listed (listed events (Put s d) a) (Arrive s d i) b) × (outstanding_at s d w' < outstanding_at s d w)
 round_flushed w events s d i a mid b w' world all l f some g = (
@@ -238,7 +259,9 @@ emptied_later s d a b c x y f e = record { asks = e.asks; drained = λ n. e.drai
 
 -- ---- an Ask is heard
 
-pub listened_next : (w : WorldValue) (events : List WorldEvent) (r s i : ℕ) (frames : List Frame) (n : ℕ) (answer : Reply) (w' : WorldValue) → IsWorld w → AllLive w
+-- once the ask at the next index of a wire has arrived, one frame more of that wire is heard
+pub listened_next : (w : WorldValue) (events : List WorldEvent) (r s i : ℕ) (frames : List Frame) (n : ℕ) (answer : Reply) (w' : WorldValue)
+    → IsWorld w → AllLive w
     → r < size w → s < size w → IsWire w r s frames → slice_get frames i ≡ Some (frame.Ask n) → Follows w (Arrive r s i) answer w' → HeardTo i r s w
     → Listened w events w' (listed events (Arrive r s i) answer) × HeardTo (i + 1) r s w'
 listened_next w events r s i frames n answer w' world all lr ls wire there f heard = go (refused_or answer)
@@ -261,14 +284,16 @@ listened_next w events r s i frames n answer w' world all lr ls wire there f hea
         lists_one fs frames (slice_get wire.0 s) (ap (λ z. slice_get z s) (sym of) ∙ is.2) wire.2
 
     own : (start : WorldValue) → IsOwn start w (Arrive r s i)
-    own start p fs old is at was = absurd (data_one p (frames_one (frame.Data p) (frame.Ask n) (slice_get frames i) (ap (λ z. slice_get z i) (sym (same fs is)) ∙ at) there))
+    own start p fs old is at was =
+        absurd (data_one p (frames_one (frame.Data p) (frame.Ask n) (slice_get frames i) (ap (λ z. slice_get z i) (sym (same fs is)) ∙ at) there))
 
     go : (answer ≡ reply.Refused) ⊎ ((answer ≢ reply.Refused) × (is_refused answer ≡ false))
         → Listened w events w' (listed events (Arrive r s i) answer) × HeardTo (i + 1) r s w'
     go (inl e) = absurd ((refused_same w (Arrive r s i) answer w' e f).0 live.0 frames (frame.Ask n) live.1 wire there)
     go (inr ne) =
         let h : ArriveFollows w r s i answer w' = happened w (Arrive r s i) answer w' ne.0 f in
-        let is : h.frame ≡ frame.Ask n = frames_one h.frame (frame.Ask n) (slice_get frames i) (ap (λ z. slice_get z i) (sym (same h.frames h.wire)) ∙ h.there) there in (
+        let is : h.frame ≡ frame.Ask n =
+        frames_one h.frame (frame.Ask n) (slice_get frames i) (ap (λ z. slice_get z i) (sym (same h.frames h.wire)) ∙ h.there) there in (
           record {
             advanced = advanced_by w events (Arrive r s i) answer w' world tt (λ start d. own start) (λ q. ap (λ z. z.run) h.after) f;
             keeps = hear_keeps w r s i answer w' h n is world;
@@ -279,7 +304,8 @@ listened_next w events r s i frames n answer w' world all lr ls wire there f hea
 -- ---- what loops keep
 
 -- a rank starts again, or is live
-pub restart_next : (a b c : WorldValue) (x y z : List WorldEvent) (k j : ℕ) (answer : Reply) → j ≡ k → Advanced a x b y → LiveTo k b → Follows b (Restart j) answer c
+pub restart_next : (a b c : WorldValue) (x y z : List WorldEvent) (k j : ℕ) (answer : Reply) → j ≡ k → Advanced a x b y → LiveTo k b
+    → Follows b (Restart j) answer c
     → z ≡ listed y (Restart j) answer → Advanced a x c z × LiveTo (k + 1) c
 restart_next a b c x y z k j answer e f all g l = (
   advanced_more a b c x y z f (subst (λ q. Advanced b y c q) (sym l) (advanced_restart b y j answer c f.is_world g)),
@@ -287,7 +313,8 @@ restart_next a b c x y z k j answer e f all g l = (
 )
 
 -- one rank's frames after another's
-pub flush_next : (a b c : WorldValue) (x y z : List WorldEvent) (s k : ℕ) → Flushed a x b y → ((d : ℕ) → d < k → Emptied s d a b) → Flushed b y c z → Emptied s k b c
+pub flush_next : (a b c : WorldValue) (x y z : List WorldEvent) (s k : ℕ) → Flushed a x b y → ((d : ℕ) → d < k → Emptied s d a b) → Flushed b y c z
+    → Emptied s k b c
     → Flushed a x c z × ((d : ℕ) → d < k + 1 → Emptied s d a c)
 flush_next a b c x y z s k f all g e = (flushed_more a b c x y z f g, λ d l. go d l (cases_lt d k))
   where
@@ -295,7 +322,9 @@ flush_next a b c x y z s k f all g e = (flushed_more a b c x y z f g, λ d l. go
     go d l (inl m) = emptied_kept s d a b c y z (all d m) g
     go d l (inr m) = (let q : d ≡ k = omega (arith, l, m) in subst (λ h. Emptied s h a c) (sym q) (emptied_later s k a b c x y f e))
 
-pub flush_all_next : (a b c : WorldValue) (x y z : List WorldEvent) (k : ℕ) → Flushed a x b y → ((s d : ℕ) → s < k → d < size b → Emptied s d a b) → Flushed b y c z
+-- once all pairs of the next source are emptied, so are the pairs of one source more
+pub flush_all_next : (a b c : WorldValue) (x y z : List WorldEvent) (k : ℕ) → Flushed a x b y → ((s d : ℕ) → s < k → d < size b → Emptied s d a b)
+    → Flushed b y c z
     → ((d : ℕ) → d < size c → Emptied k d b c) → Flushed a x c z × ((s d : ℕ) → s < k + 1 → d < size c → Emptied s d a c)
 flush_all_next a b c x y z k f all g e = (flushed_more a b c x y z f g, λ s d l m. go s d l m (cases_lt s k))
   where
@@ -310,6 +339,7 @@ round_none w x z s s' d d' answer w' es ed i l f e none =
     subst (λ q. Flushed w x w' z × IsGone q d w') es (subst (λ q. Flushed w x w' z × IsGone s' q w') ed
     (subst (λ q. Flushed w x w' q × IsGone s' d' w') (sym e) (put_none w x s' d' answer w' i (omega (arith, l, ed)) f (sym none))))
 
+-- a frame that is put and arrives leaves less outstanding between its ranks
 pub round_some : (w : WorldValue) (x y z : List WorldEvent) (s d s1 d1 s2 d2 i : ℕ) (p q : Reply) (mid w' : WorldValue) → s1 ≡ s → d1 ≡ d → s2 ≡ s → d2 ≡ d
     → IsWorld w → AllLive w → d < size w → Follows w (Put s1 d1) p mid → y ≡ listed x (Put s1 d1) p → Some i ≡ index_of p → Follows mid (Arrive s2 d2 i) q w'
     → z ≡ listed y (Arrive s2 d2 i) q → Flushed w x w' z × (outstanding_at s d w' < outstanding_at s d w)
@@ -319,7 +349,8 @@ round_some w x y z s d s1 d1 s2 d2 i p q mid w' e1 e2 e3 e4 world all l f ey som
     let after_put : y ≡ listed x (Put s d) p = ey ∙ ap (λ h. listed x (Put h d1) p) e1 ∙ ap (λ h. listed x (Put s h) p) e2 in
     let after_come : z ≡ listed (listed x (Put s d) p) (Arrive s d i) q =
     ez ∙ ap (λ h. listed y (Arrive h d2 i) q) e3 ∙ ap (λ h. listed y (Arrive s h i) q) e4 ∙ ap (λ h. listed h (Arrive s d i) q) after_put in
-    subst (λ h. Flushed w x w' h × (outstanding_at s d w' < outstanding_at s d w)) (sym after_come) (round_flushed w x s d i p mid q w' world all l put (sym some) come)
+    subst (λ h. Flushed w x w' h × (outstanding_at s d w' < outstanding_at s d w)) (sym after_come)
+    (round_flushed w x s d i p mid q w' world all l put (sym some) come)
 
 -- the first of two facts, where a test passed
 pub where_true : (A B : Type 0) (b : Bool) → b ≡ true → MatchBool b A B → A
@@ -332,12 +363,14 @@ where_false A B true e m = absurd cc
 where_false A B false e m = m
 
 -- one frame of a wire after others: an Ask arrives, and another stays
-pub hear_ask : (a b c : WorldValue) (x y z : List WorldEvent) (r s r1 s1 i j n : ℕ) (frames : List Frame) (answer : Reply) → r1 ≡ r → s1 ≡ s → j ≡ i → AllLive a → r < size a
+pub hear_ask : (a b c : WorldValue) (x y z : List WorldEvent) (r s r1 s1 i j n : ℕ) (frames : List Frame) (answer : Reply) → r1 ≡ r → s1 ≡ s → j ≡ i
+    → AllLive a → r < size a
     → s < size a → Listened a x b y → HeardTo i r s b → IsWire a r s frames → slice_get frames i ≡ Some (frame.Ask n) → Follows b (Arrive r1 s1 j) answer c
     → z ≡ listed y (Arrive r1 s1 j) answer → Listened a x c z × HeardTo (i + 1) r s c
 hear_ask a b c x y z r s r1 s1 i j n frames answer e1 e2 e3 all lr ls f heard wire there g ez =
     let come : Follows b (Arrive r s i) answer c =
-    subst (λ h. Follows b (Arrive r s h) answer c) e3 (subst (λ h. Follows b (Arrive r h j) answer c) e2 (subst (λ h. Follows b (Arrive h s1 j) answer c) e1 g)) in
+    subst (λ h. Follows b (Arrive r s h) answer c) e3
+    (subst (λ h. Follows b (Arrive r h j) answer c) e2 (subst (λ h. Follows b (Arrive h s1 j) answer c) e1 g)) in
     let list : z ≡ listed y (Arrive r s i) answer =
     ez ∙ ap (λ h. listed y (Arrive h s1 j) answer) e1 ∙ ap (λ h. listed y (Arrive r h j) answer) e2 ∙ ap (λ h. listed y (Arrive r s h) answer) e3 in
     let n1 = f.advanced.same_size in

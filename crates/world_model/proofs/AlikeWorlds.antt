@@ -19,7 +19,9 @@ use Rattle.world_model.proofs.Likeness.{Was, alike_live, alike_size}
 
 -- ---- a rank on another shelf
 
-stands_shelf : (start : ℕ → State) (n : ℕ) (C : List Passed) (r : ℕ) (v : Live) (shelf : MemoryShelf) → RankStands start n C r v → RankStands start n C r (shelved v shelf)
+-- a rank stands where it stood in the run, whatever its shelf
+stands_shelf : (start : ℕ → State) (n : ℕ) (C : List Passed) (r : ℕ) (v : Live) (shelf : MemoryShelf) → RankStands start n C r v
+    → RankStands start n C r (shelved v shelf)
 stands_shelf start n C r v shelf k =
     record {
       number = k.number;
@@ -33,9 +35,11 @@ stands_shelf start n C r v shelf k =
       at = k.at;
     }
 
+-- images cover what a rank dropped, on whatever shelf it is
 covers_shelf : (images : List (Option ImageValue)) (r : ℕ) (v : Live) (shelf : MemoryShelf) → RankCovers images r v → RankCovers images r (shelved v shelf)
 covers_shelf images r v shelf k = record { bases = k.bases; dues = k.dues; since = k.since }
 
+-- a rank has counted the same events on another shelf
 counts_shelf : (v : Live) (shelf : MemoryShelf) (events : List EventValue) → RankCounts v events → RankCounts (shelved v shelf) events
 counts_shelf v shelf events k = record { made = k.made; few = k.few }
 
@@ -45,6 +49,7 @@ counts_shelf v shelf events k = record { made = k.made; few = k.few }
 abbrev moved : WorldValue → WorldValue → WorldValue
 moved a b = record a { ranks = b.ranks; logger = b.logger }
 
+-- of two worlds alike, the second is the first with its shelves and its logger's history replaced
 is_moved : (a b : WorldValue) → Alike a b → b ≡ moved a b
 is_moved a b k =
     ap (λ z. record { program = z; ranks = b.ranks; images = b.images; logger = b.logger; wires = b.wires; lines = b.lines; run = b.run }) k.program
@@ -62,6 +67,7 @@ on_live a b r v P k live f = let was = alike_live a b r v k live in subst P (sym
 row_is : (a b : WorldValue) (r : ℕ) (events : List EventValue) → Alike a b → slice_get b.logger.rows r ≡ Some events → slice_get a.logger.rows r ≡ Some events
 row_is a b r events k e = ap (λ z. slice_get z r) (sym k.rows) ∙ e
 
+-- ranks and images stand in the run where the shelves and the logger's history are those of a world alike
 stands_at : (a b : WorldValue) (n : ℕ) → Alike a b → StandsAt n a → StandsAt n (moved a b)
 stands_at a b n k s =
     record {
@@ -74,9 +80,11 @@ stands_at a b n k s =
       lines = s.lines;
       as_many_images = s.as_many_images;
       images = s.images;
-      ranks = λ r v live. on_live a b r v (λ z. RankStands (start_at a n) n a.run r z) k live (λ u shelf l. stands_shelf (start_at a n) n a.run r u shelf (s.ranks r u l));
+      ranks = λ r v live. on_live a b r v (λ z. RankStands (start_at a n) n a.run r z) k live
+          (λ u shelf l. stands_shelf (start_at a n) n a.run r u shelf (s.ranks r u l));
     }
 
+-- what senders may drop is the same there
 covers : (a b : WorldValue) → Alike a b → Covers a → Covers (moved a b)
 covers a b k c =
     record {
@@ -85,6 +93,7 @@ covers a b k c =
       ranks = λ r v live. on_live a b r v (λ z. RankCovers a.images r z) k live (λ u shelf l. covers_shelf a.images r u shelf (c.ranks r u l));
     }
 
+-- so is how many events each rank has made
 counts : (a b : WorldValue) → Alike a b → Counts a → Counts (moved a b)
 counts a b k c =
     record {
@@ -106,6 +115,7 @@ alike_ranks (x ∷ xs) (y ∷ ys) k = (one x y k.0, alike_ranks xs ys k.1)
     one (Some u) None k = absurd k
     one (Some u) (Some v) k = (k.0, ap plain k.1)
 
+-- worlds alike are alike when each event is of one act
 plain_alike : (a b : WorldValue) → Alike a b → Alike (without_runs a) (without_runs b)
 plain_alike a b k =
     record {
@@ -139,6 +149,7 @@ can_get_on a b r v shelf k o =
       asked = λ behind s l. o.asked behind s (subst (λ z. s < z) (alike_size a b k) l);
     }
 
+-- what ranks behind the run rely on holds in a world alike
 onward : (a b : WorldValue) → Alike a b → Onward a → Onward (moved a b)
 onward a b k o =
     record {

@@ -1,5 +1,6 @@
 -- Copies of a rank, of a seat and of all seats.
-use Rattle.std.proofs.Common.{◌≡◌, ℕ, ◌+◌, ◌<◌, zero, suc, List, [], ◌∷◌, ◌++◌, length, take, add-one, refl, sym, ap, subst, ◌∙◌, arith, Some, None, Option, slice_get}
+use Rattle.std.proofs.Common.{◌≡◌, ℕ, ◌+◌, ◌<◌, zero, suc, List, [], ◌∷◌, ◌++◌, length, take, add-one, refl, sym, ap, subst, ◌∙◌, arith, Some, None, Option}
+use Rattle.std.proofs.Common.{slice_get}
 use Rattle.std.specs.List.{AllZip}
 use Rattle.checkpoint.specs.Image.{ImageValue}
 use Rattle.checkpoint.specs.Shelf.{image_bytes}
@@ -25,12 +26,14 @@ own_copy : (program : ProgramValue) (r n : ℕ) (s : Stored MemoryShelf (Unit {0
     → IsOwn program r n s → IsOwn program r n (stored_with s tt shelf)
 own_copy program r n s shelf b k = record { rank = k.rank; size = k.size; reads = subst (λ z. Reads program r n z) (sym b) k.reads }
 
+-- a rank of a program is one of it on a shelf that holds the same image
 of_copy : (program : ProgramValue) (r n : ℕ) (v : Rank) (shelf : MemoryShelf) → image_bytes shelf.image ≡ shelf_of v.stable
     → IsOf program r n v → IsOf program r n (node_with v tt shelf)
 of_copy program r n v shelf b k = record { same_program = k.same_program; own = own_copy program r n v.stable shelf b k.own }
 
 -- a rank at work
-pub running_copy : (v c : Rank) (shelf : MemoryShelf) → image_bytes shelf.image ≡ shelf_of v.stable → c ≡ node_with v tt shelf → IsStateCopy (Running v) (Running c)
+pub running_copy : (v c : Rank) (shelf : MemoryShelf) → image_bytes shelf.image ≡ shelf_of v.stable → c ≡ node_with v tt shelf
+    → IsStateCopy (Running v) (Running c)
 running_copy v c shelf b e =
     subst (λ z. IsStateCopy (Running v) (Running z)) (sym e)
     (record { live = (shelf, refl); bytes = b; standing = λ program r n k. of_copy program r n v shelf b k; left = λ k. k })
@@ -43,11 +46,13 @@ replaying_copy v c shelf b e =
     (record { live = (shelf, refl); bytes = b; standing = λ program r n k. of_copy program r n v.node shelf b k; left = λ k. k })
 
 -- a rank that is down
-pub down_copy : (s c : Stored MemoryShelf (Unit {0})) (shelf : MemoryShelf) → image_bytes shelf.image ≡ shelf_of s → c ≡ stored_with s tt shelf → IsStateCopy (Down s) (Down c)
+pub down_copy : (s c : Stored MemoryShelf (Unit {0})) (shelf : MemoryShelf) → image_bytes shelf.image ≡ shelf_of s → c ≡ stored_with s tt shelf
+    → IsStateCopy (Down s) (Down c)
 down_copy s c shelf b e =
     subst (λ z. IsStateCopy (Down s) (Down z)) (sym e)
     (record { live = tt; bytes = b; standing = λ program r n k. own_copy program r n s shelf b k; left = λ k. k })
 
+-- an empty seat is a copy of an empty seat
 pub empty_copy : IsStateCopy Empty Empty
 empty_copy = record { live = tt; bytes = refl; standing = λ program r n k. k; left = λ k. k }
 
@@ -113,6 +118,7 @@ more (x ∷ xs) (d ∷ ds) zero s c e y a = absurd a
 more (x ∷ xs) [] (suc k) s c e y a = absurd a
 more (x ∷ xs) (d ∷ ds) (suc k) s c e y a = (a.0, more xs ds k s c e y a.1)
 
+-- one more seat is copied, behind the copies of those before it
 pub copy_more : (seats copies items : List SeatValue) (k : ℕ) (s c : SeatValue) → items ≡ copies ++ c ∷ [] → slice_get seats k ≡ Some s → IsSeatCopy s c
     → AllZip IsSeatCopy (take k seats) copies → AllZip IsSeatCopy (take (k + 1) seats) items
 copy_more seats copies items k s c is e y a =

@@ -202,7 +202,8 @@ noted_back C C' r count x n = ap (λ z. drop z C') n.as_many ∙ ap (λ z. drop 
   where
     back : (D : List Passed) (acts : List Act) → drop (length acts) (continue D r acts) ≡ D
     back D [] = drop_zero D
-    back D (a ∷ acts) = one (continue (record { rank = r; act = a } ∷ D) r acts) (length acts) (record { rank = r; act = a }) D (back (record { rank = r; act = a } ∷ D) acts)
+    back D (a ∷ acts) =
+        one (continue (record { rank = r; act = a } ∷ D) r acts) (length acts) (record { rank = r; act = a }) D (back (record { rank = r; act = a } ∷ D) acts)
       where
         one : (xs : List Passed) (k : ℕ) (x : Passed) (E : List Passed) → drop k xs ≡ x ∷ E → drop (suc k) xs ≡ E
         one [] zero x E e = absurd cc

@@ -1,5 +1,6 @@
 -- A world that is driven by one event more.
-use Rattle.std.proofs.Common.{◌≡◌, ◌≢◌, ℕ, ◌+◌, ◌<◌, ◌≤◌, ◌⊎◌, inl, inr, ⊎_elim, List, [], ◌∷◌, ◌++◌, Option, Some, None, Ok, length, refl, sym, ap, subst, ◌∙◌, arith, slice_get, slice_set}
+use Rattle.std.proofs.Common.{◌≡◌, ◌≢◌, ℕ, ◌+◌, ◌<◌, ◌≤◌, ◌⊎◌, inl, inr, ⊎_elim, List, [], ◌∷◌, ◌++◌, Option, Some, None, Ok, length, refl, sym, ap, subst, ◌∙◌}
+use Rattle.std.proofs.Common.{arith, slice_get, slice_set}
 use Rattle.std.proofs.lemmas.Bool.{cases_eq}
 use Rattle.std.proofs.lemmas.List.{length-set, length-append}
 use Rattle.std.proofs.lemmas.Option.{slice_get_within}
@@ -21,7 +22,8 @@ use Rattle.world_model.proofs.WayPlaces.{set_get_same, set_get_other}
 use Rattle.world_model.proofs.Likeness.{drove_push}
 
 -- an event that wasn't refused happened
-pub happened : (w : WorldValue) (event : WorldEvent) (answer : Reply) (w' : WorldValue) → answer ≢ reply.Refused → Follows w event answer w' → Happens w event answer w'
+pub happened : (w : WorldValue) (event : WorldEvent) (answer : Reply) (w' : WorldValue) → answer ≢ reply.Refused → Follows w event answer w'
+    → Happens w event answer w'
 happened w event reply.Refused w' ne f = absurd (ne refl)
 happened w event reply.Moved w' ne f = f
 happened w event reply.Blocked w' ne f = f
@@ -47,6 +49,7 @@ world_after w event answer w' i f = record { stands = stands_after w event answe
 
 -- ---- sizes
 
+-- a used event leaves as many ranks
 pub size_after : (w : WorldValue) (event : WorldEvent) (answer : Reply) (w' : WorldValue) → IsUsed event → Happens w event answer w' → size w' ≡ size w
 size_after w (Step r) answer w' used (inl f) = ap (λ z. length z.ranks) f.after ∙ length-set w.ranks r _
 size_after w (Step r) answer w' used (inr f) = ap (λ z. length z.ranks) f.after ∙ length-set w.ranks r _
@@ -61,12 +64,15 @@ size_after w (Release r) answer w' used f = absurd used
 
 -- ---- wires
 
+-- one place holds one list
 lists_one : {A : Type 0} (x y : List A) (o : Option (List A)) → o ≡ Some x → o ≡ Some y → x ≡ y
 lists_one x y o e f = cc
 
+-- wires that stay as they are hold what they held at the start
 same_longer : (start w w' : WorldValue) → w'.wires ≡ w.wires → AreLonger start w → AreLonger start w'
 same_longer start w w' e l s d old frames was is = l s d old frames was (is.0, ap (λ z. slice_get z s) (sym e) ∙ is.1, is.2)
 
+-- a frame put on its wire leaves in front of it what the wire held at the start
 put_longer : (start w : WorldValue) (s d : ℕ) (answer : Reply) (w' : WorldValue) → PutFollows w s d answer w' → AreLonger start w → AreLonger start w'
 put_longer start w s d answer w' f l q k old frames was is = go (cases_eq q s)
   where
@@ -74,12 +80,18 @@ put_longer start w s d answer w' f l q k old frames was is = go (cases_eq q s)
     after = ap (λ z. z.wires) f.after
 
     go : (q ≡ s) ⊎ (q ≡ s → ⊥) → length old ≤ length frames
-    go (inr ne) = l q k old frames was (is.0, sym (set_get_other w.wires s q (slice_set f.of_s d (f.frames ++ f.frame ∷ [])) ne) ∙ ap (λ z. slice_get z q) (sym after) ∙ is.1, is.2)
+    go (inr ne) = l q k old frames was (
+      is.0,
+      sym (set_get_other w.wires s q (slice_set f.of_s d (f.frames ++ f.frame ∷ [])) ne)
+          ∙ ap (λ z. slice_get z q) (sym after) ∙ is.1,
+      is.2,
+    )
     go (inl e) = here (cases_eq k d)
       where
         of : is.0 ≡ slice_set f.of_s d (f.frames ++ f.frame ∷ [])
         of = lists_one is.0 (slice_set f.of_s d (f.frames ++ f.frame ∷ [])) (slice_get w'.wires q) is.1
-            (ap (λ z. slice_get w'.wires z) e ∙ ap (λ z. slice_get z s) after ∙ set_get_same w.wires s f.of_s (slice_set f.of_s d (f.frames ++ f.frame ∷ [])) f.wires)
+            (ap (λ z. slice_get w'.wires z) e ∙ ap (λ z. slice_get z s) after
+            ∙ set_get_same w.wires s f.of_s (slice_set f.of_s d (f.frames ++ f.frame ∷ [])) f.wires)
 
         here : (k ≡ d) ⊎ (k ≡ d → ⊥) → length old ≤ length frames
         here (inr ne) =
@@ -90,13 +102,16 @@ put_longer start w s d answer w' f l q k old frames was is = go (cases_eq q s)
             )
         here (inl j) =
             let new : frames ≡ f.frames ++ f.frame ∷ [] =
-            lists_one frames (f.frames ++ f.frame ∷ []) (slice_get is.0 k) is.2 (ap (λ z. slice_get is.0 z) j ∙ ap (λ z. slice_get z d) of ∙ set_get_same f.of_s d f.frames (f.frames ++ f.frame ∷ []) f.wire) in
+            lists_one frames (f.frames ++ f.frame ∷ []) (slice_get is.0 k) is.2
+            (ap (λ z. slice_get is.0 z) j ∙ ap (λ z. slice_get z d) of ∙ set_get_same f.of_s d f.frames (f.frames ++ f.frame ∷ []) f.wire) in
             let before = l q k old f.frames was (f.of_s, ap (λ z. slice_get w.wires z) e ∙ f.wires, ap (λ z. slice_get f.of_s z) j ∙ f.wire) in
             let a = ap length new in
             let b = length-append f.frames (f.frame ∷ []) in
             omega (arith, before, a, b)
 
-longer_after : (start w : WorldValue) (event : WorldEvent) (answer : Reply) (w' : WorldValue) → IsUsed event → Happens w event answer w' → AreLonger start w → AreLonger start w'
+-- after any used event the wires still begin with what they held at the start
+longer_after : (start w : WorldValue) (event : WorldEvent) (answer : Reply) (w' : WorldValue) → IsUsed event → Happens w event answer w' → AreLonger start w
+    → AreLonger start w'
 longer_after start w (Step r) answer w' used (inl f) l = same_longer start w w' (ap (λ z. z.wires) f.after) l
 longer_after start w (Step r) answer w' used (inr f) l = same_longer start w w' (ap (λ z. z.wires) f.after) l
 longer_after start w (Put s d) answer w' used f l = put_longer start w s d answer w' f l
@@ -110,7 +125,9 @@ longer_after start w (Release r) answer w' used f l = absurd used
 
 -- ---- one event more
 
-pub driven_push : (start : WorldValue) (events : List WorldEvent) (w : WorldValue) (event : WorldEvent) (answer : Reply) (w' : WorldValue) → Driven start events w
+-- one more event that is the list's own drives on a world that was driven by a list
+pub driven_push : (start : WorldValue) (events : List WorldEvent) (w : WorldValue) (event : WorldEvent) (answer : Reply) (w' : WorldValue)
+    → Driven start events w
     → IsUsed event → IsOwn start w event → answer ≢ reply.Refused → Follows w event answer w' → w'.run ≡ w.run → Driven start (events ++ event ∷ []) w'
 driven_push start events w event answer w' d used own ne f run =
     let h = happened w event answer w' ne f in
@@ -126,5 +143,7 @@ driven_push start events w event answer w' d used own ne f run =
 
 -- ---- a frame that was put is the list's own
 
-pub put_own : (start w : WorldValue) (s d : ℕ) (answer : Reply) (mid : WorldValue) (f : PutFollows w s d answer mid) → AreLonger start w → IsOwn start mid (Arrive s d (length f.frames))
+-- a frame that was just put stands behind what its wire held at the start, so its arrival is the list's own
+pub put_own : (start w : WorldValue) (s d : ℕ) (answer : Reply) (mid : WorldValue) (f : PutFollows w s d answer mid) → AreLonger start w
+    → IsOwn start mid (Arrive s d (length f.frames))
 put_own start w s d answer mid f l p frames old is there was = l s d old f.frames was (f.of_s, f.wires, f.wire)

@@ -1,5 +1,6 @@
 -- Asks that arrive: they keep what holds, and once each Ask on the wires was heard no rank behind the run is passed by.
-use Rattle.std.proofs.Common.{◌≡◌, ℕ, zero, suc, ◌+◌, ◌<◌, ◌≤◌, ◌⊎◌, inl, inr, ⊎_elim, max, min, List, [], ◌∷◌, Option, Some, None, length, refl, sym, ap, subst, ◌∙◌, arith, slice_get, slice_set}
+use Rattle.std.proofs.Common.{◌≡◌, ℕ, zero, suc, ◌+◌, ◌<◌, ◌≤◌, ◌⊎◌, inl, inr, ⊎_elim, max, min, List, [], ◌∷◌, Option, Some, None, length, refl, sym, ap}
+use Rattle.std.proofs.Common.{subst, ◌∙◌, arith, slice_get, slice_set}
 use Rattle.std.proofs.lemmas.Bool.{cases_lt, cases_eq}
 use Rattle.std.proofs.lemmas.Option.{slice_get_within}
 use Rattle.matching.specs.Inbox.{accepted_from}
@@ -40,9 +41,11 @@ asked_base (b ∷ log) zero (suc q) n = refl
 asked_base (b ∷ log) (suc r) zero n = refl
 asked_base (b ∷ log) (suc r) (suc q) n = asked_base log r q n
 
+-- a cursor that isn't beyond what its receiver asked for isn't so after another ask
 lower : (b : BacklogValue) (n from : ℕ) → b.cursor ≤ max (b.base + 1) from → (asked b n).cursor ≤ max ((asked b n).base + 1) from
 lower b n from l = omega (arith, l)
 
+-- an ask of one rank leaves every cursor of a log that wasn't beyond what was asked for so
 asked_cursor : (log : List BacklogValue) (r q n from : ℕ) → (backlog log q).cursor ≤ max ((backlog log q).base + 1) from
     → (backlog (slice_set log r (asked (backlog log r) n)) q).cursor ≤ max ((backlog (slice_set log r (asked (backlog log r) n)) q).base + 1) from
 asked_cursor [] r q n from l = l
@@ -55,21 +58,25 @@ asked_cursor (b ∷ log) (suc r) (suc q) n from l = asked_cursor log r q n from 
 reached : (b : BacklogValue) (n : ℕ) → (asked b n).cursor ≤ max ((asked b n).base + 1) n
 reached b n = omega arith
 
+-- the cursor to a rank that asked isn't beyond what it asked for
 asked_reached : (log : List BacklogValue) (r n : ℕ) → r < length log
     → (backlog (slice_set log r (asked (backlog log r) n)) r).cursor ≤ max ((backlog (slice_set log r (asked (backlog log r) n)) r).base + 1) n
 asked_reached [] r n l = absurd (omega (arith, l))
 asked_reached (b ∷ log) zero n l = reached b n
 asked_reached (b ∷ log) (suc r) n l = asked_reached log r n (omega (arith, l))
 
+-- one place holds one list
 lists_one : {A : Type 0} (x y : List A) (o : Option (List A)) → o ≡ Some x → o ≡ Some y → x ≡ y
 lists_one x y o e f = cc
 
+-- one pair of ranks has one wire
 pub same_wire : (w : WorldValue) (r s : ℕ) (x y : List Frame) → IsWire w r s x → IsWire w r s y → y ≡ x
 same_wire w r s x y f g =
     let of : g.0 ≡ f.0 = lists_one g.0 f.0 (slice_get w.wires r) g.1 f.1 in
     lists_one y x (slice_get f.0 s) (ap (λ z. slice_get z s) (sym of) ∙ g.2) f.2
 
-module _ (w : WorldValue) (r s i : ℕ) (answer : Reply) (w' : WorldValue) (f : ArriveFollows w r s i answer w') (n : ℕ) (is : f.frame ≡ frame.Ask n) (world : IsWorld w) where
+module _ (w : WorldValue) (r s i : ℕ) (answer : Reply) (w' : WorldValue) (f : ArriveFollows w r s i answer w') (n : ℕ) (is : f.frame ≡ frame.Ask n)
+    (world : IsWorld w) where
   abbrev y : Live
   y = record { rank = with_log f.before.rank (slice_set f.before.rank.log r (asked (backlog f.before.rank.log r) n)); left = f.before.left }
 
@@ -165,7 +172,8 @@ heard_all w r s frames wire h k i from fs u l wire2 there live =
     h i from fs u (omega (arith, within, e)) wire2 there live
 
 -- Where each rank has asked each, and each Ask on the wires was heard, no rank behind the run is passed by.
-pub heard_no_gaps : (w : WorldValue) → IsWorld w → ((r s : ℕ) → r < size w → s < size w → NoAskDue r s w) → ((r s : ℕ) → r < size w → s < size w → Heard r s w) → NoGaps w
+pub heard_no_gaps : (w : WorldValue) → IsWorld w → ((r s : ℕ) → r < size w → s < size w → NoAskDue r s w)
+    → ((r s : ℕ) → r < size w → s < size w → Heard r s w) → NoGaps w
 heard_no_gaps w world asks heard s d u v ok lu lv behind =
     let ls = slice_get_within w.ranks s (Some u) lu in
     let ld = slice_get_within w.ranks d (Some v) lv in

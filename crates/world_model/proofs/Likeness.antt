@@ -1,6 +1,7 @@
 -- Two worlds that are alike stay so: an event of the way that happens in both leaves them alike, and where it can't happen in
 -- the one it can't in the other. So however a world goes through a list by which one like it was driven, the list leads it on.
-use Rattle.std.proofs.Common.{◌≡◌, ℕ, zero, suc, ◌+◌, ◌<◌, ◌≤◌, ◌⊎◌, inl, inr, ⊎_elim, List, [], ◌∷◌, ◌++◌, Option, Some, None, Ok, length, refl, sym, ap, subst, ◌∙◌, arith, slice_get, slice_set}
+use Rattle.std.proofs.Common.{◌≡◌, ℕ, zero, suc, ◌+◌, ◌<◌, ◌≤◌, ◌⊎◌, inl, inr, ⊎_elim, List, [], ◌∷◌, ◌++◌, Option, Some, None, Ok, length, refl, sym, ap}
+use Rattle.std.proofs.Common.{subst, ◌∙◌, arith, slice_get, slice_set}
 use Rattle.checkpoint.specs.Image.{ImageValue}
 use Rattle.checkpoint.specs.declared.memory_shelf.MemoryShelf.{MemoryShelf}
 use Rattle.matching.specs.PacketValue as packet
@@ -23,28 +24,34 @@ use Rattle.world_model.specs.declared.reply.Reply.{Reply}
 use Rattle.crash_free.specs.Runs.{Passed, history}
 use Rattle.world_model.specs.World.{Rank, Live, WorldValue, size, IsLive, IsDown, IsWire}
 use Rattle.world_model.specs.Headline.{stable_of}
-use Rattle.world_model.specs.Follows.{effect_at, lines_after, passed_at, after_turn, CanNot, Happens, StepFollows, ReplayFollows, PutFollows, ArriveFollows, RestartFollows}
+use Rattle.world_model.specs.Follows.{effect_at, lines_after, passed_at, after_turn, CanNot, Happens, StepFollows, ReplayFollows, PutFollows, ArriveFollows}
+use Rattle.world_model.specs.Follows.{RestartFollows}
 use Rattle.world_model.specs.Way.{IsOwn, CaughtUp, LeadsOn, IsWayOn}
 use Rattle.world_model.specs.Driven.{on_shelf, shelved, IsAlike, AreAlike, Alike, IsUsed, Drove, Driven}
-use Rattle.world_model.proofs.Alike.{step_one, replay_one, step_shelf, replay_shelf, turn_shelf, replay_turn_shelf, refusal_shelf, stepped_shelf, replayed_shelf, effect_shelf, lines_shelf, sent_shelf, frame_shelf}
+use Rattle.world_model.proofs.Alike.{step_one, replay_one, step_shelf, replay_shelf, turn_shelf, replay_turn_shelf, refusal_shelf, stepped_shelf}
+use Rattle.world_model.proofs.Alike.{replayed_shelf, effect_shelf, lines_shelf, sent_shelf, frame_shelf}
 
 -- ---- ranks that are alike
 
 -- what stands in the one stands in the other
-alike_at : (xs ys : List (Option Live)) (r : ℕ) (y : Option Live) → AreAlike xs ys → slice_get ys r ≡ Some y → (x : Option Live) × (slice_get xs r ≡ Some x) × IsAlike x y
+alike_at : (xs ys : List (Option Live)) (r : ℕ) (y : Option Live) → AreAlike xs ys → slice_get ys r ≡ Some y
+    → (x : Option Live) × (slice_get xs r ≡ Some x) × IsAlike x y
 alike_at [] [] r y a e = absurd cc
 alike_at [] (z ∷ ys) r y a e = absurd a
 alike_at (x ∷ xs) [] r y a e = absurd a
 alike_at (x ∷ xs) (z ∷ ys) zero y a e = (x, refl, (let q : z ≡ y = cc in subst (λ k. IsAlike x k) q a.0))
 alike_at (x ∷ xs) (z ∷ ys) (suc r) y a e = alike_at xs ys r y a.1 e
 
-alike_to : (xs ys : List (Option Live)) (r : ℕ) (x : Option Live) → AreAlike xs ys → slice_get xs r ≡ Some x → (y : Option Live) × (slice_get ys r ≡ Some y) × IsAlike x y
+-- what stands at a place of the first list has its like at that place of the second
+alike_to : (xs ys : List (Option Live)) (r : ℕ) (x : Option Live) → AreAlike xs ys → slice_get xs r ≡ Some x
+    → (y : Option Live) × (slice_get ys r ≡ Some y) × IsAlike x y
 alike_to [] [] r x a e = absurd cc
 alike_to [] (z ∷ ys) r x a e = absurd a
 alike_to (z ∷ xs) [] r x a e = absurd a
 alike_to (z ∷ xs) (y ∷ ys) zero x a e = (y, refl, (let q : z ≡ x = cc in subst (λ k. IsAlike k y) q a.0))
 alike_to (z ∷ xs) (y ∷ ys) (suc r) x a e = alike_to xs ys r x a.1 e
 
+-- lists of ranks stay alike where the same place of both is set to ranks alike
 alike_set : (xs ys : List (Option Live)) (r : ℕ) (x y : Option Live) → AreAlike xs ys → IsAlike x y → AreAlike (slice_set xs r x) (slice_set ys r y)
 alike_set [] [] r x y a b = tt
 alike_set [] (z ∷ ys) r x y a b = absurd a
@@ -52,12 +59,14 @@ alike_set (z ∷ xs) [] r x y a b = absurd a
 alike_set (z ∷ xs) (k ∷ ys) zero x y a b = (b, a.1)
 alike_set (z ∷ xs) (k ∷ ys) (suc r) x y a b = (a.0, alike_set xs ys r x y a.1 b)
 
+-- lists alike are as long
 pub alike_length : (xs ys : List (Option Live)) → AreAlike xs ys → length ys ≡ length xs
 alike_length [] [] a = refl
 alike_length [] (y ∷ ys) a = absurd a
 alike_length (x ∷ xs) [] a = absurd a
 alike_length (x ∷ xs) (y ∷ ys) a = ap suc (alike_length xs ys a.1)
 
+-- worlds alike have as many ranks
 pub alike_size : (a b : WorldValue) → Alike a b → size b ≡ size a
 alike_size a b k = alike_length a.ranks b.ranks k.ranks
 
@@ -68,6 +77,7 @@ pub record Was (a : WorldValue) (r : ℕ) (v : Live) : Type 0 where
   pub shelf : MemoryShelf
   pub same : v ≡ shelved rank shelf
 
+-- a rank that is live in the second world is in the first the same on another shelf
 pub alike_live : (a b : WorldValue) (r : ℕ) (v : Live) → Alike a b → IsLive b r v → Was a r v
 alike_live a b r v k live = go (alike_at a.ranks b.ranks r (Some v) k.ranks live)
   where
@@ -89,6 +99,7 @@ alike_live_to a b r u k live = go (alike_to a.ranks b.ranks r (Some u) k.ranks l
     go : (y : Option Live) × (slice_get b.ranks r ≡ Some y) × IsAlike (Some u) y → (shelf : MemoryShelf) × IsLive b r (shelved u shelf)
     go f = of f.0 f.1 f.2
 
+-- a rank that is down in the second world is down in the first
 alike_down : (a b : WorldValue) (r : ℕ) → Alike a b → IsDown b r → IsDown a r
 alike_down a b r k down = go (alike_at a.ranks b.ranks r None k.ranks down)
   where
@@ -126,9 +137,11 @@ turn_alike a b r u shelf t x y left k e =
           ∙ ap (λ z. passed_at z r (u.rank.clock + 1) (effect_at u.rank (machine_want u.rank.machine) t)) k.run;
     }
 
+-- worlds that are equal to worlds alike are alike
 same_alike : (a b a' b' c d : WorldValue) → a' ≡ c → b' ≡ d → Alike c d → Alike a' b'
 same_alike a b a' b' c d e f k = subst (λ z. Alike z b') (sym e) (subst (λ z. Alike c z) (sym f) k)
 
+-- a step of a rank at work leaves worlds alike
 steps_alike : (a b : WorldValue) (r : ℕ) (x y : Reply) (a' b' : WorldValue) → Alike a b → StepFollows a r x a' → StepFollows b r y b' → Alike a' b'
 steps_alike a b r x y a' b' k f g = go (alike_live a b r g.before k g.live)
   where
@@ -138,17 +151,20 @@ steps_alike a b r x y a' b' k f g = go (alike_live a b r g.before k g.live)
         let same : g.before ≡ shelved u was.shelf = was.same ∙ ap (λ z. shelved z was.shelf) (one_rank a.ranks r u was.rank f.live was.live) in
         let did : MachineStep (on_shelf u.rank was.shelf) g.machine = subst (λ z. MachineStep z.rank g.machine) same g.steps in
         let machine : g.machine ≡ f.machine =
-        step_one u.rank (machine_want u.rank.machine) f.machine g.machine refl f.steps (step_shelf u.rank was.shelf (machine_want u.rank.machine) g.machine did) in
+        step_one u.rank (machine_want u.rank.machine) f.machine g.machine refl f.steps
+        (step_shelf u.rank was.shelf (machine_want u.rank.machine) g.machine did) in
         let after : b' ≡ after_turn b r (shelved u was.shelf) (turn_of (on_shelf u.rank was.shelf)) (after_step (on_shelf u.rank was.shelf) g.machine) [] =
         g.after ∙ ap (λ z. after_turn b r z (turn_of z.rank) (after_step z.rank g.machine) []) same in
         let turn : b' ≡ after_turn b r (shelved u was.shelf) (turn_of u.rank) (after_step (on_shelf u.rank was.shelf) g.machine) [] =
-        after ∙ ap (λ z. after_turn b r (shelved u was.shelf) z (after_step (on_shelf u.rank was.shelf) g.machine) []) (turn_shelf u.rank was.shelf (machine_want u.rank.machine)) in
+        after ∙ ap (λ z. after_turn b r (shelved u was.shelf) z (after_step (on_shelf u.rank was.shelf) g.machine) [])
+        (turn_shelf u.rank was.shelf (machine_want u.rank.machine)) in
         let rank : after_step (on_shelf u.rank was.shelf) g.machine ≡ on_shelf (after_step u.rank f.machine) was.shelf =
         ap (λ z. after_step (on_shelf u.rank was.shelf) z) machine ∙ stepped_shelf u.rank was.shelf (machine_want u.rank.machine) f.machine in
         same_alike a b a' b' (after_turn a r u (turn_of u.rank) (after_step u.rank f.machine) [])
         (after_turn b r (shelved u was.shelf) (turn_of u.rank) (after_step (on_shelf u.rank was.shelf) g.machine) []) f.after turn
         (turn_alike a b r u was.shelf (turn_of u.rank) (after_step u.rank f.machine) (after_step (on_shelf u.rank was.shelf) g.machine) [] k rank)
 
+-- a replayed step leaves worlds alike
 replays_alike : (a b : WorldValue) (r : ℕ) (x y : Reply) (a' b' : WorldValue) → Alike a b → ReplayFollows a r x a' → ReplayFollows b r y b' → Alike a' b'
 replays_alike a b r x y a' b' k f g = go (alike_live a b r g.before k g.live)
   where
@@ -161,23 +177,34 @@ replays_alike a b r x y a' b' k f g = go (alike_live a b r g.before k g.live)
         let s = was.shelf in
         let same : g.before ≡ shelved u s = was.same ∙ ap (λ z. shelved z s) (one_rank a.ranks r u was.rank f.live was.live) in
         let left = first f.event g.event f.rest g.rest (sym g.replaying ∙ ap (λ z. z.left) same ∙ f.replaying) in
-        let did : ReplayStep (on_shelf u.rank s) f.event g.machine = subst (λ z. ReplayStep (on_shelf u.rank s) z g.machine) left.0 (subst (λ z. ReplayStep z.rank g.event g.machine) same g.steps) in
+        let did : ReplayStep (on_shelf u.rank s) f.event g.machine =
+        subst (λ z. ReplayStep (on_shelf u.rank s) z g.machine) left.0 (subst (λ z. ReplayStep z.rank g.event g.machine) same g.steps) in
         let machine : g.machine ≡ f.machine =
-        replay_one u.rank f.event (machine_want u.rank.machine) f.machine g.machine refl f.steps (replay_shelf u.rank s f.event (machine_want u.rank.machine) g.machine did) in
+        replay_one u.rank f.event (machine_want u.rank.machine) f.machine g.machine refl f.steps
+        (replay_shelf u.rank s f.event (machine_want u.rank.machine) g.machine did) in
         let turned : Ok g.turn ≡ Ok f.turn =
         sym g.turned ∙ ap (λ z. replay_turn_of z.rank g.event) same ∙ ap (λ z. replay_turn_of (on_shelf u.rank s) z) left.0
         ∙ replay_turn_shelf u.rank s f.event (machine_want u.rank.machine) ∙ f.turned in
         let turn : g.turn ≡ f.turn = cc in
-        let after : b' ≡ after_turn b r (shelved u s) g.turn (after_replay (on_shelf u.rank s) g.event g.machine) (left_after u.rank (machine_want u.rank.machine) g.turn g.event g.rest) =
-        g.after ∙ ap (λ z. after_turn b r z g.turn (after_replay z.rank g.event g.machine) (left_after z.rank (machine_want z.rank.machine) g.turn g.event g.rest)) same in
-        let at : b' ≡ after_turn b r (shelved u s) f.turn (after_replay (on_shelf u.rank s) f.event f.machine) (left_after u.rank (machine_want u.rank.machine) f.turn f.event f.rest) =
+        let after : b' ≡ after_turn b r (shelved u s) g.turn (after_replay (on_shelf u.rank s) g.event g.machine)
+        (left_after u.rank (machine_want u.rank.machine) g.turn g.event g.rest) =
+        g.after ∙ ap
+        (λ z. after_turn b r z g.turn (after_replay z.rank g.event g.machine) (left_after z.rank (machine_want z.rank.machine) g.turn g.event g.rest)) same in
+        let at : b' ≡ after_turn b r (shelved u s) f.turn (after_replay (on_shelf u.rank s) f.event f.machine)
+        (left_after u.rank (machine_want u.rank.machine) f.turn f.event f.rest) =
         after
-        ∙ ap (λ z. after_turn b r (shelved u s) z (after_replay (on_shelf u.rank s) g.event g.machine) (left_after u.rank (machine_want u.rank.machine) z g.event g.rest)) turn
-        ∙ ap (λ z. after_turn b r (shelved u s) f.turn (after_replay (on_shelf u.rank s) g.event z) (left_after u.rank (machine_want u.rank.machine) f.turn g.event g.rest)) machine
-        ∙ ap (λ z. after_turn b r (shelved u s) f.turn (after_replay (on_shelf u.rank s) z f.machine) (left_after u.rank (machine_want u.rank.machine) f.turn z g.rest)) left.0
-        ∙ ap (λ z. after_turn b r (shelved u s) f.turn (after_replay (on_shelf u.rank s) f.event f.machine) (left_after u.rank (machine_want u.rank.machine) f.turn f.event z)) left.1 in
-        same_alike a b a' b' (after_turn a r u f.turn (after_replay u.rank f.event f.machine) (left_after u.rank (machine_want u.rank.machine) f.turn f.event f.rest))
-        (after_turn b r (shelved u s) f.turn (after_replay (on_shelf u.rank s) f.event f.machine) (left_after u.rank (machine_want u.rank.machine) f.turn f.event f.rest)) f.after at
+        ∙ ap (λ z. after_turn b r (shelved u s) z (after_replay (on_shelf u.rank s) g.event g.machine)
+        (left_after u.rank (machine_want u.rank.machine) z g.event g.rest)) turn
+        ∙ ap (λ z. after_turn b r (shelved u s) f.turn (after_replay (on_shelf u.rank s) g.event z)
+        (left_after u.rank (machine_want u.rank.machine) f.turn g.event g.rest)) machine
+        ∙ ap (λ z. after_turn b r (shelved u s) f.turn (after_replay (on_shelf u.rank s) z f.machine)
+        (left_after u.rank (machine_want u.rank.machine) f.turn z g.rest)) left.0
+        ∙ ap (λ z. after_turn b r (shelved u s) f.turn (after_replay (on_shelf u.rank s) f.event f.machine)
+        (left_after u.rank (machine_want u.rank.machine) f.turn f.event z)) left.1 in
+        same_alike a b a' b'
+        (after_turn a r u f.turn (after_replay u.rank f.event f.machine) (left_after u.rank (machine_want u.rank.machine) f.turn f.event f.rest))
+        (after_turn b r (shelved u s) f.turn (after_replay (on_shelf u.rank s) f.event f.machine)
+        (left_after u.rank (machine_want u.rank.machine) f.turn f.event f.rest)) f.after at
         (turn_alike a b r u s f.turn (after_replay u.rank f.event f.machine) (after_replay (on_shelf u.rank s) f.event f.machine)
         (left_after u.rank (machine_want u.rank.machine) f.turn f.event f.rest) k (replayed_shelf u.rank s f.event (machine_want u.rank.machine) f.machine))
 
@@ -187,23 +214,30 @@ left_alike a b r u v k lu lv =
     let was = alike_live a b r v k lv in
     ap (λ z. z.left) was.same ∙ ap (λ z. z.left) (one_rank a.ranks r u was.rank lu was.live)
 
+-- an empty list of events has no first one
 none_some : (e : EventValue) (rest : List EventValue) → ◌≡◌ {A = List EventValue} [] (e ∷ rest) → ⊥
 none_some e rest q = cc
 
+-- a step leaves worlds alike, at work or in replay
 step_alike : (a b : WorldValue) (r : ℕ) (x y : Reply) (a' b' : WorldValue) → Alike a b → Happens a (Step r) x a' → Happens b (Step r) y b' → Alike a' b'
 step_alike a b r x y a' b' k (inl f) (inl g) = steps_alike a b r x y a' b' k f g
 step_alike a b r x y a' b' k (inr f) (inr g) = replays_alike a b r x y a' b' k f g
-step_alike a b r x y a' b' k (inl f) (inr g) = absurd (none_some g.event g.rest (sym f.running ∙ sym (left_alike a b r f.before g.before k f.live g.live) ∙ g.replaying))
-step_alike a b r x y a' b' k (inr f) (inl g) = absurd (none_some f.event f.rest (sym g.running ∙ left_alike a b r f.before g.before k f.live g.live ∙ f.replaying))
+step_alike a b r x y a' b' k (inl f) (inr g) =
+    absurd (none_some g.event g.rest (sym f.running ∙ sym (left_alike a b r f.before g.before k f.live g.live) ∙ g.replaying))
+step_alike a b r x y a' b' k (inr f) (inl g) =
+    absurd (none_some f.event f.rest (sym g.running ∙ left_alike a b r f.before g.before k f.live g.live ∙ f.replaying))
 
 -- ---- frames
 
+-- one place holds one list
 lists_one : {A : Type 0} (x y : List A) (o : Option (List A)) → o ≡ Some x → o ≡ Some y → x ≡ y
 lists_one x y o e f = cc
 
+-- one place holds one frame
 frames_one : (x y : Frame) (o : Option Frame) → o ≡ Some x → o ≡ Some y → x ≡ y
 frames_one x y o e f = cc
 
+-- a put leaves worlds alike
 put_alike : (a b : WorldValue) (s d : ℕ) (x y : Reply) (a' b' : WorldValue) → Alike a b → PutFollows a s d x a' → PutFollows b s d y b' → Alike a' b'
 put_alike a b s d x y a' b' k f g = go (alike_live a b s g.before k g.live)
   where
@@ -225,12 +259,14 @@ put_alike a b s d x y a' b' k f g = go (alike_live a b s g.before k g.live)
           ranks =
               subst (λ z. AreAlike z b'.ranks) (sym ranks_a)
               (subst (λ z. AreAlike (slice_set a.ranks s (Some (record { rank = after_passed u.rank d; left = u.left }))) z) (sym ranks)
-              (alike_set a.ranks b.ranks s (Some (record { rank = after_passed u.rank d; left = u.left })) (Some (shelved (record { rank = after_passed u.rank d; left = u.left }) h)) k.ranks (h, refl)));
+              (alike_set a.ranks b.ranks s (Some (record { rank = after_passed u.rank d; left = u.left }))
+              (Some (shelved (record { rank = after_passed u.rank d; left = u.left }) h)) k.ranks (h, refl)));
           images = ap (λ z. z.images) g.after ∙ k.images ∙ sym (ap (λ z. z.images) f.after);
           rows = ap (λ z. z.logger.rows) g.after ∙ k.rows ∙ sym (ap (λ z. z.logger.rows) f.after);
           wires =
               ap (λ z. z.wires) g.after ∙ ap (λ z. slice_set z s (slice_set g.of_s d (g.frames ++ g.frame ∷ []))) k.wires
-              ∙ ap (λ z. slice_set a.wires s (slice_set z d (g.frames ++ g.frame ∷ []))) of ∙ ap (λ z. slice_set a.wires s (slice_set f.of_s d (z ++ g.frame ∷ []))) frames
+              ∙ ap (λ z. slice_set a.wires s (slice_set z d (g.frames ++ g.frame ∷ []))) of
+              ∙ ap (λ z. slice_set a.wires s (slice_set f.of_s d (z ++ g.frame ∷ []))) frames
               ∙ ap (λ z. slice_set a.wires s (slice_set f.of_s d (f.frames ++ z ∷ []))) frame ∙ sym (ap (λ z. z.wires) f.after);
           lines = ap (λ z. z.lines) g.after ∙ k.lines ∙ sym (ap (λ z. z.lines) f.after);
           run = ap (λ z. z.run) g.after ∙ k.run ∙ sym (ap (λ z. z.run) f.after);
@@ -242,7 +278,9 @@ wire_one w w' s d x y e f g =
     let of : g.0 ≡ f.0 = lists_one g.0 f.0 (slice_get w.wires s) (ap (λ z. slice_get z s) (sym e) ∙ g.1) f.1 in
     lists_one y x (slice_get f.0 d) (ap (λ z. slice_get z d) (sym of) ∙ g.2) f.2
 
-arrive_alike : (a b : WorldValue) (s d i : ℕ) (x y : Reply) (a' b' : WorldValue) → Alike a b → ArriveFollows a s d i x a' → ArriveFollows b s d i y b' → Alike a' b'
+-- an arrival leaves worlds alike
+arrive_alike : (a b : WorldValue) (s d i : ℕ) (x y : Reply) (a' b' : WorldValue) → Alike a b → ArriveFollows a s d i x a' → ArriveFollows b s d i y b'
+    → Alike a' b'
 arrive_alike a b s d i x y a' b' k f g = go (alike_live a b d g.before k g.live)
   where
     go : Was a d g.before → Alike a' b'
@@ -262,7 +300,8 @@ arrive_alike a b s d i x y a' b' k f g = go (alike_live a b d g.before k g.live)
           ranks =
               subst (λ z. AreAlike z b'.ranks) (sym ranks_a)
               (subst (λ z. AreAlike (slice_set a.ranks d (Some (record { rank = after_frame u.rank s f.frame; left = u.left }))) z) (sym ranks)
-              (alike_set a.ranks b.ranks d (Some (record { rank = after_frame u.rank s f.frame; left = u.left })) (Some (shelved (record { rank = after_frame u.rank s f.frame; left = u.left }) h)) k.ranks (h, refl)));
+              (alike_set a.ranks b.ranks d (Some (record { rank = after_frame u.rank s f.frame; left = u.left }))
+              (Some (shelved (record { rank = after_frame u.rank s f.frame; left = u.left }) h)) k.ranks (h, refl)));
           images = ap (λ z. z.images) g.after ∙ k.images ∙ sym (ap (λ z. z.images) f.after);
           rows = ap (λ z. z.logger.rows) g.after ∙ k.rows ∙ sym (ap (λ z. z.logger.rows) f.after);
           wires = ap (λ z. z.wires) g.after ∙ k.wires ∙ sym (ap (λ z. z.wires) f.after);
@@ -272,35 +311,45 @@ arrive_alike a b s d i x y a' b' k f g = go (alike_live a b d g.before k g.live)
 
 -- ---- a restart
 
+-- a reply to a fetch names one list of events
 events_one : (x y : List EventValue) → Events x ≡ Events y → x ≡ y
 events_one x y e = cc
 
+-- one place holds one image, or none
 images_one : (x y : Option ImageValue) (o : Option (Option ImageValue)) → o ≡ Some x → o ≡ Some y → x ≡ y
 images_one x y o e f = cc
 
+-- a restart leaves worlds alike, as the same image and the same events are read
 restart_alike : (a b : WorldValue) (r : ℕ) (x y : Reply) (a' b' : WorldValue) → Alike a b → RestartFollows a r x a' → RestartFollows b r y b' → Alike a' b'
 restart_alike a b r x y a' b' k f g =
     let n : size b ≡ size a = alike_size a b k in
     let events : g.events ≡ f.events = events_one g.events f.events (g.fetches.replied ∙ ap (λ z. Events (above 0 (row z r))) k.rows ∙ sym f.fetches.replied) in
-    let on : g.begins.0 ≡ f.begins.0 = images_one g.begins.0 f.begins.0 (slice_get a.images r) (ap (λ z. slice_get z r) (sym k.images) ∙ g.begins.1) f.begins.1 in
+    let on : g.begins.0 ≡ f.begins.0 =
+    images_one g.begins.0 f.begins.0 (slice_get a.images r) (ap (λ z. slice_get z r) (sym k.images) ∙ g.begins.1) f.begins.1 in
     let image : g.image ≡ f.image =
     g.begins.2 ∙ ap (λ z. begins_at z r (size b) g.begins.0) k.program ∙ ap (λ z. begins_at a.program r z g.begins.0) n
     ∙ ap (λ z. begins_at a.program r (size a) z) on ∙ sym f.begins.2 in
-    let ranks : b'.ranks ≡ slice_set b.ranks r (Some (shelved (record { rank = restarted (stable_of (size a) r f.shelf) f.image (length f.events); left = left_of f.image f.events }) g.shelf)) =
+    let ranks : b'.ranks ≡ slice_set b.ranks r
+    (Some (shelved (record { rank = restarted (stable_of (size a) r f.shelf) f.image (length f.events); left = left_of f.image f.events }) g.shelf)) =
     ap (λ z. z.ranks) g.after
     ∙ ap (λ z. slice_set b.ranks r (Some (record { rank = restarted (stable_of z r g.shelf) g.image (length g.events); left = left_of g.image g.events }))) n
     ∙ ap (λ z. slice_set b.ranks r (Some (record { rank = restarted (stable_of (size a) r g.shelf) z (length g.events); left = left_of z g.events }))) image
     ∙ ap (λ z. slice_set b.ranks r (Some (record { rank = restarted (stable_of (size a) r g.shelf) f.image (length z); left = left_of f.image z }))) events in
-    let ranks_a : a'.ranks ≡ slice_set a.ranks r (Some (record { rank = restarted (stable_of (size a) r f.shelf) f.image (length f.events); left = left_of f.image f.events })) = ap (λ z. z.ranks) f.after in
+    let ranks_a : a'.ranks
+    ≡ slice_set a.ranks r (Some (record { rank = restarted (stable_of (size a) r f.shelf) f.image (length f.events); left = left_of f.image f.events })) =
+    ap (λ z. z.ranks) f.after in
     let rows_a : a'.logger.rows ≡ a.logger.rows = ap (λ z. z.rows) f.fetches.logged in
     let rows_b : b'.logger.rows ≡ b.logger.rows = ap (λ z. z.rows) g.fetches.logged in
     record {
       program = ap (λ z. z.program) g.after ∙ k.program ∙ sym (ap (λ z. z.program) f.after);
       ranks =
           subst (λ z. AreAlike z b'.ranks) (sym ranks_a)
-          (subst (λ z. AreAlike (slice_set a.ranks r (Some (record { rank = restarted (stable_of (size a) r f.shelf) f.image (length f.events); left = left_of f.image f.events }))) z) (sym ranks)
-          (alike_set a.ranks b.ranks r (Some (record { rank = restarted (stable_of (size a) r f.shelf) f.image (length f.events); left = left_of f.image f.events }))
-          (Some (shelved (record { rank = restarted (stable_of (size a) r f.shelf) f.image (length f.events); left = left_of f.image f.events }) g.shelf)) k.ranks (g.shelf, refl)));
+          (subst (λ z. AreAlike (slice_set a.ranks r
+          (Some (record { rank = restarted (stable_of (size a) r f.shelf) f.image (length f.events); left = left_of f.image f.events }))) z) (sym ranks)
+          (alike_set a.ranks b.ranks r
+          (Some (record { rank = restarted (stable_of (size a) r f.shelf) f.image (length f.events); left = left_of f.image f.events }))
+          (Some (shelved (record { rank = restarted (stable_of (size a) r f.shelf) f.image (length f.events); left = left_of f.image f.events }) g.shelf))
+          k.ranks (g.shelf, refl)));
       images = ap (λ z. z.images) g.after ∙ k.images ∙ sym (ap (λ z. z.images) f.after);
       rows = rows_b ∙ k.rows ∙ sym rows_a;
       wires = ap (λ z. z.wires) g.after ∙ k.wires ∙ sym (ap (λ z. z.wires) f.after);
@@ -310,6 +359,7 @@ restart_alike a b r x y a' b' k f g =
 
 -- ---- each event of the way
 
+-- any used event leaves worlds alike
 pub happens_alike : (a b : WorldValue) (event : WorldEvent) (x y : Reply) (a' b' : WorldValue) → Alike a b → IsUsed event
     → Happens a event x a' → Happens b event y b' → Alike a' b'
 happens_alike a b (Step r) x y a' b' k used f g = step_alike a b r x y a' b' k f g
@@ -348,7 +398,8 @@ can_not_alike a b (Release r) k used never = absurd used
 own_alike : (start a b : WorldValue) (event : WorldEvent) → Alike a b → IsUsed event → IsOwn start b event → IsOwn start a event
 own_alike start a b (Step r) k used own = tt
 own_alike start a b (Put s d) k used own = tt
-own_alike start a b (Arrive s d i) k used own = λ p frames old wire there was. own p frames old (wire.0, ap (λ z. slice_get z s) k.wires ∙ wire.1, wire.2) there was
+own_alike start a b (Arrive s d i) k used own = λ p frames old wire there was.
+    own p frames old (wire.0, ap (λ z. slice_get z s) k.wires ∙ wire.1, wire.2) there was
 own_alike start a b (Restart r) k used own = tt
 own_alike start a b (Store r) k used own = absurd used
 own_alike start a b (Ack r) k used own = absurd used
@@ -368,7 +419,9 @@ caught_alike C a b k c r l =
 
 -- ---- the list leads on
 
-leads : (start a b : WorldValue) (events : List WorldEvent) (b' : WorldValue) → Alike a b → Drove start b events b' → CaughtUp start.run b' → LeadsOn start a events
+-- events that drove a world to where all ranks caught up lead on every world alike
+leads : (start a b : WorldValue) (events : List WorldEvent) (b' : WorldValue) → Alike a b → Drove start b events b' → CaughtUp start.run b'
+    → LeadsOn start a events
 leads start a b [] b' k drove c = caught_alike start.run a b k (subst (λ z. CaughtUp start.run z) drove c)
 leads start a b (event ∷ events) b' k drove c = (
   own_alike start a b event k drove.0 drove.1,
@@ -382,9 +435,14 @@ way_on start events w d c = leads start start d.first events w d.alike d.drove c
 
 -- ---- one event more
 
+-- one more event drives a world on that was driven so far
 pub drove_push : (start w mid : WorldValue) (events : List WorldEvent) (event : WorldEvent) (answer : Reply) (w' : WorldValue) → Drove start w events mid
     → IsUsed event → IsOwn start mid event → (CanNot mid event → ⊥) → Happens mid event answer w' → Drove start w (events ++ event ∷ []) w'
-drove_push start w mid [] event answer w' drove used own can h =
-    (used, subst (λ z. IsOwn start z event) drove own, λ never. can (subst (λ z. CanNot z event) (sym drove) never), (answer, w', subst (λ z. Happens z event answer w') drove h, refl))
+drove_push start w mid [] event answer w' drove used own can h = (
+  used,
+  subst (λ z. IsOwn start z event) drove own,
+  λ never. can (subst (λ z. CanNot z event) (sym drove) never),
+  (answer, w', subst (λ z. Happens z event answer w') drove h, refl),
+)
 drove_push start w mid (e ∷ events) event answer w' drove used own can h =
     (drove.0, drove.1, drove.2, (drove.3.0, drove.3.1, drove.3.2, drove_push start drove.3.1 mid events event answer w' drove.3.3 used own can h))

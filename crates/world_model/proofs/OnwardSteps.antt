@@ -22,7 +22,8 @@ use Rattle.rank_node.specs.declared.turn.Turn.TheVariants as turn
 use Rattle.rank_node.specs.Node.{no_due}
 use Rattle.rank_node.specs.Waiting.{has_room, is_settled, joins}
 use Rattle.rank_node.specs.Steps.{message_of, with_machine, after_send, after_print, after_hold, after_wait, made_send, made_print, after_reception}
-use Rattle.rank_node.specs.Steps.{after_probe, after_miss, received, probed, tried, step_at, turn_at, refusal_at, clock_refusal, event_refusal, try_refusal, at_index, found}
+use Rattle.rank_node.specs.Steps.{after_probe, after_miss, received, probed, tried, step_at, turn_at, refusal_at, clock_refusal, event_refusal, try_refusal}
+use Rattle.rank_node.specs.Steps.{at_index, found}
 use Rattle.rank_node.specs.Replay.{named, replayed_at, taken_named, shown_named, tried_named, left_after}
 use Rattle.crash_free.specs.Runs.{history}
 use Rattle.world_model.specs.declared.reply.Reply.{Reply}

@@ -1,5 +1,6 @@
 -- With each frame that is put and arrives at once, less is outstanding from its sender to its receiver, be they one rank.
-use Rattle.std.proofs.Common.{◌≡◌, ℕ, zero, suc, ◌+◌, ◌-◌, ◌<◌, ◌≤◌, ◌⊎◌, inl, inr, Bool, true, false, ◌==◌, nat_lt, if◌then◌else◌, max, List, [], ◌∷◌, Option, Some, None, length, drop, refl, sym, ap, subst, ◌∙◌, arith, slice_get, slice_set, slice_index_or}
+use Rattle.std.proofs.Common.{◌≡◌, ℕ, zero, suc, ◌+◌, ◌-◌, ◌<◌, ◌≤◌, ◌⊎◌, inl, inr, Bool, true, false, ◌==◌, nat_lt, if◌then◌else◌, max, List, [], ◌∷◌, Option}
+use Rattle.std.proofs.Common.{Some, None, length, drop, refl, sym, ap, subst, ◌∙◌, arith, slice_get, slice_set, slice_index_or}
 use Rattle.std.proofs.lemmas.Bool.{cases_eq}
 use Rattle.std.proofs.lemmas.List.{get_or-set_same, length-drop}
 use Rattle.std.proofs.lemmas.Option.{slice_get_within}
@@ -27,6 +28,7 @@ ask_there [] d n e = absurd cc
 ask_there (x ∷ dues) zero n e = omega arith
 ask_there (x ∷ dues) (suc d) n e = (let z = ask_there dues d n e in omega (arith, z))
 
+-- a destination to which a Kept is due is one of the list
 kept_there : (dues : List Due) (d n : ℕ) → (slice_index_or dues d no_due).kept ≡ Some n → d < length dues
 kept_there [] d n e = absurd cc
 kept_there (x ∷ dues) zero n e = omega arith
@@ -89,6 +91,7 @@ set_or [] d b = inr refl
 set_or (x ∷ log) zero b = inl refl
 set_or (x ∷ log) (suc d) b = set_or log d b
 
+-- an Ask is for no more packets where the first of those kept are gone
 for_fewer : (a : Option ℕ) (k : ℕ) (kept : List packet.PacketValue) → for_ask a (drop k kept) ≤ for_ask a kept
 for_fewer None k kept = omega arith
 for_fewer (Some n) k kept = (let l = length-drop k kept in omega (arith, l))
@@ -132,6 +135,7 @@ same_again v d (frame.Data p) = refl
 
 -- ---- both
 
+-- a frame that is put and arrives leaves less outstanding for its pair
 pub round_less : (w mid w' : WorldValue) (s d : ℕ) (a b : Reply) (f : PutFollows w s d a mid) → ArriveFollows mid s d (length f.frames) b w' → IsWorld w
     → outstanding_at s d w' < outstanding_at s d w
 round_less w mid w' s d a b f h i = go (cases_eq s d)
@@ -152,7 +156,8 @@ round_less w mid w' s d a b f h i = go (cases_eq s d)
     above = (i.onward.ranks s f.before f.live).above d
 
     less : outstanding (after_passed v d) d + again f.frame (backlog v.log d).kept < outstanding v d
-    less = subst (λ o. outstanding (sent_off v d o) d + again f.frame (backlog v.log d).kept < outstanding v d) (sym f.next) (put_falls v d f.frame above f.next)
+    less =
+        subst (λ o. outstanding (sent_off v d o) d + again f.frame (backlog v.log d).kept < outstanding v d) (sym f.next) (put_falls v d f.frame above f.next)
 
     arrived : Live
     arrived = record { rank = after_frame h.before.rank s h.frame; left = h.before.left }
@@ -163,7 +168,8 @@ round_less w mid w' s d a b f h i = go (cases_eq s d)
         let now = ap (λ o. outstanding_of o d) at in
         omega (arith, now, was, less)
     go (inl e) =
-        let at : slice_get w'.ranks d ≡ Some (Some arrived) = ap (λ z. slice_get z.ranks d) h.after ∙ set_get_same mid.ranks d (Some h.before) (Some arrived) h.live in
+        let at : slice_get w'.ranks d ≡ Some (Some arrived) =
+        ap (λ z. slice_get z.ranks d) h.after ∙ set_get_same mid.ranks d (Some h.before) (Some arrived) h.live in
         let now = ap (λ k. outstanding_of (slice_get w'.ranks k) d) e ∙ ap (λ o. outstanding_of o d) at in
         let one : h.before ≡ put = same h.before put (sym h.live ∙ ap (λ k. slice_get mid.ranks k) (sym e) ∙ put_is) in
         let is : outstanding (after_frame h.before.rank s h.frame) d ≡ outstanding (after_frame (after_passed v d) d f.frame) d =

@@ -10,7 +10,8 @@ use Rattle.plain_logger.specs.declared.kind.Kind.TheVariants as kind
 use Rattle.plain_logger.proofs.Misses.{joined_parts}
 use Rattle.rank_node.specs.declared.waiting.Waiting.{Waiting}
 use Rattle.rank_node.specs.declared.waiting.Waiting.TheVariants as waits
-use Rattle.rank_node.specs.Waiting.{events_in, effects, sends_to, BeginsWithEvents, is_settled, has_room, expanded, is_miss, ends_in_miss, joins, longer, with_joined}
+use Rattle.rank_node.specs.Waiting.{events_in, effects, sends_to, BeginsWithEvents, is_settled, has_room, expanded, is_miss, ends_in_miss, joins, longer}
+use Rattle.rank_node.specs.Waiting.{with_joined}
 use Rattle.world_model.specs.World.{Rank, unpassed}
 use Rattle.world_model.specs.Plain.{plainly, plain_rank, AllCounted}
 use Rattle.world_model.proofs.Lists.{drop_zero}
@@ -38,6 +39,7 @@ events_expanded (waits.Event e ∷ xs) = events_of_map (parts_of e) (expanded xs
 events_expanded (waits.Send d c ∷ xs) = events_expanded xs
 events_expanded (waits.Line c v ∷ xs) = events_expanded xs
 
+-- events that wait in front are no effects
 effects_of_map : (es : List EventValue) (xs : List Waiting) → effects (map waits.Event es ++ xs) ≡ effects xs
 effects_of_map [] xs = refl
 effects_of_map (e ∷ es) xs = effects_of_map es xs
@@ -145,6 +147,7 @@ begins_plainly (suc k) (waits.Line c v ∷ xs) b = absurd b
 
 -- ---- a miss that joins
 
+-- one event more waits behind the others
 map_push : (es : List EventValue) (x : EventValue) → map waits.Event (es ++ x ∷ []) ≡ map waits.Event es ++ waits.Event x ∷ []
 map_push [] x = refl
 map_push (e ∷ es) x = ap (λ z. waits.Event e ∷ z) (map_push es x)

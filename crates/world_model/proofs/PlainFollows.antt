@@ -1,6 +1,7 @@
 -- What an event does to a world it does to the world without runs of misses too: frames, acknowledgments, releases, images and
 -- crashes.
-use Rattle.std.proofs.Common.{◌≡◌, ◌≢◌, ℕ, ◌+◌, ◌-◌, Bool, true, false, ◌==◌, if◌then◌else◌, List, [], ◌∷◌, ◌++◌, Option, Some, None, drop, refl, sym, ap, subst, ◌∙◌}
+use Rattle.std.proofs.Common.{◌≡◌, ◌≢◌, ℕ, ◌+◌, ◌-◌, Bool, true, false, ◌==◌, if◌then◌else◌, List, [], ◌∷◌, ◌++◌, Option, Some, None, drop, refl, sym, ap}
+use Rattle.std.proofs.Common.{subst, ◌∙◌}
 use Rattle.std.proofs.Common.{slice_get, slice_set, option_and_then, option_map}
 use Rattle.plain_logger.specs.Misses.{expand}
 use Rattle.plain_logger.specs.History.{above}
@@ -103,7 +104,8 @@ arrive_plainly w s d i answer w' f =
 -- ---- the gate
 
 -- the oldest stored event is acknowledged
-pub ack_plainly : (w : WorldValue) (r : ℕ) (answer : Reply) (w' : WorldValue) → AckFollows w r answer w' → AckFollows (without_runs w) r answer (without_runs w')
+pub ack_plainly : (w : WorldValue) (r : ℕ) (answer : Reply) (w' : WorldValue) → AckFollows w r answer w'
+    → AckFollows (without_runs w) r answer (without_runs w')
 ack_plainly w r answer w' f =
     record {
       before = plain f.before;
@@ -154,7 +156,10 @@ release_plainly w r answer w' f begins =
           })
           (set_plainly w.ranks r (record { rank = after_release f.before.rank f.effect; left = f.before.left })
           (record { rank = after_release (plain_rank f.before.rank) f.effect; left = (plain f.before).left })
-          (ap (λ z. record { rank = record f.before.rank { made = 0; log = released_log f.before.rank.log f.effect; pending = z }; left = (plain f.before).left })
+          (ap (λ z. record {
+            rank = record f.before.rank { made = 0; log = released_log f.before.rank.log f.effect; pending = z };
+            left = (plain f.before).left;
+          })
           rest));
     }
   where

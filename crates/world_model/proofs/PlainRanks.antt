@@ -101,7 +101,8 @@ last_waits start C r (a ∷ acts) (x ∷ xs) e p = last_waits start (record { ra
 expanded_last : (before : List Waiting) (e : EventValue) (l : LastPart e)
     → expanded (before ++ waits.Event e ∷ []) ≡ (expanded before ++ map waits.Event l.front) ++ waits.Event l.last ∷ []
 expanded_last before e l =
-    expanded_append before (waits.Event e ∷ []) ∙ ap (λ z. expanded before ++ z) (append-nil (map waits.Event (parts_of e)) ∙ ap (λ z. map waits.Event z) l.parts
+    expanded_append before (waits.Event e ∷ [])
+    ∙ ap (λ z. expanded before ++ z) (append-nil (map waits.Event (parts_of e)) ∙ ap (λ z. map waits.Event z) l.parts
     ∙ push l.front) ∙ sym (append_assoc (expanded before) (map waits.Event l.front) (waits.Event l.last ∷ []))
   where
     push : (es : List EventValue) → map waits.Event (es ++ l.last ∷ []) ≡ map waits.Event es ++ waits.Event l.last ∷ []
@@ -117,7 +118,8 @@ joins_clock start n C r v s l counted =
     unpassed_plain v.rank ∙ ap expanded l.is ∙ expanded_last l.before l.last z in
     let c = last_waits start C r s.acts (expanded l.before ++ map waits.Event z.front) z.last (subst (λ y. Pending start C r s.acts y) is s.pending) in
     sym z.clock ∙ c ∙ sym (⊎_elim
-    (λ (none : (plain v).rank.pending ≡ []). absurd (some (expanded l.before ++ map waits.Event z.front) (waits.Event z.last) (sym is ∙ nothing_unpassed (plain_rank v.rank) none)))
+    (λ (none : (plain v).rank.pending ≡ []). absurd
+    (some (expanded l.before ++ map waits.Event z.front) (waits.Event z.last) (sym is ∙ nothing_unpassed (plain_rank v.rank) none)))
     (λ all. all) s.all_made)
   where
     some : (xs : List Waiting) (x : Waiting) → xs ++ x ∷ [] ≡ [] → ⊥
@@ -228,7 +230,8 @@ module _ (v : Live) (runs : RankRuns v) (low : v.rank.stored ≤ length v.rank.p
           → plain_rank (after_miss v.rank m) ≡ uncounted (plain_rank v.rank) (plain_tried (plain_rank v.rank) m None)
       go b is =
           ap (λ z. record v.rank { machine = m; clock = v.rank.clock + 1; made = 0; pending = z })
-          (ap (λ y. plainly v.rank.stored (if y then with_joined v.rank.pending else v.rank.pending ++ waits.Event (event_of kind.Miss 0 0 (v.rank.clock + 1)) ∷ [])) is
+          (ap (λ y. plainly v.rank.stored (if y then with_joined v.rank.pending
+          else v.rank.pending ++ waits.Event (event_of kind.Miss 0 0 (v.rank.clock + 1)) ∷ [])) is
           ∙ waiting b is)
 
   -- what a probe that doesn't wait finds

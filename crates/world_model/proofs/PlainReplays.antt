@@ -122,6 +122,7 @@ taken_plainly : (v : Rank) (m : MachineValue) (o : Option (ℕ × packet.PacketV
 taken_plainly v m None = refl
 taken_plainly v m (Some f) = refl
 
+-- a replayed hit leaves the same rank where each event is of one act
 shown_plainly : (v : Rank) (m : MachineValue) (o : Option (ℕ × packet.PacketValue)) → plain_rank (shown_named v m o) ≡ shown_named (plain_rank v) m o
 shown_plainly v m None = refl
 shown_plainly v m (Some f) = refl
@@ -215,6 +216,7 @@ before_last v e true t is q =
     omega (arith, l, low)
 before_last v e false t is q = absurd cc
 
+-- a replayed step makes the acts that its turn says
 pub acts_of_step : (v : Rank) (e : EventValue) (x : Want) (t : Turn) (m : MachineValue) → replay_turn_at v e x ≡ Ok t → Acts v e x t m
 acts_of_step v e want.Internal t m turned = inl (refl, refl)
 acts_of_step v e (want.Send d c y) t m turned = inr (refl, inr (before_last v e (is_before v e) t refl turned))
@@ -408,7 +410,8 @@ module _ (w : WorldValue) (r : ℕ) (v : Live) (s : Stands w) (live : IsLive w r
     late : (uses_event x t ≡ true) ⊎ (v.rank.clock + 1 < e.receiver_clock) → (b : Bool) → (uses_event x t && is_last v.rank e) ≡ b → (k : ℕ) (y : EventValue)
         → slice_get (if b then rest else e ∷ rest) k ≡ Some y → v.rank.clock + 1 < y.receiver_clock
     late h true f k y at = left_late v.rank.clock e rest (drop v.rank.clock (history w.run r)) counted (later 0 e refl) is_left k y at (later (suc k) y at)
-    late h false f (suc k) y at = left_late v.rank.clock e rest (drop v.rank.clock (history w.run r)) counted (later 0 e refl) is_left k y at (later (suc k) y at)
+    late h false f (suc k) y at =
+        left_late v.rank.clock e rest (drop v.rank.clock (history w.run r)) counted (later 0 e refl) is_left k y at (later (suc k) y at)
     late h false f zero y at =
         (let q : e ≡ y = cc in subst (λ z. v.rank.clock + 1 < z.receiver_clock) q (⊎_elim (λ u. not_last u f) (λ l. l) h))
 

@@ -1,5 +1,6 @@
 -- A world without runs of misses: its ranks are those of the world, each without runs.
-use Rattle.std.proofs.Common.{◌≡◌, ℕ, zero, suc, ◌≤◌, List, [], ◌∷◌, map, option_map, Option, Some, None, length, refl, sym, ap, subst, ◌∙◌, slice_get, slice_set}
+use Rattle.std.proofs.Common.{◌≡◌, ℕ, zero, suc, ◌≤◌, List, [], ◌∷◌, map, option_map, Option, Some, None, length, refl, sym, ap, subst, ◌∙◌, slice_get}
+use Rattle.std.proofs.Common.{slice_set}
 use Rattle.plain_logger.specs.Event.{EventValue}
 use Rattle.plain_logger.specs.Misses.{expand}
 use Rattle.checkpoint.specs.Image.{ImageValue}

@@ -11,7 +11,8 @@ use Rattle.std.proofs.Math.Seq.{take-append_seam}
 use Rattle.rank_machine.specs.Acts.{Act, Message, sends, takes, hits, misses, prints}
 use Rattle.crash_free.specs.Runs.{Passed, at_place, history, send_at, cons_if}
 use Rattle.crash_free.proofs.Lists.{history-own, history-other, sent-own, sent-other}
-use Rattle.world_model.specs.RunIndex.{Rising, clocks, clock_at, MadeValue, RunValue, made_with, made_without, clocks_with, clocks_without, IsMade, AreOf, IsIndexed, IsNext}
+use Rattle.world_model.specs.RunIndex.{Rising, clocks, clock_at, MadeValue, RunValue, made_with, made_without, clocks_with, clocks_without, IsMade, AreOf}
+use Rattle.world_model.specs.RunIndex.{IsIndexed, IsNext}
 use Rattle.world_model.proofs.Places.{slice_set-get, replaced_keeps}
 use Rattle.world_model.proofs.RunClocks.{clocks-rise, clock_at-place}
 
@@ -231,12 +232,14 @@ taken_back n acts new_acts p act index k m new kept shorter at made is changed =
 
 -- ---- acts, oldest first
 
+-- what is left from an index on begins with the element there
 drop_at : {A : Type 0} (C : List A) (m : ℕ) (d : A) → m < length C → drop m C ≡ get_or C m d ∷ drop (suc m) C
 drop_at [] m d l = absurd (omega (arith, l))
 drop_at (x ∷ []) zero d l = refl
 drop_at (x ∷ y ∷ C) zero d l = refl
 drop_at (x ∷ C) (suc m) d l = drop_at C m d (omega (arith, l))
 
+-- acts of a program's ranks are so from any place on
 of_drop : (n m : ℕ) (C : List Passed) → AreOf n C → AreOf n (drop m C)
 of_drop n zero [] all = all
 of_drop n (suc m) [] all = all
@@ -263,14 +266,18 @@ next_is acts i p l is =
 next_of : (n : ℕ) (C : List Passed) (index : List MadeValue) (k r : ℕ) → IsIndexed n C index → IsNext C k r → r < n
 next_of n C index k r kept next = (subst (λ z. AreOf n z) next.1 (of_drop n (length C - (k + 1)) C kept.of_ranks)).0
 
-pub rank_at_is : (n i r : ℕ) (acts : List Passed) (v : RunValue) (p : Passed) → record { ranks = n; acts = reverse acts } ≡ v → i < length v.acts → p ≡ get_or acts i p
+-- the rank read from the run at an index is that of the next act there
+pub rank_at_is : (n i r : ℕ) (acts : List Passed) (v : RunValue) (p : Passed) → record { ranks = n; acts = reverse acts } ≡ v → i < length v.acts
+    → p ≡ get_or acts i p
     → r ≡ p.rank → IsNext v.acts i r
 rank_at_is n i r acts v p is l at e =
     let a = ap (λ z. length z.acts) is in
     let b = length-reverse acts in
     subst (λ q. IsNext v.acts i q) (sym e) (subst (λ z. IsNext z.acts i p.rank) is (next_is acts i p (omega (arith, l, a, b)) at))
 
-pub rank_at_of : (n i r : ℕ) (acts : List Passed) (index : List MadeValue) (v : RunValue) → IsIndexed n (reverse acts) index → record { ranks = n; acts = reverse acts } ≡ v
+-- that rank is one of the run's
+pub rank_at_of : (n i r : ℕ) (acts : List Passed) (index : List MadeValue) (v : RunValue) → IsIndexed n (reverse acts) index
+    → record { ranks = n; acts = reverse acts } ≡ v
     → IsNext v.acts i r → r < v.ranks
 rank_at_of n i r acts index v kept is next =
     subst (λ z. r < z.ranks) is (next_of n (reverse acts) index i r kept (subst (λ z. IsNext z.acts i r) (sym is) next))

@@ -99,12 +99,14 @@ all_none j e at = absurd cc
 
 -- ---- frames, acknowledgments and releases
 
+-- a frame that goes out leaves a rank's runs of misses
 sent_runs : (v : Live) → RankRuns v → (d : ℕ) (o : Option Frame) → RankRuns (record { rank = sent_off v.rank d o; left = v.left })
 sent_runs v k d None = record { unstored = k.unstored; left = k.left; later = k.later }
 sent_runs v k d (Some (frame.Ask n)) = record { unstored = k.unstored; left = k.left; later = k.later }
 sent_runs v k d (Some (frame.Kept n)) = record { unstored = k.unstored; left = k.left; later = k.later }
 sent_runs v k d (Some (frame.Data p)) = record { unstored = k.unstored; left = k.left; later = k.later }
 
+-- a frame that comes in does, too
 framed_runs : (v : Live) → RankRuns v → (from : ℕ) (g : Frame) → RankRuns (record { rank = after_frame v.rank from g; left = v.left })
 framed_runs v k from (frame.Ask n) = record { unstored = k.unstored; left = k.left; later = k.later }
 framed_runs v k from (frame.Kept n) = record { unstored = k.unstored; left = k.left; later = k.later }
@@ -114,16 +116,19 @@ framed_runs v k from (frame.Data p) = go (p.source == from)
     go true = record { unstored = k.unstored; left = k.left; later = k.later }
     go false = record { unstored = k.unstored; left = k.left; later = k.later }
 
+-- a put leaves runs of misses as they must be
 pub Runs-put : (w : WorldValue) (r d : ℕ) (answer : Reply) (w' : WorldValue) → Stands w → PutFollows w r d answer w' → RunsOfMisses w'
 Runs-put w r d answer w' s f =
     Runs-rank w w' r _ (ap (λ z. z.ranks) f.after) (ap (λ z. z.logger.rows) f.after) (ap (λ z. z.images) f.after) (ap (λ z. z.program) f.after)
     (λ x e. one _ x (sent_runs f.before (s.runs.ranks r f.before f.live) d (outgoing_of f.before.rank d)) e) s.runs
 
+-- so does an arrival
 pub Runs-arrive : (w : WorldValue) (from r i : ℕ) (answer : Reply) (w' : WorldValue) → Stands w → ArriveFollows w from r i answer w' → RunsOfMisses w'
 Runs-arrive w from r i answer w' s f =
     Runs-rank w w' r _ (ap (λ z. z.ranks) f.after) (ap (λ z. z.logger.rows) f.after) (ap (λ z. z.images) f.after) (ap (λ z. z.program) f.after)
     (λ x e. one _ x (framed_runs f.before (s.runs.ranks r f.before f.live) from f.frame) e) s.runs
 
+-- so does an acknowledgment
 pub Runs-ack : (w : WorldValue) (r : ℕ) (answer : Reply) (w' : WorldValue) → Stands w → AckFollows w r answer w' → RunsOfMisses w'
 Runs-ack w r answer w' s f =
     Runs-rank w w' r _ (ap (λ z. z.ranks) f.after) (ap (λ z. z.logger.rows) f.after) (ap (λ z. z.images) f.after) (ap (λ z. z.program) f.after)
@@ -136,12 +141,14 @@ Runs-ack w r answer w' s f =
     one_back zero ne = absurd (ne refl)
     one_back (suc m) ne = omega arith
 
+-- so does a release, where nothing stored waits in front of it
 pub Runs-release : (w : WorldValue) (r : ℕ) (answer : Reply) (w' : WorldValue) → Stands w → (f : ReleaseFollows w r answer w')
     → f.before.rank.stored ≡ 0 → RunsOfMisses w'
 Runs-release w r answer w' s f none =
     Runs-rank w w' r _ (ap (λ z. z.ranks) f.after) (ap (λ z. z.logger.rows) f.after) (ap (λ z. z.images) f.after) (ap (λ z. z.program) f.after)
     (λ x e. one (record { rank = after_release f.before.rank f.effect; left = f.before.left }) x
-    (same_runs f.before (record { rank = after_release f.before.rank f.effect; left = f.before.left }) (s.runs.ranks r f.before f.live) same refl refl) e) s.runs
+    (same_runs f.before (record { rank = after_release f.before.rank f.effect; left = f.before.left }) (s.runs.ranks r f.before f.live) same refl refl) e)
+    s.runs
   where
     first : (f.before.rank.pending ≡ f.effect ∷ drop 1 f.before.rank.pending) × (event_in f.effect ≡ None)
     first = effect_there f.before.rank.pending f.effect f.oldest
@@ -173,7 +180,8 @@ joined_counted k xs join counted =
     let l = last_miss 0 (drop k xs) join in
     let events : events_in (drop k xs) ≡ events_in l.before ++ l.last ∷ [] = ap events_in l.is ∙ events_append l.before (waits.Event l.last ∷ []) in
     let after : events_in (drop k (with_joined xs)) ≡ events_in l.before ++ joined l.last ∷ [] =
-    ap events_in (joined_unstored k xs join ∙ ap with_joined l.is ∙ joined_append l.before l.last) ∙ events_append l.before (waits.Event (joined l.last) ∷ []) in
+    ap events_in (joined_unstored k xs join ∙ ap with_joined l.is ∙ joined_append l.before l.last)
+    ∙ events_append l.before (waits.Event (joined l.last) ∷ []) in
     let all : AllCounted (events_in l.before ++ l.last ∷ []) = subst (λ z. AllCounted z) events counted in
     subst (λ z. AllCounted z) (sym after)
     (all_push (events_in l.before) (joined l.last) (all_left (events_in l.before) (l.last ∷ []) all)
@@ -255,26 +263,32 @@ module _ (v : Live) (m : MachineValue) (k : RankRuns v) (low : v.rank.stored ≤
   pub stepped_runs : (x : Want) → RankRuns (record { rank = step_at v.rank x m; left = [] })
   stepped_runs x = nothing_left (step_at v.rank x m) (stepped_counted x)
 
+-- so does a step of a rank at work, even one that makes a run of misses longer
 pub Runs-step : (w : WorldValue) (r : ℕ) (answer : Reply) (w' : WorldValue) → Stands w → StepFollows w r answer w' → RunsOfMisses w'
 Runs-step w r answer w' s f =
     Runs-rank w w' r (Some (record { rank = step_at f.before.rank (machine_want f.before.rank.machine) f.machine; left = [] })) (ap (λ z. z.ranks) f.after)
     (ap (λ z. z.logger.rows) f.after) (ap (λ z. z.images) f.after) (ap (λ z. z.program) f.after)
-    (λ x e. one _ x (stepped_runs f.before f.machine (s.runs.ranks r f.before f.live) (stored_low w r s f.before f.live) (machine_want f.before.rank.machine)) e)
+    (λ x e.
+    one _ x (stepped_runs f.before f.machine (s.runs.ranks r f.before f.live) (stored_low w r s f.before f.live) (machine_want f.before.rank.machine)) e)
     s.runs
 
+-- so does a replayed step
 pub Runs-replay : (w : WorldValue) (r : ℕ) (answer : Reply) (w' : WorldValue) → Stands w → ReplayFollows w r answer w' → RunsOfMisses w'
 Runs-replay w r answer w' s f =
     Runs-rank w w' r _ (ap (λ z. z.ranks) f.after) (ap (λ z. z.logger.rows) f.after) (ap (λ z. z.images) f.after) (ap (λ z. z.program) f.after)
-    (λ x e. one _ x (replayed_runs w r f.before s f.live f.event f.rest f.replaying (machine_want f.before.rank.machine) refl f.turn f.turned f.machine f.steps) e)
+    (λ x e.
+    one _ x (replayed_runs w r f.before s f.live f.event f.rest f.replaying (machine_want f.before.rank.machine) refl f.turn f.turned f.machine f.steps) e)
     s.runs
 
 -- ---- crashes and restarts
 
+-- so does a crash
 pub Runs-crash : (w : WorldValue) (r : ℕ) (answer : Reply) (w' : WorldValue) → Stands w → CrashFollows w r answer w' → RunsOfMisses w'
 Runs-crash w r answer w' s f =
     Runs-rank w w' r None (ap (λ z. z.ranks) f.after) (ap (λ z. z.logger.rows) f.after) (ap (λ z. z.images) f.after) (ap (λ z. z.program) f.after)
     (λ x e. absurd cc) s.runs
 
+-- so does a restart
 pub Runs-restart : (w : WorldValue) (r : ℕ) (answer : Reply) (w' : WorldValue) → Stands w → RestartFollows w r answer w' → RunsOfMisses w'
 Runs-restart w r answer w' s f =
     Runs-rank w w' r (Some (record { rank = restarted (stable_of (size w) r f.shelf) f.image (length f.events); left = left_of f.image f.events }))
@@ -317,6 +331,7 @@ all_early w r v events s live settled left there k e at =
         subst (λ y. above y (events_from 0 (history w.run r)) ≡ events_from y (drop v.rank.clock (history w.run r))) z
         (above_row 0 v.rank.clock (history w.run r) (at_run (start_at w (size w)) (size w) w.run r (plain v) (rank_of s r v live) owes).within))
 
+-- so does an image
 pub Runs-image : (w : WorldValue) (r : ℕ) (answer : Reply) (w' : WorldValue) → Stands w → ImageFollows w r answer w' → RunsOfMisses w'
 Runs-image w r answer w' s f =
     subst (λ z. RunsOfMisses z) (sym f.after)
@@ -354,6 +369,7 @@ Runs-image w r answer w' s f =
 
 -- ---- stores
 
+-- so does a store
 pub Runs-store : (w : WorldValue) (r : ℕ) (answer : Reply) (w' : WorldValue) → Stands w → StoreFollows w r answer w' → RunsOfMisses w'
 Runs-store w r answer w' s f =
     record {

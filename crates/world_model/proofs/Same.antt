@@ -97,6 +97,7 @@ record FirstNoted (C : List Passed) (r : ℕ) (a : Act) (acts : List Act) (x : E
   event : event_at (length (history C r) + 1) a (looked_up (λ s. sent C s r) a) ≡ Some x
   others : row (continue (record { rank = r; act = a } ∷ C) r acts) r ≡ row (record { rank = r; act = a } ∷ C) r ++ es
 
+-- of acts that added as many events to a rank's row, the first added the first event
 first_noted : (C : List Passed) (r : ℕ) (a : Act) (acts : List Act) (x : EventValue) (es : List EventValue)
     → row (continue (record { rank = r; act = a } ∷ C) r acts) r ≡ row C r ++ x ∷ es → length acts ≡ length es → FirstNoted C r a acts x es
 first_noted C r a acts x es is many = go (event_at (length (history C r) + 1) a (looked_up (λ s. sent C s r) a)) refl
@@ -133,5 +134,6 @@ noted_acts C r (a ∷ acts) (b ∷ acts') (x ∷ es) n m n' m' =
     let same : a ≡ b = same_event C r (length (history C r) + 1) x a b first.event second.event in
     ap (λ z. z ∷ acts) same
     ∙ ap (λ z. b ∷ z) (noted_acts (record { rank = r; act = b } ∷ C) r acts acts' es
-    (subst (λ z. row (continue (record { rank = r; act = z } ∷ C) r acts) r ≡ row (record { rank = r; act = z } ∷ C) r ++ es) same first.others) (omega (arith, m))
+    (subst (λ z. row (continue (record { rank = r; act = z } ∷ C) r acts) r ≡ row (record { rank = r; act = z } ∷ C) r ++ es) same first.others)
+    (omega (arith, m))
     second.others (omega (arith, m')))

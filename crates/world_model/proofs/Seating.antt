@@ -1,6 +1,7 @@
 -- What a call on a rank leaves of its seat: the machine keeps its program, and what is stable stays, but for the shelf
 -- where an image is taken.
-use Rattle.std.proofs.Common.{◌≡◌, ◌≢◌, ℕ, true, false, List, [], ◌∷◌, Option, Some, None, Result, Ok, Err, refl, sym, ap, subst, ◌∙◌, ◌⊎◌, inl, inr, ◌<◌, arith}
+use Rattle.std.proofs.Common.{◌≡◌, ◌≢◌, ℕ, true, false, List, [], ◌∷◌, Option, Some, None, Result, Ok, Err, refl, sym, ap, subst, ◌∙◌, ◌⊎◌, inl, inr, ◌<◌}
+use Rattle.std.proofs.Common.{arith}
 use Rattle.checkpoint.specs.Image.{ImageValue}
 use Rattle.checkpoint.specs.Reading.{reading}
 use Rattle.checkpoint.specs.Shelf.{image_bytes, Grew}
@@ -99,7 +100,8 @@ of_image p r n v x is o = record {
   own = record {
     rank = ap (λ (z : Rank). z.stable.rank) is.after ∙ o.own.rank;
     size = ap (λ (z : Rank). z.stable.size) is.after ∙ o.own.size;
-    reads = subst (λ z. Reads p r n z) (sym (ap (λ (z : Rank). shelf_of z.stable) is.after)) (reads_of p r n (image_bytes is.shelf.image) (image_of v) (image_read p r n v x is o));
+    reads = subst (λ z. Reads p r n z) (sym (ap (λ (z : Rank). shelf_of z.stable) is.after))
+        (reads_of p r n (image_bytes is.shelf.image) (image_of v) (image_read p r n v x is o));
   };
 }
 

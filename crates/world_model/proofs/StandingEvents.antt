@@ -110,7 +110,8 @@ module _ (n : ℕ) (w : WorldValue) (r : ℕ) (v : Live) (m : MachineValue) (s :
       → (i : ℕ) (p : packet.PacketValue)
       → position (matches selector) v.rank.inbox.packets ≡ Some i → slice_get v.rank.inbox.packets i ≡ Some p
       → WasShown p v.rank.machine m
-      → StandsAt n (changed w r (Some (record { rank = uncounted v.rank (after_probe v.rank m kind.Hit p.source p.clock); left = [] })) w.images w.logger w.lines w.run)
+      → StandsAt n
+      (changed w r (Some (record { rank = uncounted v.rank (after_probe v.rank m kind.Hit p.source p.clock); left = [] })) w.images w.logger w.lines w.run)
   hitting x selector e which i p first there did =
       alone (uncounted v.rank (after_probe v.rank m kind.Hit p.source p.clock))
       (RankStands-event (start_at w n) n w.run r v (s.ranks r v live) (hits p.source p.number) (Some (carried p)) m running
@@ -164,7 +165,8 @@ module _ (n : ℕ) (w : WorldValue) (r : ℕ) (v : Live) (m : MachineValue) (s :
     where
       go : (o : Option packet.PacketValue) → slice_get v.rank.inbox.packets i ≡ o
           → TakesFound (option_and_then {U = ℕ × packet.PacketValue} (λ p. Some (i, p)) o) v.rank.machine m
-          → StandsAt n (changed w r (Some (record { rank = uncounted v.rank (received v.rank m (option_and_then {U = ℕ × packet.PacketValue} (λ p. Some (i, p)) o)); left = [] }))
+          → StandsAt n (changed w r
+          (Some (record { rank = uncounted v.rank (received v.rank m (option_and_then {U = ℕ × packet.PacketValue} (λ p. Some (i, p)) o)); left = [] }))
           w.images w.logger w.lines w.run)
       go None f t = Stands-still
       go (Some p) f t = receiving selector e i p there f t
@@ -179,7 +181,8 @@ module _ (n : ℕ) (w : WorldValue) (r : ℕ) (v : Live) (m : MachineValue) (s :
     where
       go : (o : Option packet.PacketValue) → slice_get v.rank.inbox.packets i ≡ o
           → IsShownFound (option_and_then {U = ℕ × packet.PacketValue} (λ p. Some (i, p)) o) v.rank.machine m
-          → StandsAt n (changed w r (Some (record { rank = uncounted v.rank (probed v.rank m (option_and_then {U = ℕ × packet.PacketValue} (λ p. Some (i, p)) o)); left = [] }))
+          → StandsAt n (changed w r
+          (Some (record { rank = uncounted v.rank (probed v.rank m (option_and_then {U = ℕ × packet.PacketValue} (λ p. Some (i, p)) o)); left = [] }))
           w.images w.logger w.lines w.run)
       go None f t = Stands-still
       go (Some p) f t = hitting (want.Probe selector) selector e (inl refl) i p there f t
@@ -187,14 +190,16 @@ module _ (n : ℕ) (w : WorldValue) (r : ℕ) (v : Live) (m : MachineValue) (s :
   pub trying : (selector : Selector) → machine_want v.rank.machine ≡ want.TryProbe selector → (o : Option ℕ)
       → position (matches selector) v.rank.inbox.packets ≡ o
       → TriesFound (option_and_then (at_index v.rank.inbox.packets) o) v.rank.machine m
-      → StandsAt n (changed w r (Some (record { rank = uncounted v.rank (plain_tried v.rank m (option_and_then (at_index v.rank.inbox.packets) o)); left = [] }))
+      → StandsAt n
+      (changed w r (Some (record { rank = uncounted v.rank (plain_tried v.rank m (option_and_then (at_index v.rank.inbox.packets) o)); left = [] }))
       w.images w.logger w.lines w.run)
   trying selector e None there steps = missing selector e steps
   trying selector e (Some i) there steps = go (slice_get v.rank.inbox.packets i) refl steps
     where
       go : (o : Option packet.PacketValue) → slice_get v.rank.inbox.packets i ≡ o
           → TriesFound (option_and_then {U = ℕ × packet.PacketValue} (λ p. Some (i, p)) o) v.rank.machine m
-          → StandsAt n (changed w r (Some (record { rank = uncounted v.rank (plain_tried v.rank m (option_and_then {U = ℕ × packet.PacketValue} (λ p. Some (i, p)) o)); left = [] }))
+          → StandsAt n (changed w r
+          (Some (record { rank = uncounted v.rank (plain_tried v.rank m (option_and_then {U = ℕ × packet.PacketValue} (λ p. Some (i, p)) o)); left = [] }))
           w.images w.logger w.lines w.run)
       go None f t = missing selector e t
       go (Some p) f t = hitting (want.TryProbe selector) selector e (inr refl) i p there f t

@@ -103,7 +103,8 @@ module _ (n : ℕ) (w : WorldValue) (r : ℕ) (v : Live) (e : EventValue) (rest 
     grows = row_one_more w.run r first.act e first.is_for;
     as_many = refl;
     stands =
-        Stands-passed n w r first.act (record { rank = after_passing v.rank pending stored v.rank.log; left = v.left }) logger w.lines s lt first.can first.stands
+        Stands-passed n w r first.act (record { rank = after_passing v.rank pending stored v.rank.log; left = v.left }) logger w.lines s lt
+        first.can first.stands
         (ap length rows ∙ length-set w.logger.rows r _ ∙ s.as_many_rows) rows_are
         (λ q. s.lines q ∙ sym (printed_same w.run r q first.act
         (event_prints_none _ _ first.act (looked_up (λ z. sent w.run z r) first.act) e first.is_for)));
@@ -128,7 +129,8 @@ both_pass : (n : ℕ) (w : WorldValue) (r : ℕ) (u v : Live) (e f : EventValue)
 both_pass n w r u v e f es before after one others =
     record {
       acts = one.acts ++ others.acts;
-      grows = ap (λ z. row z r) (continued w.run r one.acts others.acts) ∙ others.grows ∙ ap (λ z. z ++ f ∷ es) one.grows ∙ append_assoc (row w.run r) (e ∷ []) (f ∷ es);
+      grows = ap (λ z. row z r) (continued w.run r one.acts others.acts) ∙ others.grows ∙ ap (λ z. z ++ f ∷ es) one.grows
+          ∙ append_assoc (row w.run r) (e ∷ []) (f ∷ es);
       as_many = many (length es) one.acts others.acts one.as_many others.as_many;
       stands =
           subst (λ z. StandsAt n (changed w r (Some v) w.images after w.lines z)) (sym (continued w.run r one.acts others.acts))
@@ -168,6 +170,7 @@ all_pass n w r v e (f ∷ es) rest pending stored logger s lt live is same low r
 
 -- ---- the oldest event is stored
 
+-- after a store ranks and images stand in a run that goes on by the acts of the stored event
 pub Stands-store : (w : WorldValue) (r : ℕ) (answer : Reply) (w' : WorldValue) → Stands w → StoreFollows w r answer w' → GoesOn w'
 Stands-store w r answer w' s f =
     subst (λ z. GoesOn z) (sym f.after)
@@ -222,7 +225,8 @@ Stands-store w r answer w' s f =
         ∙ ap (λ z. z ++ parts_of f.event) (sym (index_expanded w.logger.rows r))
         ∙ ap (λ z. slice_index_or (map expand w.logger.rows) r [] ++ z) parts.parts)
 
-    passes : SomePassed (size w) (without_runs w) r (plain v) (parts.first ∷ parts.others) (record { rows = map expand w'.logger.rows; history = w'.logger.history })
+    passes : SomePassed (size w) (without_runs w) r (plain v) (parts.first ∷ parts.others)
+        (record { rows = map expand w'.logger.rows; history = w'.logger.history })
     passes =
         all_pass (size w) (without_runs w) r (plain f.before) parts.first parts.others (expanded (drop (f.before.rank.stored + 1) f.before.rank.pending))
         (plainly (f.before.rank.stored + 1) f.before.rank.pending) (f.before.rank.stored + 1)

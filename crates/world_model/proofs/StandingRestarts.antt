@@ -48,7 +48,8 @@ Stands-restart w r answer w' s f =
     (record {
       run =
           subst (λ k. StandsAt k (without_runs after)) (sym (length-set w.ranks r (Some v)))
-          (subst (λ z. StandsAt (size w) (record (without_runs w) { ranks = z; logger = record { rows = map expand w'.logger.rows; history = w'.logger.history } }))
+          (subst (λ z.
+          StandsAt (size w) (record (without_runs w) { ranks = z; logger = record { rows = map expand w'.logger.rows; history = w'.logger.history } }))
           (sym (set_plainly w.ranks r v u same))
           (Stands-rank (size w) (without_runs w) r (Some u) (record { rows = map expand w'.logger.rows; history = w'.logger.history }) s.run
           (ap (λ z. map expand z) rows_same)

@@ -74,7 +74,8 @@ Stands-step w r answer w' s f =
 
     -- the step of the rank without runs
     stepped : StandsAt (size w) (record (without_runs w) {
-      ranks = slice_set (without_runs w).ranks r (Some (record { rank = plain_step_at (plain_rank f.before.rank) (machine_want f.before.rank.machine) f.machine; left = [] }));
+      ranks = slice_set (without_runs w).ranks r
+          (Some (record { rank = plain_step_at (plain_rank f.before.rank) (machine_want f.before.rank.machine) f.machine; left = [] }));
       lines = lines_after w.lines r (plain_rank f.before.rank) (machine_want f.before.rank.machine)
           (turn_at (plain_rank f.before.rank) (machine_want f.before.rank.machine));
       run = passed_at w.run r (f.before.rank.clock + 1) (effect_at (plain_rank f.before.rank) (machine_want f.before.rank.machine)
@@ -102,10 +103,12 @@ Stands-step w r answer w' s f =
         (turn_at f.before.rank (machine_want f.before.rank.machine))
 
     ranks : map (option_map plain) (slice_set w.ranks r (Some u))
-        ≡ slice_set (without_runs w).ranks r (Some (record { rank = plain_step_at (plain_rank f.before.rank) (machine_want f.before.rank.machine) f.machine; left = [] }))
+        ≡ slice_set (without_runs w).ranks r
+        (Some (record { rank = plain_step_at (plain_rank f.before.rank) (machine_want f.before.rank.machine) f.machine; left = [] }))
     ranks =
         set_plainly w.ranks r u (record { rank = plain_step_at (plain_rank f.before.rank) (machine_want f.before.rank.machine) f.machine; left = [] })
-        (ap (λ z. record { rank = z; left = [] }) (stepped_plainly f.before (s.runs.ranks r f.before f.live) low f.machine clock (machine_want f.before.rank.machine)))
+        (ap (λ z. record { rank = z; left = [] })
+        (stepped_plainly f.before (s.runs.ranks r f.before f.live) low f.machine clock (machine_want f.before.rank.machine)))
 
     stands : StandsAt (size w) (without_runs after)
     stands =
@@ -116,13 +119,15 @@ Stands-step w r answer w' s f =
               (effect_at f.before.rank (machine_want f.before.rank.machine) (turn_at f.before.rank (machine_want f.before.rank.machine)));
         })) (sym ranks)
         (subst (λ z. StandsAt (size w) (record (without_runs w) {
-          ranks = slice_set (without_runs w).ranks r (Some (record { rank = plain_step_at (plain_rank f.before.rank) (machine_want f.before.rank.machine) f.machine; left = [] }));
+          ranks = slice_set (without_runs w).ranks r
+              (Some (record { rank = plain_step_at (plain_rank f.before.rank) (machine_want f.before.rank.machine) f.machine; left = [] }));
           lines = z;
           run = passed_at w.run r (f.before.rank.clock + 1)
               (effect_at f.before.rank (machine_want f.before.rank.machine) (turn_at f.before.rank (machine_want f.before.rank.machine)));
         })) lines
         (subst (λ z. StandsAt (size w) (record (without_runs w) {
-          ranks = slice_set (without_runs w).ranks r (Some (record { rank = plain_step_at (plain_rank f.before.rank) (machine_want f.before.rank.machine) f.machine; left = [] }));
+          ranks = slice_set (without_runs w).ranks r
+              (Some (record { rank = plain_step_at (plain_rank f.before.rank) (machine_want f.before.rank.machine) f.machine; left = [] }));
           lines = lines_after w.lines r (plain_rank f.before.rank) (machine_want f.before.rank.machine)
               (turn_at (plain_rank f.before.rank) (machine_want f.before.rank.machine));
           run = passed_at w.run r (f.before.rank.clock + 1) z;

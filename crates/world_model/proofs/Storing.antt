@@ -1,6 +1,7 @@
 -- The oldest unstored event of a rank: the logger accepts it, and it names a message of the run, or is a run of misses from
 -- the next act of its rank on.
-use Rattle.std.proofs.Common.{◌≡◌, ℕ, zero, suc, ◌+◌, ◌-◌, ◌<◌, ◌≤◌, ⊎_elim, List, [], ◌∷◌, ◌++◌, map, true, Some, length, drop, refl, sym, ap, subst, ◌∙◌, arith, append_assoc}
+use Rattle.std.proofs.Common.{◌≡◌, ℕ, zero, suc, ◌+◌, ◌-◌, ◌<◌, ◌≤◌, ⊎_elim, List, [], ◌∷◌, ◌++◌, map, true, Some, length, drop, refl, sym, ap, subst, ◌∙◌}
+use Rattle.std.proofs.Common.{arith, append_assoc}
 use Rattle.std.proofs.Common.{slice_get, slice_index_or, replicate}
 use Rattle.std.proofs.lemmas.Bool.{cases_lt, lt-leb}
 use Rattle.std.proofs.lemmas.List.{append-nil, length_push}
@@ -53,7 +54,8 @@ module _ (w : WorldValue) (r : ℕ) (v : Live) (x : EventValue) (s : Stands w) (
 
   -- of which the first is pending
   pub oldest_part : (p : EventValue) × (ps : List EventValue) × (parts_of x ≡ p ∷ ps) × (p.receiver_clock ≡ first_clock x)
-  oldest_part = (let z = first_part x ((s.runs.ranks r v live).unstored 0 x (ap (λ y. slice_get (events_in y) 0) first)) in (z.first, z.others, z.parts, z.clock))
+  oldest_part =
+      (let z = first_part x ((s.runs.ranks r v live).unstored 0 x (ap (λ y. slice_get (events_in y) 0) first)) in (z.first, z.others, z.parts, z.clock))
 
   pub oldest_act : (a : Act) × (p : EventValue) × (ps : List EventValue) × (parts_of x ≡ p ∷ ps) × (p.receiver_clock ≡ first_clock x)
       × (event_at (length (history w.run r) + 1) a (looked_up (λ q. sent w.run q r) a) ≡ Some p)
@@ -61,7 +63,8 @@ module _ (w : WorldValue) (r : ℕ) (v : Live) (x : EventValue) (s : Stands w) (
       let z = first_part x ((s.runs.ranks r v live).unstored 0 x (ap (λ y. slice_get (events_in y) 0) first)) in
       let is : unpassed (plain_rank v.rank) ≡ waits.Event z.first ∷ (map waits.Event z.others ++ expanded (drop (v.rank.stored + 1) v.rank.pending)) =
       unpassed_plain v.rank ∙ ap (λ y. expanded y) first ∙ ap (λ y. map waits.Event y ++ expanded (drop (v.rank.stored + 1) v.rank.pending)) z.parts in
-      let a = first_pending (start_at w (size w)) w.run r (rank_of s r v live).acts z.first (map waits.Event z.others ++ expanded (drop (v.rank.stored + 1) v.rank.pending))
+      let a = first_pending (start_at w (size w)) w.run r (rank_of s r v live).acts z.first
+      (map waits.Event z.others ++ expanded (drop (v.rank.stored + 1) v.rank.pending))
       (subst (λ y. Pending (start_at w (size w)) w.run r (rank_of s r v live).acts y) is (rank_of s r v live).pending) in
       (a.0, z.first, z.others, z.parts, z.clock, a.1)
 

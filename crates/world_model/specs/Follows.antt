@@ -146,7 +146,8 @@ pub record ReplayFollows (w : WorldValue) (r : ℕ) (answer : Reply) (w' : World
   pub machine : MachineValue
   pub steps : ReplayStep before.rank event machine
   pub answered : answer ≡ stepped turn
-  pub after : w' ≡ after_turn w r before turn (after_replay before.rank event machine) (left_after before.rank (machine_want before.rank.machine) turn event rest)
+  pub after : w'
+      ≡ after_turn w r before turn (after_replay before.rank event machine) (left_after before.rank (machine_want before.rank.machine) turn event rest)
 
 -- the reply to a frame that was put, by its index
 abbrev pub put_as : ℕ → Frame → Reply

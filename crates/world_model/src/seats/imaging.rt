@@ -16,7 +16,8 @@ impl<'p> Seats<'p> {
         requires work { AtRank self.old.ranks rank (λ v. v.left ≡ []) }
         requires settled { AtRank self.old.ranks rank (λ v. v.rank.pending ≡ []) }
         ensures ok { OnOk result (AtRank self.old.ranks rank (λ v. (x : Option Live) × (image : Option ImageValue)
-            × IsImaged self.old.program (length self.old.ranks) rank v x image × (self.new.ranks ≡ slice_set self.old.ranks rank x) × (self.new.images ≡ slice_set self.old.images rank image))) }
+            × IsImaged self.old.program (length self.old.ranks) rank v x image × (self.new.ranks ≡ slice_set self.old.ranks rank x)
+            × (self.new.images ≡ slice_set self.old.images rank image))) }
         ensures program { self.new.program ≡ self.old.program }
         ensures err { OnErr result (self.new ≡ self.old) }
     {

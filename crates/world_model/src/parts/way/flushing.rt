@@ -26,7 +26,8 @@ impl<'p> Parts<'p> {
         requires live { AllLive self.old }
         requires dest { dest < size self.old }
         ensures flushed { OnOk result (Flushed self.old events.old.items self.new events.new.items) }
-        ensures more { IfOk result (λ more. MatchBool more (outstanding_at source dest self.new < outstanding_at source dest self.old) (IsGone source dest self.new)) }
+        ensures more { IfOk result (λ more. MatchBool more (outstanding_at source dest self.new < outstanding_at source dest self.old)
+            (IsGone source dest self.new)) }
     {
         let put = WorldEvent::Put {
             source: u32::from(source),

@@ -16,7 +16,8 @@ there c =
 -- src/parts/way/making.rt
 pub overflow_add-index_mut : goal.overflow_add-index_mut
 overflow_add-index_mut c =
-    let m : c.index_mut.result.now ≤ 268435455 = low_count c.args.self.now c.args.index _ _ _ _ c.requires.ready c.from.ensures (there c) c.requires.counted c.index_mut.ensures.value in
+    let m : c.index_mut.result.now ≤ 268435455 =
+    low_count c.args.self.now c.args.index _ _ _ _ c.requires.ready c.from.ensures (there c) c.requires.counted c.index_mut.ensures.value in
     grind (arith, m)
 
 -- src/parts/way/making.rt
@@ -28,7 +29,8 @@ returns-clause-made c =
     let e = ap (λ (z : WorldValue). length z.ranks) c.self.view_is in
     let n = c.loop-step.invariant.0.same_size in
     near_made _ _ _ _ _ _ _ _ (subst (λ (z : WorldValue). IsNext z.run c.args.index c.rank_at-rank.result) c.self.view_is c.rank_at-rank.ensures.next)
-    (new_count _ c.args.index _ _ _ _ _ c.args.self.now.run _ c.from.ensures c.from-2.ensures (omega (arith, l, a, b, e)) c.requires.counted c.index_mut.ensures.value c.index-count.ensures)
+    (new_count _ c.args.index _ _ _ _ _ c.args.self.now.run _ c.from.ensures c.from-2.ensures (omega (arith, l, a, b, e)) c.requires.counted
+    c.index_mut.ensures.value c.index-count.ensures)
     (omega (arith, l, a, b, e, n)) c.loop-step.invariant.0 c.view.ensures c.loop-step.invariant.1 c.loop-step-test.false
 
 -- src/parts/way/making.rt
@@ -51,7 +53,8 @@ loop-step-preserved c =
     let e = ap (λ (z : WorldValue). length z.ranks) c.self.view_is in
     let n = c.loop-step.invariant.0.same_size in
     let s = step_next _ _ _ _ _ _ _ _ (subst (λ (z : WorldValue). IsNext z.run c.args.index c.rank_at-rank.result) c.self.view_is c.rank_at-rank.ensures.next)
-    (new_count _ c.args.index _ _ _ _ _ c.args.self.now.run _ c.from.ensures c.from-2.ensures (omega (arith, l, a, b, e)) c.requires.counted c.index_mut.ensures.value c.index-count.ensures)
+    (new_count _ c.args.index _ _ _ _ _ c.args.self.now.run _ c.from.ensures c.from-2.ensures (omega (arith, l, a, b, e)) c.requires.counted
+    c.index_mut.ensures.value c.index-count.ensures)
     (omega (arith, l, a, b, e, n)) c.loop-step.invariant.0 c.view.ensures _ _ _ _ c.from-in-loop-step.ensures c.loop-step.invariant.1 c.loop-step-test.true
     c.in_ok-drive.ensures.follows c.in_ok-drive.ensures.list in
     (s.0, s.1)
@@ -65,7 +68,8 @@ loop-step-smaller c =
     let e = ap (λ (z : WorldValue). length z.ranks) c.self.view_is in
     let n = c.loop-step.invariant.0.same_size in
     let s = step_next _ _ _ _ _ _ _ _ (subst (λ (z : WorldValue). IsNext z.run c.args.index c.rank_at-rank.result) c.self.view_is c.rank_at-rank.ensures.next)
-    (new_count _ c.args.index _ _ _ _ _ c.args.self.now.run _ c.from.ensures c.from-2.ensures (omega (arith, l, a, b, e)) c.requires.counted c.index_mut.ensures.value c.index-count.ensures)
+    (new_count _ c.args.index _ _ _ _ _ c.args.self.now.run _ c.from.ensures c.from-2.ensures (omega (arith, l, a, b, e)) c.requires.counted
+    c.index_mut.ensures.value c.index-count.ensures)
     (omega (arith, l, a, b, e, n)) c.loop-step.invariant.0 c.view.ensures _ _ _ _ c.from-in-loop-step.ensures c.loop-step.invariant.1 c.loop-step-test.true
     c.in_ok-drive.ensures.follows c.in_ok-drive.ensures.list in
     let longer = s.2 in

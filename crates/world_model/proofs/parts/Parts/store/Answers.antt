@@ -10,7 +10,8 @@ use Rattle.world_model.proofs.parts.Parts.store.Goals as goal
 pub store-requires-clause-accepted : goal.store-requires-clause-accepted
 store-requires-clause-accepted c =
     subst (λ (z : WorldValue). AtRank z.ranks c.in-Some.rank (λ (v : Live). IsAccepted z.logger c.in-Some.rank (next_unstored v.rank))) (sym c.self-2.view_is)
-    (subst (λ (z : WorldValue). AtRank z.ranks c.in-Some.rank (λ (v : Live). IsAccepted z.logger c.in-Some.rank (next_unstored v.rank))) (sym c.in_ok-acts.ensures.others)
+    (subst (λ (z : WorldValue). AtRank z.ranks c.in-Some.rank (λ (v : Live). IsAccepted z.logger c.in-Some.rank (next_unstored v.rank)))
+    (sym c.in_ok-acts.ensures.others)
     (store_accepted c.args.self.now c.in-Some.rank c.in-Some-running.running.now c.in-Some-oldest_unstored.event c.requires
     (subst (λ z. slice_get z.ranks c.in-Some.rank ≡ Some (at_work c.in-Some-running.running.now)) c.self.view_is c.in-Some-running.ensures.some)
     (sym c.oldest_unstored.ensures ∙ c.in-Some-oldest_unstored.is)))
