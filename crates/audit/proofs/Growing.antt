@@ -87,6 +87,7 @@ row_grows P p r =
     let b = history_grows P p r in
     subst (λ h. IsBeginning (row P r) (events_from 0 h)) (sym b.1) (events_grow (history P r) b.0)
 
+-- its lines begin with those that it had before, too
 pub lines_grow : (P : List Passed) (p : Passed) (r : ℕ) → IsBeginning (printed P r) (printed (p ∷ P) r)
 lines_grow P p r =
     let b = history_grows P p r in

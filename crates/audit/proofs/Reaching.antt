@@ -74,6 +74,7 @@ from_line (Some (while_line e q)) k w = inr refl
 from_line (Some (back_line q)) None w = inl refl
 from_line (Some (back_line q)) (Some k) w = inr refl
 
+-- a machine asks for what it wants
 asks : (m : MachineValue) → Wants m (machine_want m)
 asks m = record { at_want = refl; from_state = from_line (line_at m) m.fault (wants (state_of m)) }
 
@@ -93,12 +94,15 @@ record IsAtEnd (w : Want) : Type 0 where
   apart : w ≢ want.Internal
   no_send : (items : List ℤ) (a : Act) (o : Option Message) → IsSendAct a → Fits w items a o → ⊥
 
+-- a rank that waits is at its end
 waits : (w : Want) → IsWaiting w → IsAtEnd w
 waits w i = record { apart = λ e. subst IsWaiting e i; no_send = λ items a o s f. waits_no_send w items a o i s f }
 
+-- so is one that has halted
 halts : (w : Want) → w ≡ want.Halted → IsAtEnd w
 halts w e = record { apart = λ q. cc; no_send = λ items a o s f. subst (λ z. Fits z items a o) e f }
 
+-- so is one that has met a fault
 faults : (w : Want) (k : MachineFault) → w ≡ want.Faulted k → IsAtEnd w
 faults w k e = record { apart = λ q. cc; no_send = λ items a o s f. subst (λ z. Fits z items a o) e f }
 

@@ -37,6 +37,7 @@ record AskedFor (s : SimValue) (r : ℕ) (w : Want) (act : Act) : Type 0 where
   asks : Wants machine w
   is : IsAsked s r machine w act
 
+-- an act that is offered to a rank is one that it asks for
 asked_for : (o : OutcomeValue) (s : SimValue) (r : ℕ) (w : Want) (act : Act) → Simulates s → WantsAt s.machines r w → w ≢ want.Internal → IsOffered o s r act
     → AskedFor s r w act
 asked_for o s r w act simulates wanted apart offered =

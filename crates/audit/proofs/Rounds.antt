@@ -93,6 +93,7 @@ pub record Turned (o : OutcomeValue) (first left : List ℕ) (start s : SimValue
   pub same : moved ≡ false → s ≡ start
   pub stuck : moved ≡ false → (r k : ℕ) → r < rank → slice_get left r ≡ Some k → 0 < k → IsStuck o s r
 
+-- after the turn of one rank more the round has moved if it had before, or if that rank has fewer steps left
 pub turned_one : (o : OutcomeValue) (first left : List ℕ) (start s s' : SimValue) (rank before after : ℕ) (moved moved' : Bool)
     → Turned o first left start s rank moved → slice_get left rank ≡ Some before → Plays o rank before after s s' → after ≤ before
     → (after ≡ before → s' ≡ s) → (0 < after → IsStuck o s' rank) → moved' ≡ moved || not (after == before)

@@ -8,6 +8,7 @@ use Rattle.explore.proofs.Exploring.{both_ways, follows_both}
 use Rattle.explore.proofs.Ending.{fixed_still}
 use Rattle.explore.proofs.Finding.{same_histories}
 
+-- what is explored after a run is explored after any run of the same acts of each rank
 pub searched_alike : (start : ℕ → State) (n : ℕ) (found : List RankOutcome → Type 0) (P Q : List Passed) → IsExplored start n found P → IsRun start n Q
     → IsPartOf P Q → IsPartOf Q P → IsExplored start n found Q
 searched_alike start n found P Q (ends o is_its is_found) run part back =

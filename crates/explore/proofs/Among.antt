@@ -1,5 +1,6 @@
 -- What stands among some, and among some and one more.
-use Rattle.std.proofs.Common.{◌≡◌, ℕ, zero, suc, ◌<◌, ◌+◌, ◌==◌, Bool, true, false, List, [], ◌∷◌, ◌++◌, Option, Some, None, length, slice_get, get_or, ◌⊎◌, inl, inr, refl, sym, ap, subst, ◌∙◌, arith}
+use Rattle.std.proofs.Common.{◌≡◌, ℕ, zero, suc, ◌<◌, ◌+◌, ◌==◌, Bool, true, false, List, [], ◌∷◌, ◌++◌, Option, Some, None, length, slice_get, get_or, ◌⊎◌}
+use Rattle.std.proofs.Common.{inl, inr, refl, sym, ap, subst, ◌∙◌, arith}
 use Rattle.std.specs.Prelude.{slice_index, option_to_list}
 use Rattle.std.proofs.lemmas.Bool.{cases_eq}
 use Rattle.std.proofs.lemmas.List.{append-nil}
@@ -96,5 +97,6 @@ has_first xs (suc k) b e f l = omega (arith, l)
 pub popped_some : {A : Type 0} (old new : List A) (o : Option A) (x : A) → old ≡ new ++ option_to_list o → o ≡ Some x → old ≡ new ++ x ∷ []
 popped_some old new o x e some = e ∙ ap (λ z. new ++ option_to_list z) some
 
+-- a list from which nothing could be popped is as it was
 pub popped_none : {A : Type 0} (old new : List A) (o : Option A) → old ≡ new ++ option_to_list o → o ≡ None → old ≡ new
 popped_none old new o e none = e ∙ ap (λ z. new ++ option_to_list z) none ∙ append-nil new

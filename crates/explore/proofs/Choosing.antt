@@ -59,6 +59,7 @@ pub record Allowed (s : SimValue) (r : ℕ) (c : Choice) (s' : SimValue) : Type 
   pub there : slice_get s.machines r ≡ Some machine
   pub does : Does (meant machine c) s r machine machine' s'
 
+-- what a choice leads to is allowed with both machines of its rank
 pub allowed_of : (s s' : SimValue) (r : ℕ) (c : Choice) → Allows s r c s' → Allowed s r c s'
 allowed_of s s' r c allows =
     let m = there_is (slice_get s.machines r) (λ m. IsSomeAnd (slice_get s'.machines r) (λ m'. Does (meant m c) s r m m' s')) allows in
@@ -88,7 +89,8 @@ by_act s s' r m' act then same =
     is_run : IsRun (start_of s.program (length s.machines)) (length s.machines) (and_then s.run r act)
     is_run =
         subst (λ C. IsRun (start_of s.program (length s.machines)) (length s.machines) C) run
-        (subst (λ n. IsRun (start_of s.program n) n s'.run) as_many (subst (λ p. IsRun (start_of p (length s'.machines)) (length s'.machines) s'.run) program then.is_run))
+        (subst (λ n. IsRun (start_of s.program n) n s'.run) as_many
+        (subst (λ p. IsRun (start_of p (length s'.machines)) (length s'.machines) s'.run) program then.is_run))
 
 -- a choice that is allowed, of a rank that asks for no step of its own, is an act
 pub goes_by : (s s' : SimValue) (r : ℕ) (c : Choice) → Simulates s → Simulates s' → StandsAtAct s.machines r → Allows s r c s' → IsStep s r s'

@@ -60,7 +60,8 @@ module _ (start : ℕ → State) (n : ℕ) (C : List Passed) (r q : ℕ) (act a 
   last : (k j : ℕ) (b c : Act) → (k ≡ j → ⊥) → MayFollow start n C k b
       → history (and_then (and_then C j c) k b) k ≡ history C k ++ (b, looked_up (λ s. sent C s k) b) ∷ []
   last k j b c ne m =
-      history-own (and_then C j c) k b ∙ ap (λ h. h ++ (b, looked_up (λ s. sent (and_then C j c) s k) b) ∷ []) (history-other C (record { rank = j; act = c }) k (λ e. ne (sym e)))
+      history-own (and_then C j c) k b
+      ∙ ap (λ h. h ++ (b, looked_up (λ s. sent (and_then C j c) s k) b) ∷ []) (history-other C (record { rank = j; act = c }) k (λ e. ne (sym e)))
       ∙ ap (λ o. history C k ++ (b, o) ∷ []) (found_too (record { rank = j; act = c }) k b m)
 
   before : (k j : ℕ) (b c : Act) → (k ≡ j → ⊥)
@@ -85,6 +86,7 @@ module _ (start : ℕ → State) (n : ℕ) (C : List Passed) (r q : ℕ) (act a 
 same_part : (C D E : List Passed) → ((z : ℕ) → history C z ≡ history D z) → IsPartOf D E → IsPartOf C E
 same_part C D E same part = λ z. subst (λ h. IsBeginning h (history E z)) (sym (same z)) (part z)
 
+-- a part of one run is a part of another in which each rank made the same acts
 same_whole : (C D E : List Passed) → ((z : ℕ) → history C z ≡ history D z) → IsPartOf E D → IsPartOf E C
 same_whole C D E same part = λ z. subst (λ h. IsBeginning (history E z) h) (sym (same z)) (part z)
 
@@ -152,5 +154,6 @@ ends_after start n found P C (branch r act may explored) run whole part =
     go known (inr next) = known next.0 next.1 next.2 C whole next.3
 
 -- so no run of the program goes on for ever
-pub all_end : (program : ProgramValue) (n : ℕ) (found : List RankOutcome → Type 0) → IsExplored (start_of program n) n found [] → AlwaysEnds (start_of program n) n []
+pub all_end : (program : ProgramValue) (n : ℕ) (found : List RankOutcome → Type 0) → IsExplored (start_of program n) n found []
+    → AlwaysEnds (start_of program n) n []
 all_end program n found explored = ends_after (start_of program n) n found [] [] explored tt tt (λ r. ([], refl))

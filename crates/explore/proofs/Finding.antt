@@ -20,6 +20,7 @@ total (suc k) C = total k C + length (history C k)
 own_longer : (C : List Passed) (r : ℕ) (act : Act) → length (history (and_then C r act) r) ≡ length (history C r) + 1
 own_longer C r act = ap length (history-own C r act) ∙ length_push (history C r) (act, looked_up (λ s. sent C s r) act)
 
+-- an act of a rank from a number on isn't counted among the acts of ranks below it
 total_others : (k : ℕ) (p : Passed) (C : List Passed) → k ≤ p.rank → total k (p ∷ C) ≡ total k C
 unfolding total
 total_others zero p C l = refl
@@ -28,6 +29,7 @@ total_others (suc k) p C l =
     let here = ap length (history-other C p k (λ e. omega (arith, e, l))) in
     omega (arith, before, here)
 
+-- an act of a rank below the number is one more of them
 total_own : (k : ℕ) (p : Passed) (C : List Passed) → p.rank < k → total k (p ∷ C) ≡ total k C + 1
 unfolding total
 total_own zero p C l = absurd (omega (arith, l))
@@ -44,6 +46,7 @@ total_own (suc k) p C l = go (λ l'. total_own k p C l') (cases_eq p.rank k)
         let here = ap length (history-other C p k ne) in
         omega (arith, others, here)
 
+-- the acts of all ranks of a run are as many as the run has
 total_all : (start : ℕ → State) (n : ℕ) (C : List Passed) → IsRun start n C → total n C ≡ length C
 unfolding total
 total_all start n [] run = none n
@@ -56,6 +59,7 @@ total_all start n (p ∷ C) run =
     let one = total_own n p C run.1 in
     omega (arith, before, one)
 
+-- a part of a run has no more acts of these ranks than the run
 total_part : (k : ℕ) (P C : List Passed) → IsPartOf P C → total k P ≤ total k C
 unfolding total
 total_part zero P C part = omega arith

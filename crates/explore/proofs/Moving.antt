@@ -58,7 +58,8 @@ takes_one s r w k i old new adds here =
         → IsAmong (new ++ move_of r (choice.Take k i) ∷ []) (move_of r (choice.Take source place))
     go source place low e (inl same) =
         let one : i ≡ place =
-        one_eligible (inbound_of s.run r) (history s.run r) k i place w here (subst (λ q. IsEligible (inbound_of s.run r) (history s.run r) q place w) same e) in
+        one_eligible (inbound_of s.run r) (history s.run r) k i place w here
+        (subst (λ q. IsEligible (inbound_of s.run r) (history s.run r) q place w) same e) in
         subst (λ q. IsAmong (new ++ move_of r (choice.Take k i) ∷ []) (move_of r (choice.Take q place))) (sym same)
         (subst (λ j. IsAmong (new ++ move_of r (choice.Take k i) ∷ []) (move_of r (choice.Take k j))) one (among_last new (move_of r (choice.Take k i))))
     go source place low e (inr apart) =

@@ -1,5 +1,6 @@
 -- A search that keeps the branches still to be searched, the last of them next.
-use Rattle.std.proofs.Common.{◌≡◌, ℕ, zero, suc, ◌≤◌, ◌+◌, Bool, true, false, List, [], ◌∷◌, ◌++◌, Some, length, slice_get, ◌⊎◌, inl, inr, refl, sym, subst, ◌∙◌, arith}
+use Rattle.std.proofs.Common.{◌≡◌, ℕ, zero, suc, ◌≤◌, ◌+◌, Bool, true, false, List, [], ◌∷◌, ◌++◌, Some, length, slice_get, ◌⊎◌, inl, inr, refl, sym, subst}
+use Rattle.std.proofs.Common.{◌∙◌, arith}
 use Rattle.std.proofs.lemmas.Bool.{cases_eq}
 use Rattle.std.proofs.lemmas.Option.{slice_get_within}
 use Rattle.rank_language.specs.Program.{ProgramValue}
@@ -25,12 +26,15 @@ searched_by s s' found P alike x =
     subst (λ n. IsExplored (start_of s.program n) n (IsAmong found) P) alike.ranks
     (subst (λ p. IsExplored (start_of p (length s'.machines)) (length s'.machines) (IsAmong found) P) alike.program x)
 
+-- likeness of simulations goes both ways
 pub alike_back : (s s' : SimValue) → IsAlike s s' → IsAlike s' s
 alike_back s s' a = record { program = sym a.program; ranks = sym a.ranks }
 
+-- likeness of simulations goes on from one to the next
 pub alike_further : (s mid s' : SimValue) → IsAlike s mid → IsAlike mid s' → IsAlike s s'
 alike_further s mid s' a b = record { program = b.program ∙ a.program; ranks = b.ranks ∙ a.ranks }
 
+-- a simulation is like itself
 pub alike_same : (s : SimValue) → IsAlike s s
 alike_same s = record { program = refl; ranks = refl }
 
@@ -146,7 +150,8 @@ branches_more s moves k m b old mid now then acts there allows off =
 
 -- A branch that came to its end.
 pub looks_ended : (s s' : SimValue) (old new : List Branch) (outcomes outcomes' : List (List RankOutcome)) (o : List RankOutcome) → PlaysOn s old s' new
-    → IsOutcomeOf (start_of s'.program (length s'.machines)) (length s'.machines) s'.run o → Notes outcomes o outcomes' → Looks s true old new outcomes outcomes'
+    → IsOutcomeOf (start_of s'.program (length s'.machines)) (length s'.machines) s'.run o → Notes outcomes o outcomes'
+    → Looks s true old new outcomes outcomes'
 looks_ended s s' old new outcomes outcomes' o plays is_its notes =
     record {
       branches = plays.branches;
@@ -207,7 +212,8 @@ rest_alike program n outcomes pending cut b search x a =
     }
 
 -- after a branch was looked at
-pub searches_on : (program : ProgramValue) (n : ℕ) (outcomes outcomes' : List (List RankOutcome)) (pending new : List Branch) (cut cut' ended : Bool) (b : Branch)
+pub searches_on : (program : ProgramValue) (n : ℕ) (outcomes outcomes' : List (List RankOutcome)) (pending new : List Branch)
+    (cut cut' ended : Bool) (b : Branch)
     → Searches program n outcomes (pending ++ b ∷ []) cut → Looks b.sim ended pending new outcomes outcomes'
     → (cut' ≡ false → (cut ≡ false) × (ended ≡ true)) → Searches program n outcomes' new cut'
 searches_on program n outcomes outcomes' pending new cut cut' ended b search looks whole =

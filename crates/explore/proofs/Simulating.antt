@@ -142,6 +142,7 @@ pub none_of_halted : (s : SimValue) (r : ℕ) (m : MachineValue) (act : Act) →
 none_of_halted s r m act simulates there asks may = (answers s r m want.Halted simulates there asks (λ q. cc) act may).0
 
 -- nor does who has faulted
-pub none_of_faulted : (s : SimValue) (r : ℕ) (m : MachineValue) (fault : _) (act : Act) → Simulates s → slice_get s.machines r ≡ Some m → Wants m (want.Faulted fault)
+pub none_of_faulted : (s : SimValue) (r : ℕ) (m : MachineValue) (fault : _) (act : Act) → Simulates s → slice_get s.machines r ≡ Some m
+    → Wants m (want.Faulted fault)
     → MayFollow (start_of s.program (length s.machines)) (length s.machines) s.run r act → ⊥
 none_of_faulted s r m fault act simulates there asks may = (answers s r m (want.Faulted fault) simulates there asks (λ q. cc) act may).0

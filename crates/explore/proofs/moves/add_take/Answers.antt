@@ -14,4 +14,5 @@ returns c = λ before adds.
 
 pub returns-in_default : goal.returns-in_default
 returns-in_default c = λ before adds.
-    takes_none c.args.sim.now c.args.rank c.args.selector.now c.args.source before c.args.moves.now.items adds (rw c.in_default.is at c.eligible.ensures.none refl)
+    takes_none c.args.sim.now c.args.rank c.args.selector.now c.args.source before c.args.moves.now.items adds
+    (rw c.in_default.is at c.eligible.ensures.none refl)

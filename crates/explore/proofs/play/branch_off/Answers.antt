@@ -13,13 +13,15 @@ loop-at-init c = (omega arith, branches_none c.args.branch.now.sim c.args.moves.
 pub choose-requires-clause-rank : goal.choose-requires-clause-rank
 choose-requires-clause-rank c =
     let low : c.loop-at.at - 1 < length c.args.moves.now = omega (arith, c.loop-at.invariant.0, c.loop-at-test.true) in
-    let it = c.requires.acts (get_or c.args.moves.now (c.loop-at.at - 1) (move_of 0 Next)) (among_index c.args.moves.now (c.loop-at.at - 1) (move_of 0 Next) low) in
+    let it =
+    c.requires.acts (get_or c.args.moves.now (c.loop-at.at - 1) (move_of 0 Next)) (among_index c.args.moves.now (c.loop-at.at - 1) (move_of 0 Next) low) in
     rw c.in_ok-next.ensures.sim it.0
 
 pub choose-requires-clause-left : goal.choose-requires-clause-left
 choose-requires-clause-left c =
     let low : c.loop-at.at - 1 < length c.args.moves.now = omega (arith, c.loop-at.invariant.0, c.loop-at-test.true) in
-    let it = c.requires.left (get_or c.args.moves.now (c.loop-at.at - 1) (move_of 0 Next)) (among_index c.args.moves.now (c.loop-at.at - 1) (move_of 0 Next) low) in
+    let it =
+    c.requires.left (get_or c.args.moves.now (c.loop-at.at - 1) (move_of 0 Next)) (among_index c.args.moves.now (c.loop-at.at - 1) (move_of 0 Next) low) in
     rw c.in_ok-next.ensures.left it
 
 pub loop-at-preserved : goal.loop-at-preserved
@@ -37,4 +39,5 @@ loop-at-preserved c =
 
 pub returns : goal.returns
 returns c =
-    branches_from c.args.branch.now.sim c.args.moves.now c.loop-at.at c.args.pending.now.items c.loop-at.pending.items c.loop-at-test.false c.loop-at.invariant.1
+    branches_from c.args.branch.now.sim c.args.moves.now c.loop-at.at c.args.pending.now.items c.loop-at.pending.items c.loop-at-test.false
+    c.loop-at.invariant.1

@@ -8,7 +8,8 @@ use Rattle.explore.proofs.play.is_spent.Goals as goal
 
 pub bounds-left-from : goal.bounds-left-from
 bounds-left-from c =
-    let it = c.requires (get_or c.args.moves.now c.loop-each.each-index (move_of 0 Next)) (among_index c.args.moves.now c.loop-each.each-index (move_of 0 Next) c.loop-each-test.true) in
+    let it = c.requires (get_or c.args.moves.now c.loop-each.each-index (move_of 0 Next))
+    (among_index c.args.moves.now c.loop-each.each-index (move_of 0 Next) c.loop-each-test.true) in
     omega (arith, it, c.from.ensures)
 
 pub loop-each-preserved : goal.loop-each-preserved

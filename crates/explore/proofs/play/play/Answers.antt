@@ -25,8 +25,10 @@ branch_off-requires-clause-acts c = λ m a.
 pub choose-requires-clause-rank : goal.choose-requires-clause-rank
 choose-requires-clause-rank c =
     let acts : AreOfRanks c.advance.new.sim c.in-Some.found.items = rw c.in-Some.is at c.in_ok-found.ensures.acts in
-    let size : length c.in-Some.found.items ≡ vec_len c.in-Some.found = subst (λ xs. length xs ≡ vec_len c.in-Some.found) c.deref.ensures.value c.deref.ensures.len in
-    let some : 0 < length c.in-Some.found.items = has_first c.in-Some.found.items (vec_len c.in-Some.found) c.is_empty.result c.is_empty.ensures c.if-is_empty.false size in
+    let size : length c.in-Some.found.items ≡ vec_len c.in-Some.found =
+    subst (λ xs. length xs ≡ vec_len c.in-Some.found) c.deref.ensures.value c.deref.ensures.len in
+    let some : 0 < length c.in-Some.found.items =
+    has_first c.in-Some.found.items (vec_len c.in-Some.found) c.is_empty.result c.is_empty.ensures c.if-is_empty.false size in
     let there : slice_get c.in-Some.found.items 0 ≡ Some c.index.result.now =
     slice_get_read c.in-Some.found.items (length c.in-Some.found.items) 0 c.index.result.now refl some c.index.ensures in
     (acts c.index.result.now (0, there)).0
@@ -35,8 +37,10 @@ pub loop-branch-preserved : goal.loop-branch-preserved
 loop-branch-preserved c =
     let all : HasAll c.advance.new.sim c.in-Some.found.items = rw c.in-Some.is at c.in_ok-found.ensures.all in
     let acts : AreOfRanks c.advance.new.sim c.in-Some.found.items = rw c.in-Some.is at c.in_ok-found.ensures.acts in
-    let size : length c.in-Some.found.items ≡ vec_len c.in-Some.found = subst (λ xs. length xs ≡ vec_len c.in-Some.found) c.deref.ensures.value c.deref.ensures.len in
-    let some : 0 < length c.in-Some.found.items = has_first c.in-Some.found.items (vec_len c.in-Some.found) c.is_empty.result c.is_empty.ensures c.if-is_empty.false size in
+    let size : length c.in-Some.found.items ≡ vec_len c.in-Some.found =
+    subst (λ xs. length xs ≡ vec_len c.in-Some.found) c.deref.ensures.value c.deref.ensures.len in
+    let some : 0 < length c.in-Some.found.items =
+    has_first c.in-Some.found.items (vec_len c.in-Some.found) c.is_empty.result c.is_empty.ensures c.if-is_empty.false size in
     let there : slice_get c.in-Some.found.items 0 ≡ Some c.index.result.now =
     slice_get_read c.in-Some.found.items (length c.in-Some.found.items) 0 c.index.result.now refl some c.index.ensures in
     let off =
@@ -46,7 +50,8 @@ loop-branch-preserved c =
     plays_along c.args.branch.now.sim c.args.pending.now.items c.loop-branch.branch.sim c.advance.new.sim c.loop-branch.pending.items c.loop-branch.invariant.0
     c.advance.ensures.leads in (
       plays_moves c.args.branch.now.sim c.args.pending.now.items c.advance.new.sim c.choose.new.self.sim c.loop-branch.pending.items
-          c.branch_off.new.pending.items c.in-Some.found.items c.index.result.now plays c.advance.ensures.leads.stands c.in_ok-choose.ensures.stands all acts there off
+          c.branch_off.new.pending.items c.in-Some.found.items c.index.result.now plays c.advance.ensures.leads.stands c.in_ok-choose.ensures.stands all
+          acts there off
           c.in_ok-choose.ensures.allowed,
       c.in_ok-choose.ensures.stands,
     )

@@ -29,7 +29,8 @@ none_left c e =
     let none : c.loop-runs-test.pending.items ≡ [] = sym c.deref.ensures.value ∙ yes.0 in
     subst (λ (cut : Bool). Searches c.args.program.now c.args.ranks c.loop-runs.outcomes.items [] cut) yes.1
     (subst (λ (z : List Branch). Searches c.args.program.now c.args.ranks c.loop-runs.outcomes.items z c.loop-runs.out_of_steps) none
-    (elim c.loop-runs-test.branch as (λ _. Searches c.args.program.now c.args.ranks c.loop-runs.outcomes.items c.loop-runs-test.pending.items c.loop-runs.out_of_steps) [
+    (elim c.loop-runs-test.branch as (λ _. Searches c.args.program.now c.args.ranks c.loop-runs.outcomes.items c.loop-runs-test.pending.items
+    c.loop-runs.out_of_steps) [
       | else-loop-runs-test w ↦ rw w.pending-is c.loop-runs.invariant.1
       | then-loop-runs-test+in_default w ↦
           rw w.pending-is
