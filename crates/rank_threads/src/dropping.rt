@@ -14,7 +14,8 @@ pub fn drop_frames(station: &mut Station<'_>)
     ensures dropped { DroppedBelow station.old.size station.old station.new }
     ensures down { station.new.down ≡ station.old.down }
     ensures rest { SameRest station.old station.new }
-    ensures counted { station.new.tally ≡ record station.old.tally { taken = station.new.tally.taken; may_owe = station.new.tally.may_owe; is_blocked = station.new.tally.is_blocked } }
+    ensures counted { station.new.tally ≡ record station.old.tally
+        { taken = station.new.tally.taken; may_owe = station.new.tally.may_owe; is_blocked = station.new.tally.is_blocked } }
     ensures same { SameStation station.old station.new }
 {
     for source in 0..station.size {
@@ -27,7 +28,8 @@ fn drop_from(station: &mut Station<'_>, source: u8)
     ensures dropped { DroppedFrom source station.old station.new }
     ensures down { station.new.down ≡ station.old.down }
     ensures rest { SameRest station.old station.new }
-    ensures counted { station.new.tally ≡ record station.old.tally { taken = station.new.tally.taken; may_owe = station.new.tally.may_owe; is_blocked = station.new.tally.is_blocked } }
+    ensures counted { station.new.tally ≡ record station.old.tally
+        { taken = station.new.tally.taken; may_owe = station.new.tally.may_owe; is_blocked = station.new.tally.is_blocked } }
     ensures same { SameStation station.old station.new }
 {
     for _ in 0..MOST_FRAMES {
@@ -43,7 +45,8 @@ fn drop_one(station: &mut Station<'_>, source: u8) -> bool
     ensures dropped { DroppedFrom source station.old station.new }
     ensures down { station.new.down ≡ station.old.down }
     ensures rest { SameRest station.old station.new }
-    ensures counted { station.new.tally ≡ record station.old.tally { taken = station.new.tally.taken; may_owe = station.new.tally.may_owe; is_blocked = station.new.tally.is_blocked } }
+    ensures counted { station.new.tally ≡ record station.old.tally
+        { taken = station.new.tally.taken; may_owe = station.new.tally.may_owe; is_blocked = station.new.tally.is_blocked } }
     ensures same { SameStation station.old station.new }
 {
     let Some(_) = take_from(&mut station.from, source) else {

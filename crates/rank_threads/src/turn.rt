@@ -92,9 +92,11 @@ fn end<W: Wait, H: Hold>(
     ensures unasked { order_after begun.stepped seat.old.plan seat.old.node.phase ≡ None → seat.new.plan ≡ seat.old.plan }
     ensures image { is_image (order_after begun.stepped seat.old.plan seat.old.node.phase) ≡ true → is_running seat.old.node.phase ≡ true
         → seat.new.tally.is_refused ≡ false → IfOk result (λ after. after ≢ After.Crash → TookImage seat.new.node.phase) }
-    ensures settled { leaves_misses begun.stepped (is_image (order_after begun.stepped seat.old.plan seat.old.node.phase)) seat.old.tally.is_spent seat.old.node.phase ≡ false
+    ensures settled { leaves_misses begun.stepped (is_image (order_after begun.stepped seat.old.plan seat.old.node.phase))
+        seat.old.tally.is_spent seat.old.node.phase ≡ false
         → IfOk result (λ after. after ≢ After.Crash → seat.new.tally.is_refused ≡ false → NoneWaits seat.new.node.phase) }
-    ensures kept { leaves_misses begun.stepped (is_image (order_after begun.stepped seat.old.plan seat.old.node.phase)) seat.old.tally.is_spent seat.old.node.phase ≡ true
+    ensures kept { leaves_misses begun.stepped (is_image (order_after begun.stepped seat.old.plan seat.old.node.phase))
+        seat.old.tally.is_spent seat.old.node.phase ≡ true
         → IfOk result (λ after. after ≢ After.Crash → gate_in seat.new.node.phase ≡ gate_in seat.old.node.phase) }
     ensures left { result ≡ Ok After.Leave → seat.new.tally.is_refused ≡ false → NoneWaits seat.new.node.phase }
     ensures same { SameSeat seat.old seat.new }

@@ -9,6 +9,10 @@ invariant-loop-source l = record {
   dropped : DroppedBelow l.source l.fn.station l.station;
   down : l.station.down ≡ l.fn.station.down;
   rest : SameRest l.fn.station l.station;
-  counted : l.station.tally ≡ record l.fn.station.tally { taken = l.station.tally.taken; may_owe = l.station.tally.may_owe; is_blocked = l.station.tally.is_blocked };
+  counted : l.station.tally ≡ record l.fn.station.tally {
+    taken = l.station.tally.taken;
+    may_owe = l.station.tally.may_owe;
+    is_blocked = l.station.tally.is_blocked;
+  };
   same : SameStation l.fn.station l.station;
 }
