@@ -59,9 +59,9 @@ fn hits_and_misses(rt: HostRuntime) -> Result<(), Fail> {
     compare_two(&rt, rt.alloc(), PROBES, cases)
 }
 
-/// Nothing comes of events that no probe answers.
+/// Nothing comes of misses that no probe can have.
 #[test]
-fn wrong_hits_and_misses(rt: HostRuntime) -> Result<(), Fail> {
+fn wrong_misses(rt: HostRuntime) -> Result<(), Fail> {
     let third_missed_late: &[Stored] = &[Saw(0, 1, 1), Took(0, 1, 2), Missed(4)];
     let run_too_long: &[Stored] = &[Saw(0, 1, 1), Took(0, 1, 2), MissedOn(3, 5), Took(0, 2, 6)];
     let run_over_a_hit: &[Stored] = &[
@@ -72,9 +72,6 @@ fn wrong_hits_and_misses(rt: HostRuntime) -> Result<(), Fail> {
         Saw(0, 3, 5),
         Took(0, 2, 6),
     ];
-    let taken_by_a_probe: &[Stored] = &[Saw(0, 1, 1), Took(0, 1, 2), Took(0, 2, 3)];
-    let seen_by_a_receive: &[Stored] = &[Saw(0, 1, 1), Saw(0, 1, 2)];
-    let seen_again: &[Stored] = &[Saw(0, 1, 1), Took(0, 1, 2), Saw(0, 1, 3)];
     let one_more: &[Stored] = &[
         Saw(0, 1, 1),
         Took(0, 1, 2),
@@ -86,10 +83,6 @@ fn wrong_hits_and_misses(rt: HostRuntime) -> Result<(), Fail> {
     ];
     let cases: &[OfTwo<'_>] = &[
         ("a probe that waits missed", &[Missed(1)], LINE, HALTED, 2),
-        ("a probe took", &[Took(0, 1, 1)], LINE, HALTED, 2),
-        ("a hit of another tag", &[Saw(0, 2, 1)], LINE, HALTED, 2),
-        ("a hit that overtakes", &[Saw(0, 3, 1)], LINE, HALTED, 2),
-        ("a hit of what is taken", seen_again, LINE, HALTED, 2),
         (
             "a miss at another clock",
             third_missed_late,
@@ -99,9 +92,25 @@ fn wrong_hits_and_misses(rt: HostRuntime) -> Result<(), Fail> {
         ),
         ("a run too long", run_too_long, LINE, HALTED, 2),
         ("a run over a hit", run_over_a_hit, LINE, HALTED, 2),
+        ("a miss too many", one_more, LINE, HALTED, 1),
+    ];
+    compare_two(&rt, rt.alloc(), PROBES, cases)
+}
+
+/// Nothing comes of hits and receptions where the other is wanted, or of a hit
+/// of what no probe can see.
+#[test]
+fn wrong_hits(rt: HostRuntime) -> Result<(), Fail> {
+    let taken_by_a_probe: &[Stored] = &[Saw(0, 1, 1), Took(0, 1, 2), Took(0, 2, 3)];
+    let seen_by_a_receive: &[Stored] = &[Saw(0, 1, 1), Saw(0, 1, 2)];
+    let seen_again: &[Stored] = &[Saw(0, 1, 1), Took(0, 1, 2), Saw(0, 1, 3)];
+    let cases: &[OfTwo<'_>] = &[
+        ("a probe took", &[Took(0, 1, 1)], LINE, HALTED, 2),
+        ("a hit of another tag", &[Saw(0, 2, 1)], LINE, HALTED, 2),
+        ("a hit that overtakes", &[Saw(0, 3, 1)], LINE, HALTED, 2),
+        ("a hit of what is taken", seen_again, LINE, HALTED, 2),
         ("a try took", taken_by_a_probe, LINE, HALTED, 2),
         ("a receive saw", seen_by_a_receive, LINE, HALTED, 2),
-        ("a miss too many", one_more, LINE, HALTED, 1),
     ];
     compare_two(&rt, rt.alloc(), PROBES, cases)
 }
