@@ -53,6 +53,11 @@ pub fn packet(alloc: Heap, source: u8, number: u32) -> Result<Packet, AllocError
     })
 }
 
+/// The packet of rank 0 with this number, or with the nearest from 1 to 5000.
+pub fn packet_near(alloc: Heap, number: u32) -> Result<Packet, AllocError> {
+    packet(alloc, 0, number.max(1).min(5000))
+}
+
 fn one_item(alloc: Heap, item: i64) -> Result<Vec<i64, Heap>, AllocError>
     ensures { IfOk result (λ items. length items.items ≡ 1) }
 {

@@ -1,7 +1,7 @@
 //! Calls on a rank that runs.
 ghost use Rattle.std.specs.Prelude.{◌≡◌, IfOk};
 
-use crate::again::{compare, packet, program_of};
+use crate::again::{compare, packet_near, program_of};
 use crate::frugal::follow;
 use crate::{images, replays};
 use checkpoint::MemoryShelf;
@@ -163,9 +163,8 @@ fn arrive<R: AllocGlobal + Print>(
     requires { rank.old.stable.size ≡ 2 }
     ensures { rank.new.stable ≡ rank.old.stable }
 {
-    let number = number.max(1).min(5000);
     let before = look(rank, scene);
-    let one = packet(rt.alloc(), 0, number)?;
+    let one = packet_near(rt.alloc(), number)?;
     match rank.arrive(0, Frame::Data(one)) {
         Ok(answer) => Ok(answer),
         Err((back, _)) => {

@@ -2,7 +2,7 @@
 ghost use Rattle.std.specs.Prelude.{◌≡◌, ◌≤◌, length, IfOk, IfErr};
 ghost use Rattle.metered.specs.Limits.{most_events};
 
-use crate::again::{compare, packet};
+use crate::again::{compare, packet_near};
 use crate::frugal::follow;
 use crate::ranks::Scene;
 use checkpoint::MemoryShelf;
@@ -90,9 +90,8 @@ fn arrive<R: AllocGlobal + Print>(
     requires { rank.old.node.stable.size ≡ 2 }
     ensures { rank.new.node.stable ≡ rank.old.node.stable }
 {
-    let number = number.max(1).min(5000);
     let before = look(rank, scene);
-    let one = packet(rt.alloc(), 0, number)?;
+    let one = packet_near(rt.alloc(), number)?;
     match rank.arrive(0, Frame::Data(one)) {
         Ok(answer) => Ok(answer),
         Err((back, _)) => {
