@@ -117,6 +117,52 @@ Examples, at the top of the repository:
 docs/RUNS.md tells how scripts are used, what a crash costs and how to read a
 report.";
 
+/// Behind the help of `trace`.
+pub const TRACE: &str = "\
+The program is run as by `ftmpi run`. What is printed is a run in which nothing
+crashes, that prints the same lines and ends in the same way, in an order that
+the audit found: the threads may have had another. First its acts stand, a line
+each, so that a message is sent before it is received:
+  rank clock  line  act
+     0     1     3  send to 1, tag 7: 41
+     1     1     5  recv from 0, tag 7: 41 (sent at clock 1)
+The clock counts the acts of the rank, and the line is that of PROGRAM.
+  send to R, tag T: V ..           a message with its items, the first eight
+  recv from R, tag T: V .. (sent at clock C)
+  probe from R, tag T              a probe found a message
+  iprobe: from R, tag T            so did one that doesn't wait
+  iprobe: nothing                  it found none
+  print V
+  barrier K: .., bcast K: .., reduce sum K: ..
+                                   a send or a reception of the rank's
+                                   collective K, counted from 1
+Behind the acts stand
+  rank R: END                      how it ended, the line where it stands and
+                                   the text of that line, and what helps
+  ranks A and B wait for each other
+  rank R: K messages were never received, the first from S, tag T
+  line L: kill R at C: ..          a line of the script that never came to
+                                   pass, and why
+  rank R: image at clock C
+  rank R: crash at clock C, back to clock B: K acts made again, M messages
+                                   asked for again; B is the clock of its
+                                   image, 0 where it had none
+  crashes C, logger calls T        as `ftmpi run` has it
+Crashes and images are counted by the runner, and certified by nothing; before
+them a line says so that begins with #, as one does before the acts.
+
+With --json each of these lines is an object of JSON, with all items of a
+message.
+
+Idle turns, the script, faults and the exit status are as `ftmpi run --help` has
+them.
+
+Examples, at the top of the repository:
+  ./ftmpi trace --ranks 2 examples/answer.rank
+  ./ftmpi trace --ranks 2 --idle 100 examples/stalled.rank
+
+docs/RUNS.md shows how to read a trace.";
+
 /// Behind the help of `world`.
 pub const WORLD: &str = "\
 Events, one a line; R and S are ranks:

@@ -10,8 +10,10 @@ mod help;
 mod job;
 mod no_job;
 mod syntax;
+mod tracing;
 
 pub use explain::ExplainJob;
 pub use exploring::ExploreJob;
 pub use job::{CheckJob, Job, RunJob, WorldJob, job_of};
 pub use no_job::NoJob;
+pub use tracing::{TraceForm, TraceJob};

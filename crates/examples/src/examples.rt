@@ -1,7 +1,7 @@
 //! Runs, checks and worlds of the examples.
 
 /// The words of each run, after the program's name.
-pub const RUNS: [&str; 77] = [
+pub const RUNS: [&str; 80] = [
     "run --ranks 2 examples/answer.rank",
     "run --ranks 4 examples/ring.rank",
     "run --ranks 2 examples/ping_pong.rank",
@@ -47,6 +47,9 @@ pub const RUNS: [&str; 77] = [
     "run --ranks 1 examples/array_length.rank",
     "run --ranks 1 examples/fault_number_range.rank",
     "run --ranks 1 examples/canonical.rank",
+    "trace --ranks 2 examples/answer.rank",
+    "trace --ranks 2 examples/division.rank",
+    "trace --ranks 2 --idle 100 examples/stalled.rank",
     "explore --ranks 3 examples/first_come.rank",
     "check examples/canonical.rank",
     "check examples/refused.rank",

@@ -2,7 +2,7 @@
 
 /// The words of each run, after the program's name: the texts of docs/LANGUAGE.md
 /// in its order.
-pub const RUNS: [&str; 83] = [
+pub const RUNS: [&str; 93] = [
     "run --ranks 1 manual/var.rank",
     "run --ranks 1 manual/array.rank",
     "run --ranks 1 manual/let.rank",
@@ -86,4 +86,14 @@ pub const RUNS: [&str; 83] = [
     "explore --ranks 3 manual/harmless.rank",
     "explore --ranks 3 manual/one_order.rank",
     "explore --ranks 3 manual/mended.rank",
+    "trace --ranks 2 manual/mean.rank",
+    "run --ranks 2 manual/mean_mended.rank",
+    "trace --ranks 2 --idle 100 manual/both_wait.rank",
+    "trace --ranks 2 manual/one_sends.rank",
+    "trace --ranks 1 --steps 1000 manual/no_end.rank",
+    "run --ranks 1 manual/with_end.rank",
+    "explore --ranks 3 manual/race.rank",
+    "trace --ranks 3 manual/in_order.rank",
+    "explore --ranks 2 manual/too_early.rank",
+    "trace --ranks 2 manual/in_time.rank",
 ];

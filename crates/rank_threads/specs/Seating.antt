@@ -40,9 +40,9 @@ abbrev pub ended : Option End → End
 ended None = end.Unfinished
 ended (Some e) = e
 
--- what a rank came to: how it left, how often it crashed, and why it can't go on
+-- what a rank came to: how it left, how often it crashed, how many lines of the script it left unused, and why it can't go on
 abbrev pub came_of : Station → Came
-came_of s = record { end = ended s.end; crashes = s.tally.crashes; fault = s.tally.fault }
+came_of s = record { end = ended s.end; crashes = s.tally.crashes; unused = length s.plan; fault = s.tally.fault }
 
 module _ {W : Type 0} where
   -- into which lanes each rank puts, by source

@@ -26,7 +26,7 @@ impl Model for Plan {
 }
 
 impl Plan {
-    ghost use Rattle.std.specs.Prelude.{drop};
+    ghost use Rattle.std.specs.Prelude.{drop, length};
     ghost use Rattle.rank_threads.specs.Plans.{order_at};
 
     pub fn new(lines: Vec<ScriptLine, Heap>) -> Plan
@@ -43,6 +43,13 @@ impl Plan {
             [line, ..] if line.clock == clock => Some(line.order),
             [_, ..] | [] => None,
         }
+    }
+
+    /// How many lines aren't used yet.
+    pub fn unused(&self) -> usize
+        ensures { result ≡ length self.now }
+    {
+        self.lines[self.used..].len()
     }
 
     /// The next line was done.

@@ -13,6 +13,8 @@ use std::alloc::AllocError;
 pub struct Report {
     pub outcome: Outcome,
     pub crashes: u64,
+    /// How many of the script's lines for each rank weren't used; the others were, in their order.
+    pub unused: Vec<usize, Heap>,
     /// Each rank's calls of the event logger, without its reads.
     pub calls: Vec<u64, Heap>,
 }

@@ -79,6 +79,7 @@ pub fn reported(alloc: Heap, played: Played) -> Result<Report, AllocError>
     ensures ends { IfOk result (λ report. report.outcome.ends ≡ map (λ c. c.end) played.came.items) }
     ensures calls { IfOk result (λ report. report.calls.items ≡ map (λ c. c.calls) played.ledger.counts) }
     ensures crashes { IfOk result (λ report. report.crashes ≡ crashes_from 0 played.came.items) }
+    ensures unused { IfOk result (λ report. report.unused.items ≡ map (λ c. c.unused) played.came.items) }
 {
     let Played {
         ledger,
@@ -87,6 +88,7 @@ pub fn reported(alloc: Heap, played: Played) -> Result<Report, AllocError>
     } = played;
     let calls = calls_of(alloc, ledger.counts())?;
     let ends = ends_of(alloc, came.as_slice())?;
+    let unused = unused_of(alloc, came.as_slice())?;
     let lines = copied(alloc, console.lines())?;
     Ok(Report {
         outcome: Outcome {
@@ -95,6 +97,7 @@ pub fn reported(alloc: Heap, played: Played) -> Result<Report, AllocError>
             ends,
         },
         crashes: crashes_of(came.as_slice()),
+        unused,
         calls,
     })
 }
@@ -115,6 +118,12 @@ fn ends_of(alloc: Heap, came: &[Came]) -> Result<Vec<End, Heap>, AllocError>
     ensures { IfOk result (λ ends. ends.items ≡ map (λ c. c.end) came.now) }
 {
     came.iter().map(|one| one.end).collect(alloc)
+}
+
+fn unused_of(alloc: Heap, came: &[Came]) -> Result<Vec<usize, Heap>, AllocError>
+    ensures { IfOk result (λ unused. unused.items ≡ map (λ c. c.unused) came.now) }
+{
+    came.iter().map(|one| one.unused).collect(alloc)
 }
 
 fn calls_of(alloc: Heap, counts: &[Counts]) -> Result<Vec<u64, Heap>, AllocError>

@@ -28,6 +28,8 @@ pub struct Unseated {
 pub struct Came {
     pub end: End,
     pub crashes: u64,
+    /// How many of the script's lines for the rank weren't used.
+    pub unused: usize,
     pub fault: Option<NodeFault>,
 }
 
@@ -132,6 +134,7 @@ fn parts(station: Station<'_>) -> (Desk, Vec<Tx, Heap>, Vec<Rx, Heap>, Came)
     let came = Came {
         end: station.end.unwrap_or(End::Unfinished),
         crashes: station.tally.crashes,
+        unused: station.plan.unused(),
         fault: station.tally.fault,
     };
     let (desk, to, from) = station.close();

@@ -36,4 +36,6 @@ mod streams;
 #[cfg(test)]
 mod told;
 #[cfg(test)]
+mod traces;
+#[cfg(test)]
 mod words;

@@ -8,14 +8,19 @@ use std::process::Abort;
 use std::rt::Env;
 use std::test::Fail;
 
-/// The words of a run, with its ranks, idle turns, steps and program.
-const RUNS: [(&str, &str); 4] = [
+/// The words of a run, with its ranks, idle turns, steps and program, and of one that is told its form.
+const RUNS: [(&str, &str); 6] = [
     ("ftmpi run --ranks 1 p", "1 1000000 1000000 p"),
     ("ftmpi run --ranks 16 --idle 5 p", "16 5 1000000 p"),
     ("ftmpi run --ranks 2 --steps 7 p", "2 1000000 7 p"),
     (
         "ftmpi run --steps 1000000000 --ranks 2 --idle 1000000000 p",
         "2 1000000000 1000000000 p",
+    ),
+    ("ftmpi trace --ranks 3 --steps 7 p", "3 1000000 7 p Text"),
+    (
+        "ftmpi trace --json --idle 5 --ranks 1 p",
+        "1 5 1000000 p Json",
     ),
 ];
 
@@ -24,6 +29,13 @@ fn asked(alloc: Global, words: &[String]) -> Result<String, AllocError> {
     match job_of(alloc, words) {
         Ok(Job::Run(job)) => {
             format!(in alloc; "{} {} {} {}", job.ranks, job.idle, job.steps, job.program)
+        }
+        Ok(Job::Trace(job)) => {
+            let run = job.run;
+            format!(in alloc;
+                "{} {} {} {} {:?}",
+                run.ranks, run.idle, run.steps, run.program, job.form
+            )
         }
         _ => String::from_str(alloc, "no run"),
     }

@@ -18,6 +18,7 @@ mod job;
 mod reading;
 mod refusal;
 mod said;
+mod trace;
 mod world;
 
 use crate::commands::job::work;

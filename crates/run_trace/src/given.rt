@@ -1,0 +1,41 @@
+//! What a trace is made of.
+
+use crate::deliveries::Delivery;
+use crate::fates::Fated;
+use crate::places::Place;
+use audit::Outcome;
+use crash_free::{Passed, Sim};
+use script_text::ScriptLine;
+
+/// A run's program, script and outcome.
+#[derive(Clone, Copy)]
+pub struct Given<'a> {
+    /// The text of the program.
+    pub text: &'a [u8],
+    /// For each statement, by its position, the line of the text that it stands on.
+    pub lines: &'a [usize],
+    /// The text of the script; empty where there is none.
+    pub script: &'a [u8],
+    /// What the script asks for.
+    pub orders: &'a [ScriptLine],
+    /// How many of the script's lines for each rank weren't used; the others
+    /// were, in their order.
+    pub unused: &'a [usize],
+    pub outcome: &'a Outcome,
+    /// How often ranks crashed.
+    pub crashes: u64,
+    /// How often they called the event logger.
+    pub calls: u64,
+}
+
+/// A run that is told, with what was found of its acts, by their index, and of
+/// the lines of its script.
+#[derive(Clone, Copy)]
+pub struct Told<'a, 'p> {
+    pub given: Given<'a>,
+    pub run: &'a Sim<'p>,
+    pub acts: &'a [Passed],
+    pub places: &'a [Place],
+    pub deliveries: &'a [Delivery],
+    pub orders: &'a [Fated],
+}

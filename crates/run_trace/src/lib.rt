@@ -1,0 +1,24 @@
+//! A run in words: each act with the line of the program that made it, how each
+//! rank ended and why, and what nobody received.
+//!
+//! The run is one without crashes, as `audit::find_run` finds it.
+#![tactic(auto)]
+
+mod acts;
+mod circles;
+mod columns;
+mod deliveries;
+mod ends;
+mod fates;
+mod given;
+mod json;
+mod left;
+mod message;
+mod orders;
+mod places;
+mod trace;
+mod words;
+
+pub use given::Given;
+pub use places::{Place, places_of};
+pub use trace::{trace_json, trace_text};

@@ -1,0 +1,136 @@
+//! A job's run, told act by act.
+use crate::commands::job::Nobody;
+use crate::commands::reading::text_in;
+use crate::commands::refusal::Refusal;
+use crate::commands::said::Said;
+use crate::files::Files;
+use crate::output::{all_halted, calls_of, print_cost};
+use audit::find_run;
+use command_line::{RunJob, TraceForm, TraceJob};
+use crash_free::Sim;
+use metered::Heap;
+use rank_language::Program;
+use rank_threads::{Report, RunFault, RunLimits, run};
+use run_trace::{Given, trace_json, trace_text};
+use script_text::Script;
+use statement_lines::statement_lines;
+use std::alloc::AllocError;
+use std::sync::Wait;
+use std::thread::Threads;
+
+// What the script's file has, and what it asks for.
+#[derive(Drop)]
+struct Asked {
+    text: Vec<u8, Heap>,
+    script: Script,
+}
+
+/// The run without crashes behind the job's report. The status is 1 where a rank
+/// isn't halted.
+pub fn traced<'a, R: Threads + Wait + Sync + Copy + Send, F: Files>(
+    rt: &R,
+    alloc: Heap,
+    job: TraceJob<'a>,
+    files: &mut F,
+) -> Result<Said, Refusal<'a>> {
+    let text = text_in(job.run.program, files)?;
+    let program = Program::parse(alloc, text.as_slice())?;
+    let asked = match asked_of(alloc, job.run, files) {
+        Ok(asked) => asked,
+        Err(refusal) => {
+            drop(program);
+            return Err(refusal);
+        }
+    };
+    let said = match told(rt, alloc, job, &program, text.as_slice(), &asked) {
+        Ok(said) => Ok(said),
+        Err(fault) => Err(Refusal::from(fault)),
+    };
+    drop(program);
+    said
+}
+
+fn asked_of<'a, F: Files>(
+    alloc: Heap,
+    job: RunJob<'a>,
+    files: &mut F,
+) -> Result<Asked, Refusal<'a>> {
+    match job.script {
+        Some(name) => {
+            let text = text_in(name, files)?;
+            let script = Script::parse(alloc, text.as_slice(), job.ranks)?;
+            Ok(Asked { text, script })
+        }
+        None => Ok(Asked {
+            text: Vec::new(alloc),
+            script: Script::new(alloc),
+        }),
+    }
+}
+
+// The run is made, found without crashes, and told.
+fn told<R: Threads + Wait + Sync + Copy + Send>(
+    rt: &R,
+    alloc: Heap,
+    job: TraceJob<'_>,
+    program: &Program,
+    text: &[u8],
+    asked: &Asked,
+) -> Result<Said, RunFault> {
+    let limits = RunLimits {
+        idle: job.run.idle,
+        steps: job.run.steps,
+    };
+    let script = &asked.script;
+    let report = run(rt, alloc, program, job.run.ranks, script, limits, &Nobody)?;
+    told_of(alloc, job, program, text, asked, &report)
+}
+
+fn told_of(
+    alloc: Heap,
+    job: TraceJob<'_>,
+    program: &Program,
+    text: &[u8],
+    asked: &Asked,
+    report: &Report,
+) -> Result<Said, RunFault> {
+    let lines = statement_lines(alloc, text)?;
+    let given = Given {
+        text,
+        lines: lines.as_slice(),
+        script: asked.text.as_slice(),
+        orders: asked.script.lines(),
+        unused: report.unused.as_slice(),
+        outcome: &report.outcome,
+        crashes: report.crashes,
+        calls: calls_of(report),
+    };
+    let (ranks, steps) = (job.run.ranks, job.run.steps);
+    let found = match find_run(alloc, program, ranks, &report.outcome, steps) {
+        Ok(found) => found,
+        Err(fault) => return Err(RunFault::from(fault)),
+    };
+    let answer = in_form(alloc, job, program, &found, given, report)?;
+    let status = if all_halted(&report.outcome) { 0 } else { 1 };
+    Ok(Said::answer(alloc, status, answer.into_bytes()))
+}
+
+// The run that was found, in the form that is asked for.
+fn in_form(
+    alloc: Heap,
+    job: TraceJob<'_>,
+    program: &Program,
+    found: &Sim<'_>,
+    given: Given<'_>,
+    report: &Report,
+) -> Result<String<Heap>, AllocError> {
+    let ranks = job.run.ranks;
+    match job.form {
+        TraceForm::Text => {
+            let mut text = trace_text(alloc, program, ranks, found, given)?;
+            print_cost(&mut text, report)?;
+            Ok(text)
+        }
+        TraceForm::Json => trace_json(alloc, program, ranks, found, given),
+    }
+}
