@@ -1,12 +1,13 @@
 /* Loaded under a program (LD_PRELOAD), refuses its Nth call for memory, and each later one too where that is asked for, and leaves a file as
- * a mark that it did. Where the program ends and a thread that it made was never joined, it leaves another. N is REFUSED_CALL, whether all
- * later ones are refused is REFUSED_ONWARD, and the files are REFUSED_MARK and REFUSED_UNJOINED, all of the environment. No header is
- * included, since the toolchain's clang has none: what stands here is that of Linux on x86-64 with glibc. */
+ * a mark that it did. Where the program ends and has joined all threads that it made, it leaves another. N is REFUSED_CALL, whether all later ones
+ * are refused is REFUSED_ONWARD, and the files are REFUSED_MARK and REFUSED_JOINED, all of the environment. No header is included, since the
+ * toolchain's clang has none: what stands here is that of Linux on x86-64 with glibc. */
 
 typedef unsigned long size;
 typedef void *(*body)(void *);
 typedef int (*creator)(unsigned long *, const void *, body, void *);
 typedef int (*joiner)(unsigned long, void **);
+typedef void (*ender)(int);
 
 extern void *__libc_malloc(size), *__libc_calloc(size, size), *__libc_realloc(void *, size), *__libc_memalign(size, size);
 extern void *dlsym(void *, const char *);
@@ -91,8 +92,15 @@ int pthread_join(unsigned long thread, void **result)
     return status;
 }
 
+/* A program ends by _exit, which calls no destructor, or by coming back from main. */
 __attribute__((destructor)) static void end(void)
 {
-    if (made != joined)
-        leave(getenv("REFUSED_UNJOINED"));
+    if (made == joined)
+        leave(getenv("REFUSED_JOINED"));
+}
+
+void _exit(int status)
+{
+    end();
+    ((ender)dlsym(THE_NEXT_ONE, "_exit"))(status);
 }

@@ -64,11 +64,11 @@ class Tried(NamedTuple):
 
 
 class Refused(NamedTuple):
-    """What a run gave, whether it came to the refused call, and whether it left a thread that it hadn't joined, where the shim looks."""
+    """What a run gave, whether it came to the refused call, and whether it was seen to end with all its threads joined, where the shim looks."""
 
     answer: Answer
     was_refused: bool
-    left_threads: bool
+    joined_threads: bool
 
 
 class Shim:
@@ -84,10 +84,10 @@ class Shim:
     def refusing(self, call: int, play: Callable[[dict[str, str]], Answer], **more: str) -> Refused:
         """What a play gives when it gets an environment in which this call is refused; more goes into that too. Plays of other calls may be
         at work beside it."""
-        mark, unjoined = f"{self.path}.mark.{call}", f"{self.path}.unjoined.{call}"
-        ours = {"LD_PRELOAD": self.path, "REFUSED_CALL": str(call), "REFUSED_MARK": mark, "REFUSED_UNJOINED": unjoined}
+        mark, joined = f"{self.path}.mark.{call}", f"{self.path}.joined.{call}"
+        ours = {"LD_PRELOAD": self.path, "REFUSED_CALL": str(call), "REFUSED_MARK": mark, "REFUSED_JOINED": joined}
         answer = play({**ours, **more})
-        return Refused(answer, is_taken_away(mark), is_taken_away(unjoined))
+        return Refused(answer, is_taken_away(mark), is_taken_away(joined))
 
 
 def is_taken_away(mark: str) -> bool:
