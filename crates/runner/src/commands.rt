@@ -3,8 +3,8 @@
 //! | Status | When |
 //! |---|---|
 //! | 0 | done, help too |
-//! | 1 | after a run a rank isn't halted, or a run ends without a report |
-//! | 2 | the program, the script or the events are refused, or a file can't be read |
+//! | 1 | after a run a rank isn't halted, or a run ends without a report; `explore` found an outcome in which a rank isn't halted, or didn't look at all |
+//! | 2 | the program, the script or the events are refused (`explain` says which and why on standard output), or a file can't be read |
 //! | 3 | the words are refused |
 //! | 4 | there is no memory |
 //! | 5 | standard output can't be written |
