@@ -1,0 +1,3 @@
+mod Gates
+mod Replays
+mod Rows
