@@ -2,9 +2,10 @@
 //!
 //! | Status | When |
 //! |---|---|
-//! | 0 | done, help too |
-//! | 1 | after a run a rank isn't halted, or a run ends without a report; `explore` found an outcome in which a rank isn't halted, or didn't look at all |
-//! | 2 | the program, the script or the events are refused (`explain` says which and why on standard output), or a file can't be read |
+//! | 0 | done, help too; after `explore` all was looked at and each rank halts; after `explain` there is no fault |
+//! | 1 | after a run or a trace a rank isn't halted, or its run ends without a report |
+//! | | after `explore` not all was looked at, or in some outcome a rank isn't halted |
+//! | 2 | the program, the script or the events are refused, by `explain` too, or a file can't be read |
 //! | 3 | the words are refused |
 //! | 4 | there is no memory |
 //! | 5 | standard output can't be written |
