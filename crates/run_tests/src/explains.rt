@@ -6,8 +6,7 @@ use std::test::*;
 const PROGRAMS: [(&str, &str); 40] = [
     (
         "print 1\r\n",
-        "line 1: fault 1 NotText\n  print 1?\n         ^\na carriage return: end the lines with a line feed alone\n\
-         manual: docs/LANGUAGE.md, \"Lines, words and names\"\n",
+        "line 1: fault 1 NotText\n  print 1?\n         ^\na carriage return: end the lines with a line feed alone\nmanual: docs/LANGUAGE.md, \"Lines, words and names\"\n",
     ),
     (
         "var x\n\tprint x\n",
@@ -19,13 +18,11 @@ const PROGRAMS: [(&str, &str); 40] = [
     ),
     (
         "# caf\u{e9}\n",
-        "line 1: fault 1 NotText\n  # caf??\n       ^\nthe byte 0xc3: a text has letters, digits and signs from 0x20 to 0x7e\n\
-         manual: docs/LANGUAGE.md, \"Lines, words and names\"\n",
+        "line 1: fault 1 NotText\n  # caf??\n       ^\nthe byte 0xc3: a text has letters, digits and signs from 0x20 to 0x7e\nmanual: docs/LANGUAGE.md, \"Lines, words and names\"\n",
     ),
     (
         "prnt 1\n",
-        "line 1: fault 2 NotAStatement\n  prnt 1\n  ^^^^\nno statement begins so; perhaps `print` is meant\n\
-         manual: docs/LANGUAGE.md, \"Lines, words and names\"\n",
+        "line 1: fault 2 NotAStatement\n  prnt 1\n  ^^^^\nno statement begins so; perhaps `print` is meant\nmanual: docs/LANGUAGE.md, \"Lines, words and names\"\n",
     ),
     (
         "# one\n\n  12\n",
@@ -41,8 +38,7 @@ const PROGRAMS: [(&str, &str); 40] = [
     ),
     (
         "print 1 +\n",
-        "line 1: fault 3 BadForm\n  print 1 +\n           ^\nexpected here: a value: a number, a name, a word like `rank`, or `(`\n\
-         manual: docs/LANGUAGE.md, \"Statements\" and \"Expressions\"\n",
+        "line 1: fault 3 BadForm\n  print 1 +\n           ^\nexpected here: a value: a number, a name, a word like `rank`, or `(`\nmanual: docs/LANGUAGE.md, \"Statements\" and \"Expressions\"\n",
     ),
     (
         "send 1, 2\n",
@@ -54,8 +50,7 @@ const PROGRAMS: [(&str, &str); 40] = [
     ),
     (
         "let x 1\n",
-        "line 1: fault 3 BadForm\n  let x 1\n        ^\nexpected here: `=`, or `[` and an index\n\
-         manual: docs/LANGUAGE.md, \"Statements\" and \"Expressions\"\n",
+        "line 1: fault 3 BadForm\n  let x 1\n        ^\nexpected here: `=`, or `[` and an index\nmanual: docs/LANGUAGE.md, \"Statements\" and \"Expressions\"\n",
     ),
     (
         "array a\n",
@@ -63,28 +58,23 @@ const PROGRAMS: [(&str, &str); 40] = [
     ),
     (
         "if 1 < 2 < 3\n",
-        "line 1: fault 3 BadForm\n  if 1 < 2 < 3\n           ^\nexpected here: the end of the comparison: put one of two comparisons in parentheses\n\
-         manual: docs/LANGUAGE.md, \"Statements\" and \"Expressions\"\n",
+        "line 1: fault 3 BadForm\n  if 1 < 2 < 3\n           ^\nexpected here: the end of the comparison: put one of two comparisons in parentheses\nmanual: docs/LANGUAGE.md, \"Statements\" and \"Expressions\"\n",
     ),
     (
         "print (1 + 2\n",
-        "line 1: fault 3 BadForm\n  print (1 + 2\n              ^\nexpected here: an operator, or `)`\n\
-         manual: docs/LANGUAGE.md, \"Statements\" and \"Expressions\"\n",
+        "line 1: fault 3 BadForm\n  print (1 + 2\n              ^\nexpected here: an operator, or `)`\nmanual: docs/LANGUAGE.md, \"Statements\" and \"Expressions\"\n",
     ),
     (
         "end 1\n",
-        "line 1: fault 3 BadForm\n  end 1\n      ^\nexpected here: nothing more: the statement ends here\n\
-         manual: docs/LANGUAGE.md, \"Statements\" and \"Expressions\"\n",
+        "line 1: fault 3 BadForm\n  end 1\n      ^\nexpected here: nothing more: the statement ends here\nmanual: docs/LANGUAGE.md, \"Statements\" and \"Expressions\"\n",
     ),
     (
         "reduce avg, 0, 1, x\n",
-        "line 1: fault 3 BadForm\n  reduce avg, 0, 1, x\n         ^^^\nexpected here: `sum`, `max` or `min`\n\
-         manual: docs/LANGUAGE.md, \"Statements\" and \"Expressions\"\n",
+        "line 1: fault 3 BadForm\n  reduce avg, 0, 1, x\n         ^^^\nexpected here: `sum`, `max` or `min`\nmanual: docs/LANGUAGE.md, \"Statements\" and \"Expressions\"\n",
     ),
     (
         "print a[1\n",
-        "line 1: fault 3 BadForm\n  print a[1\n           ^\nexpected here: an operator, or `]`\n\
-         manual: docs/LANGUAGE.md, \"Statements\" and \"Expressions\"\n",
+        "line 1: fault 3 BadForm\n  print a[1\n           ^\nexpected here: an operator, or `]`\nmanual: docs/LANGUAGE.md, \"Statements\" and \"Expressions\"\n",
     ),
     (
         "probe any 1\n",
@@ -96,18 +86,15 @@ const PROGRAMS: [(&str, &str); 40] = [
     ),
     (
         "var count1\nprint cuont1\n",
-        "line 2: fault 4 Undeclared\n  print cuont1\n        ^^^^^^\n`cuont1` isn't declared on a line above; perhaps `count1` is meant\n\
-         manual: docs/LANGUAGE.md, \"var\" and \"array\"\n",
+        "line 2: fault 4 Undeclared\n  print cuont1\n        ^^^^^^\n`cuont1` isn't declared on a line above; perhaps `count1` is meant\nmanual: docs/LANGUAGE.md, \"var\" and \"array\"\n",
     ),
     (
         "array a[3]\nprint a\n",
-        "line 2: fault 4 Undeclared\n  print a\n        ^\n`a` is declared on line 1 as an array: an item of it is written `a[0]`\n\
-         manual: docs/LANGUAGE.md, \"var\" and \"array\"\n",
+        "line 2: fault 4 Undeclared\n  print a\n        ^\n`a` is declared on line 1 as an array: an item of it is written `a[0]`\nmanual: docs/LANGUAGE.md, \"var\" and \"array\"\n",
     ),
     (
         "var x\nprint x[1]\n",
-        "line 2: fault 4 Undeclared\n  print x[1]\n        ^\n`x` is declared on line 1 as a variable, which has no items\n\
-         manual: docs/LANGUAGE.md, \"var\" and \"array\"\n",
+        "line 2: fault 4 Undeclared\n  print x[1]\n        ^\n`x` is declared on line 1 as a variable, which has no items\nmanual: docs/LANGUAGE.md, \"var\" and \"array\"\n",
     ),
     (
         "let y = 1\n",
@@ -143,18 +130,15 @@ const PROGRAMS: [(&str, &str); 40] = [
     ),
     (
         "while 1\nelse\nend\n",
-        "line 2: fault 7 BlockStray\n  else\n  ^^^^\nthe innermost open block isn't an `if`, or has an `else` already:\nline 1:\n  while 1\n  ^^^^^^^\n\
-         manual: docs/LANGUAGE.md, \"Blocks\"\n",
+        "line 2: fault 7 BlockStray\n  else\n  ^^^^\nthe innermost open block isn't an `if`, or has an `else` already:\nline 1:\n  while 1\n  ^^^^^^^\nmanual: docs/LANGUAGE.md, \"Blocks\"\n",
     ),
     (
         "if 1\n  var x\nend\n",
-        "line 2: fault 7 BlockStray\n    var x\n    ^^^\ndeclarations stand outside of blocks, and this one is open:\nline 1:\n  if 1\n  ^^^^\n\
-         manual: docs/LANGUAGE.md, \"Blocks\"\n",
+        "line 2: fault 7 BlockStray\n    var x\n    ^^^\ndeclarations stand outside of blocks, and this one is open:\nline 1:\n  if 1\n  ^^^^\nmanual: docs/LANGUAGE.md, \"Blocks\"\n",
     ),
     (
         "if 1\nelse\nelse\nend\n",
-        "line 3: fault 7 BlockStray\n  else\n  ^^^^\nthe innermost open block isn't an `if`, or has an `else` already:\nline 1:\n  if 1\n  ^^^^\n\
-         manual: docs/LANGUAGE.md, \"Blocks\"\n",
+        "line 3: fault 7 BlockStray\n  else\n  ^^^^\nthe innermost open block isn't an `if`, or has an `else` already:\nline 1:\n  if 1\n  ^^^^\nmanual: docs/LANGUAGE.md, \"Blocks\"\n",
     ),
     (
         "array a[0]\n",
@@ -170,18 +154,15 @@ const PROGRAMS: [(&str, &str); 40] = [
     ),
     (
         "print 9223372036854775808\n",
-        "line 1: fault 9 NumberRange\n  print 9223372036854775808\n        ^^^^^^^^^^^^^^^^^^^\nthe greatest number is 9223372036854775807\n\
-         manual: docs/LANGUAGE.md, \"Limits\"\n",
+        "line 1: fault 9 NumberRange\n  print 9223372036854775808\n        ^^^^^^^^^^^^^^^^^^^\nthe greatest number is 9223372036854775807\nmanual: docs/LANGUAGE.md, \"Limits\"\n",
     ),
     (
         "print 7 + 10000000000000000000\n",
-        "line 1: fault 9 NumberRange\n  print 7 + 10000000000000000000\n            ^^^^^^^^^^^^^^^^^^^^\nthe greatest number is 9223372036854775807\n\
-         manual: docs/LANGUAGE.md, \"Limits\"\n",
+        "line 1: fault 9 NumberRange\n  print 7 + 10000000000000000000\n            ^^^^^^^^^^^^^^^^^^^^\nthe greatest number is 9223372036854775807\nmanual: docs/LANGUAGE.md, \"Limits\"\n",
     ),
     (
         "var x\nlet x = 009223372036854775808\n",
-        "line 2: fault 9 NumberRange\n  let x = 009223372036854775808\n          ^^^^^^^^^^^^^^^^^^^^^\nthe greatest number is 9223372036854775807\n\
-         manual: docs/LANGUAGE.md, \"Limits\"\n",
+        "line 2: fault 9 NumberRange\n  let x = 009223372036854775808\n          ^^^^^^^^^^^^^^^^^^^^^\nthe greatest number is 9223372036854775807\nmanual: docs/LANGUAGE.md, \"Limits\"\n",
     ),
 ];
 
@@ -189,9 +170,7 @@ const PROGRAMS: [(&str, &str); 40] = [
 const SCRIPTS: [(&str, &str); 10] = [
     (
         "kil 0 at 1\n",
-        "script line 1: fault 1 BadLine\n  kil 0 at 1\n  ^^^\n\
-         expected here: `kill` or `image`; perhaps `kill` is meant; a line is `kill R at C` or `image R at C`\n\
-         manual: docs/RUNS.md\n",
+        "script line 1: fault 1 BadLine\n  kil 0 at 1\n  ^^^\nexpected here: `kill` or `image`; perhaps `kill` is meant; a line is `kill R at C` or `image R at C`\nmanual: docs/RUNS.md\n",
     ),
     (
         "\nkill 0\n",
@@ -199,8 +178,7 @@ const SCRIPTS: [(&str, &str); 10] = [
     ),
     (
         "kill 0 at 0\n",
-        "script line 1: fault 1 BadLine\n  kill 0 at 0\n            ^\nexpected here: a clock, 1 to 268435455; a line is `kill R at C` or `image R at C`\n\
-         manual: docs/RUNS.md\n",
+        "script line 1: fault 1 BadLine\n  kill 0 at 0\n            ^\nexpected here: a clock, 1 to 268435455; a line is `kill R at C` or `image R at C`\nmanual: docs/RUNS.md\n",
     ),
     (
         "kill one at 1\n",
@@ -208,8 +186,7 @@ const SCRIPTS: [(&str, &str); 10] = [
     ),
     (
         "image 1 at 2 now\n",
-        "script line 1: fault 1 BadLine\n  image 1 at 2 now\n               ^^^\nexpected here: nothing more; a line is `kill R at C` or `image R at C`\n\
-         manual: docs/RUNS.md\n",
+        "script line 1: fault 1 BadLine\n  image 1 at 2 now\n               ^^^\nexpected here: nothing more; a line is `kill R at C` or `image R at C`\nmanual: docs/RUNS.md\n",
     ),
     (
         " # later\n",
@@ -253,13 +230,11 @@ const EVENTS: [(&str, &str); 6] = [
     ),
     (
         "arrive 0 -1 0\n",
-        "events line 1: fault 1 BadLine\n  arrive 0 -1 0\n           ^^\nexpected here: a number of at most 9 digits; the event is `arrive S R I`\n\
-         manual: docs/WORLDS.md\n",
+        "events line 1: fault 1 BadLine\n  arrive 0 -1 0\n           ^^\nexpected here: a number of at most 9 digits; the event is `arrive S R I`\nmanual: docs/WORLDS.md\n",
     ),
     (
         "crash 1234567890\n",
-        "events line 1: fault 1 BadLine\n  crash 1234567890\n        ^^^^^^^^^^\nexpected here: a number of at most 9 digits; the event is `crash R`\n\
-         manual: docs/WORLDS.md\n",
+        "events line 1: fault 1 BadLine\n  crash 1234567890\n        ^^^^^^^^^^\nexpected here: a number of at most 9 digits; the event is `crash R`\nmanual: docs/WORLDS.md\n",
     ),
 ];
 
