@@ -1,7 +1,9 @@
-//! What every other crate takes: the memory, and the limits of the project.
+//! What every other crate but `text_lines` takes: the name of the memory, and
+//! the limits of the project.
 //!
 //! Each type and each signature that allocates names `Heap`, so that what
-//! stands behind it can be changed in this one place.
+//! stands behind it can be changed in this one place; not so where arguments
+//! and files are read.
 #![tactic(auto)]
 
 pub mod limits;

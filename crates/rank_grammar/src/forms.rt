@@ -3,84 +3,25 @@
 ghost use Rattle.std.specs.Prelude.{◌≡◌, List, IfOk, IfSome, Some};
 ghost use Rattle.rank_grammar.specs.declared.token.Token.{Token};
 ghost use Rattle.rank_grammar.specs.Forms as forms;
-ghost use Rattle.rank_grammar.specs.Forms.{IsForm, comma, bracket_assign, bare, lone_name, pattern_at, whole_pattern, payload_of};
+ghost use Rattle.rank_grammar.specs.Forms.{IsForm, bare};
 ghost use Rattle.rank_grammar.specs.Forms.{var_of, array_of, let_of, item_of, if_of, while_of};
-ghost use Rattle.rank_grammar.specs.Forms.{send_of, recv_of, probe_of, try_probe_of, print_of, bcast_of, reduced_of, reduce_of};
+ghost use Rattle.rank_grammar.specs.Forms.{print_of};
 ghost use Rattle.rank_grammar.specs.Forms.{form_with, form_of};
-ghost use Rattle.rank_grammar.specs.SeenForms.{form_in, form_seen, payload_in, pattern_in, whole_pattern_in, rest_in, lone_in};
+ghost use Rattle.rank_grammar.specs.SeenForms.{form_in, form_seen};
 
-use crate::form::{Form, Pattern, Payload};
+mod arguments;
+mod collectives;
+mod messages;
+
+use crate::form::Form;
 use crate::name::Name;
 use crate::reader::{expression_at, whole_expression};
-use crate::token::{Keyword, Reduction, Token};
+use crate::token::{Keyword, Token};
+use arguments::{after_bracket_assign, only_name};
+use collectives::{read_barrier, read_bcast, read_reduce};
+use messages::{read_probe, read_recv, read_send, read_try_probe};
 use metered::Heap;
 use std::alloc::AllocError;
-
-fn after_comma(tokens: &[Token]) -> Option<&[Token]>
-    ensures { rest_in result ≡ comma tokens.now }
-{
-    match tokens {
-        [Token::Comma, rest @ ..] => Some(rest),
-        _ => None,
-    }
-}
-
-fn after_bracket_assign(tokens: &[Token]) -> Option<&[Token]>
-    ensures { rest_in result ≡ bracket_assign tokens.now }
-{
-    match tokens {
-        [Token::CloseBracket, Token::Assign, rest @ ..] => Some(rest),
-        _ => None,
-    }
-}
-
-fn only_name(tokens: &[Token]) -> Option<Name>
-    ensures { lone_in result ≡ lone_name tokens.now }
-{
-    match tokens {
-        [Token::Name(name)] => Some(*name),
-        _ => None,
-    }
-}
-
-fn pattern_in_front(
-    alloc: Heap,
-    tokens: &[Token],
-) -> Result<Option<(Pattern, &[Token])>, AllocError>
-    ensures { IfOk result (λ c. pattern_in c ≡ pattern_at tokens.now) }
-{
-    if let [Token::Any, rest @ ..] = tokens {
-        return Ok(Some((Pattern::Any, rest)));
-    }
-    let Some((value, rest)) = expression_at(alloc, tokens)? else {
-        return Ok(None);
-    };
-    Ok(Some((Pattern::Value(value), rest)))
-}
-
-fn whole_pattern(alloc: Heap, tokens: &[Token]) -> Result<Option<Pattern>, AllocError>
-    ensures { IfOk result (λ c. whole_pattern_in c ≡ whole_pattern tokens.now) }
-{
-    if let [Token::Any] = tokens {
-        return Ok(Some(Pattern::Any));
-    }
-    let Some(value) = whole_expression(alloc, tokens)? else {
-        return Ok(None);
-    };
-    Ok(Some(Pattern::Value(value)))
-}
-
-fn read_payload(alloc: Heap, tokens: &[Token]) -> Result<Option<Payload>, AllocError>
-    ensures { IfOk result (λ p. payload_in p ≡ payload_of tokens.now) }
-{
-    if let [Token::Name(name)] = tokens {
-        return Ok(Some(Payload::Lone(*name)));
-    }
-    let Some(value) = whole_expression(alloc, tokens)? else {
-        return Ok(None);
-    };
-    Ok(Some(Payload::One(value)))
-}
 
 #[tactic(auto, unfolding(crate::specs::Forms::var_of))]
 fn read_var(tokens: &[Token]) -> Option<Form>
@@ -187,144 +128,6 @@ fn read_while(alloc: Heap, tokens: &[Token]) -> Result<Option<Form>, AllocError>
     Ok(Some(Form::While(test)))
 }
 
-#[tactic(auto, unfolding(crate::specs::Forms::send_of))]
-fn read_send(alloc: Heap, tokens: &[Token]) -> Result<Option<Form>, AllocError>
-    ensures { IfOk result (λ f. form_in f ≡ send_of tokens.now) }
-{
-    let Some((dest, rest)) = expression_at(alloc, tokens)? else {
-        return Ok(None);
-    };
-    let Some(rest) = after_comma(rest) else {
-        drop(dest);
-        return Ok(None);
-    };
-    let (tag, rest) = match expression_at(alloc, rest) {
-        Ok(Some(found)) => found,
-        Ok(None) => {
-            drop(dest);
-            return Ok(None);
-        }
-        Err(error) => {
-            drop(dest);
-            return Err(error);
-        }
-    };
-    let Some(rest) = after_comma(rest) else {
-        drop(dest);
-        drop(tag);
-        return Ok(None);
-    };
-    let payload = match read_payload(alloc, rest) {
-        Ok(Some(found)) => found,
-        Ok(None) => {
-            drop(dest);
-            drop(tag);
-            return Ok(None);
-        }
-        Err(error) => {
-            drop(dest);
-            drop(tag);
-            return Err(error);
-        }
-    };
-    Ok(Some(Form::Send(dest, tag, payload)))
-}
-
-#[tactic(auto, unfolding(crate::specs::Forms::recv_of))]
-fn read_recv(alloc: Heap, tokens: &[Token]) -> Result<Option<Form>, AllocError>
-    ensures { IfOk result (λ f. form_in f ≡ recv_of tokens.now) }
-{
-    let Some((source, rest)) = pattern_in_front(alloc, tokens)? else {
-        return Ok(None);
-    };
-    let Some(rest) = after_comma(rest) else {
-        drop(source);
-        return Ok(None);
-    };
-    let (tag, rest) = match pattern_in_front(alloc, rest) {
-        Ok(Some(found)) => found,
-        Ok(None) => {
-            drop(source);
-            return Ok(None);
-        }
-        Err(error) => {
-            drop(source);
-            return Err(error);
-        }
-    };
-    let Some(rest) = after_comma(rest) else {
-        drop(source);
-        drop(tag);
-        return Ok(None);
-    };
-    let Some(buffer) = only_name(rest) else {
-        drop(source);
-        drop(tag);
-        return Ok(None);
-    };
-    Ok(Some(Form::Recv(source, tag, buffer)))
-}
-
-#[tactic(auto, unfolding(crate::specs::Forms::probe_of))]
-fn read_probe(alloc: Heap, tokens: &[Token]) -> Result<Option<Form>, AllocError>
-    ensures { IfOk result (λ f. form_in f ≡ probe_of tokens.now) }
-{
-    let Some((source, rest)) = pattern_in_front(alloc, tokens)? else {
-        return Ok(None);
-    };
-    let Some(rest) = after_comma(rest) else {
-        drop(source);
-        return Ok(None);
-    };
-    let tag = match whole_pattern(alloc, rest) {
-        Ok(Some(found)) => found,
-        Ok(None) => {
-            drop(source);
-            return Ok(None);
-        }
-        Err(error) => {
-            drop(source);
-            return Err(error);
-        }
-    };
-    Ok(Some(Form::Probe(source, tag)))
-}
-
-#[tactic(auto, unfolding(crate::specs::Forms::try_probe_of))]
-fn read_try_probe(alloc: Heap, tokens: &[Token]) -> Result<Option<Form>, AllocError>
-    ensures { IfOk result (λ f. form_in f ≡ try_probe_of tokens.now) }
-{
-    let Some((source, rest)) = pattern_in_front(alloc, tokens)? else {
-        return Ok(None);
-    };
-    let Some(rest) = after_comma(rest) else {
-        drop(source);
-        return Ok(None);
-    };
-    let (tag, rest) = match pattern_in_front(alloc, rest) {
-        Ok(Some(found)) => found,
-        Ok(None) => {
-            drop(source);
-            return Ok(None);
-        }
-        Err(error) => {
-            drop(source);
-            return Err(error);
-        }
-    };
-    let Some(rest) = after_comma(rest) else {
-        drop(source);
-        drop(tag);
-        return Ok(None);
-    };
-    let Some(flag) = only_name(rest) else {
-        drop(source);
-        drop(tag);
-        return Ok(None);
-    };
-    Ok(Some(Form::TryProbe(source, tag, flag)))
-}
-
 #[tactic(auto, unfolding(crate::specs::Forms::print_of))]
 fn read_print(alloc: Heap, tokens: &[Token]) -> Result<Option<Form>, AllocError>
     ensures { IfOk result (λ f. form_in f ≡ print_of tokens.now) }
@@ -333,85 +136,6 @@ fn read_print(alloc: Heap, tokens: &[Token]) -> Result<Option<Form>, AllocError>
         return Ok(None);
     };
     Ok(Some(Form::Print(value)))
-}
-
-fn read_barrier(tokens: &[Token]) -> Option<Form>
-    ensures { form_in result ≡ bare forms.barrier_form tokens.now }
-{
-    match tokens {
-        [] => Some(Form::Barrier),
-        _ => None,
-    }
-}
-
-#[tactic(auto, unfolding(crate::specs::Forms::bcast_of))]
-fn read_bcast(alloc: Heap, tokens: &[Token]) -> Result<Option<Form>, AllocError>
-    ensures { IfOk result (λ f. form_in f ≡ bcast_of tokens.now) }
-{
-    let Some((root, rest)) = expression_at(alloc, tokens)? else {
-        return Ok(None);
-    };
-    let Some(rest) = after_comma(rest) else {
-        drop(root);
-        return Ok(None);
-    };
-    let Some(buffer) = only_name(rest) else {
-        drop(root);
-        return Ok(None);
-    };
-    Ok(Some(Form::Bcast(root, buffer)))
-}
-
-/// From the root on.
-#[tactic(auto, unfolding(crate::specs::Forms::reduced_of))]
-fn read_reduced(
-    alloc: Heap,
-    reduction: Reduction,
-    tokens: &[Token],
-) -> Result<Option<Form>, AllocError>
-    ensures { IfOk result (λ f. form_in f ≡ reduced_of reduction tokens.now) }
-{
-    let Some((root, rest)) = expression_at(alloc, tokens)? else {
-        return Ok(None);
-    };
-    let Some(rest) = after_comma(rest) else {
-        drop(root);
-        return Ok(None);
-    };
-    let (value, rest) = match expression_at(alloc, rest) {
-        Ok(Some(found)) => found,
-        Ok(None) => {
-            drop(root);
-            return Ok(None);
-        }
-        Err(error) => {
-            drop(root);
-            return Err(error);
-        }
-    };
-    let Some(rest) = after_comma(rest) else {
-        drop(root);
-        drop(value);
-        return Ok(None);
-    };
-    let Some(variable) = only_name(rest) else {
-        drop(root);
-        drop(value);
-        return Ok(None);
-    };
-    Ok(Some(Form::Reduce(reduction, root, value, variable)))
-}
-
-#[tactic(auto, unfolding(crate::specs::Forms::reduce_of))]
-fn read_reduce(alloc: Heap, tokens: &[Token]) -> Result<Option<Form>, AllocError>
-    ensures { IfOk result (λ f. form_in f ≡ reduce_of tokens.now) }
-{
-    match tokens {
-        [Token::Reduction(reduction), Token::Comma, rest @ ..] => {
-            read_reduced(alloc, *reduction, rest)
-        }
-        _ => Ok(None),
-    }
 }
 
 /// The form of a statement word with these arguments.

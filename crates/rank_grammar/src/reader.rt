@@ -1,20 +1,25 @@
 //! Reads an expression from tokens, without recursion: an open bracket costs an
 //! entry of a stack of its own, so that no nesting can use up the thread's.
 
-ghost use Rattle.std.specs.Prelude.{◌≡◌, ◌<◌, ◌^◌, ◌-◌, IfOk, IfSome, Some, List, [], ◌∷◌, length};
+ghost use Rattle.std.specs.Prelude.{◌≡◌, ◌<◌, ◌^◌, ◌-◌, IfOk, IfSome, Some, List};
 ghost use Rattle.rank_grammar.specs.Tree.{Tree, tree_of};
 ghost use Rattle.rank_grammar.specs.Grammar.{strength, Spells, whole};
-ghost use Rattle.rank_grammar.specs.Reader.{join, negate, fresh, arrive, all_of, wants, has, close, operate};
+ghost use Rattle.rank_grammar.specs.Reader.{fresh, arrive, wants, has, operate};
 ghost use Rattle.rank_grammar.specs.Reader.{next, end_tree, with_rest, expression_at, whole_expression};
 ghost use Rattle.rank_grammar.specs.declared.reader.Bracket.{Bracket};
 ghost use Rattle.rank_grammar.specs.declared.token.Token.{Token};
 ghost use Rattle.rank_grammar.specs.declared.reader.Level.{Level};
-ghost use Rattle.rank_grammar.specs.Seen.{left_of, level_of, state_of, stack_of, bracket_of, tree_in, minuses_of, found_of, Goes};
+ghost use Rattle.rank_grammar.specs.Seen.{left_of, level_of, state_of, stack_of, tree_in, minuses_of, found_of, Goes};
+
+mod brackets;
+mod operands;
 
 use crate::name::Name;
 use crate::token::{Operator, Strength, Token};
 use crate::written::Written;
+use brackets::{closing, stopped};
 use metered::Heap;
+use operands::{joined, product};
 use std::alloc::AllocError;
 
 /// A left operand and its operator, which wait for the right one.
@@ -61,59 +66,6 @@ impl Level {
     }
 }
 
-fn joined(alloc: Heap, left: Left, right: Written) -> Result<Written, AllocError>
-    ensures { IfOk result (λ e. tree_of e ≡ join (left_of left) (tree_of right)) }
-{
-    match left {
-        None => Ok(right),
-        Some((first, operator)) => Ok(Written::Operation(
-            operator,
-            Box::new(alloc, first)?,
-            Box::new(alloc, right)?,
-        )),
-    }
-}
-
-fn negated(alloc: Heap, minuses: usize, operand: Written) -> Result<Written, AllocError>
-    ensures { IfOk result (λ e. tree_of e ≡ negate minuses (tree_of operand)) }
-{
-    let mut negation = operand;
-    for _i in 0..minuses {
-        negation = Written::Negation(Box::new(alloc, negation)?);
-    }
-    Ok(negation)
-}
-
-/// The product that an operand ends, and what waits for it.
-fn product(alloc: Heap, level: Level, operand: Written) -> Result<(Left, Left, Written), AllocError>
-    ensures compared { IfOk result (λ p. left_of p.0 ≡ (level_of level).compared) }
-    ensures added { IfOk result (λ p. left_of p.1 ≡ (level_of level).added) }
-    ensures product { IfOk result (λ p. tree_of p.2
-        ≡ join (level_of level).multiplied (negate (level_of level).minuses (tree_of operand))) }
-{
-    let operand = match negated(alloc, level.minuses, operand) {
-        Ok(operand) => operand,
-        Err(error) => {
-            drop(level);
-            return Err(error);
-        }
-    };
-    let Level {
-        compared,
-        added,
-        multiplied,
-        ..
-    } = level;
-    match joined(alloc, multiplied, operand) {
-        Ok(product) => Ok((compared, added, product)),
-        Err(error) => {
-            drop(compared);
-            drop(added);
-            Err(error)
-        }
-    }
-}
-
 /// The operand has come.
 fn arrived(alloc: Heap, level: Level, operand: Written) -> Result<State, AllocError>
     ensures { IfOk result (λ st. (s : _) → state_of st s ≡ arrive (level_of level) s (tree_of operand)) }
@@ -122,101 +74,6 @@ fn arrived(alloc: Heap, level: Level, operand: Written) -> Result<State, AllocEr
         Ok((compared, added, product)) => Ok(State::Has(compared, added, product)),
         Err(error) => Err(error),
     }
-}
-
-/// The expression of all that stands in the brackets.
-fn in_brackets(
-    alloc: Heap,
-    compared: Left,
-    added: Left,
-    product: Written,
-) -> Result<Written, AllocError>
-    ensures { IfOk result (λ e. tree_of e ≡ all_of (left_of compared) (left_of added) (tree_of product)) }
-{
-    joined(alloc, compared, joined(alloc, added, product)?)
-}
-
-/// A token comes after all that stands in the brackets.
-fn closed(
-    alloc: Heap,
-    bracket: Bracket,
-    level: Level,
-    operand: Written,
-    token: Token,
-) -> Result<Step, AllocError>
-    ensures { IfOk result (λ step. (s : List (Bracket × Level)) → Goes step s
-        (close token ((bracket_of bracket, level_of level) ∷ stack_of s) (tree_of operand)) None) }
-{
-    match bracket {
-        Bracket::Parenthesis => match token {
-            Token::CloseParenthesis => arrived(alloc, level, operand).map(Step::Next),
-            _ => {
-                drop(level);
-                drop(operand);
-                Ok(Step::End(None))
-            }
-        },
-        Bracket::IndexOf(name) => match token {
-            Token::CloseBracket => {
-                let index = match Box::new(alloc, operand) {
-                    Ok(index) => index,
-                    Err(error) => {
-                        drop(level);
-                        return Err(error.into());
-                    }
-                };
-                arrived(alloc, level, Written::Item(name, index)).map(Step::Next)
-            }
-            _ => {
-                drop(level);
-                drop(operand);
-                Ok(Step::End(None))
-            }
-        },
-    }
-}
-
-/// A token that is no operator comes after a product.
-#[tactic(auto, using(crate::proofs::Stacks::stack_of_push))]
-fn closing(
-    alloc: Heap,
-    compared: Left,
-    added: Left,
-    product: Written,
-    stack: &mut Vec<(Bracket, Level), Heap>,
-    token: Token,
-) -> Result<Step, AllocError>
-    ensures { IfOk result (λ step. let e = all_of (left_of compared) (left_of added) (tree_of product) in
-        Goes step stack.new.items (close token (stack_of stack.old.items) e)
-        (end_tree (has (left_of compared) (left_of added) (stack_of stack.old.items) (tree_of product)))) }
-{
-    let operand = in_brackets(alloc, compared, added, product)?;
-    match stack.pop() {
-        None => Ok(Step::End(Some(operand))),
-        Some((bracket, level)) => closed(alloc, bracket, level, operand, token),
-    }
-}
-
-/// What has been read where a product doesn't go on.
-#[tactic(auto, using(crate::proofs::Stacks::end_inside))]
-fn stopped(
-    alloc: Heap,
-    compared: Left,
-    added: Left,
-    product: Written,
-    stack: &[(Bracket, Level)],
-) -> Result<Option<Written>, AllocError>
-    ensures { IfOk result (λ e. tree_in e
-        ≡ end_tree (has (left_of compared) (left_of added) (stack_of stack.now) (tree_of product))) }
-{
-    if !stack.is_empty() {
-        drop(compared);
-        drop(added);
-        drop(product);
-        return Ok(None);
-    }
-    let operand = in_brackets(alloc, compared, added, product)?;
-    Ok(Some(operand))
 }
 
 /// An operator comes after a product.

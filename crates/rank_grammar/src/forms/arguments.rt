@@ -1,0 +1,78 @@
+//! What the arguments of several statements are made of.
+ghost use Rattle.std.specs.Prelude.{◌≡◌, IfOk, Some};
+ghost use Rattle.rank_grammar.specs.declared.token.Token.{Token};
+ghost use Rattle.rank_grammar.specs.Forms.{comma, bracket_assign, lone_name, pattern_at, whole_pattern, payload_of};
+ghost use Rattle.rank_grammar.specs.SeenForms.{payload_in, pattern_in, whole_pattern_in, rest_in, lone_in};
+
+use crate::form::{Pattern, Payload};
+use crate::name::Name;
+use crate::reader::{expression_at, whole_expression};
+use crate::token::Token;
+use metered::Heap;
+use std::alloc::AllocError;
+
+pub(super) fn after_comma(tokens: &[Token]) -> Option<&[Token]>
+    ensures { rest_in result ≡ comma tokens.now }
+{
+    match tokens {
+        [Token::Comma, rest @ ..] => Some(rest),
+        _ => None,
+    }
+}
+
+pub(super) fn after_bracket_assign(tokens: &[Token]) -> Option<&[Token]>
+    ensures { rest_in result ≡ bracket_assign tokens.now }
+{
+    match tokens {
+        [Token::CloseBracket, Token::Assign, rest @ ..] => Some(rest),
+        _ => None,
+    }
+}
+
+pub(super) fn only_name(tokens: &[Token]) -> Option<Name>
+    ensures { lone_in result ≡ lone_name tokens.now }
+{
+    match tokens {
+        [Token::Name(name)] => Some(*name),
+        _ => None,
+    }
+}
+
+pub(super) fn pattern_in_front(
+    alloc: Heap,
+    tokens: &[Token],
+) -> Result<Option<(Pattern, &[Token])>, AllocError>
+    ensures { IfOk result (λ c. pattern_in c ≡ pattern_at tokens.now) }
+{
+    if let [Token::Any, rest @ ..] = tokens {
+        return Ok(Some((Pattern::Any, rest)));
+    }
+    let Some((value, rest)) = expression_at(alloc, tokens)? else {
+        return Ok(None);
+    };
+    Ok(Some((Pattern::Value(value), rest)))
+}
+
+pub(super) fn whole_pattern(alloc: Heap, tokens: &[Token]) -> Result<Option<Pattern>, AllocError>
+    ensures { IfOk result (λ c. whole_pattern_in c ≡ whole_pattern tokens.now) }
+{
+    if let [Token::Any] = tokens {
+        return Ok(Some(Pattern::Any));
+    }
+    let Some(value) = whole_expression(alloc, tokens)? else {
+        return Ok(None);
+    };
+    Ok(Some(Pattern::Value(value)))
+}
+
+pub(super) fn read_payload(alloc: Heap, tokens: &[Token]) -> Result<Option<Payload>, AllocError>
+    ensures { IfOk result (λ p. payload_in p ≡ payload_of tokens.now) }
+{
+    if let [Token::Name(name)] = tokens {
+        return Ok(Some(Payload::Lone(*name)));
+    }
+    let Some(value) = whole_expression(alloc, tokens)? else {
+        return Ok(None);
+    };
+    Ok(Some(Payload::One(value)))
+}

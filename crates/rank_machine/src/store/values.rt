@@ -1,0 +1,145 @@
+//! Values of expressions over what a rank has stored.
+ghost use Rattle.std.specs.Prelude.{◌≡◌, ◌<◌, ◌-◌, IfOk, IfSome, Ok, Some, [], length, slice_index_or};
+ghost use Rattle.rank_language.specs.Seen.{placed_of};
+ghost use Rattle.rank_language.specs.Program.{IsWithin};
+ghost use Rattle.rank_machine.specs.Values.{value, read, rank_in};
+ghost use Rattle.rank_machine.specs.States.{item_value};
+
+use crate::fault::MachineFault;
+use crate::operate::{negated, operated};
+use crate::store::Store;
+use rank_language::{Expression, Reading};
+
+impl Store {
+    /// The expression's value; operands go from left to right, and the first fault stands. A number or a variable needs
+    /// no call.
+    #[inline(always)]
+    pub fn value_of(&self, expression: &Expression) -> Result<i64, MachineFault>
+        requires { IsWithin (length self.now.variables) (length self.now.arrays) (placed_of expression.now) }
+        ensures { result ≡ value self.now (placed_of expression.now) }
+    {
+        match self.leaf(expression) {
+            Some(value) => Ok(value),
+            None => self.computed(expression),
+        }
+    }
+
+    // The same value; an operation on numbers and variables needs no call either. Most steps of a loop are such.
+    #[inline(always)]
+    pub(super) fn step_value(&self, expression: &Expression) -> Result<i64, MachineFault>
+        requires { IsWithin (length self.now.variables) (length self.now.arrays) (placed_of expression.now) }
+        ensures { result ≡ value self.now (placed_of expression.now) }
+    {
+        match self.quick(expression) {
+            Some(value) => Ok(value),
+            None => self.computed(expression),
+        }
+    }
+
+    // The value of a number, of a variable or of an operation on two such, where it doesn't fault: it needs no call.
+    #[inline(always)]
+    fn quick(&self, expression: &Expression) -> Option<i64>
+        requires { IsWithin (length self.now.variables) (length self.now.arrays) (placed_of expression.now) }
+        ensures { IfSome result (λ z. value self.now (placed_of expression.now) ≡ Ok z) }
+    {
+        let Expression::Operation(operator, left, right) = expression else {
+            return self.leaf(expression);
+        };
+        let left = self.leaf(left)?;
+        let right = self.leaf(right)?;
+        match operated(*operator, left, right) {
+            Ok(value) => Some(value),
+            Err(_) => None,
+        }
+    }
+
+    // The value of a number or of a variable.
+    #[inline(always)]
+    fn leaf(&self, expression: &Expression) -> Option<i64>
+        requires { IsWithin (length self.now.variables) (length self.now.arrays) (placed_of expression.now) }
+        ensures { IfSome result (λ z. value self.now (placed_of expression.now) ≡ Ok z) }
+    {
+        match expression {
+            Expression::Number(number) => Some(*number),
+            Expression::Variable(place) => Some(self.variables[*place]),
+            Expression::Item(_, _)
+            | Expression::Reading(_)
+            | Expression::Negation(_)
+            | Expression::Operation(_, _, _) => None,
+        }
+    }
+
+    // The value of any expression.
+    fn computed(&self, expression: &Expression) -> Result<i64, MachineFault>
+        requires { IsWithin (length self.now.variables) (length self.now.arrays) (placed_of expression.now) }
+        ensures { result ≡ value self.now (placed_of expression.now) }
+    {
+        match expression {
+            Expression::Number(number) => Ok(*number),
+            Expression::Variable(place) => Ok(self.variables[*place]),
+            Expression::Item(place, index) => {
+                let index = match self.leaf(index) {
+                    Some(value) => value,
+                    None => self.computed(index)?,
+                };
+                self.arrays[*place].item_at(index)
+            }
+            Expression::Reading(reading) => Ok(self.read(*reading)),
+            Expression::Negation(operand) => negated(self.computed(operand)?),
+            Expression::Operation(operator, left, right) => {
+                let left = match self.leaf(left) {
+                    Some(value) => value,
+                    None => self.computed(left)?,
+                };
+                let right = match self.leaf(right) {
+                    Some(value) => value,
+                    None => self.computed(right)?,
+                };
+                operated(*operator, left, right)
+            }
+        }
+    }
+
+    /// The rank of this number.
+    pub fn rank_of(&self, value: i64) -> Result<u8, MachineFault>
+        ensures rank { result ≡ rank_in self.now.size value }
+        ensures within { IfOk result (λ rank. rank < self.now.size) }
+    {
+        let size = self.size;
+        match u8::try_from(value) {
+            Ok(rank) if rank < size => Ok(rank),
+            _ => Err(MachineFault::BadRank),
+        }
+    }
+
+    /// The index of the item that a `let` sets, and the item's value. The index
+    /// and its range come before the value.
+    pub fn item_value(
+        &self,
+        place: usize,
+        index: &Expression,
+        value: &Expression,
+    ) -> Result<(usize, i64), MachineFault>
+        requires place { place < length self.now.arrays }
+        requires index { IsWithin (length self.now.variables) (length self.now.arrays) (placed_of index.now) }
+        requires value { IsWithin (length self.now.variables) (length self.now.arrays) (placed_of value.now) }
+        ensures item { result ≡ item_value self.now place (placed_of index.now) (placed_of value.now) }
+        ensures within { IfOk result (λ item. item.0 < length (slice_index_or self.now.arrays place [])) }
+    {
+        let index = self.value_of(index)?;
+        let index = self.arrays[place].index_of(index)?;
+        Ok((index, self.value_of(value)?))
+    }
+
+    fn read(&self, reading: Reading) -> i64
+        ensures { result ≡ read self.now reading }
+    {
+        match reading {
+            Reading::Rank => i64::from(self.rank),
+            Reading::Size => i64::from(self.size),
+            Reading::Source => i64::from(self.status.source),
+            Reading::Tag => i64::from(self.status.tag),
+            Reading::Count => i64::from(self.status.count),
+        }
+    }
+}
