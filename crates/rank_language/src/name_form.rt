@@ -3,22 +3,26 @@ ghost use Rattle.std.specs.Prelude.{◌≡◌, ◌<◌, IfOk, length, map};
 ghost use Rattle.rank_grammar.specs.SeenForms.{pattern_of as pattern_seen, form_seen, payload_seen};
 ghost use Rattle.rank_grammar.specs.Tree.{tree_of};
 ghost use Rattle.rank_checker.specs.SeenLines.{forms_seen};
-ghost use Rattle.rank_language.specs.Named.{array_at, buffer_name, pattern_named, collective_named, form_named};
+ghost use Rattle.rank_language.specs.Named.{array_at, buffer_name, pattern_named, form_named};
 ghost use Rattle.rank_language.specs.Named.{named, payload_named, value_named};
-ghost use Rattle.rank_language.specs.Placed.{assign, assign_item, declare_array, does, probe, receive, reduce};
-ghost use Rattle.rank_language.specs.Placed.{send, try_probe};
+ghost use Rattle.rank_language.specs.Placed.{assign, assign_item, declare_array, does};
 ghost use Rattle.rank_language.specs.Program.{AllPlaced, IsPlaced, IsWithin};
-ghost use Rattle.rank_language.specs.Program.{IsBufferWithin, IsPatternWithin, IsCollectiveWithin, IsPayloadWithin};
-ghost use Rattle.rank_language.specs.Seen.{buffer_of, pattern_of, collective_of, line_of, payload_of, placed_of};
+ghost use Rattle.rank_language.specs.Program.{IsBufferWithin, IsPatternWithin, IsPayloadWithin};
+ghost use Rattle.rank_language.specs.Seen.{buffer_of, pattern_of, line_of, payload_of, placed_of};
 ghost use Rattle.rank_language.specs.SeenTables.{tables_seen};
 ghost use Rattle.rank_language.specs.Shape.{step_of};
 
+mod collectives;
+mod messages;
+
 use crate::expression::Expression;
 use crate::resolve::Tables;
-use crate::statement::{Buffer, Collective, Pattern, Payload, Statement};
+use crate::statement::{Buffer, Pattern, Payload, Statement};
+use collectives::name_collective;
+use messages::{name_probe, name_receive, name_send, name_try_probe};
 use metered::Heap;
 use rank_checker::Array;
-use rank_grammar::{Form, Name, Reduction, Written, form};
+use rank_grammar::{Form, Name, Written, form};
 use std::alloc::AllocError;
 
 /// The array at a place.
@@ -162,157 +166,6 @@ fn name_item_assignment(
             drop(index);
             Err(error)
         }
-    }
-}
-
-/// A send with names for its places.
-fn name_send(
-    alloc: Heap,
-    tables: Tables<'_>,
-    destination: &Expression,
-    tag: &Expression,
-    payload: &Payload,
-) -> Result<Form, AllocError>
-    requires destination { IsWithin (length (tables_seen tables).variables) (length (tables_seen tables).arrays) (placed_of destination.now) }
-    requires tag { IsWithin (length (tables_seen tables).variables) (length (tables_seen tables).arrays) (placed_of tag.now) }
-    requires payload { IsPayloadWithin (length (tables_seen tables).variables) (length (tables_seen tables).arrays) (payload_of payload.now) }
-    ensures { IfOk result (λ f. form_seen f
-        ≡ form_named (tables_seen tables.entry) (does (send (placed_of destination.now) (placed_of tag.now) (payload_of payload.now)))) }
-{
-    let destination = name(alloc, tables, destination)?;
-    let tag = match name(alloc, tables, tag) {
-        Ok(tag) => tag,
-        Err(error) => {
-            drop(destination);
-            return Err(error);
-        }
-    };
-    match name_payload(alloc, tables, payload) {
-        Ok(payload) => Ok(Form::Send(destination, tag, payload)),
-        Err(error) => {
-            drop(destination);
-            drop(tag);
-            Err(error)
-        }
-    }
-}
-
-/// A receive with names for its places.
-fn name_receive(
-    alloc: Heap,
-    tables: Tables<'_>,
-    source: &Pattern,
-    tag: &Pattern,
-    buffer: &Buffer,
-) -> Result<Form, AllocError>
-    requires source { IsPatternWithin (length (tables_seen tables).variables) (length (tables_seen tables).arrays) (pattern_of source.now) }
-    requires tag { IsPatternWithin (length (tables_seen tables).variables) (length (tables_seen tables).arrays) (pattern_of tag.now) }
-    requires buffer { IsBufferWithin (length (tables_seen tables).variables) (length (tables_seen tables).arrays) (buffer_of buffer.now) }
-    ensures { IfOk result (λ f. form_seen f
-        ≡ form_named (tables_seen tables.entry) (does (receive (pattern_of source.now) (pattern_of tag.now) (buffer_of buffer.now)))) }
-{
-    let source = name_pattern(alloc, tables, source)?;
-    match name_pattern(alloc, tables, tag) {
-        Ok(tag) => Ok(Form::Recv(source, tag, name_buffer(tables, buffer))),
-        Err(error) => {
-            drop(source);
-            Err(error)
-        }
-    }
-}
-
-/// A probe that waits, with names for its places.
-fn name_probe(
-    alloc: Heap,
-    tables: Tables<'_>,
-    source: &Pattern,
-    tag: &Pattern,
-) -> Result<Form, AllocError>
-    requires source { IsPatternWithin (length (tables_seen tables).variables) (length (tables_seen tables).arrays) (pattern_of source.now) }
-    requires tag { IsPatternWithin (length (tables_seen tables).variables) (length (tables_seen tables).arrays) (pattern_of tag.now) }
-    ensures { IfOk result (λ f. form_seen f
-        ≡ form_named (tables_seen tables.entry) (does (probe (pattern_of source.now) (pattern_of tag.now)))) }
-{
-    let source = name_pattern(alloc, tables, source)?;
-    match name_pattern(alloc, tables, tag) {
-        Ok(tag) => Ok(Form::Probe(source, tag)),
-        Err(error) => {
-            drop(source);
-            Err(error)
-        }
-    }
-}
-
-/// A probe that doesn't wait, with names for its places.
-fn name_try_probe(
-    alloc: Heap,
-    tables: Tables<'_>,
-    source: &Pattern,
-    tag: &Pattern,
-    flag: usize,
-) -> Result<Form, AllocError>
-    requires source { IsPatternWithin (length (tables_seen tables).variables) (length (tables_seen tables).arrays) (pattern_of source.now) }
-    requires tag { IsPatternWithin (length (tables_seen tables).variables) (length (tables_seen tables).arrays) (pattern_of tag.now) }
-    requires flag { flag < length (tables_seen tables).variables }
-    ensures { IfOk result (λ f. form_seen f
-        ≡ form_named (tables_seen tables.entry) (does (try_probe (pattern_of source.now) (pattern_of tag.now) flag))) }
-{
-    let source = name_pattern(alloc, tables, source)?;
-    match name_pattern(alloc, tables, tag) {
-        Ok(tag) => Ok(Form::TryProbe(source, tag, tables.variables[flag])),
-        Err(error) => {
-            drop(source);
-            Err(error)
-        }
-    }
-}
-
-/// A reduction with names for its places.
-fn name_reduction(
-    alloc: Heap,
-    tables: Tables<'_>,
-    reduction: Reduction,
-    root: &Expression,
-    value: &Expression,
-    place: usize,
-) -> Result<Form, AllocError>
-    requires root { IsWithin (length (tables_seen tables).variables) (length (tables_seen tables).arrays) (placed_of root.now) }
-    requires value { IsWithin (length (tables_seen tables).variables) (length (tables_seen tables).arrays) (placed_of value.now) }
-    requires place { place < length (tables_seen tables).variables }
-    ensures { IfOk result (λ f. form_seen f
-        ≡ collective_named (tables_seen tables.entry) (reduce reduction (placed_of root.now) (placed_of value.now) place)) }
-{
-    let root = name(alloc, tables, root)?;
-    match name(alloc, tables, value) {
-        Ok(value) => Ok(Form::Reduce(reduction, root, value, tables.variables[place])),
-        Err(error) => {
-            drop(root);
-            Err(error)
-        }
-    }
-}
-
-/// The collective with names for its places.
-fn name_collective(
-    alloc: Heap,
-    tables: Tables<'_>,
-    collective: &Collective,
-) -> Result<Form, AllocError>
-    requires { IsCollectiveWithin (length (tables_seen tables).variables) (length (tables_seen tables).arrays) (collective_of collective.now) }
-    ensures { IfOk result (λ f. form_seen f ≡ collective_named (tables_seen tables.entry) (collective_of collective.now)) }
-{
-    match collective {
-        Collective::Barrier => Ok(Form::Barrier),
-        Collective::Broadcast { root, buffer } => match name(alloc, tables, root) {
-            Ok(root) => Ok(Form::Bcast(root, name_buffer(tables, buffer))),
-            Err(error) => Err(error),
-        },
-        Collective::Reduce {
-            reduction,
-            root,
-            value,
-            place,
-        } => name_reduction(alloc, tables, *reduction, root, value, *place),
     }
 }
 

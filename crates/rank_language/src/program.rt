@@ -11,7 +11,7 @@ ghost use Rattle.rank_language.specs.Correct.{IsOfForms, IsProgramOf};
 ghost use Rattle.rank_language.specs.Named.{forms_of};
 ghost use Rattle.rank_printer.specs.Canonical.{program_text};
 ghost use Rattle.std.specs.Prelude.{[], List, Err, IfErr, IfOk, ◌≡◌, ◌<◌, ◌≤◌, IfSome, IsNone, ◌↔◌, length, slice_get, Bool};
-ghost use Rattle.rank_language.specs.Block.{size, remaining, Leads, next_position};
+ghost use Rattle.rank_language.specs.Block.{size, lines_at, remaining, Leads, next_position};
 ghost use Rattle.rank_language.specs.Seen.{line_of, line_in};
 ghost use Rattle.rank_language.specs.Program.{block_of, AllSized, IsPlaced};
 
@@ -131,6 +131,13 @@ impl Program {
         ensures lines { length self.now.statements ≤ most_lines }
         ensures variables { length self.now.variables ≤ most_variables }
         ensures arrays { length self.now.arrays ≤ most_arrays }
+    {
+        let _statements = &self.statements;
+    }
+
+    /// A law, for proofs alone: its lines are those of its tree.
+    pub fn law_lines(&self)
+        ensures { self.now.statements ≡ lines_at 0 (block_of self.now) }
     {
         let _statements = &self.statements;
     }
