@@ -2,6 +2,7 @@ pub mod Fields
 pub mod Packets
 pub mod Underway
 pub mod Machines
+pub mod MachinesRead
 pub mod Whole
 pub mod Loop
 pub mod Arrays

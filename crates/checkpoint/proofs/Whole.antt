@@ -22,7 +22,8 @@ use Rattle.checkpoint.specs.Reading.{Read, Gives, ◌>>=◌, where_holds, count_
 use Rattle.checkpoint.proofs.Fields.{IsBytes, Takes, takes_then, IsReader, IsPassed, step, again_then, again_last, ok_is, number}
 use Rattle.checkpoint.proofs.Fields.{field_reader, many_reader}
 use Rattle.checkpoint.proofs.Packets.{word, packet_reader, lane_reader}
-use Rattle.checkpoint.proofs.Machines.{origin_reader, table_reader, machine_reader}
+use Rattle.checkpoint.proofs.Machines.{origin_reader, table_reader}
+use Rattle.checkpoint.proofs.MachinesRead.{machine_reader}
 
 -- ---- counts
 

@@ -3,6 +3,7 @@ ghost use Rattle.std.specs.Prelude.{◌≡◌, ◌<◌, ◌≤◌, ◌++◌, len
 ghost use Rattle.std.specs.Int.{w64};
 ghost use Rattle.std.specs.List.{flat_map};
 ghost use Rattle.byteorder.specs.Endian.{big_bytes};
+ghost use Rattle.matching.specs.Packets.{left};
 ghost use Rattle.metered.specs.Limits.{most_items};
 ghost use Rattle.rank_checker.specs.SeenLines.{arrays_seen};
 ghost use Rattle.rank_language.specs.Program.{AllSized};
@@ -15,7 +16,7 @@ ghost use Rattle.checkpoint.specs.Spelling.{fault_field, standing, status, machi
 use crate::format::{EVENT_VERSION, Format};
 use crate::read_machine::array_count;
 use crate::writing::{put_tail, put_u8, put_u16, put_u32, put_values};
-use matching::{Inbox, Packet};
+use matching::{Inbox, Packet, Packets};
 use metered::Heap;
 use payload_log::Backlog;
 use rank_language::{Array, Program};
@@ -42,9 +43,9 @@ fn put_packet(out: &mut Vec<u8, Heap>, p: &Packet) -> Result<(), AllocError>
     put_tail(out, p)
 }
 
-fn put_packets(out: &mut Vec<u8, Heap>, packets: &[Packet]) -> Result<(), AllocError>
-    ensures spelled { OnOk result (out.new.items ≡ out.old.items ++ flat_map packet packets.now) }
-    ensures packets { OnOk result (All IsPacket packets.now) }
+fn put_packets(out: &mut Vec<u8, Heap>, packets: Packets<'_>) -> Result<(), AllocError>
+    ensures spelled { OnOk result (out.new.items ≡ out.old.items ++ flat_map packet (left packets.entry)) }
+    ensures packets { OnOk result (All IsPacket (left packets.entry)) }
 {
     for p in packets {
         put_packet(out, p)?;
@@ -59,7 +60,7 @@ pub fn put_inbox(out: &mut Vec<u8, Heap>, b: &Inbox) -> Result<(), AllocError>
     ensures packets { OnOk result (All IsPacket b.now.packets) }
 {
     put_counts(out, b.counts())?;
-    put_u32(out, b.packets().len() as u32)?;
+    put_u32(out, b.len() as u32)?;
     put_packets(out, b.packets())
 }
 

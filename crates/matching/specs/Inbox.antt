@@ -6,6 +6,7 @@ use Rattle.std.specs.Prelude.{All, AllPairs}
 use Rattle.std.specs.List.{list_all}
 use Rattle.metered.specs.Limits.{greatest_clock}
 use Rattle.matching.specs.PacketValue.{PacketValue}
+use Rattle.matching.specs.Queue.{without_first}
 use Rattle.matching.specs.declared.inbox.Accept.{Accept}
 use Rattle.matching.specs.declared.inbox.Accept.TheVariants.{Accepted, Repeated, Gap}
 
@@ -40,6 +41,10 @@ after_arrivals box (m ∷ ms) = after_arrivals (after_arrival box m) ms
 -- the inbox without the packet at this index
 abbrev pub without : Mailbox → ℕ → Mailbox
 without box index = record { packets = remove box.packets index; accepted = box.accepted }
+
+-- the inbox without the first packet that passes the test, if one does
+abbrev pub without_match : (PacketValue → Bool) → Mailbox → Mailbox
+without_match test box = record { packets = without_first test box.packets; accepted = box.accepted }
 
 -- the message's source is a rank, and its number is one of those that were accepted from there
 pub record WasAccepted (accepted : List ℕ) (m : PacketValue) : Type 0 where

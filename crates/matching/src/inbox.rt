@@ -1,14 +1,20 @@
 //! The inbox of a rank.
 ghost use Rattle.std.specs.Prelude.{◌≡◌, ℕ, ◌+◌, ◌*◌, ◌<◌, ◌≤◌, [], length, replicate, remove, slice_get, position};
-ghost use Rattle.std.specs.Prelude.{Some, true, IfOk, IfErr, IfSome, OnOk, OnErr, All, AllPairs};
+ghost use Rattle.std.specs.Prelude.{Some, None, true, IfOk, IfErr, IfSome, OnOk, OnErr, All, AllPairs};
 ghost use Rattle.std.specs.Bool.{OnTrue};
 ghost use Rattle.std.specs.List.{list_all};
+ghost use Rattle.std.specs.Option.{option_copied};
 ghost use Rattle.metered.specs.Limits.{greatest_clock};
 ghost use Rattle.matching.specs.PacketValue.{PacketValue};
 ghost use Rattle.matching.specs.Matching.{matches, is_named};
 ghost use Rattle.matching.specs.Inbox.{RisesTo, is_below};
+ghost use Rattle.matching.specs.Queue.{first_by, first_place, above_last};
+ghost use Rattle.matching.specs.Packets.{left};
 
+use crate::label::Label;
 use crate::packet::Packet;
+use crate::packets::Packets;
+use crate::queue::Queue;
 use crate::selector::Selector;
 use metered::Heap;
 use std::alloc::AllocError;
@@ -28,7 +34,7 @@ pub enum Accept {
 /// The packets that a rank accepted and hasn't taken, in order of acceptance.
 #[derive(Drop)]
 pub struct Inbox {
-    packets: Vec<Packet, Heap>,
+    packets: Queue,
     // for each source the number of the last packet accepted, 0 for none
     accepted: Vec<u32, Heap>,
 }
@@ -38,20 +44,20 @@ impl Model for Inbox {
 
     ghost Value = { Mailbox };
 
-    ghost view = { λ b. record { packets = b.packets.items; accepted = b.accepted.items } };
+    ghost view = { λ b. record { packets = b.packets; accepted = b.accepted.items } };
 
-    ghost invariant = { λ b. IsMailbox (record { packets = b.packets.items; accepted = b.accepted.items }) };
+    ghost invariant = { λ b. IsMailbox (record { packets = b.packets; accepted = b.accepted.items }) };
 }
 
 impl Inbox {
-    ghost use Rattle.matching.specs.Inbox.{accepted_from, answer_to, after_arrival, may_follow, with_last, without, IsMailbox};
+    ghost use Rattle.matching.specs.Inbox.{accepted_from, answer_to, after_arrival, may_follow, with_last, without, without_match, IsMailbox};
 
     /// The empty inbox of a rank among `size` ranks.
     pub fn new(alloc: Heap, size: usize) -> Result<Inbox, AllocError>
         ensures { IfOk result (λ b. b ≡ record { packets = []; accepted = replicate size 0 }) }
     {
         Ok(Inbox {
-            packets: Vec::new(alloc),
+            packets: Queue::new(alloc),
             accepted: vec![in alloc; 0; size]?,
         })
     }
@@ -63,7 +69,7 @@ impl Inbox {
         ensures { result ≡ record { packets = []; accepted = accepted.items } }
     {
         Inbox {
-            packets: Vec::new(alloc),
+            packets: Queue::new(alloc),
             accepted,
         }
     }
@@ -73,7 +79,7 @@ impl Inbox {
         ensures { IfOk result (λ copy. copy ≡ self.now) }
     {
         Ok(Inbox {
-            packets: self.packets.as_slice().to_vec(alloc)?,
+            packets: self.packets.copy(alloc)?,
             accepted: self.accepted.as_slice().to_vec(alloc)?,
         })
     }
@@ -97,8 +103,10 @@ impl Inbox {
         ensures ok { OnOk result (self.new ≡ with_last self.old packet) }
         ensures err { OnErr result (self.new ≡ self.old) }
     {
-        self.packets.push(packet)?;
-        Ok(())
+        match self.packets.push(packet) {
+            Ok(()) => Ok(()),
+            Err(_refused) => Err(AllocError),
+        }
     }
 
     /// Takes in a packet that is the next of its source, and drops any other.
@@ -123,7 +131,7 @@ impl Inbox {
             return Ok(Accept::Gap);
         }
         if let Err(refused) = self.packets.push(packet) {
-            return Err(refused.value);
+            return Err(refused);
         }
         self.accepted[source] = number;
         Ok(Accept::Accepted)
@@ -135,9 +143,7 @@ impl Inbox {
         ensures within { IfSome result (λ i. i < length self.now.packets) }
         ensures fits { IfSome result (λ i. (m : PacketValue) → slice_get self.now.packets i ≡ Some m → matches selector.now m ≡ true) }
     {
-        self.packets
-            .iter()
-            .position(|packet| selector.matches(packet))
+        self.packets.position(Label::Selected(*selector))
     }
 
     /// The first packet in order of acceptance that this source sent at this
@@ -147,9 +153,7 @@ impl Inbox {
         ensures within { IfSome result (λ i. i < length self.now.packets) }
         ensures fits { IfSome result (λ i. (m : PacketValue) → slice_get self.now.packets i ≡ Some m → is_named source clock m ≡ true) }
     {
-        self.packets
-            .iter()
-            .position(|packet| packet.is_named(source, clock))
+        self.packets.position(Label::Sent { source, clock })
     }
 
     /// The packet at this index.
@@ -157,7 +161,7 @@ impl Inbox {
         requires { index < length self.now.packets }
         ensures { slice_get self.now.packets index ≡ Some result.now }
     {
-        &self.packets[index]
+        self.packets.get(index)
     }
 
     /// Takes the packet out; those behind it move up.
@@ -167,7 +171,62 @@ impl Inbox {
         ensures taken { slice_get self.old.packets index ≡ Some result }
         ensures left { self.new ≡ without self.old index }
     {
-        self.packets.remove(index)
+        self.packets.take(index)
+    }
+
+    /// The first packet in order of acceptance that the selector names, as
+    /// `find` and `get` give it.
+    pub fn first(&self, selector: &Selector) -> Option<&Packet>
+        ensures first { option_copied result ≡ first_by (matches selector.now) self.now.packets }
+        ensures none { result ≡ None → position (matches selector.now) self.now.packets ≡ None }
+        ensures place { IfSome result (λ _. position (matches selector.now) self.now.packets
+            ≡ Some (first_place (matches selector.now) self.now.packets)) }
+        ensures there { IfSome result (λ m. slice_get self.now.packets (first_place (matches selector.now) self.now.packets) ≡ Some m.now) }
+        ensures fits { IfSome result (λ m. matches selector.now m.now ≡ true) }
+    {
+        self.packets.first(Label::Selected(*selector))
+    }
+
+    /// The first packet in order of acceptance that this source sent at this
+    /// clock, as `find_named` and `get` give it.
+    pub fn first_named(&self, source: u8, clock: u32) -> Option<&Packet>
+        ensures first { option_copied result ≡ first_by (is_named source clock) self.now.packets }
+        ensures none { result ≡ None → position (is_named source clock) self.now.packets ≡ None }
+        ensures place { IfSome result (λ _. position (is_named source clock) self.now.packets
+            ≡ Some (first_place (is_named source clock) self.now.packets)) }
+        ensures there { IfSome result (λ m. slice_get self.now.packets (first_place (is_named source clock) self.now.packets) ≡ Some m.now) }
+        ensures fits { IfSome result (λ m. is_named source clock m.now ≡ true) }
+    {
+        self.packets.first(Label::Sent { source, clock })
+    }
+
+    /// Takes the first packet that the selector names, as `find` and `take` do.
+    pub fn take_first(&mut self, selector: &Selector) -> Option<Packet>
+        ensures taken { result ≡ first_by (matches selector.now) self.old.packets }
+        ensures none { result ≡ None → position (matches selector.now) self.old.packets ≡ None }
+        ensures place { IfSome result (λ _. position (matches selector.now) self.old.packets
+            ≡ Some (first_place (matches selector.now) self.old.packets)) }
+        ensures there { IfSome result (λ m. slice_get self.old.packets (first_place (matches selector.now) self.old.packets) ≡ Some m) }
+        ensures fits { IfSome result (λ m. matches selector.now m ≡ true) }
+        ensures left { self.new ≡ without_match (matches selector.now) self.old }
+        ensures gone { IfSome result (λ _. self.new ≡ without self.old (first_place (matches selector.now) self.old.packets)) }
+    {
+        self.packets.take_first(Label::Selected(*selector))
+    }
+
+    /// Takes the first packet that this source sent at this clock, as
+    /// `find_named` and `take` do.
+    pub fn take_named(&mut self, source: u8, clock: u32) -> Option<Packet>
+        ensures taken { result ≡ first_by (is_named source clock) self.old.packets }
+        ensures none { result ≡ None → position (is_named source clock) self.old.packets ≡ None }
+        ensures place { IfSome result (λ _. position (is_named source clock) self.old.packets
+            ≡ Some (first_place (is_named source clock) self.old.packets)) }
+        ensures there { IfSome result (λ m. slice_get self.old.packets (first_place (is_named source clock) self.old.packets) ≡ Some m) }
+        ensures fits { IfSome result (λ m. is_named source clock m ≡ true) }
+        ensures left { self.new ≡ without_match (is_named source clock) self.old }
+        ensures gone { IfSome result (λ _. self.new ≡ without self.old (first_place (is_named source clock) self.old.packets)) }
+    {
+        self.packets.take_first(Label::Sent { source, clock })
     }
 
     /// How many packets of the source were accepted, taken ones included.
@@ -179,11 +238,18 @@ impl Inbox {
         self.accepted[usize::from(source)]
     }
 
-    /// The packets in the order of their acceptance.
-    pub fn packets(&self) -> &[Packet]
-        ensures { result.now ≡ self.now.packets }
+    /// How many packets there are.
+    pub fn len(&self) -> usize
+        ensures { result ≡ length self.now.packets }
     {
-        &self.packets
+        self.packets.len()
+    }
+
+    /// The packets in the order of their acceptance.
+    pub fn packets(&self) -> Packets<'_>
+        ensures { left result ≡ self.now.packets }
+    {
+        self.packets.iter()
     }
 
     /// For each source how many of its packets were accepted.
@@ -213,15 +279,19 @@ impl Inbox {
 
 // Whether the packets of this source have lower numbers. The last of them has
 // the highest, so none before it is looked at.
-fn all_below(packets: &[Packet], source: u8, number: u32) -> bool
+fn all_below(packets: &Queue, source: u8, number: u32) -> bool
     requires { AllPairs RisesTo packets.now }
     ensures { result ≡ list_all (is_below source number) packets.now }
 {
-    for behind in 0..packets.len() {
-        let packet = &packets[packets.len() - 1 - behind];
-        if packet.source == source {
-            return packet.number < number;
-        }
+    is_above(number, packets.last_number(source))
+}
+
+// Whether the number is above the last one.
+fn is_above(number: u32, last: Option<u32>) -> bool
+    ensures { result ≡ above_last number last }
+{
+    match last {
+        None => true,
+        Some(last) => last < number,
     }
-    true
 }

@@ -1,5 +1,6 @@
 //! Images of ranks within collectives: their bytes, and which of what is done and gathered they may say.
-use crate::images::{Change, fails_each, is_damaged, reads};
+use crate::images::damaged::is_damaged;
+use crate::images::{Change, fails_each, reads};
 use checkpoint::{ImageFault, decode};
 use rank_language::Program;
 use std::test::*;

@@ -131,6 +131,8 @@ fn three_hundred_packets_of_one_source(rt: HostRuntime) -> Result<(), Fail> {
     one_of_each_other_source(&rt, rt.alloc(), &mut inbox)?;
     assert_eq!(rt; inbox.accepted(15), 300);
     assert_eq!(rt; inbox.find_named(15, 3000), Some(299));
+    let last = inbox.first_named(15, 3000).ok_or("nothing is shown")?;
+    assert_eq!(rt; (last.source, last.number), (15, 300));
     takes_them_all(&rt, &mut inbox)
 }
 
@@ -190,13 +192,13 @@ fn take(
     want: (usize, u8, u32),
 ) -> Result<(), Fail> {
     let index = inbox.find(named).ok_or("nothing matches")?;
-    let shown = inbox.get(index);
+    let shown = inbox.first(named).ok_or("nothing is shown")?;
     assert_eq!(rt;
         (index, shown.source, shown.number),
         want,
         "found by {named:?}"
     );
-    let taken = inbox.take(index);
+    let taken = inbox.take_first(named).ok_or("nothing is taken")?;
     assert_eq!(rt;
         (index, taken.source, taken.number),
         want,

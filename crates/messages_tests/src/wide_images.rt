@@ -135,7 +135,7 @@ fn an_image_of_the_greatest_sizes_is_read_and_written(rt: HostRuntime) -> Result
         ),
         (64, 16)
     );
-    assert_eq!(rt; image.inbox.packets().len(), 400);
+    assert_eq!(rt; image.inbox.len(), 400);
     assert_eq!(rt; encode(alloc, &image)?.as_slice(), bytes.as_slice());
     Ok(())
 }

@@ -29,6 +29,8 @@ mod plays;
 #[cfg(test)]
 mod programs;
 #[cfg(test)]
+mod refused_images;
+#[cfg(test)]
 mod replays;
 #[cfg(test)]
 mod retiring;

@@ -1,42 +1,47 @@
 -- What a receive takes and a probe is shown is what was found: the first packet that the selector names is found at its
 -- index, and the machine was given or shown just that one.
-use Rattle.std.specs.Prelude.{◌≡◌, ℕ, ◌<◌, List, length, Option, Some, slice_get, slice_index_or, option_and_then, position}
-use Rattle.std.proofs.Common.{ap, sym, subst, ◌∙◌}
+use Rattle.std.specs.Prelude.{◌≡◌, ℕ, ◌<◌, Bool, List, length, Option, Some, None, is_some, IfSome, slice_get, slice_index_or, option_and_then, position}
+use Rattle.std.proofs.Common.{Bor, ap, refl, sym, subst, ◌∙◌}
 use Rattle.std.proofs.lemmas.Option.{slice_get-get_or, slice_get_within}
 use Rattle.matching.specs.Inbox.{Mailbox, IsMailbox}
-use Rattle.matching.specs.declared.selector.Selector.{Selector}
 use Rattle.matching.specs.PacketValue.{PacketValue}
-use Rattle.matching.specs.Matching.{matches}
+use Rattle.matching.specs.Queue.{first_place}
 use Rattle.rank_machine.specs.Acts as acts
 use Rattle.rank_machine.specs.Machine.{MachineValue, state_of, next_of, received_at, KeepsRank}
-use Rattle.rank_node.specs.Steps.{at_index, found, TakesFound, IsShownFound, TriesFound, WasShown}
+use Rattle.rank_node.specs.Steps.{at_index, TakesFound, IsShownFound, TriesFound, WasShown}
 
--- the packet at the first index that the selector names is the one found
-pub found-at : (s : Selector) (ms : List PacketValue) (i : ℕ) (m : PacketValue) → Some i ≡ position (matches s) ms → slice_get ms i ≡ Some m
-    → found s ms ≡ Some (i, m)
-found-at s ms i m first there =
-    ap (option_and_then (at_index ms)) (sym first) ∙ ap (option_and_then (λ packet. Some (i, packet))) there
+-- the packet at the first index that passes the test is the one found
+pub found-at : (test : PacketValue → Bool) (ms : List PacketValue) (i : ℕ) (m : PacketValue) → position test ms ≡ Some i → slice_get ms i ≡ Some m
+    → option_and_then (at_index ms) (position test ms) ≡ Some (i, m)
+found-at test ms i m first there =
+    ap (option_and_then (at_index ms)) first ∙ ap (option_and_then (λ packet. Some (i, packet))) there
 
 -- a machine that was given the packet found took what was found
-pub takes_found : (s : Selector) (ms : List PacketValue) (i : ℕ) (m : PacketValue) (old new : MachineValue)
-    → Some i ≡ position (matches s) ms → slice_get ms i ≡ Some m
+pub takes_found : (test : PacketValue → Bool) (ms : List PacketValue) (i : ℕ) (m : PacketValue) (old new : MachineValue)
+    → position test ms ≡ Some i → slice_get ms i ≡ Some m
     → ((place : ℕ) → state_of new ≡ acts.next (state_of old) (acts.takes m.source place) (Some (acts.carried m)))
     → new.position ≡ received_at old new.fault → KeepsRank old new
-    → TakesFound (found s ms) old new
-takes_found s ms i m old new first there state position stays =
+    → TakesFound (option_and_then (at_index ms) (position test ms)) old new
+takes_found test ms i m old new first there state position stays =
     let P : Option (ℕ × PacketValue) → Type 0 = λ f. TakesFound f old new in
-    subst P (sym (found-at s ms i m first there)) (record { state = state; position = position; stays = stays })
+    subst P (sym (found-at test ms i m first there)) (record { state = state; position = position; stays = stays })
 
--- a probe that was shown the packet at an index was shown what is at that index
-pub was_shown : (ms : List PacketValue) (i : ℕ) (m : PacketValue) (old new : MachineValue) → slice_get ms i ≡ Some m
+-- a probe that was shown the packet found was shown what was found
+pub was_shown : (test : PacketValue → Bool) (ms : List PacketValue) (i : ℕ) (m : PacketValue) (old new : MachineValue)
+    → position test ms ≡ Some i → slice_get ms i ≡ Some m
     → ((place : ℕ) → state_of new ≡ acts.next (state_of old) (acts.hits m.source place) (Some (acts.carried m)))
     → new.position ≡ next_of old → KeepsRank old new
-    → IsShownFound (at_index ms i) old new × TriesFound (at_index ms i) old new
-was_shown ms i m old new there state position stays =
+    → IsShownFound (option_and_then (at_index ms) (position test ms)) old new × TriesFound (option_and_then (at_index ms) (position test ms)) old new
+was_shown test ms i m old new first there state position stays =
     let P : Option (ℕ × PacketValue) → Type 0 = λ f. IsShownFound f old new × TriesFound f old new in
-    let at : Some (i, m) ≡ at_index ms i = sym (ap (option_and_then (λ packet. Some (i, packet))) there) in
     let shown : WasShown m old new = record { state = state; position = position; stays = stays } in
-    subst P at (shown, shown)
+    subst P (sym (found-at test ms i m first there)) (shown, shown)
+
+-- a packet is shown exactly where one passes the test
+pub shown-position : (test : PacketValue → Bool) (ms : List PacketValue) (shown : Option (Bor PacketValue)) → (shown ≡ None → position test ms ≡ None)
+    → IfSome shown (λ _. position test ms ≡ Some (first_place test ms)) → is_some shown ≡ is_some (position test ms)
+shown-position test ms None none first = ap is_some (sym (none refl))
+shown-position test ms (Some m) none first = ap is_some (sym first)
 
 -- a packet that lies in the inbox was sent by one of the ranks
 pub accepted_source : (box : Mailbox) (i : ℕ) (m : PacketValue) → IsMailbox box → slice_get box.packets i ≡ Some m → m.source < length box.accepted

@@ -154,14 +154,16 @@ impl<'p, S: Shelf, D> Running<'p, S, D> {
         ensures memory { IsErrOf result NodeFault.Memory → takes_memory_at self.old (Want.Receive selector.now) ≡ true }
         ensures err { OnErr result (self.new ≡ self.old) }
     {
-        let Some(index) = self.inbox.find(selector) else {
+        let Some(found) = self.inbox.first(selector) else {
             return Ok(Turn::Blocked);
         };
         self.event_room()?;
         self.inbox.law_numbers_rise();
-        let event = naming(Kind::Reception, self.inbox.get(index), self.clock + 1);
+        let event = naming(Kind::Reception, found, self.clock + 1);
         self.pending.push_event(event)?;
-        let packet = self.inbox.take(index);
+        let Some(packet) = self.inbox.take_first(selector) else {
+            unreachable!()
+        };
         self.machine.give(packet);
         self.clock += 1;
         self.made += 1;

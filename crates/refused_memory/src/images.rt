@@ -50,7 +50,7 @@ fn show<R: AllocGlobal + Print>(rt: &R, image: &Image<'_>, bytes: &[u8]) -> io::
 {
     let again = bytes_of(rt.alloc(), image)?;
     let same = again.as_slice() == bytes;
-    let (clock, packets) = (image.clock, image.inbox.packets().len());
+    let (clock, packets) = (image.clock, image.inbox.len());
     println!(rt;
         "at clock {clock}, {packets} packets, {} bytes, alike: {same}",
         again.len()

@@ -28,7 +28,7 @@ type Seen = (usize, u32, u32);
 fn look(inbox: &Inbox) -> Seen
     requires { length inbox.now.accepted ≡ 2 }
 {
-    (inbox.packets().len(), inbox.accepted(0), inbox.accepted(1))
+    (inbox.len(), inbox.accepted(0), inbox.accepted(1))
 }
 
 fn inbox_of(alloc: Heap) -> Result<Inbox, AllocError>
@@ -102,7 +102,7 @@ fn take_all<R: Print>(rt: &R, inbox: &mut Inbox) -> io::Result<()>
     requires { length inbox.old.accepted ≡ 2 }
 {
     for _ in 0..9 {
-        let index = match inbox.packets().len() {
+        let index = match inbox.len() {
             0 => break,
             1 => 0,
             _ => 1,

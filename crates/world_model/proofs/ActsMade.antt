@@ -7,6 +7,7 @@ use Rattle.std.proofs.lemmas.List.{length-set, length_push, take-append-drop}
 use Rattle.std.proofs.lemmas.Grind.{get_or_default_zero}
 use Rattle.metered.specs.Limits.{greatest_clock}
 use Rattle.rank_machine.specs.Acts.{Act}
+use Rattle.rank_machine.specs.Machine.{MachineValue, state_of}
 use Rattle.crash_free.specs.Runs.{Passed, history, sent, looked_up}
 use Rattle.crash_free.proofs.Lists.{history-own, history-other}
 use Rattle.world_model.specs.declared.event.WorldEvent.{WorldEvent}
@@ -18,9 +19,10 @@ use Rattle.world_model.specs.World.{Live, WorldValue, size, IsLive}
 use Rattle.world_model.specs.View.{shown_of, IsView}
 use Rattle.world_model.specs.RunIndex.{earliest, IsNext}
 use Rattle.world_model.specs.Follows.{Follows}
+use Rattle.world_model.specs.Measures.{StopsAfter, steps_of, Nears, RankNears, HasLines, machine_of, machine_of_newest}
 use Rattle.world_model.specs.Driven.{Advanced, Flushed, Emptied, Made, MadeAt, IsNear, IsCounted, Ready, listed}
 use Rattle.world_model.proofs.Lists.{drop_beyond}
-use Rattle.world_model.proofs.Making.{Stepped, make_next, made_already, ready_after}
+use Rattle.world_model.proofs.Making.{Stepped, act_ahead, make_next, made_already, ready_after}
 use Rattle.world_model.proofs.Advancing.{advanced_by, advanced_more}
 
 -- ---- the earlier acts
@@ -54,8 +56,9 @@ one_more early r a =
     let n = length_push (history early r) (a, looked_up (λ k. sent early k r) a) in
     omega (arith, e, n)
 
--- an event that moved its rank is listed, so the list is longer
-listed_moved : (events : List WorldEvent) (event : WorldEvent) (answer : Reply) → answer ≡ reply.Moved → length events < length (listed events event answer)
+-- an event that moved its rank is listed, so the list is longer by one
+listed_moved : (events : List WorldEvent) (event : WorldEvent) (answer : Reply) → answer ≡ reply.Moved
+    → length (listed events event answer) ≡ length events + 1
 listed_moved events event answer e =
     let q = ap (λ z. length (listed events event z)) e in
     let n = length_push events event in
@@ -70,11 +73,11 @@ module _ (a b : WorldValue) (x y : List WorldEvent) (k r count : ℕ) (view : Vi
   run : b.run ≡ take (length a.run - (k + 1)) a.run ++ p ∷ earliest k a.run
   run = f.same_run ∙ run_parts a.run k p next.1
 
-  -- the next act is nearer by a step, which goes on the list
-  pub step_next : (c : WorldValue) (z : List WorldEvent) (r1 : ℕ) (answer : Reply) → r1 ≡ r → IsNear a.run k r b → view.clock < count
-      → Follows b (Step r1) answer c
-      → z ≡ listed y (Step r1) answer → Advanced a x c z × IsNear a.run k r c × (length y < length z)
-  step_next c z r1 answer e1 near low g1 ez1 = go near
+  -- the next act is nearer by a step, which goes on the list: fewer steps are left of those that were left when it began
+  pub step_next : (bound : ℕ) (c : WorldValue) (z : List WorldEvent) (r1 : ℕ) (answer : Reply) → r1 ≡ r → IsNear a.run k r (bound - length y) b
+      → view.clock < count → Follows b (Step r1) answer c → z ≡ listed y (Step r1) answer
+      → Advanced a x c z × IsNear a.run k r (bound - length z) c × (bound - length z < bound - length y)
+  step_next bound c z r1 answer e1 near low g1 ez1 = go near
     where
       g : Follows b (Step r) answer c
       g = subst (λ q. Follows b (Step q) answer c) e1 g1
@@ -82,16 +85,20 @@ module _ (a b : WorldValue) (x y : List WorldEvent) (k r count : ℕ) (view : Vi
       ez : listed y (Step r) answer ≡ z
       ez = sym (ez1 ∙ ap (λ q. listed y (Step q) answer) e1)
 
-      go : IsNear a.run k r b → Advanced a x c z × IsNear a.run k r c × (length y < length z)
-      go (inl ready) =
+      go : IsNear a.run k r (bound - length y) b → Advanced a x c z × IsNear a.run k r (bound - length z) c × (bound - length z < bound - length y)
+      go (inl near) =
+          let ready = near.0 in
           let v = ready.all_live r lr in
+          let few = (near.1 v.0 v.1).few in
           let shown = clock_of b r v.0 view seen v.1 in
           let s =
-          make_next b (earliest k a.run) (take (length a.run - (k + 1)) a.run) r next.0 v.0 answer c ready run v.1 (omega (arith, low, shown, is)) g in (
+          make_next b (earliest k a.run) (take (length a.run - (k + 1)) a.run) r next.0 v.0 answer c ready run v.1 (omega (arith, low, shown, is)) g in
+          let more : length z ≡ length y + 1 = subst (λ q. length q ≡ length y + 1) ez (listed_moved y (Step r) answer s.moved) in
+          let left : bound - length y - 1 ≡ bound - length z = omega (arith, more) in (
             advanced_more a b c x y z f
                 (subst (λ q. Advanced b y c q) ez (advanced_by b y (Step r) answer c f.is_world tt (λ start d. tt) (λ ne. s.same_run) g)),
-            ⊎_elim (λ h. inl h) (λ h. inr (next.0, next.1, h)) s.on,
-            subst (λ q. length y < length q) ez (listed_moved y (Step r) answer s.moved),
+            ⊎_elim (λ h. inl (h.0, subst (λ n. RankNears n r c) left (h.1 (bound - length y) near.1))) (λ h. inr (next.0, next.1, h)) s.on,
+            omega (arith, few, more),
           )
       go (inr made) =
           let v = made.2.all_live r lr in
@@ -101,12 +108,55 @@ module _ (a b : WorldValue) (x y : List WorldEvent) (k r count : ℕ) (view : Vi
           absurd (omega (arith, low, shown, is, there, n))
 
   -- a rank whose clock has come so far has made it
-  pub near_made : IsNear a.run k r b → count ≤ view.clock → MadeAt a.run k r b
-  near_made (inr made) l = made
-  near_made (inl ready) l =
+  pub near_made : (n : ℕ) → IsNear a.run k r n b → count ≤ view.clock → MadeAt a.run k r b
+  near_made n (inr made) l = made
+  near_made n (inl near) l =
+      let ready = near.0 in
       let v = ready.all_live r lr in
       let shown = clock_of b r v.0 view seen v.1 in
       (next.0, next.1, made_already b (earliest k a.run) (take (length a.run - (k + 1)) a.run) p v.0 ready run v.1 (omega (arith, l, shown, is)))
+
+-- so has the rank of the next act, where its clock is shown to have come so far
+pub made_before : (w : WorldValue) (k r count : ℕ) (view : View) → IsNext w.run k r → count ≡ length (history (earliest k w.run) r) + 1 → r < size w
+    → IsView w r view → Ready w (earliest k w.run) → count ≤ view.clock → MadeAt w.run k r w
+made_before w k r count view next is lr seen ready l =
+    let v = ready.all_live r lr in
+    let shown = clock_of w r v.0 view seen v.1 in
+    let parts = run_parts w.run k (record { rank = r; act = next.0 }) next.1 in (
+      next.0,
+      next.1,
+      made_already w (earliest k w.run) (take (length w.run - (k + 1)) w.run) (record { rank = r; act = next.0 }) v.0 ready parts v.1
+          (omega (arith, l, shown, is)),
+    )
+
+-- else its machine comes to the act by so many inner steps
+pub next_ahead : (w : WorldValue) (k r count : ℕ) (view : View) (m : MachineValue) → IsNext w.run k r → count ≡ length (history (earliest k w.run) r) + 1
+    → r < size w → IsView w r view → Ready w (earliest k w.run) → view.clock < count → ((v : Live) → IsLive w r v → m ≡ v.rank.machine)
+    → (j : ℕ) × StopsAfter j (state_of m)
+next_ahead w k r count view m next is lr seen ready low same =
+    let v = ready.all_live r lr in
+    let shown = clock_of w r v.0 view seen v.1 in
+    let parts = run_parts w.run k (record { rank = r; act = next.0 }) next.1 in
+    let there = act_ahead w (earliest k w.run) (take (length w.run - (k + 1)) w.run) r next.0 v.0 ready parts v.1 (omega (arith, low, shown, is)) in
+    (there.0, subst (λ z. StopsAfter there.0 (state_of z)) (sym (same v.0 v.1)) there.1)
+
+-- where the rank of the next act stands
+pub newest_machine : (w : WorldValue) (k r : ℕ) (v : Live) → IsNext w.run k r → IsLive w r v
+    → machine_of_newest w (earliest (k + 1) w.run) ≡ v.rank.machine
+newest_machine w k r v next live = ap (λ C. machine_of_newest w C) next.1 ∙ ap (λ o. machine_of o) live
+
+-- a rank that is behind has its act ahead, and makes fewer steps of its own than these before it
+pub nears_first : (w : WorldValue) (r length_before steps : ℕ) (m : MachineValue) → StopsAfter steps (state_of m)
+    → ((v : Live) → IsLive w r v → m ≡ v.rank.machine) → ((v : Live) → IsLive w r v → HasLines v)
+    → RankNears (length_before + 1 + steps_of steps m - length_before) r w
+nears_first w r length_before steps m stops is lines v live =
+    let e = is v live in
+    record {
+      inner_steps = steps;
+      stops = subst (λ z. StopsAfter steps (state_of z)) e stops;
+      lines = lines v live;
+      few = let q = ap (λ z. steps_of steps z) e in omega (arith, q);
+    }
 
 -- ---- counting
 

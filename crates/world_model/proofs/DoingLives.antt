@@ -12,7 +12,8 @@ use Rattle.rank_node.specs.Image.{begins_at}
 use Rattle.rank_node.specs.Replay.{cuts, left_of}
 use Rattle.world_model.specs.World.{Live, WorldValue, size}
 use Rattle.world_model.specs.Seats.{AtRank, IsRestarted}
-use Rattle.world_model.specs.Follows.{CanNot, Follows, Unchanged}
+use Rattle.world_model.specs.Follows.{CanNot, Follows}
+use Rattle.world_model.specs.Memory.{Unchanged}
 use Rattle.world_model.specs.Stands.{Stands}
 use Rattle.world_model.specs.declared.event.WorldEvent.TheVariants.{Crash, Restart}
 use Rattle.world_model.specs.declared.reply.Reply.TheVariants as reply

@@ -21,14 +21,16 @@ use Rattle.crash_free.specs.Runs.{history}
 use Rattle.world_model.specs.World.{Rank, Live, WorldValue, size}
 use Rattle.world_model.specs.Seats.{at_work, AtRank, IsFitting, IsReplayed, IsStep, IsNotAtWork, IsNotInReplay}
 use Rattle.world_model.specs.Follows.{CanNot, Happens, Follows, StepFollows, ReplayFollows}
-use Rattle.world_model.specs.Follows.{TakesNoMemory, lines_after, shown_where_moved, effect_at, where_moved, at_once}
-use Rattle.world_model.specs.Follows.{passed_at, stepped, step_takes_memory}
+use Rattle.world_model.specs.Follows.{lines_after, shown_where_moved, effect_at, where_moved, at_once}
+use Rattle.world_model.specs.Memory.{TakesNoMemory}
+use Rattle.world_model.specs.Follows.{passed_at, stepped}
+use Rattle.world_model.specs.Memory.{step_takes_memory}
 use Rattle.world_model.specs.Stands.{Stands}
 use Rattle.world_model.specs.declared.event.WorldEvent.{WorldEvent}
 use Rattle.world_model.specs.declared.event.WorldEvent.TheVariants.{Step}
 use Rattle.world_model.specs.declared.reply.Reply.TheVariants as reply
 use Rattle.world_model.proofs.Doing.{none_live, same_live, at_value, value_at, live_at, not_down, is_then_down, same_world}
-use Rattle.world_model.proofs.PlainReplays.{fitting, none_waiting, is_behind}
+use Rattle.world_model.proofs.PlainReplaying.{fitting, none_waiting, is_behind}
 use Rattle.world_model.proofs.PlainWorlds.{rank_of}
 use Rattle.world_model.proofs.MadeAgain.{passed_again}
 use Rattle.world_model.proofs.Showing.{Shows}

@@ -14,12 +14,13 @@ use Rattle.world_model.specs.declared.reply.Reply.TheVariants as reply
 use Rattle.world_model.specs.World.{Live, WorldValue, size, IsLive, IsDown, IsWire}
 use Rattle.world_model.specs.Follows.{CanNot, Happens, Follows, PutFollows}
 use Rattle.world_model.specs.Onward.{IsWorld}
-use Rattle.world_model.proofs.Headline.{happens_can, stands_after}
+use Rattle.world_model.proofs.Headline.{stands_after}
+use Rattle.world_model.proofs.HeadlineKept.{happens_can}
 use Rattle.world_model.proofs.Onward.{onward_after}
 use Rattle.world_model.specs.Way.{IsOwn}
 use Rattle.world_model.specs.Driven.{Alike, IsUsed, AreLonger, Driven}
 use Rattle.world_model.proofs.WayPlaces.{set_get_same, set_get_other}
-use Rattle.world_model.proofs.Likeness.{drove_push}
+use Rattle.world_model.proofs.LikenessLeads.{drove_push}
 
 -- an event that wasn't refused happened
 pub happened : (w : WorldValue) (event : WorldEvent) (answer : Reply) (w' : WorldValue) → answer ≢ reply.Refused → Follows w event answer w'

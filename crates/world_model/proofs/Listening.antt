@@ -12,7 +12,8 @@ use Rattle.world_model.specs.Onward.{IsWorld}
 use Rattle.world_model.specs.Driven.{AllLive, HeardTo, Heard, Listened, listed, IsAskAt}
 use Rattle.world_model.proofs.DoingFrames.{has_wire, the_wire}
 use Rattle.world_model.proofs.Hearing.{hear_other, heard_all}
-use Rattle.world_model.proofs.Advancing.{hear_ask, listened_more}
+use Rattle.world_model.proofs.Advancing.{listened_more}
+use Rattle.world_model.proofs.AdvancingLoops.{hear_ask}
 
 -- there is a wire still, with as many frames
 pub wire_kept : (a b : WorldValue) (x y : List WorldEvent) (r s : ℕ) → r < size a → s < size a → Listened a x b y → HasWire b.wires r s

@@ -9,7 +9,8 @@ use Rattle.world_model.specs.declared.reply.Reply.TheVariants as reply
 use Rattle.world_model.specs.World.{Live, WorldValue, IsLive}
 use Rattle.world_model.specs.Headline.{IsFresh}
 use Rattle.world_model.specs.Stands.{Stands}
-use Rattle.world_model.specs.Follows.{Happens, Follows, Fetched, Unchanged}
+use Rattle.world_model.specs.Follows.{Happens, Follows}
+use Rattle.world_model.specs.Memory.{Fetched, Unchanged}
 use Rattle.world_model.specs.Onward.{AreAbove, RankOnward, Onward}
 use Rattle.world_model.proofs.Lists.{replicate_get}
 use Rattle.world_model.proofs.Headline.{stands_after}

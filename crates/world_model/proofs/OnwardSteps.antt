@@ -31,7 +31,7 @@ use Rattle.world_model.specs.World.{Rank, Live, WorldValue, size, IsLive}
 use Rattle.world_model.specs.Stands.{Stands}
 use Rattle.world_model.specs.Follows.{effect_at, passed_at, StepFollows, ReplayFollows}
 use Rattle.world_model.specs.Onward.{AreAbove, RankOnward, Onward}
-use Rattle.world_model.proofs.PlainReplays.{is_behind as behind_run}
+use Rattle.world_model.proofs.PlainReplaying.{is_behind as behind_run}
 use Rattle.world_model.proofs.OnwardRanks.{same_wires, OneChanged, GetsOn, onward_gets_on}
 use Rattle.world_model.proofs.OnwardFrames.{above_set}
 use Rattle.world_model.proofs.OnwardPasses.{others_passed, passed_count}

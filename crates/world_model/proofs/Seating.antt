@@ -11,7 +11,9 @@ use Rattle.matching.specs.PacketValue as packet
 use Rattle.plain_logger.specs.Event.{EventValue}
 use Rattle.plain_logger.specs.declared.kind.Kind.{Kind}
 use Rattle.plain_logger.specs.declared.kind.Kind.TheVariants as kind
-use Rattle.rank_language.specs.Program.{ProgramValue}
+use Rattle.std.specs.Prelude.{IfSome}
+use Rattle.rank_language.specs.Block.{lines_at}
+use Rattle.rank_language.specs.Program.{ProgramValue, block_of}
 use Rattle.rank_machine.specs.declared.want.Want.{Want}
 use Rattle.rank_machine.specs.declared.want.Want.TheVariants as want
 use Rattle.rank_machine.specs.Machine.{MachineValue, machine_want}
@@ -26,6 +28,7 @@ use Rattle.rank_node.specs.Replay.{named, cuts, ReplayStep, ReplayStepAt, TriesN
 use Rattle.world_model.specs.World.{Rank}
 use Rattle.world_model.specs.declared.state.State.{State}
 use Rattle.world_model.specs.declared.state.State.TheVariants.{Running, Replaying, Down, Empty}
+use Rattle.world_model.specs.Measures.{HasLines}
 use Rattle.world_model.specs.Seat.{bytes_of, live_of, shelf_of, HasLeft, IsKept, IsOf, IsOwn, IsStanding}
 use Rattle.world_model.proofs.Reading.{read_program}
 
@@ -226,3 +229,13 @@ replayed_then p r n old taken new put v x kept was is stable steps standing left
 
     after : IsOf p r n x.node
     after = of_replay p r n v x before.left stable steps before.standing
+
+-- ---- lines
+
+-- the program of what stands at a seat has its lines where that of the seat has
+pub lines_of : (program : ProgramValue) (r n : ℕ) (s : State) → IsStanding program r n s → program.statements ≡ lines_at 0 (block_of program)
+    → IfSome (live_of s) HasLines
+lines_of program r n (Running node) k e = subst (λ (z : ProgramValue). z.statements ≡ lines_at 0 (block_of z)) (sym k.same_program) e
+lines_of program r n (Replaying replay) k e = subst (λ (z : ProgramValue). z.statements ≡ lines_at 0 (block_of z)) (sym k.same_program) e
+lines_of program r n (Down stable) k e = tt
+lines_of program r n Empty k e = tt

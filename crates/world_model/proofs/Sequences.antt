@@ -4,13 +4,16 @@ use Rattle.std.proofs.lemmas.Option.{slice_get-get_or}
 use Rattle.std.specs.declared.alloc.AllocError.{AllocError}
 use Rattle.rank_language.specs.Program.{ProgramValue}
 use Rattle.world_model.specs.Onward.{IsWorld}
-use Rattle.world_model.proofs.Headline.{stands_after, stands_unchanged, stands_fresh, stands_for}
+use Rattle.world_model.proofs.Headline.{stands_after, stands_for}
+use Rattle.world_model.proofs.HeadlineKept.{stands_unchanged, stands_fresh}
 use Rattle.world_model.proofs.Retained.{nothing_gone}
 use Rattle.world_model.proofs.Onward.{fresh_onward, onward_after, onward_unchanged}
 use Rattle.world_model.specs.World.{WorldValue}
 use Rattle.world_model.specs.Headline.{StandsFor, IsFresh}
 use Rattle.world_model.specs.Retained.{NothingGone}
-use Rattle.world_model.specs.Follows.{CanNot, Follows, FollowsAll, TakesNoMemory, Unchanged, Stops}
+use Rattle.world_model.specs.Follows.{CanNot, Follows}
+use Rattle.world_model.specs.Memory.{TakesNoMemory, Unchanged}
+use Rattle.world_model.specs.Sequences.{FollowsAll, Stops}
 use Rattle.world_model.specs.declared.event.WorldEvent.{WorldEvent}
 use Rattle.world_model.specs.declared.event.WorldEvent.TheVariants.{Step, Put, Arrive, Store, Ack, Image, Crash, Restart, Release}
 use Rattle.world_model.specs.declared.reply.Reply.{Reply}

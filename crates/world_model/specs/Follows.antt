@@ -1,6 +1,6 @@
 -- What each event does to a world: it is one call on the rank that it names, and the reply is that call's answer. A rank
 -- that replays answers some calls otherwise than one that runs; a rank that is down only starts again.
-use Rattle.std.specs.Prelude.{◌≡◌, ◌≢◌, ℕ, ℤ, Bool, false, ◌+◌, ◌<◌, ◌⊎◌, nat_le, List, [], ◌∷◌, ◌++◌, length, take, Option, Some, None, Ok, option_map}
+use Rattle.std.specs.Prelude.{◌≡◌, ◌≢◌, ℕ, ℤ, ◌+◌, ◌<◌, ◌⊎◌, nat_le, List, [], ◌∷◌, ◌++◌, length, Option, Some, None, Ok, option_map}
 use Rattle.std.specs.Prelude.{slice_get, slice_set, if◌then◌else◌}
 use Rattle.checkpoint.specs.Image.{ImageValue}
 use Rattle.checkpoint.specs.Shelf.{image_bytes}
@@ -25,12 +25,12 @@ use Rattle.rank_node.specs.declared.frame.Frame.TheVariants as frame
 use Rattle.rank_node.specs.declared.waiting.Waiting.{Waiting}
 use Rattle.rank_node.specs.declared.waiting.Waiting.TheVariants as waits
 use Rattle.rank_node.specs.Waiting.{is_settled, effect_clock}
-use Rattle.rank_node.specs.Steps.{turn_of, refusal_of, takes_memory, MachineStep, after_step}
+use Rattle.rank_node.specs.Steps.{turn_of, refusal_of, MachineStep, after_step}
 use Rattle.rank_node.specs.Frames.{outgoing_of, after_passed, arrival_of, after_frame}
 use Rattle.rank_node.specs.Storing.{next_unstored, after_store, after_ack}
 use Rattle.rank_node.specs.Releasing.{next_effect, after_release}
 use Rattle.rank_node.specs.Image.{image_of, image_on, after_image}
-use Rattle.rank_node.specs.Replay.{restarted, left_of, replay_turn_of, replay_takes_memory, after_replay, left_after, ReplayStep}
+use Rattle.rank_node.specs.Replay.{restarted, left_of, replay_turn_of, after_replay, left_after, ReplayStep}
 use Rattle.ports.specs.declared.line.Line.{Line}
 use Rattle.ports.specs.Console.{after_line}
 use Rattle.crash_free.specs.Runs.{Passed, history, continue}
@@ -40,8 +40,7 @@ use Rattle.world_model.specs.declared.reply.Reply.{Reply}
 use Rattle.world_model.specs.declared.reply.Reply.TheVariants as reply
 use Rattle.world_model.specs.Rows.{Noted}
 use Rattle.world_model.specs.World.{Rank, Live, WorldValue, size, IsLive, IsDown, IsWire, BeginsAt}
-use Rattle.world_model.specs.Headline.{StandsFor, stable_of}
-use Rattle.world_model.specs.Retained.{NothingGone}
+use Rattle.world_model.specs.Headline.{stable_of}
 
 -- The event can't happen: a rank that it names isn't there; the rank that makes the call is down, or for a restart isn't;
 -- there is nothing to put, to arrive, to store, to acknowledge or to release; or its step is refused by name. A rank in
@@ -326,69 +325,3 @@ Follows w event reply.Imaged w' = Happens w event reply.Imaged w'
 Follows w event reply.Crashed w' = Happens w event reply.Crashed w'
 Follows w event (reply.Restarted count) w' = Happens w event (reply.Restarted count) w'
 Follows w event (reply.Released clock) w' = Happens w event (reply.Released clock) w'
-
--- a restart's fetch was answered, and then memory was refused: the call stays in the logger's history
-pub record Fetched (w : WorldValue) (r : ℕ) (w' : WorldValue) : Type 0 where
-  pub down : IsDown w r
-  pub events : List EventValue
-  pub fetches : Answers w.logger r (Fetch 0) (Events events) w'.logger
-  pub after : w' ≡ record w { logger = w'.logger }
-
--- what want of memory leaves: all as it was, but for a fetch that was answered
-abbrev pub Unchanged : WorldValue → WorldEvent → WorldValue → Type 0
-Unchanged w (Step r) w' = w' ≡ w
-Unchanged w (Put s d) w' = w' ≡ w
-Unchanged w (Arrive s d i) w' = w' ≡ w
-Unchanged w (Store r) w' = w' ≡ w
-Unchanged w (Ack r) w' = w' ≡ w
-Unchanged w (Image r) w' = w' ≡ w
-Unchanged w (Crash r) w' = w' ≡ w
-Unchanged w (Restart r) w' = (w' ≡ w) ⊎ Fetched w r w'
-Unchanged w (Release r) w' = w' ≡ w
-
--- whether the step of a live rank takes memory, by what is left to replay
-abbrev pub step_takes_memory : Rank → List EventValue → Bool
-step_takes_memory v [] = takes_memory v
-step_takes_memory v (e ∷ rest) = replay_takes_memory v
-
--- The event takes no memory: a step that is the machine's own, or is blocked or held, or comes after the end, or replays a
--- reception, a hit or a miss; each acknowledgment; and each crash. An event that can't happen takes none either.
-abbrev pub TakesNoMemory : WorldValue → WorldEvent → Type 0
-TakesNoMemory w (Step r) = (v : Live) → IsLive w r v → step_takes_memory v.rank v.left ≡ false
-TakesNoMemory w (Put s d) = CanNot w (Put s d)
-TakesNoMemory w (Arrive s d i) = CanNot w (Arrive s d i)
-TakesNoMemory w (Store r) = CanNot w (Store r)
-TakesNoMemory w (Ack r) = Unit {0}
-TakesNoMemory w (Image r) = CanNot w (Image r)
-TakesNoMemory w (Crash r) = Unit {0}
-TakesNoMemory w (Restart r) = CanNot w (Restart r)
-TakesNoMemory w (Release r) = CanNot w (Release r)
-
--- What a list of events does, one after another; after each the world stands for its run, and nothing needed is gone.
-abbrev pub FollowsAll : WorldValue → List WorldEvent → List Reply → WorldValue → Type 0
-FollowsAll w [] [] w' = w' ≡ w
-FollowsAll w (event ∷ events) (answer ∷ answers) w' =
-    (mid : WorldValue) × Follows w event answer mid × StandsFor mid mid.run × NothingGone mid mid.run × FollowsAll mid events answers w'
-FollowsAll w [] (answer ∷ answers) w' = ⊥
-FollowsAll w (event ∷ events) [] w' = ⊥
-
--- There was no memory for the replies to a list of events: none happened.
-pub record NotBegun (w : WorldValue) (done : ℕ) (w' : WorldValue) : Type 0 where
-  pub none : done ≡ 0
-  pub same : w' ≡ w
-
--- Memory ended after so many events of a list: these happened, and the next, which can happen and takes memory, left the
--- world unchanged.
-pub record StoppedAt (w : WorldValue) (events : List WorldEvent) (done : ℕ) (w' : WorldValue) : Type 0 where
-  pub replies : List Reply
-  pub middle : WorldValue
-  pub followed : FollowsAll w (take done events) replies middle
-  pub event : WorldEvent
-  pub next : slice_get events done ≡ Some event
-  pub possible : CanNot middle event → ⊥
-  pub frugal : TakesNoMemory middle event → ⊥
-  pub unchanged : Unchanged middle event w'
-
--- where a list of events stops for want of memory: before it begins, or at an event that takes some
-abbrev pub Stops : WorldValue → List WorldEvent → ℕ → WorldValue → Type 0
-Stops w events done w' = NotBegun w done w' ⊎ StoppedAt w events done w'

@@ -4,6 +4,8 @@ pub mod Plain
 pub mod Headline
 pub mod Retained
 pub mod Follows
+pub mod Memory
+pub mod Sequences
 pub mod Counts
 pub mod Stands
 pub mod Onward
@@ -15,5 +17,6 @@ pub mod Example
 pub mod View
 pub mod Way
 pub mod Measures
+pub mod OneStop
 pub mod Driven
 pub mod Copied

@@ -2,7 +2,7 @@
 //!
 //! It is given here that the parts stand for their run. That they do so again
 //! follows from what an event does, and is no concern of this module.
-ghost use Rattle.std.specs.Prelude.{◌≡◌, ◌<◌, ◌≤◌, length, MatchOption, IfOk};
+ghost use Rattle.std.specs.Prelude.{◌≡◌, ◌<◌, ◌≤◌, length, reverse, MatchOption, IfOk};
 ghost use Rattle.metered.specs.Limits.{most_ranks};
 ghost use Rattle.world_model.specs.Headline.{IsFresh};
 ghost use Rattle.world_model.specs.View.{IsView};
@@ -26,6 +26,7 @@ use crate::run::Run;
 use crate::seats::Seats;
 use crate::view::View;
 use crate::wires::Wires;
+use crash_free::Passed;
 use metered::Heap;
 use plain_logger::LoggerState;
 use ports::{ConsoleState, Line};
@@ -117,6 +118,13 @@ impl<'p> Parts<'p> {
         ensures { result.now ≡ self.now.lines }
     {
         self.console.lines()
+    }
+
+    /// The acts of the run, the oldest first.
+    pub fn acts(&self) -> &[Passed]
+        ensures { result.now ≡ reverse self.now.run }
+    {
+        self.run.acts()
     }
 
     /// What is shown of a rank. This takes no memory.

@@ -1,7 +1,7 @@
 //! The run that a world keeps.
 //!
 //! An index answers what would else need a walk of the run.
-ghost use Rattle.std.specs.Prelude.{◌≡◌, ℕ, ◌<◌, [], ◌∷◌, length, drop, replicate, Some, IfSome, IfNone, IfOk, OnOk, OnErr};
+ghost use Rattle.std.specs.Prelude.{◌≡◌, ℕ, ◌<◌, [], ◌∷◌, length, drop, replicate, reverse, Some, IfSome, IfNone, IfOk, OnOk, OnErr};
 ghost use Rattle.crash_free.specs.Runs.{history};
 ghost use Rattle.world_model.specs.RunIndex.{clock_at, none_made, with_misses, IsNext};
 
@@ -65,6 +65,13 @@ impl Run {
         ensures { result ≡ length self.now.acts }
     {
         self.acts.len()
+    }
+
+    /// The acts, the oldest first.
+    pub fn acts(&self) -> &[Passed]
+        ensures { result.now ≡ reverse self.now.acts }
+    {
+        self.acts.as_slice()
     }
 
     /// The rank of the act at this place, from 0, oldest first.

@@ -4,6 +4,7 @@ ghost use Rattle.std.specs.Bool.{OnTrue, OnFalse};
 ghost use Rattle.metered.specs.Limits.{most_ranks};
 ghost use Rattle.world_model.specs.Seats.{at_work, IfLive, IsNew, IsNotAtWork, IsNotInReplay};
 ghost use Rattle.world_model.specs.View.{shown_of};
+ghost use Rattle.world_model.specs.Measures.{HasLines};
 
 mod calling;
 mod copying;
@@ -124,6 +125,16 @@ impl<'p> Seat<'p> {
             State::Running(running) => Some(running),
             State::Replaying(_) | State::Down(_) | State::Empty => None,
         }
+    }
+
+    /// A law, for proofs alone: the lines of a live rank's program are those of
+    /// its tree.
+    #[tactic(auto, using(crate::proofs::Seating::lines_of))]
+    pub fn law_lines(&self)
+        ensures { IfSome self.now.live HasLines }
+    {
+        self.program.law_lines();
+        let _state = &self.state;
     }
 
     /// What is shown of the rank, which has made so many acts of the run.

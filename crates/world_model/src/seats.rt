@@ -6,6 +6,7 @@ ghost use Rattle.world_model.specs.Headline.{IsOpened};
 ghost use Rattle.world_model.specs.World.{Live};
 ghost use Rattle.world_model.specs.Seats.{at_work, AtRank, IsNew, IsNotAtWork, IsNotInReplay, SeatValue};
 ghost use Rattle.world_model.specs.View.{shown_of};
+ghost use Rattle.world_model.specs.Measures.{HasLines};
 
 mod copying;
 mod framing;
@@ -98,6 +99,15 @@ impl<'p> Seats<'p> {
         ensures none { IfNone result (IsSomeAnd (slice_get self.now.ranks rank) IsNotAtWork) }
     {
         self.seats[usize::from(rank)].running()
+    }
+
+    /// A law, for proofs alone: the lines of a live rank's program are those of
+    /// its tree.
+    pub fn law_lines(&self, rank: u8)
+        requires { rank < length self.now.ranks }
+        ensures { IsSomeAnd (slice_get self.now.ranks rank) (λ x. IfSome x HasLines) }
+    {
+        self.seats[usize::from(rank)].law_lines();
     }
 
     /// What is shown of a rank, which has made so many acts of the run.

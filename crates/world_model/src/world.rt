@@ -1,17 +1,20 @@
 //! A world, which stands for a crash-free run.
-ghost use Rattle.std.specs.Prelude.{◌≡◌, ◌<◌, ◌≤◌, [], length, IfOk, IfErr, OnErr};
+ghost use Rattle.std.specs.Prelude.{◌≡◌, ◌<◌, ◌≤◌, [], length, reverse, IfOk, IfErr, OnErr};
 ghost use Rattle.metered.specs.Limits.{most_ranks};
 ghost use Rattle.world_model.specs.Headline.{IsFresh, StandsFor};
 ghost use Rattle.world_model.specs.Retained.{NothingGone};
 ghost use Rattle.world_model.specs.View.{IsView};
 ghost use Rattle.world_model.specs.Way.{IsWayOn};
 ghost use Rattle.world_model.specs.World.{size};
-ghost use Rattle.world_model.specs.Follows.{CanNot, Follows, FollowsAll, Stops, TakesNoMemory, Unchanged};
+ghost use Rattle.world_model.specs.Follows.{CanNot, Follows};
+ghost use Rattle.world_model.specs.Memory.{TakesNoMemory, Unchanged};
+ghost use Rattle.world_model.specs.Sequences.{FollowsAll, Stops};
 
 use crate::event::WorldEvent;
 use crate::parts::Parts;
 use crate::reply::Reply;
 use crate::view::View;
+use crash_free::Passed;
 use metered::Heap;
 use ports::Line;
 use rank_language::Program;
@@ -77,6 +80,13 @@ impl<'p> World<'p> {
         ensures { result.now ≡ self.now.lines }
     {
         self.parts.lines()
+    }
+
+    /// The acts of the run that the world stands for, the oldest first.
+    pub fn acts(&self) -> &[Passed]
+        ensures { result.now ≡ reverse self.now.run }
+    {
+        self.parts.acts()
     }
 
     /// What is shown of a rank: whether it is live, how many events it has

@@ -36,6 +36,7 @@ fn what_a_world_shows(rt: HostRuntime) -> Result<(), Fail> {
     let down = view_of(&world, 1);
     let restarted = world.apply(WorldEvent::Restart { rank: 1 });
     let replays = view_of(&world, 1);
+    let acts = ranks_of_acts(&world);
     world.close();
     assert_eq!(rt; new, shown(true, 0, 0, 0), "a new rank");
     assert!(rt; played && crashed.is_ok() && restarted.is_ok(), "memory");
@@ -43,7 +44,22 @@ fn what_a_world_shows(rt: HostRuntime) -> Result<(), Fail> {
     assert_eq!(rt; works, shown(true, 0, 2, 1), "a rank whose line waits");
     assert_eq!(rt; down, shown(false, 0, 0, 1), "a rank that is down");
     assert_eq!(rt; replays, shown(true, 1, 0, 1), "a rank that replays");
+    assert_eq!(rt;
+        acts,
+        (2, Some(0), Some(1)),
+        "the acts of its run, which no crash takes back"
+    );
     Ok(())
+}
+
+// How many acts the run of a world has, and the ranks of the first and of the last.
+fn ranks_of_acts(world: &World<'_>) -> (usize, Option<u8>, Option<u8>) {
+    let acts = world.acts();
+    (
+        acts.len(),
+        acts.first().map(|passed| passed.rank),
+        acts.last().map(|passed| passed.rank),
+    )
 }
 
 /// What a world shows of a rank, where it has that rank.

@@ -34,11 +34,13 @@ impl<'p, S: Shelf, D> Running<'p, S, D> {
         if !self.is_now(event) || event.kind() != Kind::Reception {
             return Err(NodeFault::Replay);
         }
-        let Some(index) = self.find_fitting(selector, event)? else {
+        let Some(_fitting) = self.find_fitting(selector, event)? else {
             return Ok(Turn::Blocked);
         };
         self.inbox.law_numbers_rise();
-        let packet = self.inbox.take(index);
+        let Some(packet) = self.inbox.take_named(event.sender(), event.sender_clock()) else {
+            unreachable!()
+        };
         self.machine.give(packet);
         self.clock += 1;
         Ok(Turn::Moved)

@@ -7,7 +7,8 @@ use crate::reply::Reply;
 use std::alloc::AllocError;
 
 impl<'p> Parts<'p> {
-    ghost use Rattle.world_model.specs.Follows.{CanNot, Follows, TakesNoMemory, Unchanged};
+    ghost use Rattle.world_model.specs.Follows.{CanNot, Follows};
+    ghost use Rattle.world_model.specs.Memory.{TakesNoMemory, Unchanged};
     ghost use Rattle.world_model.specs.Stands.{Stands};
 
     /// One event.

@@ -7,7 +7,8 @@ use std::alloc::AllocError;
 
 impl<'p> Parts<'p> {
     ghost use Rattle.world_model.specs.declared.event.WorldEvent.TheVariants.{Restart};
-    ghost use Rattle.world_model.specs.Follows.{CanNot, Follows, Unchanged};
+    ghost use Rattle.world_model.specs.Follows.{CanNot, Follows};
+    ghost use Rattle.world_model.specs.Memory.{Unchanged};
     ghost use Rattle.world_model.specs.Stands.{Stands};
 
     /// The rank starts again at its image: it fetches its row, and replays what

@@ -15,7 +15,8 @@ use std::alloc::AllocError;
 
 impl<'p> Parts<'p> {
     ghost use Rattle.world_model.specs.declared.event.WorldEvent.TheVariants.{Step};
-    ghost use Rattle.world_model.specs.Follows.{CanNot, Follows, TakesNoMemory};
+    ghost use Rattle.world_model.specs.Follows.{CanNot, Follows};
+    ghost use Rattle.world_model.specs.Memory.{TakesNoMemory};
     ghost use Rattle.world_model.specs.Seats.{IsNotInReplay};
     ghost use Rattle.world_model.specs.Stands.{Stands};
 

@@ -3,7 +3,8 @@ use Rattle.std.proofs.lemmas.List.{take_more}
 use Rattle.world_model.specs.World.{WorldValue}
 use Rattle.world_model.specs.Headline.{StandsFor}
 use Rattle.world_model.specs.Retained.{NothingGone}
-use Rattle.world_model.specs.Follows.{Follows, FollowsAll}
+use Rattle.world_model.specs.Follows.{Follows}
+use Rattle.world_model.specs.Sequences.{FollowsAll}
 use Rattle.world_model.specs.declared.event.WorldEvent.{WorldEvent}
 use Rattle.world_model.specs.declared.reply.Reply.{Reply}
 use Rattle.world_model.proofs.Sequences.{follows_push, stops, world_stands, world_retains}

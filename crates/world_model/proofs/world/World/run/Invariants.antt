@@ -1,5 +1,5 @@
 use Rattle.std.proofs.Common.{◌≡◌, ◌≤◌, length, take, vec_capacity, vec_len}
-use Rattle.world_model.specs.Follows.{FollowsAll}
+use Rattle.world_model.specs.Sequences.{FollowsAll}
 use Rattle.world_model.specs.Headline.{StandsFor}
 use Rattle.world_model.specs.Retained.{NothingGone}
 use Rattle.world_model.proofs.world.World.run.Given as goal
