@@ -1,26 +1,32 @@
 -- What a choice leads to that a simulation allows, of a rank that asks for no step of its own: an act that may follow its run, and the one
 -- that was chosen.
 use Rattle.std.proofs.Common.{◌≡◌, ◌≢◌, ℕ, ℤ, List, Option, Some, None, length, slice_get, ◌⊎◌, inl, inr, refl, sym, ap, subst, ◌∙◌}
-use Rattle.std.specs.Prelude.{IsSomeAnd}
+use Rattle.std.specs.Prelude.{IsSomeAnd, slice_set}
 use Rattle.std.proofs.lemmas.List.{length-set}
 use Rattle.rank_machine.specs.declared.want.Want.{Want}
 use Rattle.rank_machine.specs.declared.want.Want.TheVariants as want
 use Rattle.rank_machine.specs.Wants.{payload}
 use Rattle.rank_machine.specs.Acts.{Act, Message, Fits, misses}
-use Rattle.rank_machine.specs.Machine.{MachineValue, state_of}
+use Rattle.rank_machine.specs.Machine.{MachineValue, state_of, machine_want}
 use Rattle.crash_free.specs.declared.choice.Choice.{Choice}
 use Rattle.crash_free.specs.declared.choice.Choice.TheVariants as choice
 use Rattle.crash_free.specs.Runs.{looked_up, IsRun}
-use Rattle.crash_free.specs.Sim.{SimValue, Simulates, start_of, inbound_of, Meaning, ended, other, own_step, makes, meaning, meant, Does, Allows, with_act}
+use Rattle.crash_free.specs.Sim.{SimValue, Simulates, start_of, inbound_of, Meaning, ended, other, own_step, makes, meaning, meant, Does, Allows, with_act, IsAfter}
 use Rattle.crash_free.specs.Wanted.{Wants, StandsAtAct}
 use Rattle.audit.proofs.Fitting.{IsHit, send_fits, print_fits, take_fits, hit_fits, try_fits}
 use Rattle.explore.specs.Exploring.{and_then, MayFollow}
 use Rattle.explore.specs.Moves.{choice_of}
 use Rattle.explore.proofs.Simulating.{answers}
 
--- an act of rank r leads from the first simulation to the second
+-- an act of rank r leads from the first simulation to the second, and one machine of the rank to another
 pub record IsStep (s : SimValue) (r : ℕ) (s' : SimValue) : Type 0 where
   pub act : Act
+  pub machine : MachineValue
+  pub machine' : MachineValue
+  pub there : slice_get s.machines r ≡ Some machine
+  pub fits : Fits (machine_want machine) (payload (state_of machine)) act (looked_up (inbound_of s.run r) act)
+  pub after : IsAfter machine act (looked_up (inbound_of s.run r) act) machine'
+  pub machines : s'.machines ≡ slice_set s.machines r machine'
   pub program : s'.program ≡ s.program
   pub ranks : length s'.machines ≡ length s.machines
   pub run : s'.run ≡ and_then s.run r act
@@ -67,10 +73,18 @@ allowed_of s s' r c allows =
     record { machine = m.0; machine' = m'.0; there = m.1; does = m'.2 }
 
 -- an act that was made leads on
-by_act : (s s' : SimValue) (r : ℕ) (m' : MachineValue) (act : Act) → Simulates s' → s' ≡ with_act s r m' act → IsStep s r s'
-by_act s s' r m' act then same =
+by_act : (s s' : SimValue) (r : ℕ) (m m' : MachineValue) (w : Want) (act : Act) → Simulates s → Simulates s' → slice_get s.machines r ≡ Some m → Wants m w
+    → w ≢ want.Internal → IsAfter m act (looked_up (inbound_of s.run r) act) m' → s' ≡ with_act s r m' act → IsStep s r s'
+by_act s s' r m m' w act now then there asks apart after same =
     record {
       act = act;
+      machine = m;
+      machine' = m';
+      there = there;
+      fits = subst (λ v. Fits v (payload (state_of m)) act (looked_up (inbound_of s.run r) act)) (sym asks.at_want)
+          (answers s r m w now there asks apart act (is_run.1, is_run.2)).0;
+      after = after;
+      machines = ap (λ (z : SimValue). z.machines) same;
       program = program;
       ranks = as_many;
       run = run;
@@ -108,7 +122,7 @@ goes_by s s' r c now then at allows =
     go other e d = absurd d
     go own_step e d =
         absurd (no_step_means at.0 (payload (state_of both.machine)) c at.2 (ap (λ v. meaning v (payload (state_of both.machine)) c) (sym asks.at_want) ∙ e))
-    go (makes act) e d = by_act s s' r both.machine' act then d.2
+    go (makes act) e d = by_act s s' r both.machine both.machine' at.0 act now then both.there asks at.2 d.1 d.2
 
 -- the choice of an act makes that act, where it answers what is asked for
 chosen : (w : Want) (items : List ℤ) (act : Act) (o : Option Message) → Fits w items act o → meaning w items (choice_of act) ≡ makes act

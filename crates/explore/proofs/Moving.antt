@@ -5,7 +5,7 @@ use Rattle.matching.specs.declared.selector.Selector.{Selector}
 use Rattle.rank_machine.specs.declared.want.Want.{Want}
 use Rattle.rank_machine.specs.declared.want.Want.TheVariants as want
 use Rattle.rank_machine.specs.Wants.{payload}
-use Rattle.rank_machine.specs.Acts.{Act, hits, misses}
+use Rattle.rank_machine.specs.Acts.{Act, sends, hits, misses, prints}
 use Rattle.rank_machine.specs.Machine.{MachineValue, state_of}
 use Rattle.crash_free.specs.declared.choice.Choice.TheVariants as choice
 use Rattle.crash_free.specs.Runs.{history, looked_up, IsEligible}
@@ -14,13 +14,13 @@ use Rattle.crash_free.specs.Wanted.{Wants, WantsAt, StandsAtAct}
 use Rattle.audit.proofs.Fitting.{send_fits, print_fits}
 use Rattle.explore.specs.declared.moves.Move.{Move}
 use Rattle.explore.specs.Exploring.{MayFollow}
-use Rattle.explore.specs.Moves.{choice_of, move_of, HasAllOf, HasAll, AreOfRanks, AddsMoves, AddsTakes}
+use Rattle.explore.specs.Moves.{choice_of, move_of, HasAllOf, HasAll, MayGoOn, OneIsEligible, AreOfRanks, AddsMoves, AddsTakes}
 use Rattle.explore.specs.Outcomes.{IsAmong}
 use Rattle.explore.specs.Stills.{HasNothing, NoneIsEligible, StandsStill}
 use Rattle.explore.proofs.Among.{among_none, among_first, among_last, among_push}
 use Rattle.explore.proofs.Choosing.{there_is}
 use Rattle.explore.proofs.Fixed.{one_eligible}
-use Rattle.explore.proofs.Simulating.{answers, takes_eligible, hits_eligible, tries_eligible, IsOfEligible}
+use Rattle.explore.proofs.Simulating.{answers, may_be, may_take, may_hit, takes_eligible, hits_eligible, tries_eligible, IsOfEligible}
 use Rattle.explore.proofs.Stills.{stands_so, no_act}
 
 -- Messages, source by source
@@ -50,9 +50,9 @@ takes_one s r w k i old new adds here =
       all = λ source place low e. go source place low e (cases_eq source k);
     }
   where
-    own : (m : Move) → IsAmong new m ⊎ (m ≡ move_of r (choice.Take k i)) → IsAmong old m ⊎ (m.rank ≡ r)
+    own : (m : Move) → IsAmong new m ⊎ (m ≡ move_of r (choice.Take k i)) → IsAmong old m ⊎ ((m.rank ≡ r) × OneIsEligible s r w)
     own m (inl before) = adds.own m before
-    own m (inr same) = inr (rw same refl)
+    own m (inr same) = inr (rw same refl, (k, i, here))
 
     go : (source place : ℕ) → source < k + 1 → IsEligible (inbound_of s.run r) (history s.run r) source place w → (source ≡ k) ⊎ (source ≡ k → ⊥)
         → IsAmong (new ++ move_of r (choice.Take k i) ∷ []) (move_of r (choice.Take source place))
@@ -122,6 +122,19 @@ module _ (s : SimValue) (r : ℕ) (stands : Simulates s) where
   is_next m want.Halted asks there wants act may = absurd asks
   is_next m (want.Faulted k) asks there wants act may = absurd asks
 
+  -- a send or a print may be made
+  next_may : (m : MachineValue) (w : Want) → AsksNext w → slice_get s.machines r ≡ Some m → Wants m w → MayGoOn s r
+  next_may m (want.Send d c t) asks there wants =
+      let act = sends d c t (payload (state_of m)) in
+      (act, may_be s r m (want.Send d c t) act stands there wants (λ q. cc) (refl, refl, refl, refl) tt)
+  next_may m (want.Print v) asks there wants = (prints v, may_be s r m (want.Print v) (prints v) stands there wants (λ q. cc) refl tt)
+  next_may m (want.Receive w) asks there wants = absurd asks
+  next_may m (want.Probe w) asks there wants = absurd asks
+  next_may m (want.TryProbe w) asks there wants = absurd asks
+  next_may m want.Internal asks there wants = absurd asks
+  next_may m want.Halted asks there wants = absurd asks
+  next_may m (want.Faulted k) asks there wants = absurd asks
+
   pub moves_next : (w : Want) (moves : List Move) → WantsAt s.machines r w → AsksNext w → AddsMoves s r moves (moves ++ move_of r choice.Next ∷ [])
   moves_next w moves wanted asks =
       let m = machine_of w wanted in
@@ -135,18 +148,19 @@ module _ (s : SimValue) (r : ℕ) (stands : Simulates s) where
         still = λ e. absurd (not_empty moves (move_of r choice.Next) e);
       }
     where
-      go : (x : Move) → IsAmong moves x ⊎ (x ≡ move_of r choice.Next) → IsAmong moves x ⊎ ((x.rank ≡ r) × StandsAtAct s.machines r)
+      go : (x : Move) → IsAmong moves x ⊎ (x ≡ move_of r choice.Next) → IsAmong moves x ⊎ ((x.rank ≡ r) × StandsAtAct s.machines r × MayGoOn s r)
       go x (inl before) = inl before
-      go x (inr same) = inr (rw same refl, (w, wanted, not_own w asks))
+      go x (inr same) = (let m = machine_of w wanted in inr (rw same refl, (w, wanted, not_own w asks), next_may m.0 w asks m.1 m.2))
 
   -- what the messages add are moves of the rank
-  acts_of : (w : Selector) (old new : List Move) → StandsAtAct s.machines r → AddsTakes s r w (length s.machines) old new → (x : Move) → IsAmong new x
-      → IsAmong old x ⊎ ((x.rank ≡ r) × StandsAtAct s.machines r)
-  acts_of w old new at adds x a = go (adds.own x a)
+  acts_of : (w : Selector) (old new : List Move) → StandsAtAct s.machines r → (OneIsEligible s r w → MayGoOn s r)
+      → AddsTakes s r w (length s.machines) old new → (x : Move) → IsAmong new x
+      → IsAmong old x ⊎ ((x.rank ≡ r) × StandsAtAct s.machines r × MayGoOn s r)
+  acts_of w old new at may adds x a = go (adds.own x a)
     where
-      go : IsAmong old x ⊎ (x.rank ≡ r) → IsAmong old x ⊎ ((x.rank ≡ r) × StandsAtAct s.machines r)
+      go : IsAmong old x ⊎ ((x.rank ≡ r) × OneIsEligible s r w) → IsAmong old x ⊎ ((x.rank ≡ r) × StandsAtAct s.machines r × MayGoOn s r)
       go (inl before) = inl before
-      go (inr own) = inr (own, at)
+      go (inr own) = inr (own.0, at, may own.1)
 
   -- a receive
   pub moves_receive : (w : Selector) (old new : List Move) → WantsAt s.machines r (want.Receive w) → AddsTakes s r w (length s.machines) old new
@@ -155,7 +169,7 @@ module _ (s : SimValue) (r : ℕ) (stands : Simulates s) where
       let m = machine_of (want.Receive w) wanted in
       record {
         kept = adds.kept;
-        acts = acts_of w old new (want.Receive w, wanted, λ q. cc) adds;
+        acts = acts_of w old new (want.Receive w, wanted, λ q. cc) (may_take s r m.0 w stands m.1 m.2) adds;
         all = λ act may. (let e = takes_eligible s r m.0 w act stands m.1 may m.2 in
             subst (λ z. IsAmong new (move_of r (choice_of z))) (sym e.same) (adds.all e.source e.place e.low e.eligible));
         still = λ e. stands_so s r (want.Receive w) wanted (none_taken s r w old new adds e);
@@ -168,7 +182,7 @@ module _ (s : SimValue) (r : ℕ) (stands : Simulates s) where
       let m = machine_of (want.Probe w) wanted in
       record {
         kept = adds.kept;
-        acts = acts_of w old new (want.Probe w, wanted, λ q. cc) adds;
+        acts = acts_of w old new (want.Probe w, wanted, λ q. cc) (may_hit s r m.0 w stands m.1 m.2) adds;
         all = λ act may. (let e = hits_eligible s r m.0 w act stands m.1 may m.2 in
             subst (λ z. IsAmong new (move_of r (choice_of z))) (sym e.same) (adds.all e.source e.place e.low e.eligible));
         still = λ e. stands_so s r (want.Probe w) wanted (none_taken s r w old new adds e);
@@ -191,9 +205,12 @@ module _ (s : SimValue) (r : ℕ) (stands : Simulates s) where
       at : StandsAtAct s.machines r
       at = (want.TryProbe w, wanted, λ q. cc)
 
-      mine : (x : Move) → IsAmong mid x ⊎ (x ≡ move_of r choice.Miss) → IsAmong old x ⊎ ((x.rank ≡ r) × StandsAtAct s.machines r)
-      mine x (inl before) = acts_of w old mid at adds x before
-      mine x (inr same) = inr (rw same refl, at)
+      missed : MayGoOn s r
+      missed = (misses, may_be s r m.0 (want.TryProbe w) misses stands m.1 m.2 (λ q. cc) tt tt)
+
+      mine : (x : Move) → IsAmong mid x ⊎ (x ≡ move_of r choice.Miss) → IsAmong old x ⊎ ((x.rank ≡ r) × StandsAtAct s.machines r × MayGoOn s r)
+      mine x (inl before) = acts_of w old mid at (λ e. missed) adds x before
+      mine x (inr same) = inr (rw same refl, at, missed)
 
       each : (act : Act) → IsOfEligible s r w hits act ⊎ (act ≡ misses) → IsAmong (mid ++ move_of r choice.Miss ∷ []) (move_of r (choice_of act))
       each act (inl e) =
@@ -235,9 +252,11 @@ one_rank s k old new low some adds =
         (adds.all act (subst (λ q. MayFollow (start_of s.program (length s.machines)) (length s.machines) s.run q act) e may))
     all r l act may (inr apart) = adds.kept (move_of r (choice_of act)) (some.all r (omega (arith, l, apart)) act may)
 
-    acts : (m : Move) → IsAmong old m ⊎ ((m.rank ≡ k) × StandsAtAct s.machines k) → (m.rank < length s.machines) × StandsAtAct s.machines m.rank
+    acts : (m : Move) → IsAmong old m ⊎ ((m.rank ≡ k) × StandsAtAct s.machines k × MayGoOn s k)
+        → (m.rank < length s.machines) × StandsAtAct s.machines m.rank × MayGoOn s m.rank
     acts m (inl before) = some.acts m before
-    acts m (inr own) = (omega (arith, low, own.0), subst (λ q. StandsAtAct s.machines q) (sym own.0) own.1)
+    acts m (inr own) =
+        (omega (arith, low, own.0), subst (λ q. StandsAtAct s.machines q) (sym own.0) own.1, subst (λ q. MayGoOn s q) (sym own.0) own.2)
 
     -- none was there before, as what was there is there still
     none_before : new ≡ [] → old ≡ []

@@ -3,6 +3,7 @@
 use Rattle.std.proofs.Common.{◌≡◌, ◌≢◌, ℕ, ℤ, zero, suc, ◌<◌, ◌≤◌, List, [], Option, Some, None, length, slice_get, ◌⊎◌, inl, inr, refl, sym, ap, subst, ◌∙◌}
 use Rattle.std.specs.Prelude.{map}
 use Rattle.std.proofs.lemmas.Bool.{cases_lt}
+use Rattle.std.proofs.lemmas.Option.{slice_get_within}
 use Rattle.matching.specs.declared.selector.Selector.{Selector}
 use Rattle.rank_machine.specs.declared.want.Want.{Want}
 use Rattle.rank_machine.specs.declared.want.Want.TheVariants as want
@@ -18,6 +19,7 @@ use Rattle.crash_free.proofs.Choosing.{wants_it}
 use Rattle.crash_free.proofs.Taking.{no_history}
 use Rattle.audit.proofs.Fitting.{IsHit, take_fits, hit_fits, try_fits}
 use Rattle.explore.specs.Exploring.{MayFollow, RankOutcome, IsRankOutcome, end_of, HasOneAnswer, IsFixed}
+use Rattle.explore.specs.Moves.{MayGoOn, OneIsEligible}
 
 -- what has one answer is no step of the rank's own
 pub no_own_step : (w : Want) → HasOneAnswer w → w ≢ want.Internal
@@ -146,3 +148,39 @@ pub none_of_faulted : (s : SimValue) (r : ℕ) (m : MachineValue) (fault : _) (a
     → Wants m (want.Faulted fault)
     → MayFollow (start_of s.program (length s.machines)) (length s.machines) s.run r act → ⊥
 none_of_faulted s r m fault act simulates there asks may = (answers s r m (want.Faulted fault) simulates there asks (λ q. cc) act may).0
+
+-- an act that answers what is asked for, and what is free, may be made
+pub may_be : (s : SimValue) (r : ℕ) (m : MachineValue) (w : Want) (act : Act) → Simulates s → slice_get s.machines r ≡ Some m → Wants m w → w ≢ want.Internal
+    → Fits w (payload (state_of m)) act (looked_up (inbound_of s.run r) act) → IsFree w act (inbound_of s.run r) (history s.run r)
+    → MayFollow (start_of s.program (length s.machines)) (length s.machines) s.run r act
+may_be s r m w act simulates there asks apart fits free =
+    let at = simulates.ranks r m there in
+    let wants_it : w ≡ wants (state_of m) = sym (wanted s r m w simulates there asks apart) in (
+      slice_get_within s.machines r m there,
+      record {
+        after = at.0;
+        stands = state_of m;
+        reached = at.1;
+        inner = at.2;
+        makes = subst (λ v. Fits v (payload (state_of m)) act (looked_up (inbound_of s.run r) act)) wants_it fits;
+        free = subst (λ v. IsFree v act (inbound_of s.run r) (history s.run r)) wants_it free;
+      },
+    )
+
+-- so may a reception of a message that is eligible
+pub may_take : (s : SimValue) (r : ℕ) (m : MachineValue) (w : Selector) → Simulates s → slice_get s.machines r ≡ Some m → Wants m (want.Receive w)
+    → OneIsEligible s r w → MayGoOn s r
+may_take s r m w simulates there asks one = (
+  takes one.0 one.1,
+  may_be s r m (want.Receive w) (takes one.0 one.1) simulates there asks (λ q. cc)
+      (subst (λ o. Fits (want.Receive w) (payload (state_of m)) (takes one.0 one.1) o) (sym one.2.there) one.2.matching) one.2,
+)
+
+-- and a hit
+pub may_hit : (s : SimValue) (r : ℕ) (m : MachineValue) (w : Selector) → Simulates s → slice_get s.machines r ≡ Some m → Wants m (want.Probe w)
+    → OneIsEligible s r w → MayGoOn s r
+may_hit s r m w simulates there asks one = (
+  hits one.0 one.1,
+  may_be s r m (want.Probe w) (hits one.0 one.1) simulates there asks (λ q. cc)
+      (subst (λ o. Fits (want.Probe w) (payload (state_of m)) (hits one.0 one.1) o) (sym one.2.there) one.2.matching) one.2,
+)

@@ -2,6 +2,7 @@
 ghost use Rattle.std.specs.Prelude.{◌≡◌, ◌<◌, ◌≤◌, [], IfOk, OnOk, length, sum, slice_index};
 ghost use Rattle.metered.specs.Limits.{most_ranks};
 ghost use Rattle.crash_free.specs.Sim.{Allows, Simulates};
+ghost use Rattle.crash_free.specs.Wanted.{StandsAtAct};
 
 use crate::moves::{Move, Noted};
 use crash_free::Sim;
@@ -22,6 +23,7 @@ pub struct Branch<'p> {
 }
 
 impl<'p> Branch<'p> {
+    ghost use Rattle.explore.specs.Counts.{Counts, KeepsCount};
     ghost use Rattle.explore.specs.Searching.{Begins};
 
     /// The whole of a program on so many ranks, each of which has so many steps.
@@ -33,7 +35,8 @@ impl<'p> Branch<'p> {
     ) -> Result<Branch<'p>, AllocError>
         requires some { 1 ≤ ranks }
         requires few { ranks ≤ most_ranks }
-        ensures { IfOk result (λ branch. Begins program.entry.now ranks branch) }
+        ensures begins { IfOk result (λ branch. Begins program.entry.now ranks branch) }
+        ensures counts { IfOk result (λ branch. Counts steps branch.sim branch.left) }
     {
         Ok(Branch {
             sim: Sim::new(alloc, program, ranks)?,
@@ -59,11 +62,14 @@ impl<'p> Branch<'p> {
     pub fn choose(&mut self, chosen: Move, others: bool) -> Result<(), AllocError>
         requires rank { chosen.rank < length self.old.sim.machines }
         requires few { length self.old.sim.machines ≤ most_ranks }
+        requires at { StandsAtAct self.old.sim.machines chosen.rank }
         requires left { 0 < slice_index self.old.left chosen.rank }
         ensures allowed { OnOk result (Allows self.old.sim chosen.rank chosen.choice self.new.sim) }
         ensures stands { OnOk result (Simulates self.new.sim) }
         ensures less { OnOk result (sum self.new.left < sum self.old.left) }
+        ensures counts { OnOk result (KeepsCount self.old.sim self.old.left self.new.sim self.new.left) }
     {
+        let _ = self.sim.ranks();
         let noted = noted(&self.sim, chosen);
         // a choice of `moves` is allowed, so there was no memory
         if self.sim.act(chosen.rank, chosen.choice).is_err() {

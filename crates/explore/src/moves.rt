@@ -1,7 +1,8 @@
 //! What the ranks may do next.
-ghost use Rattle.std.specs.Prelude.{◌≡◌, ◌+◌, ◌<◌, true, List, [], IfOk, IfSome, OnOk, length};
+ghost use Rattle.std.specs.Prelude.{◌≡◌, ◌+◌, ◌<◌, true, false, List, [], IfOk, IfSome, IsNone, OnOk, length};
 ghost use Rattle.crash_free.specs.Sim.{Simulates};
-ghost use Rattle.explore.specs.Moves.{AddsMoves, AddsTakes, AreOfRanks, HasAll};
+ghost use Rattle.crash_free.specs.Wanted.{WantsAt};
+ghost use Rattle.explore.specs.Moves.{AddsMoves, AddsTakes, AreOfRanks, HasAll, OneIsInside};
 ghost use Rattle.explore.specs.Stills.{AllStill};
 
 use crash_free::{Choice, Sim};
@@ -35,6 +36,7 @@ pub fn moves(alloc: Heap, sim: &Sim<'_>) -> Result<Option<Vec<Move, Heap>>, Allo
     ensures all { IfOk result (λ found. IfSome found (λ moves. HasAll sim.now moves.items)) }
     ensures acts { IfOk result (λ found. IfSome found (λ moves. AreOfRanks sim.now moves.items)) }
     ensures still { IfOk result (λ found. IfSome found (λ moves. moves.items ≡ [] → AllStill sim.now)) }
+    ensures inside { IfOk result (λ found. IsNone found → OneIsInside sim.now) }
 {
     let ranks = sim.ranks();
     let mut moves = Vec::new(alloc);
@@ -52,7 +54,8 @@ pub fn moves(alloc: Heap, sim: &Sim<'_>) -> Result<Option<Vec<Move, Heap>>, Allo
 fn add_moves(sim: &Sim<'_>, rank: u8, moves: &mut Vec<Move, Heap>) -> Result<bool, AllocError>
     requires stands { Simulates sim.now }
     requires rank { rank < length sim.now.machines }
-    ensures { IfOk result (λ whole. whole ≡ true → AddsMoves sim.now rank moves.old.items moves.new.items) }
+    ensures adds { IfOk result (λ whole. whole ≡ true → AddsMoves sim.now rank moves.old.items moves.new.items) }
+    ensures inside { IfOk result (λ whole. whole ≡ false → WantsAt sim.now.machines rank Want.Internal) }
 {
     match sim.wants(rank) {
         Want::Internal => Ok(false),

@@ -1,7 +1,9 @@
 //! One run of a search, which leaves branches behind.
-ghost use Rattle.std.specs.Prelude.{◌≡◌, ◌<◌, ◌≤◌, true, false, IfOk, OnOk, length};
+ghost use Rattle.std.specs.Prelude.{◌≡◌, ◌<◌, ◌≤◌, ℕ, true, false, IfOk, OnOk, length};
 ghost use Rattle.metered.specs.Limits.{most_ranks};
 ghost use Rattle.crash_free.specs.Sim.{Simulates};
+ghost use Rattle.explore.specs.Counting.{GoesBeyond};
+ghost use Rattle.explore.specs.Counts.{Counts, OneHasNone, PlaysCounted};
 ghost use Rattle.explore.specs.Moves.{AreOfRanks, HasAll};
 ghost use Rattle.explore.specs.Outcomes.{IsAmong};
 ghost use Rattle.explore.specs.Searching.{AreAlike, BranchesOff, HaveLeft, PlaysOn};
@@ -27,6 +29,9 @@ pub fn play<'p>(
     ensures plays { IfOk result (λ _. PlaysOn branch.old.sim pending.old.items branch.new.sim pending.new.items) }
     ensures stands { IfOk result (λ _. Simulates branch.new.sim) }
     ensures still { IfOk result (λ ended. ended ≡ true → AllStill branch.new.sim) }
+    ensures counts { IfOk result (λ _. PlaysCounted branch.old.sim branch.old.left pending.old.items pending.new.items) }
+    ensures beyond { IfOk result (λ ended. ended ≡ false → (steps : ℕ) → Counts steps branch.old.sim branch.old.left
+        → GoesBeyond branch.old.sim.program (length branch.old.sim.machines) steps) }
 {
     let _ = branch.sim.ranks();
     loop {
@@ -48,7 +53,8 @@ pub fn play<'p>(
 // Whether one of the moves is of a rank that has no steps left.
 fn is_spent(left: &[u32; MOST_RANKS], moves: &[Move]) -> bool
     requires { (m : Move) → IsAmong moves.now m → m.rank < most_ranks }
-    ensures { result ≡ false → HaveLeft left.now moves.now }
+    ensures no { result ≡ false → HaveLeft left.now moves.now }
+    ensures yes { result ≡ true → OneHasNone left.now moves.now }
 {
     for each in moves {
         if left[usize::from(each.rank)] == 0 {
@@ -68,7 +74,8 @@ fn branch_off<'p>(
     requires stands { Simulates branch.now.sim }
     requires acts { AreOfRanks branch.now.sim moves.now }
     requires left { HaveLeft branch.now.left moves.now }
-    ensures { OnOk result (BranchesOff branch.now.sim moves.now 1 pending.old.items pending.new.items) }
+    ensures branches { OnOk result (BranchesOff branch.now.sim moves.now 1 pending.old.items pending.new.items) }
+    ensures counts { OnOk result (PlaysCounted branch.now.sim branch.now.left pending.old.items pending.new.items) }
 {
     let mut at = moves.len();
     while at > 1 {

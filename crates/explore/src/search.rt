@@ -1,7 +1,9 @@
 //! The search for all outcomes of a program.
-ghost use Rattle.std.specs.Prelude.{◌≡◌, ◌≤◌, ◌⊎◌, true, false, [], IfOk, IsTrue, List, length};
+ghost use Rattle.std.specs.Prelude.{◌≡◌, ◌≤◌, ◌⊎◌, ℕ, true, false, [], IfOk, IsTrue, List, length};
 ghost use Rattle.metered.specs.Limits.{most_ranks};
 ghost use Rattle.crash_free.specs.Sim.{start_of};
+ghost use Rattle.explore.specs.Counting.{GoesBeyond};
+ghost use Rattle.explore.specs.Counts.{Counts, PlaysCounted};
 ghost use Rattle.explore.specs.Exploring.{AlwaysEnds, IsPossible, RankOutcome};
 ghost use Rattle.explore.specs.Outcomes.{AreAll, AreDistinct, IsAmong};
 ghost use Rattle.explore.specs.Searching.{AreAlike, Looks};
@@ -29,6 +31,7 @@ pub fn explore(
     ensures complete { IfOk result (λ e. e.complete ≡ true → AreAll program.now ranks e.outcomes) }
     ensures ends { IfOk result (λ e. e.complete ≡ true → AlwaysEnds (start_of program.now ranks) ranks []) }
     ensures stopped { IfOk result (λ e. e.complete ≡ false → (e.runs ≡ limits.runs) ⊎ IsTrue e.out_of_steps) }
+    ensures beyond { IfOk result (λ e. e.out_of_steps ≡ true → GoesBeyond program.now ranks limits.steps) }
     ensures distinct { IfOk result (λ e. AreDistinct e.outcomes) }
     ensures few_runs { IfOk result (λ e. e.runs ≤ limits.runs) }
 {
@@ -56,7 +59,8 @@ pub fn explore(
 
 // Whether a run was cut off, this one or one before.
 fn is_cut(before: bool, ended: bool) -> bool
-    ensures { result ≡ false → (before ≡ false) × (ended ≡ true) }
+    ensures no { result ≡ false → (before ≡ false) × (ended ≡ true) }
+    ensures yes { result ≡ true → (before ≡ true) ⊎ (ended ≡ false) }
 {
     before || !ended
 }
@@ -79,7 +83,10 @@ fn look<'p>(
 ) -> Result<bool, AllocError>
     requires few { length branch.sim.machines ≤ most_ranks }
     requires alike { AreAlike branch.sim pending.old.items }
-    ensures { IfOk result (λ ended. Looks branch.entry.sim ended pending.old.items pending.new.items outcomes.old.items outcomes.new.items) }
+    ensures looks { IfOk result (λ ended. Looks branch.entry.sim ended pending.old.items pending.new.items outcomes.old.items outcomes.new.items) }
+    ensures counts { IfOk result (λ _. PlaysCounted branch.entry.sim branch.entry.left pending.old.items pending.new.items) }
+    ensures beyond { IfOk result (λ ended. ended ≡ false → (steps : ℕ) → Counts steps branch.entry.sim branch.entry.left
+        → GoesBeyond branch.entry.sim.program (length branch.entry.sim.machines) steps) }
 {
     let ended = play(alloc, &mut branch, pending)?;
     if ended {

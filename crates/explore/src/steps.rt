@@ -1,7 +1,9 @@
 //! Acts that a search makes without a branch.
-ghost use Rattle.std.specs.Prelude.{◌≡◌, ◌<◌, ◌≤◌, true, length, sum};
+ghost use Rattle.std.specs.Prelude.{◌≡◌, ◌<◌, ◌≤◌, true, false, length, sum};
 ghost use Rattle.metered.specs.Limits.{most_ranks};
 ghost use Rattle.crash_free.specs.Sim.{Simulates};
+ghost use Rattle.crash_free.specs.Wanted.{StandsAtAct};
+ghost use Rattle.explore.specs.Counts.{HaveStopped, KeepsCount, Spends};
 ghost use Rattle.explore.specs.Making.{MakesFixed, AsksOne, AwaitsAt, LeadsTo};
 
 use crash_free::{Choice, Sim};
@@ -27,6 +29,8 @@ pub fn advance(sim: &mut Sim<'_>, left: &mut [u32; MOST_RANKS])
     requires stands { Simulates sim.old }
     ensures leads { LeadsTo sim.old sim.new }
     ensures less { sum left.new ≤ sum left.old }
+    ensures counts { KeepsCount sim.old left.old sim.new left.new }
+    ensures stops { HaveStopped sim.new left.new }
 {
     loop {
         if !round(sim, left) {
@@ -43,6 +47,8 @@ fn round(sim: &mut Sim<'_>, left: &mut [u32; MOST_RANKS]) -> bool
     ensures leads { LeadsTo sim.old sim.new }
     ensures less { sum left.new ≤ sum left.old }
     ensures some { result ≡ true → sum left.new < sum left.old }
+    ensures counts { KeepsCount sim.old left.old sim.new left.new }
+    ensures stops { result ≡ false → HaveStopped sim.new left.new }
 {
     let ranks = sim.ranks();
     let mut some = false;
@@ -56,28 +62,27 @@ fn round(sim: &mut Sim<'_>, left: &mut [u32; MOST_RANKS]) -> bool
     some
 }
 
-/// Makes fixed acts of this rank, and the steps of its own before each, at
-/// most so many in all. Answers how many. A search may go on with what this
-/// leaves alone.
+/// Makes steps of this rank's own, and the fixed act behind them, at most so
+/// many in all. Answers how many. A search may go on with what this leaves
+/// alone.
 #[tactic(auto, using(crate::proofs::Making::leads_nowhere, crate::proofs::Making::leads_inside, crate::proofs::Making::leads_fixed))]
 pub fn go_on(sim: &mut Sim<'_>, rank: u8, most: u32) -> u32
     requires rank { rank < length sim.old.machines }
     requires stands { Simulates sim.old }
     ensures few { result ≤ most }
     ensures leads { LeadsTo sim.old sim.new }
+    ensures spends { Spends sim.old rank result sim.new }
+    ensures idle { result ≡ 0 → sim.new ≡ sim.old }
+    ensures stops { result ≡ 0 → 0 < most → StandsAtAct sim.new.machines rank }
 {
-    let mut left = most;
-    while left > 0 {
-        left -= sim.stride(rank, left);
-        if left == 0 {
-            break;
-        }
-        match make_fixed(sim, rank) {
-            Made::Fixed => left -= 1,
-            Made::Nothing => break,
-        }
+    let inside = sim.stride(rank, most);
+    if inside == most {
+        return inside;
     }
-    most - left
+    match make_fixed(sim, rank) {
+        Made::Fixed => inside + 1,
+        Made::Nothing => inside,
+    }
 }
 
 /// Makes the act of this rank that is fixed, if one is: the send or the print

@@ -18,7 +18,7 @@ loop-each-preserved c =
     left_more c.args.left.now c.args.moves.now c.loop-each.each-index (move_of 0 Next) c.loop-each-test.true c.loop-each.invariant
     (subst (λ k. 0 < slice_index c.args.left.now k) c.from.ensures here)
 
-pub returns : goal.returns
-returns c = λ e m a.
+pub returns-clause-no : goal.returns-clause-no
+returns-clause-no c = λ e m a.
     (let low = slice_get_within c.args.moves.now a.0 m a.1 in
     c.loop-each.invariant a.0 m (omega (arith, low, c.loop-each-test.false)) a.1)

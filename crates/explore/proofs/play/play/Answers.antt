@@ -1,4 +1,4 @@
-use Rattle.std.proofs.Common.{◌≡◌, ◌<◌, ◌≤◌, refl, Some, length, subst, arith}
+use Rattle.std.proofs.Common.{◌≡◌, ◌<◌, ◌≤◌, refl, ◌∙◌, Some, length, subst, arith}
 use Rattle.std.specs.Prelude.{slice_get, vec_len}
 use Rattle.std.proofs.lemmas.Option.{slice_get_read}
 use Rattle.metered.specs.Limits.{most_ranks}
@@ -6,12 +6,13 @@ use Rattle.explore.specs.Moves.{HasAll, AreOfRanks}
 use Rattle.explore.specs.Outcomes.{IsAmong}
 use Rattle.explore.specs.Searching.{BranchesOff}
 use Rattle.explore.proofs.Among.{has_first}
+use Rattle.explore.proofs.Beyond.{beyond_alike, beyond_inside, beyond_move}
 use Rattle.explore.proofs.Searching.{plays_along, plays_moves}
 use Rattle.explore.proofs.play.play.Goals as goal
 
 pub is_spent-requires : goal.is_spent-requires
 is_spent-requires c = λ m a.
-    (let plays = c.loop-branch.invariant.0 in
+    (let plays = c.loop-branch.invariant.plays in
     let few : length c.advance.new.sim.machines ≤ most_ranks = omega (arith, c.requires.few, plays.alike.ranks, c.advance.ensures.leads.ranks) in
     let acts : AreOfRanks c.advance.new.sim c.in-Some.found.items = rw c.in-Some.is at c.in_ok-found.ensures.acts in
     let low = (acts m (subst (λ xs. IsAmong xs m) c.deref.ensures.value a)).0 in
@@ -45,13 +46,49 @@ loop-branch-preserved c =
     slice_get_read c.in-Some.found.items (length c.in-Some.found.items) 0 c.index.result.now refl some c.index.ensures in
     let off =
     subst (λ xs. BranchesOff c.advance.new.sim xs 1 c.loop-branch.pending.items c.branch_off.new.pending.items) c.deref-in-loop-branch.ensures.value
-    c.in_ok-branch_off.ensures in
+    c.in_ok-branch_off.ensures.branches in
     let plays =
-    plays_along c.args.branch.now.sim c.args.pending.now.items c.loop-branch.branch.sim c.advance.new.sim c.loop-branch.pending.items c.loop-branch.invariant.0
-    c.advance.ensures.leads in (
-      plays_moves c.args.branch.now.sim c.args.pending.now.items c.advance.new.sim c.choose.new.self.sim c.loop-branch.pending.items
+    plays_along c.args.branch.now.sim c.args.pending.now.items c.loop-branch.branch.sim c.advance.new.sim c.loop-branch.pending.items c.loop-branch.invariant.plays
+    c.advance.ensures.leads in
+    record {
+      plays =
+          plays_moves c.args.branch.now.sim c.args.pending.now.items c.advance.new.sim c.choose.new.self.sim c.loop-branch.pending.items
           c.branch_off.new.pending.items c.in-Some.found.items c.index.result.now plays c.advance.ensures.leads.stands c.in_ok-choose.ensures.stands all
-          acts there off
-          c.in_ok-choose.ensures.allowed,
-      c.in_ok-choose.ensures.stands,
-    )
+          acts there off c.in_ok-choose.ensures.allowed;
+      stands = c.in_ok-choose.ensures.stands;
+      counts = λ steps one. c.in_ok-choose.ensures.counts steps (c.advance.ensures.counts steps (c.loop-branch.invariant.counts steps one));
+      counted =
+          λ steps one before.
+          c.in_ok-branch_off.ensures.counts steps (c.advance.ensures.counts steps (c.loop-branch.invariant.counts steps one))
+          (c.loop-branch.invariant.counted steps one before);
+    }
+
+pub choose-requires-clause-at : goal.choose-requires-clause-at
+choose-requires-clause-at c =
+    let acts : AreOfRanks c.advance.new.sim c.in-Some.found.items = rw c.in-Some.is at c.in_ok-found.ensures.acts in
+    let size : length c.in-Some.found.items ≡ vec_len c.in-Some.found =
+    subst (λ xs. length xs ≡ vec_len c.in-Some.found) c.deref.ensures.value c.deref.ensures.len in
+    let some : 0 < length c.in-Some.found.items =
+    has_first c.in-Some.found.items (vec_len c.in-Some.found) c.is_empty.result c.is_empty.ensures c.if-is_empty.false size in
+    let there : slice_get c.in-Some.found.items 0 ≡ Some c.index.result.now =
+    slice_get_read c.in-Some.found.items (length c.in-Some.found.items) 0 c.index.result.now refl some c.index.ensures in
+    (acts c.index.result.now (0, there)).1
+
+pub returns-in_default-clause-beyond : goal.returns-in_default-clause-beyond
+returns-in_default-clause-beyond c = λ e steps one.
+    (let counts = c.advance.ensures.counts steps (c.loop-branch.invariant.counts steps one) in
+    let inside = c.in_ok-found.ensures.inside (rw c.in_default.is refl) in
+    let plays = c.loop-branch.invariant.plays in
+    beyond_alike c.args.branch.now.sim.program (length c.args.branch.now.sim.machines) c.advance.new.sim steps
+    (c.advance.ensures.leads.program ∙ plays.alike.program) (c.advance.ensures.leads.ranks ∙ plays.alike.ranks)
+    (beyond_inside c.advance.new.sim c.advance.new.left steps c.advance.ensures.leads.stands inside c.advance.ensures.stops counts))
+
+pub returns-then-is_spent-clause-beyond : goal.returns-then-is_spent-clause-beyond
+returns-then-is_spent-clause-beyond c = λ e steps one.
+    (let acts : AreOfRanks c.advance.new.sim c.in-Some.found.items = rw c.in-Some.is at c.in_ok-found.ensures.acts in
+    let counts = c.advance.ensures.counts steps (c.loop-branch.invariant.counts steps one) in
+    let none = rw c.deref.ensures.value at (c.is_spent.ensures.yes c.if-is_spent.true) in
+    let plays = c.loop-branch.invariant.plays in
+    beyond_alike c.args.branch.now.sim.program (length c.args.branch.now.sim.machines) c.advance.new.sim steps
+    (c.advance.ensures.leads.program ∙ plays.alike.program) (c.advance.ensures.leads.ranks ∙ plays.alike.ranks)
+    (beyond_move c.advance.new.sim c.advance.new.left c.in-Some.found.items steps c.advance.ensures.leads.stands acts none counts))

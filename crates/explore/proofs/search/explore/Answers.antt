@@ -1,26 +1,51 @@
-use Rattle.std.proofs.Common.{◌≡◌, Bool, true, false, List, [], sym, subst, ◌∙◌, arith}
+use Rattle.std.proofs.Common.{◌≡◌, Bool, true, false, List, [], ◌∷◌, ◌++◌, sym, subst, ◌∙◌, arith}
 use Rattle.explore.specs.declared.branch.Branch.{Branch}
 use Rattle.explore.specs.Searching.{Searches}
+use Rattle.explore.specs.Counts.{AllCount}
 use Rattle.explore.proofs.Among.{popped_some, popped_none}
-use Rattle.explore.proofs.Searching.{rest_alike, searches_on, all_outcomes, all_orders_end}
+use Rattle.explore.proofs.Beyond.{counts_one, counts_on, beyond_on}
+use Rattle.explore.proofs.Searching.{searches_all, rest_alike, searches_on, all_outcomes, all_orders_end}
 use Rattle.explore.proofs.search.explore.Goals.{After-drop-pending-2, else-loop-runs-test, then-loop-runs-test+in_default}
 use Rattle.explore.proofs.search.explore.Goals as goal
+
+pub loop-runs-init : goal.loop-runs-init
+loop-runs-init c =
+    record {
+      few = omega arith;
+      search =
+          rw (c.in_ok-push.ensures.items, c.new-pending.ensures.items, c.new-outcomes.ensures.items)
+          (searches_all c.args.program.now c.args.ranks c.in_ok-new.field-0 c.in_ok-new.ensures.begins);
+      counted =
+          rw (c.in_ok-push.ensures.items, c.new-pending.ensures.items)
+          (counts_one c.args.limits.steps c.in_ok-new.field-0 c.in_ok-new.ensures.counts);
+      beyond = λ e. absurd cc;
+    }
 
 pub look-requires-clause-alike : goal.look-requires-clause-alike
 look-requires-clause-alike c =
     let last = popped_some c.loop-runs.pending.items c.pop.new.self.items c.pop.result c.in-Some.branch c.pop.ensures.items c.in-Some.is in
     rest_alike c.args.program.now c.args.ranks c.loop-runs.outcomes.items c.pop.new.self.items c.loop-runs.out_of_steps c.in-Some.branch
-    (subst (λ z. Searches c.args.program.now c.args.ranks c.loop-runs.outcomes.items z c.loop-runs.out_of_steps) last c.loop-runs.invariant.1)
+    (subst (λ z. Searches c.args.program.now c.args.ranks c.loop-runs.outcomes.items z c.loop-runs.out_of_steps) last c.loop-runs.invariant.search)
 
 pub loop-runs-preserved : goal.loop-runs-preserved
 loop-runs-preserved c =
-    let last = popped_some c.loop-runs.pending.items c.pop.new.self.items c.pop.result c.in-Some.branch c.pop.ensures.items c.in-Some.is in (
-      omega (arith, c.loop-runs-test.true),
-      searches_on c.args.program.now c.args.ranks c.loop-runs.outcomes.items c.look.new.outcomes.items c.pop.new.self.items c.look.new.pending.items
-          c.loop-runs.out_of_steps c.is_cut-out_of_steps.result c.in_ok-ended.ended c.in-Some.branch
-          (subst (λ z. Searches c.args.program.now c.args.ranks c.loop-runs.outcomes.items z c.loop-runs.out_of_steps) last c.loop-runs.invariant.1)
-          c.in_ok-ended.ensures c.is_cut-out_of_steps.ensures,
-    )
+    let last = popped_some c.loop-runs.pending.items c.pop.new.self.items c.pop.result c.in-Some.branch c.pop.ensures.items c.in-Some.is in
+    let search =
+    subst (λ z. Searches c.args.program.now c.args.ranks c.loop-runs.outcomes.items z c.loop-runs.out_of_steps) last c.loop-runs.invariant.search in
+    let counted : AllCount c.args.limits.steps (c.pop.new.self.items ++ c.in-Some.branch ∷ []) =
+    subst (λ z. AllCount c.args.limits.steps z) last c.loop-runs.invariant.counted in
+    record {
+      few = omega (arith, c.loop-runs-test.true);
+      search =
+          searches_on c.args.program.now c.args.ranks c.loop-runs.outcomes.items c.look.new.outcomes.items c.pop.new.self.items c.look.new.pending.items
+          c.loop-runs.out_of_steps c.is_cut-out_of_steps.result c.in_ok-ended.ended c.in-Some.branch search c.in_ok-ended.ensures.looks
+          c.is_cut-out_of_steps.ensures.no;
+      counted = counts_on c.args.limits.steps c.pop.new.self.items c.look.new.pending.items c.in-Some.branch counted c.in_ok-ended.ensures.counts;
+      beyond =
+          λ e.
+          beyond_on c.args.program.now c.args.ranks c.args.limits.steps c.loop-runs.outcomes.items c.pop.new.self.items c.loop-runs.out_of_steps
+          c.in_ok-ended.ended c.in-Some.branch search counted c.loop-runs.invariant.beyond c.in_ok-ended.ensures.beyond (c.is_cut-out_of_steps.ensures.yes e);
+    }
 
 -- with no branch left, and no run cut off
 none_left : (c : After-drop-pending-2) → c.is_complete-complete.result ≡ true → Searches c.args.program.now c.args.ranks c.loop-runs.outcomes.items [] false
@@ -31,11 +56,11 @@ none_left c e =
     (subst (λ (z : List Branch). Searches c.args.program.now c.args.ranks c.loop-runs.outcomes.items z c.loop-runs.out_of_steps) none
     (elim c.loop-runs-test.branch as (λ _. Searches c.args.program.now c.args.ranks c.loop-runs.outcomes.items c.loop-runs-test.pending.items
     c.loop-runs.out_of_steps) [
-      | else-loop-runs-test w ↦ rw w.pending-is c.loop-runs.invariant.1
+      | else-loop-runs-test w ↦ rw w.pending-is c.loop-runs.invariant.search
       | then-loop-runs-test+in_default w ↦
           rw w.pending-is
           (subst (λ (z : List Branch). Searches c.args.program.now c.args.ranks c.loop-runs.outcomes.items z c.loop-runs.out_of_steps)
-          (popped_none c.loop-runs.pending.items w.pop.new.self.items w.pop.result w.pop.ensures.items w.in_default.is) c.loop-runs.invariant.1)
+          (popped_none c.loop-runs.pending.items w.pop.new.self.items w.pop.result w.pop.ensures.items w.in_default.is) c.loop-runs.invariant.search)
     ]))
 
 pub returns-clause-complete : goal.returns-clause-complete
