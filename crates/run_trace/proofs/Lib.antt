@@ -1,0 +1,2 @@
+mod ClockLemmas
+mod PlacesLemmas

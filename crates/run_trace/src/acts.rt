@@ -3,7 +3,7 @@
 use crate::columns::{digits, put_right};
 use crate::given::Told;
 use crate::message::{Message, put_collective, put_content, put_tag};
-use crate::places::Place;
+use crate::place::Place;
 use crash_free::{Act, Passed};
 use metered::Heap;
 use std::alloc::AllocError;

@@ -2,7 +2,7 @@
 
 use crate::deliveries::Delivery;
 use crate::fates::Fated;
-use crate::places::Place;
+use crate::place::Place;
 use audit::Outcome;
 use crash_free::{Passed, Sim};
 use script_text::ScriptLine;

@@ -15,10 +15,12 @@ mod json;
 mod left;
 mod message;
 mod orders;
+mod place;
 mod places;
 mod trace;
 mod words;
 
 pub use given::Given;
-pub use places::{Place, places_of};
+pub use place::Place;
+pub use places::places_of;
 pub use trace::{trace_json, trace_text};

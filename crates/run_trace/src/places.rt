@@ -1,28 +1,26 @@
 //! Where each act of a run was made.
-ghost use Rattle.std.specs.Prelude.{◌≤◌};
+ghost use Rattle.std.specs.Prelude.{◌≡◌, ◌≤◌, ◌<◌, ◌+◌, IfOk, OnOk, length, min, slice_index_or, slice_set};
 ghost use Rattle.metered.specs.Limits.{most_ranks};
+ghost use Rattle.crash_free.specs.Seen.{act_of};
+ghost use Rattle.run_trace.specs.Places.{AreFound, IsMadeAt, choice_of, greatest_clock, is_try};
+ghost use Rattle.run_trace.specs.Clocks.{AreCounted};
 
+mod seen;
+
+use crate::place::Place;
 use crash_free::{Act, Choice, Passed, Sim};
 use metered::Heap;
 use metered::limits::MOST_RANKS;
 use rank_language::Program;
 use rank_machine::Want;
+use seen::is_there;
 use std::alloc::AllocError;
 
-/// Where a rank stood when it made an act.
-#[derive(Clone, Copy, Debug, PartialEq, Eq)]
-pub struct Place {
-    /// The number of acts of the rank up to this one.
-    pub clock: u32,
-    /// The position of the statement, from 0.
-    pub position: usize,
-    /// Whether it was a probe that doesn't wait.
-    pub tries: bool,
-}
-
 /// Where each act of a run of the program was made, in the order of the acts: the
-/// run is made once more. An `Err` is want of memory, or says that these acts
-/// aren't a run of the program.
+/// run is made once more, and each act is told where it is seen to be made again.
+///
+/// An `Err` is want of memory, where `audit::find_run` found the run. Of other acts
+/// it also says that one of them couldn't be made where the ones before it lead.
 pub fn places_of(
     alloc: Heap,
     program: &Program,
@@ -31,6 +29,7 @@ pub fn places_of(
 ) -> Result<Vec<Place, Heap>, AllocError>
     requires some { 1 ≤ ranks }
     requires few { ranks ≤ most_ranks }
+    ensures { IfOk result (λ places. AreFound program.now ranks acts.now places.items) }
 {
     let mut sim = Sim::new(alloc, program, ranks)?;
     let mut clocks = [0u32; MOST_RANKS];
@@ -43,35 +42,54 @@ pub fn places_of(
 }
 
 // Makes the act, and says where.
+#[tactic(auto, using(crate::proofs::PlacesLemmas::made_at))]
 fn made(
     sim: &mut Sim<'_>,
     clocks: &mut [u32; MOST_RANKS],
     passed: &Passed,
-) -> Result<Place, AllocError> {
+) -> Result<Place, AllocError>
+    requires few { length sim.old.machines ≤ most_ranks }
+    requires counted { AreCounted sim.old.run clocks.old }
+    ensures ok { IfOk result (λ place. IsMadeAt sim.old passed.now place sim.new) }
+    ensures counted { OnOk result (AreCounted sim.new.run clocks.new) }
+    ensures ranks { OnOk result (length sim.new.machines ≡ length sim.old.machines) }
+{
     let rank = passed.rank;
     if rank >= sim.ranks() {
         return Err(AllocError);
     }
+    let before = sim.acts().len();
     sim.stride(rank, u32::MAX);
-    if rank >= sim.ranks() {
-        return Err(AllocError);
-    }
-    let Some(clock) = clocks.get_mut(usize::from(rank)) else {
-        return Err(AllocError);
-    };
-    *clock = clock.saturating_add(1);
-    let place = Place {
-        clock: *clock,
-        position: sim.machine(rank).position(),
-        tries: is_try(sim.wants(rank)),
-    };
+    let position = sim.machine(rank).position();
+    let tries = is_try(sim.wants(rank));
     if sim.act(rank, choice_of(&passed.act)).is_err() {
         return Err(AllocError);
     }
-    Ok(place)
+    if !is_there(sim.acts(), before, passed) {
+        return Err(AllocError);
+    }
+    let clock = next_clock(clocks, rank);
+    Ok(Place {
+        clock,
+        position,
+        tries,
+    })
 }
 
-fn is_try(want: Want) -> bool {
+// Counts an act of the rank, and answers its clock.
+fn next_clock(clocks: &mut [u32; MOST_RANKS], rank: u8) -> u32
+    requires { rank < most_ranks }
+    ensures value { result ≡ min (slice_index_or clocks.old rank 0 + 1) greatest_clock }
+    ensures kept { clocks.new ≡ slice_set clocks.old rank result }
+{
+    let clock = clocks[usize::from(rank)].saturating_add(1);
+    clocks[usize::from(rank)] = clock;
+    clock
+}
+
+fn is_try(want: Want) -> bool
+    ensures { result ≡ is_try want }
+{
     match want {
         Want::TryProbe(_) => true,
         Want::Internal
@@ -85,7 +103,9 @@ fn is_try(want: Want) -> bool {
 }
 
 // The choice that makes the act again.
-fn choice_of(act: &Act) -> Choice {
+fn choice_of(act: &Act) -> Choice
+    ensures { result ≡ choice_of (act_of act.now) }
+{
     match act {
         Act::Sends { .. } | Act::Prints(_) => Choice::Next,
         Act::Takes { source, place } | Act::Hits { source, place } => Choice::Take {

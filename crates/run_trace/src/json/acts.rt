@@ -4,7 +4,7 @@ use super::line::Line;
 use crate::acts::{message_of, sent};
 use crate::given::Told;
 use crate::message::{Message, call_items, call_name, call_number};
-use crate::places::Place;
+use crate::place::Place;
 use crash_free::{Act, Passed};
 use matching::Context;
 use metered::Heap;

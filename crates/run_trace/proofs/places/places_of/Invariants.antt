@@ -1,0 +1,13 @@
+use Rattle.std.proofs.Common.{◌≡◌, ◌≤◌, length, take}
+use Rattle.metered.specs.Limits.{most_ranks}
+use Rattle.run_trace.specs.Clocks.{AreCounted}
+use Rattle.run_trace.specs.Places.{ArePlaces}
+use Rattle.run_trace.proofs.places.places_of.Given as goal
+
+-- the acts so far were made, and their clocks are counted
+abbrev pub invariant-loop-passed : goal.invariant-loop-passed
+invariant-loop-passed l = record {
+  made : ArePlaces l.initial.sim (take l.passed-index l.acts) l.places.items l.sim;
+  counted : AreCounted l.sim.run l.clocks;
+  few : length l.sim.machines ≤ most_ranks;
+}
