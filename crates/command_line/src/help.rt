@@ -154,12 +154,20 @@ them a line says so that begins with #, as one does before the acts.
 With --json each of these lines is an object of JSON, with all items of a
 message.
 
+With --picture the same run is printed as a picture, an SVG file: a line for
+each rank, with its acts and its crashes, and arrows for messages. Times go from
+left to right: an act's time is 1 more than that of the rank's act before, and
+than that of the send whose message it takes or finds. --from and --to choose a
+part by these times. Of a run that is too wide the first and the last times are
+drawn.
+
 Idle turns, the script, faults and the exit status are as `ftmpi run --help` has
 them.
 
 Examples, at the top of the repository:
   ./ftmpi trace --ranks 2 examples/answer.rank
   ./ftmpi trace --ranks 2 --idle 100 examples/stalled.rank
+  ./ftmpi trace --ranks 4 --picture examples/ring.rank > ring.svg
 
 docs/RUNS.md shows how to read a trace.";
 

@@ -2,7 +2,7 @@
 use crate::help;
 use crate::job::{RunJob, run_of};
 use crate::syntax::of_a_run;
-use clap::{Arg, ArgAction, ArgMatches, Command};
+use clap::{Arg, ArgAction, ArgMatches, Command, value_parser};
 use std::alloc::{AllocError, Global};
 
 /// In which form a run is told.
@@ -12,6 +12,8 @@ pub enum TraceForm {
     Text,
     /// JSON, an object a line.
     Json,
+    /// A picture, from one time of the run's acts to another.
+    Picture { from: u32, to: u32 },
 }
 
 /// One run that is told.
@@ -26,7 +28,11 @@ pub fn trace<'a>(alloc: Global) -> Result<Command<'a>, AllocError> {
     let command = Command::new(alloc, "trace")
         .about("Runs a program and prints what each rank did, and why it ended")
         .after_help(help::TRACE);
-    of_a_run(alloc, command)?.arg(json(alloc))
+    of_a_run(alloc, command)?
+        .arg(json(alloc))?
+        .arg(picture(alloc)?)?
+        .arg(time(alloc, "from", "The first time drawn, 1 to 1000000000")?)?
+        .arg(time(alloc, "to", "The last time drawn, 1 to 1000000000")?)
 }
 
 fn json<'a>(alloc: Global) -> Arg<'a> {
@@ -34,6 +40,26 @@ fn json<'a>(alloc: Global) -> Arg<'a> {
         .long("json")
         .help("Tells the same as JSON, an object a line")
         .action(ArgAction::SetTrue)
+}
+
+fn picture<'a>(alloc: Global) -> Result<Arg<'a>, AllocError> {
+    Arg::new(alloc, "picture")
+        .long("picture")
+        .help("Prints a picture of the run, one SVG file (below)")
+        .action(ArgAction::SetTrue)
+        .conflicts_with("json")
+}
+
+fn time<'a>(alloc: Global, id: &'a str, help: &'a str) -> Result<Arg<'a>, AllocError> {
+    Arg::new(alloc, id)
+        .long(id)
+        .value_name("C")
+        .help(help)
+        .action(ArgAction::Set)
+        .value_parser(value_parser!(u32).range(1..=1000000000))
+        .requires_arg("picture")?
+        // What an argument requires isn't missed where it conflicts with one that is there, as `--picture` does with `--json`.
+        .conflicts_with("json")
 }
 
 /// The job that the words ask for.
@@ -44,9 +70,15 @@ pub fn trace_of<'a>(inner: &ArgMatches<'a>) -> Option<TraceJob<'a>> {
     })
 }
 
+// Without `--from` and `--to` the whole run is drawn.
 fn form_of(inner: &ArgMatches<'_>) -> TraceForm {
     if inner.get_flag("json") {
         TraceForm::Json
+    } else if inner.get_flag("picture") {
+        TraceForm::Picture {
+            from: inner.get_one::<u32>("from").unwrap_or(1),
+            to: inner.get_one::<u32>("to").unwrap_or(u32::MAX),
+        }
     } else {
         TraceForm::Text
     }

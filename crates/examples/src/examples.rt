@@ -1,7 +1,7 @@
 //! Runs, checks and worlds of the examples.
 
 /// The words of each run, after the program's name.
-pub const RUNS: [&str; 80] = [
+pub const RUNS: [&str; 81] = [
     "run --ranks 2 examples/answer.rank",
     "run --ranks 4 examples/ring.rank",
     "run --ranks 2 examples/ping_pong.rank",
@@ -50,6 +50,7 @@ pub const RUNS: [&str; 80] = [
     "trace --ranks 2 examples/answer.rank",
     "trace --ranks 2 examples/division.rank",
     "trace --ranks 2 --idle 100 examples/stalled.rank",
+    "trace --ranks 2 --picture examples/answer.rank",
     "explore --ranks 3 examples/first_come.rank",
     "check examples/canonical.rank",
     "check examples/refused.rank",

@@ -26,6 +26,8 @@ mod meeting;
 #[cfg(test)]
 mod outcomes;
 #[cfg(test)]
+mod pictures;
+#[cfg(test)]
 mod refusals;
 #[cfg(test)]
 mod reports;

@@ -1,4 +1,6 @@
 //! All outcomes of programs, as `explore` prints them. What is expected was found by hand: each order of the ranks, act by act.
+mod stopped;
+
 use crate::scenes::{Run, expect_answer};
 use std::process::Abort;
 use std::sync::Wait;
@@ -293,66 +295,4 @@ outcomes 2, runs 2, complete
 #[test]
 fn several_outcomes(rt: HostRuntime) -> Result<(), Fail> {
     expect_outcomes(&rt, &SEVERAL)
-}
-
-/// Searches that a limit stops.
-const STOPPED: [Run; 4] = [
-    (
-        "--ranks 3 --runs 1",
-        "var x\nif rank == 0\nrecv any, any, x\nprint source\nelse\nsend 0, 0, 0\nend\n",
-        1,
-        "\
-outcome 1
-0> 1
-rank 0: halted
-rank 1: halted
-rank 2: halted
-
-# not all was looked at: allow more runs (--runs)
-outcomes 1, runs 1, stopped
-",
-    ),
-    // The one run is all there is.
-    (
-        "--ranks 1 --runs 1 --steps 1",
-        "print 5\n",
-        0,
-        "\
-outcome 1
-0> 5
-rank 0: halted
-
-# one outcome: whatever the order, this program prints this
-outcomes 1, runs 1, complete
-",
-    ),
-    (
-        "--ranks 1 --runs 2 --steps 1",
-        "print 5\nprint 6\n",
-        1,
-        "\
-# not all was looked at: allow more steps (--steps)
-outcomes 0, runs 1, stopped
-",
-    ),
-    // Each miss is one run more, as far as the steps of the loop go: three of its own and the probe a round.
-    (
-        "--ranks 2 --steps 14",
-        "var f\nif rank == 0\nwhile f == 0\niprobe 1, 0, f\nend\nprint f\nelse\nsend 0, 0, 1\nend\n",
-        1,
-        "\
-outcome 1
-0> 1
-rank 0: halted
-rank 1: halted
-
-# not all was looked at: allow more steps (--steps)
-outcomes 1, runs 5, stopped
-",
-    ),
-];
-
-#[test]
-fn stopped(rt: HostRuntime) -> Result<(), Fail> {
-    expect_outcomes(&rt, &STOPPED)
 }

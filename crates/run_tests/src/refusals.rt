@@ -232,7 +232,7 @@ fn refused(rt: HostRuntime) -> Result<(), Fail> {
 }
 
 /// Words that are refused, or that ask for help, or for a run, with the exit status.
-const WORDS: [(&str, u8); 37] = [
+const WORDS: [(&str, u8); 46] = [
     ("run --ranks 1 p", 0),
     ("run --ranks 16 --script s --idle 1 --steps 1000000000 p", 0),
     ("run --ranks 02 p", 0),
@@ -253,6 +253,15 @@ const WORDS: [(&str, u8); 37] = [
     ("run --ranks 1 --json p", 3),
     ("trace --ranks 1 --json p", 0),
     ("trace --ranks 1 --json --json p", 3),
+    ("run --ranks 1 --picture p", 3),
+    ("trace --ranks 1 --picture p", 0),
+    ("trace --ranks 1 --picture --from 1000000000 --to 1 p", 0),
+    ("trace --ranks 1 --picture --json p", 3),
+    ("trace --ranks 1 --from 2 p", 3),
+    ("trace --ranks 1 --to 2 p", 3),
+    ("trace --ranks 1 --json --to 2 p", 3),
+    ("trace --ranks 1 --picture --from 0 p", 3),
+    ("trace --ranks 1 --picture --to 1000000001 p", 3),
     ("trace p", 3),
     ("jump", 3),
     ("check --help", 0),

@@ -9,7 +9,7 @@ use std::rt::Env;
 use std::test::Fail;
 
 /// The words of a run, with its ranks, idle turns, steps and program, and of one that is told its form.
-const RUNS: [(&str, &str); 6] = [
+const RUNS: [(&str, &str); 8] = [
     ("ftmpi run --ranks 1 p", "1 1000000 1000000 p"),
     ("ftmpi run --ranks 16 --idle 5 p", "16 5 1000000 p"),
     ("ftmpi run --ranks 2 --steps 7 p", "2 1000000 7 p"),
@@ -21,6 +21,14 @@ const RUNS: [(&str, &str); 6] = [
     (
         "ftmpi trace --json --idle 5 --ranks 1 p",
         "1 5 1000000 p Json",
+    ),
+    (
+        "ftmpi trace --picture --ranks 1 p",
+        "1 1000000 1000000 p Picture { from: 1, to: 4294967295 }",
+    ),
+    (
+        "ftmpi trace --to 9 --picture --ranks 1 --from 3 p",
+        "1 1000000 1000000 p Picture { from: 3, to: 9 }",
     ),
 ];
 
@@ -191,4 +199,31 @@ fn read_long(rt: &impl Abort, alloc: Global, lengths: &[usize]) -> Result<(), Fa
 #[test]
 fn long_arguments(rt: HostRuntime) -> Result<(), Fail> {
     read_long(&rt, rt.alloc(), &[0, 255, 256, 257, 512, 100000])
+}
+
+// There are as many words as arguments, and the last one is theirs.
+fn read_many(rt: &impl Abort, alloc: Global, counts: &[usize]) -> Result<(), Fail> {
+    for count in counts {
+        let mut arguments = vec![in alloc; b"ftmpi".as_slice(); *count]?;
+        arguments.push(b"last".as_slice())?;
+        let called = Called {
+            alloc,
+            arguments: arguments.as_slice(),
+        };
+        let found = match words_given(&called) {
+            Ok(words) => {
+                let is_there = words.last().is_some_and(|word| word.as_str() == "last");
+                (words.len(), is_there)
+            }
+            Err(_) => (0, false),
+        };
+        let want = (count.saturating_add(1), true);
+        assert_eq!(rt; found, want, "at {count} arguments");
+    }
+    Ok(())
+}
+
+#[test]
+fn many_arguments(rt: HostRuntime) -> Result<(), Fail> {
+    read_many(&rt, rt.alloc(), &[0, 1, 63, 64, 255, 256, 10000])
 }

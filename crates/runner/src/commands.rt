@@ -9,13 +9,15 @@
 //! | 3 | the words are refused |
 //! | 4 | there is no memory |
 //! | 5 | standard output can't be written |
-ghost use Rattle.std.specs.Prelude.{◌≤◌, OnOk};
+ghost use Rattle.std.specs.Prelude.{◌≡◌, ◌≢◌, ◌≤◌, IfOk, OnOk, string_bytes};
 ghost use Rattle.std.specs.Io.KnownBytes.{Appends};
+ghost use Rattle.runner.specs.Statuses.{status_without_job, help_in, mistake_in};
 
 mod check;
 mod explain;
 mod exploring;
 mod job;
+mod picture;
 mod reading;
 mod refusal;
 mod said;
@@ -49,18 +51,25 @@ pub fn command<R: Threads + Wait + Sync + Copy + Send + AllocGlobal, F: Files, O
     ensures { result ≤ 5 }
 {
     match speak(rt, alloc, words, files) {
-        Ok(said) => {
-            if write_whole(out, said.out.as_slice()).is_err() {
-                return 5;
-            }
-            let _ = write_whole(err, said.err.as_bytes());
-            said.status
-        }
+        Ok(said) => tell(&said, out, err),
         Err(_) => {
             let _ = write_whole(err, b"out of memory\n");
             4
         }
     }
+}
+
+// What is said is written whole to standard output, or the status is 5.
+fn tell<O: Write, E: Write>(said: &Said, out: &mut O, err: &mut E) -> u8
+    ensures status { result ≢ 5 → result ≡ said.now.status }
+    ensures out { result ≢ 5 → Appends (O.contents out.old) (O.contents out.new) said.now.out.items }
+    ensures known { result ≤ 5 }
+{
+    if write_whole(out, said.out.as_slice()).is_err() {
+        return 5;
+    }
+    let _ = write_whole(err, said.err.as_bytes());
+    said.status
 }
 
 // What isn't flushed isn't written: a stream may keep what it takes.
@@ -87,7 +96,11 @@ fn speak<R: Threads + Wait + Sync + Copy + Send + AllocGlobal, F: Files>(
 }
 
 // Help goes to standard output with status 0, a mistake in the words to standard error with status 3.
-fn refuse(alloc: Heap, no_job: &NoJob) -> Result<Said, AllocError> {
+fn refuse(alloc: Heap, no_job: &NoJob) -> Result<Said, AllocError>
+    ensures status { IfOk result (λ said. said.status ≡ status_without_job no_job.now) }
+    ensures out { IfOk result (λ said. said.out.items ≡ help_in no_job.now) }
+    ensures err { IfOk result (λ said. string_bytes said.err ≡ mistake_in no_job.now) }
+{
     match no_job {
         NoJob::Help(text) => {
             let text = String::from_str(alloc, text.as_str())?;

@@ -1,4 +1,6 @@
 //! All outcomes of a job's program.
+ghost use Rattle.std.specs.Prelude.{◌≡◌};
+
 use crate::commands::reading::text_in;
 use crate::commands::refusal::Refusal;
 use crate::commands::said::Said;
@@ -33,10 +35,7 @@ fn found_of(
     text: &[u8],
     program: &Program,
 ) -> Result<Said, AllocError> {
-    let limits = Limits {
-        runs: job.runs,
-        steps: job.steps,
-    };
+    let limits = limits_of(job);
     let found = explore(alloc, program, job.ranks, limits)?;
     let lines = statement_lines(alloc, text)?;
     let text = print_explored(alloc, &found, limits, lines.as_slice())?;
@@ -46,4 +45,14 @@ fn found_of(
         1
     };
     Ok(Said::answer(alloc, status, text.into_bytes()))
+}
+
+fn limits_of(job: ExploreJob<'_>) -> Limits
+    ensures runs { result.runs ≡ job.entry.runs }
+    ensures steps { result.steps ≡ job.entry.steps }
+{
+    Limits {
+        runs: job.runs,
+        steps: job.steps,
+    }
 }

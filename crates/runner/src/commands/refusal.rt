@@ -39,7 +39,10 @@ pub enum Refusal<'a> {
 impl<'a> Refusal<'a> {
     ghost use Rattle.runner.specs.Refusals.{status_of};
 
-    pub fn of_file(name: &'a str, fault: FileFault) -> Refusal<'a> {
+    pub fn of_file(name: &'a str, fault: FileFault) -> Refusal<'a>
+        ensures cannot { fault ≡ FileFault.Cannot → result ≡ Refusal.CannotRead name.entry }
+        ensures memory { fault ≡ FileFault.Memory → result ≡ Refusal.Memory }
+    {
         match fault {
             FileFault::Cannot => Refusal::CannotRead(name),
             FileFault::Memory => Refusal::Memory,

@@ -1,5 +1,9 @@
-//! A job's run, told act by act.
-use crate::commands::job::Nobody;
+//! A job's run, told act by act, or drawn.
+ghost use Rattle.std.specs.Prelude.{IfOk};
+ghost use Rattle.runner.specs.Statuses.{HasStatus};
+
+use crate::commands::job::{Nobody, limits_of};
+use crate::commands::picture::picture_text;
 use crate::commands::reading::text_in;
 use crate::commands::refusal::Refusal;
 use crate::commands::said::Said;
@@ -10,7 +14,8 @@ use command_line::{RunJob, TraceForm, TraceJob};
 use crash_free::Sim;
 use metered::Heap;
 use rank_language::Program;
-use rank_threads::{Report, RunFault, RunLimits, run};
+use rank_threads::{Report, RunFault, run};
+use run_picture::Span;
 use run_trace::{Given, trace_json, trace_text};
 use script_text::Script;
 use statement_lines::statement_lines;
@@ -77,10 +82,7 @@ fn told<R: Threads + Wait + Sync + Copy + Send>(
     text: &[u8],
     asked: &Asked,
 ) -> Result<Said, RunFault> {
-    let limits = RunLimits {
-        idle: job.run.idle,
-        steps: job.run.steps,
-    };
+    let limits = limits_of(job.run);
     let script = &asked.script;
     let report = run(rt, alloc, program, job.run.ranks, script, limits, &Nobody)?;
     told_of(alloc, job, program, text, asked, &report)
@@ -93,7 +95,9 @@ fn told_of(
     text: &[u8],
     asked: &Asked,
     report: &Report,
-) -> Result<Said, RunFault> {
+) -> Result<Said, RunFault>
+    ensures status { IfOk result (λ said. HasStatus report.now.outcome said.status) }
+{
     let lines = statement_lines(alloc, text)?;
     let given = Given {
         text,
@@ -116,12 +120,12 @@ fn told_of(
 }
 
 // The run that was found, in the form that is asked for.
-fn in_form(
+fn in_form<'a>(
     alloc: Heap,
     job: TraceJob<'_>,
     program: &Program,
-    found: &Sim<'_>,
-    given: Given<'_>,
+    found: &'a Sim<'_>,
+    given: Given<'a>,
     report: &Report,
 ) -> Result<String<Heap>, AllocError> {
     let ranks = job.run.ranks;
@@ -132,5 +136,8 @@ fn in_form(
             Ok(text)
         }
         TraceForm::Json => trace_json(alloc, program, ranks, found, given),
+        TraceForm::Picture { from, to } => {
+            picture_text(alloc, job.run, found, given, Span { from, to })
+        }
     }
 }

@@ -1,0 +1,12 @@
+-- Once the iterator has no letter left, those that it yielded are the letters of the text.
+use Rattle.std.proofs.Common.{◌++◌, flat_map, sym, ap, ◌∙◌, map-id}
+use Rattle.std.specs.String.{string_bytes}
+use Rattle.std.proofs.lemmas.Iterator.{YieldsList-from_chars}
+use Rattle.std.proofs.lemmas.Iterator.Consumers.{YieldsList-end}
+use Rattle.run_picture.specs.Escaped.{escaped}
+use Rattle.run_picture.proofs.drawing.escaped.put_escaped.Goals as goal
+
+pub returns : goal.returns
+returns c =
+    let end = YieldsList-end (YieldsList-from_chars c.args.text.now c.utf8.text cc) c.loop-letter.yielded _ c.loop-letter.yielded_by _ _ c.in-None.is c.next.ensures.steps in
+    c.loop-letter.invariant ∙ ap (λ letters. string_bytes c.args.to.now ++ flat_map escaped letters) (sym (map-id c.loop-letter.yielded) ∙ end.0)

@@ -1,0 +1,6 @@
+use Rattle.std.proofs.Common.{◌≡◌, map, take}
+use Rattle.run_picture.specs.Marks.{made_of, told_of}
+use Rattle.run_picture.proofs.layout.times.Times.of.Given as goal
+
+abbrev pub invariant-loop-passed : goal.invariant-loop-passed
+invariant-loop-passed l = map told_of l.times.moments.items ≡ map made_of (take l.passed-index l.acts)

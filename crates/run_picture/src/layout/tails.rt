@@ -1,0 +1,79 @@
+//! What is said at the ends of lines.
+
+use crate::layout::measures::OVERHANG;
+use crate::layout::scene::{Seen, Tail, TailKind};
+use audit::End;
+use metered::Heap;
+use rank_machine::MachineFault;
+use std::alloc::AllocError;
+use std::fmt::Write;
+
+/// How the rank's line ends.
+pub fn tail_of(seen: &Seen<'_>, rank: usize, end: End) -> Result<Tail, AllocError> {
+    let later = acts_behind(seen, rank);
+    let mut text = String::new(seen.alloc);
+    if later > 0 {
+        let acts = if later == 1 { "act" } else { "acts" };
+        write!(text, "{later} {acts}, then ")?;
+    }
+    put_end(&mut text, end)?;
+    let kind = if later > 0 {
+        TailKind::GoesOn
+    } else {
+        kind_of(end)
+    };
+    let last = seen.columns.column(seen.times.reached_by(rank).time).x();
+    let rests_from = if later > 0 {
+        seen.columns.right.saturating_sub(2 * OVERHANG)
+    } else {
+        last
+    };
+    Ok(Tail {
+        kind,
+        text,
+        rests_from,
+    })
+}
+
+// How many acts the rank makes behind the part that is drawn.
+fn acts_behind(seen: &Seen<'_>, rank: usize) -> usize {
+    seen.times
+        .moments
+        .iter()
+        .filter(|moment| moment.rank == rank && moment.time > seen.columns.to)
+        .count()
+}
+
+fn kind_of(end: End) -> TailKind {
+    match end {
+        End::Halted => TailKind::Halted,
+        End::Faulted(_) => TailKind::Faulted,
+        End::Stalled => TailKind::Stalled,
+        End::Unfinished => TailKind::Unfinished,
+    }
+}
+
+fn put_end(text: &mut String<Heap>, end: End) -> Result<(), AllocError> {
+    match end {
+        End::Halted => write!(text, "halted"),
+        End::Faulted(fault) => {
+            let number = fault.number();
+            let name = name_of(fault);
+            write!(text, "fault {number} {name}")
+        }
+        End::Stalled => write!(text, "stalled"),
+        End::Unfinished => write!(text, "unfinished"),
+    }
+}
+
+fn name_of(fault: MachineFault) -> &'static str {
+    match fault {
+        MachineFault::Overflow => "Overflow",
+        MachineFault::ZeroDivide => "ZeroDivide",
+        MachineFault::Index => "Index",
+        MachineFault::BadRank => "BadRank",
+        MachineFault::BadTag => "BadTag",
+        MachineFault::TooLong => "TooLong",
+        MachineFault::CollectiveMismatch => "CollectiveMismatch",
+    }
+}

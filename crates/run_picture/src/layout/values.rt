@@ -1,0 +1,95 @@
+//! What is said of messages, in few letters.
+
+use crash_free::{Act, Passed};
+use matching::Context;
+use metered::Heap;
+use std::alloc::AllocError;
+use std::fmt::Write;
+
+/// How many items of a message are shown.
+const MOST_ITEMS_SHOWN: usize = 3;
+
+/// A collective, as its packets name it.
+#[derive(Clone, Copy, PartialEq, Eq)]
+pub struct Collective {
+    pub kind: i64,
+    pub root: i64,
+    pub ordinal: i64,
+}
+
+/// The collective of which this act sends a packet.
+pub fn collective_of(passed: &Passed) -> Option<Collective> {
+    match &passed.act {
+        Act::Sends {
+            context: Context::Collective,
+            items,
+            ..
+        } => match items.as_slice() {
+            [kind, root, ordinal, ..] => Some(Collective {
+                kind: *kind,
+                root: *root,
+                ordinal: *ordinal,
+            }),
+            [] | [_] | [_, _] => None,
+        },
+        Act::Sends { .. } | Act::Takes { .. } | Act::Hits { .. } | Act::Misses | Act::Prints(_) => {
+            None
+        }
+    }
+}
+
+impl Collective {
+    /// Its statement, without what the program writes behind the word.
+    pub fn name(&self, alloc: Heap) -> Result<String<Heap>, AllocError> {
+        let mut text = String::new(alloc);
+        let root = self.root;
+        match self.kind {
+            0 => write!(text, "barrier")?,
+            1 => write!(text, "bcast from {root}")?,
+            2 => write!(text, "reduce sum to {root}")?,
+            3 => write!(text, "reduce max to {root}")?,
+            4 => write!(text, "reduce min to {root}")?,
+            _ => write!(text, "collective")?,
+        }
+        Ok(text)
+    }
+}
+
+/// The tag and the items of a send, or the items alone that a collective gives.
+/// Empty where there is nothing to say.
+pub fn message_text(alloc: Heap, passed: &Passed) -> Result<String<Heap>, AllocError> {
+    let mut text = String::new(alloc);
+    match &passed.act {
+        Act::Sends {
+            context: Context::PointToPoint,
+            tag,
+            items,
+            ..
+        } => {
+            write!(text, "{tag}: ")?;
+            put_items(&mut text, items.as_slice())?;
+        }
+        Act::Sends {
+            context: Context::Collective,
+            items,
+            ..
+        } => put_items(&mut text, items.get(3..).unwrap_or(&[]))?,
+        Act::Takes { .. } | Act::Hits { .. } | Act::Misses | Act::Prints(_) => {}
+    }
+    Ok(text)
+}
+
+/// The first items, and how many there are where not all are shown.
+fn put_items(text: &mut String<Heap>, items: &[i64]) -> Result<(), AllocError> {
+    for (index, item) in items.iter().take(MOST_ITEMS_SHOWN).enumerate() {
+        if index > 0 {
+            write!(text, ", ")?;
+        }
+        write!(text, "{item}")?;
+    }
+    if items.len() > MOST_ITEMS_SHOWN {
+        let count = items.len();
+        write!(text, ".. ({count})")?;
+    }
+    Ok(())
+}

@@ -1,0 +1,22 @@
+-- What is printed of a world: the replies to the events of a file, or a way on from where they lead.
+use Rattle.std.specs.Prelude.{ℕ, List}
+use Rattle.events_text.specs.Output.{IsRunText}
+use Rattle.events_text.specs.Written.{IsWayText}
+use Rattle.rank_language.specs.Program.{ProgramValue}
+use Rattle.runner.specs.declared.commands.world.Wanted.{Wanted}
+use Rattle.runner.specs.declared.commands.world.Wanted.TheVariants.{Replies, WayOn}
+use Rattle.world_model.specs.Headline.{IsFresh}
+use Rattle.world_model.specs.World.{WorldValue}
+use Rattle.world_model.specs.declared.event.WorldEvent.{WorldEvent}
+
+-- what is wanted of a world, under these events that lead it to another, is this text
+abbrev pub IsTextOf : Wanted → WorldValue → List WorldEvent → WorldValue → List ℕ → Type 0
+IsTextOf Replies before events after text = IsRunText before events after text
+IsTextOf WayOn before events after text = IsWayText before events after text
+
+-- What is wanted of a new world of this program and so many ranks, under these events, is this text.
+pub record IsAnswer (program : ProgramValue) (ranks : ℕ) (wanted : Wanted) (events : List WorldEvent) (text : List ℕ) : Type 0 where
+  pub before : WorldValue
+  pub after : WorldValue
+  pub fresh : IsFresh program ranks before
+  pub told : IsTextOf wanted before events after text
