@@ -8,7 +8,7 @@ use Rattle.world_model.specs.declared.reply.Reply.TheVariants.{Moved, Blocked, H
 use Rattle.world_model.specs.declared.reply.Reply.TheVariants.{Stored, Acked, Imaged, Crashed, Restarted, Released, Refused}
 use Rattle.world_model.specs.Headline.{lines_of}
 use Rattle.world_model.specs.World.{WorldValue, size}
-use Rattle.world_model.specs.Follows.{FollowsAll}
+use Rattle.world_model.specs.Sequences.{FollowsAll}
 
 -- a reply's word, with its numbers behind it
 abbrev pub reply_text : Reply → List ℕ

@@ -5,7 +5,7 @@ use Rattle.world_model.specs.declared.event.WorldEvent.{WorldEvent}
 use Rattle.world_model.specs.declared.event.WorldEvent.TheVariants.{Step, Put, Arrive, Store, Ack, Image, Crash, Restart, Release}
 use Rattle.world_model.specs.declared.reply.Reply.{Reply}
 use Rattle.world_model.specs.World.{WorldValue}
-use Rattle.world_model.specs.Follows.{FollowsAll}
+use Rattle.world_model.specs.Sequences.{FollowsAll}
 use Rattle.world_model.specs.Way.{IsWayOn}
 
 -- an event's word, with its numbers behind it
