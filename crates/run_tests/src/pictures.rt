@@ -30,18 +30,16 @@ fn expect_pictures<R: Threads + Wait + Sync + Copy + Send + AllocGlobal + Abort>
             (row.status, ""),
             "at {words}"
         );
-        let mut rest = answer.out();
+        let mut at = 0usize;
         for part in row.parts {
-            let found = rest.split_once(*part);
+            let end = end_of(answer.out(), at, part);
             assert!(rt;
-                found.is_some(),
+                end.is_some(),
                 "at {words}: {part} doesn't stand behind what is before it"
             );
-            if let Some((_, behind)) = found {
-                rest = behind;
-            }
+            at = end.unwrap_or(at);
         }
-        assert_eq!(rt; rest, "", "at {words}, behind the last part");
+        assert_eq!(rt; at, answer.out().len(), "at {words}, behind the last part");
         for part in row.without {
             assert!(rt;
                 !answer.out().contains(*part),
@@ -50,6 +48,13 @@ fn expect_pictures<R: Threads + Wait + Sync + Copy + Send + AllocGlobal + Abort>
         }
     }
     Ok(())
+}
+
+// Where a part ends that stands in a text from this place on, if one does.
+fn end_of(text: &str, from: usize, part: &str) -> Option<usize> {
+    let rest = text.get(from..)?;
+    let (before, _) = rest.split_once(part)?;
+    Some(from.saturating_add(before.len()).saturating_add(part.len()))
 }
 
 /// Rank 0 sends, rank 1 receives and prints.
