@@ -100,3 +100,12 @@ popped_some old new o x e some = e ∙ ap (λ z. new ++ option_to_list z) some
 -- a list from which nothing could be popped is as it was
 pub popped_none : {A : Type 0} (old new : List A) (o : Option A) → old ≡ new ++ option_to_list o → o ≡ None → old ≡ new
 popped_none old new o e none = e ∙ ap (λ z. new ++ option_to_list z) none ∙ append-nil new
+
+-- where some in front are left out and one is added, each is one of those before or the new one
+pub among_moved : {A : Type 0} (old front mid new : List A) (y : A) → old ≡ front ++ mid → new ≡ mid ++ y ∷ [] → (x : A) → IsAmong new x
+    → IsAmong old x ⊎ (x ≡ y)
+among_moved old front mid new y before after x a = go (among_push mid y x (subst (λ xs. IsAmong xs x) after a))
+  where
+    go : IsAmong mid x ⊎ (x ≡ y) → IsAmong old x ⊎ (x ≡ y)
+    go (inl here) = inl (subst (λ xs. IsAmong xs x) (sym before) (among_second front mid x here))
+    go (inr e) = inr e

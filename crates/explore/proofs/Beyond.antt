@@ -5,7 +5,7 @@ use Rattle.rank_language.specs.Program.{ProgramValue}
 use Rattle.rank_machine.specs.declared.want.Want.{Want}
 use Rattle.rank_machine.specs.declared.want.Want.TheVariants as want
 use Rattle.rank_machine.specs.Machine.{MachineValue}
-use Rattle.crash_free.specs.Runs.{history}
+use Rattle.crash_free.specs.Runs.{Passed, history}
 use Rattle.crash_free.specs.Sim.{SimValue, Simulates}
 use Rattle.crash_free.specs.Wanted.{Wants, WantsAt, StandsAtAct}
 use Rattle.explore.specs.declared.branch.Branch.{Branch}
@@ -90,11 +90,11 @@ pub counts_on : (steps : ℕ) (pending new : List Branch) (b : Branch) → AllCo
 counts_on steps pending new b all plays = plays steps (all b (among_last pending b)) (λ x a. all x (among_first pending (b ∷ []) x a))
 
 -- and where it was cut off, or one before was, a rank goes beyond
-pub beyond_on : (program : ProgramValue) (n steps : ℕ) (outcomes : List (List RankOutcome)) (pending : List Branch) (cut ended : Bool) (b : Branch)
-    → Searches program n outcomes (pending ++ b ∷ []) cut → AllCount steps (pending ++ b ∷ []) → (cut ≡ true → GoesBeyond program n steps)
+pub beyond_on : (program : ProgramValue) (n steps : ℕ) (outcomes : List (List RankOutcome)) (pending : List Branch) (met : List (List Passed))
+    (cut ended : Bool) (b : Branch) → Searches program n outcomes (pending ++ b ∷ []) met cut → AllCount steps (pending ++ b ∷ []) → (cut ≡ true → GoesBeyond program n steps)
     → (ended ≡ false → (k : ℕ) → Counts k b.sim b.left → GoesBeyond b.sim.program (length b.sim.machines) k)
     → (cut ≡ true) ⊎ (ended ≡ false) → GoesBeyond program n steps
-beyond_on program n steps outcomes pending cut ended b search all before now (inl e) = before e
-beyond_on program n steps outcomes pending cut ended b search all before now (inr e) =
+beyond_on program n steps outcomes pending met cut ended b search all before now (inl e) = before e
+beyond_on program n steps outcomes pending met cut ended b search all before now (inr e) =
     let last = among_last pending b in
     beyond_alike program n b.sim steps (search.program_same b last) (search.ranks b last) (now e steps (all b last))

@@ -2,8 +2,10 @@
 #![tactic(auto)]
 
 mod branch;
+mod comparing;
 mod explored;
 mod limits;
+mod met;
 mod moves;
 mod outcome;
 mod play;

@@ -6,13 +6,14 @@ ghost use Rattle.explore.specs.Counting.{GoesBeyond};
 ghost use Rattle.explore.specs.Counts.{Counts, PlaysCounted};
 ghost use Rattle.explore.specs.Exploring.{AlwaysEnds, IsPossible, RankOutcome};
 ghost use Rattle.explore.specs.Outcomes.{AreAll, AreDistinct, IsAmong};
-ghost use Rattle.explore.specs.Searching.{AreAlike, Looks};
+ghost use Rattle.explore.specs.Searching.{AreAlike, AreRuns, Looks};
 
 use crate::branch::Branch;
 use crate::explored::{Explored, Outcome, note};
 use crate::limits::Limits;
+use crate::met::Met;
 use crate::outcome::outcome_of;
-use crate::play::play;
+use crate::play::{Played, play};
 use metered::Heap;
 use rank_language::Program;
 use std::alloc::AllocError;
@@ -38,13 +39,14 @@ pub fn explore(
     let mut pending = Vec::new(alloc);
     pending.push(Branch::new(alloc, program, ranks, limits.steps)?)?;
     let mut outcomes = Vec::new(alloc);
+    let mut met = Met::new(alloc);
     let mut runs = 0;
     let mut out_of_steps = false;
     while runs < limits.runs {
         let Some(branch) = pending.pop() else {
             break;
         };
-        let ended = look(alloc, branch, &mut pending, &mut outcomes)?;
+        let ended = look(alloc, branch, &mut pending, &mut outcomes, &mut met)?;
         out_of_steps = is_cut(out_of_steps, ended);
         runs += 1;
     }
@@ -73,26 +75,32 @@ fn is_complete(pending: &[Branch<'_>], out_of_steps: bool) -> bool
     pending.is_empty() && !out_of_steps
 }
 
-// Goes on with one branch to an end of its run, and notes the outcome that it
-// has there. Answers whether it came to an end.
+// Goes on with one branch to an end of its run, or to where a run with the same acts was met before, and notes the outcome that it has at its end.
+// Answers whether it came to either.
 fn look<'p>(
     alloc: Heap,
     mut branch: Branch<'p>,
     pending: &mut Vec<Branch<'p>, Heap>,
     outcomes: &mut Vec<Outcome, Heap>,
+    met: &mut Met,
 ) -> Result<bool, AllocError>
     requires few { length branch.sim.machines ≤ most_ranks }
     requires alike { AreAlike branch.sim pending.old.items }
-    ensures looks { IfOk result (λ ended. Looks branch.entry.sim ended pending.old.items pending.new.items outcomes.old.items outcomes.new.items) }
+    requires runs { AreRuns branch.sim met.old }
+    ensures looks { IfOk result (λ ended. Looks branch.entry.sim ended pending.old.items pending.new.items outcomes.old.items outcomes.new.items
+        met.old met.new) }
     ensures counts { IfOk result (λ _. PlaysCounted branch.entry.sim branch.entry.left pending.old.items pending.new.items) }
     ensures beyond { IfOk result (λ ended. ended ≡ false → (steps : ℕ) → Counts steps branch.entry.sim branch.entry.left
         → GoesBeyond branch.entry.sim.program (length branch.entry.sim.machines) steps) }
 {
-    let ended = play(alloc, &mut branch, pending)?;
-    if ended {
-        let ranks = outcome_of(alloc, &branch.sim)?;
-        let choices = branch.choices;
-        note(outcomes, Outcome { ranks, choices })?;
+    match play(alloc, &mut branch, pending, met)? {
+        Played::Still => {
+            let ranks = outcome_of(alloc, &branch.sim)?;
+            let choices = branch.choices;
+            note(outcomes, Outcome { ranks, choices })?;
+            Ok(true)
+        }
+        Played::Met => Ok(true),
+        Played::Spent => Ok(false),
     }
-    Ok(ended)
 }

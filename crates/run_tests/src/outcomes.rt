@@ -21,7 +21,7 @@ fn expect_outcomes<R: Threads + Wait + Sync + Copy + Send + AllocGlobal + Abort>
 }
 
 /// One outcome, whatever the order.
-const ONE: [Run; 7] = [
+const ONE: [Run; 8] = [
     (
         "--ranks 1",
         "",
@@ -79,6 +79,23 @@ rank 2: halted
 
 # one outcome: whatever the order, this program prints this
 outcomes 1, runs 2, complete
+",
+    ),
+    // Two ranks that choose apart from each other: each order of both would be 720 runs.
+    (
+        "--ranks 5",
+        "var x\nif rank < 2\nrecv any, any, x\nrecv any, any, x\nrecv any, any, x\nelse\nsend 0, 1, rank\nsend 1, 1, rank\nend\n",
+        0,
+        "\
+outcome 1
+rank 0: halted
+rank 1: halted
+rank 2: halted
+rank 3: halted
+rank 4: halted
+
+# one outcome: whatever the order, this program prints this
+outcomes 1, runs 261, complete
 ",
     ),
     // Two ranks that wait for each other's message.

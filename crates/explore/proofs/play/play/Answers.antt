@@ -1,13 +1,13 @@
-use Rattle.std.proofs.Common.{◌≡◌, ◌<◌, ◌≤◌, refl, ◌∙◌, Some, length, subst, arith}
+use Rattle.std.proofs.Common.{◌≡◌, ◌<◌, ◌≤◌, refl, sym, ◌∙◌, Some, length, subst, arith}
 use Rattle.std.specs.Prelude.{slice_get, vec_len}
 use Rattle.std.proofs.lemmas.Option.{slice_get_read}
 use Rattle.metered.specs.Limits.{most_ranks}
 use Rattle.explore.specs.Moves.{HasAll, AreOfRanks}
 use Rattle.explore.specs.Outcomes.{IsAmong}
-use Rattle.explore.specs.Searching.{BranchesOff}
+use Rattle.explore.specs.Searching.{BranchesOff, Remembers}
 use Rattle.explore.proofs.Among.{has_first}
 use Rattle.explore.proofs.Beyond.{beyond_alike, beyond_inside, beyond_move}
-use Rattle.explore.proofs.Searching.{plays_along, plays_moves}
+use Rattle.explore.proofs.Searching.{Moves, plays_along, plays_moves, remembers_along, remembers_moves}
 use Rattle.explore.proofs.play.play.Goals as goal
 
 pub is_spent-requires : goal.is_spent-requires
@@ -50,11 +50,30 @@ loop-branch-preserved c =
     let plays =
     plays_along c.args.branch.now.sim c.args.pending.now.items c.loop-branch.branch.sim c.advance.new.sim c.loop-branch.pending.items c.loop-branch.invariant.plays
     c.advance.ensures.leads in
+    let made :
+    Moves c.args.branch.now.sim c.advance.new.sim c.choose.new.self.sim c.loop-branch.pending.items c.branch_off.new.pending.items c.in-Some.found.items
+    c.index.result.now =
+    record {
+      alike = plays.alike;
+      longer = plays.longer;
+      now = c.advance.ensures.leads.stands;
+      then = c.in_ok-choose.ensures.stands;
+      all = all;
+      acts = acts;
+      there = there;
+      off = off;
+      allows = c.in_ok-choose.ensures.allowed;
+    } in
     record {
       plays =
           plays_moves c.args.branch.now.sim c.args.pending.now.items c.advance.new.sim c.choose.new.self.sim c.loop-branch.pending.items
-          c.branch_off.new.pending.items c.in-Some.found.items c.index.result.now plays c.advance.ensures.leads.stands c.in_ok-choose.ensures.stands all
-          acts there off c.in_ok-choose.ensures.allowed;
+          c.branch_off.new.pending.items c.in-Some.found.items c.index.result.now plays made;
+      remembers =
+          remembers_moves c.args.branch.now.sim c.advance.new.sim c.choose.new.self.sim c.loop-branch.pending.items c.branch_off.new.pending.items
+          c.in-Some.found.items c.index.result.now c.args.met.now c.loop-branch.met c.meets.new.met made
+          (remembers_along c.args.branch.now.sim c.loop-branch.branch.sim c.advance.new.sim c.loop-branch.pending.items c.args.met.now c.loop-branch.met
+          c.loop-branch.invariant.plays.alike c.loop-branch.invariant.remembers c.advance.ensures.leads)
+          c.in_ok-meets.ensures.adds;
       stands = c.in_ok-choose.ensures.stands;
       counts = λ steps one. c.in_ok-choose.ensures.counts steps (c.advance.ensures.counts steps (c.loop-branch.invariant.counts steps one));
       counted =
@@ -92,3 +111,43 @@ returns-then-is_spent-clause-beyond c = λ e steps one.
     beyond_alike c.args.branch.now.sim.program (length c.args.branch.now.sim.machines) c.advance.new.sim steps
     (c.advance.ensures.leads.program ∙ plays.alike.program) (c.advance.ensures.leads.ranks ∙ plays.alike.ranks)
     (beyond_move c.advance.new.sim c.advance.new.left c.in-Some.found.items steps c.advance.ensures.leads.stands acts none counts))
+
+pub returns-in_default-clause-remembers : goal.returns-in_default-clause-remembers
+returns-in_default-clause-remembers c =
+    remembers_along c.args.branch.now.sim c.loop-branch.branch.sim c.advance.new.sim c.loop-branch.pending.items c.args.met.now c.loop-branch.met
+    c.loop-branch.invariant.plays.alike c.loop-branch.invariant.remembers c.advance.ensures.leads
+
+pub returns-then-is_empty-clause-remembers : goal.returns-then-is_empty-clause-remembers
+returns-then-is_empty-clause-remembers c =
+    remembers_along c.args.branch.now.sim c.loop-branch.branch.sim c.advance.new.sim c.loop-branch.pending.items c.args.met.now c.loop-branch.met
+    c.loop-branch.invariant.plays.alike c.loop-branch.invariant.remembers c.advance.ensures.leads
+
+pub returns-then-is_spent-clause-remembers : goal.returns-then-is_spent-clause-remembers
+returns-then-is_spent-clause-remembers c =
+    remembers_along c.args.branch.now.sim c.loop-branch.branch.sim c.advance.new.sim c.loop-branch.pending.items c.args.met.now c.loop-branch.met
+    c.loop-branch.invariant.plays.alike c.loop-branch.invariant.remembers c.advance.ensures.leads
+
+pub returns-then-branch-clause-remembers : goal.returns-then-branch-clause-remembers
+returns-then-branch-clause-remembers c =
+    let was = c.in_ok-meets.was in
+    let yes = c.if-branch.true in
+    let same : c.meets.new.met ≡ c.loop-branch.met = c.in_ok-meets.ensures.same cc in
+    subst (λ runs. Remembers c.args.branch.now.sim c.advance.new.sim c.loop-branch.pending.items c.args.met.now runs) (sym same)
+    (remembers_along c.args.branch.now.sim c.loop-branch.branch.sim c.advance.new.sim c.loop-branch.pending.items c.args.met.now c.loop-branch.met
+    c.loop-branch.invariant.plays.alike c.loop-branch.invariant.remembers c.advance.ensures.leads)
+
+pub branch_off-requires-clause-left : goal.branch_off-requires-clause-left
+branch_off-requires-clause-left c = λ m a.
+    c.is_spent.ensures.no c.if-is_spent.false m
+    (subst (λ xs. IsAmong xs m) (c.deref-in-loop-branch.ensures.value ∙ sym c.deref.ensures.value) a)
+
+pub choose-requires-clause-left : goal.choose-requires-clause-left
+choose-requires-clause-left c =
+    let size : length c.in-Some.found.items ≡ vec_len c.in-Some.found =
+    subst (λ xs. length xs ≡ vec_len c.in-Some.found) c.deref.ensures.value c.deref.ensures.len in
+    let some : 0 < length c.in-Some.found.items =
+    has_first c.in-Some.found.items (vec_len c.in-Some.found) c.is_empty.result c.is_empty.ensures c.if-is_empty.false size in
+    let there : slice_get c.in-Some.found.items 0 ≡ Some c.index.result.now =
+    slice_get_read c.in-Some.found.items (length c.in-Some.found.items) 0 c.index.result.now refl some c.index.ensures in
+    c.is_spent.ensures.no c.if-is_spent.false c.index.result.now
+    (subst (λ xs. IsAmong xs c.index.result.now) (sym c.deref.ensures.value) (0, there))

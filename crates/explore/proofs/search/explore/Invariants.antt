@@ -8,7 +8,7 @@ use Rattle.explore.proofs.search.explore.Given as goal
 abbrev pub invariant-loop-runs : goal.invariant-loop-runs
 invariant-loop-runs l = record {
   few : l.runs ≤ l.limits.runs;
-  search : Searches l.program l.ranks l.outcomes.items l.pending.items l.out_of_steps;
+  search : Searches l.program l.ranks l.outcomes.items l.pending.items l.met l.out_of_steps;
   counted : AllCount l.limits.steps l.pending.items;
   beyond : l.out_of_steps ≡ true → GoesBeyond l.program l.ranks l.limits.steps;
 }
