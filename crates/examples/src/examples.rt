@@ -1,7 +1,7 @@
 //! Runs, checks and worlds of the examples.
 
 /// The words of each run, after the program's name.
-pub const RUNS: [&str; 81] = [
+pub const RUNS: [&str; 86] = [
     "run --ranks 2 examples/answer.rank",
     "run --ranks 4 examples/ring.rank",
     "run --ranks 2 examples/ping_pong.rank",
@@ -34,6 +34,9 @@ pub const RUNS: [&str; 81] = [
     "run --ranks 4 examples/dot_product.rank",
     "run --ranks 3 examples/table.rank",
     "run --ranks 3 examples/relaxation.rank",
+    "run --ranks 3 examples/pipeline.rank",
+    "run --ranks 4 examples/odd_even_sort.rank",
+    "run --ranks 3 examples/workers.rank",
     "run --ranks 1 examples/fault_not_text.rank",
     "run --ranks 1 examples/fault_not_a_statement.rank",
     "run --ranks 1 examples/fault_bad_form.rank",
@@ -50,6 +53,8 @@ pub const RUNS: [&str; 81] = [
     "trace --ranks 2 examples/answer.rank",
     "trace --ranks 2 examples/division.rank",
     "trace --ranks 2 --idle 100 examples/stalled.rank",
+    "trace --ranks 3 examples/pipeline.rank",
+    "trace --ranks 4 examples/odd_even_sort.rank",
     "trace --ranks 2 --picture examples/answer.rank",
     "explore --ranks 3 examples/first_come.rank",
     "check examples/canonical.rank",

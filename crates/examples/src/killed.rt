@@ -2,7 +2,7 @@
 
 /// The words of each run, after the program's name. A script named for a number
 /// of ranks has each of them crash once, after its first act.
-pub const RUNS: [&str; 33] = [
+pub const RUNS: [&str; 37] = [
     "run --ranks 2 --script examples/answer.script examples/answer.rank",
     "run --ranks 2 --script examples/kills_of_2.script examples/answer.rank",
     "run --ranks 4 --script examples/kills_of_4.script examples/ring.rank",
@@ -31,7 +31,11 @@ pub const RUNS: [&str; 33] = [
     "run --ranks 4 --script examples/kills_of_4.script examples/dot_product.rank",
     "run --ranks 3 --script examples/kills_of_3.script examples/table.rank",
     "run --ranks 3 --script examples/kills_of_3.script examples/relaxation.rank",
+    "run --ranks 3 --script examples/kills_of_3.script examples/pipeline.rank",
+    "run --ranks 4 --script examples/kills_of_4.script examples/odd_even_sort.rank",
+    "run --ranks 3 --script examples/kills_of_3.script examples/workers.rank",
     "trace --ranks 2 --script examples/answer.script examples/answer.rank",
+    "trace --ranks 3 --script examples/kills_of_3.script examples/pipeline.rank",
     "trace --ranks 2 --json --script examples/answer.script examples/answer.rank",
     "run --ranks 2 --script examples/bad_line.script examples/answer.rank",
     "run --ranks 2 --script examples/bad_rank.script examples/answer.rank",
