@@ -72,8 +72,8 @@ fn has(outcomes: &[Outcome], outcome: &Outcome) -> bool
     false
 }
 
-// Whether the ranks printed the same and ended alike.
-fn are_same(ranks: &[RankEnd], others: &[RankEnd]) -> bool
+/// Whether the ranks printed the same and ended alike.
+pub fn are_same(ranks: &[RankEnd], others: &[RankEnd]) -> bool
     ensures yes { result ≡ true → ranks.now ≡ others.now }
     ensures no { result ≡ false → ranks.now ≢ others.now }
 {

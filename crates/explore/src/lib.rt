@@ -9,6 +9,7 @@ mod met;
 mod moves;
 mod outcome;
 mod play;
+mod replay;
 mod search;
 mod steps;
 
@@ -16,4 +17,5 @@ pub use explored::{Explored, Outcome};
 pub use limits::Limits;
 pub use moves::{Move, Noted};
 pub use outcome::RankEnd;
+pub use replay::run_of;
 pub use search::explore;

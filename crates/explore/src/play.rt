@@ -83,8 +83,8 @@ fn meets(alloc: Heap, branch: &Branch<'_>, others: bool, met: &mut Met) -> Resul
     met.meets(alloc, &branch.sim)
 }
 
-// Whether one of the moves is of a rank that has no steps left.
-fn is_spent(left: &[u32; MOST_RANKS], moves: &[Move]) -> bool
+/// Whether one of the moves is of a rank that has no steps left.
+pub fn is_spent(left: &[u32; MOST_RANKS], moves: &[Move]) -> bool
     requires { (m : Move) → IsAmong moves.now m → m.rank < most_ranks }
     ensures no { result ≡ false → HaveLeft left.now moves.now }
     ensures yes { result ≡ true → OneHasNone left.now moves.now }
