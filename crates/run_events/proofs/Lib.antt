@@ -1,0 +1,3 @@
+mod Planning
+mod Same
+mod Played

@@ -1,0 +1,63 @@
+-- A world to which events were given is compared with a run.
+use Rattle.std.proofs.Common.{◌≡◌, ℕ, ◌<◌, ◌≤◌, List, length, Ok, ap, subst, ◌∙◌}
+use Rattle.std.specs.Prelude.{reverse}
+use Rattle.metered.specs.Limits.{most_event_lines}
+use Rattle.rank_language.specs.Program.{ProgramValue}
+use Rattle.crash_free.specs.Runs.{Passed, history, prints_from, IsRun}
+use Rattle.crash_free.specs.Sim.{SimValue, Simulates, start_of}
+use Rattle.audit.specs.Rows.{events_from}
+use Rattle.world_model.specs.declared.event.WorldEvent.{WorldEvent}
+use Rattle.world_model.specs.declared.reply.Reply.{Reply}
+use Rattle.world_model.specs.World as world
+use Rattle.world_model.specs.World.{WorldValue, size}
+use Rattle.world_model.specs.Headline.{IsFresh, StandsFor}
+use Rattle.world_model.specs.Sequences.{FollowsAll}
+use Rattle.events_text.specs.Events.{events_of}
+use Rattle.events_text.specs.Written.{events_text}
+use Rattle.run_events.specs.Own.{own}
+use Rattle.run_events.specs.Plays.{ArePlain, NoneRefused, IsThere, PlaysFrom, Plays, IsPlayText}
+use Rattle.run_events.proofs.Same.{same_runs}
+
+-- a rank of a world that has the history of another run printed what it did there, and its row is of the same events
+is_there : (w : WorldValue) (C : List Passed) (r : ℕ) → StandsFor w w.run → history w.run r ≡ history C r → IsThere w C r
+is_there w C r stands same =
+    record {
+      acts = same;
+      lines = stands.lines r ∙ ap (prints_from 0) same;
+      row = λ events at. stands.rows r events at ∙ ap (events_from 0) same;
+    }
+
+-- where a world did what events say and each rank made its acts of a run, they play the run
+pub goes : (before : WorldValue) (n : ℕ) (s : SimValue) (events : List WorldEvent) (replies : List Reply) (after : WorldValue)
+    → FollowsAll before events replies after → NoneRefused replies → StandsFor after after.run → size after ≡ n → length s.machines ≡ n
+    → Simulates s → ((r : ℕ) → r < n → own r (reverse after.run) ≡ own r (reverse s.run)) → PlaysFrom before n s.run events after
+goes before n s events replies after follows taken stands as_many ranks simulates same =
+    record {
+      replies = replies;
+      follows = follows;
+      taken = taken;
+      stands = stands;
+      as_many = as_many;
+      there = λ r low. is_there after s.run r stands (each r);
+    }
+  where
+    in_world : IsRun (world.start_of after) n after.run
+    in_world = subst (λ k. IsRun (world.start_of after) k after.run) as_many stands.is_run
+
+    in_run : IsRun (start_of s.program (length s.machines)) n s.run
+    in_run = subst (λ k. IsRun (start_of s.program (length s.machines)) k s.run) ranks simulates.is_run
+
+    each : (r : ℕ) → history after.run r ≡ history s.run r
+    each = same_runs (world.start_of after) (start_of s.program (length s.machines)) n after.run s.run in_world in_run same
+
+-- so from a new world
+pub played : (program : ProgramValue) (n : ℕ) (C : List Passed) (events : List WorldEvent) (before after : WorldValue) → ArePlain events
+    → IsFresh program n before → PlaysFrom before n C events after → Plays program n C events
+played program n C events before after plain fresh plays =
+    record { plain = plain; before = before; fresh = fresh; after = after; plays = plays }
+
+-- so is their text
+pub is_text : (program : ProgramValue) (n : ℕ) (C : List Passed) (events : List WorldEvent) (text : List ℕ) → Plays program n C events
+    → length events ≤ most_event_lines → events_of text ≡ Ok events → text ≡ events_text events → IsPlayText program n C text
+is_text program n C events text plays few read written =
+    record { events = events; read = read; plays = plays; few = few; written = written }

@@ -1,0 +1,10 @@
+use Rattle.std.proofs.Common.{◌≡◌, length}
+use Rattle.run_events.specs.Own.{own}
+use Rattle.run_events.proofs.comparing.same_acts.Given as goal
+
+-- it comes down to those that are left
+abbrev pub invariant-loop-act : goal.invariant-loop-act
+invariant-loop-act l = own l.rank l.rest ≡ own l.rank l.left → own l.rank l.acts ≡ own l.rank l.others
+
+abbrev pub decreases-loop-act : goal.decreases-loop-act
+decreases-loop-act l = length l.rest

@@ -1,0 +1,4 @@
+pub mod Own
+pub mod Planned
+pub mod Fault
+pub mod Plays

@@ -1,0 +1,55 @@
+//! Why a run gives no events.
+ghost use Rattle.std.specs.Prelude.{◌≡◌};
+ghost use Rattle.run_events.specs.Fault.{fault_number};
+ghost use Rattle.run_events.specs.declared.fault.PlayFault.TheVariants.{Memory};
+
+use std::alloc::{AllocError, AllocFailed};
+use thiserror::Error;
+
+/// Why a run gives no events.
+#[derive(Clone, Copy, Debug, PartialEq, Eq, Error)]
+pub enum PlayFault {
+    /// Packets can't arrive in such an order that each rank finds what the run
+    /// gives it, if none crashes.
+    #[error("NoOrder")]
+    NoOrder,
+    /// There would be more than `MOST_EVENT_LINES` of them.
+    #[error("TooManyEvents")]
+    TooManyEvents,
+    /// A rank would have more than `MOST_EVENTS` events stored.
+    #[error("RowLimit")]
+    RowLimit,
+    /// There was no memory.
+    #[error("out of memory")]
+    Memory,
+}
+
+impl PlayFault {
+    /// The number that the program's messages name, 1 to 4.
+    pub fn number(self) -> u8
+        ensures { result ≡ fault_number self }
+    {
+        match self {
+            PlayFault::NoOrder => 1,
+            PlayFault::TooManyEvents => 2,
+            PlayFault::RowLimit => 3,
+            PlayFault::Memory => 4,
+        }
+    }
+}
+
+impl<T: Drop> From<AllocFailed<T>> for PlayFault {
+    ghost from_gives = { λ _ e. e ≡ Memory };
+
+    fn from(_: AllocFailed<T>) -> PlayFault {
+        PlayFault::Memory
+    }
+}
+
+impl From<AllocError> for PlayFault {
+    ghost from_gives = { λ _ e. e ≡ Memory };
+
+    fn from(_: AllocError) -> PlayFault {
+        PlayFault::Memory
+    }
+}

@@ -1,0 +1,95 @@
+//! The plan of a run: its acts in an order that a world can take, and what each
+//! rank does behind its last one.
+ghost use Rattle.std.specs.Prelude.{◌≤◌};
+ghost use Rattle.metered.specs.Limits.{most_ranks};
+
+use crate::asked::{AskedAll, asked_of, is_over};
+use crate::before::waits_of;
+use crate::fault::PlayFault;
+use crate::order::Happening;
+use crate::plan::Plan;
+use crate::writing::Events;
+use crash_free::{Act, Passed, Sim};
+use metered::Heap;
+use rank_language::Program;
+
+/// Events that are to play a run of the program on so many ranks. Where a rank
+/// has ended in the run, or waits for what isn't there, its last event is a step
+/// that says so.
+///
+/// Nothing is promised of them here: whoever asks for them plays them first.
+pub fn plan_of(alloc: Heap, program: &Program, ranks: u8, run: &Sim<'_>) -> Result<Plan, PlayFault>
+    requires some { 1 ≤ ranks }
+    requires few { ranks ≤ most_ranks }
+{
+    let acts = run.acts();
+    let asked = asked_of(alloc, program, ranks, run)?;
+    let order = waits_of(alloc, ranks, acts, asked.acts.as_slice())?.ordered()?;
+    let mut events = Events::new(alloc);
+    for happening in order.iter() {
+        write(&mut events, acts, &asked, *happening)?;
+    }
+    write_ends(&mut events, run, &asked)?;
+    Ok(events.into_plan())
+}
+
+fn write(
+    events: &mut Events,
+    acts: &[Passed],
+    asked: &AskedAll,
+    happening: Happening,
+) -> Result<(), PlayFault> {
+    match happening {
+        Happening::Act(index) => match acts.get(index) {
+            Some(passed) => {
+                let steps = asked.acts.get(index).map_or(0, |asked| asked.steps);
+                write_act(events, passed, steps)
+            }
+            None => Ok(()),
+        },
+        Happening::Arrival(index) => match acts.get(index) {
+            Some(passed) => write_arrival(events, passed),
+            None => Ok(()),
+        },
+    }
+}
+
+// The act, behind so many steps of its rank's own.
+fn write_act(events: &mut Events, passed: &Passed, steps: u32) -> Result<(), PlayFault> {
+    let rank = passed.rank;
+    match &passed.act {
+        Act::Misses => {}
+        Act::Sends { .. } | Act::Takes { .. } | Act::Hits { .. } | Act::Prints(_) => {
+            events.store_misses(rank)?;
+        }
+    }
+    events.step(rank, steps.saturating_add(1))?;
+    match &passed.act {
+        Act::Takes { .. } | Act::Hits { .. } => events.store(rank),
+        Act::Misses => {
+            events.miss(rank);
+            Ok(())
+        }
+        Act::Sends { .. } | Act::Prints(_) => Ok(()),
+    }
+}
+
+fn write_arrival(events: &mut Events, passed: &Passed) -> Result<(), PlayFault> {
+    match &passed.act {
+        Act::Sends { dest, .. } => events.arrive(passed.rank, *dest),
+        Act::Takes { .. } | Act::Hits { .. } | Act::Misses | Act::Prints(_) => Ok(()),
+    }
+}
+
+// What each rank does behind its last act, and one step more where it has ended or waits.
+fn write_ends(events: &mut Events, run: &Sim<'_>, asked: &AskedAll) -> Result<(), PlayFault> {
+    for rank in 0..run.ranks() {
+        events.store_misses(rank)?;
+        let steps = asked.rests.get(usize::from(rank)).copied().unwrap_or(0);
+        events.step(rank, steps)?;
+        if is_over(run, rank) {
+            events.step(rank, 1)?;
+        }
+    }
+    Ok(())
+}

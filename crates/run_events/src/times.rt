@@ -1,0 +1,10 @@
+//! Events in a row.
+
+use world_model::WorldEvent;
+
+/// The same event, so many times in a row.
+#[derive(Clone, Copy, Debug, PartialEq, Eq)]
+pub struct Times {
+    pub event: WorldEvent,
+    pub count: u32,
+}
