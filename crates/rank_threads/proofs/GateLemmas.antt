@@ -1,5 +1,5 @@
 -- What waits at the gate stays where frames come and go, and when a turn leaves misses there.
-use Rattle.std.proofs.Common.{◌≡◌, ℕ, Bool, true, false, Option, Some, None, refl, ◌==◌}
+use Rattle.std.proofs.Common.{◌≡◌, ℕ, Bool, true, false, Option, Some, None, refl, ◌∙◌, ◌==◌}
 use Rattle.std.specs.Prelude.{if◌then◌else◌}
 use Rattle.checkpoint.specs.declared.memory_shelf.MemoryShelf.{MemoryShelf}
 use Rattle.event_logger.specs.Desks.{DeskValue}
@@ -24,6 +24,9 @@ frame_waits v from (frame.Kept number) = refl
 -- an image that was taken stays taken as long as the shelf is as it was
 pub took_image : (stood p : Phase) → HasImage stood → SameShelf stood p → TookImage p
 took_image stood p image same = (stood, image, same)
+
+pub took_still : (p q : Phase) → TookImage p → SameShelf p q → TookImage q
+took_still p q took same = (took.0, took.1, same ∙ took.2)
 
 -- what has gone leaves it
 sent_waits : (v : Node MemoryShelf DeskValue) (dest : ℕ) (f : Option Frame) → gate_of (sent_off v dest f) ≡ gate_of v

@@ -2,6 +2,7 @@ mod Crews
 mod DroppingLemmas
 mod GateLemmas
 mod LaneLists
+mod LifeLemmas
 mod PhaseLaws
 mod PlanLaws
 mod PuttingLemmas
@@ -13,3 +14,4 @@ mod SettlingLemmas
 mod StationLemmas
 mod StepLaws
 mod TakingLemmas
+mod TurnLemmas

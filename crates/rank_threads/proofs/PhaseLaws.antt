@@ -1,10 +1,11 @@
 -- When a replay is over.
-use Rattle.std.proofs.Common.{◌≡◌, ◌<◌, List, [], ◌∷◌, length, refl, arith}
+use Rattle.std.proofs.Common.{◌≡◌, ◌<◌, List, [], ◌∷◌, length, refl, sym, ap, ◌∙◌, arith}
 use Rattle.checkpoint.specs.declared.memory_shelf.MemoryShelf.{MemoryShelf}
 use Rattle.event_logger.specs.Desks.{DeskValue}
 use Rattle.plain_logger.specs.Event.{EventValue}
 use Rattle.rank_node.specs.Replay.{Replay}
-use Rattle.rank_threads.specs.Phases.{settled_replay}
+use Rattle.rank_threads.specs.Phases.{settled_of, settled_replay}
+use Rattle.rank_threads.specs.declared.phase.Phase.{Phase}
 use Rattle.rank_threads.specs.declared.phase.Phase.TheVariants as phase
 
 -- a rank with an event left goes on replaying
@@ -16,3 +17,17 @@ goes_on r (e ∷ left) some = refl
 pub is_done : (r : Replay MemoryShelf DeskValue) (left : List EventValue) → length left ≡ 0 → settled_replay r left ≡ phase.Running r.node
 is_done r [] none = refl
 is_done r (e ∷ left) none = absurd (omega (arith, none))
+
+-- one that was settled stays so
+settled_twice : (r : Replay MemoryShelf DeskValue) (left : List EventValue) → r.left ≡ left
+    → settled_of (settled_replay r left) ≡ settled_replay r left
+settled_twice r [] same = refl
+settled_twice r (e ∷ left) same = ap (settled_replay r) same
+
+settled_again : (p : Phase) → settled_of (settled_of p) ≡ settled_of p
+settled_again (phase.Running v) = refl
+settled_again (phase.Replaying r) = settled_twice r r.left refl
+settled_again (phase.Down s) = refl
+
+pub stays_settled : (p q : Phase) → q ≡ settled_of p → settled_of q ≡ q
+stays_settled p q same = ap settled_of same ∙ settled_again p ∙ sym same

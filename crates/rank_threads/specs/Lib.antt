@@ -14,3 +14,5 @@ pub mod Taking
 pub mod Dropping
 pub mod Orders
 pub mod Steps
+pub mod Lives
+pub mod Turns

@@ -10,8 +10,12 @@ abbrev pub SameNode : Node → Node → Type 0
 SameNode a b = SamePhase a.phase b.phase × (b.size ≡ a.size)
 
 -- the rank, its desk and its lanes are the same
+abbrev pub SamePlace : Seat → Seat → Type 0
+SamePlace a b = (b.rank ≡ a.rank) × SameNode a.node b.node × SameTxs a.to.items b.to.items × SameRxs a.from.items b.from.items
+
+-- the same, and no crash was counted
 abbrev pub SameSeat : Seat → Seat → Type 0
-SameSeat a b = (b.rank ≡ a.rank) × SameNode a.node b.node × SameTxs a.to.items b.to.items × SameRxs a.from.items b.from.items
+SameSeat a b = SamePlace a b × (b.tally.crashes ≡ a.tally.crashes)
 
 -- the same lines of the script are left
 abbrev pub SamePlan : Seat → Seat → Type 0

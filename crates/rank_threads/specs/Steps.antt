@@ -1,5 +1,5 @@
 -- What a step of a rank answers, whether it runs, replays or is down, and which steps are acts.
-use Rattle.std.specs.Prelude.{ℕ, List, [], ◌∷◌, Option, Some, None, Result, Ok, Err}
+use Rattle.std.specs.Prelude.{◌≡◌, ◌≢◌, ℕ, Bool, true, false, ◌||◌, List, [], ◌∷◌, Option, Some, None, Result, Ok, Err, if◌then◌else◌}
 use Rattle.checkpoint.specs.declared.memory_shelf.MemoryShelf.{MemoryShelf}
 use Rattle.event_logger.specs.Desks.{DeskValue}
 use Rattle.plain_logger.specs.Event.{EventValue}
@@ -12,10 +12,13 @@ use Rattle.rank_node.specs.declared.fault.NodeFault.{NodeFault}
 use Rattle.rank_node.specs.declared.fault.NodeFault.TheVariants as fault
 use Rattle.rank_node.specs.declared.turn.Turn.{Turn}
 use Rattle.rank_node.specs.declared.turn.Turn.TheVariants as turn
+use Rattle.rank_threads.specs.Phases.{want_in}
+use Rattle.rank_threads.specs.Tally.{after_steps}
 use Rattle.rank_threads.specs.declared.phase.Phase.{Phase}
 use Rattle.rank_threads.specs.declared.phase.Phase.TheVariants as phase
 use Rattle.rank_threads.specs.declared.stepping.Stepped.{Stepped}
 use Rattle.rank_threads.specs.declared.stepping.Stepped.TheVariants as stepped
+use Rattle.rank_threads.specs.declared.tally.Tally.{Tally}
 
 -- a step that isn't refused does this
 abbrev pub unless_refused : Option NodeFault → Turn → Result Turn NodeFault
@@ -59,3 +62,77 @@ acts_of stepped.Moved = 0
 acts_of stepped.Blocked = 0
 acts_of stepped.Held = 0
 acts_of stepped.Ended = 0
+
+-- the machine wants a step of its own
+abbrev pub is_own : Option Want → Bool
+is_own None = false
+is_own (Some want.Internal) = true
+is_own (Some (want.Send dest context tag)) = false
+is_own (Some (want.Receive selector)) = false
+is_own (Some (want.Probe selector)) = false
+is_own (Some (want.TryProbe selector)) = false
+is_own (Some (want.Print value)) = false
+is_own (Some want.Halted) = false
+is_own (Some (want.Faulted k)) = false
+
+-- the machine wants to print
+abbrev pub is_print : Option Want → Bool
+is_print None = false
+is_print (Some want.Internal) = false
+is_print (Some (want.Send dest context tag)) = false
+is_print (Some (want.Receive selector)) = false
+is_print (Some (want.Probe selector)) = false
+is_print (Some (want.TryProbe selector)) = false
+is_print (Some (want.Print value)) = true
+is_print (Some want.Halted) = false
+is_print (Some (want.Faulted k)) = false
+
+-- a limit refuses the step
+abbrev pub is_limit : NodeFault → Bool
+is_limit fault.ClockSpent = true
+is_limit fault.Log = true
+is_limit fault.Memory = false
+is_limit fault.NotSettled = false
+is_limit fault.Shelf = false
+is_limit fault.Image = false
+is_limit fault.Replay = false
+
+-- what a turn is told of a step that isn't one of the machine's own: a rank that a limit refuses has ended
+abbrev pub told : Result Turn NodeFault → Result Stepped NodeFault
+told (Ok turn.Moved) = Ok stepped.Acted
+told (Ok turn.Blocked) = Ok stepped.Blocked
+told (Ok turn.Held) = Ok stepped.Held
+told (Ok turn.Ended) = Ok stepped.Ended
+told (Err f) = if is_limit f then Ok stepped.Ended else Err f
+
+-- What a turn's step is answered, as long as there is memory: a rank that a limit stopped has ended, one that is blocked
+-- isn't asked, and any other makes steps of its own where it wants one, else the step that its state says.
+abbrev pub step_of : Tally → Phase → Result Stepped NodeFault
+step_of t p =
+    if t.is_spent then Ok stepped.Ended
+    else (if t.is_blocked then Ok stepped.Blocked else (if is_own (want_in p) then Ok stepped.Moved else told (turn_in p)))
+
+-- by this answer a limit refused the step
+abbrev pub is_stopped : Result Turn NodeFault → Bool
+is_stopped (Ok t) = false
+is_stopped (Err f) = is_limit f
+
+-- after a step that isn't one of the machine's own, where the limits allow `most`
+abbrev pub counted : ℕ → Result Turn NodeFault → Tally → Tally
+counted most (Ok turn.Moved) t = after_steps t 1 most true
+counted most (Ok turn.Blocked) t = record t { is_blocked = true }
+counted most (Ok turn.Held) t = t
+counted most (Ok turn.Ended) t = t
+counted most (Err f) t = record t { is_spent = is_limit f || t.is_spent }
+
+-- steps of the machine's own are counted, as many as were made
+abbrev pub Strode : ℕ → Tally → Tally → Type 0
+Strode most t u = (made : ℕ) × (made ≢ 0) × (u ≡ after_steps t made most false)
+
+-- What a turn counts of its step, of a rank that stood so: an act as one, and a limit that stops the rank.
+abbrev pub Counts : ℕ → Phase → Stepped → Tally → Tally → Type 0
+Counts most p stepped.Moved t u = Strode most t u
+Counts most p stepped.Acted t u = u ≡ after_steps t 1 most true
+Counts most p stepped.Blocked t u = u ≡ record t { is_blocked = true }
+Counts most p stepped.Held t u = u ≡ t
+Counts most p stepped.Ended t u = u ≡ record t { is_spent = is_stopped (turn_in p) || t.is_spent }

@@ -78,8 +78,8 @@ fn beside<'p, R: Threads + Wait + Sync + Copy + Send, H: Hold + Sync>(
                 Err(back) => {
                     // What comes back is the whole keeper: were it not to leave at once, it would wait
                     // for the keepers that aren't started yet.
-                    let stopped = shared.stop_all();
-                    let parcel = unplayed((back.value)(), stopped);
+                    let stop = shared.stop_all();
+                    let parcel = unplayed((back.value)(), stop);
                     let rest = keep_all(rt, shared, rest);
                     (parcel, rest)
                 }

@@ -1,14 +1,15 @@
 //! A keeper starts and joins the threads of a rank's lives.
 ghost use Rattle.std.specs.Prelude.{◌≡◌, ◌≢◌, Some, None};
 ghost use Rattle.rank_node.specs.declared.fault.NodeFault.TheVariants.{Memory};
+ghost use Rattle.rank_threads.specs.Lives.{HasLived};
 ghost use Rattle.rank_threads.specs.Stations.{SameStation, HasRow};
 ghost use Rattle.rank_threads.specs.Tally.{begun_again};
 
 use crate::dropping::drop_frames;
 use crate::hold::Hold;
 use crate::life::{life, refused};
-use crate::parcel::{Parcel, SameAs};
-use crate::shared::{Shared, Stopped};
+use crate::parcel::{AfterLife, Parcel};
+use crate::shared::{Shared, Stop, Stopped};
 use crate::station::Station;
 use audit::End;
 use std::snapshot::Snapshot;
@@ -51,12 +52,14 @@ fn told_to_leave(station: Station<'_>, _: Stopped) -> Station<'_>
 }
 
 // A life, and the row for the next one where the rank is to live on.
+#[tactic(auto, using(crate::proofs::LifeLemmas::lived_on))]
 fn lived<'l, R: Threads + Wait + Sync + Copy + Send, H: Hold + Sync>(
     rt: R,
     shared: &Shared<'_, H>,
     station: Station<'l>,
 ) -> Station<'l>
     ensures row { result.end ≡ None → result.tally.fault ≡ None → HasRow result }
+    ensures lived { HasLived station.entry result }
     ensures same { SameStation station.entry result }
 {
     let station = one_life(rt, shared, station);
@@ -88,7 +91,8 @@ fn play<'l, W: Wait + Drop + Copy, H: Hold>(
     shared: &Shared<'_, H>,
     parcel: Parcel<'l, W>,
 ) -> Parcel<'l, W>
-    ensures { SameStation parcel.entry.station result.station }
+    ensures lived { HasLived parcel.entry.station result.station }
+    ensures same { SameStation parcel.entry.station result.station }
 {
     let rt = parcel.rt;
     let station = life(&rt, shared, parcel.open());
@@ -97,41 +101,45 @@ fn play<'l, W: Wait + Drop + Copy, H: Hold>(
 
 /// What comes back where no thread could be made: the rank has met want of
 /// memory, and all were told to leave.
-pub fn unplayed<'l, W: Wait + Drop + Copy>(parcel: Parcel<'l, W>, stopped: Stopped) -> Parcel<'l, W>
+pub fn unplayed<'l, W: Wait + Drop + Copy>(parcel: Parcel<'l, W>, stop: Stop) -> Parcel<'l, W>
     ensures fault { result.station.tally ≡ record parcel.entry.station.tally { fault = Some Memory } }
     ensures same { SameStation parcel.entry.station result.station }
 {
     let rt = parcel.rt;
-    let station = refused(parcel.open(), stopped);
+    let station = refused(parcel.open(), stop);
     Parcel { rt, station }
 }
 
 /// Plays one life in a thread. Where no thread can be made, all are told to
 /// leave, and only then the life is begun here: it makes no turn.
+#[tactic(auto, using(crate::proofs::LifeLemmas::met_fault))]
 fn one_life<'l, R: Threads + Wait + Sync + Copy + Send, H: Hold + Sync>(
     rt: R,
     shared: &Shared<'_, H>,
     station: Station<'l>,
 ) -> Station<'l>
-    ensures { SameStation station.entry result }
+    ensures lived { HasLived station.entry result }
+    ensures same { SameStation station.entry result }
 {
     let parcel = Parcel { rt, station };
     thread::scope(
         thread::scope_env(),
         &rt,
         move |scope| -> Parcel<'_, R>
-            ensures { SameStation parcel.entry.station result.station }
+            ensures lived { HasLived parcel.entry.station result.station }
+            ensures same { SameStation parcel.entry.station result.station }
         {
-            let promise = SameAs(Snapshot::of(&parcel.station));
+            let promise = AfterLife(Snapshot::of(&parcel.station));
             let whole = move || -> Parcel<'_, R>
-                ensures { SameStation parcel.entry.station result.station }
+                ensures lived { HasLived parcel.entry.station result.station }
+                ensures same { SameStation parcel.entry.station result.station }
             { play(shared, parcel) };
             match scope.spawn_with(promise, whole) {
                 Ok(child) => child.join(&rt),
                 Err(back) => {
                     // What comes back is the whole life: it has to see that it is to leave.
-                    let stopped = shared.stop_all();
-                    unplayed((back.value)(), stopped)
+                    let stop = shared.stop_all();
+                    unplayed((back.value)(), stop)
                 }
             }
         },

@@ -11,6 +11,8 @@ mod leaving;
 mod life;
 mod marks;
 mod node;
+mod orders;
+mod over;
 mod parcel;
 mod phase;
 mod plan;

@@ -1,5 +1,6 @@
 //! A station on its way into a thread or back.
 ghost use Rattle.std.specs.Prelude.{◌≡◌};
+ghost use Rattle.rank_threads.specs.Lives.{HasLived};
 ghost use Rattle.rank_threads.specs.Stations.{SameStation};
 
 use crate::station::Station;
@@ -36,4 +37,12 @@ pub struct SameAs<'p>(pub Snapshot<Station<'p>>);
 
 impl<'p, W: Wait + Drop> Promise<Parcel<'p, W>> for SameAs<'p> {
     ghost kept_by = { λ p r. SameStation p.0.value r.station };
+}
+
+/// The station that comes back is the one that went in, after one life.
+#[derive(Drop)]
+pub struct AfterLife<'p>(pub Snapshot<Station<'p>>);
+
+impl<'p, W: Wait + Drop> Promise<Parcel<'p, W>> for AfterLife<'p> {
+    ghost kept_by = { λ p r. SameStation p.0.value r.station × HasLived p.0.value r.station };
 }

@@ -74,7 +74,7 @@ pub fn play<R: Threads + Wait + Sync + Copy + Send, H: Hold + Sync>(
         stop: &stop,
     };
     let parts = Unseated { desks, ends, plans };
-    let stations = seat_all(rt, alloc, &logger, size, parts, stations);
+    let stations = seat_all(rt, alloc, &logger, size, script, parts, stations);
     let stations = keep_all(rt, &shared, stations);
     drop(shared);
     let Left { desks, ends, came } = unseat_all(stations, room, &logger);
@@ -113,7 +113,9 @@ fn given_up(room: Left, error: AllocError) -> AllocError
     error
 }
 
-fn marks(alloc: Heap, size: u8) -> Result<Vec<CachePadded<Mark>, Heap>, AllocError> {
+fn marks(alloc: Heap, size: u8) -> Result<Vec<CachePadded<Mark>, Heap>, AllocError>
+    ensures { IfOk result (λ marks. vec_len marks ≡ size) }
+{
     let mut marks = Vec::new(alloc);
     for _ in 0..size {
         marks.push(CachePadded::new(Mark::new()))?;
@@ -122,7 +124,9 @@ fn marks(alloc: Heap, size: u8) -> Result<Vec<CachePadded<Mark>, Heap>, AllocErr
 }
 
 // Each bell is rung at first.
-fn bells(alloc: Heap, size: u8) -> Result<Vec<CachePadded<AtomicBool>, Heap>, AllocError> {
+fn bells(alloc: Heap, size: u8) -> Result<Vec<CachePadded<AtomicBool>, Heap>, AllocError>
+    ensures { IfOk result (λ bells. vec_len bells ≡ size) }
+{
     let mut bells = Vec::new(alloc);
     for _ in 0..size {
         bells.push(CachePadded::new(AtomicBool::new(true)))?;

@@ -22,6 +22,7 @@ pub fn release_all<W: Wait>(
 ) -> Result<bool, AllocError>
     requires { rank.old.stable.desk.table ≡ logger.now.table }
     ensures settled { IfOk result (λ all. all ≡ true → rank.new.pending ≡ []) }
+    ensures blank { blank.new ≡ blank.old }
     ensures same { SameStable rank.old.stable rank.new.stable }
 {
     while rank.ack() {}
@@ -59,7 +60,7 @@ fn release<W: Wait>(
 ) -> Result<bool, AllocError>
     ensures passed { IfOk result (λ passed. passed ≡ is_some (next_effect rank.old)) }
     ensures ok { OnOk result (rank.new ≡ released rank.old (next_effect rank.old)) }
-    ensures blank { OnOk result (blank.new ≡ blank.old) }
+    ensures blank { blank.new ≡ blank.old }
     ensures stable { rank.new.stable ≡ rank.old.stable }
 {
     let clock = match rank.oldest_effect() {

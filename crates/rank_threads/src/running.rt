@@ -1,5 +1,6 @@
 //! One run of a program, from nothing to the report.
 ghost use Rattle.std.specs.Prelude.{◌≤◌, IfOk};
+ghost use Rattle.audit.specs.Reachable.{IsReachable};
 ghost use Rattle.metered.specs.Limits.{most_ranks};
 ghost use Rattle.rank_threads.specs.Report.{IsReport};
 
@@ -40,7 +41,8 @@ pub fn run<R: Threads + Wait + Sync + Copy + Send, H: Hold + Sync>(
 ) -> Result<Report, RunFault>
     requires some { 1 ≤ ranks }
     requires few { ranks ≤ most_ranks }
-    ensures { IfOk result (λ report. IsReport program.now ranks report) }
+    ensures report { IfOk result (λ report. IsReport program.now ranks report) }
+    ensures within { IfOk result (λ report. IsReachable program.now ranks report.outcome limits.steps) }
 {
     let played = play(*rt, alloc, program, ranks, script, limits, hold)?;
     if let Some(fault) = fault_of(played.came.as_slice()) {

@@ -2,6 +2,7 @@
 ghost use Rattle.std.specs.Prelude.{◌≡◌, ◌+◌, ◌<◌, ◌≤◌, [], vec_len, vec_capacity};
 ghost use Rattle.metered.specs.Limits.{most_ranks};
 ghost use Rattle.lanes.specs.Ends.{to_names, from_names};
+ghost use Rattle.rank_threads.specs.Plans.{plans_below};
 ghost use Rattle.rank_threads.specs.Seating.{AreDesksFrom, ArePartsOf, AreNew, AreSeated, IsRoom};
 ghost use Rattle.rank_threads.specs.Seating.{came_of, stations_came, stations_from, stations_plans, stations_to};
 
@@ -14,6 +15,7 @@ use lanes::Ends;
 use metered::Heap;
 use ports::{Rx, Tx};
 use rank_node::NodeFault;
+use script_text::Script;
 use std::sync::Wait;
 
 /// What the stations of a run are made of, each in the order of ranks.
@@ -40,13 +42,15 @@ pub struct Left {
     pub came: Vec<Came, Heap>,
 }
 
-/// A station for each rank, the last one's first.
+/// A station for each rank, the last one's first, with what the script asks of
+/// that rank.
 #[tactic(auto, using(crate::proofs::SeatingLemmas::seated_laws, crate::proofs::StationLemmas::new_laws))]
 pub fn seat_all<'l, W: Wait + Drop + Copy>(
     rt: W,
     alloc: Heap,
     logger: &'l Logger,
     size: u8,
+    _script: &Script,
     parts: Unseated,
     stations: Vec<Parcel<'l, W>, Heap>,
 ) -> Vec<Parcel<'l, W>, Heap>
@@ -55,11 +59,12 @@ pub fn seat_all<'l, W: Wait + Drop + Copy>(
     requires ranks { logger.now.ranks ≡ size }
     requires desks { AreDesksFrom logger.now 0 parts.desks.items }
     requires sizes { ArePartsOf size parts }
+    requires plans { parts.plans.items ≡ plans_below size _script.now }
     requires room { size ≤ vec_capacity stations }
     ensures to { stations_to result.items ≡ to_names parts.ends.to.items }
     ensures from { stations_from result.items ≡ from_names parts.ends.from.items }
     ensures desks { AreSeated logger.now 0 result.items }
-    ensures plans { stations_plans result.items ≡ parts.plans.items }
+    ensures plans { stations_plans result.items ≡ plans_below size _script.now }
     ensures fresh { AreNew result.items }
     ensures len { vec_len result ≡ size }
 {

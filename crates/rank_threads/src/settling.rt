@@ -33,7 +33,9 @@ pub fn settle<W: Wait, H>(
         → is_running seat.new.node.phase ≡ true → seat.new.plan ≡ drop 1 seat.old.plan }
     ensures kept { is_running seat.new.node.phase ≡ false → seat.new.plan ≡ seat.old.plan }
     ensures unasked { is_imaged ≡ false → seat.new.plan ≡ seat.old.plan }
+    ensures owing { seat.old.tally.may_owe ≡ true → seat.new.tally.may_owe ≡ true }
     ensures runs { is_running seat.new.node.phase ≡ is_running seat.old.node.phase }
+    ensures blank { blank.new ≡ blank.old }
     ensures same { SameSeat seat.old seat.new }
 {
     if leaves_misses(seat, stepped, is_imaged) {
@@ -77,7 +79,9 @@ fn pass_all<W: Wait, H>(
         → is_running seat.new.node.phase ≡ true → seat.new.plan ≡ drop 1 seat.old.plan }
     ensures kept { is_running seat.new.node.phase ≡ false → seat.new.plan ≡ seat.old.plan }
     ensures unasked { is_imaged ≡ false → seat.new.plan ≡ seat.old.plan }
+    ensures owing { seat.old.tally.may_owe ≡ true → seat.new.tally.may_owe ≡ true }
     ensures runs { is_running seat.new.node.phase ≡ is_running seat.old.node.phase }
+    ensures blank { blank.new ≡ blank.old }
     ensures same { SameSeat seat.old seat.new }
 {
     let Ok(all) = seat.node.release(rt, shared.console, blank) else {

@@ -1,15 +1,30 @@
 //! What all ranks of a run share.
-ghost use Rattle.std.specs.Prelude.{◌≡◌};
+ghost use Rattle.std.specs.Prelude.{◌≡◌, is_some, true};
 
 use crate::marks::Mark;
 use crate::running::RunLimits;
 use crossbeam_utils::CachePadded;
 use metered::Heap;
 use ports::Console;
+use rank_node::NodeFault;
 use std::sync::atomic::{AtomicBool, Ordering};
 
-/// All ranks were told to leave. Only `Shared` makes one, as it tells them or
-/// sees that they were told.
+/// All ranks are told to leave. Only `Shared::stop_all` makes one, and it must
+/// be spent: who tells them notes why, so that the run has no report.
+pub struct Stop(());
+
+impl Stop {
+    /// A fault was noted of the rank that can't go on.
+    pub fn noted(self, _fault: Option<NodeFault>) -> Stopped
+        requires { is_some _fault ≡ true }
+    {
+        let Stop(()) = self;
+        Stopped(())
+    }
+}
+
+/// All ranks were told to leave. Only `Stop::noted` makes one, and who sees that
+/// they were told.
 #[derive(Clone, Copy)]
 pub struct Stopped(());
 
@@ -23,6 +38,11 @@ pub struct Marked {
 /// The mark of a rank was taken back. Only `Shared::take_mark_back` makes one.
 #[derive(Clone, Copy)]
 pub struct TakenBack(());
+
+/// The bell of a rank hasn't been rung since it was last looked at. Only
+/// `Shared::not_rung` makes one.
+#[derive(Clone, Copy)]
+pub struct NotRung(());
 
 /// What all ranks share. Of each rank there is a mark and a bell.
 pub struct Shared<'a, H> {
@@ -56,10 +76,11 @@ impl<H> Drop for Shared<'_, H> {
 }
 
 impl<H> Shared<'_, H> {
-    /// All ranks are to leave. A fault can be noted of a rank only behind this.
-    pub fn stop_all(&self) -> Stopped {
+    /// All ranks are to leave. A fault can be noted of a rank only behind this,
+    /// and has to be.
+    pub fn stop_all(&self) -> Stop {
         self.stop.store(true, Ordering::SeqCst);
-        Stopped(())
+        Stop(())
     }
 
     /// Whether all ranks are to leave.
@@ -79,12 +100,17 @@ impl<H> Shared<'_, H> {
         }
     }
 
-    /// Whether a frame may have come to this rank since the last call.
-    pub fn was_rung(&self, rank: u8) -> bool {
-        match self.bells.get(usize::from(rank)) {
+    /// That no frame has come to this rank since the last call, where its bell
+    /// wasn't rung.
+    pub fn not_rung(&self, rank: u8) -> Option<NotRung> {
+        let was_rung = match self.bells.get(usize::from(rank)) {
             Some(bell) => bell.load(Ordering::SeqCst) && bell.swap(false, Ordering::SeqCst),
             None => true,
+        };
+        if was_rung {
+            return None;
         }
+        Some(NotRung(()))
     }
 
     /// The mark of this rank is set.

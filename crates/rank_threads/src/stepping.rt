@@ -2,7 +2,7 @@
 ghost use Rattle.std.specs.Prelude.{◌≡◌, ◌≢◌, ◌+◌, true, false, Ok, Err, IfOk, OnErr};
 ghost use Rattle.rank_threads.specs.Phases.{clock_in, want_in};
 ghost use Rattle.rank_threads.specs.Seats.{SameSeat, SamePlan};
-ghost use Rattle.rank_threads.specs.Steps.{acts_made, acts_of, turn_in};
+ghost use Rattle.rank_threads.specs.Steps.{acts_made, acts_of, counted, is_limit, is_own, step_of, told, turn_in, Counts, Strode};
 
 use crate::hold::Hold;
 use crate::seat::Seat;
@@ -34,16 +34,19 @@ pub enum Stepped {
 /// step. No act follows a stride in the same turn.
 ///
 /// A rank that is refused by a limit is spent, and steps no more.
-#[tactic(auto, using(crate::proofs::StepLaws::moved_is_act, crate::proofs::StepLaws::unmoved))]
+#[tactic(auto, using(crate::proofs::TurnLemmas::step_laws))]
 pub fn step<W: Wait, H: Hold>(
     rt: &W,
     shared: &Shared<'_, H>,
     blank: &mut ConsoleState,
     seat: &mut Seat<'_, '_>,
 ) -> Result<Stepped, NodeFault>
+    ensures answer { result ≢ Err NodeFault.Memory → result ≡ step_of seat.old.tally seat.old.node.phase }
+    ensures counts { IfOk result (λ stepped. Counts shared.now.limits.steps seat.old.node.phase stepped seat.old.tally seat.new.tally) }
     ensures clock { IfOk result (λ stepped. clock_in seat.new.node.phase ≡ clock_in seat.old.node.phase + acts_of stepped) }
     ensures waits { seat.old.tally.is_blocked ≡ true → seat.old.tally.is_spent ≡ false → (result ≡ Ok Stepped.Blocked) × (seat.new ≡ seat.old) }
     ensures plan { SamePlan seat.old seat.new }
+    ensures blank { blank.new ≡ blank.old }
     ensures same { SameSeat seat.old seat.new }
 {
     if seat.tally.is_spent {
@@ -53,25 +56,76 @@ pub fn step<W: Wait, H: Hold>(
         tell(shared, seat);
         return Ok(Stepped::Blocked);
     }
-    let left = shared.limits.steps.saturating_sub(seat.tally.steps);
-    let made = seat.node.stride(left.min(STRIDE).max(1));
-    if made > 0 {
-        seat.tally.count_steps(made, shared.limits.steps, false);
+    if strode(shared, seat) {
         return Ok(Stepped::Moved);
     }
-    match act(rt, shared, blank, seat) {
+    let answer = act(rt, shared, blank, seat);
+    count(shared, seat, answer)
+}
+
+// Steps of the rank's own, where it wants one. Answers whether it made any.
+#[tactic(auto, using(crate::proofs::TurnLemmas::stride_laws))]
+fn strode<H>(shared: &Shared<'_, H>, seat: &mut Seat<'_, '_>) -> bool
+    ensures own { result ≡ is_own (want_in seat.old.node.phase) }
+    ensures none { result ≡ false → (seat.new.node.phase ≡ seat.old.node.phase) × (seat.new.tally ≡ seat.old.tally) }
+    ensures counts { result ≡ true → Strode shared.now.limits.steps seat.old.tally seat.new.tally }
+    ensures clock { clock_in seat.new.node.phase ≡ clock_in seat.old.node.phase }
+    ensures plan { SamePlan seat.old seat.new }
+    ensures same { SameSeat seat.old seat.new }
+{
+    let left = shared.limits.steps.saturating_sub(seat.tally.steps);
+    let made = seat.node.stride(left.min(STRIDE).max(1));
+    if made == 0 {
+        return false;
+    }
+    seat.tally.count_steps(made, shared.limits.steps, false);
+    true
+}
+
+// An act is counted, and a rank that is refused by a limit has ended.
+#[tactic(auto, using(crate::proofs::TurnLemmas::count_laws))]
+fn count<H>(
+    shared: &Shared<'_, H>,
+    seat: &mut Seat<'_, '_>,
+    answer: Result<Turn, NodeFault>,
+) -> Result<Stepped, NodeFault>
+    ensures told { result ≡ told answer }
+    ensures counted { seat.new.tally ≡ counted shared.now.limits.steps answer seat.old.tally }
+    ensures rest { seat.new ≡ record seat.old { tally = seat.new.tally } }
+    ensures same { SameSeat seat.old seat.new }
+{
+    match answer {
         Ok(Turn::Moved) => {
             seat.tally.count_steps(1, shared.limits.steps, true);
             Ok(Stepped::Acted)
         }
-        Ok(Turn::Blocked) => Ok(Stepped::Blocked),
+        Ok(Turn::Blocked) => {
+            seat.tally.block();
+            Ok(Stepped::Blocked)
+        }
         Ok(Turn::Held) => Ok(Stepped::Held),
         Ok(Turn::Ended) => Ok(Stepped::Ended),
-        Err(NodeFault::ClockSpent | NodeFault::Log) => {
+        Err(fault) => {
+            if !is_limit(fault) {
+                return Err(fault);
+            }
             seat.tally.spend();
             Ok(Stepped::Ended)
         }
-        Err(fault) => Err(fault),
+    }
+}
+
+// Whether a limit refuses the step.
+fn is_limit(fault: NodeFault) -> bool
+    ensures { result ≡ is_limit fault }
+{
+    match fault {
+        NodeFault::ClockSpent | NodeFault::Log => true,
+        NodeFault::Memory
+        | NodeFault::NotSettled
+        | NodeFault::Shelf
+        | NodeFault::Image
+        | NodeFault::Replay => false,
     }
 }
 
@@ -83,7 +137,8 @@ fn tell<H: Hold>(shared: &Shared<'_, H>, seat: &Seat<'_, '_>) {
 }
 
 // Who holds acts is told of one before it is made, also where it turns out to
-// be blocked. The console's lock is taken for a print alone.
+// be blocked. The console's lock is taken for a print alone, and no print is
+// for the blank screen.
 fn act<W: Wait, H: Hold>(
     rt: &W,
     shared: &Shared<'_, H>,
@@ -93,9 +148,8 @@ fn act<W: Wait, H: Hold>(
     ensures answer { result ≢ Err NodeFault.Memory → result ≡ turn_in seat.old.node.phase }
     ensures clock { IfOk result (λ turn. clock_in seat.new.node.phase ≡ clock_in seat.old.node.phase + acts_made (want_in seat.old.node.phase) turn) }
     ensures err { OnErr result (seat.new.node.phase ≡ seat.old.node.phase) }
-    ensures blocks { result ≡ Ok Turn.Blocked → seat.new.tally.is_blocked ≡ true }
-    ensures blocked { seat.old.tally.is_blocked ≡ false → seat.new.tally.is_blocked ≡ true → turn_in seat.old.node.phase ≡ Ok Turn.Blocked }
-    ensures plan { SamePlan seat.old seat.new }
+    ensures blank { blank.new ≡ blank.old }
+    ensures rest { seat.new ≡ record seat.old { node = seat.new.node } }
     ensures same { SameSeat seat.old seat.new }
 {
     let Some(want) = seat.node.wants() else {
@@ -104,7 +158,7 @@ fn act<W: Wait, H: Hold>(
     if want.is_act() {
         tell(shared, seat);
     }
-    let answer = match want {
+    match want {
         Want::Print(_) => {
             let mut console = shared.console.lock(rt);
             seat.node.step(&mut *console)
@@ -116,9 +170,5 @@ fn act<W: Wait, H: Hold>(
         | Want::TryProbe(_)
         | Want::Halted
         | Want::Faulted(_) => seat.node.step(blank),
-    };
-    if let Ok(Turn::Blocked) = answer {
-        seat.tally.block();
     }
-    answer
 }

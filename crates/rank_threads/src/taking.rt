@@ -3,11 +3,12 @@ ghost use Rattle.std.specs.Prelude.{◌≡◌, ◌<◌, IfOk};
 ghost use Rattle.std.specs.Option.{is_none};
 ghost use Rattle.rank_threads.specs.Seats.{SameSeat, SamePlan, SameGate};
 ghost use Rattle.rank_threads.specs.Taking.{TookFrom, TookBelow};
+ghost use Rattle.rank_threads.specs.Turns.{Brings, is_frames};
 ghost use Rattle.rank_threads.specs.Tally.{woken};
 
 use crate::lanes_of::take_from;
 use crate::seat::Seat;
-use crate::shared::Shared;
+use crate::shared::{NotRung, Shared};
 use metered::limits::MOST_FRAMES;
 use std::alloc::AllocError;
 
@@ -70,6 +71,42 @@ pub fn none_came<H>(
         return Ok(None);
     }
     Ok(Some(NoneCame(())))
+}
+
+/// What the lanes brought at the beginning of a turn.
+#[derive(Clone, Copy)]
+pub enum Brought {
+    Frames,
+    Nothing(NoneCame),
+    /// Nobody has rung, so no lane was looked at.
+    Unrung(NotRung),
+}
+
+/// Takes what the lanes bring, unless the rank's bell wasn't rung. An `Err` is
+/// want of memory.
+pub fn taken<H>(shared: &Shared<'_, H>, seat: &mut Seat<'_, '_>) -> Result<Brought, AllocError>
+    ensures brings { IfOk result (λ brought. Brings brought seat.old seat.new) }
+    ensures plan { SamePlan seat.old seat.new }
+    ensures gate { SameGate seat.old seat.new }
+    ensures same { SameSeat seat.old seat.new }
+{
+    if let Some(unrung) = shared.not_rung(seat.rank) {
+        return Ok(Brought::Unrung(unrung));
+    }
+    match none_came(shared, seat)? {
+        Some(none) => Ok(Brought::Nothing(none)),
+        None => Ok(Brought::Frames),
+    }
+}
+
+/// Whether frames came.
+pub fn is_frames(brought: Brought) -> bool
+    ensures { result ≡ is_frames brought }
+{
+    match brought {
+        Brought::Frames => true,
+        Brought::Nothing(_) | Brought::Unrung(_) => false,
+    }
 }
 
 // The next frame from this rank arrives, where there is one.

@@ -2,7 +2,8 @@
 ghost use Rattle.std.specs.Prelude.{◌≡◌, true, false, Some, slice_index_or, slice_set};
 ghost use Rattle.rank_threads.specs.Tally.{new_tally, one_more, begun_again, after_steps, is_last_idle, after_idle};
 
-use crate::shared::{Marked, Stopped, TakenBack};
+use crate::over::Killed;
+use crate::shared::{Marked, Stop, Stopped, TakenBack};
 use metered::limits::MOST_RANKS;
 use rank_node::NodeFault;
 
@@ -55,10 +56,11 @@ impl Tally {
     }
 
     /// The rank can't go on, and all were told to leave.
-    pub fn refuse(&mut self, fault: NodeFault, _: Stopped)
+    pub fn refuse(&mut self, fault: NodeFault, stop: Stop) -> Stopped
         ensures { self.new ≡ record self.old { fault = Some fault } }
     {
         self.fault = Some(fault);
+        stop.noted(self.fault)
     }
 
     /// The rank was refused by a limit.
@@ -104,7 +106,8 @@ impl Tally {
         self.is_blocked = false;
     }
 
-    pub fn count_crash(&mut self)
+    /// The script kills the rank.
+    pub fn count_crash(&mut self, _: &Killed)
         ensures { self.new ≡ record self.old { crashes = one_more self.old.crashes } }
     {
         self.crashes = self.crashes.saturating_add(1);

@@ -1,36 +1,39 @@
 //! One turn of a rank.
-ghost use Rattle.std.specs.Prelude.{◌≡◌, ◌≢◌, true, false, Ok, Some, None, IfOk, drop};
+ghost use Rattle.std.specs.Prelude.{◌≡◌, ◌≢◌, true, false, Some, None, IfOk, OnOk, drop};
+ghost use Rattle.rank_threads.specs.Lives.{goes_down, is_down, is_leave};
 ghost use Rattle.rank_threads.specs.Orders.{order_after, is_kill, is_image};
 ghost use Rattle.rank_threads.specs.Phases.{NoneWaits, TookImage, gate_in, is_running, misses_only_in, settled_of};
+ghost use Rattle.rank_threads.specs.Putting.{NothingBelow};
 ghost use Rattle.rank_threads.specs.Seats.{SameSeat, SamePlan};
 ghost use Rattle.rank_threads.specs.Settling.{leaves_misses};
+ghost use Rattle.rank_threads.specs.Turns.{IsBegun, kills_after};
 
 use crate::hold::Hold;
 use crate::leaving::rest;
+use crate::orders::{is_image, order_after};
+use crate::over::{Killed, Why, kill_of};
 use crate::putting::put_out;
 use crate::seat::Seat;
 use crate::settling::settle;
 use crate::shared::Shared;
 use crate::stepping::{Stepped, step};
-use crate::taking::take_in;
+use crate::taking::{Brought, is_frames, taken};
 use ports::ConsoleState;
 use rank_node::NodeFault;
-use script_text::Order;
 use std::sync::Wait;
 
-/// What follows a turn.
-#[derive(Clone, Copy)]
+/// What follows a turn. It must be spent.
 pub enum After {
     /// Another turn; after an idle one others go first.
     Turn { is_idle: bool },
-    Crash,
-    Leave,
+    Crash(Killed),
+    Leave(Why),
 }
 
 /// What the first two parts of a turn came to.
 #[derive(Clone, Copy)]
 pub struct Begun {
-    took: bool,
+    brought: Brought,
     pub stepped: Stepped,
 }
 
@@ -41,17 +44,19 @@ pub fn begin<W: Wait, H: Hold>(
     blank: &mut ConsoleState,
     seat: &mut Seat<'_, '_>,
 ) -> Result<Begun, NodeFault>
+    ensures begun { IfOk result (λ begun. IsBegun seat.old seat.new begun) }
     ensures plan { SamePlan seat.old seat.new }
+    ensures blank { blank.new ≡ blank.old }
     ensures same { SameSeat seat.old seat.new }
 {
-    let took = shared.was_rung(seat.rank) && take_in(shared, seat)?;
+    let brought = taken(shared, seat)?;
     let stepped = step(rt, shared, blank, seat)?;
-    Ok(Begun { took, stepped })
+    Ok(Begun { brought, stepped })
 }
 
 /// The rest of a turn that began so: the script's next line, what waits at the
 /// gate, what goes out, and the rank's mark. Nothing waits then but misses of a
-/// rank that goes on.
+/// rank that goes on. A replay that is over has to be settled before.
 #[tactic(auto, using(crate::proofs::SettlingLemmas::left_unspent, crate::proofs::SettlingLemmas::left_only))]
 pub fn finish<W: Wait, H: Hold>(
     rt: &W,
@@ -60,11 +65,14 @@ pub fn finish<W: Wait, H: Hold>(
     seat: &mut Seat<'_, '_>,
     begun: Result<Begun, NodeFault>,
 ) -> After
-    ensures settled { result ≢ After.Crash → seat.new.tally.fault ≡ None → seat.new.tally.is_refused ≡ false
+    requires { settled_of seat.old.node.phase ≡ seat.old.node.phase }
+    ensures killed { is_down result ≡ kills_after begun seat.old.plan seat.old.node.phase }
+    ensures settled { is_down result ≡ false → seat.new.tally.fault ≡ None → seat.new.tally.is_refused ≡ false
         → misses_only_in seat.new.node.phase ≡ false → NoneWaits seat.new.node.phase }
-    ensures spent { result ≢ After.Crash → seat.new.tally.fault ≡ None → seat.new.tally.is_refused ≡ false
+    ensures spent { is_down result ≡ false → seat.new.tally.fault ≡ None → seat.new.tally.is_refused ≡ false
         → seat.old.tally.is_spent ≡ true → NoneWaits seat.new.node.phase }
-    ensures left { result ≡ After.Leave → seat.new.tally.fault ≡ None → seat.new.tally.is_refused ≡ false → NoneWaits seat.new.node.phase }
+    ensures left { is_leave result ≡ true → seat.new.tally.fault ≡ None → seat.new.tally.is_refused ≡ false → NoneWaits seat.new.node.phase }
+    ensures blank { blank.new ≡ blank.old }
     ensures same { SameSeat seat.old seat.new }
 {
     let after = match begun {
@@ -77,8 +85,7 @@ pub fn finish<W: Wait, H: Hold>(
     }
 }
 
-// An image that is asked for is taken before frames go out.
-#[tactic(auto, using(crate::proofs::GateLemmas::took_image, crate::proofs::SettlingLemmas::left_stepped))]
+#[tactic(auto, using(crate::proofs::GateLemmas::took_still, crate::proofs::SettlingLemmas::left_stepped))]
 fn end<W: Wait, H: Hold>(
     rt: &W,
     shared: &Shared<'_, H>,
@@ -86,68 +93,65 @@ fn end<W: Wait, H: Hold>(
     seat: &mut Seat<'_, '_>,
     begun: Begun,
 ) -> Result<After, NodeFault>
-    ensures killed { is_kill (order_after begun.stepped seat.old.plan seat.old.node.phase) ≡ true → result ≡ Ok After.Crash }
-    ensures crash { result ≡ Ok After.Crash → is_kill (order_after begun.stepped seat.old.plan seat.old.node.phase) ≡ true }
-    ensures used { result ≡ Ok After.Crash → seat.new.plan ≡ drop 1 seat.old.plan }
+    ensures killed { goes_down result ≡ is_kill (order_after begun.stepped seat.old.plan seat.old.node.phase) }
+    ensures used { goes_down result ≡ true → seat.new.plan ≡ drop 1 seat.old.plan }
     ensures unasked { order_after begun.stepped seat.old.plan seat.old.node.phase ≡ None → seat.new.plan ≡ seat.old.plan }
     ensures image { is_image (order_after begun.stepped seat.old.plan seat.old.node.phase) ≡ true → is_running seat.old.node.phase ≡ true
-        → seat.new.tally.is_refused ≡ false → IfOk result (λ after. after ≢ After.Crash → TookImage seat.new.node.phase) }
+        → seat.new.tally.is_refused ≡ false → IfOk result (λ after. is_down after ≡ false → TookImage seat.new.node.phase) }
     ensures settled { leaves_misses begun.stepped (is_image (order_after begun.stepped seat.old.plan seat.old.node.phase))
         seat.old.tally.is_spent seat.old.node.phase ≡ false
-        → IfOk result (λ after. after ≢ After.Crash → seat.new.tally.is_refused ≡ false → NoneWaits seat.new.node.phase) }
+        → IfOk result (λ after. is_down after ≡ false → seat.new.tally.is_refused ≡ false → NoneWaits seat.new.node.phase) }
     ensures kept { leaves_misses begun.stepped (is_image (order_after begun.stepped seat.old.plan seat.old.node.phase))
         seat.old.tally.is_spent seat.old.node.phase ≡ true
-        → IfOk result (λ after. after ≢ After.Crash → gate_in seat.new.node.phase ≡ gate_in seat.old.node.phase) }
-    ensures left { result ≡ Ok After.Leave → seat.new.tally.is_refused ≡ false → NoneWaits seat.new.node.phase }
+        → IfOk result (λ after. is_down after ≡ false → gate_in seat.new.node.phase ≡ gate_in seat.old.node.phase) }
+    ensures left { IfOk result (λ after. is_leave after ≡ true → seat.new.tally.is_refused ≡ false → NoneWaits seat.new.node.phase) }
+    ensures blank { blank.new ≡ blank.old }
     ensures same { SameSeat seat.old seat.new }
 {
     let order = order_after(begun.stepped, seat);
-    if is_kill(order) {
+    if let Some(killed) = kill_of(order) {
         seat.plan.use_one();
-        return Ok(After::Crash);
+        return Ok(After::Crash(killed));
     }
-    settle(rt, shared, blank, seat, begun.stepped, is_image(order))?;
-    let put = put_out(shared, seat)?;
+    let put = let_out(rt, shared, blank, seat, begun.stepped, is_image(order))?;
     let is_busy = match begun.stepped {
         Stepped::Moved | Stepped::Acted | Stepped::Held => true,
-        Stepped::Blocked | Stepped::Ended => begun.took || put,
+        Stepped::Blocked | Stepped::Ended => put || is_frames(begun.brought),
     };
     if is_busy {
         seat.tally.is_busy();
         return Ok(After::Turn { is_idle: false });
     }
     match rest(shared, seat, begun.stepped)? {
-        Some(_) => Ok(After::Leave),
+        Some(rest) => Ok(After::Leave(Why::AtRest(rest))),
         None => Ok(After::Turn { is_idle: true }),
     }
 }
 
-// What the script's next line asks for after this step.
-fn order_after(stepped: Stepped, seat: &Seat<'_, '_>) -> Option<Order>
-    ensures { result ≡ order_after stepped seat.now.plan seat.now.node.phase }
+// What waits passes before frames go out, since a send that passes is outgoing
+// from then on; and an image is taken before its word goes out.
+#[tactic(auto, using(crate::proofs::GateLemmas::took_image))]
+fn let_out<W: Wait, H>(
+    rt: &W,
+    shared: &Shared<'_, H>,
+    blank: &mut ConsoleState,
+    seat: &mut Seat<'_, '_>,
+    stepped: Stepped,
+    is_imaged: bool,
+) -> Result<bool, NodeFault>
+    ensures nothing { OnOk result (seat.old.tally.may_owe ≡ true → seat.new.tally.may_owe ≡ false → NothingBelow seat.new.node.size seat.new.node.phase) }
+    ensures settled { leaves_misses stepped is_imaged seat.old.tally.is_spent seat.old.node.phase ≡ false
+        → OnOk result (seat.new.tally.is_refused ≡ false → NoneWaits seat.new.node.phase) }
+    ensures kept { leaves_misses stepped is_imaged seat.old.tally.is_spent seat.old.node.phase ≡ true
+        → OnOk result (gate_in seat.new.node.phase ≡ gate_in seat.old.node.phase) }
+    ensures image { is_imaged ≡ true → is_running seat.old.node.phase ≡ true
+        → seat.new.tally.is_refused ≡ false → OnOk result (TookImage seat.new.node.phase) }
+    ensures unasked { is_imaged ≡ false → seat.new.plan ≡ seat.old.plan }
+    ensures blank { blank.new ≡ blank.old }
+    ensures same { SameSeat seat.old seat.new }
 {
-    match stepped {
-        Stepped::Acted => seat.plan.order_at(seat.node.clock()),
-        Stepped::Moved | Stepped::Blocked | Stepped::Held | Stepped::Ended => None,
-    }
-}
-
-fn is_kill(order: Option<Order>) -> bool
-    ensures { result ≡ is_kill order }
-{
-    match order {
-        Some(Order::Kill) => true,
-        Some(Order::Image) | None => false,
-    }
-}
-
-fn is_image(order: Option<Order>) -> bool
-    ensures { result ≡ is_image order }
-{
-    match order {
-        Some(Order::Image) => true,
-        Some(Order::Kill) | None => false,
-    }
+    settle(rt, shared, blank, seat, stepped, is_imaged)?;
+    Ok(put_out(shared, seat)?)
 }
 
 /// A rank that has nothing left to replay runs from now on.
@@ -176,10 +180,11 @@ pub fn settled<'p, 'l>(seat: Seat<'p, 'l>) -> Seat<'p, 'l>
 
 // The rank can't go on, and all are to leave.
 fn faulted<H>(shared: &Shared<'_, H>, seat: &mut Seat<'_, '_>, fault: NodeFault) -> After
-    ensures leaves { result ≡ After.Leave }
+    ensures leaves { is_leave result ≡ true }
+    ensures stays { is_down result ≡ false }
     ensures fault { seat.new ≡ record seat.old { tally = record seat.old.tally { fault = Some fault } } }
     ensures same { SameSeat seat.old seat.new }
 {
-    seat.tally.refuse(fault, shared.stop_all());
-    After::Leave
+    let stopped = seat.tally.refuse(fault, shared.stop_all());
+    After::Leave(Why::Told(stopped))
 }

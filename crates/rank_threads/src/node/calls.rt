@@ -6,7 +6,7 @@ ghost use Rattle.ports.specs.Lanes.{lane_to, put_of};
 ghost use Rattle.rank_threads.specs.Phases.{clock_in, gate_in, misses_only_in, want_in, is_running, settled_of, HasImage, NoneWaits, ReadsRow, SameShelf};
 ghost use Rattle.rank_threads.specs.Putting.{Puts};
 ghost use Rattle.rank_threads.specs.Seats.{SameNode};
-ghost use Rattle.rank_threads.specs.Steps.{acts_made, turn_in};
+ghost use Rattle.rank_threads.specs.Steps.{acts_made, is_print, turn_in};
 ghost use Rattle.rank_threads.specs.Taking.{arrived};
 
 use super::Node;
@@ -87,6 +87,8 @@ impl<'p, 'l> Node<'p, 'l> {
     pub fn stride(&mut self, most: u32) -> u32
         ensures few { result ≤ most }
         ensures some { 0 < most → want_in self.old.phase ≡ Some Internal → result ≢ 0 }
+        ensures own { result ≢ 0 → want_in self.old.phase ≡ Some Internal }
+        ensures none { result ≡ 0 → self.new.phase ≡ self.old.phase }
         ensures stands { result < most → want_in self.new.phase ≢ Some Internal }
         ensures clock { clock_in self.new.phase ≡ clock_in self.old.phase }
         ensures same { SameNode self.old self.new }
@@ -99,6 +101,7 @@ impl<'p, 'l> Node<'p, 'l> {
         ensures answer { result ≢ Err NodeFault.Memory → result ≡ turn_in self.old.phase }
         ensures clock { IfOk result (λ turn. clock_in self.new.phase ≡ clock_in self.old.phase + acts_made (want_in self.old.phase) turn) }
         ensures err { OnErr result (self.new.phase ≡ self.old.phase) }
+        ensures quiet { is_print (want_in self.old.phase) ≡ false → screen.new ≡ screen.old }
         ensures same { SameNode self.old self.new }
     {
         self.phase.step(screen)
@@ -140,6 +143,7 @@ impl<'p, 'l> Node<'p, 'l> {
     ) -> Result<bool, AllocError>
         ensures settled { IfOk result (λ all. all ≡ true → NoneWaits self.new.phase) }
         ensures runs { is_running self.new.phase ≡ is_running self.old.phase }
+        ensures blank { blank.new ≡ blank.old }
         ensures same { SameNode self.old self.new }
     {
         let logger = self.logger;

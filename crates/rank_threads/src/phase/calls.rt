@@ -70,6 +70,7 @@ impl<'p> Phase<'p> {
         requires { (stable_of self.old).desk.table ≡ logger.now.table }
         ensures settled { IfOk result (λ all. all ≡ true → NoneWaits self.new) }
         ensures runs { is_running self.new ≡ is_running self.old }
+        ensures blank { blank.new ≡ blank.old }
         ensures same { SamePhase self.old self.new }
     {
         match self {

@@ -1,6 +1,10 @@
+use Rattle.std.proofs.Common.{◌≡◌}
 use Rattle.rank_threads.specs.Seats.{SameSeat}
 use Rattle.rank_threads.proofs.life.play.Given as goal
 
--- what stays
+-- what stays, and no crash is counted
 abbrev pub invariant-loop : goal.invariant-loop
-invariant-loop g l = SameSeat l.initial.seat l.seat
+invariant-loop g l = record {
+  blank : l.blank ≡ l.fn.blank;
+  same : SameSeat l.initial.seat l.seat;
+}

@@ -1,4 +1,5 @@
-use Rattle.rank_threads.proofs.StepLaws.{again_answers, again_ok_clocks}
+use Rattle.ports.specs.contracts.console_state.ConsoleStateScreen.TheImpl as screen
+use Rattle.rank_threads.proofs.StepLaws.{again_answers, again_ok_clocks, again_quiet}
 use Rattle.rank_threads.proofs.phase.replay_one.Goals as goal
 
 -- it answers by the next event
@@ -9,3 +10,7 @@ returns-clause-answer c =
 -- the clock goes by what is answered
 pub returns-clause-clock : goal.returns-clause-clock
 returns-clause-clock c = again_ok_clocks c.args.rank.now c.step.new.self c.step.result c.requires c.step.ensures.turn c.step.ensures.ok
+
+-- it shows nothing but a print
+pub returns-clause-quiet : goal.returns-clause-quiet
+returns-clause-quiet c other = again_quiet screen.ghosts.shows c.args.rank.now.node c.step.result _ _ c.step.ensures.shown c.step.ensures.err_screen other

@@ -1,5 +1,6 @@
 use Rattle.rank_node.specs.Steps.{refusal_of, turn_of}
-use Rattle.rank_threads.proofs.StepLaws.{run_answers, run_clocks}
+use Rattle.ports.specs.contracts.console_state.ConsoleStateScreen.TheImpl as screen
+use Rattle.rank_threads.proofs.StepLaws.{run_answers, run_clocks, run_quiet}
 use Rattle.rank_threads.proofs.phase.step_on.Goals as goal
 
 -- it answers as the rank that runs does
@@ -10,3 +11,7 @@ returns-clause-answer c =
 -- the clock goes by what is answered
 pub returns-clause-clock : goal.returns-clause-clock
 returns-clause-clock c = run_clocks c.args.rank.now c.step.new.self c.step.result c.step.ensures.turn c.step.ensures.ok
+
+-- it shows nothing but a print
+pub returns-clause-quiet : goal.returns-clause-quiet
+returns-clause-quiet c other = run_quiet screen.ghosts.shows c.args.rank.now c.step.result _ _ c.step.ensures.shown c.step.ensures.err_screen other

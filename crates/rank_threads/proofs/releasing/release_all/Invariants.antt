@@ -11,6 +11,7 @@ decreases-loop g l = l.rank.stored
 abbrev pub invariant-loop-rank : goal.invariant-loop-rank
 invariant-loop-rank g l = record {
   stored : l.rank.stored ≡ 0;
+  blank : l.blank ≡ l.fn.blank;
   same : SameStable l.fn.rank.stable l.rank.stable;
 }
 

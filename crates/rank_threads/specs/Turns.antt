@@ -1,0 +1,35 @@
+-- What the beginning of a turn comes to.
+use Rattle.std.specs.Prelude.{◌≡◌, Bool, true, false, List, Result, Ok, Err}
+use Rattle.rank_node.specs.declared.fault.NodeFault.{NodeFault}
+use Rattle.script_text.specs.declared.line.ScriptLine.{ScriptLine}
+use Rattle.rank_threads.specs.Orders.{is_kill, order_after}
+use Rattle.rank_threads.specs.Steps.{step_of}
+use Rattle.rank_threads.specs.Taking.{TookBelow}
+use Rattle.rank_threads.specs.declared.phase.Phase.{Phase}
+use Rattle.rank_threads.specs.declared.seat.Seat.{Seat}
+use Rattle.rank_threads.specs.declared.taking.Brought.{Brought}
+use Rattle.rank_threads.specs.declared.taking.Brought.TheVariants as brought
+use Rattle.rank_threads.specs.declared.turn.Begun.{Begun}
+
+-- whether frames came
+abbrev pub is_frames : Brought → Bool
+is_frames brought.Frames = true
+is_frames (brought.Nothing none) = false
+is_frames (brought.Unrung unrung) = false
+
+-- A rank takes what its lanes bring, unless its bell wasn't rung: then it takes nothing.
+abbrev pub Brings : Brought → Seat → Seat → Type 0
+Brings brought.Frames old new = TookBelow old.node.size old new true
+Brings (brought.Nothing none) old new = TookBelow old.node.size old new false
+Brings (brought.Unrung unrung) old new = new ≡ old
+
+-- A turn began: the rank took what its lanes brought, and then made the step that its state said.
+pub record IsBegun (old new : Seat) (begun : Begun) : Type 0 where
+  pub mid : Seat
+  pub brought : Brings begun.brought old mid
+  pub stepped : Ok begun.stepped ≡ step_of mid.tally mid.node.phase
+
+-- the script kills the rank after this beginning of a turn
+abbrev pub kills_after : Result Begun NodeFault → List ScriptLine → Phase → Bool
+kills_after (Ok begun) plan p = is_kill (order_after begun.stepped plan p)
+kills_after (Err f) plan p = false
