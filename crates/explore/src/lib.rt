@@ -13,6 +13,7 @@ mod replay;
 mod search;
 mod steps;
 
+pub use comparing::same_acts;
 pub use explored::{Explored, Outcome};
 pub use limits::Limits;
 pub use moves::{Move, Noted};

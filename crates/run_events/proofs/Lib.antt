@@ -1,3 +1,2 @@
 mod Planning
-mod Same
 mod Played

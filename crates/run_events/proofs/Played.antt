@@ -14,9 +14,9 @@ use Rattle.world_model.specs.Headline.{IsFresh, StandsFor}
 use Rattle.world_model.specs.Sequences.{FollowsAll}
 use Rattle.events_text.specs.Events.{events_of}
 use Rattle.events_text.specs.Written.{events_text}
-use Rattle.run_events.specs.Own.{own}
+use Rattle.explore.specs.Own.{own}
 use Rattle.run_events.specs.Plays.{ArePlain, NoneRefused, IsThere, PlaysFrom, Plays, IsPlayText}
-use Rattle.run_events.proofs.Same.{same_runs}
+use Rattle.explore.proofs.Same.{same_runs}
 
 -- a rank of a world that has the history of another run printed what it did there, and its row is of the same events
 is_there : (w : WorldValue) (C : List Passed) (r : ℕ) → StandsFor w w.run → history w.run r ≡ history C r → IsThere w C r

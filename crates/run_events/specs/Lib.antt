@@ -1,4 +1,3 @@
-pub mod Own
 pub mod Planned
 pub mod Fault
 pub mod Plays

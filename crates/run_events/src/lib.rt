@@ -4,7 +4,6 @@
 
 mod asked;
 mod before;
-mod comparing;
 mod fault;
 mod messages;
 mod order;

@@ -3,11 +3,11 @@ ghost use Rattle.std.specs.Prelude.{◌≡◌, ◌<◌, ◌≤◌, ℕ, true, If
 ghost use Rattle.metered.specs.Limits.{most_ranks};
 ghost use Rattle.crash_free.specs.Sim.{Simulates};
 ghost use Rattle.world_model.specs.World.{size};
-ghost use Rattle.run_events.specs.Own.{own};
+ghost use Rattle.explore.specs.Own.{own};
 ghost use Rattle.run_events.specs.Plays.{ArePlain, IsPlain, NoneRefused, Plays, PlaysFrom};
 
-use crate::comparing::same_acts;
 use crash_free::Sim;
+use explore::same_acts;
 use metered::Heap;
 use rank_language::Program;
 use std::alloc::AllocError;

@@ -1,6 +1,6 @@
 use Rattle.std.proofs.Common.{◌≡◌, ℕ, ◌<◌, ◌-◌}
 use Rattle.std.specs.Prelude.{reverse}
-use Rattle.run_events.specs.Own.{own}
+use Rattle.explore.specs.Own.{own}
 use Rattle.run_events.proofs.playing.is_there.Given as goal
 
 -- the ranks so far
