@@ -26,7 +26,7 @@ abbrev pub number_of : Format → ℕ
 number_of One = 1
 number_of Two = 2
 
--- the version of the event words that a rank logs and replays (docs/FORMATS.md, "Events")
+-- the version of the event words that a rank logs and replays (docs/FORMATS.md, "Event words")
 abbrev pub event_version : ℕ
 event_version = 2
 

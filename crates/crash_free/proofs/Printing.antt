@@ -54,6 +54,7 @@ more_some r xs i x v low is own =
     ap (filter_map (line_of r)) (take_more xs i x low ∙ ap (λ z. take i xs ++ z ∷ []) (sym is)) ∙ filter_map-append (line_of r) (take i xs) (x ∷ [])
     ∙ (let one : filter_map (line_of r) (x ∷ []) ≡ v ∷ [] = rw own refl in ap (λ z. filter_map (line_of r) (take i xs) ++ z) one)
 
+-- and without one
 pub more_none : (r : ℕ) (xs : List Passed) (i : ℕ) (x : Passed) → i < length xs → x ≡ get_or xs i x → line_of r x ≡ None
     → filter_map (line_of r) (take (i + 1) xs) ≡ filter_map (line_of r) (take i xs)
 more_none r xs i x low is other =

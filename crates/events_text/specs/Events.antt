@@ -1,4 +1,4 @@
--- The events of a text, or its first faulty line and that line's lowest fault (docs/FORMATS.md, "Events").
+-- The events of a text, or its first faulty line and that line's lowest fault (docs/FORMATS.md, "Events of a world").
 use Rattle.std.specs.Prelude.{ℕ, ◌+◌, List, [], ◌∷◌, ◌++◌, nat_lt, length, codes, Option}
 use Rattle.std.specs.Prelude.{Some, None, Result, Ok, Err, if◌then◌else◌}
 use Rattle.std.specs.Str.{bytes_eq}

@@ -1,4 +1,4 @@
--- The text of a world's run: a line for each reply, and then the lines that each rank printed (docs/FORMATS.md, "Events").
+-- The text of a world's run: a line for each reply, and then the lines that each rank printed (docs/FORMATS.md, "Events of a world").
 use Rattle.std.specs.Prelude.{◌≡◌, ℕ, ℤ, zero, suc, List, [], ◌∷◌, ◌++◌, codes}
 use Rattle.std.specs.Fmt.{decimal, signed_decimal}
 use Rattle.ports.specs.declared.line.Line.{Line}

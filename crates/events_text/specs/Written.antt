@@ -1,4 +1,4 @@
--- The text of events, one a line, and that of a way on (docs/FORMATS.md, "Events").
+-- The text of events, one a line, and that of a way on (docs/FORMATS.md, "Events of a world").
 use Rattle.std.specs.Prelude.{◌≡◌, ℕ, List, [], ◌∷◌, ◌++◌, codes}
 use Rattle.std.specs.Fmt.{decimal}
 use Rattle.world_model.specs.declared.event.WorldEvent.{WorldEvent}

@@ -1,4 +1,4 @@
--- A line of a text, before its tokens are looked at (the language's own manual, docs/LANGUAGE.md, "Lines").
+-- A line of a text, before its tokens are looked at (the language's own manual, docs/LANGUAGE.md, "Lines, words and names").
 use Rattle.std.specs.Prelude.{ℕ, List, [], ◌∷◌, Bool, true, false, ◌&&◌, nat_eq, Option, Some, None, if◌then◌else◌}
 use Rattle.text_lines.specs.Pieces.{without_front}
 use Rattle.rank_grammar.specs.declared.token.Token.{Token}

@@ -1,5 +1,5 @@
 -- What the lines so far have declared and opened, and which statements may follow them (the language's own
--- manual, docs/LANGUAGE.md, "Names", "Blocks" and "Limits").
+-- manual, docs/LANGUAGE.md, "Lines, words and names", "Blocks" and "Limits").
 use Rattle.std.specs.Prelude.{◌≡◌, ℕ, ◌+◌, ◌-◌, ◌^◌, ◌≤◌, max, List, [], ◌∷◌, ◌++◌}
 use Rattle.std.specs.Prelude.{Bool, true, false, ◌&&◌, ◌||◌, not, nat_le, nat_lt, length, map}
 use Rattle.std.specs.Str.{bytes_eq}

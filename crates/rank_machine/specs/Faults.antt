@@ -1,4 +1,4 @@
--- The numbers by which outputs name the faults of a rank at work (docs/LANGUAGE.md, "Faults at work").
+-- The numbers by which outputs name the faults of a rank at work (docs/LANGUAGE.md, "How a rank ends").
 use Rattle.std.specs.Prelude.{ℕ, Option, Some, None}
 use Rattle.rank_machine.specs.declared.fault.MachineFault.{MachineFault}
 use Rattle.rank_machine.specs.declared.fault.MachineFault.TheVariants.{Overflow, ZeroDivide, Index, BadRank, BadTag, TooLong, CollectiveMismatch}

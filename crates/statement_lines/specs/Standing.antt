@@ -1,4 +1,4 @@
--- On which lines of its text the statements of a program stand (the language's own manual, docs/LANGUAGE.md, "Lines").
+-- On which lines of its text the statements of a program stand (the language's own manual, docs/LANGUAGE.md, "Lines, words and names").
 use Rattle.std.specs.Prelude.{◌≡◌, ℕ, zero, suc, ◌<◌, List, Option, Some, None, IsSomeAnd, length, slice_get}
 use Rattle.text_lines.specs.Pieces.{pieces_of}
 use Rattle.rank_grammar.specs.declared.token.Token.{Token}

@@ -19,7 +19,8 @@ use Rattle.world_model.specs.Driven.{Emptied, Listened}
 use Rattle.world_model.proofs.Driving.{happened}
 use Rattle.world_model.proofs.Flushing.{gone_asks, gone_drained}
 use Rattle.world_model.proofs.Hearing.{hear_keeps, hear_next}
-use Rattle.world_model.proofs.Advancing.{advanced_more, flushed_more, listened_more, refused_or, refused_same, advanced_by, advanced_restart, live_next, put_none, round_flushed}
+use Rattle.world_model.proofs.Advancing.{advanced_more, flushed_more, listened_more, refused_or, refused_same, advanced_by, advanced_restart}
+use Rattle.world_model.proofs.Advancing.{live_next, put_none, round_flushed}
 
 -- ---- all that goes from a rank to another
 

@@ -132,7 +132,8 @@ onward_less : (lines : List Line) (p q : ℕ) → p < q → p < length lines →
 onward_less lines p q on within = go (hops_at lines q (slice_get lines q) refl)
   where
     go : (hops (length lines) q (slice_get lines q) ≡ 0)
-        ⊎ ((q < length lines) × (hops (length lines) q (slice_get lines q) ≤ 2 + length lines - q)) → hops (length lines) q (slice_get lines q) < 2 + length lines - p
+        ⊎ ((q < length lines) × (hops (length lines) q (slice_get lines q) ≤ 2 + length lines - q))
+        → hops (length lines) q (slice_get lines q) < 2 + length lines - p
     go (inl z) = omega (arith, z, within)
     go (inr h) =
         let l = h.0 in

@@ -54,12 +54,13 @@ test_inner s (loop x y r) e None h i =
           (valued_inner s (loop x y r) (value s x) i),
     )
 
--- where an `if` leads, and a `while`
+-- where an `if` leads
 if_next : (at : ℕ → Block) (p q : ℕ) (e : Placed) (b : Bool) → at (p + 1) ≡ taken true (at p) → at q ≡ taken false (at p)
     → at (next_position (if_line e q) p b) ≡ taken b (at p)
 if_next at p q e true h k = h
 if_next at p q e false h k = k
 
+-- and where a `while` does
 while_next : (at : ℕ → Block) (p q : ℕ) (e : Placed) (b : Bool) → at (p + 1) ≡ taken true (at p) → at q ≡ taken false (at p)
     → at (next_position (while_line e q) p b) ≡ taken b (at p)
 while_next at p q e true h k = h

@@ -1,4 +1,5 @@
--- A step of a rank that has nothing left to replay and is behind the run makes only sends and prints again; and what any step of a rank behind the run comes to.
+-- A step of a rank that has nothing left to replay and is behind the run makes only sends and prints again; and what any
+-- step of a rank behind the run comes to.
 use Rattle.std.proofs.Common.{◌≡◌, ℕ, ◌<◌, inl, inr, true, if◌then◌else◌, []}
 use Rattle.std.proofs.Common.{Some, None, length, refl, sym, ap, subst, ◌∙◌, arith, slice_set}
 use Rattle.std.proofs.lemmas.Bool.{ne_eqb}

@@ -17,7 +17,8 @@ one_stop a zero (suc k) s t = absurd (never (λ b. StopsAfter k b) (inner a) s t
 one_stop a (suc j) zero s t = absurd (never (λ b. StopsAfter j b) (inner a) t s)
 one_stop a (suc j) (suc k) s t = both (λ b. one_stop b j k) (inner a) s t
   where
-    both : ((b : State) → StopsAfter j b → StopsAfter k b → j ≡ k) → (o : Option State) → IsSomeAnd o (λ b. StopsAfter j b) → IsSomeAnd o (λ b. StopsAfter k b) → suc j ≡ suc k
+    both : ((b : State) → StopsAfter j b → StopsAfter k b → j ≡ k)
+        → (o : Option State) → IsSomeAnd o (λ b. StopsAfter j b) → IsSomeAnd o (λ b. StopsAfter k b) → suc j ≡ suc k
     both same None x y = absurd x
     both same (Some b) x y = ap suc (same b x y)
 

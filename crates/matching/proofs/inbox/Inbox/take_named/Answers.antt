@@ -33,5 +33,7 @@ returns-clause-there c =
 pub returns-clause-gone : goal.returns-clause-gone
 returns-clause-gone c =
     let first = c.take_first.ensures.taken ∙ ap (λ (b : Mailbox). first_by (is_named c.args.source c.args.clock) b.packets) c.self.view_is in
-    let left = ap (λ ms. box_of ms c.self.inside.accepted.items) c.take_first.ensures.left ∙ ap (without_match (is_named c.args.source c.args.clock)) c.self.view_is in
+    let left =
+    ap (λ ms. box_of ms c.self.inside.accepted.items) c.take_first.ensures.left
+    ∙ ap (without_match (is_named c.args.source c.args.clock)) c.self.view_is in
     without_found (is_named c.args.source c.args.clock) c.args.self.now _ _ first left
