@@ -91,7 +91,8 @@ counts_on steps pending new b all plays = plays steps (all b (among_last pending
 
 -- and where it was cut off, or one before was, a rank goes beyond
 pub beyond_on : (program : ProgramValue) (n steps : ℕ) (outcomes : List (List RankOutcome)) (pending : List Branch) (met : List (List Passed))
-    (cut ended : Bool) (b : Branch) → Searches program n outcomes (pending ++ b ∷ []) met cut → AllCount steps (pending ++ b ∷ []) → (cut ≡ true → GoesBeyond program n steps)
+    (cut ended : Bool) (b : Branch) → Searches program n outcomes (pending ++ b ∷ []) met cut → AllCount steps (pending ++ b ∷ [])
+    → (cut ≡ true → GoesBeyond program n steps)
     → (ended ≡ false → (k : ℕ) → Counts k b.sim b.left → GoesBeyond b.sim.program (length b.sim.machines) k)
     → (cut ≡ true) ⊎ (ended ≡ false) → GoesBeyond program n steps
 beyond_on program n steps outcomes pending met cut ended b search all before now (inl e) = before e

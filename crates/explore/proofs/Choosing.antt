@@ -11,7 +11,8 @@ use Rattle.rank_machine.specs.Machine.{MachineValue, state_of, machine_want}
 use Rattle.crash_free.specs.declared.choice.Choice.{Choice}
 use Rattle.crash_free.specs.declared.choice.Choice.TheVariants as choice
 use Rattle.crash_free.specs.Runs.{looked_up, IsRun}
-use Rattle.crash_free.specs.Sim.{SimValue, Simulates, start_of, inbound_of, Meaning, ended, other, own_step, makes, meaning, meant, Does, Allows, with_act, IsAfter}
+use Rattle.crash_free.specs.Sim.{SimValue, Simulates, start_of, inbound_of, Meaning, ended, other, own_step, makes, meaning, meant}
+use Rattle.crash_free.specs.Sim.{Does, Allows, with_act, IsAfter}
 use Rattle.crash_free.specs.Wanted.{Wants, StandsAtAct}
 use Rattle.audit.proofs.Fitting.{IsHit, send_fits, print_fits, take_fits, hit_fits, try_fits}
 use Rattle.explore.specs.Exploring.{and_then, MayFollow}

@@ -52,7 +52,8 @@ found start n (p ∷ C) run r inbound g = by_rank (found start n C run.0 r inbou
         looked_up_longer (wants run.2.stands) (payload run.2.stands) (λ s. sent C s p.rank) inbound p.act run.2.makes
         (λ s. rw e (before s))
 
-    by_rank : history C r ≡ told inbound (acts_in (history C r)) → (p.rank ≡ r) ⊎ (p.rank ≡ r → ⊥) → history (p ∷ C) r ≡ told inbound (acts_in (history (p ∷ C) r))
+    by_rank : history C r ≡ told inbound (acts_in (history C r)) → (p.rank ≡ r) ⊎ (p.rank ≡ r → ⊥)
+        → history (p ∷ C) r ≡ told inbound (acts_in (history (p ∷ C) r))
     by_rank so_far (inl e) =
         let last : Act × Option Message = (p.act, looked_up (λ s. sent C s p.rank) p.act) in
         let whole : history (p ∷ C) r ≡ history C r ++ last ∷ [] = rw (sym e) (history-own C p.rank p.act) in

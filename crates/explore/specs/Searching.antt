@@ -57,7 +57,8 @@ pub record PlaysOn (s : SimValue) (old : List Branch) (s' : SimValue) (new : Lis
   pub branches : AreAlike s new
   pub kept : (b : Branch) → IsAmong old b → IsAmong new b
   pub longer : length s.run ≤ length s'.run
-  pub comes : (found : List (List RankOutcome)) (k : ℕ) → k ≤ length s.run → AreSearchedFrom s found k new → IsSearched s found s'.run → IsSearched s found s.run
+  pub comes : (found : List (List RankOutcome)) (k : ℕ) → k ≤ length s.run → AreSearchedFrom s found k new → IsSearched s found s'.run
+      → IsSearched s found s.run
 
 -- A run that was met while a branch went on from the first simulation to the second: once all is searched that may follow longer ones, the
 -- second if it is longer and those left behind, all is that may follow it.

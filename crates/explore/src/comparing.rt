@@ -1,15 +1,17 @@
 //! Whether two runs have the same acts, rank by rank.
-ghost use Rattle.std.specs.Prelude.{◌≡◌, ◌<◌, ◌∷◌, [], true, length, MatchOption};
+ghost use Rattle.std.specs.Prelude.{◌≡◌, ◌≢◌, ◌<◌, ◌∷◌, [], true, false, length, MatchOption};
 ghost use Rattle.rank_machine.specs.Acts as acts;
 ghost use Rattle.crash_free.specs.Seen.{act_of};
 ghost use Rattle.explore.specs.Own.{own};
 
+use crate::outcome::has_lines;
 use crash_free::{Act, Passed};
 use matching::Context;
 
 /// Whether a rank's own acts are the same in both lists, in the same order.
 pub fn same_acts(acts: &[Passed], others: &[Passed], rank: u8) -> bool
-    ensures { result ≡ true → own rank acts.now ≡ own rank others.now }
+    ensures yes { result ≡ true → own rank acts.now ≡ own rank others.now }
+    ensures no { result ≡ false → own rank acts.now ≢ own rank others.now }
 {
     let mut rest = acts;
     let mut left = others;
@@ -43,7 +45,8 @@ fn next_own<'a>(acts: &'a [Passed], rank: u8) -> Option<(&'a Act, &'a [Passed])>
 }
 
 fn is_same(act: &Act, other: &Act) -> bool
-    ensures { result ≡ true → act_of act.now ≡ act_of other.now }
+    ensures yes { result ≡ true → act_of act.now ≡ act_of other.now }
+    ensures no { result ≡ false → act_of act.now ≢ act_of other.now }
 {
     match act {
         Act::Sends {
@@ -79,7 +82,8 @@ fn is_same(act: &Act, other: &Act) -> bool
 
 // Whether the act sends this.
 fn is_send(act: &Act, dest: u8, context: Context, tag: u16, items: &[i64]) -> bool
-    ensures { result ≡ true → acts.sends dest context tag items.now ≡ act_of act.now }
+    ensures yes { result ≡ true → acts.sends dest context tag items.now ≡ act_of act.now }
+    ensures no { result ≡ false → acts.sends dest context tag items.now ≢ act_of act.now }
 {
     match act {
         Act::Sends {
@@ -88,14 +92,8 @@ fn is_send(act: &Act, dest: u8, context: Context, tag: u16, items: &[i64]) -> bo
             tag: with,
             items: sent,
         } => {
-            dest == *to && context == *meant && tag == *with && have_same(items, sent.as_slice())
+            dest == *to && context == *meant && tag == *with && has_lines(items, sent.as_slice())
         }
         Act::Takes { .. } | Act::Hits { .. } | Act::Misses | Act::Prints(_) => false,
     }
-}
-
-fn have_same(items: &[i64], others: &[i64]) -> bool
-    ensures { result ≡ true → items.now ≡ others.now }
-{
-    items == others
 }

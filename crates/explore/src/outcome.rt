@@ -38,7 +38,8 @@ impl RankEnd {
     }
 }
 
-fn has_lines(lines: &[i64], others: &[i64]) -> bool
+/// Whether these are the same numbers in the same order.
+pub fn has_lines(lines: &[i64], others: &[i64]) -> bool
     ensures yes { result ≡ true → lines.now ≡ others.now }
     ensures no { result ≡ false → lines.now ≢ others.now }
 {

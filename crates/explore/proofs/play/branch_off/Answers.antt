@@ -45,8 +45,8 @@ loop-at-preserved c =
     (record {
       within = within;
       branches =
-          branches_more c.args.branch.now.sim c.args.moves.now (c.loop-at.at - 1) (get_or c.args.moves.now (c.loop-at.at - 1) (move_of 0 Next)) c.choose.new.self
-          c.args.pending.now.items c.loop-at.pending.items c.requires.stands c.in_ok-choose.ensures.stands c.requires.acts
+          branches_more c.args.branch.now.sim c.args.moves.now (c.loop-at.at - 1) (get_or c.args.moves.now (c.loop-at.at - 1) (move_of 0 Next))
+          c.choose.new.self c.args.pending.now.items c.loop-at.pending.items c.requires.stands c.in_ok-choose.ensures.stands c.requires.acts
           (slice_get-get_or c.args.moves.now (c.loop-at.at - 1) (move_of 0 Next) low) (rw c.in_ok-next.ensures.sim at c.in_ok-choose.ensures.allowed)
           (subst (λ k. BranchesOff c.args.branch.now.sim c.args.moves.now k c.args.pending.now.items c.loop-at.pending.items) back
           c.loop-at.invariant.branches);

@@ -48,8 +48,8 @@ loop-branch-preserved c =
     subst (λ xs. BranchesOff c.advance.new.sim xs 1 c.loop-branch.pending.items c.branch_off.new.pending.items) c.deref-in-loop-branch.ensures.value
     c.in_ok-branch_off.ensures.branches in
     let plays =
-    plays_along c.args.branch.now.sim c.args.pending.now.items c.loop-branch.branch.sim c.advance.new.sim c.loop-branch.pending.items c.loop-branch.invariant.plays
-    c.advance.ensures.leads in
+    plays_along c.args.branch.now.sim c.args.pending.now.items c.loop-branch.branch.sim c.advance.new.sim c.loop-branch.pending.items
+    c.loop-branch.invariant.plays c.advance.ensures.leads in
     let made :
     Moves c.args.branch.now.sim c.advance.new.sim c.choose.new.self.sim c.loop-branch.pending.items c.branch_off.new.pending.items c.in-Some.found.items
     c.index.result.now =

@@ -47,13 +47,14 @@ loop-runs-preserved c =
       few = omega (arith, c.loop-runs-test.true);
       search =
           searches_on c.args.program.now c.args.ranks c.loop-runs.outcomes.items c.look.new.outcomes.items c.pop.new.self.items c.look.new.pending.items
-          c.loop-runs.met c.look.new.met c.loop-runs.out_of_steps c.is_cut-out_of_steps.result c.in_ok-ended.ended c.in-Some.branch search c.in_ok-ended.ensures.looks
-          c.is_cut-out_of_steps.ensures.no;
+          c.loop-runs.met c.look.new.met c.loop-runs.out_of_steps c.is_cut-out_of_steps.result c.in_ok-ended.ended c.in-Some.branch search
+          c.in_ok-ended.ensures.looks c.is_cut-out_of_steps.ensures.no;
       counted = counts_on c.args.limits.steps c.pop.new.self.items c.look.new.pending.items c.in-Some.branch counted c.in_ok-ended.ensures.counts;
       beyond =
           λ e.
           beyond_on c.args.program.now c.args.ranks c.args.limits.steps c.loop-runs.outcomes.items c.pop.new.self.items c.loop-runs.met
-          c.loop-runs.out_of_steps c.in_ok-ended.ended c.in-Some.branch search counted c.loop-runs.invariant.beyond c.in_ok-ended.ensures.beyond (c.is_cut-out_of_steps.ensures.yes e);
+          c.loop-runs.out_of_steps c.in_ok-ended.ended c.in-Some.branch search counted c.loop-runs.invariant.beyond c.in_ok-ended.ensures.beyond
+          (c.is_cut-out_of_steps.ensures.yes e);
     }
 
 -- with no branch left, and no run cut off

@@ -16,7 +16,8 @@ copied c =
 
 pub returns : goal.returns
 returns c =
-    elim c.if-len-ge-MOST_RUNS.branch as (λ _. (m : List Passed) → IsAmong c.push_back.new.self.items m → IsAmong c.args.self.now m ⊎ (m ≡ c.args.sim.now.run)) [
+    elim c.if-len-ge-MOST_RUNS.branch as
+    (λ _. (m : List Passed) → IsAmong c.push_back.new.self.items m → IsAmong c.args.self.now m ⊎ (m ≡ c.args.sim.now.run)) [
       | then-len-ge-MOST_RUNS w ↦
           (let view = c.self.view_is in
           let popped = w.pop_front.ensures.items in
