@@ -1,2 +1,6 @@
 mod ClockLemmas
+mod ColumnLemmas
+mod DeliveryLemmas
+mod LineLemmas
+mod PairLemmas
 mod PlacesLemmas

@@ -1,9 +1,11 @@
 -- The places of acts, found one after another.
-use Rattle.std.proofs.Common.{◌≡◌, ℕ, List, [], ◌∷◌, ◌++◌, ◌+◌, ◌<◌, refl, sym, ap, ◌∙◌, subst, arith, Option, Some, None, slice_get, length, length-append, reverse, take, get_or}
+use Rattle.std.proofs.Common.{◌≡◌, ℕ, zero, suc, List, [], ◌∷◌, ◌++◌, ◌+◌, ◌<◌, ◌≤◌, refl, sym, ap, ◌∙◌, subst, arith, Option, Some, None}
+use Rattle.std.proofs.Common.{slice_get, length, length-append, reverse, take, get_or}
 use Rattle.std.specs.Prelude.{IsSomeAnd}
-use Rattle.std.proofs.lemmas.List.{take_more, reverse-append, length-reverse}
-use Rattle.std.proofs.lemmas.Option.{slice_get_past, slice_get-get_or}
+use Rattle.std.proofs.lemmas.List.{take_more, reverse-append, length-reverse, append-nil, append_assoc}
+use Rattle.std.proofs.lemmas.Option.{slice_get_past, slice_get-get_or, slice_get_within}
 use Rattle.std.proofs.Math.Seq.{get_or-append_seam}
+use Rattle.rank_language.specs.Program.{ProgramValue}
 use Rattle.rank_machine.specs.declared.want.Want.{Want}
 use Rattle.rank_machine.specs.Machine.{MachineValue}
 use Rattle.crash_free.specs.declared.choice.Choice.{Choice}
@@ -11,7 +13,9 @@ use Rattle.crash_free.specs.Runs.{Passed}
 use Rattle.crash_free.specs.Sim.{SimValue, Meaning, ended, other, own_step, makes, meant, Does, Allows}
 use Rattle.crash_free.specs.Inside.{GoesInside}
 use Rattle.crash_free.specs.Wanted.{Wants, WantsAt}
-use Rattle.run_trace.specs.Places.{StandsAt, IsMadeAt, ArePlaces, choice_of, clock_of, is_try}
+use Rattle.crash_free.proofs.Refusing.{ranks_same}
+use Rattle.run_trace.specs.Deliveries.{AreClocked, AreOfRanks, run_before}
+use Rattle.run_trace.specs.Places.{AreFound, StandsAt, IsMadeAt, ArePlaces, choice_of, clock_of, is_try}
 use Rattle.run_trace.specs.declared.place.Place.{Place}
 
 -- the newest act of a run stands last where the oldest is the first
@@ -91,3 +95,68 @@ pub next_made : (s mid s' : SimValue) (acts : List Passed) (i : ℕ) (passed d :
     → ArePlaces s (take (i + 1) acts) (places ++ place ∷ []) s'
 next_made s mid s' acts i passed d places place lt is so_far made =
     rw (take_more acts i d lt, ← is) (made_more s mid s' (take i acts) places passed place so_far made)
+
+-- a rank with an allowed choice is one of those that there are
+rank_below : (s s' : SimValue) (r : ℕ) (c : Choice) → Allows s r c s' → r < length s.machines
+rank_below s s' r c allowed = go (slice_get s.machines r) refl allowed
+  where
+    go : (o : Option MachineValue) → slice_get s.machines r ≡ o → IsSomeAnd o (λ m. IsSomeAnd (slice_get s'.machines r) (λ m'. Does (meant m c) s r m m' s'))
+        → r < length s.machines
+    go None is none = absurd none
+    go (Some m) is does = slice_get_within s.machines r m is
+
+-- so each act that was made is of one of them
+ranks_from : (n : ℕ) (s s' : SimValue) (acts : List Passed) (places : List Place) → ArePlaces s acts places s' → length s.machines ≤ n
+    → (index : ℕ) (p : Passed) → slice_get acts index ≡ Some p → p.rank < n
+ranks_from n s s' [] places made few index p there = absurd cc
+ranks_from n s s' (a ∷ acts) [] made few index p there = absurd made
+ranks_from n s s' (a ∷ acts) (place ∷ places) made few zero p there =
+    let at = made.1 in
+    let below = rank_below at.there made.0 a.rank (choice_of a.act) at.allowed in
+    let same : a ≡ p = cc in
+    subst (λ z. z.rank < n) same (omega (arith, below, few, at.inside.ranks))
+ranks_from n s s' (a ∷ acts) (place ∷ places) made few (suc i) p there =
+    let at = made.1 in
+    let as_many = ranks_same at.there made.0 a.rank (choice_of a.act) at.allowed in
+    ranks_from n made.0 s' acts places made.2 (omega (arith, few, at.inside.ranks, as_many)) i p there
+
+-- there are as many places as acts
+as_many_from : (s s' : SimValue) (acts : List Passed) (places : List Place) → ArePlaces s acts places s' → length places ≡ length acts
+as_many_from s s' [] [] made = refl
+as_many_from s s' [] (place ∷ places) made = absurd made
+as_many_from s s' (a ∷ acts) [] made = absurd made
+as_many_from s s' (a ∷ acts) (place ∷ places) made = ap suc (as_many_from made.0 s' acts places made.2)
+
+-- and each place has the clock of its act
+clocks_from : (s s' : SimValue) (acts : List Passed) (places : List Place) → ArePlaces s acts places s' → (index : ℕ) (p : Passed) (at : Place)
+    → slice_get acts index ≡ Some p → slice_get places index ≡ Some at → at.clock ≡ clock_of (run_before acts (index + 1) ++ s.run) p.rank
+clocks_from s s' [] places made index p at there stands = absurd cc
+clocks_from s s' (a ∷ acts) [] made index p at there stands = absurd made
+clocks_from s s' (a ∷ acts) (place ∷ places) made zero p at there stands =
+    let same : a ≡ p = cc in
+    let here : place ≡ at = cc in
+    ap (λ z. z.clock) (sym here) ∙ made.1.clock ∙ ap (λ z. clock_of z a.rank) made.1.made ∙ ap (λ z. clock_of (a ∷ s.run) z.rank) same
+clocks_from s s' (a ∷ acts) (place ∷ places) made (suc i) p at there stands =
+    let next : suc (i + 1) ≡ suc i + 1 = omega arith in
+    clocks_from made.0 s' acts places made.2 i p at there stands
+    ∙ ap (λ z. clock_of (run_before acts (i + 1) ++ z) p.rank) made.1.made
+    ∙ ap (λ z. clock_of z p.rank)
+    (sym (append_assoc (run_before acts (i + 1)) (a ∷ []) s.run) ∙ ap (λ z. z ++ s.run) (sym (reverse-append (a ∷ []) (take (i + 1) acts))))
+    ∙ ap (λ k. clock_of (run_before (a ∷ acts) k ++ s.run) p.rank) next
+
+-- the acts of which places are found are of the ranks of the program
+pub of_ranks : (program : ProgramValue) (ranks n : ℕ) (acts : List Passed) (places : List Place) → AreFound program ranks acts places → ranks ≤ n
+    → AreOfRanks n acts
+of_ranks program ranks n acts places found few =
+    ranks_from n found.first found.last acts places found.made (omega (arith, few, found.as_many))
+
+-- and their places have their clocks
+pub clocked : (program : ProgramValue) (ranks : ℕ) (acts : List Passed) (places : List Place) → AreFound program ranks acts places
+    → AreClocked acts places
+clocked program ranks acts places found = record {
+  as_many = as_many_from found.first found.last acts places found.made;
+  each = λ index p at there stands.
+      clocks_from found.first found.last acts places found.made index p at there stands
+      ∙ ap (λ z. clock_of (run_before acts (index + 1) ++ z) p.rank) found.no_act
+      ∙ ap (λ z. clock_of z p.rank) (append-nil (run_before acts (index + 1)));
+}

@@ -1,6 +1,6 @@
 //! How each rank ended, and where.
 
-use crate::acts::message_of;
+use crate::acts::message_at;
 use crate::fates::Fate;
 use crate::given::Told;
 use crate::left::unreceived;
@@ -181,7 +181,7 @@ pub fn other<'a>(
     selector: Selector,
 ) -> Option<(u8, Message<'a>)> {
     let passed = told.acts.get(index)?;
-    let message = message_of(passed)?;
+    let message = message_at(told, index)?;
     if unreceived(told, index, rank) && !names(selector, passed.rank, message) {
         Some((passed.rank, message))
     } else {

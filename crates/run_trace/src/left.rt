@@ -1,6 +1,6 @@
 //! Messages that nobody received.
 
-use crate::acts::message_of;
+use crate::acts::message_at;
 use crate::given::Told;
 use crate::message::put_mark;
 use crash_free::Act;
@@ -58,7 +58,7 @@ fn put_count(
     let Some(passed) = told.acts.get(first) else {
         return Ok(());
     };
-    let Some(message) = message_of(passed) else {
+    let Some(message) = message_at(told, first) else {
         return Ok(());
     };
     let source = passed.rank;

@@ -1,4 +1,8 @@
 //! Messages in words.
+ghost use Rattle.std.specs.Prelude.{◌≡◌, ◌++◌, OnOk, option_copied, slice_get, string_bytes};
+ghost use Rattle.run_trace.specs.Seen.{message_seen};
+ghost use Rattle.run_trace.specs.Words.{collective_text, content_text, given_items, items_text, lead_text, listed_text};
+ghost use Rattle.run_trace.specs.Words.{mark_text, name_text, tag_text};
 
 use matching::Context;
 use metered::Heap;
@@ -11,6 +15,8 @@ const SHOWN: usize = 8;
 /// A message as its send has it.
 #[derive(Clone, Copy)]
 pub struct Message<'a> {
+    /// The clock of the send, as it is told.
+    pub clock: u32,
     pub context: Context,
     pub tag: u16,
     pub items: &'a [i64],
@@ -18,7 +24,9 @@ pub struct Message<'a> {
 
 /// Writes the collective that the message is of, as `reduce sum 1: `; nothing for
 /// a message between two ranks.
-pub fn put_collective(to: &mut String<Heap>, message: Message<'_>) -> Result<(), AllocError> {
+pub fn put_collective(to: &mut String<Heap>, message: Message<'_>) -> Result<(), AllocError>
+    ensures { OnOk result (string_bytes to.new ≡ string_bytes to.old ++ lead_text message.entry.context message.entry.items.now) }
+{
     match message.context {
         Context::PointToPoint => Ok(()),
         Context::Collective => {
@@ -29,7 +37,9 @@ pub fn put_collective(to: &mut String<Heap>, message: Message<'_>) -> Result<(),
 }
 
 // Writes kind and number of a collective's packet, as `barrier 2`.
-fn put_kind(to: &mut String<Heap>, items: &[i64]) -> Result<(), AllocError> {
+fn put_kind(to: &mut String<Heap>, items: &[i64]) -> Result<(), AllocError>
+    ensures { OnOk result (string_bytes to.new ≡ string_bytes to.old ++ collective_text items.now) }
+{
     to.push_str(call_name(items))?;
     match call_number(items) {
         Some(number) => write!(to, " {number}"),
@@ -39,7 +49,10 @@ fn put_kind(to: &mut String<Heap>, items: &[i64]) -> Result<(), AllocError> {
 
 /// The kind of a collective's packet; its items are kind, root, number and then
 /// those of the call.
-pub fn call_name(items: &[i64]) -> &'static str {
+pub fn call_name(items: &[i64]) -> &'static str
+    ensures { result.now ≡ name_text (slice_get items.now 0) }
+{
+    // by the numbers that `rank_machine` has for kinds (`kind_number`)
     match items.first() {
         Some(0) => "barrier",
         Some(1) => "bcast",
@@ -51,12 +64,16 @@ pub fn call_name(items: &[i64]) -> &'static str {
 }
 
 /// The number of a collective among its rank's.
-pub fn call_number(items: &[i64]) -> Option<i64> {
+pub fn call_number(items: &[i64]) -> Option<i64>
+    ensures { result ≡ slice_get items.now 2 }
+{
     items.get(2).copied()
 }
 
 /// The items of a message, and of a collective's packet those of the call alone.
-pub fn call_items(message: Message<'_>) -> &[i64] {
+pub fn call_items(message: Message<'_>) -> &[i64]
+    ensures { result.now ≡ given_items message.entry.context message.entry.items.now }
+{
     match message.context {
         Context::PointToPoint => message.items,
         Context::Collective => message.items.get(3..).unwrap_or(&[]),
@@ -65,13 +82,17 @@ pub fn call_items(message: Message<'_>) -> &[i64] {
 
 /// Writes what stands behind the other rank's number: `, tag 7: 41`, and of a
 /// collective the items of the call alone.
-pub fn put_content(to: &mut String<Heap>, message: Message<'_>) -> Result<(), AllocError> {
+pub fn put_content(to: &mut String<Heap>, message: Message<'_>) -> Result<(), AllocError>
+    ensures { OnOk result (string_bytes to.new ≡ string_bytes to.old ++ content_text (message_seen message.entry)) }
+{
     put_tag(to, message)?;
     put_items(to, call_items(message))
 }
 
 /// Writes the tag, as `, tag 7`; nothing of a collective.
-pub fn put_tag(to: &mut String<Heap>, message: Message<'_>) -> Result<(), AllocError> {
+pub fn put_tag(to: &mut String<Heap>, message: Message<'_>) -> Result<(), AllocError>
+    ensures { OnOk result (string_bytes to.new ≡ string_bytes to.old ++ tag_text message.entry.context message.entry.tag) }
+{
     match message.context {
         Context::PointToPoint => {
             let tag = message.tag;
@@ -82,7 +103,9 @@ pub fn put_tag(to: &mut String<Heap>, message: Message<'_>) -> Result<(), AllocE
 }
 
 /// Writes by what to know a message: its tag, or the collective that it is of.
-pub fn put_mark(to: &mut String<Heap>, message: Message<'_>) -> Result<(), AllocError> {
+pub fn put_mark(to: &mut String<Heap>, message: Message<'_>) -> Result<(), AllocError>
+    ensures { OnOk result (string_bytes to.new ≡ string_bytes to.old ++ mark_text message.entry.context message.entry.tag message.entry.items.now) }
+{
     match message.context {
         Context::PointToPoint => put_tag(to, message),
         Context::Collective => {
@@ -92,16 +115,30 @@ pub fn put_mark(to: &mut String<Heap>, message: Message<'_>) -> Result<(), Alloc
     }
 }
 
-fn put_items(to: &mut String<Heap>, items: &[i64]) -> Result<(), AllocError> {
+// Writes the first items behind a colon, and how many there are where these aren't all; nothing where there is none.
+fn put_items(to: &mut String<Heap>, items: &[i64]) -> Result<(), AllocError>
+    ensures { OnOk result (string_bytes to.new ≡ string_bytes to.old ++ items_text items.now) }
+{
+    if items.is_empty() {
+        return Ok(());
+    }
+    to.push(':')?;
     let count = items.len();
-    if count > 0 {
-        to.push(':')?;
+    if count <= SHOWN {
+        return put_listed(to, items);
     }
-    for item in items.iter().take(SHOWN) {
+    put_listed(to, &items[..SHOWN])?;
+    write!(to, " .. ({count} items)")
+}
+
+// Writes items, each behind a space.
+fn put_listed(to: &mut String<Heap>, items: &[i64]) -> Result<(), AllocError>
+    ensures { OnOk result (string_bytes to.new ≡ string_bytes to.old ++ listed_text items.now) }
+{
+    let mut rest = items;
+    while let [item, more @ ..] = rest {
         write!(to, " {item}")?;
-    }
-    if count > SHOWN {
-        write!(to, " .. ({count} items)")?;
+        rest = more;
     }
     Ok(())
 }

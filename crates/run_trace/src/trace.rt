@@ -1,6 +1,9 @@
 //! The whole trace, as text and as JSON.
-ghost use Rattle.std.specs.Prelude.{◌≤◌};
+ghost use Rattle.std.specs.Prelude.{◌≡◌, ◌≤◌, IfOk, reverse, string_bytes};
 ghost use Rattle.metered.specs.Limits.{most_ranks};
+ghost use Rattle.run_trace.specs.Deliveries.{AreClocked, AreDelivered};
+ghost use Rattle.run_trace.specs.Lines.{BeginsWithActs};
+ghost use Rattle.run_trace.specs.Places.{AreFound};
 
 use crate::acts::put_acts;
 use crate::circles::put_circles;
@@ -28,6 +31,7 @@ struct Found {
 }
 
 impl Found {
+    #[tactic(auto, using(crate::proofs::PlacesLemmas::of_ranks, crate::proofs::PlacesLemmas::clocked))]
     fn of(
         alloc: Heap,
         program: &Program,
@@ -37,16 +41,27 @@ impl Found {
     ) -> Result<Found, AllocError>
         requires some { 1 ≤ ranks }
         requires few { ranks ≤ most_ranks }
+        ensures places { IfOk result (λ found. AreFound program.now ranks (reverse run.now.run) found.places.items) }
+        ensures clocked { IfOk result (λ found. AreClocked (reverse run.now.run) found.places.items) }
+        ensures delivered { IfOk result (λ found. AreDelivered (reverse run.now.run) found.deliveries.items) }
     {
         let acts = run.acts();
+        let places = places_of(alloc, program, ranks, acts)?;
+        let deliveries = deliveries_of(alloc, acts)?;
+        let orders = fates_of(alloc, given, acts)?;
         Ok(Found {
-            places: places_of(alloc, program, ranks, acts)?,
-            deliveries: deliveries_of(alloc, acts)?,
-            orders: fates_of(alloc, given, acts)?,
+            places,
+            deliveries,
+            orders,
         })
     }
 
-    fn told<'a, 'p>(&'a self, run: &'a Sim<'p>, given: Given<'a>) -> Told<'a, 'p> {
+    fn told<'a, 'p>(&'a self, run: &'a Sim<'p>, given: Given<'a>) -> Told<'a, 'p>
+        ensures given { result.given ≡ given.entry }
+        ensures acts { result.acts.now ≡ reverse run.entry.now.run }
+        ensures places { result.places.now ≡ self.entry.now.places.items }
+        ensures deliveries { result.deliveries.now ≡ self.entry.now.deliveries.items }
+    {
         Told {
             given,
             run,
@@ -71,11 +86,20 @@ pub fn trace_text(
 ) -> Result<String<Heap>, AllocError>
     requires some { 1 ≤ ranks }
     requires few { ranks ≤ most_ranks }
+    ensures { IfOk result (λ text. BeginsWithActs program.now ranks given.entry.lines.now (reverse run.now.run) (string_bytes text)) }
 {
     let found = Found::of(alloc, program, ranks, run, given)?;
     let told = found.told(run, given);
     let mut text = String::new(alloc);
     put_acts(&mut text, told)?;
+    let rest = rest_of(alloc, told)?;
+    text.push_str(rest.as_str())?;
+    Ok(text)
+}
+
+// What is told behind the acts. It is a text of its own, so that whatever it is, the acts stay as they are.
+fn rest_of(alloc: Heap, told: Told<'_, '_>) -> Result<String<Heap>, AllocError> {
+    let mut text = String::new(alloc);
     put_ends(&mut text, told)?;
     put_circles(&mut text, told)?;
     put_unreceived(&mut text, told)?;

@@ -1,7 +1,7 @@
 //! The acts of a run, an object each.
 
 use super::line::Line;
-use crate::acts::{message_of, sent};
+use crate::acts::{message_at, sent};
 use crate::given::Told;
 use crate::message::{Message, call_items, call_name, call_number};
 use crate::place::Place;
@@ -56,7 +56,7 @@ fn put_act(
     match &passed.act {
         Act::Sends { dest, .. } => {
             line.number("destination", u64::from(*dest))?;
-            match message_of(passed) {
+            match message_at(told, index) {
                 Some(message) => put_message(line, message),
                 None => Ok(()),
             }
@@ -64,8 +64,8 @@ fn put_act(
         Act::Takes { source, .. } => {
             line.number("source", u64::from(*source))?;
             match sent(told, index) {
-                Some((message, clock)) => {
-                    line.number("sent_at", u64::from(clock))?;
+                Some(message) => {
+                    line.number("sent_at", u64::from(message.clock))?;
                     put_message(line, message)
                 }
                 None => Ok(()),
@@ -75,7 +75,7 @@ fn put_act(
             line.number("source", u64::from(*source))?;
             line.flag("iprobe", place.tries)?;
             match sent(told, index) {
-                Some((message, _)) => put_mark(line, message),
+                Some(message) => put_mark(line, message),
                 None => Ok(()),
             }
         }

@@ -2,7 +2,7 @@
 
 use super::acts::put_mark;
 use super::line::Line;
-use crate::acts::message_of;
+use crate::acts::message_at;
 use crate::fates::{Fate, Fated};
 use crate::given::Told;
 use crate::left::unreceived_by;
@@ -24,7 +24,7 @@ pub fn put_unreceived(
             line.number("unreceived", count as u64)?;
             if let Some(passed) = told.acts.get(first) {
                 line.number("source", u64::from(passed.rank))?;
-                if let Some(message) = message_of(passed) {
+                if let Some(message) = message_at(told, first) {
                     put_mark(&mut line, message)?;
                 }
             }
