@@ -17,43 +17,59 @@ pub fn is_there(acts: &[Passed], index: usize, passed: &Passed) -> bool
 fn is_same(act: &Act, other: &Act) -> bool
     ensures { IsTrue result → act_of act.now ≡ act_of other.now }
 {
-    match (act, other) {
-        (
-            Act::Sends {
-                dest,
-                context,
-                tag,
-                items,
-            },
-            Act::Sends {
+    match act {
+        Act::Sends {
+            dest,
+            context,
+            tag,
+            items,
+        } => {
+            let Act::Sends {
                 dest: other_dest,
                 context: other_context,
                 tag: other_tag,
                 items: other_items,
-            },
-        ) => {
+            } = other
+            else {
+                return false;
+            };
             *dest == *other_dest
                 && *context == *other_context
                 && *tag == *other_tag
                 && has_items(items.as_slice(), other_items.as_slice())
         }
-        (
-            Act::Takes { source, place },
-            Act::Takes {
+        Act::Takes { source, place } => {
+            let Act::Takes {
                 source: other_source,
                 place: other_place,
-            },
-        )
-        | (
-            Act::Hits { source, place },
-            Act::Hits {
+            } = other
+            else {
+                return false;
+            };
+            source == other_source && place == other_place
+        }
+        Act::Hits { source, place } => {
+            let Act::Hits {
                 source: other_source,
                 place: other_place,
-            },
-        ) => source == other_source && place == other_place,
-        (Act::Misses, Act::Misses) => true,
-        (Act::Prints(value), Act::Prints(other_value)) => value == other_value,
-        _ => false,
+            } = other
+            else {
+                return false;
+            };
+            source == other_source && place == other_place
+        }
+        Act::Misses => {
+            let Act::Misses = other else {
+                return false;
+            };
+            true
+        }
+        Act::Prints(value) => {
+            let Act::Prints(other_value) = other else {
+                return false;
+            };
+            value == other_value
+        }
     }
 }
 
