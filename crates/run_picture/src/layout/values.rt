@@ -9,10 +9,34 @@ use std::fmt::Write;
 /// How many items of a message are shown.
 const MOST_ITEMS_SHOWN: usize = 3;
 
+/// What a collective does.
+#[derive(Clone, Copy, PartialEq, Eq)]
+pub enum CollectiveKind {
+    Barrier,
+    Broadcast,
+    ReduceSum,
+    ReduceMax,
+    ReduceMin,
+}
+
+impl CollectiveKind {
+    // By its number in packets (docs/FORMATS.md, "Packets of collectives").
+    fn of_number(number: i64) -> Option<CollectiveKind> {
+        match number {
+            0 => Some(CollectiveKind::Barrier),
+            1 => Some(CollectiveKind::Broadcast),
+            2 => Some(CollectiveKind::ReduceSum),
+            3 => Some(CollectiveKind::ReduceMax),
+            4 => Some(CollectiveKind::ReduceMin),
+            _ => None,
+        }
+    }
+}
+
 /// A collective, as its packets name it.
 #[derive(Clone, Copy, PartialEq, Eq)]
 pub struct Collective {
-    pub kind: i64,
+    pub kind: CollectiveKind,
     pub root: i64,
     pub ordinal: i64,
 }
@@ -26,7 +50,7 @@ pub fn collective_of(passed: &Passed) -> Option<Collective> {
             ..
         } => match items.as_slice() {
             [kind, root, ordinal, ..] => Some(Collective {
-                kind: *kind,
+                kind: CollectiveKind::of_number(*kind)?,
                 root: *root,
                 ordinal: *ordinal,
             }),
@@ -44,12 +68,11 @@ impl Collective {
         let mut text = String::new(alloc);
         let root = self.root;
         match self.kind {
-            0 => write!(text, "barrier")?,
-            1 => write!(text, "bcast from {root}")?,
-            2 => write!(text, "reduce sum to {root}")?,
-            3 => write!(text, "reduce max to {root}")?,
-            4 => write!(text, "reduce min to {root}")?,
-            _ => write!(text, "collective")?,
+            CollectiveKind::Barrier => write!(text, "barrier")?,
+            CollectiveKind::Broadcast => write!(text, "bcast from {root}")?,
+            CollectiveKind::ReduceSum => write!(text, "reduce sum to {root}")?,
+            CollectiveKind::ReduceMax => write!(text, "reduce max to {root}")?,
+            CollectiveKind::ReduceMin => write!(text, "reduce min to {root}")?,
         }
         Ok(text)
     }
