@@ -9,12 +9,14 @@ use clap::{Arg, ArgAction, ArgMatches, Command, value_parser};
 use std::alloc::{AllocError, Global};
 
 /// One program, all outcomes of which are looked for, in so many runs of so many
-/// steps of each rank.
+/// steps of each rank, or the run of one of them is wanted as events.
 #[derive(Clone, Copy, PartialEq, Eq)]
 pub struct ExploreJob<'a> {
     pub ranks: u8,
     pub runs: u32,
     pub steps: u32,
+    /// The number, from 1, of the outcome whose run is wanted as events of a world.
+    pub events: Option<u32>,
     pub program: &'a str,
     pub ghost some_rank: { 1 ≤ ranks },
     pub ghost few_ranks: { ranks ≤ most_ranks },
@@ -40,6 +42,7 @@ pub fn explore<'a>(alloc: Global) -> Result<Command<'a>, AllocError> {
             "100000",
             "Steps of a rank in a run, 1 to 1000000000",
         ))?
+        .arg(events(alloc))?
         .arg(program(alloc))
 }
 
@@ -59,6 +62,15 @@ fn limit<'a>(
         .value_parser(value_parser!(u32).range(1..=1000000000))
 }
 
+fn events<'a>(alloc: Global) -> Arg<'a> {
+    Arg::new(alloc, "events")
+        .long("events")
+        .value_name("K")
+        .help("Prints a run of outcome K as events, for `ftmpi world`")
+        .action(ArgAction::Set)
+        .value_parser(value_parser!(u32).range(1..=1000000000))
+}
+
 /// The job that these words name.
 pub fn explore_of<'a>(inner: &ArgMatches<'a>) -> Option<ExploreJob<'a>> {
     let (Some(ranks), Some(runs), Some(steps), Some(program)) = (
@@ -73,6 +85,7 @@ pub fn explore_of<'a>(inner: &ArgMatches<'a>) -> Option<ExploreJob<'a>> {
         ranks,
         runs,
         steps,
+        events: inner.get_one::<u32>("events"),
         program,
     })
 }

@@ -8,6 +8,7 @@ Exit status, with what standard error says:
      not all outcomes were found, or
      one in which a rank isn't halted  nothing
      a run ends without a report       audit fault K, or rank R: node fault K
+     a run gives no events             events fault K NAME, or no outcome K
   2  the program is refused            line L: fault K NAME
      the script is refused             script line L: fault K NAME
      the events are refused            events line L: fault K NAME
@@ -17,8 +18,8 @@ Exit status, with what standard error says:
   4  there is no memory                out of memory
   5  standard output can't be written  nothing
 Standard output is empty with status 2, 3 or 4, but for what `explain` tells,
-and where a run ends without a report. The help of each command says what its
-faults mean.
+and where there is no report or no events are given. The help of each command
+says what its faults mean.
 
 Examples, at the top of the repository:
   ./ftmpi check examples/canonical.rank
@@ -154,6 +155,14 @@ them a line says so that begins with #, as one does before the acts.
 With --json each of these lines is an object of JSON, with all items of a
 message.
 
+With --events the same run is printed in place of all this as events that make
+it once more, one a line, none of them a crash. They are for `ftmpi world
+--ranks N PROGRAM`. Faults, as `events fault F NAME`: why there are none.
+  1 NoOrder        messages can't arrive so that each rank finds what that run
+                   gives it, if none crashes
+  2 TooManyEvents  they would be more than 100000
+  3 RowLimit       a rank would have more than 4096 events stored
+
 With --picture the same run is printed as a picture, an SVG file: a line for
 each rank, with its acts and its crashes, and arrows for messages. Times go from
 left to right: an act's time is 1 more than that of the rank's act before, and
@@ -161,12 +170,13 @@ than that of the send whose message it takes or finds. --from and --to choose a
 part by these times. Of a run that is too wide the first and the last times are
 drawn.
 
-Idle turns, the script, faults and the exit status are as `ftmpi run --help` has
-them.
+Idle turns, the script, other faults and the exit status are as `ftmpi run
+--help` has them; it is 1 too where there are no events.
 
 Examples, at the top of the repository:
   ./ftmpi trace --ranks 2 examples/answer.rank
   ./ftmpi trace --ranks 2 --idle 100 examples/stalled.rank
+  ./ftmpi trace --ranks 2 --events examples/answer.rank
   ./ftmpi trace --ranks 4 --picture examples/ring.rank > ring.svg
 
 docs/RUNS.md shows how to read a trace.";
@@ -288,11 +298,23 @@ and a blank line. The last lines are
                 there may be others: M runs were looked at, or a rank made S
                 steps in one of them
 
-Exit status: 0 where all was looked at and each rank halts in each outcome, 1
-where not, 2 where the program is refused or can't be read; `ftmpi --help` has
-the others.
+A search that takes more than a second says now and then on standard error, if
+that is a terminal, how many runs it has looked at.
 
-Example, at the top of the repository:
+With --events K a run of outcome K is printed in place of all this: events that
+make it once more, one a line, none of them a crash. They are for `ftmpi world
+--ranks N PROGRAM`. Faults, as `events fault F NAME`: why there are none.
+  1 NoOrder        messages can't arrive so that each rank finds what that run
+                   gives it, if none crashes
+  2 TooManyEvents  they would be more than 100000
+  3 RowLimit       a rank would have more than 4096 events stored
+
+Exit status: 0 where all was looked at and each rank halts in each outcome, 1
+where not or where there are no events, 2 where the program is refused or can't
+be read; `ftmpi --help` has the others.
+
+Examples, at the top of the repository:
   ./ftmpi explore --ranks 3 examples/first_come.rank
+  ./ftmpi explore --ranks 3 --events 1 examples/first_come.rank
 
 docs/LANGUAGE.md has a page on programs that are right whatever the order.";

@@ -12,6 +12,8 @@ pub enum TraceForm {
     Text,
     /// JSON, an object a line.
     Json,
+    /// Events of a world, one a line.
+    Events,
     /// A picture, from one time of the run's acts to another.
     Picture { from: u32, to: u32 },
 }
@@ -30,6 +32,7 @@ pub fn trace<'a>(alloc: Global) -> Result<Command<'a>, AllocError> {
         .after_help(help::TRACE);
     of_a_run(alloc, command)?
         .arg(json(alloc))?
+        .arg(events(alloc)?)?
         .arg(picture(alloc)?)?
         .arg(time(alloc, "from", "The first time drawn, 1 to 1000000000")?)?
         .arg(time(alloc, "to", "The last time drawn, 1 to 1000000000")?)
@@ -42,12 +45,21 @@ fn json<'a>(alloc: Global) -> Arg<'a> {
         .action(ArgAction::SetTrue)
 }
 
+fn events<'a>(alloc: Global) -> Result<Arg<'a>, AllocError> {
+    Arg::new(alloc, "events")
+        .long("events")
+        .help("Prints that run as events, for `ftmpi world`")
+        .action(ArgAction::SetTrue)
+        .conflicts_with("json")
+}
+
 fn picture<'a>(alloc: Global) -> Result<Arg<'a>, AllocError> {
     Arg::new(alloc, "picture")
         .long("picture")
         .help("Prints a picture of the run, one SVG file (below)")
         .action(ArgAction::SetTrue)
-        .conflicts_with("json")
+        .conflicts_with("json")?
+        .conflicts_with("events")
 }
 
 fn time<'a>(alloc: Global, id: &'a str, help: &'a str) -> Result<Arg<'a>, AllocError> {
@@ -58,8 +70,9 @@ fn time<'a>(alloc: Global, id: &'a str, help: &'a str) -> Result<Arg<'a>, AllocE
         .action(ArgAction::Set)
         .value_parser(value_parser!(u32).range(1..=1000000000))
         .requires_arg("picture")?
-        // What an argument requires isn't missed where it conflicts with one that is there, as `--picture` does with `--json`.
-        .conflicts_with("json")
+        // What an argument requires isn't missed where it conflicts with one that is there, as `--picture` does with these.
+        .conflicts_with("json")?
+        .conflicts_with("events")
 }
 
 /// The job that the words ask for.
@@ -74,6 +87,8 @@ pub fn trace_of<'a>(inner: &ArgMatches<'a>) -> Option<TraceJob<'a>> {
 fn form_of(inner: &ArgMatches<'_>) -> TraceForm {
     if inner.get_flag("json") {
         TraceForm::Json
+    } else if inner.get_flag("events") {
+        TraceForm::Events
     } else if inner.get_flag("picture") {
         TraceForm::Picture {
             from: inner.get_one::<u32>("from").unwrap_or(1),

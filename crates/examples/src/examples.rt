@@ -1,7 +1,7 @@
 //! Runs, checks and worlds of the examples.
 
 /// The words of each run, after the program's name.
-pub const RUNS: [&str; 86] = [
+pub const RUNS: [&str; 88] = [
     "run --ranks 2 examples/answer.rank",
     "run --ranks 4 examples/ring.rank",
     "run --ranks 2 examples/ping_pong.rank",
@@ -56,7 +56,9 @@ pub const RUNS: [&str; 86] = [
     "trace --ranks 3 examples/pipeline.rank",
     "trace --ranks 4 examples/odd_even_sort.rank",
     "trace --ranks 2 --picture examples/answer.rank",
+    "trace --ranks 2 --events examples/answer.rank",
     "explore --ranks 3 examples/first_come.rank",
+    "explore --ranks 3 --events 2 examples/first_come.rank",
     "check examples/canonical.rank",
     "check examples/refused.rank",
     "explain examples/refused.rank",

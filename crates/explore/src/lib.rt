@@ -12,6 +12,7 @@ mod play;
 mod replay;
 mod search;
 mod steps;
+mod watch;
 
 pub use comparing::same_acts;
 pub use explored::{Explored, Outcome};
@@ -20,3 +21,4 @@ pub use moves::{Move, Noted};
 pub use outcome::RankEnd;
 pub use replay::run_of;
 pub use search::explore;
+pub use watch::{Unwatched, Watch};

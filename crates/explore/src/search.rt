@@ -14,17 +14,20 @@ use crate::limits::Limits;
 use crate::met::Met;
 use crate::outcome::outcome_of;
 use crate::play::{Played, play};
+use crate::watch::Watch;
 use metered::Heap;
 use rank_language::Program;
 use std::alloc::AllocError;
 
 /// Looks for all outcomes of the program on so many ranks, depth first, within
-/// these limits. An `Err` is want of memory.
-pub fn explore(
+/// these limits. After each run `watch` is told how many were looked at. An `Err`
+/// is want of memory.
+pub fn explore<W: Watch>(
     alloc: Heap,
     program: &Program,
     ranks: u8,
     limits: Limits,
+    watch: &mut W,
 ) -> Result<Explored, AllocError>
     requires some { 1 ≤ ranks }
     requires few { ranks ≤ most_ranks }
@@ -49,6 +52,7 @@ pub fn explore(
         let ended = look(alloc, branch, &mut pending, &mut outcomes, &mut met)?;
         out_of_steps = is_cut(out_of_steps, ended);
         runs += 1;
+        watch.looked(runs);
     }
     let complete = is_complete(&pending, out_of_steps);
     Ok(Explored {

@@ -1,7 +1,7 @@
 //! `ftmpi`: runs rank programs on the machine's own files and streams.
 #![tactic(auto)]
 
-use runner::{MachineFiles, command, words_given};
+use runner::{MachineFiles, Progress, command_watched, words_given};
 use std::process::ExitCode;
 
 fn main(rt: HostRuntime) -> ExitCode {
@@ -10,13 +10,16 @@ fn main(rt: HostRuntime) -> ExitCode {
     let status = match words_given(&rt) {
         Ok(words) => {
             let mut files = MachineFiles::new(&rt);
-            command(
+            let mut screen = rt.stderr();
+            let mut progress = Progress::new(&rt, &mut screen);
+            command_watched(
                 &rt,
                 rt.alloc(),
                 words.as_slice(),
                 &mut files,
                 &mut out,
                 &mut err,
+                &mut progress,
             )
         }
         Err(fault) => fault.tell(&mut err),

@@ -28,6 +28,8 @@ mod outcomes;
 #[cfg(test)]
 mod pictures;
 #[cfg(test)]
+mod plays;
+#[cfg(test)]
 mod refusals;
 #[cfg(test)]
 mod reports;
@@ -39,5 +41,7 @@ mod streams;
 mod told;
 #[cfg(test)]
 mod traces;
+#[cfg(test)]
+mod watching;
 #[cfg(test)]
 mod words;

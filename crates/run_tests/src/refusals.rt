@@ -232,7 +232,7 @@ fn refused(rt: HostRuntime) -> Result<(), Fail> {
 }
 
 /// Words that are refused, or that ask for help, or for a run, with the exit status.
-const WORDS: [(&str, u8); 46] = [
+const WORDS: [(&str, u8); 56] = [
     ("run --ranks 1 p", 0),
     ("run --ranks 16 --script s --idle 1 --steps 1000000000 p", 0),
     ("run --ranks 02 p", 0),
@@ -262,6 +262,16 @@ const WORDS: [(&str, u8); 46] = [
     ("trace --ranks 1 --json --to 2 p", 3),
     ("trace --ranks 1 --picture --from 0 p", 3),
     ("trace --ranks 1 --picture --to 1000000001 p", 3),
+    ("trace --ranks 1 --events p", 0),
+    ("trace --ranks 1 --events --json p", 3),
+    ("trace --ranks 1 --json --events p", 3),
+    ("trace --ranks 1 --picture --events p", 3),
+    ("trace --ranks 1 --events --to 2 p", 3),
+    ("run --ranks 1 --events p", 3),
+    ("explore --ranks 1 --events 1 p", 0),
+    ("explore --ranks 1 --events 0 p", 3),
+    ("explore --ranks 1 --events 1000000001 p", 3),
+    ("explore --ranks 1 --events p", 3),
     ("trace p", 3),
     ("jump", 3),
     ("check --help", 0),

@@ -9,7 +9,7 @@ use std::rt::Env;
 use std::test::Fail;
 
 /// The words of a run, with its ranks, idle turns, steps and program, and of one that is told its form.
-const RUNS: [(&str, &str); 8] = [
+const RUNS: [(&str, &str); 9] = [
     ("ftmpi run --ranks 1 p", "1 1000000 1000000 p"),
     ("ftmpi run --ranks 16 --idle 5 p", "16 5 1000000 p"),
     ("ftmpi run --ranks 2 --steps 7 p", "2 1000000 7 p"),
@@ -29,6 +29,10 @@ const RUNS: [(&str, &str); 8] = [
     (
         "ftmpi trace --to 9 --picture --ranks 1 --from 3 p",
         "1 1000000 1000000 p Picture { from: 3, to: 9 }",
+    ),
+    (
+        "ftmpi trace --events --ranks 2 p",
+        "2 1000000 1000000 p Events",
     ),
 ];
 

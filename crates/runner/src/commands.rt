@@ -3,7 +3,7 @@
 //! | Status | When |
 //! |---|---|
 //! | 0 | done, help too; after `explore` all was looked at and each rank halts; after `explain` there is no fault |
-//! | 1 | after a run or a trace a rank isn't halted, or its run ends without a report |
+//! | 1 | after a run or a trace a rank isn't halted, or its run ends without a report; a run gives no events |
 //! | | after `explore` not all was looked at, or in some outcome a rank isn't halted |
 //! | 2 | the program, the script or the events are refused, by `explain` too, or a file can't be read |
 //! | 3 | the words are refused |
@@ -29,6 +29,7 @@ pub use crate::commands::refusal::Refusal;
 pub use crate::commands::said::Said;
 use crate::files::Files;
 use command_line::{NoJob, job_of};
+use explore::{Unwatched, Watch};
 use metered::Heap;
 use std::alloc::AllocError;
 use std::io::Write;
@@ -50,7 +51,28 @@ pub fn command<R: Threads + Wait + Sync + Copy + Send + AllocGlobal, F: Files, O
 ) -> u8
     ensures { result ≤ 5 }
 {
-    match speak(rt, alloc, words, files) {
+    command_watched(rt, alloc, words, files, out, err, &mut Unwatched)
+}
+
+/// The same, where `watch` is told how far a search has come.
+pub fn command_watched<
+    R: Threads + Wait + Sync + Copy + Send + AllocGlobal,
+    F: Files,
+    O: Write,
+    E: Write,
+    W: Watch,
+>(
+    rt: &R,
+    alloc: Heap,
+    words: &[String],
+    files: &mut F,
+    out: &mut O,
+    err: &mut E,
+    watch: &mut W,
+) -> u8
+    ensures { result ≤ 5 }
+{
+    match speak(rt, alloc, words, files, watch) {
         Ok(said) => tell(&said, out, err),
         Err(_) => {
             let _ = write_whole(err, b"out of memory\n");
@@ -83,14 +105,15 @@ fn write_whole<W: Write>(to: &mut W, text: &[u8]) -> std::io::Result<()>
     to.flush()
 }
 
-fn speak<R: Threads + Wait + Sync + Copy + Send + AllocGlobal, F: Files>(
+fn speak<R: Threads + Wait + Sync + Copy + Send + AllocGlobal, F: Files, W: Watch>(
     rt: &R,
     alloc: Heap,
     words: &[String],
     files: &mut F,
+    watch: &mut W,
 ) -> Result<Said, AllocError> {
     match job_of(rt.alloc(), words) {
-        Ok(job) => work(rt, alloc, job, files),
+        Ok(job) => work(rt, alloc, job, files, watch),
         Err(no_job) => refuse(alloc, &no_job),
     }
 }

@@ -9,12 +9,15 @@ mod commands;
 mod files;
 mod outcomes;
 mod output;
+mod progress;
 mod words;
 
 pub use audit::{AuditFault, End, Outcome};
-pub use commands::{Refusal, Said, command};
+pub use commands::{Refusal, Said, command, command_watched};
+pub use explore::Watch;
 pub use files::{FileFault, Files, MachineFiles};
 pub use ports::Line;
+pub use progress::Progress;
 pub use rank_machine::MachineFault;
 pub use rank_node::NodeFault;
 pub use rank_threads::{Hold, Report, RunFault, RunLimits, run};

@@ -93,6 +93,7 @@ Options:
       --idle <T>       Idle turns (below), 1 to 1000000000 [default: 1000000]
       --steps <S>      Steps a rank may make, 1 to 1000000000 [default: 1000000]
       --json           Tells the same as JSON, an object a line
+      --events         Prints that run as events, for `ftmpi world`
       --picture        Prints a picture of the run, one SVG file (below)
       --from <C>       The first time drawn, 1 to 1000000000
       --to <C>         The last time drawn, 1 to 1000000000
@@ -133,6 +134,14 @@ them a line says so that begins with #, as one does before the acts.
 With --json each of these lines is an object of JSON, with all items of a
 message.
 
+With --events the same run is printed in place of all this as events that make
+it once more, one a line, none of them a crash. They are for `ftmpi world
+--ranks N PROGRAM`. Faults, as `events fault F NAME`: why there are none.
+  1 NoOrder        messages can't arrive so that each rank finds what that run
+                   gives it, if none crashes
+  2 TooManyEvents  they would be more than 100000
+  3 RowLimit       a rank would have more than 4096 events stored
+
 With --picture the same run is printed as a picture, an SVG file: a line for
 each rank, with its acts and its crashes, and arrows for messages. Times go from
 left to right: an act's time is 1 more than that of the rank's act before, and
@@ -140,12 +149,13 @@ than that of the send whose message it takes or finds. --from and --to choose a
 part by these times. Of a run that is too wide the first and the last times are
 drawn.
 
-Idle turns, the script, faults and the exit status are as `ftmpi run --help` has
-them.
+Idle turns, the script, other faults and the exit status are as `ftmpi run
+--help` has them; it is 1 too where there are no events.
 
 Examples, at the top of the repository:
   ./ftmpi trace --ranks 2 examples/answer.rank
   ./ftmpi trace --ranks 2 --idle 100 examples/stalled.rank
+  ./ftmpi trace --ranks 2 --events examples/answer.rank
   ./ftmpi trace --ranks 4 --picture examples/ring.rank > ring.svg
 
 docs/RUNS.md shows how to read a trace.

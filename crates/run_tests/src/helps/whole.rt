@@ -26,6 +26,7 @@ Exit status, with what standard error says:
      not all outcomes were found, or
      one in which a rank isn't halted  nothing
      a run ends without a report       audit fault K, or rank R: node fault K
+     a run gives no events             events fault K NAME, or no outcome K
   2  the program is refused            line L: fault K NAME
      the script is refused             script line L: fault K NAME
      the events are refused            events line L: fault K NAME
@@ -35,8 +36,8 @@ Exit status, with what standard error says:
   4  there is no memory                out of memory
   5  standard output can't be written  nothing
 Standard output is empty with status 2, 3 or 4, but for what `explain` tells,
-and where a run ends without a report. The help of each command says what its
-faults mean.
+and where there is no report or no events are given. The help of each command
+says what its faults mean.
 
 Examples, at the top of the repository:
   ./ftmpi check examples/canonical.rank
@@ -125,10 +126,11 @@ Arguments:
   <PROGRAM>  The file of the rank program
 
 Options:
-      --ranks <N>  The number of ranks, 1 to 16
-      --runs <M>   Runs looked at, 1 to 1000000000 [default: 100000]
-      --steps <S>  Steps of a rank in a run, 1 to 1000000000 [default: 100000]
-  -h, --help       Print help
+      --ranks <N>   The number of ranks, 1 to 16
+      --runs <M>    Runs looked at, 1 to 1000000000 [default: 100000]
+      --steps <S>   Steps of a rank in a run, 1 to 1000000000 [default: 100000]
+      --events <K>  Prints a run of outcome K as events, for `ftmpi world`
+  -h, --help        Print help
 
 Looks at the program's runs, one for each order of the ranks that matters: which
 message a receive or a probe of any source gets, and whether a probe that
@@ -150,12 +152,24 @@ and a blank line. The last lines are
                 there may be others: M runs were looked at, or a rank made S
                 steps in one of them
 
-Exit status: 0 where all was looked at and each rank halts in each outcome, 1
-where not, 2 where the program is refused or can't be read; `ftmpi --help` has
-the others.
+A search that takes more than a second says now and then on standard error, if
+that is a terminal, how many runs it has looked at.
 
-Example, at the top of the repository:
+With --events K a run of outcome K is printed in place of all this: events that
+make it once more, one a line, none of them a crash. They are for `ftmpi world
+--ranks N PROGRAM`. Faults, as `events fault F NAME`: why there are none.
+  1 NoOrder        messages can't arrive so that each rank finds what that run
+                   gives it, if none crashes
+  2 TooManyEvents  they would be more than 100000
+  3 RowLimit       a rank would have more than 4096 events stored
+
+Exit status: 0 where all was looked at and each rank halts in each outcome, 1
+where not or where there are no events, 2 where the program is refused or can't
+be read; `ftmpi --help` has the others.
+
+Examples, at the top of the repository:
   ./ftmpi explore --ranks 3 examples/first_come.rank
+  ./ftmpi explore --ranks 3 --events 1 examples/first_come.rank
 
 docs/LANGUAGE.md has a page on programs that are right whatever the order.
 ";

@@ -1,5 +1,7 @@
-//! All outcomes of a job's program.
-ghost use Rattle.std.specs.Prelude.{◌≡◌};
+//! All outcomes of a job's program, or a run of one of them as events.
+ghost use Rattle.std.specs.Prelude.{◌≡◌, ◌+◌, ℕ, IfOk, IfSome, Some, slice_get, string_bytes};
+ghost use Rattle.run_events.specs.Plays.{IsPlayText};
+ghost use Rattle.runner.specs.Events.{PlaysOutcome};
 
 use crate::commands::reading::text_in;
 use crate::commands::refusal::Refusal;
@@ -7,44 +9,113 @@ use crate::commands::said::Said;
 use crate::files::Files;
 use crate::outcomes::{all_halt, print_explored};
 use command_line::ExploreJob;
-use explore::{Limits, explore};
+use crash_free::Sim;
+use explore::{Explored, Limits, Outcome, Watch, explore, run_of};
 use metered::Heap;
 use rank_language::Program;
+use run_events::play_text;
 use statement_lines::statement_lines;
 use std::alloc::AllocError;
 
-/// What is found of the job's program, with status 0 where that is all and each
-/// rank halts.
-pub fn explored_by<'a, F: Files>(
+/// What is found of the job's program, or the events of the outcome that the job
+/// names; with status 0 where all is found and each rank halts.
+pub fn explored_by<'a, F: Files, W: Watch>(
     alloc: Heap,
     job: ExploreJob<'a>,
     files: &mut F,
+    watch: &mut W,
 ) -> Result<Said, Refusal<'a>> {
     let text = text_in(job.program, files)?;
     let program = Program::parse(alloc, text.as_slice())?;
-    match found_of(alloc, job, text.as_slice(), &program) {
-        Ok(said) => Ok(said),
-        Err(error) => Err(Refusal::from(error)),
-    }
+    found_of(alloc, job, text.as_slice(), &program, watch)
 }
 
 // The same, of a program that is parsed.
-fn found_of(
+fn found_of<'a, W: Watch>(
     alloc: Heap,
-    job: ExploreJob<'_>,
+    job: ExploreJob<'a>,
     text: &[u8],
     program: &Program,
-) -> Result<Said, AllocError> {
-    let limits = limits_of(job);
-    let found = explore(alloc, program, job.ranks, limits)?;
-    let lines = statement_lines(alloc, text)?;
-    let text = print_explored(alloc, &found, limits, lines.as_slice())?;
+    watch: &mut W,
+) -> Result<Said, Refusal<'a>> {
+    let found = explore(alloc, program, job.ranks, limits_of(job), watch)?;
+    let answer = answer_of(alloc, job, text, program, &found)?;
     let status = if found.complete && all_halt(&found) {
         0
     } else {
         1
     };
-    Ok(Said::answer(alloc, status, text.into_bytes()))
+    Ok(Said::answer(alloc, status, answer.into_bytes()))
+}
+
+fn answer_of<'a>(
+    alloc: Heap,
+    job: ExploreJob<'a>,
+    text: &[u8],
+    program: &Program,
+    found: &Explored,
+) -> Result<String<Heap>, Refusal<'a>>
+    ensures events { IfOk result (λ answer. IfSome job.entry.events (λ number. PlaysOutcome program.now job.entry.ranks found.now.outcomes number (string_bytes answer))) }
+{
+    match job.events {
+        Some(number) => events_of(alloc, job, number, program, found),
+        None => match found_text(alloc, job, text, found) {
+            Ok(answer) => Ok(answer),
+            Err(error) => Err(Refusal::from(error)),
+        },
+    }
+}
+
+fn found_text(
+    alloc: Heap,
+    job: ExploreJob<'_>,
+    text: &[u8],
+    found: &Explored,
+) -> Result<String<Heap>, AllocError> {
+    let lines = statement_lines(alloc, text)?;
+    print_explored(alloc, found, limits_of(job), lines.as_slice())
+}
+
+// The events of a run that has the outcome of this number, from 1.
+#[tactic(auto, using(crate::proofs::Events::plays_outcome))]
+fn events_of<'a>(
+    alloc: Heap,
+    job: ExploreJob<'a>,
+    number: u32,
+    program: &Program,
+    found: &Explored,
+) -> Result<String<Heap>, Refusal<'a>>
+    ensures { IfOk result (λ text. PlaysOutcome program.now job.entry.ranks found.now.outcomes number (string_bytes text)) }
+{
+    let Some(outcome) = outcome_at(found, number) else {
+        return Err(Refusal::NoOutcome(number));
+    };
+    match run_of(alloc, program, job.ranks, limits_of(job), outcome) {
+        Ok(Some(run)) => told(alloc, job, program, &run),
+        Ok(None) => Err(Refusal::NoOutcome(number)),
+        Err(error) => Err(Refusal::from(error)),
+    }
+}
+
+fn told<'a>(
+    alloc: Heap,
+    job: ExploreJob<'a>,
+    program: &Program,
+    run: &Sim<'_>,
+) -> Result<String<Heap>, Refusal<'a>>
+    ensures { IfOk result (λ text. IsPlayText program.now job.entry.ranks run.now.run (string_bytes text)) }
+{
+    match play_text(alloc, program, job.ranks, run) {
+        Ok(text) => Ok(text),
+        Err(fault) => Err(Refusal::from(fault)),
+    }
+}
+
+fn outcome_at(found: &Explored, number: u32) -> Option<&Outcome>
+    ensures { IfSome result (λ outcome. (index : ℕ) × (number ≡ index + 1) × (slice_get found.now.outcomes index ≡ Some outcome.now)) }
+{
+    let index = number.checked_sub(1)? as usize;
+    found.outcomes.get(index)
 }
 
 fn limits_of(job: ExploreJob<'_>) -> Limits

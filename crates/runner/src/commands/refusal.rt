@@ -9,6 +9,7 @@ use metered::Heap;
 use rank_language::{ParseFault, ProgramFault};
 use rank_node::NodeFault;
 use rank_threads::RunFault;
+use run_events::PlayFault;
 use script_text::{ScriptFault, ScriptParseFault};
 use std::alloc::AllocError;
 use thiserror::Error;
@@ -31,6 +32,12 @@ pub enum Refusal<'a> {
     /// A rank of a run couldn't go on.
     #[error("rank {rank}: node fault {}", .fault.number())]
     Node { rank: u8, fault: NodeFault },
+    /// A run gives no events of a world.
+    #[error("events fault {} {}", .0.number(), .0)]
+    Play(PlayFault),
+    /// No outcome of this number was found.
+    #[error("no outcome {0}")]
+    NoOutcome(u32),
     /// There was no memory.
     #[error("out of memory")]
     Memory,
@@ -58,7 +65,7 @@ impl<'a> Refusal<'a> {
         Ok(Said::refusal(alloc, self.status(), text))
     }
 
-    // 1 behind a run, 4 where there is no memory, and else 2.
+    // 1 behind a run or a search, 4 where there is no memory, and else 2.
     fn status(self) -> u8
         ensures { result ≡ status_of self.entry }
     {
@@ -68,6 +75,7 @@ impl<'a> Refusal<'a> {
             | Refusal::Script(_)
             | Refusal::Events { line: _, kind: _ } => 2,
             Refusal::Audit(_) | Refusal::Node { rank: _, fault: _ } => 1,
+            Refusal::Play(_) | Refusal::NoOutcome(_) => 1,
             Refusal::Memory => 4,
         }
     }
@@ -84,6 +92,17 @@ impl From<EventsFault> for Refusal<'_> {
         match fault {
             EventsFault::Fault { line, kind } => Refusal::Events { line, kind },
             EventsFault::Memory => Refusal::Memory,
+        }
+    }
+}
+
+impl From<PlayFault> for Refusal<'_> {
+    fn from(fault: PlayFault) -> Self {
+        match fault {
+            PlayFault::NoOrder | PlayFault::TooManyEvents | PlayFault::RowLimit => {
+                Refusal::Play(fault)
+            }
+            PlayFault::Memory => Refusal::Memory,
         }
     }
 }

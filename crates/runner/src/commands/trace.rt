@@ -1,5 +1,7 @@
-//! A job's run, told act by act, or drawn.
-ghost use Rattle.std.specs.Prelude.{IfOk};
+//! A job's run, told act by act, drawn, or given as events.
+ghost use Rattle.std.specs.Prelude.{◌≡◌, IfOk, string_bytes};
+ghost use Rattle.run_events.specs.Plays.{IsPlayText};
+ghost use Rattle.runner.specs.Events.{PlaysReport};
 ghost use Rattle.runner.specs.Statuses.{HasStatus};
 
 use crate::commands::job::{Nobody, limits_of};
@@ -15,6 +17,7 @@ use crash_free::Sim;
 use metered::Heap;
 use rank_language::Program;
 use rank_threads::{Report, RunFault, run};
+use run_events::{PlayFault, play_text};
 use run_picture::Span;
 use run_trace::{Given, trace_json, trace_text};
 use script_text::Script;
@@ -74,29 +77,31 @@ fn asked_of<'a, F: Files>(
 }
 
 // The run is made, found without crashes, and told.
-fn told<R: Threads + Wait + Sync + Copy + Send>(
+fn told<'a, R: Threads + Wait + Sync + Copy + Send>(
     rt: &R,
     alloc: Heap,
-    job: TraceJob<'_>,
+    job: TraceJob<'a>,
     program: &Program,
     text: &[u8],
     asked: &Asked,
-) -> Result<Said, RunFault> {
+) -> Result<Said, Refusal<'a>> {
     let limits = limits_of(job.run);
     let script = &asked.script;
     let report = run(rt, alloc, program, job.run.ranks, script, limits, &Nobody)?;
     told_of(alloc, job, program, text, asked, &report)
 }
 
-fn told_of(
+#[tactic(auto, using(crate::proofs::Events::plays_report))]
+fn told_of<'a>(
     alloc: Heap,
-    job: TraceJob<'_>,
+    job: TraceJob<'a>,
     program: &Program,
     text: &[u8],
     asked: &Asked,
     report: &Report,
-) -> Result<Said, RunFault>
+) -> Result<Said, Refusal<'a>>
     ensures status { IfOk result (λ said. HasStatus report.now.outcome said.status) }
+    ensures events { IfOk result (λ said. job.entry.form ≡ TraceForm.Events → PlaysReport program.now job.entry.run.ranks report.now.outcome job.entry.run.steps said.out.items) }
 {
     let lines = statement_lines(alloc, text)?;
     let given = Given {
@@ -112,7 +117,7 @@ fn told_of(
     let (ranks, steps) = (job.run.ranks, job.run.steps);
     let found = match find_run(alloc, program, ranks, &report.outcome, steps) {
         Ok(found) => found,
-        Err(fault) => return Err(RunFault::from(fault)),
+        Err(fault) => return Err(Refusal::from(RunFault::from(fault))),
     };
     let answer = in_form(alloc, job, program, &found, given, report)?;
     let status = if all_halted(&report.outcome) { 0 } else { 1 };
@@ -127,7 +132,9 @@ fn in_form<'a>(
     found: &'a Sim<'_>,
     given: Given<'a>,
     report: &Report,
-) -> Result<String<Heap>, AllocError> {
+) -> Result<String<Heap>, PlayFault>
+    ensures { IfOk result (λ text. job.entry.form ≡ TraceForm.Events → IsPlayText program.now job.entry.run.ranks found.entry.now.run (string_bytes text)) }
+{
     let ranks = job.run.ranks;
     match job.form {
         TraceForm::Text => {
@@ -135,9 +142,11 @@ fn in_form<'a>(
             print_cost(&mut text, report)?;
             Ok(text)
         }
-        TraceForm::Json => trace_json(alloc, program, ranks, found, given),
+        TraceForm::Json => Ok(trace_json(alloc, program, ranks, found, given)?),
+        TraceForm::Events => play_text(alloc, program, ranks, found),
         TraceForm::Picture { from, to } => {
-            picture_text(alloc, job.run, found, given, Span { from, to })
+            let span = Span { from, to };
+            Ok(picture_text(alloc, job.run, found, given, span)?)
         }
     }
 }

@@ -6,10 +6,11 @@ use Rattle.explore.proofs.Among.{popped_some, popped_none}
 use Rattle.explore.proofs.Beyond.{counts_one, counts_on, beyond_on}
 use Rattle.explore.proofs.Looking.{searches_all, rest_alike, runs_alike, searches_on, all_outcomes, all_orders_end}
 use Rattle.explore.proofs.search.explore.Goals.{After-drop-pending-2, else-loop-runs-test, then-loop-runs-test+in_default}
+use Rattle.explore.proofs.search.explore.Given.{Over}
 use Rattle.explore.proofs.search.explore.Goals as goal
 
 pub loop-runs-init : goal.loop-runs-init
-loop-runs-init c =
+loop-runs-init g c =
     record {
       few = omega arith;
       search =
@@ -22,21 +23,21 @@ loop-runs-init c =
     }
 
 pub look-requires-clause-alike : goal.look-requires-clause-alike
-look-requires-clause-alike c =
+look-requires-clause-alike g c =
     let last = popped_some c.loop-runs.pending.items c.pop.new.self.items c.pop.result c.in-Some.branch c.pop.ensures.items c.in-Some.is in
     rest_alike c.args.program.now c.args.ranks c.loop-runs.outcomes.items c.pop.new.self.items c.loop-runs.met c.loop-runs.out_of_steps c.in-Some.branch
     (subst (λ z. Searches c.args.program.now c.args.ranks c.loop-runs.outcomes.items z c.loop-runs.met c.loop-runs.out_of_steps) last
     c.loop-runs.invariant.search)
 
 pub look-requires-clause-runs : goal.look-requires-clause-runs
-look-requires-clause-runs c =
+look-requires-clause-runs g c =
     let last = popped_some c.loop-runs.pending.items c.pop.new.self.items c.pop.result c.in-Some.branch c.pop.ensures.items c.in-Some.is in
     runs_alike c.args.program.now c.args.ranks c.loop-runs.outcomes.items c.pop.new.self.items c.loop-runs.met c.loop-runs.out_of_steps c.in-Some.branch
     (subst (λ z. Searches c.args.program.now c.args.ranks c.loop-runs.outcomes.items z c.loop-runs.met c.loop-runs.out_of_steps) last
     c.loop-runs.invariant.search)
 
 pub loop-runs-preserved : goal.loop-runs-preserved
-loop-runs-preserved c =
+loop-runs-preserved g c =
     let last = popped_some c.loop-runs.pending.items c.pop.new.self.items c.pop.result c.in-Some.branch c.pop.ensures.items c.in-Some.is in
     let search =
     subst (λ z. Searches c.args.program.now c.args.ranks c.loop-runs.outcomes.items z c.loop-runs.met c.loop-runs.out_of_steps) last
@@ -58,9 +59,9 @@ loop-runs-preserved c =
     }
 
 -- with no branch left, and no run cut off
-none_left : (c : After-drop-pending-2) → c.is_complete-complete.result ≡ true
+none_left : (g : Over) (c : After-drop-pending-2 g) → c.is_complete-complete.result ≡ true
     → Searches c.args.program.now c.args.ranks c.loop-runs.outcomes.items [] c.loop-runs.met false
-none_left c e =
+none_left g c e =
     let yes = c.is_complete-complete.ensures.yes e in
     let none : c.loop-runs-test.pending.items ≡ [] = sym c.deref.ensures.value ∙ yes.0 in
     subst (λ (cut : Bool). Searches c.args.program.now c.args.ranks c.loop-runs.outcomes.items [] c.loop-runs.met cut) yes.1
@@ -75,7 +76,7 @@ none_left c e =
     ]))
 
 pub returns-clause-complete : goal.returns-clause-complete
-returns-clause-complete c = λ e. all_outcomes c.args.program.now c.args.ranks c.loop-runs.outcomes.items c.loop-runs.met (none_left c e)
+returns-clause-complete g c = λ e. all_outcomes c.args.program.now c.args.ranks c.loop-runs.outcomes.items c.loop-runs.met (none_left g c e)
 
 pub returns-clause-ends : goal.returns-clause-ends
-returns-clause-ends c = λ e. all_orders_end c.args.program.now c.args.ranks c.loop-runs.outcomes.items c.loop-runs.met (none_left c e)
+returns-clause-ends g c = λ e. all_orders_end c.args.program.now c.args.ranks c.loop-runs.outcomes.items c.loop-runs.met (none_left g c e)

@@ -6,7 +6,7 @@ use Rattle.explore.proofs.search.explore.Given as goal
 
 -- how far the search has come
 abbrev pub invariant-loop-runs : goal.invariant-loop-runs
-invariant-loop-runs l = record {
+invariant-loop-runs g l = record {
   few : l.runs ≤ l.limits.runs;
   search : Searches l.program l.ranks l.outcomes.items l.pending.items l.met l.out_of_steps;
   counted : AllCount l.limits.steps l.pending.items;
@@ -14,4 +14,4 @@ invariant-loop-runs l = record {
 }
 
 abbrev pub decreases-loop-runs : goal.decreases-loop-runs
-decreases-loop-runs l = l.limits.runs - l.runs
+decreases-loop-runs g l = l.limits.runs - l.runs

@@ -1,0 +1,239 @@
+//! Runs as events: given to `world`, these print the lines of the run, and none of them is refused.
+use crate::scenes::{answer_of, expect_answer};
+use std::process::Abort;
+use std::sync::Wait;
+use std::test::Fail;
+use std::thread::Threads;
+
+/// A run that is asked for as events: the words that ask for it, the number of ranks, the texts of the program and of the script, the exit status, and
+/// the lines that the run prints.
+struct Played {
+    words: &'static str,
+    ranks: u8,
+    program: &'static str,
+    script: &'static str,
+    status: u8,
+    lines: &'static str,
+}
+
+// The events of each of these runs are given to a world, which prints the run's lines.
+fn expect_plays<R: Threads + Wait + Sync + Copy + Send + AllocGlobal + Abort>(
+    rt: &R,
+    rows: &[Played],
+) -> Result<(), Fail> {
+    for row in rows {
+        expect_play(rt, row)?;
+    }
+    Ok(())
+}
+
+fn expect_play<R: Threads + Wait + Sync + Copy + Send + AllocGlobal + Abort>(
+    rt: &R,
+    row: &Played,
+) -> Result<(), Fail> {
+    let alloc = rt.alloc();
+    let words = row.words;
+    let program = row.program;
+    let files = [("p", program), ("s", row.script)];
+    let events = answer_of(rt, words, &files)?;
+    assert_eq!(rt;
+        (events.status, events.err()),
+        (row.status, ""),
+        "at {words} of {program}"
+    );
+
+    let ranks = row.ranks;
+    let words = format!(in alloc; "world --ranks {ranks} p e")?;
+    let files = [("p", program), ("e", events.out())];
+    let world = answer_of(rt, words.as_str(), &files)?;
+    assert_eq!(rt;
+        (world.status, world.err()),
+        (0, ""),
+        "at {words} of {program}"
+    );
+
+    let mut lines = String::new(alloc);
+    for line in world.out().split('\n') {
+        assert!(rt; line != "refused", "at {words} of {program}");
+        if line.contains("> ") {
+            lines.push_str(line)?;
+            lines.push_str("\n")?;
+        }
+    }
+    assert_eq!(rt; lines.as_str(), row.lines, "at {words} of {program}");
+    Ok(())
+}
+
+/// Rank 0 sends, rank 1 receives and prints.
+const ANSWER: &str =
+    "var x\nif rank == 0\nsend 1, 7, 41\nelse\nrecv any, any, x\nprint x + 1\nend\n";
+
+/// Rank 1 takes the second message first.
+const TAGS: &str =
+    "var x\nif rank == 0\nsend 1, 1, 10\nsend 1, 2, 20\nelse\nrecv 0, 2, x\nprint x\nrecv any, any, x\nprint x\nend\n";
+
+/// A miss, a line, a message to itself past another tag's miss, and a miss again.
+const PROBES: &str =
+    "var f\nvar x\niprobe any, any, f\nprint f\nsend 0, 1, 5\niprobe 0, 2, f\nrecv 0, 1, x\nprint x + f\niprobe any, any, f\niprobe any, any, f\nprint f\n";
+
+/// Runs on threads.
+const RUNS: [Played; 8] = [
+    Played {
+        words: "trace --events --ranks 2 --script s p",
+        ranks: 2,
+        program: ANSWER,
+        script: "",
+        status: 0,
+        lines: "1> 42\n",
+    },
+    // Crashes are no part of the run that is found.
+    Played {
+        words: "trace --events --ranks 2 --script s p",
+        ranks: 2,
+        program: ANSWER,
+        script: "kill 1 at 1\nkill 0 at 1\n",
+        status: 0,
+        lines: "1> 42\n",
+    },
+    Played {
+        words: "trace --events --ranks 2 --script s p",
+        ranks: 2,
+        program: TAGS,
+        script: "",
+        status: 0,
+        lines: "1> 20\n1> 10\n",
+    },
+    Played {
+        words: "trace --events --ranks 1 --script s p",
+        ranks: 1,
+        program: PROBES,
+        script: "",
+        status: 0,
+        lines: "0> 0\n0> 5\n0> 0\n",
+    },
+    Played {
+        words: "trace --events --ranks 3 --script s p",
+        ranks: 3,
+        program: "var x\nreduce sum, 2, rank + 1, x\nbcast 2, x\nbarrier\nprint x\n",
+        script: "",
+        status: 0,
+        lines: "0> 6\n1> 6\n2> 6\n",
+    },
+    // A fault ends the run, and so does a limit.
+    Played {
+        words: "trace --events --ranks 1 --script s p",
+        ranks: 1,
+        program: "var x\nprint 1\nprint 1 / x\n",
+        script: "",
+        status: 1,
+        lines: "0> 1\n",
+    },
+    Played {
+        words: "trace --events --ranks 1 --steps 2 --script s p",
+        ranks: 1,
+        program: "print 1\nprint 2\nprint 3\n",
+        script: "",
+        status: 1,
+        lines: "0> 1\n0> 2\n",
+    },
+    Played {
+        words: "trace --events --ranks 2 --idle 100 --script s p",
+        ranks: 2,
+        program: "var x\nprint rank\nrecv 1 - rank, 1, x\n",
+        script: "",
+        status: 1,
+        lines: "0> 0\n1> 1\n",
+    },
+];
+
+#[test]
+fn runs_are_played(rt: HostRuntime) -> Result<(), Fail> {
+    expect_plays(&rt, &RUNS)
+}
+
+/// Rank 0 takes the first message that comes.
+const FIRST: &str =
+    "var x\nif rank == 0\nrecv any, any, x\nprint source\nelse\nsend 0, 0, 0\nend\n";
+
+/// Runs that `explore` finds.
+const OUTCOMES: [Played; 4] = [
+    Played {
+        words: "explore --ranks 3 --events 1 p",
+        ranks: 3,
+        program: FIRST,
+        script: "",
+        status: 0,
+        lines: "0> 1\n",
+    },
+    Played {
+        words: "explore --ranks 3 --events 2 p",
+        ranks: 3,
+        program: FIRST,
+        script: "",
+        status: 0,
+        lines: "0> 2\n",
+    },
+    Played {
+        words: "explore --ranks 2 --events 1 p",
+        ranks: 2,
+        program: "var f\nif rank == 0\niprobe any, any, f\nprint f\nelse\nsend 0, 0, 1\nend\n",
+        script: "",
+        status: 0,
+        lines: "0> 1\n",
+    },
+    Played {
+        words: "explore --ranks 2 --events 2 p",
+        ranks: 2,
+        program: "var f\nif rank == 0\niprobe any, any, f\nprint f\nelse\nsend 0, 0, 1\nend\n",
+        script: "",
+        status: 0,
+        lines: "0> 0\n",
+    },
+];
+
+#[test]
+fn outcomes_are_played(rt: HostRuntime) -> Result<(), Fail> {
+    expect_plays(&rt, &OUTCOMES)
+}
+
+/// Rank 0 has a message of rank 1 in its inbox when it takes one of rank 2 that matches as well.
+const PAST: &str = "\
+var x
+if rank == 0
+  recv 1, 2, x
+  send 2, 0, 0
+  recv any, 1, x
+  print source
+else
+  if rank == 1
+    send 0, 1, 0
+    send 0, 2, 0
+  else
+    recv 0, 0, x
+    send 0, 1, 0
+  end
+end
+";
+
+/// Words, a program, and what is told instead of events.
+const REFUSED: [(&str, &str, &str); 3] = [
+    ("explore --ranks 3 --events 3 p", FIRST, "no outcome 3\n"),
+    (
+        "explore --ranks 3 --events 2 p",
+        PAST,
+        "events fault 1 NoOrder\n",
+    ),
+    (
+        "trace --events --ranks 1 p",
+        "var i\nwhile i < 50000\nlet i = i + 1\nend\n",
+        "events fault 2 TooManyEvents\n",
+    ),
+];
+
+#[test]
+fn runs_without_events(rt: HostRuntime) -> Result<(), Fail> {
+    for (words, program, told) in REFUSED {
+        expect_answer(&rt, words, &[("p", program)], (1, "", told))?;
+    }
+    Ok(())
+}

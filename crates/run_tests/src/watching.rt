@@ -1,0 +1,178 @@
+//! What is told of a search while it goes on.
+use crate::scenes::{Table, words_of};
+use runner::{Progress, Watch, command_watched};
+use std::alloc::Global;
+use std::io::{ErrorKind, IsTerminal, Write};
+use std::process::Abort;
+use std::sync::Wait;
+use std::sync::atomic::{AtomicU64, Ordering};
+use std::test::Fail;
+use std::thread::Threads;
+use std::time::{Clock, Duration};
+
+/// Rank 0 takes a message of each of four others: 24 orders.
+const FIRST_COME: &str =
+    "var x\nvar i\nif rank == 0\nwhile i < 4\nrecv any, any, x\nprint source\nlet i = i + 1\nend\nelse\nsend 0, 0, 0\nend\n";
+
+const WORDS: &str = "ftmpi explore --ranks 5 p";
+
+/// Counts what it is told.
+#[derive(Drop)]
+struct Counter {
+    calls: u32,
+    last: u32,
+    is_in_order: bool,
+}
+
+impl Watch for Counter {
+    fn looked(&mut self, runs: u32) {
+        self.calls = self.calls.saturating_add(1);
+        self.last = runs;
+        self.is_in_order = self.is_in_order && runs == self.calls;
+    }
+}
+
+// The exit status of the program called with these words, and the end of what it writes.
+fn watched<R: Threads + Wait + Sync + Copy + Send + AllocGlobal, W: Watch>(
+    rt: &R,
+    words: &str,
+    watch: &mut W,
+) -> Result<(u8, bool), Fail> {
+    let alloc = rt.alloc();
+    let words = words_of(alloc, words)?;
+    let files = &[("p", FIRST_COME)];
+    let mut files = Table { alloc, files };
+    let (mut out, mut err) = (Vec::new(alloc), Vec::new(alloc));
+    let status = command_watched(
+        rt,
+        alloc,
+        words.as_slice(),
+        &mut files,
+        &mut out,
+        &mut err,
+        watch,
+    );
+    let is_complete = out.ends_with(b"outcomes 24, runs 24, complete\n");
+    Ok((status, is_complete && err.is_empty()))
+}
+
+// A search tells of so many runs, each once and in order.
+fn expect_told<R: Threads + Wait + Sync + Copy + Send + AllocGlobal + Abort>(
+    rt: &R,
+    words: &str,
+    want: (u8, bool),
+    runs: u32,
+) -> Result<(), Fail> {
+    let mut counter = Counter {
+        calls: 0,
+        last: 0,
+        is_in_order: true,
+    };
+    let found = watched(rt, words, &mut counter)?;
+    assert_eq!(rt; found, want, "at {words}");
+    let told = (counter.calls, counter.last, counter.is_in_order);
+    assert_eq!(rt; told, (runs, runs, true), "at {words}");
+    Ok(())
+}
+
+#[test]
+fn each_run_is_told(rt: HostRuntime) -> Result<(), Fail> {
+    expect_told(&rt, WORDS, (0, true), 24)?;
+    expect_told(&rt, "ftmpi explore --ranks 5 --runs 7 p", (1, false), 7)?;
+    expect_told(&rt, "ftmpi run --ranks 5 p", (0, false), 0)
+}
+
+/// A clock by which half a second passes from look to look.
+#[derive(Drop)]
+struct Ticks {
+    looks: AtomicU64,
+}
+
+impl Clock for Ticks {
+    fn monotonic(&self) -> std::io::Result<Duration> {
+        let looks = self.looks.fetch_add(1, Ordering::SeqCst);
+        Ok(Duration::from_millis(looks.saturating_mul(500)))
+    }
+
+    fn since_1970(&self) -> std::io::Result<Duration> {
+        Err(std::io::Error::from(ErrorKind::Unsupported))
+    }
+}
+
+/// A clock that can't be read.
+#[derive(Drop)]
+struct Stopped;
+
+impl Clock for Stopped {
+    fn monotonic(&self) -> std::io::Result<Duration> {
+        Err(std::io::Error::from(ErrorKind::Unsupported))
+    }
+
+    fn since_1970(&self) -> std::io::Result<Duration> {
+        Err(std::io::Error::from(ErrorKind::Unsupported))
+    }
+}
+
+#[derive(Drop)]
+struct Screen {
+    is_terminal: bool,
+    shown: Vec<u8>,
+}
+
+impl Screen {
+    fn new(alloc: Global, is_terminal: bool) -> Screen {
+        Screen {
+            is_terminal,
+            shown: Vec::new(alloc),
+        }
+    }
+}
+
+impl Write for Screen {
+    fn write(&mut self, buf: &[u8]) -> std::io::Result<usize> {
+        self.shown.extend_from_slice(buf)?;
+        Ok(buf.len())
+    }
+
+    fn flush(&mut self) -> std::io::Result<()> {
+        Ok(())
+    }
+}
+
+impl IsTerminal for Screen {
+    fn is_terminal(&self) -> bool {
+        self.is_terminal
+    }
+}
+
+// What a search of 24 runs shows by this clock.
+fn expect_shown<R: Threads + Wait + Sync + Copy + Send + AllocGlobal + Abort, C: Clock>(
+    rt: &R,
+    clock: &C,
+    is_terminal: bool,
+    want: &str,
+) -> Result<(), Fail> {
+    let mut screen = Screen::new(rt.alloc(), is_terminal);
+    let mut progress = Progress::new(clock, &mut screen);
+    let found = watched(rt, WORDS, &mut progress)?;
+    assert_eq!(rt; found, (0, true));
+    let shown = std::str::from_utf8(screen.shown.as_slice()).unwrap_or("no text");
+    assert_eq!(rt; shown, want);
+    Ok(())
+}
+
+// A terminal is told after one second, and then each time that it took twice as long.
+#[test]
+fn a_terminal_is_told(rt: HostRuntime) -> Result<(), Fail> {
+    let ticks = Ticks {
+        looks: AtomicU64::new(0),
+    };
+    expect_shown(
+        &rt,
+        &ticks,
+        true,
+        "2 runs looked at\n4 runs looked at\n8 runs looked at\n16 runs looked at\n",
+    )?;
+    expect_shown(&rt, &ticks, false, "")?;
+    expect_shown(&rt, &Stopped, true, "")
+}
