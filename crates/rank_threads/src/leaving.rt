@@ -34,7 +34,7 @@ pub fn rest<H>(
     match stepped {
         Stepped::Moved | Stepped::Acted | Stepped::Held => return Ok(None),
         Stepped::Blocked => {
-            let waited = seat.tally.has_waited(shared.limits.idle);
+            let waited = seat.tally.count_idle(shared.limits.idle);
             if !waited || others_went_on(shared.alloc, seat)? {
                 return Ok(None);
             }
@@ -59,7 +59,7 @@ fn may_leave<H>(
         return Ok(None);
     };
     let Some(none) = none_came(shared, seat)? else {
-        seat.tally.is_busy();
+        seat.tally.end_idleness();
         return Ok(None);
     };
     Ok(second_look(shared.marks, &first, none))
@@ -96,6 +96,6 @@ fn has_grown(alloc: Heap, seat: &mut Seat<'_, '_>, of: u8) -> Result<bool, Alloc
     let Some(last) = events.last() else {
         return Ok(false);
     };
-    seat.tally.has_seen(of, last.receiver_clock());
+    seat.tally.note_seen(of, last.receiver_clock());
     Ok(true)
 }

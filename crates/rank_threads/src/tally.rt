@@ -153,16 +153,16 @@ impl Tally {
         self.may_owe = may_owe;
     }
 
-    /// A turn that wasn't idle.
-    pub fn is_busy(&mut self)
+    /// A turn wasn't idle: idle turns are counted anew.
+    pub fn end_idleness(&mut self)
         ensures { self.new ≡ record self.old { idle = 0 } }
     {
         self.idle = 0;
     }
 
-    /// Whether this idle turn is the last of `most` in succession. If so, they
-    /// are counted anew.
-    pub fn has_waited(&mut self, most: u32) -> bool
+    /// An idle turn is counted. Answers whether it is the last of `most` in
+    /// succession; if so, they are counted anew.
+    pub fn count_idle(&mut self, most: u32) -> bool
         ensures last { result ≡ is_last_idle self.old most }
         ensures counted { self.new ≡ after_idle self.old most }
     {
@@ -183,7 +183,7 @@ impl Tally {
 
     /// The last event that was read in this row has this clock.
     #[tactic(auto, using(crate::proofs::LaneLists::set_past))]
-    pub fn has_seen(&mut self, of: u8, clock: u32)
+    pub fn note_seen(&mut self, of: u8, clock: u32)
         ensures { self.new ≡ record self.old { seen = slice_set self.old.seen of clock } }
     {
         let of = usize::from(of);

@@ -119,7 +119,7 @@ fn end<W: Wait, H: Hold>(
         Stepped::Blocked | Stepped::Ended => put || is_frames(begun.brought),
     };
     if is_busy {
-        seat.tally.is_busy();
+        seat.tally.end_idleness();
         return Ok(After::Turn { is_idle: false });
     }
     match rest(shared, seat, begun.stepped)? {
