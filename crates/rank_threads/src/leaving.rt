@@ -75,15 +75,16 @@ fn others_went_on(alloc: Heap, seat: &mut Seat<'_, '_>) -> Result<bool, AllocErr
     let mut went_on = false;
     for of in 0..seat.node.size {
         if of != seat.rank {
-            went_on = has_grown(alloc, seat, of)? || went_on;
+            went_on = note_growth(alloc, seat, of)? || went_on;
         }
     }
     Ok(went_on)
 }
 
-// Only of that row it is noted how far the rank has read.
+// Whether that row has grown since the last read. Only of that row it is noted
+// how far the rank has read.
 #[tactic(auto, using(crate::proofs::PuttingLemmas::set_elsewhere))]
-fn has_grown(alloc: Heap, seat: &mut Seat<'_, '_>, of: u8) -> Result<bool, AllocError>
+fn note_growth(alloc: Heap, seat: &mut Seat<'_, '_>, of: u8) -> Result<bool, AllocError>
     requires { of < seat.old.node.size }
     ensures others { (k : ℕ) → k ≢ of → slice_index_or seat.new.tally.seen k 0 ≡ slice_index_or seat.old.tally.seen k 0 }
     ensures tally { seat.new.tally ≡ record seat.old.tally { seen = seat.new.tally.seen } }

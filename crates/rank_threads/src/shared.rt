@@ -40,7 +40,7 @@ pub struct Marked {
 pub struct TakenBack(());
 
 /// The bell of a rank hasn't been rung since it was last looked at. Only
-/// `Shared::not_rung` makes one.
+/// `Shared::take_ring` makes one.
 #[derive(Clone, Copy)]
 pub struct NotRung(());
 
@@ -100,9 +100,9 @@ impl<H> Shared<'_, H> {
         }
     }
 
-    /// That no frame has come to this rank since the last call, where its bell
-    /// wasn't rung.
-    pub fn not_rung(&self, rank: u8) -> Option<NotRung> {
+    /// Takes back the ring of this rank's bell. Where there was none, no frame has
+    /// come to the rank since the last call.
+    pub fn take_ring(&self, rank: u8) -> Option<NotRung> {
         let was_rung = match self.bells.get(usize::from(rank)) {
             Some(bell) => bell.load(Ordering::SeqCst) && bell.swap(false, Ordering::SeqCst),
             None => true,

@@ -90,7 +90,7 @@ pub fn taken<H>(shared: &Shared<'_, H>, seat: &mut Seat<'_, '_>) -> Result<Broug
     ensures gate { SameGate seat.old seat.new }
     ensures same { SameSeat seat.old seat.new }
 {
-    if let Some(unrung) = shared.not_rung(seat.rank) {
+    if let Some(unrung) = shared.take_ring(seat.rank) {
         return Ok(Brought::Unrung(unrung));
     }
     match none_came(shared, seat)? {
