@@ -1,3 +1,4 @@
+mod ClearingLemmas
 mod Crews
 mod DroppingLemmas
 mod GateLemmas
@@ -10,7 +11,6 @@ mod ReleasingLemmas
 mod ReportLemmas
 mod RowLemmas
 mod SeatingLemmas
-mod SettlingLemmas
 mod StationLemmas
 mod StepLaws
 mod TakingLemmas

@@ -1,7 +1,7 @@
 pub mod Phases
 pub mod Lanes
 pub mod Seats
-pub mod Settling
+pub mod Clearing
 pub mod Stations
 pub mod Seating
 pub mod Report

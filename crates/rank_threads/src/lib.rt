@@ -2,6 +2,7 @@
 //! again and replay, and the report of a run is audited.
 #![tactic(auto)]
 
+mod clearing;
 mod crew;
 mod dropping;
 mod hold;
@@ -25,7 +26,6 @@ mod row;
 mod running;
 mod seat;
 mod seating;
-mod settling;
 mod shared;
 mod station;
 mod stepping;

@@ -1,20 +1,20 @@
 //! One turn of a rank.
 ghost use Rattle.std.specs.Prelude.{◌≡◌, ◌≢◌, true, false, Some, None, IfOk, OnOk, drop};
+ghost use Rattle.rank_threads.specs.Clearing.{leaves_misses};
 ghost use Rattle.rank_threads.specs.Lives.{goes_down, is_down, is_leave};
 ghost use Rattle.rank_threads.specs.Orders.{order_after, is_kill, is_image};
 ghost use Rattle.rank_threads.specs.Phases.{NoneWaits, TookImage, gate_in, is_running, misses_only_in, settled_of};
 ghost use Rattle.rank_threads.specs.Putting.{NothingBelow};
 ghost use Rattle.rank_threads.specs.Seats.{SameSeat, SamePlan};
-ghost use Rattle.rank_threads.specs.Settling.{leaves_misses};
 ghost use Rattle.rank_threads.specs.Turns.{IsBegun, kills_after};
 
+use crate::clearing::clear_gate;
 use crate::hold::Hold;
 use crate::leaving::rest;
 use crate::orders::{is_image, order_after};
 use crate::over::{Killed, Why, kill_of};
 use crate::putting::put_out;
 use crate::seat::Seat;
-use crate::settling::settle;
 use crate::shared::Shared;
 use crate::stepping::{Stepped, step};
 use crate::taking::{Brought, is_frames, taken};
@@ -57,7 +57,7 @@ pub fn begin<W: Wait, H: Hold>(
 /// The rest of a turn that began so: the script's next line, what waits at the
 /// gate, what goes out, and the rank's mark. Nothing waits then but misses of a
 /// rank that goes on. A replay that is over has to be settled before.
-#[tactic(auto, using(crate::proofs::SettlingLemmas::left_unspent, crate::proofs::SettlingLemmas::left_only))]
+#[tactic(auto, using(crate::proofs::ClearingLemmas::left_unspent, crate::proofs::ClearingLemmas::left_only))]
 pub fn finish<W: Wait, H: Hold>(
     rt: &W,
     shared: &Shared<'_, H>,
@@ -85,7 +85,7 @@ pub fn finish<W: Wait, H: Hold>(
     }
 }
 
-#[tactic(auto, using(crate::proofs::GateLemmas::took_still, crate::proofs::SettlingLemmas::left_stepped))]
+#[tactic(auto, using(crate::proofs::GateLemmas::took_still, crate::proofs::ClearingLemmas::left_stepped))]
 fn end<W: Wait, H: Hold>(
     rt: &W,
     shared: &Shared<'_, H>,
@@ -150,7 +150,7 @@ fn let_out<W: Wait, H>(
     ensures blank { blank.new ≡ blank.old }
     ensures same { SameSeat seat.old seat.new }
 {
-    settle(rt, shared, blank, seat, stepped, is_imaged)?;
+    clear_gate(rt, shared, blank, seat, stepped, is_imaged)?;
     Ok(put_out(shared, seat)?)
 }
 

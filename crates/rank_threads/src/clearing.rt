@@ -1,8 +1,8 @@
 //! Part 4 of a turn: what waits at the gate, and an image.
 ghost use Rattle.std.specs.Prelude.{◌≡◌, true, false, Ok, drop};
+ghost use Rattle.rank_threads.specs.Clearing.{has_stepped, leaves_misses};
 ghost use Rattle.rank_threads.specs.Phases.{is_running, HasImage, NoneWaits};
 ghost use Rattle.rank_threads.specs.Seats.{SameSeat};
-ghost use Rattle.rank_threads.specs.Settling.{has_stepped, leaves_misses};
 
 use crate::seat::Seat;
 use crate::shared::Shared;
@@ -15,8 +15,8 @@ use std::sync::Wait;
 /// run of misses is left as it is, so that a rank that polls goes on with one
 /// event, unless the rank made no step, is to take an image, or was stopped by
 /// a limit.
-#[tactic(auto, using(crate::proofs::SettlingLemmas::left_unimaged))]
-pub fn settle<W: Wait, H>(
+#[tactic(auto, using(crate::proofs::ClearingLemmas::left_unimaged))]
+pub fn clear_gate<W: Wait, H>(
     rt: &W,
     shared: &Shared<'_, H>,
     blank: &mut ConsoleState,
