@@ -3,18 +3,18 @@ use Rattle.std.proofs.Common.{◌≡◌, ◌≢◌, ℕ, Bool, Option, Some, Non
 use Rattle.rank_node.specs.declared.fault.NodeFault.{NodeFault}
 use Rattle.rank_node.specs.declared.fault.NodeFault.TheVariants as fault
 use Rattle.rank_threads.specs.Lives.{HasLived, crashes_after, crashes_by, end_after}
-use Rattle.rank_threads.specs.declared.over.Over.{Over}
-use Rattle.rank_threads.specs.declared.over.Over.TheVariants as over
+use Rattle.rank_threads.specs.declared.ending.Ending.{Ending}
+use Rattle.rank_threads.specs.declared.ending.Ending.TheVariants as ending
 use Rattle.rank_threads.specs.declared.phase.Phase.{Phase}
 use Rattle.rank_threads.specs.declared.station.Station.{Station}
 
 -- the end tells whether the rank crashed
-by_end : (o : Over) (is_spent : Bool) (p : Phase) (crashes : ℕ) → crashes_after o crashes ≡ crashes_by (end_after o is_spent p) crashes
-by_end (over.Crashed killed) is_spent p crashes = refl
-by_end (over.Left reason) is_spent p crashes = refl
+by_end : (o : Ending) (is_spent : Bool) (p : Phase) (crashes : ℕ) → crashes_after o crashes ≡ crashes_by (end_after o is_spent p) crashes
+by_end (ending.Crashed killed) is_spent p crashes = refl
+by_end (ending.Left reason) is_spent p crashes = refl
 
 -- so a life that ended so is counted by the end
-pub has_lived : (old new : Station) (o : Over) (is_spent : Bool) (p : Phase) → new.end ≡ end_after o is_spent p
+pub has_lived : (old new : Station) (o : Ending) (is_spent : Bool) (p : Phase) → new.end ≡ end_after o is_spent p
     → new.tally.crashes ≡ crashes_after o old.tally.crashes → HasLived old new
 has_lived old new o is_spent p end counted fault =
     counted ∙ by_end o is_spent p old.tally.crashes ∙ ap (λ e. crashes_by e old.tally.crashes) (sym end)

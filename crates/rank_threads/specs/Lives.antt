@@ -5,10 +5,10 @@ use Rattle.rank_node.specs.declared.fault.NodeFault.{NodeFault}
 use Rattle.rank_threads.specs.Ends.{end_of}
 use Rattle.rank_threads.specs.Orders.{is_kill, order_after}
 use Rattle.rank_threads.specs.Tally.{one_more}
-use Rattle.rank_threads.specs.declared.over.Over.{Over}
-use Rattle.rank_threads.specs.declared.over.Over.TheVariants as over
-use Rattle.rank_threads.specs.declared.over.Why.{Why}
-use Rattle.rank_threads.specs.declared.over.Why.TheVariants as why
+use Rattle.rank_threads.specs.declared.ending.Ending.{Ending}
+use Rattle.rank_threads.specs.declared.ending.Ending.TheVariants as ending
+use Rattle.rank_threads.specs.declared.ending.Why.{Why}
+use Rattle.rank_threads.specs.declared.ending.Why.TheVariants as why
 use Rattle.rank_threads.specs.declared.phase.Phase.{Phase}
 use Rattle.rank_threads.specs.declared.station.Station.{Station}
 use Rattle.rank_threads.specs.declared.turn.After.{After}
@@ -32,20 +32,20 @@ goes_down (Ok a) = is_down a
 goes_down (Err f) = false
 
 -- the rank left since all are at rest
-abbrev pub is_at_rest : Over → Bool
-is_at_rest (over.Crashed killed) = false
-is_at_rest (over.Left (why.AtRest rest)) = true
-is_at_rest (over.Left (why.Told stopped)) = false
+abbrev pub is_at_rest : Ending → Bool
+is_at_rest (ending.Crashed killed) = false
+is_at_rest (ending.Left (why.AtRest rest)) = true
+is_at_rest (ending.Left (why.Told stopped)) = false
 
 -- how often a rank has crashed, after a life that ended so
-abbrev pub crashes_after : Over → ℕ → ℕ
-crashes_after (over.Crashed killed) crashes = one_more crashes
-crashes_after (over.Left reason) crashes = crashes
+abbrev pub crashes_after : Ending → ℕ → ℕ
+crashes_after (ending.Crashed killed) crashes = one_more crashes
+crashes_after (ending.Left reason) crashes = crashes
 
 -- with which end its station comes back: none where it crashed, else by where it stands
-abbrev pub end_after : Over → Bool → Phase → Option End
-end_after (over.Crashed killed) is_spent p = None
-end_after (over.Left reason) is_spent p = Some (end_of is_spent p)
+abbrev pub end_after : Ending → Bool → Phase → Option End
+end_after (ending.Crashed killed) is_spent p = None
+end_after (ending.Left reason) is_spent p = Some (end_of is_spent p)
 
 -- how often a rank has crashed, after a life with which its station came back so
 abbrev pub crashes_by : Option End → ℕ → ℕ

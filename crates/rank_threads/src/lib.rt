@@ -5,6 +5,7 @@
 mod clearing;
 mod crew;
 mod dropping;
+mod ending;
 mod hold;
 mod keeper;
 mod lanes_of;
@@ -13,7 +14,6 @@ mod life;
 mod marks;
 mod node;
 mod orders;
-mod over;
 mod parcel;
 mod phase;
 mod plan;

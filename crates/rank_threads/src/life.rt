@@ -5,8 +5,8 @@ ghost use Rattle.rank_threads.specs.Phases.{NoneWaits};
 ghost use Rattle.rank_threads.specs.Seats.{SamePlace};
 ghost use Rattle.rank_threads.specs.Stations.{SameStation, SameRest};
 
+use crate::ending::{Ending, Why, end_life};
 use crate::hold::Hold;
-use crate::over::{Over, Why, end_life};
 use crate::seat::Seat;
 use crate::shared::{Shared, Stop};
 use crate::station::Station;
@@ -48,7 +48,7 @@ fn play<'p, 'l, W: Wait, H: Hold>(
     shared: &Shared<'_, H>,
     blank: &mut ConsoleState,
     seat: Seat<'p, 'l>,
-) -> (Seat<'p, 'l>, Over)
+) -> (Seat<'p, 'l>, Ending)
     ensures crashes { result.0.tally.crashes ≡ crashes_after result.1 seat.entry.tally.crashes }
     ensures left { is_at_rest result.1 ≡ true → result.0.tally.fault ≡ None → result.0.tally.is_refused ≡ false → NoneWaits result.0.node.phase }
     ensures blank { blank.new ≡ blank.old }
@@ -57,7 +57,7 @@ fn play<'p, 'l, W: Wait, H: Hold>(
     let mut seat = seat;
     for _ in rt.forever() {
         if let Some(stopped) = shared.stopped() {
-            return (seat, Over::Left(Why::Told(stopped)));
+            return (seat, Ending::Left(Why::Told(stopped)));
         }
         let begun = begin(rt, shared, blank, &mut seat);
         // a rank is moved in memory only here, once a life
@@ -67,9 +67,9 @@ fn play<'p, 'l, W: Wait, H: Hold>(
         match finish(rt, shared, blank, &mut seat, begun) {
             After::Crash(killed) => {
                 seat.tally.count_crash(&killed);
-                return (seat, Over::Crashed(killed));
+                return (seat, Ending::Crashed(killed));
             }
-            After::Leave(why) => return (seat, Over::Left(why)),
+            After::Leave(why) => return (seat, Ending::Left(why)),
             After::Turn { is_idle: false } => {}
             After::Turn { is_idle: true } => thread::yield_now(),
         }

@@ -2,7 +2,7 @@
 ghost use Rattle.std.specs.Prelude.{◌≡◌, true, false, Some, slice_index_or, slice_set};
 ghost use Rattle.rank_threads.specs.Tally.{new_tally, one_more, begun_again, after_steps, is_last_idle, after_idle};
 
-use crate::over::Killed;
+use crate::ending::Killed;
 use crate::shared::{Marked, Stop, Stopped, TakenBack};
 use metered::limits::MOST_RANKS;
 use rank_node::NodeFault;

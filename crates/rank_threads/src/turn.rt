@@ -9,10 +9,10 @@ ghost use Rattle.rank_threads.specs.Seats.{SameSeat, SamePlan};
 ghost use Rattle.rank_threads.specs.Turns.{IsBegun, kills_after};
 
 use crate::clearing::clear_gate;
+use crate::ending::{Killed, Why, kill_of};
 use crate::hold::Hold;
 use crate::leaving::rest;
 use crate::orders::{is_image, order_after};
-use crate::over::{Killed, Why, kill_of};
 use crate::putting::put_out;
 use crate::seat::Seat;
 use crate::shared::Shared;

@@ -64,7 +64,7 @@ impl<'p, 'l> Node<'p, 'l> {
 
     /// The life is over: what is stable outlives it, and nothing else does of
     /// the rank. Gives the logger and the number of ranks back too.
-    pub fn over(self) -> (Down<MemoryShelf, Desk>, &'l Logger, u8)
+    pub fn end(self) -> (Down<MemoryShelf, Desk>, &'l Logger, u8)
         ensures down { result.0 ≡ stable_of self.entry.phase }
         ensures size { result.2 ≡ self.entry.size }
         ensures own { result.0.desk.table ≡ result.1.now.table }

@@ -148,7 +148,7 @@ impl<'p, 'l> Seat<'p, 'l> {
             plan,
             tally,
         } = self;
-        let (down, logger, size) = node.over();
+        let (down, logger, size) = node.end();
         Station {
             rank,
             down,

@@ -28,7 +28,7 @@ pub enum Why {
 }
 
 /// How a life ended. It must be spent.
-pub enum Over {
+pub enum Ending {
     /// The script killed the rank.
     Crashed(Killed),
     Left(Why),
@@ -45,15 +45,15 @@ pub fn kill_of(order: Option<Order>) -> Option<Killed>
 }
 
 /// The life is over: the rank has gone down, or left.
-pub fn end_life<'l>(seat: Seat<'_, 'l>, ended: Over) -> Station<'l>
+pub fn end_life<'l>(seat: Seat<'_, 'l>, ended: Ending) -> Station<'l>
     ensures end { result.end ≡ end_after ended seat.entry.tally.is_spent seat.entry.node.phase }
     ensures plan { result.plan ≡ seat.entry.plan }
     ensures tally { result.tally ≡ seat.entry.tally }
     ensures same { IsLifeOf result seat.entry }
 {
     let end = match ended {
-        Over::Crashed(Killed(())) => None,
-        Over::Left(_) => Some(end_of(&seat)),
+        Ending::Crashed(Killed(())) => None,
+        Ending::Left(_) => Some(end_of(&seat)),
     };
     seat.leave(end)
 }
