@@ -87,7 +87,8 @@ fn fetched<'l, H>(shared: &Shared<'_, H>, station: Station<'l>) -> Station<'l>
     }
 }
 
-fn play<'l, W: Wait + Drop + Copy, H: Hold>(
+// A life of the rank that travels in the parcel.
+fn live<'l, W: Wait + Drop + Copy, H: Hold>(
     shared: &Shared<'_, H>,
     parcel: Parcel<'l, W>,
 ) -> Parcel<'l, W>
@@ -133,7 +134,7 @@ fn one_life<'l, R: Threads + Wait + Sync + Copy + Send, H: Hold + Sync>(
             let whole = move || -> Parcel<'_, R>
                 ensures lived { HasLived parcel.entry.station result.station }
                 ensures same { SameStation parcel.entry.station result.station }
-            { play(shared, parcel) };
+            { live(shared, parcel) };
             match scope.spawn_with(promise, whole) {
                 Ok(child) => child.join(&rt),
                 Err(back) => {

@@ -37,13 +37,13 @@ pub fn life<'l, W: Wait, H: Hold>(
         return refused(station, shared.stop_all());
     };
     let seat = station.begin(shared, &program);
-    let (seat, ended) = play(rt, shared, &mut blank, seat);
+    let (seat, ended) = make_turns(rt, shared, &mut blank, seat);
     end_life(seat, ended)
 }
 
 // Turns, until the rank is killed or leaves.
 #[tactic(auto, using(crate::proofs::PhaseLaws::stays_settled))]
-fn play<'p, 'l, W: Wait, H: Hold>(
+fn make_turns<'p, 'l, W: Wait, H: Hold>(
     rt: &W,
     shared: &Shared<'_, H>,
     blank: &mut ConsoleState,

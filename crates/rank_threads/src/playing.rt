@@ -35,7 +35,7 @@ pub struct Played {
 
 /// Plays the program on so many ranks, until all have left. An `Err` is want of memory.
 #[tactic(auto, using(crate::proofs::SeatingLemmas::played_laws))]
-pub fn play<R: Threads + Wait + Sync + Copy + Send, H: Hold + Sync>(
+pub fn play_all<R: Threads + Wait + Sync + Copy + Send, H: Hold + Sync>(
     rt: R,
     alloc: Heap,
     program: &Program,

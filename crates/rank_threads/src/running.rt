@@ -5,7 +5,7 @@ ghost use Rattle.metered.specs.Limits.{most_ranks};
 ghost use Rattle.rank_threads.specs.Report.{IsReport};
 
 use crate::hold::Hold;
-use crate::playing::play;
+use crate::playing::play_all;
 use crate::report::{Report, RunFault};
 use crate::reporting::{fault_of, reported};
 use audit::audit;
@@ -44,7 +44,7 @@ pub fn run<R: Threads + Wait + Sync + Copy + Send, H: Hold + Sync>(
     ensures report { IfOk result (λ report. IsReport program.now ranks report) }
     ensures within { IfOk result (λ report. IsReachable program.now ranks report.outcome limits.steps) }
 {
-    let played = play(*rt, alloc, program, ranks, script, limits, hold)?;
+    let played = play_all(*rt, alloc, program, ranks, script, limits, hold)?;
     if let Some(fault) = fault_of(played.came.as_slice()) {
         return Err(fault);
     }
