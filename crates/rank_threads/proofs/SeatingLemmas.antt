@@ -20,37 +20,39 @@ module _ {W : Type 0} where
 
 module _ {W A : Type 0} where
   -- the ends of the last rank's puts go to a station, and come back
-  to_moves : (to : List (Vec TxValue A)) (mine : Vec TxValue A) (ps : List (Parcel W)) (p : Parcel W) → mine.items ≡ p.station.to.items
-      → to_names (to ++ mine ∷ []) ++ stations_to ps ≡ to_names to ++ stations_to (ps ++ p ∷ [])
-  to_moves to mine ps p same =
-      ap (λ l. l ++ stations_to ps) (map-append (λ (ends : Vec TxValue A). map lane_to ends.items) to (mine ∷ []))
-      ∙ append_assoc (to_names to) (map lane_to mine.items ∷ []) (stations_to ps)
+  to_moves : (to : List (Vec TxValue A)) (to_each : Vec TxValue A) (ps : List (Parcel W)) (p : Parcel W) → to_each.items ≡ p.station.to.items
+      → to_names (to ++ to_each ∷ []) ++ stations_to ps ≡ to_names to ++ stations_to (ps ++ p ∷ [])
+  to_moves to to_each ps p same =
+      ap (λ l. l ++ stations_to ps) (map-append (λ (ends : Vec TxValue A). map lane_to ends.items) to (to_each ∷ []))
+      ∙ append_assoc (to_names to) (map lane_to to_each.items ∷ []) (stations_to ps)
       ∙ ap (λ row. to_names to ++ map lane_to row ∷ stations_to ps) same
       ∙ ap (λ l. to_names to ++ l) (sym (to_snoc ps p))
 
-  pub to_seated : (to : List (Vec TxValue A)) (mine : Vec TxValue A) (ps : List (Parcel W)) (p : Parcel W) (all : List (List Lane))
-      → to_names (to ++ mine ∷ []) ++ stations_to ps ≡ all → mine.items ≡ p.station.to.items → to_names to ++ stations_to (ps ++ p ∷ []) ≡ all
-  to_seated to mine ps p all before same = sym (to_moves to mine ps p same) ∙ before
+  pub to_seated : (to : List (Vec TxValue A)) (to_each : Vec TxValue A) (ps : List (Parcel W)) (p : Parcel W) (all : List (List Lane))
+      → to_names (to ++ to_each ∷ []) ++ stations_to ps ≡ all → to_each.items ≡ p.station.to.items → to_names to ++ stations_to (ps ++ p ∷ []) ≡ all
+  to_seated to to_each ps p all before same = sym (to_moves to to_each ps p same) ∙ before
 
-  pub to_unseated : (to : List (Vec TxValue A)) (mine : Vec TxValue A) (ps : List (Parcel W)) (p : Parcel W) (all : List (List Lane))
-      → to_names to ++ stations_to (ps ++ p ∷ []) ≡ all → mine.items ≡ p.station.to.items → to_names (to ++ mine ∷ []) ++ stations_to ps ≡ all
-  to_unseated to mine ps p all before same = to_moves to mine ps p same ∙ before
+  pub to_unseated : (to : List (Vec TxValue A)) (to_each : Vec TxValue A) (ps : List (Parcel W)) (p : Parcel W) (all : List (List Lane))
+      → to_names to ++ stations_to (ps ++ p ∷ []) ≡ all → to_each.items ≡ p.station.to.items → to_names (to ++ to_each ∷ []) ++ stations_to ps ≡ all
+  to_unseated to to_each ps p all before same = to_moves to to_each ps p same ∙ before
 
-  from_moves : (from : List (Vec RxValue A)) (mine : Vec RxValue A) (ps : List (Parcel W)) (p : Parcel W) → mine.items ≡ p.station.from.items
-      → from_names (from ++ mine ∷ []) ++ stations_from ps ≡ from_names from ++ stations_from (ps ++ p ∷ [])
-  from_moves from mine ps p same =
-      ap (λ l. l ++ stations_from ps) (map-append (λ (ends : Vec RxValue A). map lane_from ends.items) from (mine ∷ []))
-      ∙ append_assoc (from_names from) (map lane_from mine.items ∷ []) (stations_from ps)
+  from_moves : (from : List (Vec RxValue A)) (from_each : Vec RxValue A) (ps : List (Parcel W)) (p : Parcel W) → from_each.items ≡ p.station.from.items
+      → from_names (from ++ from_each ∷ []) ++ stations_from ps ≡ from_names from ++ stations_from (ps ++ p ∷ [])
+  from_moves from from_each ps p same =
+      ap (λ l. l ++ stations_from ps) (map-append (λ (ends : Vec RxValue A). map lane_from ends.items) from (from_each ∷ []))
+      ∙ append_assoc (from_names from) (map lane_from from_each.items ∷ []) (stations_from ps)
       ∙ ap (λ row. from_names from ++ map lane_from row ∷ stations_from ps) same
       ∙ ap (λ l. from_names from ++ l) (sym (from_snoc ps p))
 
-  pub from_seated : (from : List (Vec RxValue A)) (mine : Vec RxValue A) (ps : List (Parcel W)) (p : Parcel W) (all : List (List Lane))
-      → from_names (from ++ mine ∷ []) ++ stations_from ps ≡ all → mine.items ≡ p.station.from.items → from_names from ++ stations_from (ps ++ p ∷ []) ≡ all
-  from_seated from mine ps p all before same = sym (from_moves from mine ps p same) ∙ before
+  pub from_seated : (from : List (Vec RxValue A)) (from_each : Vec RxValue A) (ps : List (Parcel W)) (p : Parcel W) (all : List (List Lane))
+      → from_names (from ++ from_each ∷ []) ++ stations_from ps ≡ all → from_each.items ≡ p.station.from.items
+      → from_names from ++ stations_from (ps ++ p ∷ []) ≡ all
+  from_seated from from_each ps p all before same = sym (from_moves from from_each ps p same) ∙ before
 
-  pub from_unseated : (from : List (Vec RxValue A)) (mine : Vec RxValue A) (ps : List (Parcel W)) (p : Parcel W) (all : List (List Lane))
-      → from_names from ++ stations_from (ps ++ p ∷ []) ≡ all → mine.items ≡ p.station.from.items → from_names (from ++ mine ∷ []) ++ stations_from ps ≡ all
-  from_unseated from mine ps p all before same = from_moves from mine ps p same ∙ before
+  pub from_unseated : (from : List (Vec RxValue A)) (from_each : Vec RxValue A) (ps : List (Parcel W)) (p : Parcel W) (all : List (List Lane))
+      → from_names from ++ stations_from (ps ++ p ∷ []) ≡ all → from_each.items ≡ p.station.from.items
+      → from_names (from ++ from_each ∷ []) ++ stations_from ps ≡ all
+  from_unseated from from_each ps p all before same = from_moves from from_each ps p same ∙ before
 
 module _ {W : Type 0} where
   -- a station of the rank below the others

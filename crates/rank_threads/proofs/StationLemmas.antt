@@ -2,10 +2,10 @@
 use Rattle.std.proofs.Common.{◌≡◌, List, [], ◌∷◌, ◌++◌, refl, sym, ap, ◌∙◌}
 use Rattle.std.proofs.lemmas.List.{append_assoc}
 use Rattle.script_text.specs.declared.line.ScriptLine.{ScriptLine}
-use Rattle.rank_threads.specs.Seating.{AreNew, came_of, stations_came, stations_plans}
+use Rattle.rank_threads.specs.Seating.{AreNew, account_of, stations_accounts, stations_plans}
 use Rattle.rank_threads.specs.Stations.{IsNew}
 use Rattle.rank_threads.specs.declared.parcel.Parcel.{Parcel}
-use Rattle.rank_threads.specs.declared.seating.Came.{Came}
+use Rattle.rank_threads.specs.declared.seating.Account.{Account}
 
 module _ {W : Type 0} where
   -- the last station's plan is the lowest rank's
@@ -14,23 +14,23 @@ module _ {W : Type 0} where
   plans_snoc (q ∷ ps) p = ap (λ l. l ++ q.station.plan ∷ []) (plans_snoc ps p)
 
   -- so is what it came to
-  came_snoc : (ps : List (Parcel W)) (p : Parcel W) → stations_came (ps ++ p ∷ []) ≡ came_of p.station ∷ stations_came ps
-  came_snoc [] p = refl
-  came_snoc (q ∷ ps) p = ap (λ l. l ++ came_of q.station ∷ []) (came_snoc ps p)
+  accounts_snoc : (ps : List (Parcel W)) (p : Parcel W) → stations_accounts (ps ++ p ∷ []) ≡ account_of p.station ∷ stations_accounts ps
+  accounts_snoc [] p = refl
+  accounts_snoc (q ∷ ps) p = ap (λ l. l ++ account_of q.station ∷ []) (accounts_snoc ps p)
 
   -- the last rank's plan goes to a station
   pub plans_seated : (plans : List (List ScriptLine)) (plan : List ScriptLine) (ps : List (Parcel W)) (p : Parcel W) (all : List (List ScriptLine))
       → (plans ++ plan ∷ []) ++ stations_plans ps ≡ all → p.station.plan ≡ plan → plans ++ stations_plans (ps ++ p ∷ []) ≡ all
   plans_seated plans plan ps p all before same =
-      ap (λ l. plans ++ l) (plans_snoc ps p) ∙ ap (λ mine. plans ++ mine ∷ stations_plans ps) same
+      ap (λ l. plans ++ l) (plans_snoc ps p) ∙ ap (λ lines. plans ++ lines ∷ stations_plans ps) same
       ∙ sym (append_assoc plans (plan ∷ []) (stations_plans ps)) ∙ before
 
   -- what the lowest rank came to stands behind what those before it did
-  pub came_unseated : (came : List Came) (one : Came) (ps : List (Parcel W)) (p : Parcel W) (all : List Came)
-      → came ++ stations_came (ps ++ p ∷ []) ≡ all → one ≡ came_of p.station → (came ++ one ∷ []) ++ stations_came ps ≡ all
-  came_unseated came one ps p all before same =
-      append_assoc came (one ∷ []) (stations_came ps) ∙ ap (λ mine. came ++ mine ∷ stations_came ps) same
-      ∙ ap (λ l. came ++ l) (sym (came_snoc ps p)) ∙ before
+  pub accounts_unseated : (accounts : List Account) (one : Account) (ps : List (Parcel W)) (p : Parcel W) (all : List Account)
+      → accounts ++ stations_accounts (ps ++ p ∷ []) ≡ all → one ≡ account_of p.station → (accounts ++ one ∷ []) ++ stations_accounts ps ≡ all
+  accounts_unseated accounts one ps p all before same =
+      append_assoc accounts (one ∷ []) (stations_accounts ps) ∙ ap (λ account. accounts ++ account ∷ stations_accounts ps) same
+      ∙ ap (λ l. accounts ++ l) (sym (accounts_snoc ps p)) ∙ before
 
   -- a further rank that hasn't lived yet
   pub new_more : (ps : List (Parcel W)) (p : Parcel W) → AreNew ps → IsNew p.station → AreNew (ps ++ p ∷ [])

@@ -6,7 +6,7 @@ use Rattle.rank_node.specs.declared.fault.NodeFault.{NodeFault}
 use Rattle.rank_node.specs.declared.fault.NodeFault.TheVariants as fault
 use Rattle.rank_threads.specs.declared.report.RunFault.{RunFault}
 use Rattle.rank_threads.specs.declared.report.RunFault.TheVariants as run
-use Rattle.rank_threads.specs.declared.seating.Came.{Came}
+use Rattle.rank_threads.specs.declared.seating.Account.{Account}
 
 -- why an outcome wasn't confirmed, as the run answers it; want of memory is the run's own
 abbrev pub of_audit : AuditFault → RunFault
@@ -29,7 +29,7 @@ is_memory (Some fault.ClockSpent) = false
 is_memory (Some fault.Log) = false
 
 -- whether some rank met want of memory
-abbrev pub lacked_memory : List Came → Bool
+abbrev pub lacked_memory : List Account → Bool
 lacked_memory [] = false
 lacked_memory (c ∷ cs) = is_memory c.fault || lacked_memory cs
 
@@ -39,15 +39,15 @@ met_by rank None later = later
 met_by rank (Some f) later = Some (run.Node rank f)
 
 -- what the lowest rank met that met a fault, where the first of these is this rank
-abbrev pub lowest_from : ℕ → List Came → Option RunFault
+abbrev pub lowest_from : ℕ → List Account → Option RunFault
 lowest_from rank [] = None
 lowest_from rank (c ∷ cs) = met_by rank c.fault (lowest_from (rank + 1) cs)
 
 -- want of memory, or else what the lowest rank met
-abbrev pub fault_of : List Came → Option RunFault
+abbrev pub fault_of : List Account → Option RunFault
 fault_of cs = if lacked_memory cs then Some run.Memory else lowest_from 0 cs
 
 -- how often all ranks crashed, counted on from this number
-abbrev pub crashes_from : ℕ → List Came → ℕ
+abbrev pub crashes_from : ℕ → List Account → ℕ
 crashes_from crashes [] = crashes
 crashes_from crashes (c ∷ cs) = crashes_from (min (crashes + c.crashes) (2 ^ 64 - 1)) cs

@@ -32,4 +32,4 @@ pub record IsPlayed (ranks : ℕ) (played : Played) : Type 0 where
   pub one_history : IsOneHistory ranks desks played.ledger.rows
   pub counts : played.ledger.counts ≡ map counts_of desks
   pub console : IsConsole played.console
-  pub an_end_each : length played.came.items ≡ ranks
+  pub an_end_each : length played.accounts.items ≡ ranks

@@ -7,8 +7,8 @@ use Rattle.event_logger.specs.Desks.{DeskValue, LoggerValue}
 use Rattle.script_text.specs.declared.line.ScriptLine.{ScriptLine}
 use Rattle.rank_threads.specs.Stations.{IsNew}
 use Rattle.rank_threads.specs.declared.parcel.Parcel.{Parcel}
-use Rattle.rank_threads.specs.declared.seating.Came.{Came}
-use Rattle.rank_threads.specs.declared.seating.Left.{Left}
+use Rattle.rank_threads.specs.declared.seating.Account.{Account}
+use Rattle.rank_threads.specs.declared.seating.Remains.{Remains}
 use Rattle.rank_threads.specs.declared.seating.Unseated.{Unseated}
 use Rattle.rank_threads.specs.declared.station.Station.{Station}
 
@@ -25,15 +25,15 @@ pub record ArePartsOf (size : ℕ) (parts : Unseated) : Type 0 where
   pub plans : vec_len parts.plans ≡ size
 
 -- nothing stands there yet, and there is room for what so many ranks leave
-pub record IsRoom (size : ℕ) (room : Left) : Type 0 where
+pub record IsRoom (size : ℕ) (room : Remains) : Type 0 where
   pub no_desks : room.desks.items ≡ []
   pub no_to : room.ends.to.items ≡ []
   pub no_from : room.ends.from.items ≡ []
-  pub none_came : room.came.items ≡ []
+  pub no_accounts : room.accounts.items ≡ []
   pub desks : size ≤ vec_capacity room.desks
   pub to : size ≤ vec_capacity room.ends.to
   pub from : size ≤ vec_capacity room.ends.from
-  pub came : size ≤ vec_capacity room.came
+  pub accounts : size ≤ vec_capacity room.accounts
 
 -- how a rank ended: one that didn't leave by itself is unfinished
 abbrev pub ended : Option End → End
@@ -41,8 +41,8 @@ ended None = end.Unfinished
 ended (Some e) = e
 
 -- what a rank came to: how it left, how often it crashed, how many lines of the script it left unused, and why it can't go on
-abbrev pub came_of : Station → Came
-came_of s = record { end = ended s.end; crashes = s.tally.crashes; unused = length s.plan; fault = s.tally.fault }
+abbrev pub account_of : Station → Account
+account_of s = record { end = ended s.end; crashes = s.tally.crashes; unused = length s.plan; fault = s.tally.fault }
 
 module _ {W : Type 0} where
   -- into which lanes each rank puts, by source
@@ -61,9 +61,9 @@ module _ {W : Type 0} where
   stations_plans (p ∷ ps) = stations_plans ps ++ p.station.plan ∷ []
 
   -- what each rank came to
-  abbrev pub stations_came : List (Parcel W) → List Came
-  stations_came [] = []
-  stations_came (p ∷ ps) = stations_came ps ++ came_of p.station ∷ []
+  abbrev pub stations_accounts : List (Parcel W) → List Account
+  stations_accounts [] = []
+  stations_accounts (p ∷ ps) = stations_accounts ps ++ account_of p.station ∷ []
 
   -- no rank has lived yet
   abbrev pub AreNew : List (Parcel W) → Type 0

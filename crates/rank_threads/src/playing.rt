@@ -10,7 +10,7 @@ use crate::hold::Hold;
 use crate::marks::Mark;
 use crate::plan::Plan;
 use crate::running::RunLimits;
-use crate::seating::{Came, Left, Unseated, seat_all, unseat_all};
+use crate::seating::{Account, Remains, Unseated, seat_all, unseat_all};
 use crate::shared::Shared;
 use crossbeam_utils::CachePadded;
 use event_logger::{Ledger, Logger};
@@ -30,7 +30,7 @@ pub struct Played {
     pub ledger: Ledger,
     pub console: ConsoleState,
     /// What each rank came to, in the order of ranks.
-    pub came: Vec<Came, Heap>,
+    pub accounts: Vec<Account, Heap>,
 }
 
 /// Plays the program on so many ranks, until all have left. An `Err` is want of memory.
@@ -77,37 +77,45 @@ pub fn play_all<R: Threads + Wait + Sync + Copy + Send, H: Hold + Sync>(
     let stations = seat_all(rt, alloc, &logger, size, script, parts, stations);
     let stations = keep_all(rt, &shared, stations);
     drop(shared);
-    let Left { desks, ends, came } = unseat_all(stations, room, &logger);
+    let Remains {
+        desks,
+        ends,
+        accounts,
+    } = unseat_all(stations, room, &logger);
     close_all(ends);
     let ledger = logger.close(alloc, desks)?;
     Ok(Played {
         ledger,
         console: console.into_state(),
-        came,
+        accounts,
     })
 }
 
 // Where the desks, lanes and ends of so many ranks have room.
-fn room(alloc: Heap, ranks: usize) -> Result<Left, AllocError>
+fn room(alloc: Heap, ranks: usize) -> Result<Remains, AllocError>
     ensures { IfOk result (λ room. IsRoom ranks room) }
 {
-    let came = Vec::with_capacity(alloc, ranks)?;
+    let accounts = Vec::with_capacity(alloc, ranks)?;
     let ends = Ends {
         to: Vec::with_capacity(alloc, ranks)?,
         from: Vec::with_capacity(alloc, ranks)?,
     };
     let desks = Vec::with_capacity(alloc, ranks)?;
-    Ok(Left { desks, ends, came })
+    Ok(Remains {
+        desks,
+        ends,
+        accounts,
+    })
 }
 
 // Room in which nothing stands yet is given up.
-fn given_up(room: Left, error: AllocError) -> AllocError
+fn given_up(room: Remains, error: AllocError) -> AllocError
     requires { room.desks.items ≡ [] }
 {
-    let Left {
+    let Remains {
         desks,
         ends: _,
-        came: _,
+        accounts: _,
     } = room;
     desks.destroy_empty();
     error

@@ -5,7 +5,7 @@ ghost use Rattle.rank_threads.specs.Faults.{crashes_from, fault_of, is_memory, l
 
 use crate::playing::Played;
 use crate::report::{Report, RunFault};
-use crate::seating::Came;
+use crate::seating::Account;
 use audit::{End, Outcome};
 use event_logger::Counts;
 use metered::Heap;
@@ -15,20 +15,20 @@ use std::alloc::AllocError;
 
 /// Why the run has no report: want of memory, or else the fault of the lowest
 /// rank that met one.
-pub fn fault_of(came: &[Came]) -> Option<RunFault>
-    requires { length came.now ≤ most_ranks }
-    ensures { result ≡ fault_of came.now }
+pub fn fault_of(accounts: &[Account]) -> Option<RunFault>
+    requires { length accounts.now ≤ most_ranks }
+    ensures { result ≡ fault_of accounts.now }
 {
-    if lacked_memory(came) {
+    if lacked_memory(accounts) {
         return Some(RunFault::Memory);
     }
-    lowest_fault(came)
+    lowest_fault(accounts)
 }
 
-fn lacked_memory(came: &[Came]) -> bool
-    ensures { result ≡ lacked_memory came.now }
+fn lacked_memory(accounts: &[Account]) -> bool
+    ensures { result ≡ lacked_memory accounts.now }
 {
-    let mut rest = came;
+    let mut rest = accounts;
     while let [one, more @ ..] = rest {
         if is_memory(one.fault) {
             return true;
@@ -55,12 +55,12 @@ fn is_memory(fault: Option<NodeFault>) -> bool
     }
 }
 
-fn lowest_fault(came: &[Came]) -> Option<RunFault>
-    requires { length came.now ≤ most_ranks }
-    ensures { result ≡ lowest_from 0 came.now }
+fn lowest_fault(accounts: &[Account]) -> Option<RunFault>
+    requires { length accounts.now ≤ most_ranks }
+    ensures { result ≡ lowest_from 0 accounts.now }
 {
     let mut rank = 0u8;
-    let mut rest = came;
+    let mut rest = accounts;
     while let [one, more @ ..] = rest {
         if let Some(fault) = one.fault {
             return Some(RunFault::Node(rank, fault));
@@ -73,22 +73,22 @@ fn lowest_fault(came: &[Came]) -> Option<RunFault>
 
 /// What is left of a run as its report, where no rank met a fault.
 pub fn reported(alloc: Heap, played: Played) -> Result<Report, AllocError>
-    requires { fault_of played.came.items ≡ None }
+    requires { fault_of played.accounts.items ≡ None }
     ensures rows { IfOk result (λ report. report.outcome.rows ≡ played.ledger.rows) }
     ensures lines { IfOk result (λ report. report.outcome.lines ≡ played.console) }
-    ensures ends { IfOk result (λ report. report.outcome.ends ≡ map (λ c. c.end) played.came.items) }
+    ensures ends { IfOk result (λ report. report.outcome.ends ≡ map (λ a. a.end) played.accounts.items) }
     ensures calls { IfOk result (λ report. report.calls.items ≡ map (λ c. c.calls) played.ledger.counts) }
-    ensures crashes { IfOk result (λ report. report.crashes ≡ crashes_from 0 played.came.items) }
-    ensures unused { IfOk result (λ report. report.unused.items ≡ map (λ c. c.unused) played.came.items) }
+    ensures crashes { IfOk result (λ report. report.crashes ≡ crashes_from 0 played.accounts.items) }
+    ensures unused { IfOk result (λ report. report.unused.items ≡ map (λ a. a.unused) played.accounts.items) }
 {
     let Played {
         ledger,
         console,
-        came,
+        accounts,
     } = played;
     let calls = calls_of(alloc, ledger.counts())?;
-    let ends = ends_of(alloc, came.as_slice())?;
-    let unused = unused_of(alloc, came.as_slice())?;
+    let ends = ends_of(alloc, accounts.as_slice())?;
+    let unused = unused_of(alloc, accounts.as_slice())?;
     let lines = copied(alloc, console.lines())?;
     Ok(Report {
         outcome: Outcome {
@@ -96,17 +96,17 @@ pub fn reported(alloc: Heap, played: Played) -> Result<Report, AllocError>
             lines,
             ends,
         },
-        crashes: crashes_of(came.as_slice()),
+        crashes: crashes_of(accounts.as_slice()),
         unused,
         calls,
     })
 }
 
-fn crashes_of(came: &[Came]) -> u64
-    ensures { result ≡ crashes_from 0 came.now }
+fn crashes_of(accounts: &[Account]) -> u64
+    ensures { result ≡ crashes_from 0 accounts.now }
 {
     let mut crashes = 0u64;
-    let mut rest = came;
+    let mut rest = accounts;
     while let [one, more @ ..] = rest {
         crashes = crashes.saturating_add(one.crashes);
         rest = more;
@@ -114,16 +114,16 @@ fn crashes_of(came: &[Came]) -> u64
     crashes
 }
 
-fn ends_of(alloc: Heap, came: &[Came]) -> Result<Vec<End, Heap>, AllocError>
-    ensures { IfOk result (λ ends. ends.items ≡ map (λ c. c.end) came.now) }
+fn ends_of(alloc: Heap, accounts: &[Account]) -> Result<Vec<End, Heap>, AllocError>
+    ensures { IfOk result (λ ends. ends.items ≡ map (λ a. a.end) accounts.now) }
 {
-    came.iter().map(|one| one.end).collect(alloc)
+    accounts.iter().map(|one| one.end).collect(alloc)
 }
 
-fn unused_of(alloc: Heap, came: &[Came]) -> Result<Vec<usize, Heap>, AllocError>
-    ensures { IfOk result (λ unused. unused.items ≡ map (λ c. c.unused) came.now) }
+fn unused_of(alloc: Heap, accounts: &[Account]) -> Result<Vec<usize, Heap>, AllocError>
+    ensures { IfOk result (λ unused. unused.items ≡ map (λ a. a.unused) accounts.now) }
 {
-    came.iter().map(|one| one.unused).collect(alloc)
+    accounts.iter().map(|one| one.unused).collect(alloc)
 }
 
 fn calls_of(alloc: Heap, counts: &[Counts]) -> Result<Vec<u64, Heap>, AllocError>

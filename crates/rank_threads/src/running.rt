@@ -45,7 +45,7 @@ pub fn run<R: Threads + Wait + Sync + Copy + Send, H: Hold + Sync>(
     ensures within { IfOk result (λ report. IsReachable program.now ranks report.outcome limits.steps) }
 {
     let played = play_all(*rt, alloc, program, ranks, script, limits, hold)?;
-    if let Some(fault) = fault_of(played.came.as_slice()) {
+    if let Some(fault) = fault_of(played.accounts.as_slice()) {
         return Err(fault);
     }
     let report = reported(alloc, played)?;

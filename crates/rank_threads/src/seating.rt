@@ -4,7 +4,7 @@ ghost use Rattle.metered.specs.Limits.{most_ranks};
 ghost use Rattle.lanes.specs.Ends.{to_names, from_names};
 ghost use Rattle.rank_threads.specs.Plans.{plans_below};
 ghost use Rattle.rank_threads.specs.Seating.{AreDesksFrom, ArePartsOf, AreNew, AreSeated, IsRoom};
-ghost use Rattle.rank_threads.specs.Seating.{came_of, stations_came, stations_from, stations_plans, stations_to};
+ghost use Rattle.rank_threads.specs.Seating.{account_of, stations_accounts, stations_from, stations_plans, stations_to};
 
 use crate::parcel::Parcel;
 use crate::plan::Plan;
@@ -27,7 +27,7 @@ pub struct Unseated {
 
 /// What a rank came to.
 #[derive(Clone, Copy, Debug, PartialEq, Eq)]
-pub struct Came {
+pub struct Account {
     pub end: End,
     pub crashes: u64,
     /// How many of the script's lines for the rank weren't used.
@@ -36,10 +36,10 @@ pub struct Came {
 }
 
 /// What is left of the stations, each in the order of ranks.
-pub struct Left {
+pub struct Remains {
     pub desks: Vec<Desk, Heap>,
     pub ends: Ends,
-    pub came: Vec<Came, Heap>,
+    pub accounts: Vec<Account, Heap>,
 }
 
 /// A station for each rank, the last one's first, with what the script asks of
@@ -76,15 +76,17 @@ pub fn seat_all<'l, W: Wait + Drop + Copy>(
     let Ends { mut to, mut from } = ends;
     let mut stations = stations;
     while let Some(desk) = desks.pop() {
-        let Some(mine) = to.pop() else { unreachable!() };
-        let Some(theirs) = from.pop() else {
+        let Some(to_each) = to.pop() else {
+            unreachable!()
+        };
+        let Some(from_each) = from.pop() else {
             unreachable!()
         };
         let Some(plan) = plans.pop() else {
             unreachable!()
         };
         let rank = desks.len() as u8;
-        let station = Station::new(alloc, logger, desk, rank, size, mine, theirs, plan);
+        let station = Station::new(alloc, logger, desk, rank, size, to_each, from_each, plan);
         stations.push_reserved(Parcel { rt, station });
     }
     desks.destroy_empty();
@@ -95,53 +97,53 @@ pub fn seat_all<'l, W: Wait + Drop + Copy>(
 #[tactic(auto, using(crate::proofs::SeatingLemmas::unseated_laws))]
 pub fn unseat_all<'l, W: Wait + Drop + Copy>(
     stations: Vec<Parcel<'l, W>, Heap>,
-    room: Left,
+    room: Remains,
     logger: &Logger,
-) -> Left
+) -> Remains
     requires room { IsRoom (vec_len stations) room }
     requires desks { AreSeated logger.now 0 stations.items }
     ensures to { to_names result.ends.to.items ≡ stations_to stations.entry.items }
     ensures from { from_names result.ends.from.items ≡ stations_from stations.entry.items }
     ensures desks { AreDesksFrom logger.now 0 result.desks.items }
     ensures len { vec_len result.desks ≡ vec_len stations.entry }
-    ensures came { result.came.items ≡ stations_came stations.entry.items }
-    ensures as_many { vec_len result.came ≡ vec_len stations.entry }
+    ensures accounts { result.accounts.items ≡ stations_accounts stations.entry.items }
+    ensures as_many { vec_len result.accounts ≡ vec_len stations.entry }
 {
-    let Left {
+    let Remains {
         mut desks,
         ends,
-        mut came,
+        mut accounts,
     } = room;
     let Ends { mut to, mut from } = ends;
     let mut stations = stations;
     while let Some(parcel) = stations.pop() {
-        let (desk, mine, theirs, became) = parts(parcel.open());
-        to.push_reserved(mine);
-        from.push_reserved(theirs);
+        let (desk, to_each, from_each, account) = parts(parcel.open());
+        to.push_reserved(to_each);
+        from.push_reserved(from_each);
         desks.push_reserved(desk);
-        came.push_reserved(became);
+        accounts.push_reserved(account);
     }
     stations.destroy_empty();
-    Left {
+    Remains {
         desks,
         ends: Ends { to, from },
-        came,
+        accounts,
     }
 }
 
 // A rank that didn't leave by itself is unfinished.
-fn parts(station: Station<'_>) -> (Desk, Vec<Tx, Heap>, Vec<Rx, Heap>, Came)
+fn parts(station: Station<'_>) -> (Desk, Vec<Tx, Heap>, Vec<Rx, Heap>, Account)
     ensures desk { result.0 ≡ station.entry.down.desk }
     ensures to { result.1 ≡ station.entry.to }
     ensures from { result.2 ≡ station.entry.from }
-    ensures came { result.3 ≡ came_of station.entry }
+    ensures account { result.3 ≡ account_of station.entry }
 {
-    let came = Came {
+    let account = Account {
         end: station.end.unwrap_or(End::Unfinished),
         crashes: station.tally.crashes,
         unused: station.plan.unused(),
         fault: station.tally.fault,
     };
     let (desk, to, from) = station.close();
-    (desk, to, from, came)
+    (desk, to, from, account)
 }

@@ -5,8 +5,8 @@ use Rattle.rank_threads.proofs.reporting.lowest_fault.Given as goal
 -- the ranks so far met no fault
 abbrev pub invariant-loop-rest : goal.invariant-loop-rest
 invariant-loop-rest l = record {
-  lowest : lowest_from l.rank l.rest ≡ lowest_from 0 l.came;
-  all : l.rank + length l.rest ≡ length l.came;
+  lowest : lowest_from l.rank l.rest ≡ lowest_from 0 l.accounts;
+  all : l.rank + length l.rest ≡ length l.accounts;
 }
 
 abbrev pub decreases-loop-rest : goal.decreases-loop-rest

@@ -18,10 +18,10 @@ loop-desk-preserved g c =
     let kept = c.loop-desk.invariant in
     let less = desks_less c.args.logger.now 0 c.pop.new.self.items c.in-Some.desk (rw (sym c.in-Some.ensures.items) kept.desks) in
     let shorter : vec_len c.loop-desk.desks ≡ vec_len c.pop.new.self + 1 = grind (arith, c.in-Some.ensures.len) in
-    let to = to_seated c.pop-in-Some.new.self.items c.in-Some-pop.mine c.loop-desk.stations.items
+    let to = to_seated c.pop-in-Some.new.self.items c.in-Some-pop.to_each c.loop-desk.stations.items
     (record { rt = c.args.rt; station = c.new-station.result }) (to_names c.args.parts.ends.to.items)
     (rw (sym c.in-Some-pop.ensures.items) kept.to) (sym (ap (λ v. v.items) c.new-station.ensures.to)) in
-    let from = from_seated c.pop-in-Some-2.new.self.items c.in-Some-pop-2.theirs c.loop-desk.stations.items
+    let from = from_seated c.pop-in-Some-2.new.self.items c.in-Some-pop-2.from_each c.loop-desk.stations.items
     (record { rt = c.args.rt; station = c.new-station.result }) (from_names c.args.parts.ends.from.items)
     (rw (sym c.in-Some-pop-2.ensures.items) kept.from) (sym (ap (λ v. v.items) c.new-station.ensures.from)) in
     let seated = seated_more c.args.logger.now (vec_len c.pop.new.self) c.loop-desk.stations.items
