@@ -2,7 +2,7 @@
 use Rattle.std.proofs.Common.{◌≡◌, ◌≢◌, ℕ, Bool, Option, Some, None, refl, sym, ap, ◌∙◌}
 use Rattle.rank_node.specs.declared.fault.NodeFault.{NodeFault}
 use Rattle.rank_node.specs.declared.fault.NodeFault.TheVariants as fault
-use Rattle.rank_threads.specs.Lives.{HasLived, crashes_after, crashes_by, end_after}
+use Rattle.rank_threads.specs.Endings.{HasLived, crashes_after, crashes_by, end_after}
 use Rattle.rank_threads.specs.declared.ending.Ending.{Ending}
 use Rattle.rank_threads.specs.declared.ending.Ending.TheVariants as ending
 use Rattle.rank_threads.specs.declared.phase.Phase.{Phase}

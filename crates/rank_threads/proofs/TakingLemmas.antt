@@ -8,7 +8,7 @@ use Rattle.rank_node.specs.declared.frame.Frame.{Frame}
 use Rattle.rank_threads.proofs.PuttingLemmas.{set_here, same_there, set_elsewhere}
 use Rattle.rank_threads.specs.Taking.{arrived, all_arrived, is_some_frame, those_of, Takes, TookFrom, TookBelow}
 use Rattle.rank_threads.specs.declared.phase.Phase.{Phase}
-use Rattle.rank_threads.specs.declared.seat.Seat.{Seat}
+use Rattle.rank_threads.specs.declared.life.Life.{Life}
 use Rattle.rank_threads.specs.declared.tally.Tally.{Tally}
 use Rattle.rank_threads.specs.Tally.{all_taken, woken}
 
@@ -69,24 +69,24 @@ takes_looked source None lanes d y within some none =
 takes_looked source (Some frame) lanes d y within some none = takes_at source (frame ∷ []) lanes d y within some
 
 -- at first nothing came
-pub took_nothing : (source : ℕ) (seat : Seat) → TookFrom source seat seat false
-took_nothing source seat = record { frames = []; lanes = takes_none source seat.from.items; rank = refl; took = refl; tally = refl; plan = refl; to = refl }
+pub took_nothing : (source : ℕ) (life : Life) → TookFrom source life life false
+took_nothing source life = record { frames = []; lanes = takes_none source life.from.items; rank = refl; took = refl; tally = refl; plan = refl; to = refl }
 
 -- one frame came
-pub took_frame : (source : ℕ) (old new : Seat) (frame : Frame) → Takes source (frame ∷ []) old.from.items new.from.items
+pub took_frame : (source : ℕ) (old new : Life) (frame : Frame) → Takes source (frame ∷ []) old.from.items new.from.items
     → new.node.phase ≡ arrived old.node.phase source frame → new.tally ≡ woken old.tally → new.plan ≡ old.plan → new.to ≡ old.to
     → TookFrom source old new true
 took_frame source old new frame takes came counted plan to =
     record { frames = frame ∷ []; lanes = takes; rank = came; took = refl; tally = counted; plan = plan; to = to }
 
 -- none was there
-pub took_none : (source : ℕ) (old new : Seat) → Takes source [] old.from.items new.from.items → new.node.phase ≡ old.node.phase
+pub took_none : (source : ℕ) (old new : Life) → Takes source [] old.from.items new.from.items → new.node.phase ≡ old.node.phase
     → new.tally ≡ old.tally → new.plan ≡ old.plan → new.to ≡ old.to → TookFrom source old new false
 took_none source old new takes same counted plan to =
     record { frames = []; lanes = takes; rank = same; took = refl; tally = counted; plan = plan; to = to }
 
 -- some came, behind those before
-pub took_more : (source : ℕ) (old mid new : Seat) (took : Bool) → TookFrom source old mid took → TookFrom source mid new true
+pub took_more : (source : ℕ) (old mid new : Life) (took : Bool) → TookFrom source old mid took → TookFrom source mid new true
     → TookFrom source old new true
 took_more source old mid new took before here = record {
   frames = before.frames ++ here.frames;
@@ -100,7 +100,7 @@ took_more source old mid new took before here = record {
 }
 
 -- none was there behind those before
-pub took_no_more : (source : ℕ) (old mid new : Seat) (took : Bool) → TookFrom source old mid took → TookFrom source mid new false
+pub took_no_more : (source : ℕ) (old mid new : Life) (took : Bool) → TookFrom source old mid took → TookFrom source mid new false
     → TookFrom source old new took
 took_no_more source old mid new took before here = record {
   frames = before.frames ++ here.frames;
@@ -114,11 +114,11 @@ took_no_more source old mid new took before here = record {
 }
 
 -- before the first lane nothing came
-pub took_before : (seat : Seat) → TookBelow 0 seat seat false
-took_before seat = (refl, refl)
+pub took_before : (life : Life) → TookBelow 0 life life false
+took_before life = (refl, refl)
 
 -- one lane more
-pub took_next : (k : ℕ) (old mid new : Seat) (earlier last answer : Bool) → TookBelow k old mid earlier → TookFrom k mid new last
+pub took_next : (k : ℕ) (old mid new : Life) (earlier last answer : Bool) → TookBelow k old mid earlier → TookFrom k mid new last
     → answer ≡ (last || earlier) → TookBelow (k + 1) old new answer
 took_next k old mid new earlier last answer before from either =
     subst (λ n. TookBelow n old new answer) (sym (add-one k)) (mid, earlier, last, before, from, either)

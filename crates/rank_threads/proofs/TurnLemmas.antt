@@ -12,7 +12,7 @@ use Rattle.rank_threads.specs.Steps.{acts_made, acts_of, counted, is_limit, is_o
 use Rattle.rank_threads.specs.Tally.{after_steps}
 use Rattle.rank_threads.specs.Turns.{Brings, IsBegun}
 use Rattle.rank_threads.specs.declared.phase.Phase.{Phase}
-use Rattle.rank_threads.specs.declared.seat.Seat.{Seat}
+use Rattle.rank_threads.specs.declared.life.Life.{Life}
 use Rattle.rank_threads.specs.declared.stepping.Stepped.{Stepped}
 use Rattle.rank_threads.specs.declared.stepping.Stepped.TheVariants as stepped
 use Rattle.rank_threads.specs.declared.tally.Tally.{Tally}
@@ -143,7 +143,7 @@ clock_told p q r answer result stood same own grows stays =
 
 -- ---- how a turn begins
 
-pub is_begun : (old mid new : Seat) (begun : Begun) → Brings begun.brought old mid
+pub is_begun : (old mid new : Life) (begun : Begun) → Brings begun.brought old mid
     → (Ok begun.stepped ≢ Err fault.Memory → Ok begun.stepped ≡ step_of mid.tally mid.node.phase) → IsBegun old new begun
 is_begun old mid new begun brings steps = record { mid = mid; brought = brings; stepped = steps (λ lacked. absurd cc) }
 

@@ -1,6 +1,6 @@
 pub mod Phases
 pub mod Lanes
-pub mod Seats
+pub mod Lives
 pub mod Clearing
 pub mod Stations
 pub mod Seating
@@ -14,5 +14,5 @@ pub mod Taking
 pub mod Dropping
 pub mod Orders
 pub mod Steps
-pub mod Lives
+pub mod Endings
 pub mod Turns

@@ -6,7 +6,7 @@ use Rattle.rank_threads.specs.Phases.{stable_of, SameStable}
 use Rattle.rank_threads.specs.Lanes.{SameTxs, SameRxs}
 use Rattle.rank_threads.specs.declared.parcel.Parcel.{Parcel}
 use Rattle.rank_threads.specs.declared.row.Row.{Row}
-use Rattle.rank_threads.specs.declared.seat.Seat.{Seat}
+use Rattle.rank_threads.specs.declared.life.Life.{Life}
 use Rattle.rank_threads.specs.declared.station.Station.{Station}
 use Rattle.rank_threads.specs.Tally.{new_tally}
 
@@ -18,8 +18,8 @@ SameStation a b = (b.rank ≡ a.rank) × SameStable a.down b.down × (b.size ≡
 abbrev pub SameRest : Station → Station → Type 0
 SameRest a b = (b.plan ≡ a.plan) × (b.row ≡ a.row) × (b.end ≡ a.end)
 
--- this seat is of a life of that station's rank: it has the same rank, desk and lanes
-abbrev pub IsLifeOf : Station → Seat → Type 0
+-- this is a life of that station's rank: it has the same rank, desk and lanes
+abbrev pub IsLifeOf : Station → Life → Type 0
 IsLifeOf a s =
     (s.rank ≡ a.rank) × SameStable a.down (stable_of s.node.phase) × (s.node.size ≡ a.size) × SameTxs a.to.items s.to.items × SameRxs a.from.items s.from.items
 

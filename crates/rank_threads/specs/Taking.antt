@@ -5,7 +5,7 @@ use Rattle.rank_node.specs.Frames.{after_frame}
 use Rattle.rank_node.specs.declared.frame.Frame.{Frame}
 use Rattle.rank_threads.specs.declared.phase.Phase.{Phase}
 use Rattle.rank_threads.specs.declared.phase.Phase.TheVariants as phase
-use Rattle.rank_threads.specs.declared.seat.Seat.{Seat}
+use Rattle.rank_threads.specs.declared.life.Life.{Life}
 use Rattle.rank_threads.specs.Tally.{all_taken}
 
 -- the frame that was there, if one was
@@ -37,7 +37,7 @@ pub record Takes (source : ℕ) (frames : List Frame) (lanes lanes' : List RxVal
 
 -- A rank took in what the lane from a rank brought, each frame was counted, and it was answered whether any came. The plan
 -- and the lanes to other ranks stayed.
-pub record TookFrom (source : ℕ) (old new : Seat) (answer : Bool) : Type 0 where
+pub record TookFrom (source : ℕ) (old new : Life) (answer : Bool) : Type 0 where
   pub frames : List Frame
   pub lanes : Takes source frames old.from.items new.from.items
   pub rank : new.node.phase ≡ all_arrived old.node.phase source frames
@@ -48,7 +48,7 @@ pub record TookFrom (source : ℕ) (old new : Seat) (answer : Bool) : Type 0 whe
 
 -- A rank took in what the lanes from the ranks below this number brought, from rank 0 on, and answered whether that was
 -- anything.
-abbrev pub TookBelow : ℕ → Seat → Seat → Bool → Type 0
+abbrev pub TookBelow : ℕ → Life → Life → Bool → Type 0
 TookBelow zero old new answer = (new ≡ old) × (answer ≡ false)
 TookBelow (suc k) old new answer =
-    (mid : Seat) × (earlier last : Bool) × TookBelow k old mid earlier × TookFrom k mid new last × (answer ≡ last || earlier)
+    (mid : Life) × (earlier last : Bool) × TookBelow k old mid earlier × TookFrom k mid new last × (answer ≡ last || earlier)

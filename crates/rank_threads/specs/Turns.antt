@@ -6,7 +6,7 @@ use Rattle.rank_threads.specs.Orders.{is_kill, order_after}
 use Rattle.rank_threads.specs.Steps.{step_of}
 use Rattle.rank_threads.specs.Taking.{TookBelow}
 use Rattle.rank_threads.specs.declared.phase.Phase.{Phase}
-use Rattle.rank_threads.specs.declared.seat.Seat.{Seat}
+use Rattle.rank_threads.specs.declared.life.Life.{Life}
 use Rattle.rank_threads.specs.declared.taking.Brought.{Brought}
 use Rattle.rank_threads.specs.declared.taking.Brought.TheVariants as brought
 use Rattle.rank_threads.specs.declared.turn.Begun.{Begun}
@@ -18,14 +18,14 @@ is_frames (brought.Nothing none) = false
 is_frames (brought.Unrung unrung) = false
 
 -- A rank takes what its lanes bring, unless its bell wasn't rung: then it takes nothing.
-abbrev pub Brings : Brought → Seat → Seat → Type 0
+abbrev pub Brings : Brought → Life → Life → Type 0
 Brings brought.Frames old new = TookBelow old.node.size old new true
 Brings (brought.Nothing none) old new = TookBelow old.node.size old new false
 Brings (brought.Unrung unrung) old new = new ≡ old
 
 -- A turn began: the rank took what its lanes brought, and then made the step that its state said.
-pub record IsBegun (old new : Seat) (begun : Begun) : Type 0 where
-  pub mid : Seat
+pub record IsBegun (old new : Life) (begun : Begun) : Type 0 where
+  pub mid : Life
   pub brought : Brings begun.brought old mid
   pub stepped : Ok begun.stepped ≡ step_of mid.tally mid.node.phase
 

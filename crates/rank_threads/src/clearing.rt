@@ -1,10 +1,10 @@
 //! Part 4 of a turn: what waits at the gate, and an image.
 ghost use Rattle.std.specs.Prelude.{◌≡◌, true, false, Ok, drop};
 ghost use Rattle.rank_threads.specs.Clearing.{has_stepped, leaves_misses};
+ghost use Rattle.rank_threads.specs.Lives.{SameLife};
 ghost use Rattle.rank_threads.specs.Phases.{is_running, HasImage, NoneWaits};
-ghost use Rattle.rank_threads.specs.Seats.{SameSeat};
 
-use crate::seat::Seat;
+use crate::life::Life;
 use crate::shared::Shared;
 use crate::stepping::Stepped;
 use ports::ConsoleState;
@@ -20,35 +20,35 @@ pub fn clear_gate<W: Wait, H>(
     rt: &W,
     shared: &Shared<'_, H>,
     blank: &mut ConsoleState,
-    seat: &mut Seat<'_, '_>,
+    life: &mut Life<'_, '_>,
     stepped: Stepped,
     is_imaged: bool,
 ) -> Result<(), NodeFault>
-    ensures settled { leaves_misses stepped is_imaged seat.old.tally.is_spent seat.old.node.phase ≡ false → result ≡ Ok tt
-        → seat.new.tally.is_refused ≡ false → NoneWaits seat.new.node.phase }
-    ensures left { leaves_misses stepped is_imaged seat.old.tally.is_spent seat.old.node.phase ≡ true → seat.new ≡ seat.old }
-    ensures image { result ≡ Ok tt → is_imaged ≡ true → seat.new.tally.is_refused ≡ false
-        → is_running seat.new.node.phase ≡ true → HasImage seat.new.node.phase }
-    ensures used { result ≡ Ok tt → is_imaged ≡ true → seat.new.tally.is_refused ≡ false
-        → is_running seat.new.node.phase ≡ true → seat.new.plan ≡ drop 1 seat.old.plan }
-    ensures kept { is_running seat.new.node.phase ≡ false → seat.new.plan ≡ seat.old.plan }
-    ensures unasked { is_imaged ≡ false → seat.new.plan ≡ seat.old.plan }
-    ensures owing { seat.old.tally.may_owe ≡ true → seat.new.tally.may_owe ≡ true }
-    ensures runs { is_running seat.new.node.phase ≡ is_running seat.old.node.phase }
+    ensures settled { leaves_misses stepped is_imaged life.old.tally.is_spent life.old.node.phase ≡ false → result ≡ Ok tt
+        → life.new.tally.is_refused ≡ false → NoneWaits life.new.node.phase }
+    ensures left { leaves_misses stepped is_imaged life.old.tally.is_spent life.old.node.phase ≡ true → life.new ≡ life.old }
+    ensures image { result ≡ Ok tt → is_imaged ≡ true → life.new.tally.is_refused ≡ false
+        → is_running life.new.node.phase ≡ true → HasImage life.new.node.phase }
+    ensures used { result ≡ Ok tt → is_imaged ≡ true → life.new.tally.is_refused ≡ false
+        → is_running life.new.node.phase ≡ true → life.new.plan ≡ drop 1 life.old.plan }
+    ensures kept { is_running life.new.node.phase ≡ false → life.new.plan ≡ life.old.plan }
+    ensures unasked { is_imaged ≡ false → life.new.plan ≡ life.old.plan }
+    ensures owing { life.old.tally.may_owe ≡ true → life.new.tally.may_owe ≡ true }
+    ensures runs { is_running life.new.node.phase ≡ is_running life.old.node.phase }
     ensures blank { blank.new ≡ blank.old }
-    ensures same { SameSeat seat.old seat.new }
+    ensures same { SameLife life.old life.new }
 {
-    if leaves_misses(seat, stepped, is_imaged) {
+    if leaves_misses(life, stepped, is_imaged) {
         return Ok(());
     }
-    pass_all(rt, shared, blank, seat, is_imaged)
+    pass_all(rt, shared, blank, life, is_imaged)
 }
 
 // Whether misses may go on waiting.
-fn leaves_misses(seat: &Seat<'_, '_>, stepped: Stepped, is_imaged: bool) -> bool
-    ensures { result ≡ leaves_misses stepped is_imaged seat.now.tally.is_spent seat.now.node.phase }
+fn leaves_misses(life: &Life<'_, '_>, stepped: Stepped, is_imaged: bool) -> bool
+    ensures { result ≡ leaves_misses stepped is_imaged life.now.tally.is_spent life.now.node.phase }
 {
-    has_stepped(stepped) && !is_imaged && !seat.tally.is_spent && seat.node.misses_only()
+    has_stepped(stepped) && !is_imaged && !life.tally.is_spent && life.node.misses_only()
 }
 
 fn has_stepped(stepped: Stepped) -> bool
@@ -69,32 +69,32 @@ fn pass_all<W: Wait, H>(
     rt: &W,
     shared: &Shared<'_, H>,
     blank: &mut ConsoleState,
-    seat: &mut Seat<'_, '_>,
+    life: &mut Life<'_, '_>,
     is_imaged: bool,
 ) -> Result<(), NodeFault>
-    ensures settled { result ≡ Ok tt → seat.new.tally.is_refused ≡ false → NoneWaits seat.new.node.phase }
-    ensures image { result ≡ Ok tt → is_imaged ≡ true → seat.new.tally.is_refused ≡ false
-        → is_running seat.new.node.phase ≡ true → HasImage seat.new.node.phase }
-    ensures used { result ≡ Ok tt → is_imaged ≡ true → seat.new.tally.is_refused ≡ false
-        → is_running seat.new.node.phase ≡ true → seat.new.plan ≡ drop 1 seat.old.plan }
-    ensures kept { is_running seat.new.node.phase ≡ false → seat.new.plan ≡ seat.old.plan }
-    ensures unasked { is_imaged ≡ false → seat.new.plan ≡ seat.old.plan }
-    ensures owing { seat.old.tally.may_owe ≡ true → seat.new.tally.may_owe ≡ true }
-    ensures runs { is_running seat.new.node.phase ≡ is_running seat.old.node.phase }
+    ensures settled { result ≡ Ok tt → life.new.tally.is_refused ≡ false → NoneWaits life.new.node.phase }
+    ensures image { result ≡ Ok tt → is_imaged ≡ true → life.new.tally.is_refused ≡ false
+        → is_running life.new.node.phase ≡ true → HasImage life.new.node.phase }
+    ensures used { result ≡ Ok tt → is_imaged ≡ true → life.new.tally.is_refused ≡ false
+        → is_running life.new.node.phase ≡ true → life.new.plan ≡ drop 1 life.old.plan }
+    ensures kept { is_running life.new.node.phase ≡ false → life.new.plan ≡ life.old.plan }
+    ensures unasked { is_imaged ≡ false → life.new.plan ≡ life.old.plan }
+    ensures owing { life.old.tally.may_owe ≡ true → life.new.tally.may_owe ≡ true }
+    ensures runs { is_running life.new.node.phase ≡ is_running life.old.node.phase }
     ensures blank { blank.new ≡ blank.old }
-    ensures same { SameSeat seat.old seat.new }
+    ensures same { SameLife life.old life.new }
 {
-    let Ok(all) = seat.node.release(rt, shared.console, blank) else {
+    let Ok(all) = life.node.release(rt, shared.console, blank) else {
         return Err(NodeFault::Memory);
     };
     if !all {
-        seat.tally.refuse_event();
+        life.tally.refuse_event();
         return Ok(());
     }
-    if is_imaged && seat.node.image()? {
-        seat.plan.use_one();
+    if is_imaged && life.node.image()? {
+        life.plan.use_one();
         // each rank of which it accepted something is due a word
-        seat.tally.set_owing(true);
+        life.tally.set_owing(true);
     }
     Ok(())
 }

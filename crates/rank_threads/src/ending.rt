@@ -1,13 +1,13 @@
 //! How a life of a rank ends.
 ghost use Rattle.std.specs.Prelude.{◌≡◌, is_some};
+ghost use Rattle.rank_threads.specs.Endings.{end_after};
 ghost use Rattle.rank_threads.specs.Ends.{end_at, end_of};
-ghost use Rattle.rank_threads.specs.Lives.{end_after};
 ghost use Rattle.rank_threads.specs.Orders.{is_kill};
 ghost use Rattle.rank_threads.specs.Stations.{IsLifeOf};
 
+use crate::life::Life;
 use crate::marks::AllAtRest;
 use crate::phase::Phase;
-use crate::seat::Seat;
 use crate::shared::Stopped;
 use crate::station::Station;
 use audit::End;
@@ -45,27 +45,27 @@ pub fn kill_of(order: Option<Order>) -> Option<Killed>
 }
 
 /// The life is over: the rank has gone down, or left.
-pub fn end_life<'l>(seat: Seat<'_, 'l>, ended: Ending) -> Station<'l>
-    ensures end { result.end ≡ end_after ended seat.entry.tally.is_spent seat.entry.node.phase }
-    ensures plan { result.plan ≡ seat.entry.plan }
-    ensures tally { result.tally ≡ seat.entry.tally }
-    ensures same { IsLifeOf result seat.entry }
+pub fn end_life<'l>(life: Life<'_, 'l>, ended: Ending) -> Station<'l>
+    ensures end { result.end ≡ end_after ended life.entry.tally.is_spent life.entry.node.phase }
+    ensures plan { result.plan ≡ life.entry.plan }
+    ensures tally { result.tally ≡ life.entry.tally }
+    ensures same { IsLifeOf result life.entry }
 {
     let end = match ended {
         Ending::Crashed(Killed(())) => None,
-        Ending::Left(_) => Some(end_of(&seat)),
+        Ending::Left(_) => Some(end_of(&life)),
     };
-    seat.leave(end)
+    life.leave(end)
 }
 
 // A rank that a limit stopped, or that didn't come to the end of its row, is unfinished.
-fn end_of(seat: &Seat<'_, '_>) -> End
-    ensures { result ≡ end_of seat.now.tally.is_spent seat.now.node.phase }
+fn end_of(life: &Life<'_, '_>) -> End
+    ensures { result ≡ end_of life.now.tally.is_spent life.now.node.phase }
 {
-    if seat.tally.is_spent {
+    if life.tally.is_spent {
         return End::Unfinished;
     }
-    match seat.node.phase() {
+    match life.node.phase() {
         Phase::Running(rank) => end_at(rank.wants()),
         Phase::Replaying(_) | Phase::Down(_) => End::Unfinished,
     }

@@ -1,13 +1,13 @@
 //! A keeper starts and joins the threads of a rank's lives.
 ghost use Rattle.std.specs.Prelude.{◌≡◌, ◌≢◌, Some, None};
 ghost use Rattle.rank_node.specs.declared.fault.NodeFault.TheVariants.{Memory};
-ghost use Rattle.rank_threads.specs.Lives.{HasLived};
+ghost use Rattle.rank_threads.specs.Endings.{HasLived};
 ghost use Rattle.rank_threads.specs.Stations.{SameStation, HasRow};
 ghost use Rattle.rank_threads.specs.Tally.{begun_again};
 
 use crate::dropping::drop_frames;
 use crate::hold::Hold;
-use crate::life::{life, refused};
+use crate::living::{live, refused};
 use crate::parcel::{AfterLife, Parcel};
 use crate::shared::{Shared, Stop, Stopped};
 use crate::station::Station;
@@ -88,7 +88,7 @@ fn fetched<'l, H>(shared: &Shared<'_, H>, station: Station<'l>) -> Station<'l>
 }
 
 // A life of the rank that travels in the parcel.
-fn live<'l, W: Wait + Drop + Copy, H: Hold>(
+fn live_one<'l, W: Wait + Drop + Copy, H: Hold>(
     shared: &Shared<'_, H>,
     parcel: Parcel<'l, W>,
 ) -> Parcel<'l, W>
@@ -96,7 +96,7 @@ fn live<'l, W: Wait + Drop + Copy, H: Hold>(
     ensures same { SameStation parcel.entry.station result.station }
 {
     let rt = parcel.rt;
-    let station = life(&rt, shared, parcel.open());
+    let station = live(&rt, shared, parcel.open());
     Parcel { rt, station }
 }
 
@@ -134,7 +134,7 @@ fn one_life<'l, R: Threads + Wait + Sync + Copy + Send, H: Hold + Sync>(
             let whole = move || -> Parcel<'_, R>
                 ensures lived { HasLived parcel.entry.station result.station }
                 ensures same { SameStation parcel.entry.station result.station }
-            { live(shared, parcel) };
+            { live_one(shared, parcel) };
             match scope.spawn_with(promise, whole) {
                 Ok(child) => child.join(&rt),
                 Err(back) => {

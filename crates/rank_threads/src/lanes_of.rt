@@ -1,9 +1,9 @@
 //! One of a rank's lanes among all of them.
 ghost use Rattle.std.specs.Prelude.{◌≡◌, ◌<◌, IfOk};
 ghost use Rattle.rank_threads.specs.Lanes.{SameTxs, SameRxs};
+ghost use Rattle.rank_threads.specs.Lives.{SameNode};
 ghost use Rattle.rank_threads.specs.Phases.{gate_in, SameShelf};
 ghost use Rattle.rank_threads.specs.Putting.{PutsInto};
-ghost use Rattle.rank_threads.specs.Seats.{SameNode};
 ghost use Rattle.rank_threads.specs.Taking.{Takes, those_of};
 
 use crate::node::Node;

@@ -1,10 +1,10 @@
 //! What a rank does in idle turns: it marks itself, and looks whether all may
 //! leave.
 ghost use Rattle.std.specs.Prelude.{◌≡◌, ◌≢◌, ℕ, ◌<◌, slice_index_or};
-ghost use Rattle.rank_threads.specs.Seats.{SameSeat, SamePlan, SameGate};
+ghost use Rattle.rank_threads.specs.Lives.{SameLife, SamePlan, SameGate};
 
+use crate::life::Life;
 use crate::marks::{AllAtRest, first_look, second_look};
-use crate::seat::Seat;
 use crate::shared::Shared;
 use crate::stepping::Stepped;
 use crate::taking::none_came;
@@ -18,64 +18,64 @@ use std::alloc::AllocError;
 /// say, in which no other rank's row has grown.
 pub fn rest<H>(
     shared: &Shared<'_, H>,
-    seat: &mut Seat<'_, '_>,
+    life: &mut Life<'_, '_>,
     stepped: Stepped,
 ) -> Result<Option<AllAtRest>, AllocError>
-    ensures plan { SamePlan seat.old seat.new }
-    ensures gate { SameGate seat.old seat.new }
-    ensures same { SameSeat seat.old seat.new }
+    ensures plan { SamePlan life.old life.new }
+    ensures gate { SameGate life.old life.new }
+    ensures same { SameLife life.old life.new }
 {
-    if seat.tally.is_marked {
-        return may_leave(shared, seat);
+    if life.tally.is_marked {
+        return may_leave(shared, life);
     }
-    if seat.tally.may_owe {
+    if life.tally.may_owe {
         return Ok(None);
     }
     match stepped {
         Stepped::Moved | Stepped::Acted | Stepped::Held => return Ok(None),
         Stepped::Blocked => {
-            let waited = seat.tally.count_idle(shared.limits.idle);
-            if !waited || others_went_on(shared.alloc, seat)? {
+            let waited = life.tally.count_idle(shared.limits.idle);
+            if !waited || others_went_on(shared.alloc, life)? {
                 return Ok(None);
             }
         }
         Stepped::Ended => {}
     }
-    let marked = shared.set_mark(seat.rank, seat.tally.put, seat.tally.taken);
-    seat.tally.mark(marked);
+    let marked = shared.set_mark(life.rank, life.tally.put, life.tally.taken);
+    life.tally.mark(marked);
     Ok(None)
 }
 
 // Between two looks that see the same marks, all of this rank's lanes are looked at once more.
 fn may_leave<H>(
     shared: &Shared<'_, H>,
-    seat: &mut Seat<'_, '_>,
+    life: &mut Life<'_, '_>,
 ) -> Result<Option<AllAtRest>, AllocError>
-    ensures plan { SamePlan seat.old seat.new }
-    ensures gate { SameGate seat.old seat.new }
-    ensures same { SameSeat seat.old seat.new }
+    ensures plan { SamePlan life.old life.new }
+    ensures gate { SameGate life.old life.new }
+    ensures same { SameLife life.old life.new }
 {
     let Some(first) = first_look(shared.marks) else {
         return Ok(None);
     };
-    let Some(none) = none_came(shared, seat)? else {
-        seat.tally.end_idleness();
+    let Some(none) = none_came(shared, life)? else {
+        life.tally.end_idleness();
         return Ok(None);
     };
     Ok(second_look(shared.marks, &first, none))
 }
 
 // Whether another row has grown since the last reads. All are read.
-fn others_went_on(alloc: Heap, seat: &mut Seat<'_, '_>) -> Result<bool, AllocError>
-    ensures tally { seat.new.tally ≡ record seat.old.tally { seen = seat.new.tally.seen } }
-    ensures plan { SamePlan seat.old seat.new }
-    ensures gate { SameGate seat.old seat.new }
-    ensures same { SameSeat seat.old seat.new }
+fn others_went_on(alloc: Heap, life: &mut Life<'_, '_>) -> Result<bool, AllocError>
+    ensures tally { life.new.tally ≡ record life.old.tally { seen = life.new.tally.seen } }
+    ensures plan { SamePlan life.old life.new }
+    ensures gate { SameGate life.old life.new }
+    ensures same { SameLife life.old life.new }
 {
     let mut went_on = false;
-    for of in 0..seat.node.size {
-        if of != seat.rank {
-            went_on = note_growth(alloc, seat, of)? || went_on;
+    for of in 0..life.node.size {
+        if of != life.rank {
+            went_on = note_growth(alloc, life, of)? || went_on;
         }
     }
     Ok(went_on)
@@ -84,19 +84,19 @@ fn others_went_on(alloc: Heap, seat: &mut Seat<'_, '_>) -> Result<bool, AllocErr
 // Whether that row has grown since the last read. Only of that row it is noted
 // how far the rank has read.
 #[tactic(auto, using(crate::proofs::PuttingLemmas::set_elsewhere))]
-fn note_growth(alloc: Heap, seat: &mut Seat<'_, '_>, of: u8) -> Result<bool, AllocError>
-    requires { of < seat.old.node.size }
-    ensures others { (k : ℕ) → k ≢ of → slice_index_or seat.new.tally.seen k 0 ≡ slice_index_or seat.old.tally.seen k 0 }
-    ensures tally { seat.new.tally ≡ record seat.old.tally { seen = seat.new.tally.seen } }
-    ensures plan { SamePlan seat.old seat.new }
-    ensures gate { SameGate seat.old seat.new }
-    ensures same { SameSeat seat.old seat.new }
+fn note_growth(alloc: Heap, life: &mut Life<'_, '_>, of: u8) -> Result<bool, AllocError>
+    requires { of < life.old.node.size }
+    ensures others { (k : ℕ) → k ≢ of → slice_index_or life.new.tally.seen k 0 ≡ slice_index_or life.old.tally.seen k 0 }
+    ensures tally { life.new.tally ≡ record life.old.tally { seen = life.new.tally.seen } }
+    ensures plan { SamePlan life.old life.new }
+    ensures gate { SameGate life.old life.new }
+    ensures same { SameLife life.old life.new }
 {
-    let after = seat.tally.seen_in(of);
-    let events = seat.node.read(alloc, of, after)?;
+    let after = life.tally.seen_in(of);
+    let events = life.node.read(alloc, of, after)?;
     let Some(last) = events.last() else {
         return Ok(false);
     };
-    seat.tally.note_seen(of, last.receiver_clock());
+    life.tally.note_seen(of, last.receiver_clock());
     Ok(true)
 }

@@ -2,16 +2,16 @@
 ghost use Rattle.std.specs.Prelude.{◌≡◌};
 ghost use Rattle.rank_threads.specs.Orders.{order_after, is_image};
 
-use crate::seat::Seat;
+use crate::life::Life;
 use crate::stepping::Stepped;
 use script_text::Order;
 
 /// What the script's next line asks for after this step.
-pub fn order_after(stepped: Stepped, seat: &Seat<'_, '_>) -> Option<Order>
-    ensures { result ≡ order_after stepped seat.now.plan seat.now.node.phase }
+pub fn order_after(stepped: Stepped, life: &Life<'_, '_>) -> Option<Order>
+    ensures { result ≡ order_after stepped life.now.plan life.now.node.phase }
 {
     match stepped {
-        Stepped::Acted => seat.plan.order_at(seat.node.clock()),
+        Stepped::Acted => life.plan.order_at(life.node.clock()),
         Stepped::Moved | Stepped::Blocked | Stepped::Held | Stepped::Ended => None,
     }
 }

@@ -1,6 +1,6 @@
 //! A station on its way into a thread or back.
 ghost use Rattle.std.specs.Prelude.{◌≡◌};
-ghost use Rattle.rank_threads.specs.Lives.{HasLived};
+ghost use Rattle.rank_threads.specs.Endings.{HasLived};
 ghost use Rattle.rank_threads.specs.Stations.{SameStation};
 
 use crate::station::Station;

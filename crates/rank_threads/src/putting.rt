@@ -1,11 +1,11 @@
 //! Part 5 of a turn: what goes out.
 ghost use Rattle.std.specs.Prelude.{◌≡◌, ◌<◌, true, false, OnOk};
+ghost use Rattle.rank_threads.specs.Lives.{SameLife, SamePlan, SameGate};
 ghost use Rattle.rank_threads.specs.Putting.{HasNothing, NothingBelow, node_of};
-ghost use Rattle.rank_threads.specs.Seats.{SameSeat, SamePlan, SameGate};
 
 use crate::lanes_of::put_to;
+use crate::life::Life;
 use crate::phase::Went;
-use crate::seat::Seat;
 use crate::shared::Shared;
 use metered::limits::MOST_FRAMES;
 use std::alloc::AllocError;
@@ -15,19 +15,19 @@ use std::alloc::AllocError;
 /// Answers whether a frame was put. Where it looked, and the rank owes nothing
 /// then, nothing is outgoing to any rank.
 #[tactic(auto, using(crate::proofs::PuttingLemmas::nothing_next))]
-pub fn put_out<H>(shared: &Shared<'_, H>, seat: &mut Seat<'_, '_>) -> Result<bool, AllocError>
-    ensures nothing { OnOk result (seat.old.tally.may_owe ≡ true → seat.new.tally.may_owe ≡ false → NothingBelow seat.new.node.size seat.new.node.phase) }
-    ensures plan { SamePlan seat.old seat.new }
-    ensures gate { SameGate seat.old seat.new }
-    ensures same { SameSeat seat.old seat.new }
+pub fn put_out<H>(shared: &Shared<'_, H>, life: &mut Life<'_, '_>) -> Result<bool, AllocError>
+    ensures nothing { OnOk result (life.old.tally.may_owe ≡ true → life.new.tally.may_owe ≡ false → NothingBelow life.new.node.size life.new.node.phase) }
+    ensures plan { SamePlan life.old life.new }
+    ensures gate { SameGate life.old life.new }
+    ensures same { SameLife life.old life.new }
 {
-    if !seat.tally.may_owe {
+    if !life.tally.may_owe {
         return Ok(false);
     }
-    seat.tally.set_owing(false);
+    life.tally.set_owing(false);
     let mut put = false;
-    for dest in 0..seat.node.size {
-        put = put_all_to(shared, seat, dest)? || put;
+    for dest in 0..life.node.size {
+        put = put_all_to(shared, life, dest)? || put;
     }
     Ok(put)
 }
@@ -35,23 +35,23 @@ pub fn put_out<H>(shared: &Shared<'_, H>, seat: &mut Seat<'_, '_>) -> Result<boo
 // What may be left, after a full lane or as many frames as a turn puts, is looked for in the next turn.
 fn put_all_to<H>(
     shared: &Shared<'_, H>,
-    seat: &mut Seat<'_, '_>,
+    life: &mut Life<'_, '_>,
     dest: u8,
 ) -> Result<bool, AllocError>
-    requires { dest < seat.old.node.size }
-    ensures nothing { OnOk result (seat.new.tally.may_owe ≡ false → HasNothing (node_of seat.new.node.phase) dest) }
-    ensures untouched { OnOk result (seat.new.tally.may_owe ≡ false → seat.new.node.phase ≡ seat.old.node.phase) }
-    ensures owing { OnOk result (seat.old.tally.may_owe ≡ true → seat.new.tally.may_owe ≡ true) }
-    ensures plan { SamePlan seat.old seat.new }
-    ensures gate { SameGate seat.old seat.new }
-    ensures same { SameSeat seat.old seat.new }
+    requires { dest < life.old.node.size }
+    ensures nothing { OnOk result (life.new.tally.may_owe ≡ false → HasNothing (node_of life.new.node.phase) dest) }
+    ensures untouched { OnOk result (life.new.tally.may_owe ≡ false → life.new.node.phase ≡ life.old.node.phase) }
+    ensures owing { OnOk result (life.old.tally.may_owe ≡ true → life.new.tally.may_owe ≡ true) }
+    ensures plan { SamePlan life.old life.new }
+    ensures gate { SameGate life.old life.new }
+    ensures same { SameLife life.old life.new }
 {
     let mut put = false;
     let mut is_done = false;
     for _ in 0..MOST_FRAMES {
-        match put_to(&mut seat.to, dest, &mut seat.node)? {
+        match put_to(&mut life.to, dest, &mut life.node)? {
             Went::Gone => {
-                seat.tally.count_put();
+                life.tally.count_put();
                 put = true;
             }
             Went::Full => break,
@@ -62,7 +62,7 @@ fn put_all_to<H>(
         }
     }
     if put || !is_done {
-        seat.tally.set_owing(true);
+        life.tally.set_owing(true);
     }
     if put {
         shared.ring(dest);

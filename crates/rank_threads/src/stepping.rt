@@ -1,11 +1,11 @@
 //! Part 2 of a turn: a stride or a step of the rank.
 ghost use Rattle.std.specs.Prelude.{◌≡◌, ◌≢◌, ◌+◌, true, false, Ok, Err, IfOk, OnErr};
+ghost use Rattle.rank_threads.specs.Lives.{SameLife, SamePlan};
 ghost use Rattle.rank_threads.specs.Phases.{clock_in, want_in};
-ghost use Rattle.rank_threads.specs.Seats.{SameSeat, SamePlan};
 ghost use Rattle.rank_threads.specs.Steps.{acts_made, acts_of, counted, is_limit, is_own, step_of, told, turn_in, Counts, Strode};
 
 use crate::hold::Hold;
-use crate::seat::Seat;
+use crate::life::Life;
 use crate::shared::Shared;
 use ports::ConsoleState;
 use rank_machine::Want;
@@ -39,46 +39,46 @@ pub fn step<W: Wait, H: Hold>(
     rt: &W,
     shared: &Shared<'_, H>,
     blank: &mut ConsoleState,
-    seat: &mut Seat<'_, '_>,
+    life: &mut Life<'_, '_>,
 ) -> Result<Stepped, NodeFault>
-    ensures answer { result ≢ Err NodeFault.Memory → result ≡ step_of seat.old.tally seat.old.node.phase }
-    ensures counts { IfOk result (λ stepped. Counts shared.now.limits.steps seat.old.node.phase stepped seat.old.tally seat.new.tally) }
-    ensures clock { IfOk result (λ stepped. clock_in seat.new.node.phase ≡ clock_in seat.old.node.phase + acts_of stepped) }
-    ensures waits { seat.old.tally.is_blocked ≡ true → seat.old.tally.is_spent ≡ false → (result ≡ Ok Stepped.Blocked) × (seat.new ≡ seat.old) }
-    ensures plan { SamePlan seat.old seat.new }
+    ensures answer { result ≢ Err NodeFault.Memory → result ≡ step_of life.old.tally life.old.node.phase }
+    ensures counts { IfOk result (λ stepped. Counts shared.now.limits.steps life.old.node.phase stepped life.old.tally life.new.tally) }
+    ensures clock { IfOk result (λ stepped. clock_in life.new.node.phase ≡ clock_in life.old.node.phase + acts_of stepped) }
+    ensures waits { life.old.tally.is_blocked ≡ true → life.old.tally.is_spent ≡ false → (result ≡ Ok Stepped.Blocked) × (life.new ≡ life.old) }
+    ensures plan { SamePlan life.old life.new }
     ensures blank { blank.new ≡ blank.old }
-    ensures same { SameSeat seat.old seat.new }
+    ensures same { SameLife life.old life.new }
 {
-    if seat.tally.is_spent {
+    if life.tally.is_spent {
         return Ok(Stepped::Ended);
     }
-    if seat.tally.is_blocked {
-        tell(shared, seat);
+    if life.tally.is_blocked {
+        tell(shared, life);
         return Ok(Stepped::Blocked);
     }
-    if strode(shared, seat) {
+    if strode(shared, life) {
         return Ok(Stepped::Moved);
     }
-    let answer = act(rt, shared, blank, seat);
-    count(shared, seat, answer)
+    let answer = act(rt, shared, blank, life);
+    count(shared, life, answer)
 }
 
 // Steps of the rank's own, where it wants one. Answers whether it made any.
 #[tactic(auto, using(crate::proofs::TurnLemmas::stride_laws))]
-fn strode<H>(shared: &Shared<'_, H>, seat: &mut Seat<'_, '_>) -> bool
-    ensures own { result ≡ is_own (want_in seat.old.node.phase) }
-    ensures none { result ≡ false → (seat.new.node.phase ≡ seat.old.node.phase) × (seat.new.tally ≡ seat.old.tally) }
-    ensures counts { result ≡ true → Strode shared.now.limits.steps seat.old.tally seat.new.tally }
-    ensures clock { clock_in seat.new.node.phase ≡ clock_in seat.old.node.phase }
-    ensures plan { SamePlan seat.old seat.new }
-    ensures same { SameSeat seat.old seat.new }
+fn strode<H>(shared: &Shared<'_, H>, life: &mut Life<'_, '_>) -> bool
+    ensures own { result ≡ is_own (want_in life.old.node.phase) }
+    ensures none { result ≡ false → (life.new.node.phase ≡ life.old.node.phase) × (life.new.tally ≡ life.old.tally) }
+    ensures counts { result ≡ true → Strode shared.now.limits.steps life.old.tally life.new.tally }
+    ensures clock { clock_in life.new.node.phase ≡ clock_in life.old.node.phase }
+    ensures plan { SamePlan life.old life.new }
+    ensures same { SameLife life.old life.new }
 {
-    let left = shared.limits.steps.saturating_sub(seat.tally.steps);
-    let made = seat.node.stride(left.min(STRIDE).max(1));
+    let left = shared.limits.steps.saturating_sub(life.tally.steps);
+    let made = life.node.stride(left.min(STRIDE).max(1));
     if made == 0 {
         return false;
     }
-    seat.tally.count_steps(made, shared.limits.steps, false);
+    life.tally.count_steps(made, shared.limits.steps, false);
     true
 }
 
@@ -86,21 +86,21 @@ fn strode<H>(shared: &Shared<'_, H>, seat: &mut Seat<'_, '_>) -> bool
 #[tactic(auto, using(crate::proofs::TurnLemmas::count_laws))]
 fn count<H>(
     shared: &Shared<'_, H>,
-    seat: &mut Seat<'_, '_>,
+    life: &mut Life<'_, '_>,
     answer: Result<Turn, NodeFault>,
 ) -> Result<Stepped, NodeFault>
     ensures told { result ≡ told answer }
-    ensures counted { seat.new.tally ≡ counted shared.now.limits.steps answer seat.old.tally }
-    ensures rest { seat.new ≡ record seat.old { tally = seat.new.tally } }
-    ensures same { SameSeat seat.old seat.new }
+    ensures counted { life.new.tally ≡ counted shared.now.limits.steps answer life.old.tally }
+    ensures rest { life.new ≡ record life.old { tally = life.new.tally } }
+    ensures same { SameLife life.old life.new }
 {
     match answer {
         Ok(Turn::Moved) => {
-            seat.tally.count_steps(1, shared.limits.steps, true);
+            life.tally.count_steps(1, shared.limits.steps, true);
             Ok(Stepped::Acted)
         }
         Ok(Turn::Blocked) => {
-            seat.tally.block();
+            life.tally.block();
             Ok(Stepped::Blocked)
         }
         Ok(Turn::Held) => Ok(Stepped::Held),
@@ -109,7 +109,7 @@ fn count<H>(
             if !is_limit(fault) {
                 return Err(fault);
             }
-            seat.tally.spend();
+            life.tally.spend();
             Ok(Stepped::Ended)
         }
     }
@@ -130,10 +130,10 @@ fn is_limit(fault: NodeFault) -> bool
 }
 
 // Who holds acts is told of the one that the rank wants.
-fn tell<H: Hold>(shared: &Shared<'_, H>, seat: &Seat<'_, '_>) {
+fn tell<H: Hold>(shared: &Shared<'_, H>, life: &Life<'_, '_>) {
     // No clock is near the end of its type.
-    let clock = seat.node.clock().saturating_add(1);
-    shared.hold.before(seat.rank, clock);
+    let clock = life.node.clock().saturating_add(1);
+    shared.hold.before(life.rank, clock);
 }
 
 // Who holds acts is told of one before it is made, also where it turns out to
@@ -143,25 +143,25 @@ fn act<W: Wait, H: Hold>(
     rt: &W,
     shared: &Shared<'_, H>,
     blank: &mut ConsoleState,
-    seat: &mut Seat<'_, '_>,
+    life: &mut Life<'_, '_>,
 ) -> Result<Turn, NodeFault>
-    ensures answer { result ≢ Err NodeFault.Memory → result ≡ turn_in seat.old.node.phase }
-    ensures clock { IfOk result (λ turn. clock_in seat.new.node.phase ≡ clock_in seat.old.node.phase + acts_made (want_in seat.old.node.phase) turn) }
-    ensures err { OnErr result (seat.new.node.phase ≡ seat.old.node.phase) }
+    ensures answer { result ≢ Err NodeFault.Memory → result ≡ turn_in life.old.node.phase }
+    ensures clock { IfOk result (λ turn. clock_in life.new.node.phase ≡ clock_in life.old.node.phase + acts_made (want_in life.old.node.phase) turn) }
+    ensures err { OnErr result (life.new.node.phase ≡ life.old.node.phase) }
     ensures blank { blank.new ≡ blank.old }
-    ensures rest { seat.new ≡ record seat.old { node = seat.new.node } }
-    ensures same { SameSeat seat.old seat.new }
+    ensures rest { life.new ≡ record life.old { node = life.new.node } }
+    ensures same { SameLife life.old life.new }
 {
-    let Some(want) = seat.node.wants() else {
+    let Some(want) = life.node.wants() else {
         return Ok(Turn::Ended);
     };
     if want.is_act() {
-        tell(shared, seat);
+        tell(shared, life);
     }
     match want {
         Want::Print(_) => {
             let mut console = shared.console.lock(rt);
-            seat.node.step(&mut *console)
+            life.node.step(&mut *console)
         }
         Want::Internal
         | Want::Send { .. }
@@ -169,6 +169,6 @@ fn act<W: Wait, H: Hold>(
         | Want::Probe(_)
         | Want::TryProbe(_)
         | Want::Halted
-        | Want::Faulted(_) => seat.node.step(blank),
+        | Want::Faulted(_) => life.node.step(blank),
     }
 }

@@ -1,13 +1,13 @@
 //! Part 1 of a turn: what the lanes bring.
 ghost use Rattle.std.specs.Prelude.{◌≡◌, ◌<◌, IfOk};
 ghost use Rattle.std.specs.Option.{is_none};
-ghost use Rattle.rank_threads.specs.Seats.{SameSeat, SamePlan, SameGate};
+ghost use Rattle.rank_threads.specs.Lives.{SameLife, SamePlan, SameGate};
 ghost use Rattle.rank_threads.specs.Taking.{TookFrom, TookBelow};
 ghost use Rattle.rank_threads.specs.Turns.{Brings, is_frames};
 ghost use Rattle.rank_threads.specs.Tally.{woken};
 
 use crate::lanes_of::take_from;
-use crate::seat::Seat;
+use crate::life::Life;
 use crate::shared::{NotRung, Shared};
 use metered::limits::MOST_FRAMES;
 use std::alloc::AllocError;
@@ -16,15 +16,15 @@ use std::alloc::AllocError;
 /// frames as it holds, and answers whether a frame came. An `Err` is want of
 /// memory.
 #[tactic(auto, using(crate::proofs::TakingLemmas::took_before, crate::proofs::TakingLemmas::took_next))]
-pub fn take_in<H>(shared: &Shared<'_, H>, seat: &mut Seat<'_, '_>) -> Result<bool, AllocError>
-    ensures took { IfOk result (λ took. TookBelow seat.old.node.size seat.old seat.new took) }
-    ensures plan { SamePlan seat.old seat.new }
-    ensures gate { SameGate seat.old seat.new }
-    ensures same { SameSeat seat.old seat.new }
+pub fn take_in<H>(shared: &Shared<'_, H>, life: &mut Life<'_, '_>) -> Result<bool, AllocError>
+    ensures took { IfOk result (λ took. TookBelow life.old.node.size life.old life.new took) }
+    ensures plan { SamePlan life.old life.new }
+    ensures gate { SameGate life.old life.new }
+    ensures same { SameLife life.old life.new }
 {
     let mut took = false;
-    for source in 0..seat.node.size {
-        took = take_all_from(shared, seat, source)? || took;
+    for source in 0..life.node.size {
+        took = take_all_from(shared, life, source)? || took;
     }
     Ok(took)
 }
@@ -32,18 +32,18 @@ pub fn take_in<H>(shared: &Shared<'_, H>, seat: &mut Seat<'_, '_>) -> Result<boo
 #[tactic(auto, using(crate::proofs::TakingLemmas::took_nothing, crate::proofs::TakingLemmas::took_more, crate::proofs::TakingLemmas::took_no_more))]
 fn take_all_from<H>(
     shared: &Shared<'_, H>,
-    seat: &mut Seat<'_, '_>,
+    life: &mut Life<'_, '_>,
     source: u8,
 ) -> Result<bool, AllocError>
-    requires { source < seat.old.node.size }
-    ensures took { IfOk result (λ took. TookFrom source seat.old seat.new took) }
-    ensures plan { SamePlan seat.old seat.new }
-    ensures gate { SameGate seat.old seat.new }
-    ensures same { SameSeat seat.old seat.new }
+    requires { source < life.old.node.size }
+    ensures took { IfOk result (λ took. TookFrom source life.old life.new took) }
+    ensures plan { SamePlan life.old life.new }
+    ensures gate { SameGate life.old life.new }
+    ensures same { SameLife life.old life.new }
 {
     let mut took = false;
     for _ in 0..MOST_FRAMES {
-        if !take_one(shared, seat, source)? {
+        if !take_one(shared, life, source)? {
             break;
         }
         took = true;
@@ -60,14 +60,14 @@ pub struct NoneCame(());
 /// want of memory.
 pub fn none_came<H>(
     shared: &Shared<'_, H>,
-    seat: &mut Seat<'_, '_>,
+    life: &mut Life<'_, '_>,
 ) -> Result<Option<NoneCame>, AllocError>
-    ensures took { IfOk result (λ none. TookBelow seat.old.node.size seat.old seat.new (is_none none)) }
-    ensures plan { SamePlan seat.old seat.new }
-    ensures gate { SameGate seat.old seat.new }
-    ensures same { SameSeat seat.old seat.new }
+    ensures took { IfOk result (λ none. TookBelow life.old.node.size life.old life.new (is_none none)) }
+    ensures plan { SamePlan life.old life.new }
+    ensures gate { SameGate life.old life.new }
+    ensures same { SameLife life.old life.new }
 {
-    if take_in(shared, seat)? {
+    if take_in(shared, life)? {
         return Ok(None);
     }
     Ok(Some(NoneCame(())))
@@ -84,16 +84,16 @@ pub enum Brought {
 
 /// Takes what the lanes bring, unless the rank's bell wasn't rung. An `Err` is
 /// want of memory.
-pub fn taken<H>(shared: &Shared<'_, H>, seat: &mut Seat<'_, '_>) -> Result<Brought, AllocError>
-    ensures brings { IfOk result (λ brought. Brings brought seat.old seat.new) }
-    ensures plan { SamePlan seat.old seat.new }
-    ensures gate { SameGate seat.old seat.new }
-    ensures same { SameSeat seat.old seat.new }
+pub fn taken<H>(shared: &Shared<'_, H>, life: &mut Life<'_, '_>) -> Result<Brought, AllocError>
+    ensures brings { IfOk result (λ brought. Brings brought life.old life.new) }
+    ensures plan { SamePlan life.old life.new }
+    ensures gate { SameGate life.old life.new }
+    ensures same { SameLife life.old life.new }
 {
-    if let Some(unrung) = shared.take_ring(seat.rank) {
+    if let Some(unrung) = shared.take_ring(life.rank) {
         return Ok(Brought::Unrung(unrung));
     }
-    match none_came(shared, seat)? {
+    match none_came(shared, life)? {
         Some(none) => Ok(Brought::Nothing(none)),
         None => Ok(Brought::Frames),
     }
@@ -113,29 +113,29 @@ pub fn is_frames(brought: Brought) -> bool
 #[tactic(auto, using(crate::proofs::TakingLemmas::took_none, crate::proofs::TakingLemmas::took_frame))]
 fn take_one<H>(
     shared: &Shared<'_, H>,
-    seat: &mut Seat<'_, '_>,
+    life: &mut Life<'_, '_>,
     source: u8,
 ) -> Result<bool, AllocError>
-    requires { source < seat.old.node.size }
-    ensures took { IfOk result (λ took. TookFrom source seat.old seat.new took) }
-    ensures plan { SamePlan seat.old seat.new }
-    ensures gate { SameGate seat.old seat.new }
-    ensures same { SameSeat seat.old seat.new }
+    requires { source < life.old.node.size }
+    ensures took { IfOk result (λ took. TookFrom source life.old life.new took) }
+    ensures plan { SamePlan life.old life.new }
+    ensures gate { SameGate life.old life.new }
+    ensures same { SameLife life.old life.new }
 {
-    let Some(frame) = take_from(&mut seat.from, source) else {
+    let Some(frame) = take_from(&mut life.from, source) else {
         return Ok(false);
     };
-    wake(shared, seat);
-    seat.node.arrive(source, frame)?;
+    wake(shared, life);
+    life.node.arrive(source, frame)?;
     Ok(true)
 }
 
 // A frame came. The mark is taken back before anything is done with it.
-fn wake<H>(shared: &Shared<'_, H>, seat: &mut Seat<'_, '_>)
-    ensures { seat.new ≡ record seat.old { tally = woken seat.old.tally } }
+fn wake<H>(shared: &Shared<'_, H>, life: &mut Life<'_, '_>)
+    ensures { life.new ≡ record life.old { tally = woken life.old.tally } }
 {
-    if seat.tally.is_marked {
-        seat.tally.unmark(shared.take_mark_back(seat.rank));
+    if life.tally.is_marked {
+        life.tally.unmark(shared.take_mark_back(life.rank));
     }
-    seat.tally.count_taken();
+    life.tally.count_taken();
 }

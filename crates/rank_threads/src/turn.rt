@@ -1,20 +1,20 @@
 //! One turn of a rank.
 ghost use Rattle.std.specs.Prelude.{◌≡◌, ◌≢◌, true, false, Some, None, IfOk, OnOk, drop};
 ghost use Rattle.rank_threads.specs.Clearing.{leaves_misses};
-ghost use Rattle.rank_threads.specs.Lives.{goes_down, is_down, is_leave};
+ghost use Rattle.rank_threads.specs.Endings.{goes_down, is_down, is_leave};
+ghost use Rattle.rank_threads.specs.Lives.{SameLife, SamePlan};
 ghost use Rattle.rank_threads.specs.Orders.{order_after, is_kill, is_image};
 ghost use Rattle.rank_threads.specs.Phases.{NoneWaits, TookImage, gate_in, is_running, misses_only_in, settled_of};
 ghost use Rattle.rank_threads.specs.Putting.{NothingBelow};
-ghost use Rattle.rank_threads.specs.Seats.{SameSeat, SamePlan};
 ghost use Rattle.rank_threads.specs.Turns.{IsBegun, kills_after};
 
 use crate::clearing::clear_gate;
 use crate::ending::{Killed, Why, kill_of};
 use crate::hold::Hold;
 use crate::leaving::rest;
+use crate::life::Life;
 use crate::orders::{is_image, order_after};
 use crate::putting::put_out;
-use crate::seat::Seat;
 use crate::shared::Shared;
 use crate::stepping::{Stepped, step};
 use crate::taking::{Brought, is_frames, taken};
@@ -42,15 +42,15 @@ pub fn begin<W: Wait, H: Hold>(
     rt: &W,
     shared: &Shared<'_, H>,
     blank: &mut ConsoleState,
-    seat: &mut Seat<'_, '_>,
+    life: &mut Life<'_, '_>,
 ) -> Result<Begun, NodeFault>
-    ensures begun { IfOk result (λ begun. IsBegun seat.old seat.new begun) }
-    ensures plan { SamePlan seat.old seat.new }
+    ensures begun { IfOk result (λ begun. IsBegun life.old life.new begun) }
+    ensures plan { SamePlan life.old life.new }
     ensures blank { blank.new ≡ blank.old }
-    ensures same { SameSeat seat.old seat.new }
+    ensures same { SameLife life.old life.new }
 {
-    let brought = taken(shared, seat)?;
-    let stepped = step(rt, shared, blank, seat)?;
+    let brought = taken(shared, life)?;
+    let stepped = step(rt, shared, blank, life)?;
     Ok(Begun { brought, stepped })
 }
 
@@ -62,26 +62,26 @@ pub fn finish<W: Wait, H: Hold>(
     rt: &W,
     shared: &Shared<'_, H>,
     blank: &mut ConsoleState,
-    seat: &mut Seat<'_, '_>,
+    life: &mut Life<'_, '_>,
     begun: Result<Begun, NodeFault>,
 ) -> After
-    requires { settled_of seat.old.node.phase ≡ seat.old.node.phase }
-    ensures killed { is_down result ≡ kills_after begun seat.old.plan seat.old.node.phase }
-    ensures settled { is_down result ≡ false → seat.new.tally.fault ≡ None → seat.new.tally.is_refused ≡ false
-        → misses_only_in seat.new.node.phase ≡ false → NoneWaits seat.new.node.phase }
-    ensures spent { is_down result ≡ false → seat.new.tally.fault ≡ None → seat.new.tally.is_refused ≡ false
-        → seat.old.tally.is_spent ≡ true → NoneWaits seat.new.node.phase }
-    ensures left { is_leave result ≡ true → seat.new.tally.fault ≡ None → seat.new.tally.is_refused ≡ false → NoneWaits seat.new.node.phase }
+    requires { settled_of life.old.node.phase ≡ life.old.node.phase }
+    ensures killed { is_down result ≡ kills_after begun life.old.plan life.old.node.phase }
+    ensures settled { is_down result ≡ false → life.new.tally.fault ≡ None → life.new.tally.is_refused ≡ false
+        → misses_only_in life.new.node.phase ≡ false → NoneWaits life.new.node.phase }
+    ensures spent { is_down result ≡ false → life.new.tally.fault ≡ None → life.new.tally.is_refused ≡ false
+        → life.old.tally.is_spent ≡ true → NoneWaits life.new.node.phase }
+    ensures left { is_leave result ≡ true → life.new.tally.fault ≡ None → life.new.tally.is_refused ≡ false → NoneWaits life.new.node.phase }
     ensures blank { blank.new ≡ blank.old }
-    ensures same { SameSeat seat.old seat.new }
+    ensures same { SameLife life.old life.new }
 {
     let after = match begun {
-        Ok(begun) => end(rt, shared, blank, seat, begun),
+        Ok(begun) => end(rt, shared, blank, life, begun),
         Err(fault) => Err(fault),
     };
     match after {
         Ok(after) => after,
-        Err(fault) => faulted(shared, seat, fault),
+        Err(fault) => faulted(shared, life, fault),
     }
 }
 
@@ -90,39 +90,39 @@ fn end<W: Wait, H: Hold>(
     rt: &W,
     shared: &Shared<'_, H>,
     blank: &mut ConsoleState,
-    seat: &mut Seat<'_, '_>,
+    life: &mut Life<'_, '_>,
     begun: Begun,
 ) -> Result<After, NodeFault>
-    ensures killed { goes_down result ≡ is_kill (order_after begun.stepped seat.old.plan seat.old.node.phase) }
-    ensures used { goes_down result ≡ true → seat.new.plan ≡ drop 1 seat.old.plan }
-    ensures unasked { order_after begun.stepped seat.old.plan seat.old.node.phase ≡ None → seat.new.plan ≡ seat.old.plan }
-    ensures image { is_image (order_after begun.stepped seat.old.plan seat.old.node.phase) ≡ true → is_running seat.old.node.phase ≡ true
-        → seat.new.tally.is_refused ≡ false → IfOk result (λ after. is_down after ≡ false → TookImage seat.new.node.phase) }
-    ensures settled { leaves_misses begun.stepped (is_image (order_after begun.stepped seat.old.plan seat.old.node.phase))
-        seat.old.tally.is_spent seat.old.node.phase ≡ false
-        → IfOk result (λ after. is_down after ≡ false → seat.new.tally.is_refused ≡ false → NoneWaits seat.new.node.phase) }
-    ensures kept { leaves_misses begun.stepped (is_image (order_after begun.stepped seat.old.plan seat.old.node.phase))
-        seat.old.tally.is_spent seat.old.node.phase ≡ true
-        → IfOk result (λ after. is_down after ≡ false → gate_in seat.new.node.phase ≡ gate_in seat.old.node.phase) }
-    ensures left { IfOk result (λ after. is_leave after ≡ true → seat.new.tally.is_refused ≡ false → NoneWaits seat.new.node.phase) }
+    ensures killed { goes_down result ≡ is_kill (order_after begun.stepped life.old.plan life.old.node.phase) }
+    ensures used { goes_down result ≡ true → life.new.plan ≡ drop 1 life.old.plan }
+    ensures unasked { order_after begun.stepped life.old.plan life.old.node.phase ≡ None → life.new.plan ≡ life.old.plan }
+    ensures image { is_image (order_after begun.stepped life.old.plan life.old.node.phase) ≡ true → is_running life.old.node.phase ≡ true
+        → life.new.tally.is_refused ≡ false → IfOk result (λ after. is_down after ≡ false → TookImage life.new.node.phase) }
+    ensures settled { leaves_misses begun.stepped (is_image (order_after begun.stepped life.old.plan life.old.node.phase))
+        life.old.tally.is_spent life.old.node.phase ≡ false
+        → IfOk result (λ after. is_down after ≡ false → life.new.tally.is_refused ≡ false → NoneWaits life.new.node.phase) }
+    ensures kept { leaves_misses begun.stepped (is_image (order_after begun.stepped life.old.plan life.old.node.phase))
+        life.old.tally.is_spent life.old.node.phase ≡ true
+        → IfOk result (λ after. is_down after ≡ false → gate_in life.new.node.phase ≡ gate_in life.old.node.phase) }
+    ensures left { IfOk result (λ after. is_leave after ≡ true → life.new.tally.is_refused ≡ false → NoneWaits life.new.node.phase) }
     ensures blank { blank.new ≡ blank.old }
-    ensures same { SameSeat seat.old seat.new }
+    ensures same { SameLife life.old life.new }
 {
-    let order = order_after(begun.stepped, seat);
+    let order = order_after(begun.stepped, life);
     if let Some(killed) = kill_of(order) {
-        seat.plan.use_one();
+        life.plan.use_one();
         return Ok(After::Crash(killed));
     }
-    let put = let_out(rt, shared, blank, seat, begun.stepped, is_image(order))?;
+    let put = let_out(rt, shared, blank, life, begun.stepped, is_image(order))?;
     let is_busy = match begun.stepped {
         Stepped::Moved | Stepped::Acted | Stepped::Held => true,
         Stepped::Blocked | Stepped::Ended => put || is_frames(begun.brought),
     };
     if is_busy {
-        seat.tally.end_idleness();
+        life.tally.end_idleness();
         return Ok(After::Turn { is_idle: false });
     }
-    match rest(shared, seat, begun.stepped)? {
+    match rest(shared, life, begun.stepped)? {
         Some(rest) => Ok(After::Leave(Why::AtRest(rest))),
         None => Ok(After::Turn { is_idle: true }),
     }
@@ -135,40 +135,40 @@ fn let_out<W: Wait, H>(
     rt: &W,
     shared: &Shared<'_, H>,
     blank: &mut ConsoleState,
-    seat: &mut Seat<'_, '_>,
+    life: &mut Life<'_, '_>,
     stepped: Stepped,
     is_imaged: bool,
 ) -> Result<bool, NodeFault>
-    ensures nothing { OnOk result (seat.old.tally.may_owe ≡ true → seat.new.tally.may_owe ≡ false → NothingBelow seat.new.node.size seat.new.node.phase) }
-    ensures settled { leaves_misses stepped is_imaged seat.old.tally.is_spent seat.old.node.phase ≡ false
-        → OnOk result (seat.new.tally.is_refused ≡ false → NoneWaits seat.new.node.phase) }
-    ensures kept { leaves_misses stepped is_imaged seat.old.tally.is_spent seat.old.node.phase ≡ true
-        → OnOk result (gate_in seat.new.node.phase ≡ gate_in seat.old.node.phase) }
-    ensures image { is_imaged ≡ true → is_running seat.old.node.phase ≡ true
-        → seat.new.tally.is_refused ≡ false → OnOk result (TookImage seat.new.node.phase) }
-    ensures unasked { is_imaged ≡ false → seat.new.plan ≡ seat.old.plan }
+    ensures nothing { OnOk result (life.old.tally.may_owe ≡ true → life.new.tally.may_owe ≡ false → NothingBelow life.new.node.size life.new.node.phase) }
+    ensures settled { leaves_misses stepped is_imaged life.old.tally.is_spent life.old.node.phase ≡ false
+        → OnOk result (life.new.tally.is_refused ≡ false → NoneWaits life.new.node.phase) }
+    ensures kept { leaves_misses stepped is_imaged life.old.tally.is_spent life.old.node.phase ≡ true
+        → OnOk result (gate_in life.new.node.phase ≡ gate_in life.old.node.phase) }
+    ensures image { is_imaged ≡ true → is_running life.old.node.phase ≡ true
+        → life.new.tally.is_refused ≡ false → OnOk result (TookImage life.new.node.phase) }
+    ensures unasked { is_imaged ≡ false → life.new.plan ≡ life.old.plan }
     ensures blank { blank.new ≡ blank.old }
-    ensures same { SameSeat seat.old seat.new }
+    ensures same { SameLife life.old life.new }
 {
-    clear_gate(rt, shared, blank, seat, stepped, is_imaged)?;
-    Ok(put_out(shared, seat)?)
+    clear_gate(rt, shared, blank, life, stepped, is_imaged)?;
+    Ok(put_out(shared, life)?)
 }
 
 /// A rank that has nothing left to replay runs from now on.
-pub fn settled<'p, 'l>(seat: Seat<'p, 'l>) -> Seat<'p, 'l>
-    ensures settled { result.node.phase ≡ settled_of seat.entry.node.phase }
-    ensures rest { result ≡ record seat.entry { node = result.node } }
-    ensures same { SameSeat seat.entry result }
+pub fn settled<'p, 'l>(life: Life<'p, 'l>) -> Life<'p, 'l>
+    ensures settled { result.node.phase ≡ settled_of life.entry.node.phase }
+    ensures rest { result ≡ record life.entry { node = result.node } }
+    ensures same { SameLife life.entry result }
 {
-    let Seat {
+    let Life {
         rank,
         node,
         to,
         from,
         plan,
         tally,
-    } = seat;
-    Seat {
+    } = life;
+    Life {
         rank,
         node: node.settled(),
         to,
@@ -179,12 +179,12 @@ pub fn settled<'p, 'l>(seat: Seat<'p, 'l>) -> Seat<'p, 'l>
 }
 
 // The rank can't go on, and all are to leave.
-fn faulted<H>(shared: &Shared<'_, H>, seat: &mut Seat<'_, '_>, fault: NodeFault) -> After
+fn faulted<H>(shared: &Shared<'_, H>, life: &mut Life<'_, '_>, fault: NodeFault) -> After
     ensures leaves { is_leave result ≡ true }
     ensures stays { is_down result ≡ false }
-    ensures fault { seat.new ≡ record seat.old { tally = record seat.old.tally { fault = Some fault } } }
-    ensures same { SameSeat seat.old seat.new }
+    ensures fault { life.new ≡ record life.old { tally = record life.old.tally { fault = Some fault } } }
+    ensures same { SameLife life.old life.new }
 {
-    let stopped = seat.tally.refuse(fault, shared.stop_all());
+    let stopped = life.tally.refuse(fault, shared.stop_all());
     After::Leave(Why::Told(stopped))
 }

@@ -3,9 +3,9 @@ ghost use Rattle.std.specs.Prelude.{◌≡◌, ◌≢◌, ◌+◌, ◌<◌, ◌�
 ghost use Rattle.rank_machine.specs.declared.want.Want.TheVariants.{Internal};
 ghost use Rattle.rank_node.specs.Fault.{MayRefuseImage};
 ghost use Rattle.ports.specs.Lanes.{lane_to, put_of};
+ghost use Rattle.rank_threads.specs.Lives.{SameNode};
 ghost use Rattle.rank_threads.specs.Phases.{clock_in, gate_in, misses_only_in, want_in, is_running, settled_of, HasImage, NoneWaits, ReadsRow, SameShelf};
 ghost use Rattle.rank_threads.specs.Putting.{Puts};
-ghost use Rattle.rank_threads.specs.Seats.{SameNode};
 ghost use Rattle.rank_threads.specs.Steps.{acts_made, is_print, turn_in};
 ghost use Rattle.rank_threads.specs.Taking.{arrived};
 

@@ -2,8 +2,8 @@
 ghost use Rattle.std.specs.Prelude.{◌≡◌, ◌≤◌, Some, None, MatchOption, length};
 ghost use Rattle.metered.specs.Limits.{most_events};
 ghost use Rattle.rank_node.specs.Node.{opening};
+ghost use Rattle.rank_threads.specs.Lives.{SameNode};
 ghost use Rattle.rank_threads.specs.Phases.{stable_of, settled_of, Begins, SameStable};
-ghost use Rattle.rank_threads.specs.Seats.{SameNode};
 
 use super::Node;
 use crate::phase::Phase;

@@ -5,10 +5,10 @@ ghost use Rattle.rank_threads.specs.Phases.{Begins};
 ghost use Rattle.rank_threads.specs.Stations.{SameStation, IsLifeOf, IsNew, HasRow};
 
 use super::Station;
+use crate::life::Life;
 use crate::node::Node;
 use crate::plan::Plan;
 use crate::row::Row;
-use crate::seat::Seat;
 use crate::shared::Shared;
 use crate::tally::Tally;
 use audit::End;
@@ -58,9 +58,9 @@ impl<'l> Station<'l> {
         }
     }
 
-    /// A life of the rank begins. Where it can't, the seat's fault says why, and
+    /// A life of the rank begins. Where it can't, its fault says why, and
     /// all are to leave.
-    pub fn begin<'p, H>(self, shared: &Shared<'_, H>, program: &'p Program) -> Seat<'p, 'l>
+    pub fn begin<'p, H>(self, shared: &Shared<'_, H>, program: &'p Program) -> Life<'p, 'l>
         ensures begins { result.tally.fault ≡ None → Begins program.now self.entry.down self.entry.row result.node.phase }
         ensures plan { result.plan ≡ self.entry.plan }
         ensures tally { result.tally ≡ record self.entry.tally { fault = result.tally.fault } }
@@ -83,7 +83,7 @@ impl<'l> Station<'l> {
         if let Some(fault) = fault {
             tally.refuse(fault, shared.stop_all());
         }
-        Seat {
+        Life {
             rank,
             node,
             to,
@@ -130,7 +130,7 @@ impl<'l> Station<'l> {
     }
 }
 
-impl<'p, 'l> Seat<'p, 'l> {
+impl<'p, 'l> Life<'p, 'l> {
     /// The life is over. `end` says how the rank left; where it crashed, it
     /// didn't.
     pub fn leave(self, end: Option<End>) -> Station<'l>
@@ -140,7 +140,7 @@ impl<'p, 'l> Seat<'p, 'l> {
         ensures row { result.row ≡ None }
         ensures same { IsLifeOf result self.entry }
     {
-        let Seat {
+        let Life {
             rank,
             node,
             to,

@@ -7,8 +7,8 @@ use Rattle.rank_threads.proofs.stepping.step.Goals as goal
 -- what is counted leaves the rank where its step left it
 pub returns-clause-clock : goal.returns-clause-clock
 returns-clause-clock g c =
-    let own : is_own (want_in c.args.seat.now.node.phase) ≡ false = search rules in
-    let stood : c.strode.new.seat.node.phase ≡ c.args.seat.now.node.phase = search rules in
+    let own : is_own (want_in c.args.life.now.node.phase) ≡ false = search rules in
+    let stood : c.strode.new.life.node.phase ≡ c.args.life.now.node.phase = search rules in
     rw (ap (λ s. s.node.phase) c.count.ensures.rest)
-    (clock_told c.args.seat.now.node.phase c.strode.new.seat.node.phase c.act-answer.new.seat.node.phase c.act-answer.result c.count.result stood
+    (clock_told c.args.life.now.node.phase c.strode.new.life.node.phase c.act-answer.new.life.node.phase c.act-answer.result c.count.result stood
     c.count.ensures.told own c.act-answer.ensures.clock c.act-answer.ensures.err)

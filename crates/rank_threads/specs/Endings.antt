@@ -1,0 +1,57 @@
+-- How a life of a rank ends: the script kills it, or it leaves. Only a kill is counted as a crash.
+use Rattle.std.specs.Prelude.{◌≡◌, ℕ, Bool, true, false, Option, Some, None, Result, Ok, Err}
+use Rattle.audit.specs.declared.outcome.End.{End}
+use Rattle.rank_node.specs.declared.fault.NodeFault.{NodeFault}
+use Rattle.rank_threads.specs.Ends.{end_of}
+use Rattle.rank_threads.specs.Orders.{is_kill, order_after}
+use Rattle.rank_threads.specs.Tally.{one_more}
+use Rattle.rank_threads.specs.declared.ending.Ending.{Ending}
+use Rattle.rank_threads.specs.declared.ending.Ending.TheVariants as ending
+use Rattle.rank_threads.specs.declared.ending.Why.{Why}
+use Rattle.rank_threads.specs.declared.ending.Why.TheVariants as why
+use Rattle.rank_threads.specs.declared.phase.Phase.{Phase}
+use Rattle.rank_threads.specs.declared.station.Station.{Station}
+use Rattle.rank_threads.specs.declared.turn.After.{After}
+use Rattle.rank_threads.specs.declared.turn.After.TheVariants as after
+
+-- the rank goes down
+abbrev pub is_down : After → Bool
+is_down (after.Turn is_idle) = false
+is_down (after.Crash killed) = true
+is_down (after.Leave reason) = false
+
+-- the rank leaves
+abbrev pub is_leave : After → Bool
+is_leave (after.Turn is_idle) = false
+is_leave (after.Crash killed) = false
+is_leave (after.Leave reason) = true
+
+-- the rank goes down by what a turn came to, which a fault is not
+abbrev pub goes_down : Result After NodeFault → Bool
+goes_down (Ok a) = is_down a
+goes_down (Err f) = false
+
+-- the rank left since all are at rest
+abbrev pub is_at_rest : Ending → Bool
+is_at_rest (ending.Crashed killed) = false
+is_at_rest (ending.Left (why.AtRest rest)) = true
+is_at_rest (ending.Left (why.Told stopped)) = false
+
+-- how often a rank has crashed, after a life that ended so
+abbrev pub crashes_after : Ending → ℕ → ℕ
+crashes_after (ending.Crashed killed) crashes = one_more crashes
+crashes_after (ending.Left reason) crashes = crashes
+
+-- with which end its station comes back: none where it crashed, else by where it stands
+abbrev pub end_after : Ending → Bool → Phase → Option End
+end_after (ending.Crashed killed) is_spent p = None
+end_after (ending.Left reason) is_spent p = Some (end_of is_spent p)
+
+-- how often a rank has crashed, after a life with which its station came back so
+abbrev pub crashes_by : Option End → ℕ → ℕ
+crashes_by None crashes = one_more crashes
+crashes_by (Some e) crashes = crashes
+
+-- A life was lived, and it was counted where the rank crashed. Where the rank met a fault nothing is said.
+abbrev pub HasLived : Station → Station → Type 0
+HasLived old new = new.tally.fault ≡ None → new.tally.crashes ≡ crashes_by new.end old.tally.crashes

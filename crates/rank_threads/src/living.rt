@@ -1,0 +1,89 @@
+//! A rank's life, turn by turn.
+ghost use Rattle.std.specs.Prelude.{◌≡◌, true, false, Some, None};
+ghost use Rattle.rank_threads.specs.Endings.{HasLived, crashes_after, is_at_rest};
+ghost use Rattle.rank_threads.specs.Lives.{SamePlace};
+ghost use Rattle.rank_threads.specs.Phases.{NoneWaits};
+ghost use Rattle.rank_threads.specs.Stations.{SameStation, SameRest};
+
+use crate::ending::{Ending, Why, end_life};
+use crate::hold::Hold;
+use crate::life::Life;
+use crate::shared::{Shared, Stop};
+use crate::station::Station;
+use crate::turn::{After, begin, finish, settled};
+use ports::ConsoleState;
+use rank_language::Program;
+use rank_node::NodeFault;
+use std::sync::Wait;
+use std::thread;
+
+/// Plays a life, until the rank crashes or leaves. The rank reads the program
+/// for itself: all that a crash loses is of this thread alone. Where all were
+/// told to leave, it makes no turn.
+#[tactic(auto, using(crate::proofs::LifeLemmas::has_lived, crate::proofs::LifeLemmas::met_fault))]
+pub fn live<'l, W: Wait, H: Hold>(
+    rt: &W,
+    shared: &Shared<'_, H>,
+    station: Station<'l>,
+) -> Station<'l>
+    ensures lived { HasLived station.entry result }
+    ensures same { SameStation station.entry result }
+{
+    let Ok(mut blank) = ConsoleState::new(shared.alloc, 0) else {
+        return refused(station, shared.stop_all());
+    };
+    // what is read is the canonical text of a program, so only memory can be wanting
+    let Ok(program) = Program::parse(shared.alloc, shared.text) else {
+        return refused(station, shared.stop_all());
+    };
+    let life = station.begin(shared, &program);
+    let (life, ended) = make_turns(rt, shared, &mut blank, life);
+    end_life(life, ended)
+}
+
+// Turns, until the rank is killed or leaves.
+#[tactic(auto, using(crate::proofs::PhaseLaws::stays_settled))]
+fn make_turns<'p, 'l, W: Wait, H: Hold>(
+    rt: &W,
+    shared: &Shared<'_, H>,
+    blank: &mut ConsoleState,
+    life: Life<'p, 'l>,
+) -> (Life<'p, 'l>, Ending)
+    ensures crashes { result.0.tally.crashes ≡ crashes_after result.1 life.entry.tally.crashes }
+    ensures left { is_at_rest result.1 ≡ true → result.0.tally.fault ≡ None → result.0.tally.is_refused ≡ false → NoneWaits result.0.node.phase }
+    ensures blank { blank.new ≡ blank.old }
+    ensures same { SamePlace life.entry result.0 }
+{
+    let mut life = life;
+    for _ in rt.forever() {
+        if let Some(stopped) = shared.stopped() {
+            return (life, Ending::Left(Why::Told(stopped)));
+        }
+        let begun = begin(rt, shared, blank, &mut life);
+        // a rank is moved in memory only here, once a life
+        if life.node.has_replayed() {
+            life = settled(life);
+        }
+        match finish(rt, shared, blank, &mut life, begun) {
+            After::Crash(killed) => {
+                life.tally.count_crash(&killed);
+                return (life, Ending::Crashed(killed));
+            }
+            After::Leave(why) => return (life, Ending::Left(why)),
+            After::Turn { is_idle: false } => {}
+            After::Turn { is_idle: true } => thread::yield_now(),
+        }
+    }
+    unreachable!()
+}
+
+/// The rank has met want of memory, and all were told to leave.
+pub fn refused(station: Station<'_>, stop: Stop) -> Station<'_>
+    ensures fault { result.tally ≡ record station.entry.tally { fault = Some NodeFault.Memory } }
+    ensures rest { SameRest station.entry result }
+    ensures same { SameStation station.entry result }
+{
+    let mut station = station;
+    station.tally.refuse(NodeFault::Memory, stop);
+    station
+}
