@@ -25,6 +25,7 @@ frame_waits v from (frame.Kept number) = refl
 pub took_image : (stood p : Phase) → HasImage stood → SameShelf stood p → TookImage p
 took_image stood p image same = (stood, image, same)
 
+-- and after a change that leaves the shelf too
 pub took_still : (p q : Phase) → TookImage p → SameShelf p q → TookImage q
 took_still p q took same = (took.0, took.1, same ∙ took.2)
 

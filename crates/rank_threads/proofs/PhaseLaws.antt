@@ -24,10 +24,12 @@ settled_twice : (r : Replay MemoryShelf DeskValue) (left : List EventValue) → 
 settled_twice r [] same = refl
 settled_twice r (e ∷ left) same = ap (settled_replay r) same
 
+-- so does a rank in any phase
 settled_again : (p : Phase) → settled_of (settled_of p) ≡ settled_of p
 settled_again (phase.Running v) = refl
 settled_again (phase.Replaying r) = settled_twice r r.left refl
 settled_again (phase.Down s) = refl
 
+-- in which nothing is left to settle then
 pub stays_settled : (p q : Phase) → q ≡ settled_of p → settled_of q ≡ q
 stays_settled p q same = ap settled_of same ∙ settled_again p ∙ sym same

@@ -262,6 +262,7 @@ pub run_quiet : {C : Type 0} (shows : C → ℕ → ℕ → ℤ → C → Type 0
 run_quiet shows v (Ok t) old new shown stays other = shows_none shows v (machine_want v.machine) old new shown other
 run_quiet shows v (Err f) old new shown stays other = stays
 
+-- nor does a replay that is refused
 pub again_quiet : {C : Type 0} (shows : C → ℕ → ℕ → ℤ → C → Type 0) (v : Node MemoryShelf DeskValue) (answer : Result Turn NodeFault) (old new : C)
     → OnOk answer (ShowsReplay shows v old new) → OnErr answer (new ≡ old) → is_print (Some (machine_want v.machine)) ≡ false → new ≡ old
 again_quiet shows v (Ok t) old new shown stays other = again_none shows v (machine_want v.machine) old new shown other
@@ -277,6 +278,7 @@ own_stride n a c (on (on first before goes) wants on_goes) some = own_stride _ a
 pub run_stood : (n : ℕ) (v w : Node MemoryShelf DeskValue) → Strides n v.machine w.machine → w ≡ with_machine v w.machine → n ≡ 0 → w ≡ v
 run_stood n v w strides ok none = ok ∙ ap (λ m. with_machine v m) (no_stride n v.machine w.machine strides none)
 
+-- so is one that replays, with what was left
 pub again_stood : (n : ℕ) (r s : Replay MemoryShelf DeskValue) → Strides n r.node.machine s.node.machine
     → s ≡ record { node = with_machine r.node s.node.machine; left = r.left } → n ≡ 0 → s ≡ r
 again_stood n r s strides ok none =

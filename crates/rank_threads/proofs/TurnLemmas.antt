@@ -93,20 +93,23 @@ counts_step most p t (Err fault.Shelf) says = tt
 counts_step most p t (Err fault.Image) says = tt
 counts_step most p t (Err fault.Replay) says = tt
 
--- a limit that refuses the step
+-- where a limit refuses the step it is told that the rank has ended
 pub told_limit : (f : NodeFault) → is_limit f ≡ true → Ok stepped.Ended ≡ told (Err f)
 told_limit f limit = rw (limit) refl
 
+-- and that is counted
 pub counted_limit : (most : ℕ) (f : NodeFault) (t : Tally) → is_limit f ≡ true → record t { is_spent = true } ≡ counted most (Err f) t
 counted_limit most f t limit = rw (limit) refl
 
--- and any other fault
+-- any other fault is told
 pub told_fault : (f : NodeFault) → is_limit f ≡ false → Err f ≡ told (Err f)
 told_fault f other = rw (other) refl
 
+-- and not counted
 pub counted_fault : (most : ℕ) (f : NodeFault) (t : Tally) → is_limit f ≡ false → t ≡ counted most (Err f) t
 counted_fault most f t other = rw (other) refl
 
+-- what is counted of a step that wasn't one of the machine's own is what the state before it says
 pub counts_told : (most : ℕ) (p q : Phase) (t s u : Tally) (answer : Result Turn NodeFault) (result : Result Stepped NodeFault)
     → q ≡ p → s ≡ t → (answer ≢ Err fault.Memory → answer ≡ turn_in q) → result ≡ told answer → u ≡ counted most answer s
     → IfOk result (λ x. Counts most p x t u)
@@ -130,10 +133,12 @@ told_clock w (Err fault.Shelf) old new own grows stays = tt
 told_clock w (Err fault.Image) old new own grows stays = tt
 told_clock w (Err fault.Replay) old new own grows stays = tt
 
+-- where the rank stays as it was, so does its clock
 same_clock : (answer : Result Turn NodeFault) (p q : Phase) → OnErr answer (q ≡ p) → OnErr answer (clock_in q ≡ clock_in p)
 same_clock (Ok t) p q same = tt
 same_clock (Err f) p q same = ap clock_in same
 
+-- so the clock of a rank that wants no step of its own grows by what the turn is told
 pub clock_told : (p q r : Phase) (answer : Result Turn NodeFault) (result : Result Stepped NodeFault) → q ≡ p → result ≡ told answer
     → is_own (want_in p) ≡ false → IfOk answer (λ t. clock_in r ≡ clock_in q + acts_made (want_in q) t) → OnErr answer (r ≡ q)
     → IfOk result (λ s. clock_in r ≡ clock_in p + acts_of s)
@@ -143,6 +148,7 @@ clock_told p q r answer result stood same own grows stays =
 
 -- ---- how a turn begins
 
+-- the rank took what its lanes brought, and made the step that its state said then
 pub is_begun : (old mid new : Life) (begun : Begun) → Brings begun.brought old mid
     → (Ok begun.stepped ≢ Err fault.Memory → Ok begun.stepped ≡ step_of mid.tally mid.node.phase) → IsBegun old new begun
 is_begun old mid new begun brings steps = record { mid = mid; brought = brings; stepped = steps (λ lacked. absurd cc) }
