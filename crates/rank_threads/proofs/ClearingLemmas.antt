@@ -1,5 +1,5 @@
 -- What holds of a rank whose misses are left at its gate.
-use Rattle.std.proofs.Common.{◌≡◌, Bool, true, false, refl, ap, ◌∙◌, sym}
+use Rattle.std.proofs.Common.{◌≡◌, Bool, true, false, refl}
 use Rattle.rank_threads.specs.Phases.{gate_in, misses_only_in}
 use Rattle.rank_threads.specs.Clearing.{has_stepped, leaves_misses}
 use Rattle.rank_threads.specs.declared.phase.Phase.{Phase}

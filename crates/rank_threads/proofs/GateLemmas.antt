@@ -7,7 +7,7 @@ use Rattle.matching.specs.Inbox.{after_arrival}
 use Rattle.rank_node.specs.Frames.{after_frame, after_passed, outgoing_of, sent_off, with_inbox}
 use Rattle.rank_node.specs.Node.{Node}
 use Rattle.rank_node.specs.declared.frame.Frame.{Frame}
-use Rattle.rank_threads.specs.Phases.{gate_of, misses_only_in, HasImage, SameShelf, TookImage}
+use Rattle.rank_threads.specs.Phases.{gate_of, HasImage, SameShelf, TookImage}
 use Rattle.rank_threads.specs.declared.phase.Phase.{Phase}
 use Rattle.rank_node.specs.declared.frame.Frame.TheVariants as frame
 

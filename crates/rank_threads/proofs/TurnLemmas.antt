@@ -1,6 +1,6 @@
 -- What the step of a turn is answered and counts, and what a turn begins with.
 use Rattle.std.proofs.Common.{◌≡◌, ◌≢◌, ℕ, ◌+◌, ◌<◌, Bool, true, false, ◌||◌, Option, Some, None, Result, Ok, Err, refl, sym, ap, subst, ◌∙◌, arith}
-use Rattle.std.specs.Prelude.{IfOk, OnErr, if◌then◌else◌}
+use Rattle.std.specs.Prelude.{IfOk, OnErr}
 use Rattle.rank_machine.specs.declared.want.Want.{Want}
 use Rattle.rank_machine.specs.declared.want.Want.TheVariants as want
 use Rattle.rank_node.specs.declared.fault.NodeFault.{NodeFault}
@@ -8,8 +8,7 @@ use Rattle.rank_node.specs.declared.fault.NodeFault.TheVariants as fault
 use Rattle.rank_node.specs.declared.turn.Turn.{Turn}
 use Rattle.rank_node.specs.declared.turn.Turn.TheVariants as turn
 use Rattle.rank_threads.specs.Phases.{clock_in, want_in}
-use Rattle.rank_threads.specs.Steps.{acts_made, acts_of, counted, is_limit, is_own, is_stopped, moves, step_of, told, turn_in, Counts, Strode}
-use Rattle.rank_threads.specs.Tally.{after_steps}
+use Rattle.rank_threads.specs.Steps.{acts_made, acts_of, counted, is_limit, is_own, is_stopped, step_of, told, turn_in, Counts}
 use Rattle.rank_threads.specs.Turns.{Brings, IsBegun}
 use Rattle.rank_threads.specs.declared.phase.Phase.{Phase}
 use Rattle.rank_threads.specs.declared.life.Life.{Life}

@@ -3,11 +3,9 @@ use Rattle.std.specs.Prelude.{◌≡◌, ℕ, Bool, true, false, Option, Some, N
 use Rattle.audit.specs.declared.outcome.End.{End}
 use Rattle.rank_node.specs.declared.fault.NodeFault.{NodeFault}
 use Rattle.rank_threads.specs.Ends.{end_of}
-use Rattle.rank_threads.specs.Orders.{is_kill, order_after}
 use Rattle.rank_threads.specs.Tally.{one_more}
 use Rattle.rank_threads.specs.declared.ending.Ending.{Ending}
 use Rattle.rank_threads.specs.declared.ending.Ending.TheVariants as ending
-use Rattle.rank_threads.specs.declared.ending.Why.{Why}
 use Rattle.rank_threads.specs.declared.ending.Why.TheVariants as why
 use Rattle.rank_threads.specs.declared.phase.Phase.{Phase}
 use Rattle.rank_threads.specs.declared.station.Station.{Station}

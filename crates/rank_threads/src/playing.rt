@@ -1,5 +1,5 @@
 //! All ranks of a run, from their lanes and desks to what is left of them.
-ghost use Rattle.std.specs.Prelude.{◌≡◌, ◌≤◌, [], IfOk, length, vec_len, vec_capacity};
+ghost use Rattle.std.specs.Prelude.{◌≡◌, ◌≤◌, [], IfOk, vec_len};
 ghost use Rattle.metered.specs.Limits.{most_ranks};
 ghost use Rattle.rank_threads.specs.Plans.{plans_below};
 ghost use Rattle.rank_threads.specs.Report.{IsPlayed};

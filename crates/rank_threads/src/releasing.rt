@@ -1,5 +1,5 @@
 //! What waits at the gate of a rank that runs.
-ghost use Rattle.std.specs.Prelude.{◌≡◌, ◌<◌, [], length, true, is_some, IfOk, OnOk};
+ghost use Rattle.std.specs.Prelude.{◌≡◌, [], true, is_some, IfOk, OnOk};
 ghost use Rattle.rank_node.specs.Releasing.{next_effect, released};
 ghost use Rattle.rank_threads.specs.Phases.{SameStable};
 

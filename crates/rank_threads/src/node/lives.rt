@@ -1,6 +1,5 @@
 //! How a life of a rank begins and ends.
-ghost use Rattle.std.specs.Prelude.{◌≡◌, ◌≤◌, Some, None, MatchOption, length};
-ghost use Rattle.metered.specs.Limits.{most_events};
+ghost use Rattle.std.specs.Prelude.{◌≡◌, Some, None};
 ghost use Rattle.rank_node.specs.Node.{opening};
 ghost use Rattle.rank_threads.specs.Lives.{SameNode};
 ghost use Rattle.rank_threads.specs.Phases.{stable_of, settled_of, Begins, SameStable};
