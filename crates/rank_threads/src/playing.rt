@@ -20,6 +20,7 @@ use ports::{Console, ConsoleState};
 use rank_language::Program;
 use script_text::Script;
 use std::alloc::AllocError;
+use std::snapshot::Snapshot;
 use std::sync::Wait;
 use std::sync::atomic::AtomicBool;
 use std::thread::Threads;
@@ -33,7 +34,8 @@ pub struct Played {
     pub accounts: Vec<Account, Heap>,
 }
 
-/// Plays the program on so many ranks, until all have left. An `Err` is want of memory.
+/// Plays the program on so many ranks, until all have left. An `Err` is want of
+/// memory: once there are desks nothing is refused before every station is back.
 #[tactic(auto, using(crate::proofs::SeatingLemmas::played_laws))]
 pub fn play_all<R: Threads + Wait + Sync + Copy + Send, H: Hold + Sync>(
     rt: R,
@@ -48,20 +50,17 @@ pub fn play_all<R: Threads + Wait + Sync + Copy + Send, H: Hold + Sync>(
     requires few { size ≤ most_ranks }
     ensures { IfOk result (λ played. IsPlayed size played) }
 {
-    let ranks = usize::from(size);
     let text = program.print(alloc)?;
     let console = Console::new(alloc, size)?;
     let marks = marks(alloc, size)?;
     let bells = bells(alloc, size)?;
     let plans = plans(alloc, script, size)?;
     let ends = open_all(alloc, size)?;
-    let stations = Vec::with_capacity(alloc, ranks)?;
-    let room = room(alloc, ranks)?;
-    let (logger, desks) = match Logger::new(alloc, ranks) {
-        Ok(made) => made,
-        Err(error) => return Err(given_up(room, error)),
+    let stations = Vec::with_capacity(alloc, usize::from(size))?;
+    let room = room(alloc, size)?;
+    let Ok((logger, desks)) = Logger::new(alloc, usize::from(size)) else {
+        return Err(given_up(room));
     };
-    // From here on every station comes back: nothing is refused while a desk is there.
     let stop = AtomicBool::new(false);
     let shared = Shared {
         alloc,
@@ -74,6 +73,7 @@ pub fn play_all<R: Threads + Wait + Sync + Copy + Send, H: Hold + Sync>(
         stop: &stop,
     };
     let parts = Unseated { desks, ends, plans };
+    let script = Snapshot::of(script);
     let stations = seat_all(rt, alloc, &logger, size, script, parts, stations);
     let stations = keep_all(rt, &shared, stations);
     drop(shared);
@@ -92,9 +92,10 @@ pub fn play_all<R: Threads + Wait + Sync + Copy + Send, H: Hold + Sync>(
 }
 
 // Where the desks, lanes and ends of so many ranks have room.
-fn room(alloc: Heap, ranks: usize) -> Result<Remains, AllocError>
-    ensures { IfOk result (λ room. IsRoom ranks room) }
+fn room(alloc: Heap, size: u8) -> Result<Remains, AllocError>
+    ensures { IfOk result (λ room. IsRoom size room) }
 {
+    let ranks = usize::from(size);
     let accounts = Vec::with_capacity(alloc, ranks)?;
     let ends = Ends {
         to: Vec::with_capacity(alloc, ranks)?,
@@ -109,7 +110,7 @@ fn room(alloc: Heap, ranks: usize) -> Result<Remains, AllocError>
 }
 
 // Room in which nothing stands yet is given up.
-fn given_up(room: Remains, error: AllocError) -> AllocError
+fn given_up(room: Remains) -> AllocError
     requires { room.desks.items ≡ [] }
 {
     let Remains {
@@ -118,7 +119,7 @@ fn given_up(room: Remains, error: AllocError) -> AllocError
         accounts: _,
     } = room;
     desks.destroy_empty();
-    error
+    AllocError
 }
 
 fn marks(alloc: Heap, size: u8) -> Result<Vec<CachePadded<Mark>, Heap>, AllocError>

@@ -16,6 +16,7 @@ use metered::Heap;
 use ports::{Rx, Tx};
 use rank_node::NodeFault;
 use script_text::Script;
+use std::snapshot::Snapshot;
 use std::sync::Wait;
 
 /// What the stations of a run are made of, each in the order of ranks.
@@ -43,14 +44,14 @@ pub struct Remains {
 }
 
 /// A station for each rank, the last one's first, with what the script asks of
-/// that rank.
+/// that rank: the snapshot, which has no bytes, says for clauses which script.
 #[tactic(auto, using(crate::proofs::SeatingLemmas::seated_laws, crate::proofs::StationLemmas::new_laws))]
 pub fn seat_all<'l, W: Wait + Drop + Copy>(
     rt: W,
     alloc: Heap,
     logger: &'l Logger,
     size: u8,
-    _script: &Script,
+    _script: Snapshot<Script>,
     parts: Unseated,
     stations: Vec<Parcel<'l, W>, Heap>,
 ) -> Vec<Parcel<'l, W>, Heap>
@@ -59,12 +60,12 @@ pub fn seat_all<'l, W: Wait + Drop + Copy>(
     requires ranks { logger.now.ranks ≡ size }
     requires desks { AreDesksFrom logger.now 0 parts.desks.items }
     requires sizes { ArePartsOf size parts }
-    requires plans { parts.plans.items ≡ plans_below size _script.now }
+    requires plans { parts.plans.items ≡ plans_below size _script.value }
     requires room { size ≤ vec_capacity stations }
     ensures to { stations_to result.items ≡ to_names parts.ends.to.items }
     ensures from { stations_from result.items ≡ from_names parts.ends.from.items }
     ensures desks { AreSeated logger.now 0 result.items }
-    ensures plans { stations_plans result.items ≡ plans_below size _script.now }
+    ensures plans { stations_plans result.items ≡ plans_below size _script.value }
     ensures fresh { AreNew result.items }
     ensures len { vec_len result ≡ size }
 {
