@@ -7,6 +7,7 @@ use crate::keeper::{keep, unplayed};
 use crate::parcel::{Parcel, SameAs};
 use crate::shared::Shared;
 use metered::Heap;
+use rank_node::NodeFault;
 use std::snapshot::Snapshot;
 use std::sync::Wait;
 use std::thread;
@@ -78,7 +79,7 @@ fn beside<'p, R: Threads + Wait + Sync + Copy + Send, H: Hold + Sync>(
                 Err(back) => {
                     // What comes back is the whole keeper: were it not to leave at once, it would wait
                     // for the keepers that aren't started yet.
-                    let stop = shared.stop_all();
+                    let stop = shared.stop_all(&rt, NodeFault::Memory);
                     let parcel = unplayed((back.value)(), stop);
                     let rest = keep_all(rt, shared, rest);
                     (parcel, rest)

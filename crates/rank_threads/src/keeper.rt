@@ -12,6 +12,7 @@ use crate::parcel::{AfterLife, Parcel};
 use crate::shared::{Shared, Stop, Stopped};
 use crate::station::Station;
 use audit::End;
+use rank_node::NodeFault;
 use std::snapshot::Snapshot;
 use std::sync::Wait;
 use std::thread;
@@ -66,11 +67,11 @@ fn lived<'l, R: Threads + Wait + Sync + Copy + Send, H: Hold + Sync>(
     if station.end.is_some() {
         return station;
     }
-    fetched(shared, station)
+    fetched(&rt, shared, station)
 }
 
 // The frames in the lanes into the rank are dropped, and its row is fetched.
-fn fetched<'l, H>(shared: &Shared<'_, H>, station: Station<'l>) -> Station<'l>
+fn fetched<'l, W: Wait, H>(rt: &W, shared: &Shared<'_, H>, station: Station<'l>) -> Station<'l>
     ensures row { result.tally.fault ≡ None → HasRow result }
     ensures plan { result.plan ≡ station.entry.plan }
     ensures end { result.end ≡ station.entry.end }
@@ -83,7 +84,7 @@ fn fetched<'l, H>(shared: &Shared<'_, H>, station: Station<'l>) -> Station<'l>
     station.tally.begin_again();
     match station.fetch(shared.alloc) {
         Ok(()) => station,
-        Err(_) => refused(station, shared.stop_all()),
+        Err(_) => refused(station, shared.stop_all(rt, NodeFault::Memory)),
     }
 }
 
@@ -102,7 +103,8 @@ fn live_one<'l, W: Wait + Drop + Copy, H: Hold>(
 
 /// What comes back where no thread could be made: the rank has met want of
 /// memory, and all were told to leave.
-pub fn unplayed<'l, W: Wait + Drop + Copy>(parcel: Parcel<'l, W>, stop: Stop) -> Parcel<'l, W>
+pub fn unplayed<'l, W: Wait + Drop + Copy>(parcel: Parcel<'l, W>, stop: Stop<'_>) -> Parcel<'l, W>
+    requires { stop.why ≡ Memory }
     ensures fault { result.station.tally ≡ record parcel.entry.station.tally { fault = Some Memory } }
     ensures same { SameStation parcel.entry.station result.station }
 {
@@ -139,7 +141,7 @@ fn one_life<'l, R: Threads + Wait + Sync + Copy + Send, H: Hold + Sync>(
                 Ok(child) => child.join(&rt),
                 Err(back) => {
                     // What comes back is the whole life: it has to see that it is to leave.
-                    let stop = shared.stop_all();
+                    let stop = shared.stop_all(&rt, NodeFault::Memory);
                     unplayed((back.value)(), stop)
                 }
             }

@@ -30,13 +30,13 @@ pub fn live<'l, W: Wait, H: Hold>(
     ensures same { SameStation station.entry result }
 {
     let Ok(mut blank) = ConsoleState::new(shared.alloc, 0) else {
-        return refused(station, shared.stop_all());
+        return refused(station, shared.stop_all(rt, NodeFault::Memory));
     };
     // what is read is the canonical text of a program, so only memory can be wanting
     let Ok(program) = Program::parse(shared.alloc, shared.text) else {
-        return refused(station, shared.stop_all());
+        return refused(station, shared.stop_all(rt, NodeFault::Memory));
     };
-    let life = station.begin(shared, &program);
+    let life = station.begin(rt, shared, &program);
     let (life, ended) = make_turns(rt, shared, &mut blank, life);
     end_life(life, ended)
 }
@@ -78,12 +78,13 @@ fn make_turns<'p, 'l, W: Wait, H: Hold>(
 }
 
 /// The rank has met want of memory, and all were told to leave.
-pub fn refused(station: Station<'_>, stop: Stop) -> Station<'_>
+pub fn refused<'l>(station: Station<'l>, stop: Stop<'_>) -> Station<'l>
+    requires { stop.why ≡ NodeFault.Memory }
     ensures fault { result.tally ≡ record station.entry.tally { fault = Some NodeFault.Memory } }
     ensures rest { SameRest station.entry result }
     ensures same { SameStation station.entry result }
 {
     let mut station = station;
-    station.tally.refuse(NodeFault::Memory, stop);
+    station.tally.refuse(stop);
     station
 }

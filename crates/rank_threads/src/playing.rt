@@ -21,8 +21,8 @@ use rank_language::Program;
 use script_text::Script;
 use std::alloc::AllocError;
 use std::snapshot::Snapshot;
-use std::sync::Wait;
 use std::sync::atomic::AtomicBool;
+use std::sync::{OnceLock, Wait};
 use std::thread::Threads;
 
 /// What is left of a run when all ranks have left.
@@ -61,7 +61,7 @@ pub fn play_all<R: Threads + Wait + Sync + Copy + Send, H: Hold + Sync>(
     let Ok((logger, desks)) = Logger::new(alloc, usize::from(size)) else {
         return Err(given_up(room));
     };
-    let stop = AtomicBool::new(false);
+    let stop = OnceLock::new();
     let shared = Shared {
         alloc,
         text: text.as_slice(),

@@ -1,5 +1,5 @@
 //! What all ranks of a run share.
-ghost use Rattle.std.specs.Prelude.{◌≡◌, is_some, true};
+ghost use Rattle.std.specs.Prelude.{◌≡◌};
 
 use crate::marks::Mark;
 use crate::running::RunLimits;
@@ -8,22 +8,26 @@ use metered::Heap;
 use ports::Console;
 use rank_node::NodeFault;
 use std::sync::atomic::{AtomicBool, Ordering};
+use std::sync::{OnceLock, OnceToken, Wait};
 
-/// All ranks are told to leave. Only `Shared::stop_all` makes one, and it must
-/// be spent: who tells them notes why, so that the run has no report.
-pub struct Stop(());
+/// All ranks are told to leave: their flag is set, which the token alone shows. It
+/// must be spent: who tells them notes why, so that the run has no report.
+pub struct Stop<'a> {
+    flag: OnceToken<'a, ()>,
+    why: NodeFault,
+}
 
-impl Stop {
-    /// A fault was noted of the rank that can't go on.
-    pub fn noted(self, _fault: Option<NodeFault>) -> Stopped
-        requires { is_some _fault ≡ true }
+impl Stop<'_> {
+    /// Why, to be noted of the rank that can't go on.
+    pub fn spent(self) -> (NodeFault, Stopped)
+        ensures { result.0 ≡ self.entry.why }
     {
-        let Stop(()) = self;
-        Stopped(())
+        let Stop { flag: _, why } = self;
+        (why, Stopped(()))
     }
 }
 
-/// All ranks were told to leave. Only `Stop::noted` makes one, and who sees that
+/// All ranks were told to leave. Only `Stop::spent` makes one, and who sees that
 /// they were told.
 #[derive(Clone, Copy)]
 pub struct Stopped(());
@@ -55,8 +59,8 @@ pub struct Shared<'a, H> {
     pub marks: &'a [CachePadded<Mark>],
     /// A bell is rung after each put into a lane to its rank.
     pub bells: &'a [CachePadded<AtomicBool>],
-    /// All ranks leave at their next turn.
-    pub stop: &'a AtomicBool,
+    /// Once it is set all ranks leave at their next turn.
+    pub stop: &'a OnceLock<()>,
 }
 
 // Written by hand, since a derived one would ask that `H` be `Drop`.
@@ -75,20 +79,24 @@ impl<H> Drop for Shared<'_, H> {
     }
 }
 
-impl<H> Shared<'_, H> {
-    /// All ranks are to leave. A fault can be noted of a rank only behind this,
-    /// and has to be.
-    pub fn stop_all(&self) -> Stop {
-        self.stop.store(true, Ordering::SeqCst);
-        Stop(())
+impl<'a, H> Shared<'a, H> {
+    /// All ranks are to leave, as one can't go on. A fault can be noted of a rank
+    /// only behind this, and has to be.
+    pub fn stop_all<W: Wait>(&self, rt: &W, why: NodeFault) -> Stop<'a>
+        ensures set { result.flag.of ≡ self.now.stop.now.id }
+        ensures why { result.why ≡ why }
+    {
+        let stop = self.stop;
+        let flag = stop.init(rt, || ());
+        Stop { flag, why }
     }
 
     /// Whether all ranks are to leave.
     pub fn stopped(&self) -> Option<Stopped> {
-        if self.stop.load(Ordering::SeqCst) {
-            return Some(Stopped(()));
+        match self.stop.witness() {
+            Some(_) => Some(Stopped(())),
+            None => None,
         }
-        None
     }
 
     /// A frame was put into a lane to this rank.

@@ -56,11 +56,12 @@ impl Tally {
     }
 
     /// The rank can't go on, and all were told to leave.
-    pub fn refuse(&mut self, fault: NodeFault, stop: Stop) -> Stopped
-        ensures { self.new ≡ record self.old { fault = Some fault } }
+    pub fn refuse(&mut self, stop: Stop<'_>) -> Stopped
+        ensures { self.new ≡ record self.old { fault = Some stop.entry.why } }
     {
-        self.fault = Some(fault);
-        stop.noted(self.fault)
+        let (why, stopped) = stop.spent();
+        self.fault = Some(why);
+        stopped
     }
 
     /// The rank was refused by a limit.

@@ -81,7 +81,7 @@ pub fn finish<W: Wait, H: Hold>(
     };
     match after {
         Ok(after) => after,
-        Err(fault) => faulted(shared, life, fault),
+        Err(fault) => faulted(rt, shared, life, fault),
     }
 }
 
@@ -179,12 +179,17 @@ pub fn settled<'p, 'l>(life: Life<'p, 'l>) -> Life<'p, 'l>
 }
 
 // The rank can't go on, and all are to leave.
-fn faulted<H>(shared: &Shared<'_, H>, life: &mut Life<'_, '_>, fault: NodeFault) -> After
+fn faulted<W: Wait, H>(
+    rt: &W,
+    shared: &Shared<'_, H>,
+    life: &mut Life<'_, '_>,
+    fault: NodeFault,
+) -> After
     ensures leaves { is_leave result ≡ true }
     ensures stays { is_down result ≡ false }
     ensures fault { life.new ≡ record life.old { tally = record life.old.tally { fault = Some fault } } }
     ensures same { SameLife life.old life.new }
 {
-    let stopped = life.tally.refuse(fault, shared.stop_all());
+    let stopped = life.tally.refuse(shared.stop_all(rt, fault));
     After::Leave(Why::Told(stopped))
 }

@@ -18,6 +18,7 @@ use metered::Heap;
 use ports::{Rx, Tx};
 use rank_language::Program;
 use rank_node::{Down, NodeFault, Stable};
+use std::sync::Wait;
 
 impl<'l> Station<'l> {
     /// The station of a rank that hasn't lived yet.
@@ -60,7 +61,12 @@ impl<'l> Station<'l> {
 
     /// A life of the rank begins. Where it can't, its fault says why, and
     /// all are to leave.
-    pub fn begin<'p, H>(self, shared: &Shared<'_, H>, program: &'p Program) -> Life<'p, 'l>
+    pub fn begin<'p, W: Wait, H>(
+        self,
+        rt: &W,
+        shared: &Shared<'_, H>,
+        program: &'p Program,
+    ) -> Life<'p, 'l>
         ensures begins { result.tally.fault ≡ None → Begins program.now self.entry.down self.entry.row result.node.phase }
         ensures plan { result.plan ≡ self.entry.plan }
         ensures tally { result.tally ≡ record self.entry.tally { fault = result.tally.fault } }
@@ -81,7 +87,7 @@ impl<'l> Station<'l> {
         } = self;
         let (node, fault) = Node::begin(shared.alloc, program, logger, down, row, size);
         if let Some(fault) = fault {
-            tally.refuse(fault, shared.stop_all());
+            tally.refuse(shared.stop_all(rt, fault));
         }
         Life {
             rank,
