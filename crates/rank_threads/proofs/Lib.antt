@@ -9,6 +9,7 @@ mod PlanLaws
 mod PuttingLemmas
 mod ReleasingLemmas
 mod ReportLemmas
+mod RestingLemmas
 mod RowLemmas
 mod SeatingLemmas
 mod StationLemmas

@@ -6,6 +6,7 @@ pub mod Stations
 pub mod Seating
 pub mod Report
 pub mod Putting
+pub mod Resting
 pub mod Tally
 pub mod Plans
 pub mod Ends

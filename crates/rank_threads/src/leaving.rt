@@ -1,7 +1,8 @@
 //! What a rank does in idle turns: it marks itself, and looks whether all may
 //! leave.
-ghost use Rattle.std.specs.Prelude.{◌≡◌, ◌≢◌, ℕ, ◌<◌, slice_index_or};
+ghost use Rattle.std.specs.Prelude.{◌≡◌, ◌≢◌, ℕ, ◌<◌, false, IfOk, slice_index_or};
 ghost use Rattle.rank_threads.specs.Lives.{SameLife, SamePlan, SameGate};
+ghost use Rattle.rank_threads.specs.Resting.{Rests};
 
 use crate::life::Life;
 use crate::marks::{AllAtRest, first_look, second_look};
@@ -16,11 +17,13 @@ use std::alloc::AllocError;
 /// A rank that owes no other a frame marks itself: at once where it has ended
 /// or steps no more, and where it waits, after as many idle turns as the limits
 /// say, in which no other rank's row has grown.
+#[tactic(auto, using(crate::proofs::RestingLemmas::resting_laws))]
 pub fn rest<H>(
     shared: &Shared<'_, H>,
     life: &mut Life<'_, '_>,
     stepped: Stepped,
 ) -> Result<Option<AllAtRest>, AllocError>
+    ensures rests { life.old.tally.is_marked ≡ false → IfOk result (λ _. Rests shared.now.limits.idle stepped life.old.tally life.new.tally) }
     ensures plan { SamePlan life.old life.new }
     ensures gate { SameGate life.old life.new }
     ensures same { SameLife life.old life.new }
@@ -67,6 +70,7 @@ fn may_leave<H>(
 
 // Whether another row has grown since the last reads. All are read.
 fn others_went_on(alloc: Heap, life: &mut Life<'_, '_>) -> Result<bool, AllocError>
+    ensures quiet { IfOk result (λ went_on. went_on ≡ false → life.new.tally ≡ life.old.tally) }
     ensures tally { life.new.tally ≡ record life.old.tally { seen = life.new.tally.seen } }
     ensures plan { SamePlan life.old life.new }
     ensures gate { SameGate life.old life.new }
@@ -86,6 +90,7 @@ fn others_went_on(alloc: Heap, life: &mut Life<'_, '_>) -> Result<bool, AllocErr
 #[tactic(auto, using(crate::proofs::PuttingLemmas::set_elsewhere))]
 fn note_growth(alloc: Heap, life: &mut Life<'_, '_>, of: u8) -> Result<bool, AllocError>
     requires { of < life.old.node.size }
+    ensures quiet { IfOk result (λ grown. grown ≡ false → life.new.tally ≡ life.old.tally) }
     ensures others { (k : ℕ) → k ≢ of → slice_index_or life.new.tally.seen k 0 ≡ slice_index_or life.old.tally.seen k 0 }
     ensures tally { life.new.tally ≡ record life.old.tally { seen = life.new.tally.seen } }
     ensures plan { SamePlan life.old life.new }

@@ -1,10 +1,11 @@
-use Rattle.std.proofs.Common.{◌≡◌}
+use Rattle.std.proofs.Common.{◌≡◌, false}
 use Rattle.rank_threads.specs.Lives.{SameLife, SamePlan, SameGate}
 use Rattle.rank_threads.proofs.leaving.others_went_on.Given as goal
 
--- the life stays the same
+-- the life stays the same, and where no row has grown so does what is counted
 abbrev pub invariant-loop-of : goal.invariant-loop-of
 invariant-loop-of l = record {
+  quiet : l.went_on ≡ false → l.life.tally ≡ l.fn.life.tally;
   tally : l.life.tally ≡ record l.fn.life.tally { seen = l.life.tally.seen };
   plan : SamePlan l.fn.life l.life;
   gate : SameGate l.fn.life l.life;
