@@ -29,6 +29,7 @@ pub fn live<'l, W: Wait, H: Hold>(
     ensures lived { HasLived station.entry result }
     ensures same { SameStation station.entry result }
 {
+    // nobody sees this screen: that it stays blank says that no line is for it, which of a screen without lines no clause could say
     let Ok(mut blank) = ConsoleState::new(shared.alloc, 0) else {
         return refused(station, shared.stop_all(rt, NodeFault::Memory));
     };
