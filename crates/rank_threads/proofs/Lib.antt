@@ -4,6 +4,7 @@ mod DroppingLemmas
 mod GateLemmas
 mod LaneLists
 mod LifeLemmas
+mod LookLemmas
 mod PhaseLaws
 mod PlanLaws
 mod PuttingLemmas

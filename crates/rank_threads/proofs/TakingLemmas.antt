@@ -113,6 +113,9 @@ took_no_more source old mid new took before here = record {
   to = here.to ∙ before.to;
 }
 
+-- what one look more leaves
+pub ruleset took_laws = (took_nothing, took_more, took_no_more)
+
 -- before the first lane nothing came
 pub took_before : (life : Life) → TookBelow 0 life life false
 took_before life = (refl, refl)

@@ -1,16 +1,17 @@
 //! The frames that a crash loses.
-ghost use Rattle.std.specs.Prelude.{◌≡◌};
+ghost use Rattle.std.specs.Prelude.{◌≡◌, ◌≢◌, ◌+◌};
 ghost use Rattle.rank_threads.specs.Dropping.{DroppedBelow, DroppedFrom};
 ghost use Rattle.rank_threads.specs.Stations.{SameStation, SameRest};
 
-use crate::lanes_of::take_from;
+use crate::lanes_of::{Looked, take_from};
 use crate::station::Station;
 use metered::limits::MOST_FRAMES;
 
 /// At a crash the frames in the lanes into the rank are dropped, at most as
-/// many as they hold. They count as taken.
+/// many as they hold. They count as taken. Each lane is looked at.
 #[tactic(auto, using(crate::proofs::DroppingLemmas::dropped_next))]
-pub fn drop_frames(station: &mut Station<'_>)
+pub fn drop_frames(station: &mut Station<'_>) -> Looked
+    ensures looked { result.below ≡ station.old.size }
     ensures dropped { DroppedBelow station.old.size station.old station.new }
     ensures down { station.new.down ≡ station.old.down }
     ensures rest { SameRest station.old station.new }
@@ -18,13 +19,17 @@ pub fn drop_frames(station: &mut Station<'_>)
         { taken = station.new.tally.taken; may_owe = station.new.tally.may_owe; is_blocked = station.new.tally.is_blocked } }
     ensures same { SameStation station.old station.new }
 {
+    let mut looked = Looked::none();
     for source in 0..station.size {
-        drop_from(station, source);
+        drop_from(station, source, &mut looked);
     }
+    looked
 }
 
-#[tactic(auto, using(crate::proofs::DroppingLemmas::dropped_nothing, crate::proofs::DroppingLemmas::dropped_more))]
-fn drop_from(station: &mut Station<'_>, source: u8)
+#[tactic(auto, using(crate::proofs::DroppingLemmas::dropped_nothing, crate::proofs::DroppingLemmas::dropped_more, crate::proofs::LookLemmas::look_laws))]
+fn drop_from(station: &mut Station<'_>, source: u8, looked: &mut Looked)
+    requires { looked.old.below ≡ source }
+    ensures looked { looked.new.below ≡ source + 1 }
     ensures dropped { DroppedFrom source station.old station.new }
     ensures down { station.new.down ≡ station.old.down }
     ensures rest { SameRest station.old station.new }
@@ -33,7 +38,7 @@ fn drop_from(station: &mut Station<'_>, source: u8)
     ensures same { SameStation station.old station.new }
 {
     for _ in 0..MOST_FRAMES {
-        if !drop_one(station, source) {
+        if !drop_one(station, source, looked) {
             break;
         }
     }
@@ -41,7 +46,9 @@ fn drop_from(station: &mut Station<'_>, source: u8)
 
 // The next frame from this rank is dropped, where there is one.
 #[tactic(auto, using(crate::proofs::DroppingLemmas::dropped_none, crate::proofs::DroppingLemmas::dropped_one))]
-fn drop_one(station: &mut Station<'_>, source: u8) -> bool
+fn drop_one(station: &mut Station<'_>, source: u8, looked: &mut Looked) -> bool
+    ensures next { looked.old.below ≡ source → looked.new.below ≡ source + 1 }
+    ensures others { looked.old.below ≢ source → looked.new.below ≡ looked.old.below }
     ensures dropped { DroppedFrom source station.old station.new }
     ensures down { station.new.down ≡ station.old.down }
     ensures rest { SameRest station.old station.new }
@@ -49,7 +56,7 @@ fn drop_one(station: &mut Station<'_>, source: u8) -> bool
         { taken = station.new.tally.taken; may_owe = station.new.tally.may_owe; is_blocked = station.new.tally.is_blocked } }
     ensures same { SameStation station.old station.new }
 {
-    let Some(_) = take_from(&mut station.from, source) else {
+    let Some(_) = take_from(&mut station.from, source, looked) else {
         return false;
     };
     station.tally.count_taken();

@@ -1,5 +1,5 @@
 //! One of a rank's lanes among all of them.
-ghost use Rattle.std.specs.Prelude.{◌≡◌, ◌<◌, IfOk};
+ghost use Rattle.std.specs.Prelude.{◌≡◌, ◌≢◌, ◌+◌, ◌<◌, IfOk};
 ghost use Rattle.rank_threads.specs.Lanes.{SameTxs, SameRxs};
 ghost use Rattle.rank_threads.specs.Lives.{SameNode};
 ghost use Rattle.rank_threads.specs.Phases.{gate_in, SameShelf};
@@ -13,12 +13,40 @@ use ports::{Rx, Tx};
 use rank_node::Frame;
 use std::alloc::AllocError;
 
-/// The next frame of the lane from this rank.
+/// The lanes from all ranks below a number were looked at, from rank 0 on. Only
+/// `take_from` raises it.
+#[derive(Clone, Copy)]
+pub struct Looked {
+    below: u16,
+}
+
+impl Looked {
+    /// No lane was looked at yet.
+    pub fn none() -> Looked
+        ensures { result.below ≡ 0 }
+    {
+        Looked { below: 0 }
+    }
+
+    fn note(&mut self, source: u8)
+        ensures next { self.old.below ≡ source → self.new.below ≡ source + 1 }
+        ensures others { self.old.below ≢ source → self.new.below ≡ self.old.below }
+    {
+        if self.below == u16::from(source) {
+            self.below += 1;
+        }
+    }
+}
+
+/// The next frame of the lane from this rank, which is looked at.
 #[tactic(auto, using(crate::proofs::LaneLists::map_set_same, crate::proofs::TakingLemmas::takes_looked, crate::proofs::TakingLemmas::takes_none))]
-pub fn take_from(lanes: &mut Vec<Rx, Heap>, source: u8) -> Option<Frame>
+pub fn take_from(lanes: &mut Vec<Rx, Heap>, source: u8, looked: &mut Looked) -> Option<Frame>
     ensures takes { Takes source (those_of result) lanes.old.items lanes.new.items }
+    ensures next { looked.old.below ≡ source → looked.new.below ≡ source + 1 }
+    ensures others { looked.old.below ≢ source → looked.new.below ≡ looked.old.below }
     ensures same { SameRxs lanes.old.items lanes.new.items }
 {
+    looked.note(source);
     let source = usize::from(source);
     if source >= lanes.len() {
         return None;

@@ -1,22 +1,28 @@
 //! Part 1 of a turn: what the lanes bring.
-ghost use Rattle.std.specs.Prelude.{◌≡◌, ◌<◌, IfOk};
+ghost use Rattle.std.specs.Prelude.{◌≡◌, ◌≢◌, ◌+◌, ◌<◌, IfOk, IfSome};
 ghost use Rattle.std.specs.Option.{is_none};
 ghost use Rattle.rank_threads.specs.Lives.{SameLife, SamePlan, SameGate};
 ghost use Rattle.rank_threads.specs.Taking.{TookFrom, TookBelow};
 ghost use Rattle.rank_threads.specs.Turns.{Brings, is_frames};
 ghost use Rattle.rank_threads.specs.Tally.{woken};
 
-use crate::lanes_of::take_from;
+use crate::lanes_of::{Looked, take_from};
 use crate::life::Life;
 use crate::shared::{NotRung, Shared};
 use metered::limits::MOST_FRAMES;
 use std::alloc::AllocError;
 
 /// Takes what the lanes bring, by rising source, from each at most as many
-/// frames as it holds, and answers whether a frame came. An `Err` is want of
-/// memory.
+/// frames as it holds, and answers whether a frame came. Each lane is looked at.
+/// An `Err` is want of memory.
 #[tactic(auto, using(crate::proofs::TakingLemmas::took_before, crate::proofs::TakingLemmas::took_next))]
-pub fn take_in<H>(shared: &Shared<'_, H>, life: &mut Life<'_, '_>) -> Result<bool, AllocError>
+pub fn take_in<H>(
+    shared: &Shared<'_, H>,
+    life: &mut Life<'_, '_>,
+    looked: &mut Looked,
+) -> Result<bool, AllocError>
+    requires { looked.old.below ≡ 0 }
+    ensures looked { IfOk result (λ _. looked.new.below ≡ life.old.node.size) }
     ensures took { IfOk result (λ took. TookBelow life.old.node.size life.old life.new took) }
     ensures plan { SamePlan life.old life.new }
     ensures gate { SameGate life.old life.new }
@@ -24,18 +30,21 @@ pub fn take_in<H>(shared: &Shared<'_, H>, life: &mut Life<'_, '_>) -> Result<boo
 {
     let mut took = false;
     for source in 0..life.node.size {
-        took = take_all_from(shared, life, source)? || took;
+        took = take_all_from(shared, life, source, looked)? || took;
     }
     Ok(took)
 }
 
-#[tactic(auto, using(crate::proofs::TakingLemmas::took_nothing, crate::proofs::TakingLemmas::took_more, crate::proofs::TakingLemmas::took_no_more))]
+#[tactic(auto, using(crate::proofs::TakingLemmas::took_laws, crate::proofs::LookLemmas::look_laws))]
 fn take_all_from<H>(
     shared: &Shared<'_, H>,
     life: &mut Life<'_, '_>,
     source: u8,
+    looked: &mut Looked,
 ) -> Result<bool, AllocError>
-    requires { source < life.old.node.size }
+    requires source { source < life.old.node.size }
+    requires looked { looked.old.below ≡ source }
+    ensures looked { IfOk result (λ _. looked.new.below ≡ source + 1) }
     ensures took { IfOk result (λ took. TookFrom source life.old life.new took) }
     ensures plan { SamePlan life.old life.new }
     ensures gate { SameGate life.old life.new }
@@ -43,7 +52,7 @@ fn take_all_from<H>(
 {
     let mut took = false;
     for _ in 0..MOST_FRAMES {
-        if !take_one(shared, life, source)? {
+        if !take_one(shared, life, source, looked)? {
             break;
         }
         took = true;
@@ -54,7 +63,7 @@ fn take_all_from<H>(
 /// All lanes into a rank were looked at, and brought nothing. Only `none_came`
 /// makes one.
 #[derive(Clone, Copy)]
-pub struct NoneCame(());
+pub struct NoneCame(Looked);
 
 /// Takes what the lanes bring, and says so where that is nothing. An `Err` is
 /// want of memory.
@@ -63,14 +72,16 @@ pub fn none_came<H>(
     life: &mut Life<'_, '_>,
 ) -> Result<Option<NoneCame>, AllocError>
     ensures took { IfOk result (λ none. TookBelow life.old.node.size life.old life.new (is_none none)) }
+    ensures looked { IfOk result (λ none. IfSome none (λ n. n.0.below ≡ life.old.node.size)) }
     ensures plan { SamePlan life.old life.new }
     ensures gate { SameGate life.old life.new }
     ensures same { SameLife life.old life.new }
 {
-    if take_in(shared, life)? {
+    let mut looked = Looked::none();
+    if take_in(shared, life, &mut looked)? {
         return Ok(None);
     }
-    Ok(Some(NoneCame(())))
+    Ok(Some(NoneCame(looked)))
 }
 
 /// What the lanes brought at the beginning of a turn.
@@ -115,14 +126,17 @@ fn take_one<H>(
     shared: &Shared<'_, H>,
     life: &mut Life<'_, '_>,
     source: u8,
+    looked: &mut Looked,
 ) -> Result<bool, AllocError>
     requires { source < life.old.node.size }
+    ensures next { looked.old.below ≡ source → looked.new.below ≡ source + 1 }
+    ensures others { looked.old.below ≢ source → looked.new.below ≡ looked.old.below }
     ensures took { IfOk result (λ took. TookFrom source life.old life.new took) }
     ensures plan { SamePlan life.old life.new }
     ensures gate { SameGate life.old life.new }
     ensures same { SameLife life.old life.new }
 {
-    let Some(frame) = take_from(&mut life.from, source) else {
+    let Some(frame) = take_from(&mut life.from, source, looked) else {
         return Ok(false);
     };
     wake(shared, life);

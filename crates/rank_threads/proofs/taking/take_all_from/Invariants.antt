@@ -1,10 +1,14 @@
+use Rattle.std.proofs.Common.{◌≡◌, ◌+◌, ◌<◌}
 use Rattle.rank_threads.specs.Lives.{SameLife, SamePlan, SameGate}
 use Rattle.rank_threads.specs.Taking.{TookFrom}
+use Rattle.rank_threads.proofs.LookLemmas.{IsNoted}
 use Rattle.rank_threads.proofs.taking.take_all_from.Given as goal
 
--- what came so far has arrived, and the life stays the same
+-- from the first look on the lane is noted, what came so far has arrived, and the life stays the same
 abbrev pub invariant-loop : goal.invariant-loop
 invariant-loop g l = record {
+  noted : IsNoted l.source l.looked.below;
+  looked : 0 < l.counter → l.looked.below ≡ l.source + 1;
   so_far : TookFrom l.source l.fn.life l.life l.took;
   plan : SamePlan l.fn.life l.life;
   gate : SameGate l.fn.life l.life;
