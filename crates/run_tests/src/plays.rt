@@ -1,5 +1,5 @@
 //! Runs as events: given to `world`, these print the lines of the run, and none of them is refused.
-use crate::scenes::{answer_of, expect_answer};
+use crate::scenes::{Answer, answer_of, expect_answer};
 use std::process::Abort;
 use std::sync::Wait;
 use std::test::Fail;
@@ -31,37 +31,58 @@ fn expect_play<R: Threads + Wait + Sync + Copy + Send + AllocGlobal + Abort>(
     rt: &R,
     row: &Played,
 ) -> Result<(), Fail> {
-    let alloc = rt.alloc();
+    let events = events_of(rt, row)?;
+    let lines = lines_of(rt, row.ranks, row.program, events.out())?;
+    is_printed(rt, lines.as_str(), row)
+}
+
+// The events that the row's words ask for.
+fn events_of<R: Threads + Wait + Sync + Copy + Send + AllocGlobal + Abort>(
+    rt: &R,
+    row: &Played,
+) -> Result<Answer, Fail> {
     let words = row.words;
     let program = row.program;
-    let files = [("p", program), ("s", row.script)];
-    let events = answer_of(rt, words, &files)?;
+    let events = answer_of(rt, words, &[("p", program), ("s", row.script)])?;
     assert_eq!(rt;
         (events.status, events.err()),
         (row.status, ""),
         "at {words} of {program}"
     );
+    Ok(events)
+}
 
-    let ranks = row.ranks;
-    let words = format!(in alloc; "world --ranks {ranks} p e")?;
-    let files = [("p", program), ("e", events.out())];
-    let world = answer_of(rt, words.as_str(), &files)?;
-    assert_eq!(rt;
-        (world.status, world.err()),
-        (0, ""),
-        "at {words} of {program}"
-    );
+// The lines that a world of the program prints under these events.
+fn lines_of<'a, R: Threads + Wait + Sync + Copy + Send + AllocGlobal + Abort>(
+    rt: &R,
+    ranks: u8,
+    program: &'a str,
+    events: &'a str,
+) -> Result<String, Fail> {
+    let words = format!(in rt.alloc(); "world --ranks {ranks} p e")?;
+    let world = answer_of(rt, words.as_str(), &[("p", program), ("e", events)])?;
+    assert_eq!(rt; (world.status, world.err()), (0, ""));
+    lines_in(rt, world.out())
+}
 
-    let mut lines = String::new(alloc);
-    for line in world.out().split('\n') {
-        assert!(rt; line != "refused", "at {words} of {program}");
+fn is_printed<R: AllocGlobal + Abort>(rt: &R, lines: &str, row: &Played) -> Result<(), Fail> {
+    let words = row.words;
+    let program = row.program;
+    assert_eq!(rt; lines, row.lines, "at {words} of {program}");
+    Ok(())
+}
+
+// The lines that ranks printed, among the replies of a world of which none is a refusal.
+fn lines_in<R: AllocGlobal + Abort>(rt: &R, replies: &str) -> Result<String, Fail> {
+    let mut lines = String::new(rt.alloc());
+    for line in replies.split('\n') {
+        assert!(rt; line != "refused", "in {replies}");
         if line.contains("> ") {
             lines.push_str(line)?;
             lines.push_str("\n")?;
         }
     }
-    assert_eq!(rt; lines.as_str(), row.lines, "at {words} of {program}");
-    Ok(())
+    Ok(lines)
 }
 
 /// Rank 0 sends, rank 1 receives and prints.
