@@ -8,7 +8,7 @@ ghost use Rattle.checkpoint.specs.Reading.{Gives, number_at, count_at, value_at,
 
 use crate::fault::ImageFault;
 use byteorder::{BigEndian, ByteOrder};
-use matching::{Context, Packet};
+use matching::{Context, Packet, PacketItems};
 use metered::Heap;
 use metered::limits::{GREATEST_CLOCK, GREATEST_TAG, MOST_COLLECTIVE_ITEMS, MOST_ITEMS};
 
@@ -148,14 +148,14 @@ pub fn tail_of(
     if count < items_least(context) || count > items_most(context) {
         return Err(ImageFault::Field);
     }
-    let (payload, rest) = values_of(alloc, usize::from(count), rest)?;
+    let (values, rest) = values_of(alloc, usize::from(count), rest)?;
     let packet = Packet {
         source,
         clock,
         number,
         context,
         tag,
-        payload,
+        payload: PacketItems::from_vec(values),
     };
     Ok((packet, rest))
 }

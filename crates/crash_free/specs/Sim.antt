@@ -57,6 +57,14 @@ pub data Meaning : Type 0 where
   own_step : Meaning
   makes : (act : Act) → Meaning
 
+-- the choice that makes this act, where it may be made
+abbrev pub choice_of : Act → Choice
+choice_of (sends dest context tag items) = choice.Next
+choice_of (takes source place) = choice.Take source place
+choice_of (hits source place) = choice.Take source place
+choice_of misses = choice.Miss
+choice_of (prints value) = choice.Next
+
 -- a rank that has halted or faulted has ended; else the choice names the step or the act that is wanted, with these items to send, or another
 abbrev pub meaning : Want → List ℤ → Choice → Meaning
 meaning want.Halted items c = ended

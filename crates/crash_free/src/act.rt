@@ -2,6 +2,7 @@
 ghost use Rattle.std.specs.Prelude.{◌≡◌, IfOk};
 ghost use Rattle.crash_free.specs.Seen.{act_of};
 
+use crate::choice::Choice;
 use matching::Context;
 use metered::Heap;
 use std::alloc::AllocError;
@@ -32,6 +33,24 @@ pub enum Act {
     /// A probe that doesn't wait found none.
     Misses,
     Prints(i64),
+}
+
+impl Act {
+    ghost use Rattle.crash_free.specs.Sim.{choice_of};
+
+    /// The choice that makes this act, where it may be made.
+    pub fn choice(&self) -> Choice
+        ensures { result ≡ choice_of (act_of self.now) }
+    {
+        match self {
+            Act::Sends { .. } | Act::Prints(_) => Choice::Next,
+            Act::Takes { source, place } | Act::Hits { source, place } => Choice::Take {
+                source: u32::from(*source),
+                index: *place,
+            },
+            Act::Misses => Choice::Miss,
+        }
+    }
 }
 
 /// An act of a run, with the rank that made it.

@@ -11,12 +11,11 @@ use Rattle.rank_machine.specs.Machine.{MachineValue, state_of, machine_want}
 use Rattle.crash_free.specs.declared.choice.Choice.{Choice}
 use Rattle.crash_free.specs.declared.choice.Choice.TheVariants as choice
 use Rattle.crash_free.specs.Runs.{looked_up, IsRun}
-use Rattle.crash_free.specs.Sim.{SimValue, Simulates, start_of, inbound_of, Meaning, ended, other, own_step, makes, meaning, meant}
+use Rattle.crash_free.specs.Sim.{SimValue, choice_of, Simulates, start_of, inbound_of, Meaning, ended, other, own_step, makes, meaning, meant}
 use Rattle.crash_free.specs.Sim.{Does, Allows, with_act, IsAfter}
 use Rattle.crash_free.specs.Wanted.{Wants, StandsAtAct}
 use Rattle.audit.proofs.Fitting.{IsHit, send_fits, print_fits, take_fits, hit_fits, try_fits}
 use Rattle.explore.specs.Exploring.{and_then, MayFollow}
-use Rattle.explore.specs.Moves.{choice_of}
 use Rattle.explore.proofs.Simulating.{answers}
 
 -- an act of rank r leads from the first simulation to the second, and one machine of the rank to another

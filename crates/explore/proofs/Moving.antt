@@ -9,12 +9,12 @@ use Rattle.rank_machine.specs.Acts.{Act, sends, hits, misses, prints}
 use Rattle.rank_machine.specs.Machine.{MachineValue, state_of}
 use Rattle.crash_free.specs.declared.choice.Choice.TheVariants as choice
 use Rattle.crash_free.specs.Runs.{history, looked_up, IsEligible}
-use Rattle.crash_free.specs.Sim.{SimValue, Simulates, start_of, inbound_of}
+use Rattle.crash_free.specs.Sim.{SimValue, choice_of, Simulates, start_of, inbound_of}
 use Rattle.crash_free.specs.Wanted.{Wants, WantsAt, StandsAtAct}
 use Rattle.audit.proofs.Fitting.{send_fits, print_fits}
 use Rattle.explore.specs.declared.moves.Move.{Move}
 use Rattle.explore.specs.Exploring.{MayFollow}
-use Rattle.explore.specs.Moves.{choice_of, move_of, HasAllOf, HasAll, MayGoOn, OneIsEligible, AreOfRanks, AddsMoves, AddsTakes}
+use Rattle.explore.specs.Moves.{move_of, HasAllOf, HasAll, MayGoOn, OneIsEligible, AreOfRanks, AddsMoves, AddsTakes}
 use Rattle.explore.specs.Outcomes.{IsAmong}
 use Rattle.explore.specs.Stills.{HasNothing, NoneIsEligible, StandsStill}
 use Rattle.explore.proofs.Among.{among_none, among_first, among_last, among_push}

@@ -4,14 +4,14 @@ use Rattle.std.proofs.lemmas.Bool.{cases_eq}
 use Rattle.std.proofs.lemmas.Option.{slice_get_within}
 use Rattle.rank_machine.specs.Acts.{Act}
 use Rattle.crash_free.specs.Runs.{Passed, IsRun}
-use Rattle.crash_free.specs.Sim.{SimValue, Simulates, start_of, Allows}
+use Rattle.crash_free.specs.Sim.{SimValue, choice_of, Simulates, start_of, Allows}
 use Rattle.crash_free.specs.Wanted.{StandsAtAct}
 use Rattle.explore.specs.declared.branch.Branch.{Branch}
 use Rattle.explore.specs.declared.moves.Move.{Move}
 use Rattle.explore.specs.Exploring.{and_then, MayFollow, RankOutcome, IsExplored, branch}
 use Rattle.explore.specs.Outcomes.{IsAmong}
 use Rattle.explore.specs.Making.{LeadsTo}
-use Rattle.explore.specs.Moves.{choice_of, move_of, HasAll, AreOfRanks}
+use Rattle.explore.specs.Moves.{move_of, HasAll, AreOfRanks}
 use Rattle.explore.specs.Met.{AddsAtMost}
 use Rattle.explore.specs.Searching.{IsSearched, AreSearchedFrom, IsAlike, AreAlike, BranchesOff, PlaysOn, RestsOn, Remembers}
 use Rattle.explore.proofs.Among.{among_first, among_last, among_push}

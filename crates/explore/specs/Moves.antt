@@ -2,24 +2,16 @@
 use Rattle.std.specs.Prelude.{◌≡◌, ◌⊎◌, ℕ, ◌<◌, List, [], length}
 use Rattle.matching.specs.declared.selector.Selector.{Selector}
 use Rattle.rank_machine.specs.declared.want.Want.TheVariants as want
-use Rattle.rank_machine.specs.Acts.{Act, sends, takes, hits, misses, prints}
+use Rattle.rank_machine.specs.Acts.{Act}
 use Rattle.crash_free.specs.declared.choice.Choice.{Choice}
 use Rattle.crash_free.specs.declared.choice.Choice.TheVariants as choice
 use Rattle.crash_free.specs.Runs.{history, IsEligible}
-use Rattle.crash_free.specs.Sim.{SimValue, start_of, inbound_of}
+use Rattle.crash_free.specs.Sim.{SimValue, choice_of, start_of, inbound_of}
 use Rattle.crash_free.specs.Wanted.{WantsAt, StandsAtAct}
 use Rattle.explore.specs.declared.moves.Move.{Move}
 use Rattle.explore.specs.Exploring.{MayFollow}
 use Rattle.explore.specs.Outcomes.{IsAmong}
 use Rattle.explore.specs.Stills.{StandsStill}
-
--- the choice that makes this act, where it may be made
-abbrev pub choice_of : Act → Choice
-choice_of (sends dest context tag items) = choice.Next
-choice_of (takes source place) = choice.Take source place
-choice_of (hits source place) = choice.Take source place
-choice_of misses = choice.Miss
-choice_of (prints value) = choice.Next
 
 -- the move of this rank by this choice
 abbrev pub move_of : ℕ → Choice → Move

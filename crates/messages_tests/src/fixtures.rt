@@ -2,7 +2,7 @@
 ghost use Rattle.std.specs.Prelude.{◌≡◌, ◌≤◌, length, IfOk};
 ghost use Rattle.matching.specs.PacketValue.{least_items, most_items, greatest_tag};
 
-use matching::{Context, Packet};
+use matching::{Context, Packet, PacketItems};
 use metered::Heap;
 use std::alloc::AllocError;
 
@@ -28,7 +28,7 @@ pub fn packet(
         number,
         context,
         tag,
-        payload: Vec::from_slice(alloc, items)?,
+        payload: PacketItems::from_slice(alloc, items)?,
     })
 }
 

@@ -19,7 +19,15 @@ fn copies(rt: &impl Abort, alloc: Heap, original: &Packet, items: &[i64]) -> Res
 }
 
 /// A tag, and the number of items.
-const POINT_TO_POINT: [(u16, u16); 6] = [(0, 1), (1, 2), (2, 3), (3, 4), (9, 255), (32767, 256)];
+const POINT_TO_POINT: [(u16, u16); 7] = [
+    (0, 1),
+    (1, 2),
+    (2, 3),
+    (3, 4),
+    (4, 5),
+    (9, 255),
+    (32767, 256),
+];
 
 /// Copies a packet of each row.
 fn copies_point_to_point(rt: &impl Abort, alloc: Heap, rows: &[(u16, u16)]) -> Result<(), Fail> {

@@ -2,7 +2,7 @@
 ghost use Rattle.std.specs.Prelude.{◌≡◌, ◌<◌, true, IfOk, IfSome};
 ghost use Rattle.matching.specs.Matching.{matches};
 
-use matching::{Context, Packet, Selector};
+use matching::{Context, Packet, PacketItems, Selector};
 use metered::Heap;
 use metered::limits::MOST_COLLECTIVE_ITEMS;
 use rank_language::Program;
@@ -279,7 +279,7 @@ fn collective_packet(alloc: Heap, source: u8, items: &[i64]) -> Result<Option<Pa
         number: 1,
         context: Context::Collective,
         tag: 0,
-        payload: items.to_vec(alloc)?,
+        payload: PacketItems::from_slice(alloc, items)?,
     }))
 }
 

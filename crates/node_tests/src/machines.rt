@@ -3,7 +3,7 @@ ghost use Rattle.std.specs.Prelude.{◌≡◌, ◌<◌, ◌≤◌, true, length}
 ghost use Rattle.metered.specs.Limits.{most_items};
 ghost use Rattle.matching.specs.Matching.{matches};
 
-use matching::{Context, Packet, Selector};
+use matching::{Context, Packet, PacketItems, Selector};
 use metered::Heap;
 use rank_language::Program;
 use rank_machine::{Machine, Want};
@@ -113,6 +113,6 @@ pub fn packet(alloc: Heap, items: &[i64]) -> Result<Option<Packet>, Fail>
         number: 1,
         context: Context::PointToPoint,
         tag: 5,
-        payload: items.to_vec(alloc)?,
+        payload: PacketItems::from_slice(alloc, items)?,
     }))
 }

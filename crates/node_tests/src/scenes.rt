@@ -3,7 +3,7 @@ ghost use Rattle.std.specs.Prelude.{◌≡◌, ◌<◌, ◌≤◌, IfOk};
 ghost use Rattle.metered.specs.Limits.{most_ranks};
 
 use checkpoint::MemoryShelf;
-use matching::{Context, Packet};
+use matching::{Context, Packet, PacketItems};
 use metered::Heap;
 use rank_language::Program;
 use rank_node::{Running, Screen, Shown, Stable};
@@ -61,7 +61,7 @@ pub fn packet(alloc: Heap, source: u8, number: u32) -> Result<Packet, AllocError
         number,
         context: Context::PointToPoint,
         tag: 7,
-        payload: vec![in alloc; 10 * i64::from(number); 1]?,
+        payload: PacketItems::from_slice(alloc, &[10 * i64::from(number)])?,
     })
 }
 
@@ -73,6 +73,6 @@ pub fn long_packet(alloc: Heap) -> Result<Packet, AllocError> {
         number: 1,
         context: Context::PointToPoint,
         tag: 7,
-        payload: vec![in alloc; 4i64; 256]?,
+        payload: PacketItems::from_elem(alloc, 4, 256)?,
     })
 }

@@ -7,6 +7,7 @@ ghost use Rattle.rank_machine.specs.Values.{item_at, index_in};
 ghost use Rattle.rank_machine.specs.Acts.{overwritten};
 
 use crate::fault::MachineFault;
+use matching::PacketItems;
 use metered::Heap;
 use rank_language::Array;
 use std::alloc::AllocError;
@@ -116,20 +117,20 @@ impl Items {
     }
 
     /// All items go behind others.
-    pub fn append_to(&self, others: &mut Vec<i64, Heap>) -> Result<(), AllocError>
+    pub fn append_to(&self, others: &mut PacketItems) -> Result<(), AllocError>
         ensures items { IfOk result (λ _. others.new.items ≡ others.old.items ++ self.now) }
         ensures most { length self.now ≤ most_items }
     {
-        others.extend_from_slice(&self.items)
+        others.extend_from_slice(self.items.as_slice())
     }
 
-    /// All items, in memory of their own.
-    pub fn copy(&self, alloc: Heap) -> Result<Vec<i64, Heap>, AllocError>
+    /// All items, as those of a packet.
+    pub fn copy(&self, alloc: Heap) -> Result<PacketItems, AllocError>
         ensures items { IfOk result (λ items. items.items ≡ self.now) }
         ensures least { IfOk result (λ items. 1 ≤ length items.items) }
         ensures most { IfOk result (λ items. length items.items ≤ most_items) }
     {
-        self.items.as_slice().to_vec(alloc)
+        PacketItems::from_slice(alloc, self.items.as_slice())
     }
 }
 

@@ -21,4 +21,4 @@ pub use items::Items;
 pub use machine::Machine;
 pub use parts::Parts;
 pub use status::Status;
-pub use want::Want;
+pub use want::{Want, Wanted};

@@ -1,7 +1,7 @@
 //! A rank that replays its events.
 ghost use Rattle.std.specs.Prelude.{◌≡◌, ◌≢◌, ◌≤◌, [], length, Ok, Err};
 ghost use Rattle.metered.specs.Limits.{most_events};
-ghost use Rattle.rank_machine.specs.Machine.{machine_want};
+ghost use Rattle.rank_machine.specs.Machine.{machine_want, IsWantedBy};
 
 mod frames;
 mod stepping;
@@ -13,7 +13,7 @@ use crate::stable::Stable;
 use checkpoint::Shelf;
 use metered::Heap;
 use plain_logger::Event;
-use rank_machine::Want;
+use rank_machine::{Want, Wanted};
 use std::marker::Model;
 
 /// A rank that replays. It must be settled, crashed or retired.
@@ -93,6 +93,13 @@ impl<'p, S: Shelf, D> Replaying<'p, S, D> {
         ensures { result ≡ machine_want self.now.node.machine }
     {
         self.running.wants()
+    }
+
+    /// What its machine wants next, with what was evaluated to find it.
+    pub fn wanted(&self) -> Wanted
+        ensures { IsWantedBy self.now.node.machine result }
+    {
+        self.running.wanted()
     }
 
     /// How many acts it has made.

@@ -1,7 +1,7 @@
 //! A rank that runs.
 ghost use Rattle.std.specs.Prelude.{◌≡◌, ◌<◌, ◌≤◌, length, replicate, IfOk, IfErr, None};
 ghost use Rattle.metered.specs.Limits.{most_events, most_ranks};
-ghost use Rattle.rank_machine.specs.Machine.{machine_want};
+ghost use Rattle.rank_machine.specs.Machine.{machine_want, IsWantedBy};
 ghost use Rattle.checkpoint.specs.Savable.{IsSavable};
 ghost use Rattle.rank_node.specs.Image.{first_image};
 
@@ -14,7 +14,7 @@ use matching::Inbox;
 use metered::Heap;
 use payload_log::PayloadLog;
 use rank_language::Program;
-use rank_machine::{Machine, Want};
+use rank_machine::{Machine, Want, Wanted};
 use std::alloc::AllocError;
 use std::marker::Model;
 
@@ -149,6 +149,13 @@ impl<'p, S: Shelf, D> Running<'p, S, D> {
         ensures { result ≡ machine_want self.now.machine }
     {
         self.machine.wants()
+    }
+
+    /// What its machine wants next, with what was evaluated to find it.
+    pub fn wanted(&self) -> Wanted
+        ensures { IsWantedBy self.now.machine result }
+    {
+        self.machine.wanted()
     }
 
     /// How many acts it has made.

@@ -2,8 +2,8 @@
 ghost use Rattle.std.specs.Prelude.{◌≡◌, ◌≢◌, ℕ, ◌+◌, ◌<◌, ◌≤◌, Some, None, true, IfOk, IfErr, OnOk, OnErr, IsErrOf};
 ghost use Rattle.metered.specs.Limits.{greatest_clock, most_events};
 ghost use Rattle.payload_log.specs.Backlog.{backlog, next_number};
-ghost use Rattle.rank_machine.specs.Wants.{IsLegal};
-ghost use Rattle.rank_machine.specs.Machine.{machine_want};
+ghost use Rattle.rank_machine.specs.Wants.{payload, IsItemOf, IsLegal};
+ghost use Rattle.rank_machine.specs.Machine.{state_of, machine_want, IsWantedBy};
 
 use crate::events::naming;
 use crate::fault::NodeFault;
@@ -14,7 +14,7 @@ use checkpoint::Shelf;
 use matching::{Context, Packet, Selector};
 use metered::limits::{GREATEST_CLOCK, MOST_EVENTS};
 use plain_logger::Kind;
-use rank_machine::Want;
+use rank_machine::{Want, Wanted};
 
 impl<'p, S: Shelf, D> Running<'p, S, D> {
     ghost use Rattle.rank_node.specs.Waiting.{has_room, is_settled};
@@ -37,12 +37,35 @@ impl<'p, S: Shelf, D> Running<'p, S, D> {
         ensures err { OnErr result (self.new ≡ self.old) }
         ensures err_screen { OnErr result (screen.new ≡ screen.old) }
     {
-        match self.machine.wants() {
+        let wanted = self.machine.wanted();
+        self.step_wanted(screen, wanted)
+    }
+
+    /// As `step`, where this was found of the machine, and isn't found again.
+    pub fn step_wanted<C: Screen>(
+        &mut self,
+        screen: &mut C,
+        wanted: Wanted,
+    ) -> Result<Turn, NodeFault>
+        requires { IsWantedBy self.old.machine wanted }
+        ensures turn { IfOk result (λ turn. turn ≡ turn_of self.old) }
+        ensures ok { OnOk result (self.new ≡ after_step self.old self.new.machine) }
+        ensures machine { OnOk result (MachineStep self.old self.new.machine) }
+        ensures stable { self.new.stable ≡ self.old.stable }
+        ensures shown { OnOk result (ShowsStep C.shows self.old screen.old screen.new) }
+
+        ensures refusal { (e : NodeFault) → refusal_of self.old ≡ Some e → result ≡ Err e }
+        ensures refused { IfErr result (λ e. e ≢ NodeFault.Memory → refusal_of self.old ≡ Some e) }
+        ensures memory { IsErrOf result NodeFault.Memory → takes_memory self.old ≡ true }
+        ensures err { OnErr result (self.new ≡ self.old) }
+        ensures err_screen { OnErr result (screen.new ≡ screen.old) }
+    {
+        match wanted.want {
             Want::Internal => {
                 self.machine.internal();
                 Ok(Turn::Moved)
             }
-            Want::Send { dest, context, tag } => self.send(dest, context, tag),
+            Want::Send { dest, context, tag } => self.send(dest, context, tag, wanted.item),
             Want::Receive(selector) => self.receive(&selector),
             Want::Probe(selector) => self.probe(&selector),
             Want::TryProbe(selector) => self.try_probe(&selector),
@@ -51,9 +74,16 @@ impl<'p, S: Shelf, D> Running<'p, S, D> {
         }
     }
 
-    fn send(&mut self, dest: u8, context: Context, tag: u16) -> Result<Turn, NodeFault>
+    fn send(
+        &mut self,
+        dest: u8,
+        context: Context,
+        tag: u16,
+        item: Option<i64>,
+    ) -> Result<Turn, NodeFault>
         requires stands { machine_want self.old.machine ≡ Want.Send dest context tag }
         requires legal { IsLegal self.old.machine.store.size (Want.Send dest context tag) }
+        requires item { IsItemOf item (Want.Send dest context tag) (payload (state_of self.old.machine)) }
         ensures turn { IfOk result (λ turn. turn ≡ turn_at self.old (Want.Send dest context tag)) }
         ensures ok { OnOk result (self.new ≡ step_at self.old (Want.Send dest context tag) self.new.machine) }
         ensures machine { OnOk result (MachineStepAt self.old (Want.Send dest context tag) self.new.machine) }
@@ -70,7 +100,7 @@ impl<'p, S: Shelf, D> Running<'p, S, D> {
         if self.clock >= GREATEST_CLOCK {
             return Err(NodeFault::ClockSpent);
         }
-        let payload = self.machine.payload(self.alloc)?;
+        let payload = self.machine.payload_with(self.alloc, item)?;
         let packet = Packet {
             source: self.stable.rank(),
             clock: self.clock + 1,

@@ -8,7 +8,8 @@ use Rattle.event_logger.specs.Desks.{DeskValue, IsRead, IsSameDesk}
 use Rattle.plain_logger.specs.Event.{EventValue}
 use Rattle.rank_language.specs.Program.{ProgramValue}
 use Rattle.rank_machine.specs.declared.want.Want.{Want}
-use Rattle.rank_machine.specs.Machine.{machine_want}
+use Rattle.rank_machine.specs.declared.want.Wanted.{Wanted}
+use Rattle.rank_machine.specs.Machine.{machine_want, IsWantedBy}
 use Rattle.rank_node.specs.Desked.{at_desk}
 use Rattle.rank_node.specs.Image.{BeginsAgain, image_of}
 use Rattle.rank_node.specs.Node.{Node, opening}
@@ -36,6 +37,12 @@ abbrev pub want_in : Phase → Option Want
 want_in (phase.Running v) = Some (machine_want v.machine)
 want_in (phase.Replaying r) = Some (machine_want r.node.machine)
 want_in (phase.Down s) = None
+
+-- this was found of the rank's machine; nothing is where the rank is down
+abbrev pub IsWantedIn : Phase → Wanted → Type 0
+IsWantedIn (phase.Running v) found = IsWantedBy v.machine found
+IsWantedIn (phase.Replaying r) found = IsWantedBy r.node.machine found
+IsWantedIn (phase.Down s) found = ⊥
 
 -- the gate of a rank that runs: what waits there, with how many of its first events are stored
 abbrev pub gate_of : Node MemoryShelf DeskValue → Gate

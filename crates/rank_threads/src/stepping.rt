@@ -152,16 +152,16 @@ fn act<W: Wait, H: Hold>(
     ensures rest { life.new ≡ record life.old { node = life.new.node } }
     ensures same { SameLife life.old life.new }
 {
-    let Some(want) = life.node.wants() else {
+    let Some(wanted) = life.node.wanted() else {
         return Ok(Turn::Ended);
     };
-    if want.is_act() {
+    if wanted.want.is_act() {
         tell(shared, life);
     }
-    match want {
+    match wanted.want {
         Want::Print(_) => {
             let mut console = shared.console.lock(rt);
-            life.node.step(&mut *console)
+            life.node.step(&mut *console, wanted)
         }
         Want::Internal
         | Want::Send { .. }
@@ -169,6 +169,6 @@ fn act<W: Wait, H: Hold>(
         | Want::Probe(_)
         | Want::TryProbe(_)
         | Want::Halted
-        | Want::Faulted(_) => life.node.step(blank),
+        | Want::Faulted(_) => life.node.step(blank, wanted),
     }
 }

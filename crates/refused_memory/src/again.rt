@@ -1,7 +1,7 @@
 //! What is made once more where memory was refused.
 ghost use Rattle.std.specs.Prelude.{◌≡◌, ◌≤◌, length, IfOk};
 
-use matching::{Context, Packet};
+use matching::{Context, Packet, PacketItems};
 use metered::Heap;
 use rank_language::Program;
 use std::alloc::AllocError;
@@ -49,20 +49,11 @@ pub fn packet(alloc: Heap, source: u8, number: u32) -> Result<Packet, AllocError
         number,
         context: Context::PointToPoint,
         tag: 7,
-        payload: one_item(alloc, 10 * i64::from(number))?,
+        payload: PacketItems::from_slice(alloc, &[10 * i64::from(number)])?,
     })
 }
 
 /// The packet of rank 0 with this number, or with the nearest from 1 to 5000.
 pub fn packet_near(alloc: Heap, number: u32) -> Result<Packet, AllocError> {
     packet(alloc, 0, number.max(1).min(5000))
-}
-
-fn one_item(alloc: Heap, item: i64) -> Result<Vec<i64, Heap>, AllocError>
-    ensures { IfOk result (λ items. length items.items ≡ 1) }
-{
-    match vec![in alloc; item; 1] {
-        Ok(items) => Ok(items),
-        Err(_) => vec![in alloc; item; 1],
-    }
 }

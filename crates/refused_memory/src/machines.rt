@@ -4,7 +4,7 @@ ghost use Rattle.matching.specs.Matching.{matches};
 
 use crate::again::{packet, program_of};
 use crate::frugal::follow;
-use matching::{Context, Packet, Selector};
+use matching::{Context, Packet, PacketItems, Selector};
 use metered::Heap;
 use rank_language::Program;
 use rank_machine::{Machine, Want};
@@ -70,18 +70,13 @@ fn run<R: Print>(rt: &R, machine: &mut Machine<'_>, packet: Packet) -> io::Resul
 
 /// What rank 0 sends to the reduce: its kind, its root, its ordinal and 5.
 fn part(alloc: Heap) -> Result<Packet, AllocError> {
-    let items: [i64; 4] = [2, 1, 1, 5];
-    let payload = match items.as_slice().to_vec(alloc) {
-        Ok(payload) => payload,
-        Err(_) => items.as_slice().to_vec(alloc)?,
-    };
     Ok(Packet {
         source: 0,
         clock: 2,
         number: 2,
         context: Context::Collective,
         tag: 0,
-        payload,
+        payload: PacketItems::from_slice(alloc, &[2, 1, 1, 5])?,
     })
 }
 

@@ -24,9 +24,11 @@ pub struct Scene {
     pub console: ConsoleState,
 }
 
+// The first send has more items than stand in a packet itself, so it takes memory for them.
 const TEXT: &[u8] = b"var x
+array a[5]
 recv 0, 7, x
-send 0, 0, x
+send 0, 0, a
 print x
 iprobe any, 9, x
 send 0, 1, 5
@@ -62,10 +64,11 @@ enum Answer {
 }
 
 /// A send and a line come to wait behind a reception, which is stored.
-const WAITING: [Call; 9] = [
+const WAITING: [Call; 10] = [
     Call::Arrive(2),
     Call::Arrive(1),
     Call::Arrive(1),
+    Call::Step,
     Call::Step,
     Call::Step,
     Call::Step,

@@ -3,7 +3,7 @@ ghost use Rattle.std.specs.Prelude.{◌<◌, ◌≤◌, length};
 ghost use Rattle.metered.specs.Limits.{most_ranks};
 
 use crate::fault::PlayFault;
-use crash_free::{Act, Choice, NotAllowed, Passed, Sim};
+use crash_free::{NotAllowed, Passed, Sim};
 use matching::Selector;
 use metered::Heap;
 use metered::limits::MOST_EVENT_LINES;
@@ -65,7 +65,7 @@ fn made(sim: &mut Sim<'_>, passed: &Passed) -> Result<Asked, PlayFault> {
         return Err(PlayFault::NoOrder);
     }
     let selector = selector_of(sim.wants(rank));
-    match sim.act(rank, choice_of(&passed.act)) {
+    match sim.act(rank, passed.act.choice()) {
         Ok(()) => Ok(Asked { steps, selector }),
         Err(NotAllowed::Memory) => Err(PlayFault::Memory),
         // the acts are no run of the program
@@ -123,17 +123,5 @@ fn selector_of(want: Want) -> Option<Selector> {
         }
         Want::Internal | Want::Send { .. } | Want::Print(_) | Want::Halted | Want::Faulted(_) =>
             None,
-    }
-}
-
-// The choice that makes the act again.
-fn choice_of(act: &Act) -> Choice {
-    match act {
-        Act::Sends { .. } | Act::Prints(_) => Choice::Next,
-        Act::Takes { source, place } | Act::Hits { source, place } => Choice::Take {
-            source: u32::from(*source),
-            index: *place,
-        },
-        Act::Misses => Choice::Miss,
     }
 }

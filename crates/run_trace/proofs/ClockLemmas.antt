@@ -16,7 +16,8 @@ one_more count = omega arith
 -- an act counts for its rank
 clock_own : (p : Passed) (C : List Passed) → clock_of (p ∷ C) p.rank ≡ min (clock_of C p.rank + 1) greatest_clock
 clock_own p C =
-    let own : history (p ∷ C) p.rank ≡ history C p.rank ++ (p.act, looked_up (λ s. sends_from 0 p.rank (history C s)) p.act) ∷ [] = rw (eq-eqb p.rank p.rank refl) refl in
+    let own : history (p ∷ C) p.rank ≡ history C p.rank ++ (p.act, looked_up (λ s. sends_from 0 p.rank (history C s)) p.act) ∷ [] =
+    rw (eq-eqb p.rank p.rank refl) refl in
     ap (λ h. min (length h) greatest_clock) own
     ∙ ap (λ n. min n greatest_clock) (length_push (history C p.rank) (p.act, looked_up (λ s. sends_from 0 p.rank (history C s)) p.act))
     ∙ sym (one_more (length (history C p.rank)))

@@ -10,12 +10,12 @@ use Rattle.rank_machine.specs.declared.want.Want.{Want}
 use Rattle.rank_machine.specs.Machine.{MachineValue}
 use Rattle.crash_free.specs.declared.choice.Choice.{Choice}
 use Rattle.crash_free.specs.Runs.{Passed}
-use Rattle.crash_free.specs.Sim.{SimValue, Meaning, ended, other, own_step, makes, meant, Does, Allows}
+use Rattle.crash_free.specs.Sim.{SimValue, choice_of, Meaning, ended, other, own_step, makes, meant, Does, Allows}
 use Rattle.crash_free.specs.Inside.{GoesInside}
 use Rattle.crash_free.specs.Wanted.{Wants, WantsAt}
 use Rattle.crash_free.proofs.Refusing.{ranks_same}
 use Rattle.run_trace.specs.Deliveries.{AreClocked, AreOfRanks, run_before}
-use Rattle.run_trace.specs.Places.{AreFound, StandsAt, IsMadeAt, ArePlaces, choice_of, clock_of, is_try}
+use Rattle.run_trace.specs.Places.{AreFound, StandsAt, IsMadeAt, ArePlaces, clock_of, is_try}
 use Rattle.run_trace.specs.declared.place.Place.{Place}
 
 -- the newest act of a run stands last where the oldest is the first

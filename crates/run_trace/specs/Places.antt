@@ -3,22 +3,11 @@ use Rattle.std.specs.Prelude.{◌≡◌, ℕ, ◌-◌, ◌^◌, min, Bool, true,
 use Rattle.rank_language.specs.Program.{ProgramValue}
 use Rattle.rank_machine.specs.declared.want.Want.{Want}
 use Rattle.rank_machine.specs.declared.want.Want.TheVariants as want
-use Rattle.rank_machine.specs.Acts.{Act, sends, takes, hits, misses, prints}
 use Rattle.rank_machine.specs.Machine.{MachineValue, machine_want}
-use Rattle.crash_free.specs.declared.choice.Choice.{Choice}
-use Rattle.crash_free.specs.declared.choice.Choice.TheVariants as choice
 use Rattle.crash_free.specs.Runs.{Passed, history}
-use Rattle.crash_free.specs.Sim.{SimValue, Allows, AreBegun}
+use Rattle.crash_free.specs.Sim.{SimValue, choice_of, Allows, AreBegun}
 use Rattle.crash_free.specs.Inside.{GoesInside}
 use Rattle.run_trace.specs.declared.place.Place.{Place}
-
--- the choice that makes an act again
-abbrev pub choice_of : Act → Choice
-choice_of (sends dest context tag items) = choice.Next
-choice_of (takes source place) = choice.Take source place
-choice_of (hits source place) = choice.Take source place
-choice_of misses = choice.Miss
-choice_of (prints value) = choice.Next
 
 -- a probe that doesn't wait is wanted
 abbrev pub is_try : Want → Bool

@@ -1,14 +1,13 @@
 //! Where each act of a run was made.
 ghost use Rattle.std.specs.Prelude.{◌≡◌, ◌≤◌, ◌<◌, ◌+◌, IfOk, OnOk, length, min, slice_index_or, slice_set};
 ghost use Rattle.metered.specs.Limits.{most_ranks};
-ghost use Rattle.crash_free.specs.Seen.{act_of};
-ghost use Rattle.run_trace.specs.Places.{AreFound, IsMadeAt, choice_of, greatest_clock, is_try};
+ghost use Rattle.run_trace.specs.Places.{AreFound, IsMadeAt, greatest_clock, is_try};
 ghost use Rattle.run_trace.specs.Clocks.{AreCounted};
 
 mod seen;
 
 use crate::place::Place;
-use crash_free::{Act, Choice, Passed, Sim};
+use crash_free::{Passed, Sim};
 use metered::Heap;
 use metered::limits::MOST_RANKS;
 use rank_language::Program;
@@ -62,7 +61,7 @@ fn made(
     sim.stride(rank, u32::MAX);
     let position = sim.machine(rank).position();
     let tries = is_try(sim.wants(rank));
-    if sim.act(rank, choice_of(&passed.act)).is_err() {
+    if sim.act(rank, passed.act.choice()).is_err() {
         return Err(AllocError);
     }
     if !is_there(sim.acts(), before, passed) {
@@ -99,19 +98,5 @@ fn is_try(want: Want) -> bool
         | Want::Print(_)
         | Want::Halted
         | Want::Faulted(_) => false,
-    }
-}
-
-// The choice that makes the act again.
-fn choice_of(act: &Act) -> Choice
-    ensures { result ≡ choice_of (act_of act.now) }
-{
-    match act {
-        Act::Sends { .. } | Act::Prints(_) => Choice::Next,
-        Act::Takes { source, place } | Act::Hits { source, place } => Choice::Take {
-            source: u32::from(*source),
-            index: *place,
-        },
-        Act::Misses => Choice::Miss,
     }
 }

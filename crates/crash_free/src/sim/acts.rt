@@ -10,8 +10,7 @@ use crate::act::Passed;
 use crate::choice::Choice;
 use crate::not_allowed::NotAllowed;
 use crate::sim::Sim;
-use matching::{Context, Packet, Selector};
-use metered::Heap;
+use matching::{Context, Packet, PacketItems, Selector};
 use rank_machine::Want;
 use rank_machine::laws::{
     law_makes_its_miss, law_makes_its_print, law_makes_its_send, law_wants_of_its_state,
@@ -69,9 +68,10 @@ impl Sim<'_> {
     {
         self.passed.reserve(1)?;
         let machine = &mut self.machines[usize::from(rank)];
-        let items = machine.payload(self.alloc)?;
+        let payload = machine.payload(self.alloc)?;
         // the run keeps the items for good, the packet until it is taken
-        let packet = packet(self.alloc, rank, context, tag, items.as_slice())?;
+        let items = payload.as_slice().to_vec(self.alloc)?;
+        let packet = packet(rank, context, tag, payload);
         self.mail.post(rank, dest, packet)?;
         law_makes_its_send(machine);
         machine.did_send();
@@ -152,24 +152,18 @@ impl Sim<'_> {
 }
 
 // What nothing looks at, clock and number, is 1.
-fn packet(
-    alloc: Heap,
-    source: u8,
-    context: Context,
-    tag: u16,
-    items: &[i64],
-) -> Result<Packet, AllocError>
+fn packet(source: u8, context: Context, tag: u16, payload: PacketItems) -> Packet
     requires tag { tag ≤ greatest_tag context }
-    requires least { least_items context ≤ length items.now }
-    requires most { length items.now ≤ most_items context }
-    ensures { IfOk result (λ packet. packet ≡ record { source = source; clock = 1; number = 1; context = context; tag = tag; items = items.now }) }
+    requires least { least_items context ≤ length payload.items }
+    requires most { length payload.items ≤ most_items context }
+    ensures { result ≡ record { source = source; clock = 1; number = 1; context = context; tag = tag; items = payload.items } }
 {
-    Ok(Packet {
+    Packet {
         source,
         clock: 1,
         number: 1,
         context,
         tag,
-        payload: items.to_vec(alloc)?,
-    })
+        payload,
+    }
 }

@@ -10,14 +10,14 @@ ghost use Rattle.rank_machine.specs.Acts.{room, written, with_variable, with_sta
 
 use crate::status::Status;
 use crate::store::Store;
-use matching::Packet;
+use matching::{Packet, PacketItems};
 use metered::Heap;
 use rank_language::{Buffer, Payload};
 use std::alloc::AllocError;
 
 impl Store {
     /// The items that a send gives; none where their evaluation faults.
-    pub fn items_of(&self, alloc: Heap, payload: &Payload) -> Result<Vec<i64, Heap>, AllocError>
+    pub fn items_of(&self, alloc: Heap, payload: &Payload) -> Result<PacketItems, AllocError>
         requires { IsPayloadWithin (length self.now.variables) (length self.now.arrays) (payload_of payload.now) }
         ensures items { IfOk result (λ items. items.items ≡ or_nothing (items_of self.now (payload_of payload.now))) }
         ensures least { IfOk result (λ items. IfOk (items_of self.now (payload_of payload.now)) (λ _. 1 ≤ length items.items)) }
@@ -25,7 +25,7 @@ impl Store {
     {
         match payload {
             Payload::One(item) => {
-                let mut items = Vec::new(alloc);
+                let mut items = PacketItems::new(alloc);
                 if let Ok(value) = self.value_of(item) {
                     items.push(value)?;
                 }

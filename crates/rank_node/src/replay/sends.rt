@@ -1,7 +1,7 @@
 //! The sends of a rank that replays.
 ghost use Rattle.std.specs.Prelude.{◌≡◌, ◌≢◌, [], Ok, Err, IfOk, IfErr, OnOk, OnErr};
-ghost use Rattle.rank_machine.specs.Wants.{IsLegal};
-ghost use Rattle.rank_machine.specs.Machine.{machine_want};
+ghost use Rattle.rank_machine.specs.Wants.{payload, IsItemOf, IsLegal};
+ghost use Rattle.rank_machine.specs.Machine.{state_of, machine_want};
 
 use crate::fault::NodeFault;
 use crate::running::Running;
@@ -20,11 +20,13 @@ impl<'p, S: Shelf, D> Running<'p, S, D> {
         dest: u8,
         context: Context,
         tag: u16,
+        item: Option<i64>,
         event: Event,
     ) -> Result<Turn, NodeFault>
         requires settled { self.old.pending ≡ [] }
         requires stands { machine_want self.old.machine ≡ Want.Send dest context tag }
         requires legal { IsLegal self.old.machine.store.size (Want.Send dest context tag) }
+        requires item { IsItemOf item (Want.Send dest context tag) (payload (state_of self.old.machine)) }
         ensures turn { IfOk result (λ turn. replay_turn_at self.old event (Want.Send dest context tag) ≡ Ok turn) }
         ensures ok { OnOk result (self.new ≡ replayed_at self.old event (Want.Send dest context tag) self.new.machine) }
         ensures machine { OnOk result (ReplayStepAt self.old event (Want.Send dest context tag) self.new.machine) }
@@ -38,7 +40,7 @@ impl<'p, S: Shelf, D> Running<'p, S, D> {
         if !self.is_before(event) {
             return Err(NodeFault::Replay);
         }
-        let payload = self.machine.payload(self.alloc)?;
+        let payload = self.machine.payload_with(self.alloc, item)?;
         let packet = Packet {
             source: self.stable.rank(),
             clock: self.clock + 1,

@@ -1,10 +1,11 @@
 //! What a rank is asked for in its life.
-ghost use Rattle.std.specs.Prelude.{◌≡◌, ◌≢◌, ◌+◌, ◌<◌, ◌≤◌, true, false, Some, Err, IfOk, IfErr, OnOk, OnErr};
+ghost use Rattle.std.specs.Prelude.{◌≡◌, ◌≢◌, ◌+◌, ◌<◌, ◌≤◌, true, false, Some, Err, option_map, IfSome, IfOk, IfErr, OnOk, OnErr};
 ghost use Rattle.rank_machine.specs.declared.want.Want.TheVariants.{Internal};
 ghost use Rattle.rank_node.specs.Fault.{MayRefuseImage};
 ghost use Rattle.ports.specs.Lanes.{lane_to, put_of};
 ghost use Rattle.rank_threads.specs.Lives.{SameNode};
-ghost use Rattle.rank_threads.specs.Phases.{clock_in, gate_in, misses_only_in, want_in, is_running, settled_of, HasImage, NoneWaits, ReadsRow, SameShelf};
+ghost use Rattle.rank_threads.specs.Phases.{clock_in, gate_in, misses_only_in, want_in, is_running, settled_of};
+ghost use Rattle.rank_threads.specs.Phases.{HasImage, IsWantedIn, NoneWaits, ReadsRow, SameShelf};
 ghost use Rattle.rank_threads.specs.Putting.{Puts};
 ghost use Rattle.rank_threads.specs.Steps.{acts_made, is_print, turn_in};
 ghost use Rattle.rank_threads.specs.Taking.{arrived};
@@ -14,7 +15,7 @@ use crate::phase::{Phase, Went};
 use metered::Heap;
 use plain_logger::Event;
 use ports::{Console, ConsoleState, Tx};
-use rank_machine::Want;
+use rank_machine::Wanted;
 use rank_node::{Frame, NodeFault, Turn};
 use std::alloc::AllocError;
 use std::sync::Wait;
@@ -43,11 +44,13 @@ impl<'p, 'l> Node<'p, 'l> {
         self.phase.misses_only()
     }
 
-    /// What its machine wants next; nothing where the rank is down.
-    pub fn wants(&self) -> Option<Want>
-        ensures { result ≡ want_in self.now.phase }
+    /// What its machine wants next, with what was evaluated to find it; nothing
+    /// where the rank is down.
+    pub fn wanted(&self) -> Option<Wanted>
+        ensures want { option_map (λ wanted. wanted.want) result ≡ want_in self.now.phase }
+        ensures found { IfSome result (IsWantedIn self.now.phase) }
     {
-        self.phase.wants()
+        self.phase.wanted()
     }
 
     /// How many acts it has made.
@@ -96,15 +99,17 @@ impl<'p, 'l> Node<'p, 'l> {
         self.phase.stride(most)
     }
 
-    /// One step of its machine; what it prints goes to the screen.
-    pub fn step(&mut self, screen: &mut ConsoleState) -> Result<Turn, NodeFault>
+    /// One step of its machine, of which this was found; what it prints goes to
+    /// the screen.
+    pub fn step(&mut self, screen: &mut ConsoleState, wanted: Wanted) -> Result<Turn, NodeFault>
+        requires { IsWantedIn self.old.phase wanted }
         ensures answer { result ≢ Err NodeFault.Memory → result ≡ turn_in self.old.phase }
         ensures clock { IfOk result (λ turn. clock_in self.new.phase ≡ clock_in self.old.phase + acts_made (want_in self.old.phase) turn) }
         ensures err { OnErr result (self.new.phase ≡ self.old.phase) }
         ensures quiet { is_print (want_in self.old.phase) ≡ false → screen.new ≡ screen.old }
         ensures same { SameNode self.old self.new }
     {
-        self.phase.step(screen)
+        self.phase.step(screen, wanted)
     }
 
     /// The events of rank `of` whose receiver's clock is above `after`. An `Err`

@@ -18,59 +18,54 @@ fn is_same(act: &Act, other: &Act) -> bool
     ensures { IsTrue result → act_of act.now ≡ act_of other.now }
 {
     match act {
-        Act::Sends {
-            dest,
-            context,
-            tag,
-            items,
-        } => {
-            let Act::Sends {
-                dest: other_dest,
-                context: other_context,
-                tag: other_tag,
-                items: other_items,
-            } = other
-            else {
-                return false;
-            };
-            *dest == *other_dest
-                && *context == *other_context
-                && *tag == *other_tag
-                && has_items(items.as_slice(), other_items.as_slice())
-        }
-        Act::Takes { source, place } => {
-            let Act::Takes {
+        Act::Sends { .. } => is_same_send(act, other),
+        Act::Takes { source, place } => match other {
+            Act::Takes {
                 source: other_source,
                 place: other_place,
-            } = other
-            else {
-                return false;
-            };
-            source == other_source && place == other_place
-        }
-        Act::Hits { source, place } => {
-            let Act::Hits {
+            } => source == other_source && place == other_place,
+            Act::Sends { .. } | Act::Hits { .. } | Act::Misses | Act::Prints(_) => false,
+        },
+        Act::Hits { source, place } => match other {
+            Act::Hits {
                 source: other_source,
                 place: other_place,
-            } = other
-            else {
-                return false;
-            };
-            source == other_source && place == other_place
-        }
-        Act::Misses => {
-            let Act::Misses = other else {
-                return false;
-            };
-            true
-        }
-        Act::Prints(value) => {
-            let Act::Prints(other_value) = other else {
-                return false;
-            };
-            value == other_value
-        }
+            } => source == other_source && place == other_place,
+            Act::Sends { .. } | Act::Takes { .. } | Act::Misses | Act::Prints(_) => false,
+        },
+        Act::Misses => matches!(other, Act::Misses),
+        Act::Prints(value) => match other {
+            Act::Prints(other_value) => value == other_value,
+            Act::Sends { .. } | Act::Takes { .. } | Act::Hits { .. } | Act::Misses => false,
+        },
     }
+}
+
+fn is_same_send(act: &Act, other: &Act) -> bool
+    ensures { IsTrue result → act_of act.now ≡ act_of other.now }
+{
+    let Act::Sends {
+        dest,
+        context,
+        tag,
+        items,
+    } = act
+    else {
+        return false;
+    };
+    let Act::Sends {
+        dest: other_dest,
+        context: other_context,
+        tag: other_tag,
+        items: other_items,
+    } = other
+    else {
+        return false;
+    };
+    *dest == *other_dest
+        && *context == *other_context
+        && *tag == *other_tag
+        && has_items(items.as_slice(), other_items.as_slice())
 }
 
 fn has_items(items: &[i64], others: &[i64]) -> bool

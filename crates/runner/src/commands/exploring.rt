@@ -55,7 +55,8 @@ fn answer_of<'a>(
     program: &Program,
     found: &Explored,
 ) -> Result<String<Heap>, Refusal<'a>>
-    ensures events { IfOk result (λ answer. IfSome job.entry.events (λ number. PlaysOutcome program.now job.entry.ranks found.now.outcomes number (string_bytes answer))) }
+    ensures events { IfOk result (λ answer. IfSome job.entry.events (λ number.
+        PlaysOutcome program.now job.entry.ranks found.now.outcomes number (string_bytes answer))) }
 {
     match job.events {
         Some(number) => events_of(alloc, job, number, program, found),

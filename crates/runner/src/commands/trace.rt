@@ -101,7 +101,8 @@ fn told_of<'a>(
     report: &Report,
 ) -> Result<Said, Refusal<'a>>
     ensures status { IfOk result (λ said. HasStatus report.now.outcome said.status) }
-    ensures events { IfOk result (λ said. job.entry.form ≡ TraceForm.Events → PlaysReport program.now job.entry.run.ranks report.now.outcome job.entry.run.steps said.out.items) }
+    ensures events { IfOk result (λ said. job.entry.form ≡ TraceForm.Events
+        → PlaysReport program.now job.entry.run.ranks report.now.outcome job.entry.run.steps said.out.items) }
 {
     let lines = statement_lines(alloc, text)?;
     let given = Given {

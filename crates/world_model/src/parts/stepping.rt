@@ -9,6 +9,7 @@ use crate::parts::Parts;
 use crate::reply::Reply;
 use checkpoint::MemoryShelf;
 use crash_free::Act;
+use metered::Heap;
 use rank_machine::Want;
 use rank_node::{Running, Turn};
 use std::alloc::AllocError;
@@ -58,7 +59,7 @@ impl<'p> Parts<'p> {
             return Ok(Reply::Refused);
         }
         let clock = running.clock() as usize + 1;
-        let act = effect_of(running)?;
+        let act = effect_of(self.alloc, running)?;
         let passed = self.pass(rank, clock, act)?;
         let Ok(turn) = self.seats.step(rank, &mut self.console) else {
             self.take_back(passed);
@@ -71,7 +72,7 @@ impl<'p> Parts<'p> {
 /// The act of a rank's next step, where others can see it at once: a send or
 /// a print.
 #[tactic(auto, using(crate::proofs::DoingSteps::unmoved, crate::proofs::DoingSteps::waits_behind, crate::proofs::DoingSteps::send_takes))]
-fn effect_of(running: &Running<'_, MemoryShelf, ()>) -> Result<Option<Act>, AllocError>
+fn effect_of(alloc: Heap, running: &Running<'_, MemoryShelf, ()>) -> Result<Option<Act>, AllocError>
     ensures effect { IfOk result (λ act. option_map act_of act ≡ effect_at running.now (machine_want running.now.machine) (turn_of running.now)) }
     ensures memory { OnErr result (takes_memory running.now ≡ true) }
 {
@@ -86,7 +87,7 @@ fn effect_of(running: &Running<'_, MemoryShelf, ()>) -> Result<Option<Act>, Allo
             dest,
             context,
             tag,
-            items: running.payload()?,
+            items: running.payload()?.as_slice().to_vec(alloc)?,
         })),
         Want::Print(value) => Ok(Some(Act::Prints(value))),
         Want::Internal => Ok(None),

@@ -15,6 +15,7 @@ ghost use Rattle.rank_machine.specs.Machine.{HasStage};
 use crate::call::{Call, Kind};
 use crate::fault::MachineFault;
 use crate::store::Store;
+use matching::PacketItems;
 use metered::Heap;
 use rank_language::{Buffer, Collective};
 use std::alloc::AllocError;
@@ -25,13 +26,13 @@ impl Store {
         &self,
         alloc: Heap,
         collective: &Collective,
-    ) -> Result<Vec<i64, Heap>, AllocError>
+    ) -> Result<PacketItems, AllocError>
         requires { IsCollectiveWithin (length self.now.variables) (length self.now.arrays) (collective_of collective.now) }
         ensures items { IfOk result (λ items. items.items ≡ packet_items self.now (collective_of collective.now)) }
         ensures least { IfOk result (λ items. IfOk (called self.now (collective_of collective.now)) (λ _. 3 ≤ length items.items)) }
         ensures most { IfOk result (λ items. length items.items ≤ most_collective_items) }
     {
-        let mut items = Vec::new(alloc);
+        let mut items = PacketItems::new(alloc);
         let Ok(call) = self.called(collective) else {
             return Ok(items);
         };
@@ -51,7 +52,7 @@ impl Store {
     }
 
     // The items of the buffer go behind others.
-    fn append(&self, buffer: &Buffer, items: &mut Vec<i64, Heap>) -> Result<(), AllocError>
+    fn append(&self, buffer: &Buffer, items: &mut PacketItems) -> Result<(), AllocError>
         requires { IsBufferWithin (length self.now.variables) (length self.now.arrays) (buffer_of buffer.now) }
         ensures items { IfOk result (λ _. items.new.items ≡ items.old.items ++ contents self.now (buffer_of buffer.now)) }
         ensures most { length (contents self.now (buffer_of buffer.now)) ≤ most_items }

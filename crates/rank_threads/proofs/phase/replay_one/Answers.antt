@@ -5,12 +5,14 @@ use Rattle.rank_threads.proofs.phase.replay_one.Goals as goal
 -- it answers by the next event
 pub returns-clause-answer : goal.returns-clause-answer
 returns-clause-answer c =
-    again_answers c.args.rank.now.node c.args.rank.now.left c.step.result c.requires c.step.ensures.turn c.step.ensures.refused
+    again_answers c.args.rank.now.node c.args.rank.now.left c.step_wanted.result c.requires.left c.step_wanted.ensures.turn c.step_wanted.ensures.refused
 
 -- the clock goes by what is answered
 pub returns-clause-clock : goal.returns-clause-clock
-returns-clause-clock c = again_ok_clocks c.args.rank.now c.step.new.self c.step.result c.requires c.step.ensures.turn c.step.ensures.ok
+returns-clause-clock c =
+    again_ok_clocks c.args.rank.now c.step_wanted.new.self c.step_wanted.result c.requires.left c.step_wanted.ensures.turn c.step_wanted.ensures.ok
 
 -- it shows nothing but a print
 pub returns-clause-quiet : goal.returns-clause-quiet
-returns-clause-quiet c other = again_quiet screen.ghosts.shows c.args.rank.now.node c.step.result _ _ c.step.ensures.shown c.step.ensures.err_screen other
+returns-clause-quiet c other =
+    again_quiet screen.ghosts.shows c.args.rank.now.node c.step_wanted.result _ _ c.step_wanted.ensures.shown c.step_wanted.ensures.err_screen other

@@ -6,12 +6,14 @@ use Rattle.rank_threads.proofs.phase.step_on.Goals as goal
 -- it answers as the rank that runs does
 pub returns-clause-answer : goal.returns-clause-answer
 returns-clause-answer c =
-    run_answers (refusal_of c.args.rank.now) (turn_of c.args.rank.now) c.step.result c.step.ensures.turn c.step.ensures.refusal c.step.ensures.refused
+    run_answers (refusal_of c.args.rank.now) (turn_of c.args.rank.now) c.step_wanted.result c.step_wanted.ensures.turn c.step_wanted.ensures.refusal
+    c.step_wanted.ensures.refused
 
 -- the clock goes by what is answered
 pub returns-clause-clock : goal.returns-clause-clock
-returns-clause-clock c = run_clocks c.args.rank.now c.step.new.self c.step.result c.step.ensures.turn c.step.ensures.ok
+returns-clause-clock c = run_clocks c.args.rank.now c.step_wanted.new.self c.step_wanted.result c.step_wanted.ensures.turn c.step_wanted.ensures.ok
 
 -- it shows nothing but a print
 pub returns-clause-quiet : goal.returns-clause-quiet
-returns-clause-quiet c other = run_quiet screen.ghosts.shows c.args.rank.now c.step.result _ _ c.step.ensures.shown c.step.ensures.err_screen other
+returns-clause-quiet c other =
+    run_quiet screen.ghosts.shows c.args.rank.now c.step_wanted.result _ _ c.step_wanted.ensures.shown c.step_wanted.ensures.err_screen other

@@ -14,13 +14,14 @@ invariant_of-self-2 c =
     rw (
       c.from.ensures,
       c.in_ok-post.ensures.ok,
-      c.in_ok-packet.ensures,
-      c.as_slice.ensures.value,
+      c.packet-packet.ensures,
       c.push_reserved.ensures.items,
       c.in_ok-reserve.ensures.items,
       c.sends-act.ensures,
       run_push c.self.inside.passed.items _,
-      c.in_ok-items.ensures.items,
+      c.in_ok-items.ensures.items_if_clones_equal (λ x y same. same),
+      c.as_slice.ensures,
+      c.in_ok-payload.ensures.items,
     ) done.kept
 
 pub returns-clause-ok : goal.returns-clause-ok
@@ -37,5 +38,7 @@ returns-clause-ok c =
       c.in_ok-reserve.ensures.items,
       c.sends-act.ensures,
       run_push c.self.inside.passed.items _,
-      c.in_ok-items.ensures.items,
+      c.in_ok-items.ensures.items_if_clones_equal (λ x y same. same),
+      c.as_slice.ensures,
+      c.in_ok-payload.ensures.items,
     ) done.allowed

@@ -20,7 +20,7 @@ pub invariant_of-self : goal.invariant_of-self
 invariant_of-self c =
     let x = collective_of c.args.collective.now in
     let t = c.in-Err.ensures.fault c.in-Err.fault refl in
-    let e = head_taken c.self.inside.store x c.in-Ok.call c.deref.ensures.value c.packet.view_is t.0 in
+    let e = head_taken c.self.inside.store x c.in-Ok.call c.deref.ensures c.packet.view_is t.0 in
     refused_machine _ x (call_of c.self.inside.store x c.in-Ok.call) c.args.packet.now.items c.in-Err.fault _ c.self.invariant e t.1
 
 pub invariant_of-self-then-is_last : goal.invariant_of-self-then-is_last
@@ -28,7 +28,7 @@ invariant_of-self-then-is_last c =
     let r = c.requires in
     let i = seen_part c.self.view_is r.at_line r.line r.behind (sym c.in-Ok.ensures.call) c.in-Ok.ensures.ordinal in
     let h = c.in-Ok-collect.ensures in
-    let e = head_taken c.self.inside.store (collective_of c.args.collective.now) c.in-Ok.call c.deref.ensures.value c.packet.view_is h.taken.1 in
+    let e = head_taken c.self.inside.store (collective_of c.args.collective.now) c.in-Ok.call c.deref.ensures c.packet.view_is h.taken.1 in
     taken_machine c.args.packet.now c.self.view_is c.self.invariant i r.receiving e h.taken.2 h.variables h.lengths (sym c.if-is_last.ensures.last)
 
 pub invariant_of-self-else-is_last : goal.invariant_of-self-else-is_last
@@ -36,7 +36,7 @@ invariant_of-self-else-is_last c =
     let r = c.requires in
     let i = seen_part c.self.view_is r.at_line r.line r.behind (sym c.in-Ok.ensures.call) c.in-Ok.ensures.ordinal in
     let h = c.in-Ok-collect.ensures in
-    let e = head_taken c.self.inside.store (collective_of c.args.collective.now) c.in-Ok.call c.deref.ensures.value c.packet.view_is h.taken.1 in
+    let e = head_taken c.self.inside.store (collective_of c.args.collective.now) c.in-Ok.call c.deref.ensures c.packet.view_is h.taken.1 in
     taken_machine c.args.packet.now c.self.view_is c.self.invariant i r.receiving e h.taken.2 h.variables h.lengths (sym c.if-is_last.ensures.last)
 
 pub returns-in-Err-clause-state : goal.returns-in-Err-clause-state
@@ -44,7 +44,7 @@ returns-in-Err-clause-state c =
     let r = c.requires in
     let i = seen_part c.self.view_is r.at_line r.line r.behind (sym c.in-Ok.ensures.call) c.in-Ok.ensures.ordinal in
     let t = c.in-Err.ensures.fault c.in-Err.fault refl in
-    let e = head_taken c.self.inside.store (collective_of c.args.collective.now) c.in-Ok.call c.deref.ensures.value c.packet.view_is t.0 in
+    let e = head_taken c.self.inside.store (collective_of c.args.collective.now) c.in-Ok.call c.deref.ensures c.packet.view_is t.0 in
     refused_state c.args.packet.now c.self.view_is i r.receiving e t.1
 
 pub returns-in-Ok-collect-clause-state : goal.returns-in-Ok-collect-clause-state
@@ -52,7 +52,7 @@ returns-in-Ok-collect-clause-state c =
     let r = c.requires in
     let i = seen_part c.self.view_is r.at_line r.line r.behind (sym c.in-Ok.ensures.call) c.in-Ok.ensures.ordinal in
     let h = c.in-Ok-collect.ensures in
-    let e = head_taken c.self.inside.store (collective_of c.args.collective.now) c.in-Ok.call c.deref.ensures.value c.packet.view_is h.taken.1 in
+    let e = head_taken c.self.inside.store (collective_of c.args.collective.now) c.in-Ok.call c.deref.ensures c.packet.view_is h.taken.1 in
     taken_state c.args.packet.now c.self.view_is i r.receiving e h.taken.2 (sym c.if-is_last.ensures.last)
 
 pub returns-else-is_last-clause-state : goal.returns-else-is_last-clause-state
@@ -60,5 +60,5 @@ returns-else-is_last-clause-state c =
     let r = c.requires in
     let i = seen_part c.self.view_is r.at_line r.line r.behind (sym c.in-Ok.ensures.call) c.in-Ok.ensures.ordinal in
     let h = c.in-Ok-collect.ensures in
-    let e = head_taken c.self.inside.store (collective_of c.args.collective.now) c.in-Ok.call c.deref.ensures.value c.packet.view_is h.taken.1 in
+    let e = head_taken c.self.inside.store (collective_of c.args.collective.now) c.in-Ok.call c.deref.ensures c.packet.view_is h.taken.1 in
     taken_state c.args.packet.now c.self.view_is i r.receiving e h.taken.2 (sym c.if-is_last.ensures.last)

@@ -8,7 +8,7 @@ returns-then-len-room-clause-state c =
     let r = c.requires in
     let i = seen_taking c.self.view_is (subst IsPacketValue c.packet.view_is c.packet.invariant) r.at_line r.line.2 r.receiving in
     let Size : PacketValue → ℕ = λ z. length z.items in
-    let size : c.len.result ≡ length c.args.packet.now.items = c.len.ensures ∙ c.packet.inside.payload.ok.0 ∙ ap Size c.packet.view_is in
+    let size : c.len.result ≡ length c.args.packet.now.items = c.len.ensures.value ∙ ap Size c.packet.view_is in
     long_state c.self.view_is i (rw (c.room.ensures, size) at c.if-len-room.true)
 
 pub invariant_of-self-2 : goal.invariant_of-self-2
@@ -22,5 +22,5 @@ returns-clause-state c =
     let r = c.requires in
     let i = seen_taking c.self.view_is (subst IsPacketValue c.packet.view_is c.packet.invariant) r.at_line r.line.2 r.receiving in
     let Size : PacketValue → ℕ = λ z. length z.items in
-    let size : c.len.result ≡ length c.args.packet.now.items = c.len.ensures ∙ c.packet.inside.payload.ok.0 ∙ ap Size c.packet.view_is in
+    let size : c.len.result ≡ length c.args.packet.now.items = c.len.ensures.value ∙ ap Size c.packet.view_is in
     fit_state c.self.view_is i (rw (c.room.ensures, size) at c.if-len-room.false) c.take.ensures.stored

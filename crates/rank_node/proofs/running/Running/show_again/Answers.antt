@@ -1,8 +1,6 @@
-use Rattle.std.proofs.Common.{rules, subst}
-use Rattle.std.specs.Prelude.{IfSome}
+use Rattle.std.proofs.Common.{rules}
 use Rattle.matching.specs.Matching.{is_named}
 use Rattle.matching.specs.Queue.{first_place}
-use Rattle.rank_machine.specs.Machine.{machine_want, IsShowing}
 use Rattle.rank_node.proofs.Found.{found-at, was_shown}
 use Rattle.rank_node.proofs.Joining.{made_next}
 use Rattle.rank_node.proofs.Sent.{log_later}

@@ -8,5 +8,6 @@ use Rattle.run_picture.proofs.drawing.escaped.put_escaped.Goals as goal
 
 pub returns : goal.returns
 returns c =
-    let end = YieldsList-end (YieldsList-from_chars c.args.text.now c.utf8.text cc) c.loop-letter.yielded _ c.loop-letter.yielded_by _ _ c.in-None.is c.next.ensures.steps in
+    let end = YieldsList-end (YieldsList-from_chars c.args.text.now c.utf8.text cc) c.loop-letter.yielded _ c.loop-letter.yielded_by _ _ c.in-None.is
+    c.next.ensures.steps in
     c.loop-letter.invariant ∙ ap (λ letters. string_bytes c.args.to.now ++ flat_map escaped letters) (sym (map-id c.loop-letter.yielded) ∙ end.0)
