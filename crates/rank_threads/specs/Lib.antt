@@ -17,3 +17,4 @@ pub mod Orders
 pub mod Steps
 pub mod Endings
 pub mod Turns
+pub mod Waits

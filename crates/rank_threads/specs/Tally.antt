@@ -50,6 +50,10 @@ after_steps t made most is_act = record t {
   is_spent = nat_le most (more t.steps made) || t.is_spent;
 }
 
+-- after a wait in which others had the rank's core: it counts as 8 idle turns
+abbrev pub after_wait : Tally → Tally
+after_wait t = record t { idle = more t.idle 8 }
+
 -- this idle turn is the last of `most` in succession
 abbrev pub is_last_idle : Tally → ℕ → Bool
 is_last_idle t most = nat_le most (more t.idle 1)

@@ -32,6 +32,7 @@ mod stepping;
 mod taking;
 mod tally;
 mod turn;
+mod waiting;
 
 pub use hold::Hold;
 pub use report::{Report, RunFault};

@@ -11,11 +11,11 @@ use crate::life::Life;
 use crate::shared::{Shared, Stop};
 use crate::station::Station;
 use crate::turn::{After, begin, finish, settled};
+use crate::waiting::Patience;
 use ports::ConsoleState;
 use rank_language::Program;
 use rank_node::NodeFault;
 use std::sync::Wait;
-use std::thread;
 
 /// Plays a life, until the rank crashes or leaves. The rank reads the program
 /// for itself: all that a crash loses is of this thread alone. Where all were
@@ -56,6 +56,7 @@ fn make_turns<'p, 'l, W: Wait, H: Hold>(
     ensures same { SamePlace life.entry result.0 }
 {
     let mut life = life;
+    let mut patience = Patience::new();
     for _ in rt.forever() {
         if let Some(stopped) = shared.stopped() {
             return (life, Ending::Left(Why::Told(stopped)));
@@ -71,8 +72,12 @@ fn make_turns<'p, 'l, W: Wait, H: Hold>(
                 return (life, Ending::Crashed(killed));
             }
             After::Leave(why) => return (life, Ending::Left(why)),
-            After::Turn { is_idle: false } => {}
-            After::Turn { is_idle: true } => thread::yield_now(),
+            After::Turn { is_idle: false } => patience.found(),
+            After::Turn { is_idle: true } => {
+                if patience.wait() {
+                    life.tally.count_wait();
+                }
+            }
         }
     }
     unreachable!()

@@ -1,11 +1,15 @@
 //! What a run counts of a rank over all its lives.
 ghost use Rattle.std.specs.Prelude.{◌≡◌, true, false, Some, slice_index_or, slice_set};
-ghost use Rattle.rank_threads.specs.Tally.{new_tally, one_more, begun_again, after_steps, is_last_idle, after_idle};
+ghost use Rattle.rank_threads.specs.Tally.{new_tally, one_more, begun_again, after_steps, is_last_idle, after_idle, after_wait};
 
 use crate::ending::Killed;
 use crate::shared::{Marked, Stop, Stopped, TakenBack};
 use metered::limits::MOST_RANKS;
 use rank_node::NodeFault;
+
+/// A wait in which others had the rank's core counts as so many idle turns:
+/// about as many as would have gone by meanwhile.
+const TURNS_OF_WAIT: u32 = 8;
 
 /// What a run counts of a rank over all its lives.
 #[derive(Clone, Copy, Debug)]
@@ -159,6 +163,14 @@ impl Tally {
         ensures { self.new ≡ record self.old { idle = 0 } }
     {
         self.idle = 0;
+    }
+
+    /// Others had the rank's core after an idle turn, which counts as some
+    /// idle turns more.
+    pub fn count_wait(&mut self)
+        ensures { self.new ≡ after_wait self.old }
+    {
+        self.idle = self.idle.saturating_add(TURNS_OF_WAIT);
     }
 
     /// An idle turn is counted. Answers whether it is the last of `most` in

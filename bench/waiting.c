@@ -1,0 +1,120 @@
+// How ranks may wait for each other: a model of ftmpi's turns on threads, and nothing else of it. bench/waiting says what for.
+#define _GNU_SOURCE
+#include <linux/futex.h>
+#include <pthread.h>
+#include <sched.h>
+#include <stdatomic.h>
+#include <stdio.h>
+#include <stdlib.h>
+#include <sys/syscall.h>
+#include <time.h>
+#include <unistd.h>
+
+enum { MOST_RANKS = 64 };
+
+// What a rank's act takes, and a turn in which it finds nothing.
+static const double ACT = 600, TURN = 80;
+
+struct Bell {
+    _Alignas(64) _Atomic unsigned rung;
+    _Atomic unsigned is_parked;
+};
+
+static struct Bell bells[MOST_RANKS];
+static pthread_barrier_t gate;
+static int ranks, rounds;
+// So many looks before a core is given away; so many waits without looks after some in vain; so many yields before a
+// sleep, or none for no sleep.
+static int looks, rests, yields;
+
+static double clock_of(clockid_t clock) {
+    struct timespec time;
+    clock_gettime(clock, &time);
+    return time.tv_sec * 1e9 + time.tv_nsec;
+}
+
+static void work(double nanoseconds) {
+    double end = clock_of(CLOCK_MONOTONIC) + nanoseconds;
+    while (clock_of(CLOCK_MONOTONIC) < end) {
+    }
+}
+
+static void futex(_Atomic unsigned *word, int operation, unsigned value) {
+    syscall(SYS_futex, word, operation, value, NULL, NULL, 0);
+}
+
+static void post(int dest) {
+    work(ACT);
+    atomic_fetch_add(&bells[dest].rung, 1);
+    if (atomic_load(&bells[dest].is_parked)) futex(&bells[dest].rung, FUTEX_WAKE_PRIVATE, 1);
+}
+
+static void sleep_until_rung(struct Bell *bell, unsigned taken) {
+    atomic_store(&bell->is_parked, 1);
+    futex(&bell->rung, FUTEX_WAIT_PRIVATE, taken);
+    atomic_store(&bell->is_parked, 0);
+}
+
+static void take(int rank, unsigned *taken) {
+    static _Thread_local int resting;
+    struct Bell *bell = &bells[rank];
+    int most = resting > 0 ? 0 : looks;
+    if (resting > 0) resting--;
+    for (int vain = 0; atomic_load(&bell->rung) == *taken; vain++) {
+        work(TURN);
+        if (vain < most) {
+            __builtin_ia32_pause();
+            continue;
+        }
+        if (most > 0) resting = rests;
+        if (yields == 0 || vain < most + yields) {
+            sched_yield();
+        } else {
+            sleep_until_rung(bell, *taken);
+        }
+    }
+    (*taken)++;
+    work(ACT);
+}
+
+// As a barrier is made: rank 0 hears from all others, and then tells them. Of two ranks that is a round trip.
+static void *live(void *argument) {
+    int rank = (int)(long)argument;
+    unsigned taken = 0;
+    pthread_barrier_wait(&gate);
+    for (int round = 0; round < rounds; round++) {
+        if (rank == 0) {
+            for (int other = 1; other < ranks; other++) take(0, &taken);
+            for (int other = 1; other < ranks; other++) post(other);
+        } else {
+            post(0);
+            take(rank, &taken);
+        }
+    }
+    pthread_barrier_wait(&gate);
+    return NULL;
+}
+
+int main(int count, char **words) {
+    if (count != 6) {
+        fprintf(stderr, "waiting RANKS ROUNDS LOOKS RESTS YIELDS\n");
+        return 3;
+    }
+    ranks = atoi(words[1]);
+    rounds = atoi(words[2]);
+    looks = atoi(words[3]);
+    rests = atoi(words[4]);
+    yields = atoi(words[5]);
+    pthread_barrier_init(&gate, NULL, ranks + 1);
+    for (long rank = 0; rank < ranks; rank++) {
+        pthread_t thread;
+        if (pthread_create(&thread, NULL, live, (void *)rank) != 0) return 4;
+    }
+    pthread_barrier_wait(&gate);
+    double begin = clock_of(CLOCK_MONOTONIC), spent = clock_of(CLOCK_PROCESS_CPUTIME_ID);
+    pthread_barrier_wait(&gate);
+    double took = clock_of(CLOCK_MONOTONIC) - begin;
+    spent = clock_of(CLOCK_PROCESS_CPUTIME_ID) - spent;
+    printf("%.2f %.2f\n", took / rounds / 1000, spent / rounds / 1000);
+    return 0;
+}
