@@ -3,7 +3,7 @@ use Rattle.std.specs.Prelude.{ℕ, nat_le, ◌==◌, ◌&&◌, Bool, not, if◌t
 
 -- so often in a row a rank looks anew before it gives its core away
 abbrev pub most_looks : ℕ
-most_looks = 30
+most_looks = 64
 
 -- so many waits go by without looks after some in vain
 abbrev pub waits_without : ℕ

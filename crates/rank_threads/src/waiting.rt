@@ -9,7 +9,7 @@ use std::thread;
 /// So often in a row a rank looks anew before it gives its core away: what it
 /// waits for is mostly there within some microseconds, if the other rank has a
 /// core too.
-const LOOKS: u32 = 30;
+const LOOKS: u32 = 64;
 
 /// So many waits go by without such looks after some that were in vain.
 const RESTS: u32 = 128;
