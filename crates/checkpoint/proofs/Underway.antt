@@ -1,16 +1,16 @@
 -- What is done and gathered of a collective: the parts are few, so that a byte holds each of both numbers, and no more values
 -- can be gathered than there are ranks.
 use Rattle.std.proofs.Common.{◌≡◌, ℕ, zero, suc, ◌+◌, ◌<◌, ◌≤◌, ℤ, Bool, true, false, List, [], ◌∷◌, ◌++◌, length, map, Option}
-use Rattle.std.proofs.Common.{Some, None, Result, Ok, Err, refl, arith}
+use Rattle.std.proofs.Common.{Some, None, Result, Ok, refl, arith}
 use Rattle.std.specs.Prelude.{nat_lt, nat_le, ◌==◌, if◌then◌else◌}
 use Rattle.std.proofs.lemmas.Bool.{leb-false, ltb-true, lt-ltb, eqb-true, eq-eqb, and_parts, and_from}
 use Rattle.std.proofs.lemmas.List.{length-append, length-map}
 use Rattle.metered.specs.Limits.{most_ranks}
 use Rattle.rank_language.specs.Program.{ProgramValue}
 use Rattle.rank_machine.specs.declared.status.Status.{Status}
-use Rattle.rank_machine.specs.Collectives.{Kind, barriers, broadcasts, folds, Call, Part, gives, gets, ends, others, parts, parts_among}
+use Rattle.rank_machine.specs.Collectives.{Kind, barriers, broadcasts, folds, Call, gives, gets, ends, others, parts, parts_among}
 use Rattle.rank_machine.specs.Values.{Store}
-use Rattle.rank_machine.specs.Machine.{MachineValue, gathered_by, stages, gathers, HasStage}
+use Rattle.rank_machine.specs.Machine.{MachineValue, gathered_by, stages, HasStage}
 use Rattle.checkpoint.specs.declared.fault.ImageFault.{ImageFault}
 use Rattle.checkpoint.specs.declared.fault.ImageFault.TheVariants.{Version, Short, Long, Field, WrongProgram, Memory}
 use Rattle.checkpoint.specs.Image.{Standing, call_of, is_underway, lengths_of, machine_of}

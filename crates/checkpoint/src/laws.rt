@@ -1,5 +1,5 @@
 //! Laws of images, for callers to cite.
-ghost use Rattle.std.specs.Prelude.{◌≡◌, ◌<◌, ℕ, List, Ok, slice_index};
+ghost use Rattle.std.specs.Prelude.{◌≡◌, ℕ, List, Ok, slice_index};
 ghost use Rattle.rank_language.specs.Program.{ProgramValue};
 ghost use Rattle.checkpoint.specs.declared.format.Format.{Format};
 ghost use Rattle.checkpoint.specs.declared.format.Format.TheVariants.{One, Two};

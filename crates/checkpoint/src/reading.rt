@@ -1,5 +1,5 @@
 //! Reads the numbers and values of an image.
-ghost use Rattle.std.specs.Prelude.{◌≡◌, ◌<◌, ◌≤◌, length, nat_le, IfOk, FitsSigned};
+ghost use Rattle.std.specs.Prelude.{◌≡◌, ◌<◌, ◌≤◌, length, IfOk, FitsSigned};
 ghost use Rattle.std.specs.Int.{w64};
 ghost use Rattle.metered.specs.Limits.{greatest_clock};
 ghost use Rattle.matching.specs.PacketValue.{greatest_tag, least_items, most_items};

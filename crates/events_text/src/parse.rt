@@ -1,7 +1,6 @@
 //! A text is read line by line.
-ghost use Rattle.std.specs.Prelude.{◌≡◌, ℕ, Ok, Err, IfOk, OnOk};
-ghost use Rattle.text_lines.specs.Pieces.{pieces_of};
-ghost use Rattle.events_text.specs.Events.{behind_events, events_from, events_of, onto_event};
+ghost use Rattle.std.specs.Prelude.{◌≡◌, ℕ, Ok, Err, IfOk};
+ghost use Rattle.events_text.specs.Events.{events_of};
 ghost use Rattle.events_text.specs.declared.fault.EventsFault.TheVariants.{Fault};
 ghost use Rattle.events_text.specs.declared.fault.EventsFaultKind.{EventsFaultKind};
 

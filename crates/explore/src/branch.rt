@@ -1,5 +1,5 @@
 //! Runs that are still to be searched.
-ghost use Rattle.std.specs.Prelude.{◌≡◌, ◌<◌, ◌≤◌, [], IfOk, OnOk, length, sum, slice_index};
+ghost use Rattle.std.specs.Prelude.{◌≡◌, ◌<◌, ◌≤◌, IfOk, OnOk, length, sum, slice_index};
 ghost use Rattle.metered.specs.Limits.{most_ranks};
 ghost use Rattle.crash_free.specs.Sim.{Allows, Simulates};
 ghost use Rattle.crash_free.specs.Wanted.{StandsAtAct};

@@ -5,7 +5,7 @@ ghost use Rattle.crash_free.specs.Sim.{Simulates};
 ghost use Rattle.explore.specs.Counting.{GoesBeyond};
 ghost use Rattle.explore.specs.Counts.{Counts, OneHasNone, PlaysCounted};
 ghost use Rattle.explore.specs.Met.{AddsAtMost, WasMet};
-ghost use Rattle.explore.specs.Moves.{AreOfRanks, HasAll};
+ghost use Rattle.explore.specs.Moves.{AreOfRanks};
 ghost use Rattle.explore.specs.Outcomes.{IsAmong};
 ghost use Rattle.explore.specs.Searching.{AreAlike, BranchesOff, HaveLeft, PlaysOn, Remembers};
 ghost use Rattle.explore.specs.Stills.{AllStill};

@@ -1,6 +1,5 @@
 //! The logger that threads share: sixteen ranks, each on a thread of its own.
-ghost use Rattle.std.specs.Prelude.{◌≡◌, ◌<◌, ◌≤◌, length, vec_len};
-ghost use Rattle.metered.specs.Limits.{most_ranks};
+ghost use Rattle.std.specs.Prelude.{◌≡◌, ◌<◌, length};
 ghost use Rattle.event_logger.specs.Desks.{AreDesks, IsSameDesk};
 
 use event_logger::{Counts, Desk, Ledger, Logger};

@@ -1,5 +1,5 @@
 //! The inbox of a rank.
-ghost use Rattle.std.specs.Prelude.{◌≡◌, ℕ, ◌+◌, ◌*◌, ◌<◌, ◌≤◌, [], length, replicate, remove, slice_get, position};
+ghost use Rattle.std.specs.Prelude.{◌≡◌, ◌+◌, ◌*◌, ◌<◌, ◌≤◌, [], length, replicate, slice_get, position};
 ghost use Rattle.std.specs.Prelude.{Some, None, true, IfOk, IfErr, IfSome, OnOk, OnErr, All, AllPairs};
 ghost use Rattle.std.specs.Bool.{OnTrue};
 ghost use Rattle.std.specs.List.{list_all};

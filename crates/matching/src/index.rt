@@ -1,5 +1,5 @@
 //! The places at which each label's packets wait.
-ghost use Rattle.std.specs.Prelude.{◌≡◌, ℕ, Bool, ◌≤◌, ◌&&◌, ◌||◌, ◌==◌, not, true, false, None, IfSome, OnOk, OnErr};
+ghost use Rattle.std.specs.Prelude.{◌≡◌, ℕ, ◌≤◌, ◌&&◌, ◌||◌, ◌==◌, not, true, false, None, IfSome, OnOk, OnErr};
 ghost use Rattle.matching.specs.declared.label.Label.{Label};
 ghost use Rattle.matching.specs.Label.{names, labels};
 ghost use Rattle.matching.specs.Index.{has};

@@ -1,5 +1,5 @@
 //! Payload logs: what is held for two destinations that are used in turn.
-ghost use Rattle.std.specs.Prelude.{◌≡◌, ◌<◌, ◌≤◌, length};
+ghost use Rattle.std.specs.Prelude.{◌≡◌, ◌<◌, length};
 
 use crate::payload_logs::{Step, next_item, take_step};
 use metered::Heap;

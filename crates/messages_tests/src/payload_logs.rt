@@ -1,6 +1,5 @@
 //! Payload logs: what is kept for two destinations that are used in turn.
-ghost use Rattle.std.specs.Prelude.{◌≡◌, ◌<◌, ◌≤◌, length};
-ghost use Rattle.payload_log.specs.Backlog.{backlog};
+ghost use Rattle.std.specs.Prelude.{◌≡◌, ◌<◌, length};
 
 use crate::fixtures::packet;
 use matching::Context;

@@ -1,7 +1,7 @@
 //! A line's bytes, before its tokens are looked at.
 ghost use Rattle.std.specs.Prelude.{◌≡◌};
 ghost use Rattle.rank_grammar.specs.Tokens.{is_word_byte};
-ghost use Rattle.rank_checker.specs.Lines.{begins_comment, front_word, is_keyword, is_skipped, is_statement, is_text};
+ghost use Rattle.rank_checker.specs.Lines.{front_word, is_skipped, is_statement, is_text};
 
 use rank_grammar::Token;
 use rank_grammar::words::reserved_token;

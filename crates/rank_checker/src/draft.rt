@@ -5,8 +5,8 @@ ghost use Rattle.rank_grammar.specs.SeenForms.{form_seen};
 ghost use Rattle.rank_checker.specs.declared.fault.ParseFault.TheVariants.{Fault, Memory};
 ghost use Rattle.rank_checker.specs.declared.fault.ProgramFault.{ProgramFault};
 ghost use Rattle.rank_checker.specs.Faults.{IsFaultOf, IsText};
-ghost use Rattle.rank_checker.specs.Scope.{IsWhole, after_all, nothing_yet};
-ghost use Rattle.rank_checker.specs.SeenLines.{arrays_seen, forms_seen};
+ghost use Rattle.rank_checker.specs.Scope.{IsWhole};
+ghost use Rattle.rank_checker.specs.SeenLines.{forms_seen};
 ghost use Rattle.rank_checker.specs.Verdict.{reading_of};
 ghost use Rattle.rank_checker.specs.Progress.{HasTables, IsLed, Reads, ended, fresh, going, reader_seen, step, stepped, taken};
 

@@ -3,7 +3,7 @@ ghost use Rattle.std.specs.Prelude.{◌≡◌, ◌∷◌, OnOk, OnErr};
 ghost use Rattle.std.specs.Str.{bytes_eq};
 ghost use Rattle.rank_grammar.specs.Forms.{array_form, else_form, end_form, var_form};
 ghost use Rattle.rank_grammar.specs.SeenForms.{form_seen};
-ghost use Rattle.rank_checker.specs.Scope.{after, is_array, is_declared, is_name_in, is_variable, nothing_yet};
+ghost use Rattle.rank_checker.specs.Scope.{after, is_array, is_declared, is_variable, nothing_yet};
 ghost use Rattle.rank_checker.specs.SeenLines.{opened_seen, scope_seen};
 
 use metered::Heap;

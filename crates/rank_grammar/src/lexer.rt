@@ -3,7 +3,7 @@
 ghost use Rattle.std.specs.Prelude.{◌≡◌, ℕ, List, ◌∷◌, IfOk, IfSome, Some};
 ghost use Rattle.rank_grammar.specs.declared.token.Token as token;
 ghost use Rattle.rank_grammar.specs.Lexes.{Lexes};
-ghost use Rattle.rank_grammar.specs.Tokens.{is_letter, is_digit, is_word_byte, is_sign, with_digit, word_or_name, lone_sign, with_equal, single, listed};
+ghost use Rattle.rank_grammar.specs.Tokens.{is_letter, is_digit, is_word_byte, is_sign, with_digit, word_or_name, lone_sign, with_equal, single};
 ghost use Rattle.rank_grammar.specs.Tokens.{begun, grown, flushed, and_after, tokens_from, tokens_of};
 ghost use Rattle.rank_grammar.specs.SeenTokens.{pending_of, pending_in, flush_of, from_next, tokens_in};
 

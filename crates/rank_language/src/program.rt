@@ -10,7 +10,7 @@ ghost use Rattle.rank_checker.specs.SeenLines.{arrays_seen, forms_seen};
 ghost use Rattle.rank_language.specs.Correct.{IsOfForms, IsProgramOf};
 ghost use Rattle.rank_language.specs.Named.{forms_of};
 ghost use Rattle.rank_printer.specs.Canonical.{program_text};
-ghost use Rattle.std.specs.Prelude.{[], List, Err, IfErr, IfOk, ◌≡◌, ◌<◌, ◌≤◌, IfSome, IsNone, ◌↔◌, length, slice_get, Bool};
+ghost use Rattle.std.specs.Prelude.{List, Err, IfErr, IfOk, ◌≡◌, ◌<◌, ◌≤◌, IfSome, IsNone, ◌↔◌, length, slice_get, Bool};
 ghost use Rattle.rank_language.specs.Block.{size, lines_at, remaining, Leads, next_position};
 ghost use Rattle.rank_language.specs.Seen.{line_of, line_in};
 ghost use Rattle.rank_language.specs.Program.{block_of, AllSized, IsPlaced};

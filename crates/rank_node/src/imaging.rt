@@ -17,7 +17,7 @@ use metered::Heap;
 use std::alloc::AllocError;
 
 impl<'p, S: Shelf, D> Running<'p, S, D> {
-    ghost use Rattle.rank_node.specs.Image.{IsImaged, KeepsImage, image_of, with_shelf};
+    ghost use Rattle.rank_node.specs.Image.{IsImaged, KeepsImage, image_of};
 
     /// Takes an image of the rank, in the place of the last one on its shelf.
     /// Each rank of which it accepted something is due a word of how much, so

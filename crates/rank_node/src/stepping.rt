@@ -1,5 +1,5 @@
 //! The steps of a rank that runs.
-ghost use Rattle.std.specs.Prelude.{◌≡◌, ◌≢◌, ℕ, ◌+◌, ◌<◌, ◌≤◌, Some, None, true, IfOk, IfErr, OnOk, OnErr, IsErrOf};
+ghost use Rattle.std.specs.Prelude.{◌≡◌, ◌≢◌, ◌+◌, ◌<◌, ◌≤◌, Some, None, true, IfOk, IfErr, OnOk, OnErr, IsErrOf};
 ghost use Rattle.metered.specs.Limits.{greatest_clock, most_events};
 ghost use Rattle.payload_log.specs.Backlog.{backlog, next_number};
 ghost use Rattle.rank_machine.specs.Wants.{payload, IsItemOf, IsLegal};

@@ -1,5 +1,5 @@
 //! What is made once more where memory was refused.
-ghost use Rattle.std.specs.Prelude.{◌≡◌, ◌≤◌, length, IfOk};
+ghost use Rattle.std.specs.Prelude.{◌≡◌, ◌≤◌, IfOk};
 
 use matching::{Context, Packet, PacketItems};
 use metered::Heap;

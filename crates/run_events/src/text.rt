@@ -1,6 +1,6 @@
 //! The text of the events of a run.
-ghost use Rattle.std.specs.Prelude.{◌≡◌, ◌≤◌, true, Ok, IfOk, length, string_bytes};
-ghost use Rattle.metered.specs.Limits.{most_event_lines, most_ranks};
+ghost use Rattle.std.specs.Prelude.{◌≡◌, ◌≤◌, true, Ok, IfOk, string_bytes};
+ghost use Rattle.metered.specs.Limits.{most_ranks};
 ghost use Rattle.events_text.specs.Events.{events_of};
 ghost use Rattle.events_text.specs.Written.{events_text};
 ghost use Rattle.run_events.specs.Plays.{IsPlayText};

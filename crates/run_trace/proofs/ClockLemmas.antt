@@ -1,11 +1,11 @@
 -- Clocks of ranks, counted act by act.
-use Rattle.std.proofs.Common.{◌≡◌, ℕ, zero, suc, ◌+◌, ◌<◌, List, [], ◌∷◌, ◌++◌, ◌⊎◌, inl, inr, refl, sym, ap, ◌∙◌, arith, length, min, replicate}
+use Rattle.std.proofs.Common.{◌≡◌, ℕ, ◌+◌, ◌<◌, List, [], ◌∷◌, ◌++◌, ◌⊎◌, inl, inr, refl, sym, ap, ◌∙◌, arith, length, min, replicate}
 use Rattle.std.proofs.lemmas.Bool.{cases_eq}
 use Rattle.std.specs.Prelude.{slice_index_or, slice_set}
 use Rattle.std.proofs.lemmas.Bool.{eq-eqb, ne_eqb}
 use Rattle.std.proofs.lemmas.List.{length_push, get_or-set_same, get_or-set_other, get_or-replicate}
 use Rattle.metered.specs.Limits.{most_ranks}
-use Rattle.crash_free.specs.Runs.{Passed, history, add_if, looked_up, sends_from}
+use Rattle.crash_free.specs.Runs.{Passed, history, looked_up, sends_from}
 use Rattle.run_trace.specs.Places.{clock_of, greatest_clock}
 use Rattle.run_trace.specs.Clocks.{AreCounted}
 

@@ -1,8 +1,8 @@
 -- Numbers of so many digits, and numbers with spaces in front.
-use Rattle.std.proofs.Common.{◌≡◌, ℕ, zero, suc, ◌+◌, ◌*◌, ◌^◌, ◌<◌, ◌≤◌, ◌-◌, ◌/◌, ◌%◌, List, [], ◌∷◌, ◌++◌, Bool, true, false}
-use Rattle.std.proofs.Common.{length, length-append, refl, sym, ap, ◌∙◌, arith}
+use Rattle.std.proofs.Common.{◌≡◌, ℕ, zero, suc, ◌+◌, ◌*◌, ◌^◌, ◌<◌, ◌≤◌, ◌-◌, ◌/◌, ◌%◌, List, [], ◌∷◌, ◌++◌}
+use Rattle.std.proofs.Common.{length, length-append, refl, ap, ◌∙◌, arith}
 use Rattle.std.proofs.lemmas.Fmt.{decimal_step, decimal_digit, length-decimal-le, decimal_nonempty}
-use Rattle.std.specs.Fmt.{decimal, styled_decimal, styled_text, padded, take_chars, char_count, padded_integral, format_spec}
+use Rattle.std.specs.Fmt.{decimal, styled_decimal, styled_text, padded, take_chars, char_count, format_spec}
 use Rattle.std.proofs.Padding.{padded_integral_right, styled_decimal_is, repeat_ascii}
 use Rattle.std.specs.Prelude.{codes}
 use Rattle.std.proofs.lemmas.Bool.{ne_eqb}

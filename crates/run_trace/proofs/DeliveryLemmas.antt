@@ -1,12 +1,12 @@
 -- The sends of messages that are taken or hit, as they are found and told.
 use Rattle.std.proofs.Common.{◌≡◌, ℕ, zero, suc, ◌+◌, ◌<◌, ◌≤◌, List, [], ◌∷◌, ◌++◌, ◌⊎◌, inl, inr}
-use Rattle.std.proofs.Common.{refl, sym, ap, ◌∙◌, subst, arith, Option, Some, None, length, map, min, slice_get, slice_index_or, slice_set}
+use Rattle.std.proofs.Common.{refl, sym, ap, ◌∙◌, arith, Option, Some, None, length, map, min, slice_get, slice_index_or, slice_set}
 use Rattle.std.specs.Prelude.{get_or}
 use Rattle.std.proofs.lemmas.Bool.{cases_lt}
 use Rattle.std.proofs.lemmas.List.{map-append, length-map, length_push, get_or_append_left}
 use Rattle.std.proofs.Math.Seq.{get_or-append_seam, map-set_same}
 use Rattle.std.proofs.lemmas.Option.{slice_get_within}
-use Rattle.rank_machine.specs.Acts.{Message, Act, sends, takes, hits, misses, prints}
+use Rattle.rank_machine.specs.Acts.{Act, sends, takes, hits, misses, prints}
 use Rattle.crash_free.specs.Runs.{Passed, history}
 use Rattle.run_trace.specs.Places.{greatest_clock}
 use Rattle.run_trace.specs.Deliveries.{AreClocked, AreDelivered, AreFoundUpTo, as_told, delivered, made_by, run_before, sends_found, sent_as, sent_at, sent_by}

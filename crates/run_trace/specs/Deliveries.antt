@@ -1,6 +1,6 @@
 -- Which message an act takes or hits, and which act sent it (MPI 1.1, section 3.5). The acts of a run are the newest first, as
 -- `crash_free` has them, where they are called a run, and the oldest first where an act is told by its index.
-use Rattle.std.specs.Prelude.{◌≡◌, ℕ, ◌+◌, ◌<◌, min, List, [], ◌∷◌, length, map, take, reverse, slice_get, slice_index_or, Option, Some, None}
+use Rattle.std.specs.Prelude.{◌≡◌, ℕ, ◌+◌, ◌<◌, min, List, length, map, take, reverse, slice_get, slice_index_or, Option, Some, None}
 use Rattle.rank_machine.specs.Acts.{Message, Act, sends, takes, hits, misses, prints}
 use Rattle.crash_free.specs.Runs.{Passed, history, looked_up}
 use Rattle.crash_free.specs.Sim.{inbound_of}

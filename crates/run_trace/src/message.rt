@@ -1,5 +1,5 @@
 //! Messages in words.
-ghost use Rattle.std.specs.Prelude.{◌≡◌, ◌++◌, OnOk, option_copied, slice_get, string_bytes};
+ghost use Rattle.std.specs.Prelude.{◌≡◌, ◌++◌, OnOk, slice_get, string_bytes};
 ghost use Rattle.run_trace.specs.Seen.{message_seen};
 ghost use Rattle.run_trace.specs.Words.{collective_text, content_text, given_items, items_text, lead_text, listed_text};
 ghost use Rattle.run_trace.specs.Words.{mark_text, name_text, tag_text};

@@ -1,6 +1,6 @@
 -- A line more is counted: with its number where it isn't skipped.
-use Rattle.std.specs.Prelude.{◌≡◌, ℕ, ◌+◌, List, [], ◌∷◌, ◌++◌, true, false}
-use Rattle.std.proofs.Common.{refl, sym, ap, ◌∙◌, append_assoc}
+use Rattle.std.specs.Prelude.{◌≡◌, ℕ, ◌+◌, List, ◌∷◌, true, false}
+use Rattle.std.proofs.Common.{refl}
 use Rattle.rank_checker.specs.Lines.{is_skipped}
 use Rattle.statement_lines.specs.Numbers.{numbers_from}
 

@@ -1,12 +1,12 @@
 -- The lines that aren't skipped are those on which the statements stand.
 -- By cases over the text's lines: a skipped line leaves statements and numbers, and each other one has the first of both.
-use Rattle.std.specs.Prelude.{◌≡◌, ℕ, zero, suc, ◌+◌, ◌<◌, ◌≤◌, List, [], ◌∷◌, true, false, length, Option, Some, None, IsSomeAnd, slice_get}
-use Rattle.std.proofs.Common.{refl, sym, ap, subst, ◌∙◌, arith}
+use Rattle.std.specs.Prelude.{◌≡◌, ℕ, zero, suc, ◌+◌, ◌<◌, ◌≤◌, List, [], ◌∷◌, true, false, length, Some, None, IsSomeAnd, slice_get}
+use Rattle.std.proofs.Common.{refl, sym, ap, subst, arith}
 use Rattle.text_lines.specs.Pieces.{pieces_of}
 use Rattle.rank_grammar.specs.Forms.{Form}
 use Rattle.rank_checker.specs.Lines.{is_skipped}
 use Rattle.rank_checker.specs.Scope.{Scope}
-use Rattle.rank_checker.specs.Faults.{IsFormed, IsLine, skipped, stated, AreLines, none, skipped_line, taken, IsText}
+use Rattle.rank_checker.specs.Faults.{IsLine, skipped, stated, AreLines, none, skipped_line, taken, IsText}
 use Rattle.statement_lines.specs.Standing.{Spells, line_of_text, StandOn}
 use Rattle.statement_lines.specs.Numbers.{numbers_from}
 use Rattle.statement_lines.proofs.Counting.{past_skipped, past_stated}

@@ -1,5 +1,5 @@
 //! A text's pieces between separators: its lines, and a line's words.
-ghost use Rattle.std.specs.Prelude.{◌≡◌, ◌<◌, ◌≤◌, IfSome, length};
+ghost use Rattle.std.specs.Prelude.{◌≡◌, ◌<◌, IfSome, length};
 ghost use Rattle.text_lines.specs.Pieces.{behind, cut_of, front, pieces_of, without_front, word_cut_of, words_of};
 
 /// The bytes before the first separator, or all where there is none.

@@ -1,8 +1,8 @@
 -- The acts of the run are made again, one after another.
-use Rattle.std.proofs.Common.{◌≡◌, ℕ, zero, suc, ◌+◌, ◌-◌, ◌<◌, ◌≤◌, ◌⊎◌, inl, inr, ⊎_elim, List, [], ◌∷◌, ◌++◌, Option, Some, None, length, refl, sym, ap}
-use Rattle.std.proofs.Common.{subst, ◌∙◌, arith, slice_get, slice_set, slice_index_or, get_or, take, drop, replicate}
+use Rattle.std.proofs.Common.{◌≡◌, ℕ, zero, suc, ◌+◌, ◌-◌, ◌<◌, ◌≤◌, ◌⊎◌, inl, inr, ⊎_elim, List, [], ◌∷◌, ◌++◌, length, refl, sym, ap}
+use Rattle.std.proofs.Common.{subst, ◌∙◌, arith, slice_set, slice_index_or, get_or, take, drop, replicate}
 use Rattle.std.specs.Prelude.{IsSomeAnd}
-use Rattle.std.proofs.lemmas.Bool.{cases_lt, cases_eq}
+use Rattle.std.proofs.lemmas.Bool.{cases_eq}
 use Rattle.std.proofs.lemmas.List.{length-set, length_push, take-append-drop}
 use Rattle.std.proofs.lemmas.Grind.{get_or_default_zero}
 use Rattle.metered.specs.Limits.{greatest_clock}
@@ -19,10 +19,10 @@ use Rattle.world_model.specs.World.{Live, WorldValue, size, IsLive}
 use Rattle.world_model.specs.View.{shown_of, IsView}
 use Rattle.world_model.specs.RunIndex.{earliest, IsNext}
 use Rattle.world_model.specs.Follows.{Follows}
-use Rattle.world_model.specs.Measures.{StopsAfter, steps_of, Nears, RankNears, HasLines, machine_of, machine_of_newest}
-use Rattle.world_model.specs.Driven.{Advanced, Flushed, Emptied, Made, MadeAt, IsNear, IsCounted, Ready, listed}
+use Rattle.world_model.specs.Measures.{StopsAfter, steps_of, RankNears, HasLines, machine_of, machine_of_newest}
+use Rattle.world_model.specs.Driven.{Advanced, Flushed, Emptied, MadeAt, IsNear, IsCounted, Ready, listed}
 use Rattle.world_model.proofs.Lists.{drop_beyond}
-use Rattle.world_model.proofs.Making.{Stepped, act_ahead, make_next, made_already, ready_after}
+use Rattle.world_model.proofs.Making.{act_ahead, make_next, made_already, ready_after}
 use Rattle.world_model.proofs.Advancing.{advanced_by, advanced_more}
 
 -- ---- the earlier acts

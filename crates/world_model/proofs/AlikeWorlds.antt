@@ -1,6 +1,6 @@
 -- A world like one that is a world is one too: what the invariant says names no shelf but by its image, and not the logger's
 -- history.
-use Rattle.std.proofs.Common.{◌≡◌, ℕ, ◌<◌, List, [], ◌∷◌, map, option_map, length, Option, Some, None, refl, sym, ap, subst, ◌∙◌, slice_get}
+use Rattle.std.proofs.Common.{◌≡◌, ℕ, ◌<◌, List, [], ◌∷◌, map, option_map, length, Option, Some, None, sym, ap, subst, ◌∙◌, slice_get}
 use Rattle.checkpoint.specs.Image.{ImageValue}
 use Rattle.checkpoint.specs.declared.memory_shelf.MemoryShelf.{MemoryShelf}
 use Rattle.crash_free.specs.Runs.{Passed}
@@ -8,14 +8,14 @@ use Rattle.plain_logger.specs.Event.{EventValue}
 use Rattle.rank_machine.specs.States.{State}
 use Rattle.world_model.specs.World.{Live, WorldValue, size, IsLive}
 use Rattle.world_model.specs.Counts.{RankCounts, Counts}
-use Rattle.world_model.specs.Stands.{RankStands, StandsAt, RankCovers, Covers, Stands, start_at}
-use Rattle.world_model.specs.Onward.{Behind, Asked, RankOnward, Onward, IsWorld}
+use Rattle.world_model.specs.Stands.{RankStands, StandsAt, RankCovers, Covers, start_at}
+use Rattle.world_model.specs.Onward.{RankOnward, Onward, IsWorld}
 use Rattle.plain_logger.specs.Misses.{expand}
 use Rattle.rank_node.specs.Image.{begins_at}
 use Rattle.rank_node.specs.Replay.{is_cut}
 use Rattle.world_model.specs.Plain.{plain, without_runs, RankRuns, RunsOfMisses}
 use Rattle.world_model.specs.Driven.{shelved, IsAlike, AreAlike, Alike}
-use Rattle.world_model.proofs.Likeness.{Was, alike_live, alike_size}
+use Rattle.world_model.proofs.Likeness.{alike_live, alike_size}
 
 -- ---- a rank on another shelf
 

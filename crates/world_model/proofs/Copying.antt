@@ -1,8 +1,7 @@
 -- Copies of a rank, of a seat and of all seats.
-use Rattle.std.proofs.Common.{◌≡◌, ℕ, ◌+◌, ◌<◌, zero, suc, List, [], ◌∷◌, ◌++◌, length, take, add-one, refl, sym, ap, subst, ◌∙◌, arith, Some, None, Option}
+use Rattle.std.proofs.Common.{◌≡◌, ℕ, ◌+◌, zero, suc, List, [], ◌∷◌, ◌++◌, length, take, add-one, refl, sym, ap, subst, ◌∙◌, Some}
 use Rattle.std.proofs.Common.{slice_get}
 use Rattle.std.specs.List.{AllZip}
-use Rattle.checkpoint.specs.Image.{ImageValue}
 use Rattle.checkpoint.specs.Shelf.{image_bytes}
 use Rattle.checkpoint.specs.declared.memory_shelf.MemoryShelf.{MemoryShelf}
 use Rattle.rank_language.specs.Program.{ProgramValue}
@@ -12,12 +11,11 @@ use Rattle.rank_node.specs.Replay.{Replay}
 use Rattle.rank_node.specs.Stored.{Stored}
 use Rattle.world_model.specs.declared.state.State.{State}
 use Rattle.world_model.specs.declared.state.State.TheVariants.{Running, Replaying, Down, Empty}
-use Rattle.world_model.specs.World.{Rank, Live}
-use Rattle.world_model.specs.Seats.{SeatValue, IsSeat, AreSeats, lives, images}
+use Rattle.world_model.specs.World.{Rank}
+use Rattle.world_model.specs.Seats.{SeatValue, AreSeats, lives, images}
 use Rattle.world_model.specs.Seat.{IsOwn, IsOf, IsKept, bytes_of, live_of, shelf_of}
 use Rattle.world_model.specs.Driven.{AreAlike}
 use Rattle.world_model.specs.Copied.{IsStateCopy, IsSeatCopy}
-use Rattle.world_model.proofs.Lists.{get_map}
 
 -- ---- what stands at a seat
 

@@ -1,24 +1,21 @@
 -- A world that is driven by one event more.
-use Rattle.std.proofs.Common.{◌≡◌, ◌≢◌, ℕ, ◌+◌, ◌<◌, ◌≤◌, ◌⊎◌, inl, inr, ⊎_elim, List, [], ◌∷◌, ◌++◌, Option, Some, None, Ok, length, refl, sym, ap, subst, ◌∙◌}
+use Rattle.std.proofs.Common.{◌≡◌, ◌≢◌, ℕ, ◌+◌, ◌≤◌, ◌⊎◌, inl, inr, List, [], ◌∷◌, ◌++◌, Option, Some, length, refl, sym, ap, ◌∙◌}
 use Rattle.std.proofs.Common.{arith, slice_get, slice_set}
 use Rattle.std.proofs.lemmas.Bool.{cases_eq}
 use Rattle.std.proofs.lemmas.List.{length-set, length-append}
-use Rattle.std.proofs.lemmas.Option.{slice_get_within}
-use Rattle.matching.specs.PacketValue as packet
-use Rattle.rank_node.specs.declared.frame.Frame.{Frame}
 use Rattle.rank_node.specs.declared.frame.Frame.TheVariants as frame
 use Rattle.world_model.specs.declared.event.WorldEvent.{WorldEvent}
 use Rattle.world_model.specs.declared.event.WorldEvent.TheVariants.{Step, Put, Arrive, Store, Ack, Image, Crash, Restart, Release}
 use Rattle.world_model.specs.declared.reply.Reply.{Reply}
 use Rattle.world_model.specs.declared.reply.Reply.TheVariants as reply
-use Rattle.world_model.specs.World.{Live, WorldValue, size, IsLive, IsDown, IsWire}
-use Rattle.world_model.specs.Follows.{CanNot, Happens, Follows, PutFollows}
+use Rattle.world_model.specs.World.{WorldValue, size}
+use Rattle.world_model.specs.Follows.{Happens, Follows, PutFollows}
 use Rattle.world_model.specs.Onward.{IsWorld}
 use Rattle.world_model.proofs.Headline.{stands_after}
 use Rattle.world_model.proofs.HeadlineKept.{happens_can}
 use Rattle.world_model.proofs.Onward.{onward_after}
 use Rattle.world_model.specs.Way.{IsOwn}
-use Rattle.world_model.specs.Driven.{Alike, IsUsed, AreLonger, Driven}
+use Rattle.world_model.specs.Driven.{IsUsed, AreLonger, Driven}
 use Rattle.world_model.proofs.WayPlaces.{set_get_same, set_get_other}
 use Rattle.world_model.proofs.LikenessLeads.{drove_push}
 

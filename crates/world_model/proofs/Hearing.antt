@@ -1,19 +1,18 @@
 -- Asks that arrive: they keep what holds, and once each Ask on the wires was heard no rank behind the run is passed by.
-use Rattle.std.proofs.Common.{◌≡◌, ℕ, zero, suc, ◌+◌, ◌<◌, ◌≤◌, ◌⊎◌, inl, inr, ⊎_elim, max, min, List, [], ◌∷◌, Option, Some, None, length, refl, sym, ap}
+use Rattle.std.proofs.Common.{◌≡◌, ℕ, zero, suc, ◌+◌, ◌<◌, ◌≤◌, ◌⊎◌, inl, inr, max, List, [], ◌∷◌, Option, Some, length, refl, sym, ap}
 use Rattle.std.proofs.Common.{subst, ◌∙◌, arith, slice_get, slice_set}
-use Rattle.std.proofs.lemmas.Bool.{cases_lt, cases_eq}
+use Rattle.std.proofs.lemmas.Bool.{cases_lt}
 use Rattle.std.proofs.lemmas.Option.{slice_get_within}
-use Rattle.matching.specs.Inbox.{accepted_from}
 use Rattle.payload_log.specs.Backlog.{BacklogValue, backlog, asked}
 use Rattle.rank_node.specs.declared.frame.Frame.{Frame}
 use Rattle.rank_node.specs.declared.frame.Frame.TheVariants as frame
-use Rattle.rank_node.specs.Frames.{due_to, with_log, after_frame}
+use Rattle.rank_node.specs.Frames.{with_log, after_frame}
 use Rattle.world_model.specs.declared.reply.Reply.{Reply}
 use Rattle.world_model.specs.World.{Live, WorldValue, size, IsLive, IsWire}
 use Rattle.world_model.specs.Follows.{ArriveFollows}
-use Rattle.world_model.specs.Onward.{Behind, IsWorld}
+use Rattle.world_model.specs.Onward.{IsWorld}
 use Rattle.world_model.proofs.PlainWorlds.{rank_of}
-use Rattle.world_model.specs.Driven.{AllLive, NoGaps, NoAskDue, HeardTo, Heard, HearKeeps}
+use Rattle.world_model.specs.Driven.{NoGaps, NoAskDue, HeardTo, Heard, HearKeeps}
 use Rattle.world_model.proofs.Passing.{who, base_of}
 use Rattle.world_model.proofs.Draining.{ask_there}
 use Rattle.world_model.proofs.Flushing.{asks_kept, arrive_asks}

@@ -1,14 +1,14 @@
 -- Where the lines of a program lead that leave a rank's state as it is: an `else` that is reached from above and an `end` lead
 -- on, and the `end` of a `while` leads back to it. So they come to an end.
 use Rattle.std.proofs.Common.{◌≡◌, ℕ, zero, suc, ◌+◌, ◌-◌, ◌<◌, ◌≤◌, ◌⊎◌, inl, inr, List, [], ◌∷◌, ◌++◌, length, drop, Option, Some, None, refl, sym, ap}
-use Rattle.std.proofs.Common.{subst, ◌∙◌, arith, slice_get, Bool, true, false}
+use Rattle.std.proofs.Common.{subst, ◌∙◌, arith, slice_get}
 use Rattle.std.proofs.lemmas.Option.{slice_get_within}
 use Rattle.rank_language.specs.Placed.{Placed}
 use Rattle.rank_language.specs.Block.{Block, done, plain, if_only, if_else, loop, Line, simple_line, if_line, else_line, end_line, while_line, back_line}
-use Rattle.rank_language.specs.Block.{size, lines_at, Leads, remaining, next_position}
+use Rattle.rank_language.specs.Block.{size, lines_at, Leads, remaining}
 use Rattle.rank_language.proofs.Places.{length-lines_at, leads}
 use Rattle.world_model.specs.Measures.{hops}
-use Rattle.world_model.proofs.Lists.{Next, next_of_drop, drop_zero}
+use Rattle.world_model.proofs.Lists.{next_of_drop, drop_zero}
 
 -- ---- the `end` of a `while` leads back to it
 

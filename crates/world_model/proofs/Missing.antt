@@ -1,5 +1,5 @@
 -- A run with so many misses more, and one without so many of its newest acts, one act after another.
-use Rattle.std.proofs.Common.{◌≡◌, ℕ, zero, suc, ◌+◌, List, [], ◌∷◌, drop, refl, sym, ap, ◌∙◌, arith}
+use Rattle.std.proofs.Common.{◌≡◌, ℕ, zero, suc, ◌+◌, List, ◌∷◌, drop, ap, arith}
 use Rattle.rank_machine.specs.Acts.{misses}
 use Rattle.crash_free.specs.Runs.{Passed}
 use Rattle.world_model.specs.RunIndex.{with_misses}

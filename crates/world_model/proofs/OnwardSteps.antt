@@ -27,7 +27,7 @@ use Rattle.rank_node.specs.Steps.{at_index, found}
 use Rattle.rank_node.specs.Replay.{named, replayed_at, taken_named, shown_named, tried_named, left_after}
 use Rattle.crash_free.specs.Runs.{history}
 use Rattle.world_model.specs.declared.reply.Reply.{Reply}
-use Rattle.world_model.specs.World.{Rank, Live, WorldValue, size, IsLive}
+use Rattle.world_model.specs.World.{Rank, Live, WorldValue, IsLive}
 use Rattle.world_model.specs.Stands.{Stands}
 use Rattle.world_model.specs.Follows.{effect_at, passed_at, StepFollows, ReplayFollows}
 use Rattle.world_model.specs.Onward.{AreAbove, RankOnward, Onward}

@@ -1,8 +1,8 @@
 -- What waits at a gate and what is left to replay, without runs of misses: as many effects, as many acts; a miss that joins is
 -- one act more, like one that doesn't; and a run that is half replayed is its next miss and the others.
-use Rattle.std.proofs.Common.{◌≡◌, ℕ, zero, suc, ◌+◌, ◌-◌, ◌<◌, ◌≤◌, ◌⊎◌, inl, inr, Bool, true, false, if◌then◌else◌, List, [], ◌∷◌, ◌++◌}
-use Rattle.std.proofs.Common.{Some, length, map, drop, refl, sym, ap, subst, ◌∙◌, arith, append_assoc, slice_get}
-use Rattle.std.proofs.lemmas.List.{append-nil, length-append}
+use Rattle.std.proofs.Common.{◌≡◌, ℕ, zero, suc, ◌+◌, ◌-◌, ◌≤◌, true, List, [], ◌∷◌, ◌++◌}
+use Rattle.std.proofs.Common.{length, map, drop, refl, sym, ap, ◌∙◌, arith, append_assoc, slice_get}
+use Rattle.std.proofs.lemmas.List.{append-nil}
 use Rattle.plain_logger.specs.Event.{EventValue, event_of, joined, finds_none}
 use Rattle.plain_logger.specs.Misses.{parts_of, parts_at, expand, IsCounted, IsCountedAt, misses_after}
 use Rattle.plain_logger.specs.declared.kind.Kind.{Kind}
@@ -10,7 +10,7 @@ use Rattle.plain_logger.specs.declared.kind.Kind.TheVariants as kind
 use Rattle.plain_logger.proofs.Misses.{joined_parts}
 use Rattle.rank_node.specs.declared.waiting.Waiting.{Waiting}
 use Rattle.rank_node.specs.declared.waiting.Waiting.TheVariants as waits
-use Rattle.rank_node.specs.Waiting.{events_in, effects, sends_to, BeginsWithEvents, is_settled, has_room, expanded, is_miss, ends_in_miss, joins, longer}
+use Rattle.rank_node.specs.Waiting.{events_in, effects, BeginsWithEvents, is_settled, expanded, ends_in_miss, joins}
 use Rattle.rank_node.specs.Waiting.{with_joined}
 use Rattle.world_model.specs.World.{Rank, unpassed}
 use Rattle.world_model.specs.Plain.{plainly, plain_rank, AllCounted}

@@ -1,13 +1,10 @@
 -- What an event does to a world it does to the world without runs of misses too: frames, acknowledgments, releases, images and
 -- crashes.
-use Rattle.std.proofs.Common.{◌≡◌, ◌≢◌, ℕ, ◌+◌, ◌-◌, Bool, true, false, ◌==◌, if◌then◌else◌, List, [], ◌∷◌, ◌++◌, Option, Some, None, drop, refl, sym, ap}
+use Rattle.std.proofs.Common.{◌≡◌, ℕ, ◌+◌, ◌-◌, Bool, true, false, ◌==◌, if◌then◌else◌, List, [], ◌∷◌, ◌++◌, Option, Some, None, drop, refl, sym, ap}
 use Rattle.std.proofs.Common.{subst, ◌∙◌}
 use Rattle.std.proofs.Common.{slice_get, slice_set, option_and_then, option_map}
-use Rattle.plain_logger.specs.Misses.{expand}
-use Rattle.plain_logger.specs.History.{above}
 use Rattle.matching.specs.Inbox.{after_arrival}
 use Rattle.checkpoint.specs.Shelf.{image_bytes}
-use Rattle.rank_machine.specs.Acts.{Act}
 use Rattle.rank_node.specs.declared.frame.Frame.{Frame}
 use Rattle.rank_node.specs.declared.frame.Frame.TheVariants as frame
 use Rattle.rank_node.specs.declared.waiting.Waiting.{Waiting}

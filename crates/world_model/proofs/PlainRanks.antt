@@ -1,6 +1,6 @@
 -- A rank without runs of misses: what a rank does, the rank without runs does by one event for each act.
-use Rattle.std.proofs.Common.{◌≡◌, ℕ, ℤ, zero, suc, ◌+◌, ◌<◌, ◌≤◌, ◌⊎◌, inl, inr, ⊎_elim, Bool, true, false, if◌then◌else◌, ◌==◌, nat_lt, List, [], ◌∷◌, ◌++◌}
-use Rattle.std.proofs.Common.{map, Option, Some, None, length, drop, slice_get, refl, sym, ap, subst, ◌∙◌, arith, append_assoc, option_and_then}
+use Rattle.std.proofs.Common.{◌≡◌, ℕ, ℤ, ◌+◌, ◌≤◌, ◌⊎◌, ⊎_elim, Bool, true, false, if◌then◌else◌, nat_lt, List, [], ◌∷◌, ◌++◌}
+use Rattle.std.proofs.Common.{map, Option, Some, None, length, slice_get, refl, sym, ap, subst, ◌∙◌, append_assoc}
 use Rattle.std.proofs.lemmas.List.{append-nil, length_push}
 use Rattle.matching.specs.PacketValue as packet
 use Rattle.matching.specs.declared.packet.Context.{Context}
@@ -20,7 +20,7 @@ use Rattle.rank_node.specs.declared.turn.Turn.{Turn}
 use Rattle.rank_node.specs.declared.turn.Turn.TheVariants as turn
 use Rattle.rank_node.specs.declared.waiting.Waiting.{Waiting}
 use Rattle.rank_node.specs.declared.waiting.Waiting.TheVariants as waits
-use Rattle.rank_node.specs.Waiting.{effects, events_in, expanded, has_room, is_settled, joins, with_joined, with_miss, BeginsWithEvents}
+use Rattle.rank_node.specs.Waiting.{expanded, has_room, is_settled, joins, with_joined}
 use Rattle.rank_node.specs.Steps.{step_at, turn_at, tried, found, after_send, after_hold, after_print, after_wait, made_send, made_print, after_miss}
 use Rattle.rank_node.specs.Steps.{received, probed}
 use Rattle.crash_free.specs.Runs.{Passed, history, sent, looked_up, continue}
@@ -28,7 +28,7 @@ use Rattle.crash_free.proofs.Lists.{history-own}
 use Rattle.ports.specs.declared.line.Line.{Line}
 use Rattle.ports.specs.Console.{after_line}
 use Rattle.world_model.specs.World.{Rank, Live, unpassed, unstored}
-use Rattle.world_model.specs.Plain.{plainly, plain_rank, plain, AllCounted, RankRuns}
+use Rattle.world_model.specs.Plain.{plainly, plain_rank, plain, RankRuns}
 use Rattle.world_model.specs.Stands.{Pending, RankStands}
 use Rattle.world_model.specs.Follows.{effect_at, lines_after}
 use Rattle.world_model.proofs.Rows.{event_clock}

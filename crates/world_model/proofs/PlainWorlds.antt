@@ -3,7 +3,6 @@ use Rattle.std.proofs.Common.{◌≡◌, ℕ, zero, suc, ◌≤◌, List, [], �
 use Rattle.std.proofs.Common.{slice_set}
 use Rattle.plain_logger.specs.Event.{EventValue}
 use Rattle.plain_logger.specs.Misses.{expand}
-use Rattle.checkpoint.specs.Image.{ImageValue}
 use Rattle.rank_node.specs.Waiting.{BeginsWithEvents}
 use Rattle.world_model.specs.Rows.{row}
 use Rattle.world_model.specs.World.{Live, WorldValue, size, IsLive, IsDown}

@@ -15,7 +15,6 @@ use Rattle.world_model.specs.Follows.{CanNot, Follows}
 use Rattle.world_model.specs.Memory.{TakesNoMemory, Unchanged}
 use Rattle.world_model.specs.Sequences.{FollowsAll, Stops}
 use Rattle.world_model.specs.declared.event.WorldEvent.{WorldEvent}
-use Rattle.world_model.specs.declared.event.WorldEvent.TheVariants.{Step, Put, Arrive, Store, Ack, Image, Crash, Restart, Release}
 use Rattle.world_model.specs.declared.reply.Reply.{Reply}
 
 -- one more event after others

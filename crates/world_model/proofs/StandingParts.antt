@@ -1,11 +1,11 @@
 -- A store keeps what a world stands for and what senders keep: each act that its event stands for passes, one after another.
-use Rattle.std.proofs.Common.{◌≡◌, ℕ, zero, suc, ◌+◌, ◌<◌, ◌≤◌, ◌⊎◌, inl, inr, ⊎_elim, List, [], ◌∷◌, ◌++◌, map, option_map, Option, Some, None, length, drop}
+use Rattle.std.proofs.Common.{◌≡◌, ℕ, zero, suc, ◌+◌, ◌<◌, ◌⊎◌, inl, inr, List, [], ◌∷◌, ◌++◌, map, Some, length, drop}
 use Rattle.std.proofs.Common.{refl, sym, ap, subst, ◌∙◌, arith, append_assoc, slice_get, slice_set, slice_index_or}
 use Rattle.std.proofs.lemmas.List.{append-nil, length-set}
 use Rattle.std.proofs.lemmas.Option.{slice_get_within, slice_get-get_or}
 use Rattle.plain_logger.specs.Event.{EventValue}
 use Rattle.plain_logger.specs.History.{StateValue}
-use Rattle.plain_logger.specs.Misses.{parts_of, expand, IsCounted}
+use Rattle.plain_logger.specs.Misses.{parts_of, expand}
 use Rattle.plain_logger.proofs.Misses.{expand_push}
 use Rattle.rank_machine.specs.Acts.{Act}
 use Rattle.rank_node.specs.Storing.{after_store}
@@ -17,7 +17,7 @@ use Rattle.world_model.specs.Rows.{row}
 use Rattle.world_model.specs.World.{Live, WorldValue, size, IsLive, unpassed}
 use Rattle.world_model.specs.declared.reply.Reply.{Reply}
 use Rattle.world_model.specs.Plain.{plainly, plain_rank, plain, without_runs}
-use Rattle.world_model.specs.Stands.{start_at, RankStands, StandsAt, RankCovers, Stands}
+use Rattle.world_model.specs.Stands.{start_at, RankStands, StandsAt, Stands}
 use Rattle.world_model.specs.Follows.{StoreFollows}
 use Rattle.world_model.proofs.Rows.{row_one_more, row-other, event_prints_none}
 use Rattle.world_model.proofs.Lines.{printed_same}

@@ -1,5 +1,5 @@
 -- A restart keeps what a world stands for and what senders keep.
-use Rattle.std.proofs.Common.{◌≡◌, ℕ, ◌<◌, ◌≤◌, List, [], Option, Some, None, map, option_map, length, refl, sym, ap, subst, ◌∙◌, arith, slice_get, slice_set}
+use Rattle.std.proofs.Common.{◌≡◌, ℕ, ◌<◌, ◌≤◌, List, [], Option, Some, None, map, length, refl, sym, ap, subst, ◌∙◌, arith, slice_get, slice_set}
 use Rattle.std.proofs.Common.{slice_index_or}
 use Rattle.std.proofs.lemmas.List.{length-set}
 use Rattle.std.proofs.lemmas.Option.{slice_get_within, slice_get-get_or, get_or_from_slice_get}
@@ -24,7 +24,7 @@ use Rattle.world_model.specs.Follows.{RestartFollows}
 use Rattle.world_model.proofs.Lists.{replicate_get}
 use Rattle.world_model.proofs.Ranks.{RankStands-restarted}
 use Rattle.world_model.proofs.Covers.{Covers-rank, RankCovers-restarted}
-use Rattle.world_model.proofs.Worlds.{changed, Stands-rank}
+use Rattle.world_model.proofs.Worlds.{Stands-rank}
 use Rattle.world_model.proofs.PlainEvents.{above_all, row_late}
 use Rattle.world_model.proofs.PlainWorlds.{GoesOn, set_plainly, as_many_rows, row_of}
 

@@ -1,17 +1,13 @@
 -- A step of a rank that runs keeps what a world stands for and what senders keep: it is a step of the rank without runs of
 -- misses, of which each miss is an event of its own.
-use Rattle.std.proofs.Common.{◌≡◌, ℕ, ◌+◌, ◌≤◌, List, [], Option, Some, map, option_map, length, MatchBool, refl, sym, ap, subst, ◌∙◌, slice_get, slice_set}
+use Rattle.std.proofs.Common.{◌≡◌, ℕ, ◌+◌, ◌≤◌, [], Some, map, option_map, length, MatchBool, refl, sym, ap, subst, ◌∙◌, slice_set}
 use Rattle.std.proofs.lemmas.List.{length-set}
 use Rattle.std.proofs.lemmas.Option.{slice_get_within}
-use Rattle.ports.specs.declared.line.Line.{Line}
 use Rattle.plain_logger.specs.Misses.{IsCounted}
 use Rattle.rank_machine.specs.declared.want.Want.{Want}
 use Rattle.rank_machine.specs.declared.want.Want.TheVariants as want
-use Rattle.rank_machine.specs.Acts.{Act}
 use Rattle.rank_machine.specs.Machine.{MachineValue, machine_want}
-use Rattle.rank_node.specs.declared.turn.Turn.{Turn}
 use Rattle.rank_node.specs.Steps.{turn_at, step_at, MachineStepAt, DidAct}
-use Rattle.crash_free.specs.Runs.{Passed}
 use Rattle.world_model.specs.declared.reply.Reply.{Reply}
 use Rattle.world_model.specs.World.{Live, WorldValue, size, unpassed}
 use Rattle.world_model.specs.Plain.{plain_rank, plain, without_runs, RankRuns}

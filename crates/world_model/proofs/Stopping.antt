@@ -1,5 +1,5 @@
 -- The inner steps of a state that come to an end: there are just so many, and where some of them were made the others lead on.
-use Rattle.std.proofs.Common.{◌≡◌, ℕ, zero, suc, true, false, Option, Some, None, refl, sym, ap, subst, ◌∙◌}
+use Rattle.std.proofs.Common.{◌≡◌, ℕ, suc, None, sym, ap, subst}
 use Rattle.std.specs.Prelude.{is_none, IsSomeAnd}
 use Rattle.rank_machine.specs.States.{State, inner, Inners, here, on}
 use Rattle.world_model.specs.Measures.{StopsAfter}

@@ -8,7 +8,7 @@ use Rattle.std.proofs.lemmas.List.{append-nil, length_push}
 use Rattle.std.proofs.lemmas.Option.{slice_get_within, slice_get-get_or}
 use Rattle.metered.specs.Limits.{most_events}
 use Rattle.plain_logger.specs.Event.{EventValue, event_of, first_clock, first_of, count_of, finds_none}
-use Rattle.plain_logger.specs.Misses.{misses_after, parts_of, expand, IsCounted, IsCountedAt}
+use Rattle.plain_logger.specs.Misses.{misses_after, parts_of, IsCounted, IsCountedAt}
 use Rattle.plain_logger.specs.History.{above, append_reply, last_clock}
 use Rattle.plain_logger.specs.declared.call.Reply.TheVariants.{Length}
 use Rattle.plain_logger.specs.declared.kind.Kind.{Kind}
@@ -24,7 +24,7 @@ use Rattle.crash_free.specs.Runs.{Passed, at_place, history, sent, sends_from, l
 use Rattle.crash_free.proofs.Lists.{history-own, history-other}
 use Rattle.world_model.specs.Rows.{row, event_at, events_from, Noted}
 use Rattle.world_model.specs.World.{Live, WorldValue, size, IsLive, unpassed, unstored}
-use Rattle.world_model.specs.Plain.{plain_rank, plain}
+use Rattle.world_model.specs.Plain.{plain_rank}
 use Rattle.world_model.specs.RunIndex.{with_misses}
 use Rattle.world_model.specs.Seats.{IsAccepted}
 use Rattle.world_model.specs.Stands.{start_at, Pending, Stands}
@@ -32,7 +32,7 @@ use Rattle.world_model.proofs.Lists.{drop_beyond}
 use Rattle.world_model.proofs.Ranks.{above_row}
 use Rattle.world_model.proofs.Rows.{row_one_more, event_clock}
 use Rattle.world_model.proofs.StandingStores.{event_there, drop_first}
-use Rattle.world_model.proofs.PlainEvents.{FirstPart, first_part, none_above, last_clock_early}
+use Rattle.world_model.proofs.PlainEvents.{first_part, none_above, last_clock_early}
 use Rattle.world_model.proofs.Plain.{unpassed_plain}
 use Rattle.world_model.proofs.PlainWorlds.{rank_of, row_of, as_many_rows}
 

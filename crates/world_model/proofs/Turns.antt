@@ -4,7 +4,6 @@ use Rattle.std.proofs.Common.{◌++◌, Option, Some, None, length, take, drop, 
 use Rattle.std.proofs.Common.{position}
 use Rattle.std.proofs.lemmas.Bool.{cases_lt}
 use Rattle.std.proofs.lemmas.List.{length-set}
-use Rattle.std.proofs.lemmas.Option.{slice_get_within}
 use Rattle.plain_logger.specs.Event.{EventValue}
 use Rattle.matching.specs.declared.packet.Context.{Context}
 use Rattle.matching.specs.Matching.{matches}
@@ -29,10 +28,9 @@ use Rattle.crash_free.proofs.Lists.{history-own}
 use Rattle.world_model.specs.Rows.{event_at, events_from, cons_some}
 use Rattle.world_model.specs.World.{Live, WorldValue, size, IsLive}
 use Rattle.world_model.specs.Headline.{lines_of}
-use Rattle.world_model.specs.Follows.{passed_at, lines_after, effect_at, StepFollows, after_turn}
+use Rattle.world_model.specs.Follows.{passed_at, lines_after, effect_at}
 use Rattle.rank_node.specs.declared.waiting.Waiting.{Waiting}
-use Rattle.world_model.specs.Stands.{InboxStands, LogStands, LogsStand, StandsIn, RankStands, start_at, StandsAt, RankCovers, Stands}
-use Rattle.world_model.specs.declared.reply.Reply.{Reply}
+use Rattle.world_model.specs.Stands.{InboxStands, LogStands, LogsStand, StandsIn, RankStands, start_at, StandsAt, Stands}
 use Rattle.world_model.proofs.Rows.{IsEffect, row_of_effect, effect_finds, effect_takes_none}
 use Rattle.world_model.proofs.Inboxes.{InboxStands-noted, InboxStands-longer}
 use Rattle.world_model.proofs.Lines.{lines_after_print, printed_same}
@@ -44,11 +42,8 @@ use Rattle.world_model.proofs.Fits.{fits_send, fits_print, wanted, stopped}
 use Rattle.world_model.proofs.ReplayParts.{logs_saved, logs_quiet}
 use Rattle.world_model.proofs.Steps.{RankStands-line, RankStands-hold}
 use Rattle.world_model.proofs.MadeAgain.{passed_again, passed_first, print_again}
-use Rattle.world_model.proofs.Covers.{Covers-rank}
-use Rattle.world_model.proofs.Worlds.{Goes, changed, Stands-passed}
-use Rattle.world_model.proofs.Crashes.{resized}
-use Rattle.world_model.proofs.StepCovers.{step_covers}
-use Rattle.world_model.proofs.StandingEvents.{uncounted, plain_step_at, alone, stays, Stands-still, finding, probing, trying}
+use Rattle.world_model.proofs.Worlds.{changed, Stands-passed}
+use Rattle.world_model.proofs.StandingEvents.{plain_step_at, alone, stays, Stands-still, finding, probing, trying}
 
 -- nothing waits
 settled_none : (pending : List Waiting) → is_settled pending ≡ true → pending ≡ []

@@ -5,7 +5,7 @@ use Rattle.world_model.specs.declared.event.WorldEvent.{WorldEvent}
 use Rattle.world_model.specs.World.{Live, WorldValue, size, IsWire}
 use Rattle.world_model.specs.Onward.{IsWorld}
 use Rattle.world_model.specs.Way.{CaughtUp, IsWayOn}
-use Rattle.world_model.specs.Driven.{Alike, AreAlike, Driven, AllLive, NoAskDue, Heard, Ready, Advanced, Flushed, Emptied, Listened}
+use Rattle.world_model.specs.Driven.{Alike, AreAlike, Driven, AllLive, Heard, Ready, Advanced, Flushed, Emptied, Listened}
 use Rattle.world_model.proofs.Likeness.{alike_size}
 use Rattle.world_model.proofs.Hearing.{heard_no_gaps, same_wire}
 use Rattle.world_model.proofs.Going.{caught_up_at_end}

@@ -1,5 +1,5 @@
 //! The wires between all ranks.
-ghost use Rattle.std.specs.Prelude.{◌≡◌, ◌<◌, [], ◌∷◌, ◌++◌, Some, length, replicate, slice_get, slice_set, slice_index_or, IfOk, OnOk, OnErr};
+ghost use Rattle.std.specs.Prelude.{◌≡◌, ◌<◌, [], ◌∷◌, ◌++◌, length, replicate, slice_set, slice_index_or, IfOk, OnOk, OnErr};
 ghost use Rattle.world_model.specs.Wires.{HasWire, wire_of, with_frame};
 
 use crate::wire::Wire;

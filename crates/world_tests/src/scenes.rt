@@ -1,5 +1,5 @@
 //! Programs, and what plays them.
-ghost use Rattle.std.specs.Prelude.{◌≡◌, ◌≤◌};
+ghost use Rattle.std.specs.Prelude.{◌≤◌};
 ghost use Rattle.metered.specs.Limits.{most_ranks};
 
 use crash_free::{Choice, NotAllowed, Sim};

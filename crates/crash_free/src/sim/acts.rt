@@ -1,5 +1,5 @@
 //! The steps and acts of one rank.
-ghost use Rattle.std.specs.Prelude.{◌≡◌, ℕ, ◌<◌, ◌≤◌, IfOk, IfErr, OnOk, OnErr, length};
+ghost use Rattle.std.specs.Prelude.{◌≡◌, ◌<◌, ◌≤◌, IfErr, OnOk, OnErr, length};
 ghost use Rattle.matching.specs.PacketValue.{least_items, most_items, greatest_tag};
 ghost use Rattle.rank_machine.specs.Wants.{IsLegal};
 ghost use Rattle.crash_free.specs.Sim.{Allows, Refuses};

@@ -1,5 +1,4 @@
 //! Acknowledgments.
-ghost use Rattle.std.specs.Prelude.{◌≡◌};
 
 use crate::parts::Parts;
 use crate::reply::Reply;

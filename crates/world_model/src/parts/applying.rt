@@ -1,5 +1,5 @@
 //! Events, each by its name.
-ghost use Rattle.std.specs.Prelude.{◌≡◌, IfOk, OnErr};
+ghost use Rattle.std.specs.Prelude.{IfOk, OnErr};
 
 use crate::event::WorldEvent;
 use crate::parts::Parts;

@@ -1,5 +1,5 @@
 //! Restarts.
-ghost use Rattle.std.specs.Prelude.{◌≡◌, IfOk, OnErr};
+ghost use Rattle.std.specs.Prelude.{IfOk, OnErr};
 
 use crate::parts::Parts;
 use crate::reply::Reply;

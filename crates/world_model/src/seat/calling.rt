@@ -13,7 +13,6 @@ use rank_node::{Arrived, Frame};
 use std::alloc::AllocError;
 
 impl<'p> Seat<'p> {
-    ghost use Rattle.plain_logger.specs.History.{Answers};
     ghost use Rattle.plain_logger.specs.declared.call.Reply.TheVariants.{Length};
     ghost use Rattle.rank_node.specs.Storing.{next_unstored, after_store, after_ack, Appends};
     ghost use Rattle.rank_node.specs.Releasing.{next_effect, released, ShowsEffect};

@@ -1,4 +1,3 @@
-use Rattle.std.proofs.Common.{◌≡◌}
 use Rattle.event_logger.specs.Desks.{IsSameDesk}
 use Rattle.logger_tests.proofs.shared.fill.Given as goal
 

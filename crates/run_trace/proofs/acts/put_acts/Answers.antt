@@ -1,4 +1,4 @@
-use Rattle.std.proofs.Common.{rules, false, ◌≡◌, ◌≤◌, ◌++◌, Some, arith, length, slice_get, string_bytes}
+use Rattle.std.proofs.Common.{rules, false, ◌≡◌, ◌≤◌, ◌++◌, Some, length, slice_get, string_bytes}
 use Rattle.std.specs.Prelude.{get_or}
 use Rattle.std.proofs.lemmas.Option.{slice_get-get_or}
 use Rattle.run_trace.specs.Deliveries.{as_told, delivered, run_before}

@@ -1,7 +1,7 @@
 use Rattle.std.proofs.Common.{rules, subst, sym, false, ◌≡◌, ◌++◌, ◌∷◌, [], ◌<◌, ◌+◌, Some, slice_get}
 use Rattle.metered.specs.Limits.{most_ranks}
 use Rattle.run_trace.specs.Deliveries.{AreFoundUpTo, delivered, run_before, sent_at}
-use Rattle.run_trace.specs.Pairs.{AreNoted, found_by, noted_by}
+use Rattle.run_trace.specs.Pairs.{AreNoted}
 use Rattle.run_trace.proofs.PairLemmas.{found_is_sent, none_noted, notes_act, stands_at}
 use Rattle.run_trace.proofs.DeliveryLemmas.{found_more, none_found}
 use Rattle.run_trace.proofs.deliveries.deliveries_of.Goals as goal

@@ -1,4 +1,3 @@
-use Rattle.std.proofs.Common.{◌≡◌, length}
 use Rattle.run_trace.specs.Deliveries.{AreFoundUpTo, run_before}
 use Rattle.run_trace.specs.Pairs.{AreNoted}
 use Rattle.run_trace.proofs.deliveries.deliveries_of.Given as goal

@@ -1,9 +1,9 @@
-use Rattle.std.proofs.Common.{rules, subst, ◌≡◌, ◌<◌, ◌+◌, ◌∷◌, min, length, reverse, Some, slice_get, slice_index_or, slice_set}
+use Rattle.std.proofs.Common.{rules, subst, ◌≡◌, ◌<◌, ◌+◌, min, length, reverse, Some, slice_get, slice_index_or}
 use Rattle.metered.specs.Limits.{most_ranks}
 use Rattle.crash_free.specs.Sim.{choice_of, Allows}
 use Rattle.crash_free.specs.Inside.{GoesInside}
 use Rattle.crash_free.specs.Wanted.{WantsAt}
-use Rattle.run_trace.specs.Places.{clock_of, greatest_clock}
+use Rattle.run_trace.specs.Places.{greatest_clock}
 use Rattle.run_trace.proofs.ClockLemmas.{next_is, counts_on}
 use Rattle.run_trace.proofs.PlacesLemmas.{made_more_by, made_at}
 use Rattle.run_trace.proofs.places.made.Goals as goal

@@ -1,4 +1,4 @@
-use Rattle.std.proofs.Common.{rules, subst, sym, ◌≡◌, ◌≤◌, ◌<◌, ◌+◌, ◌++◌, ◌∷◌, [], length, take}
+use Rattle.std.proofs.Common.{rules, subst, sym, ◌≡◌, ◌≤◌, ◌+◌, ◌++◌, ◌∷◌, [], length, take}
 use Rattle.metered.specs.Limits.{most_ranks}
 use Rattle.run_trace.specs.Clocks.{AreCounted}
 use Rattle.run_trace.specs.Places.{IsMadeAt, ArePlaces}

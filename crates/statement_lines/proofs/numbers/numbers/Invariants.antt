@@ -1,4 +1,4 @@
-use Rattle.std.proofs.Common.{◌≡◌, ◌+◌, ◌≤◌, ◌<◌, ◌++◌, length}
+use Rattle.std.proofs.Common.{◌≡◌, ◌+◌, ◌≤◌, ◌++◌, length}
 use Rattle.text_lines.specs.Pieces.{pieces_of}
 use Rattle.statement_lines.specs.Numbers.{numbers_from}
 use Rattle.statement_lines.proofs.numbers.numbers.Given as goal

@@ -1,5 +1,5 @@
 //! The acts of the run, made again.
-ghost use Rattle.std.specs.Prelude.{◌≡◌, ◌<◌, ◌≤◌, ℕ, [], ◌+◌, length, IfOk, OnOk};
+ghost use Rattle.std.specs.Prelude.{◌≡◌, ◌<◌, ℕ, [], ◌+◌, length, IfOk, OnOk};
 ghost use Rattle.world_model.specs.World.{Live, size, IsLive};
 ghost use Rattle.world_model.specs.RunIndex.{earliest, IsNext};
 ghost use Rattle.crash_free.specs.Runs.{history};

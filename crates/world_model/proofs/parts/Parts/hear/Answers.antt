@@ -1,4 +1,4 @@
-use Rattle.std.proofs.Common.{◌≡◌, true, false, refl, ap, subst}
+use Rattle.std.proofs.Common.{◌≡◌, true, false, refl, subst}
 use Rattle.world_model.specs.Wires.{wire_of}
 use Rattle.world_model.specs.Driven.{IsAskAt}
 use Rattle.world_model.proofs.Listening.{hear_true, hear_false, hear_moved, heard_end}

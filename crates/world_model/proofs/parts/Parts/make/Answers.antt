@@ -1,4 +1,4 @@
-use Rattle.std.proofs.Common.{◌≡◌, ◌+◌, ◌-◌, ◌<◌, ◌≤◌, ◌^◌, length, ap, subst, arith, rules}
+use Rattle.std.proofs.Common.{◌-◌, ◌≤◌, length, ap, subst, arith}
 use Rattle.world_model.specs.World.{WorldValue}
 use Rattle.world_model.specs.RunIndex.{IsNext}
 use Rattle.world_model.proofs.ActsMade.{made_before, next_ahead, new_count, counted_set, low_count}

@@ -1,5 +1,4 @@
-use Rattle.std.proofs.Common.{◌<◌, inl, arith}
-use Rattle.world_model.specs.World.{size}
+use Rattle.std.proofs.Common.{inl, arith}
 use Rattle.world_model.proofs.Advancing.{advanced_none}
 use Rattle.world_model.proofs.ActsMade.{step_next, near_made, nears_first}
 use Rattle.world_model.proofs.parts.Parts.step_to.Goals as goal
