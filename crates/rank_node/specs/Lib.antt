@@ -10,3 +10,5 @@ pub mod Image
 pub mod Replay
 pub mod Desked
 pub mod Copied
+pub mod Seen
+pub mod Phases

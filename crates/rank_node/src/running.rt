@@ -36,39 +36,19 @@ impl<'p, S: Shelf, D> Model for Running<'p, S, D> {
     ghost use Rattle.std.specs.Coded.{codes};
     ghost use Rattle.rank_language.specs.Coding.{placed_code};
     ghost use Rattle.rank_node.specs.Node.{Node, IsNode};
+    ghost use Rattle.rank_node.specs.Seen.{seen};
 
     ghost Value = { Node S D };
 
     ghost coded = { Prim.hlevel (codes, placed_code) };
 
-    ghost view = { λ r. record {
-      stable = r.stable;
-      machine = r.machine;
-      clock = r.clock;
-      made = r.made;
-      inbox = r.inbox;
-      log = r.log;
-      pending = r.pending.waiting;
-      stored = r.pending.stored;
-      dues = r.dues.items;
-    } };
+    ghost view = { seen };
 
-    ghost invariant = { λ r. IsNode {S = S} {D = D} (record {
-      stable = r.stable;
-      machine = r.machine;
-      clock = r.clock;
-      made = r.made;
-      inbox = r.inbox;
-      log = r.log;
-      pending = r.pending.waiting;
-      stored = r.pending.stored;
-      dues = r.dues.items;
-    }) };
+    ghost invariant = { λ r. IsNode {S = S} {D = D} (seen r) };
 }
 
 impl<'p, S: Shelf, D> Running<'p, S, D> {
-    ghost use Rattle.rank_node.specs.Node.{opening};
-    ghost use Rattle.rank_node.specs.Image.{at_image};
+    ghost use Rattle.rank_node.specs.Node.{opening, at_image};
 
     /// A rank at the beginning of its program. An `Err` is want of memory, and
     /// gives back what was given.

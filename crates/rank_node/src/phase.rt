@@ -1,0 +1,87 @@
+//! A rank, whatever it does.
+ghost use Rattle.std.specs.Prelude.{◌≡◌, length};
+ghost use Rattle.rank_node.specs.Phases.{stable_of, settled_of, settled_replay, clock_in, left_in};
+
+mod copying;
+mod frames;
+
+use crate::down::Down;
+use crate::replaying::Replaying;
+use crate::running::Running;
+use crate::stable::Stable;
+use checkpoint::Shelf;
+
+/// A rank that runs, replays or is down. It must be spent.
+pub enum Phase<'p, S: Shelf, D> {
+    Running(Running<'p, S, D>),
+    Replaying(Replaying<'p, S, D>),
+    Down(Down<S, D>),
+}
+
+impl<'p, S: Shelf, D> Phase<'p, S, D> {
+    /// The rank is down, whatever it was: what is stable outlives the crash,
+    /// and nothing else does. It takes no memory.
+    pub fn crash(self) -> Down<S, D>
+        ensures { result ≡ stable_of self.entry }
+    {
+        match self {
+            Phase::Running(rank) => rank.crash(),
+            Phase::Replaying(rank) => rank.crash(),
+            Phase::Down(rank) => rank,
+        }
+    }
+
+    /// The rank stops for good.
+    pub fn retire(self) -> Stable<S, D>
+        ensures { result ≡ stable_of self.entry }
+    {
+        self.crash().retire()
+    }
+
+    /// A rank that has nothing left to replay runs. Any other stays as it is.
+    pub fn settled(self) -> Phase<'p, S, D>
+        ensures settled { result ≡ settled_of self.entry }
+        ensures stable { stable_of result ≡ stable_of self.entry }
+    {
+        match self {
+            Phase::Replaying(rank) => settled(rank),
+            Phase::Running(rank) => Phase::Running(rank),
+            Phase::Down(rank) => Phase::Down(rank),
+        }
+    }
+
+    /// How many acts it has made; none where it is down.
+    pub fn clock(&self) -> u32
+        ensures { result ≡ clock_in self.now }
+    {
+        match self {
+            Phase::Running(rank) => rank.clock(),
+            Phase::Replaying(rank) => rank.clock(),
+            Phase::Down(_) => 0,
+        }
+    }
+
+    /// How many events it still has to replay; none where it runs or is down.
+    pub fn left(&self) -> u32
+        ensures { result ≡ length (left_in self.now) }
+    {
+        match self {
+            Phase::Replaying(rank) => rank.left(),
+            Phase::Running(_) | Phase::Down(_) => 0,
+        }
+    }
+}
+
+#[tactic(auto, using(crate::proofs::Phases::goes_on, crate::proofs::Phases::is_done))]
+fn settled<'p, S: Shelf, D>(rank: Replaying<'p, S, D>) -> Phase<'p, S, D>
+    ensures settled { result ≡ settled_replay rank.entry rank.entry.left }
+    ensures stable { stable_of result ≡ rank.entry.node.stable }
+{
+    if rank.left() > 0 {
+        return Phase::Replaying(rank);
+    }
+    match rank.settle() {
+        Ok(rank) => Phase::Running(rank),
+        Err(rank) => Phase::Replaying(rank),
+    }
+}
