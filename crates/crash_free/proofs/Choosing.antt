@@ -56,22 +56,22 @@ allowed_act program machines C r m m' c act there means free after =
     (set_there machines r m' (slice_get_within machines r m there)) (rw means (free, after, refl))
 
 -- What a call has to show of an act: the choice is allowed, and what the simulation keeps stays kept.
-pub record IsDone (program : ProgramValue) (machines : List MachineValue) (lanes' : List (List Slot)) (C : List Passed) (r : ℕ) (m' : MachineValue)
+pub record IsDone (program : ProgramValue) (machines : List MachineValue) (channels' : List (List Slot)) (C : List Passed) (r : ℕ) (m' : MachineValue)
     (c : Choice) (act : Act) : Type 0 where
   pub allowed : Allows (value_of program machines C) r c (value_of program (slice_set machines r m') (record { rank = r; act = act } ∷ C))
-  pub kept : IsKept program (slice_set machines r m') lanes' (record { rank = r; act = act } ∷ C)
+  pub kept : IsKept program (slice_set machines r m') channels' (record { rank = r; act = act } ∷ C)
 
 -- a print is made
-pub done_print : {program : ProgramValue} {machines : List MachineValue} {lanes : List (List Slot)} {C : List Passed} {r : ℕ} {m m' : MachineValue} {v : ℤ}
-    → IsKept program machines lanes C → slice_get machines r ≡ Some m → Wants m (want.Print v)
+pub done_print : {program : ProgramValue} {machines : List MachineValue} {channels : List (List Slot)} {C : List Passed} {r : ℕ} {m m' : MachineValue} {v : ℤ}
+    → IsKept program machines channels C → slice_get machines r ≡ Some m → Wants m (want.Print v)
     → Makes (state_of m) (prints v) None → state_of m' ≡ next (state_of m) (prints v) None → m'.position ≡ next_of m → KeepsRank m m'
-    → IsDone program machines lanes C r m' choice.Next (prints v)
-done_print {program} {machines} {lanes} {C} {r} {m} {m'} {v} kept there a made state position stays =
+    → IsDone program machines channels C r m' choice.Next (prints v)
+done_print {program} {machines} {channels} {C} {r} {m} {m'} {v} kept there a made state position stays =
     let after : IsAfter m (prints v) None m' = record { state = state; position = position; stays = stays } in
     let free : IsFree (wants (state_of m)) (prints v) (inbound_of C r) (history C r) = tt in
     record {
       allowed = allowed_act program machines C r m m' choice.Next (prints v) there (rw a.at_want refl) free after;
-      kept = kept_act program machines lanes lanes C r m m' (prints v) kept there made free after (mail_print (length machines) lanes C r v kept.mail);
+      kept = kept_act program machines channels channels C r m m' (prints v) kept there made free after (mail_print (length machines) channels C r v kept.mail);
     }
 
 -- a machine that asks for a probe that doesn't wait may miss
@@ -79,34 +79,34 @@ pub may_miss : {m : MachineValue} {w : Selector} → Wants m (want.TryProbe w) �
 may_miss a = rw a.at_want tt
 
 -- a miss is made
-pub done_miss : {program : ProgramValue} {machines : List MachineValue} {lanes : List (List Slot)} {C : List Passed} {r : ℕ} {m m' : MachineValue}
+pub done_miss : {program : ProgramValue} {machines : List MachineValue} {channels : List (List Slot)} {C : List Passed} {r : ℕ} {m m' : MachineValue}
     {w : Selector}
-    → IsKept program machines lanes C → slice_get machines r ≡ Some m → Wants m (want.TryProbe w)
+    → IsKept program machines channels C → slice_get machines r ≡ Some m → Wants m (want.TryProbe w)
     → Makes (state_of m) misses None → state_of m' ≡ next (state_of m) misses None → m'.position ≡ next_of m → KeepsRank m m'
-    → IsDone program machines lanes C r m' choice.Miss misses
-done_miss {program} {machines} {lanes} {C} {r} {m} {m'} {w} kept there a made state position stays =
+    → IsDone program machines channels C r m' choice.Miss misses
+done_miss {program} {machines} {channels} {C} {r} {m} {m'} {w} kept there a made state position stays =
     let after : IsAfter m misses None m' = record { state = state; position = position; stays = stays } in
     let free : IsFree (wants (state_of m)) misses (inbound_of C r) (history C r) = tt in
     record {
       allowed = allowed_act program machines C r m m' choice.Miss misses there (rw a.at_want refl) free after;
-      kept = kept_act program machines lanes lanes C r m m' misses kept there made free after (mail_miss (length machines) lanes C r kept.mail);
+      kept = kept_act program machines channels channels C r m m' misses kept there made free after (mail_miss (length machines) channels C r kept.mail);
     }
 
 -- a send is made, and its message has a slot
-pub done_send : {program : ProgramValue} {machines : List MachineValue} {lanes : List (List Slot)} {C : List Passed} {r : ℕ} {m m' : MachineValue}
+pub done_send : {program : ProgramValue} {machines : List MachineValue} {channels : List (List Slot)} {C : List Passed} {r : ℕ} {m m' : MachineValue}
     {dest : ℕ} {context : Context} {tag : ℕ}
-    → IsKept program machines lanes C → slice_get machines r ≡ Some m → Wants m (want.Send dest context tag) → dest < length machines
+    → IsKept program machines channels C → slice_get machines r ≡ Some m → Wants m (want.Send dest context tag) → dest < length machines
     → Makes (state_of m) (sends dest context tag (payload (state_of m))) None
     → state_of m' ≡ next (state_of m) (sends dest context tag (payload (state_of m))) None → m'.position ≡ next_of m → KeepsRank m m'
-    → IsDone program machines (with_slot lanes r dest context tag (payload (state_of m))) C r m' choice.Next (sends dest context tag (payload (state_of m)))
-done_send {program} {machines} {lanes} {C} {r} {m} {m'} {dest} {context} {tag} kept there a receiver made state position stays =
+    → IsDone program machines (with_slot channels r dest context tag (payload (state_of m))) C r m' choice.Next (sends dest context tag (payload (state_of m)))
+done_send {program} {machines} {channels} {C} {r} {m} {m'} {dest} {context} {tag} kept there a receiver made state position stays =
     let act : Act = sends dest context tag (payload (state_of m)) in
     let after : IsAfter m act None m' = record { state = state; position = position; stays = stays } in
     let free : IsFree (wants (state_of m)) act (inbound_of C r) (history C r) = tt in
     record {
       allowed = allowed_act program machines C r m m' choice.Next act there (rw a.at_want refl) free after;
-      kept = kept_act program machines lanes _ C r m m' act kept there made free after
-          (mail_send (start_of program (length machines)) (length machines) lanes C r dest context tag (payload (state_of m)) kept.simulates.is_run
+      kept = kept_act program machines channels _ C r m m' act kept there made free after
+          (mail_send (start_of program (length machines)) (length machines) channels C r dest context tag (payload (state_of m)) kept.simulates.is_run
           kept.mail kept.few
           (slice_get_within machines r m there) receiver);
     }
@@ -133,11 +133,11 @@ found_machine {now} {program} {machines} {C} {k} {r} {m} w seen place low machin
     (there, wants_there machines r w m (subst (λ (s : SimValue). WantsAt s.machines r w) (sym seen) machine_want) there)
 
 -- what it wants names ranks that there are
-pub legal_there : (now : SimValue) (program : ProgramValue) (machines : List MachineValue) (lanes : List (List Slot)) (C : List Passed) (k r : ℕ)
+pub legal_there : (now : SimValue) (program : ProgramValue) (machines : List MachineValue) (channels : List (List Slot)) (C : List Passed) (k r : ℕ)
     (m : MachineValue) (w : Want)
-    → value_of program machines C ≡ now → IsKept program machines lanes C → k ≡ r → r < length now.machines → m ≡ get_or machines k m
+    → value_of program machines C ≡ now → IsKept program machines channels C → k ≡ r → r < length now.machines → m ≡ get_or machines k m
     → IsLegal m.store.size w → IsLegal (length now.machines) w
-legal_there now program machines lanes C k r m w seen kept place low read legal =
+legal_there now program machines channels C k r m w seen kept place low read legal =
     let there = read_machine now program machines C k r m seen place low read in
     subst (λ (s : SimValue). IsLegal (length s.machines) w) seen (subst (λ n. IsLegal n w) (kept.ranks r m there).size legal)
 

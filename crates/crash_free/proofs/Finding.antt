@@ -21,7 +21,7 @@ use Rattle.crash_free.specs.Runs.{Passed, history, sent, sends_from, at_place, l
 use Rattle.std.proofs.lemmas.Bool.{cases_lt}
 use Rattle.std.proofs.lemmas.List.Quantifiers.{position-Some}
 use Rattle.crash_free.specs.Sim.{SimValue, start_of, Meaning, makes, meaning, meant, inbound_of, position_after_act, IsAfter, IsRefused, Refuses}
-use Rattle.crash_free.specs.Slots.{Slot, packet_of, passes, lane, IsMail, IsKept}
+use Rattle.crash_free.specs.Slots.{Slot, packet_of, passes, channel, IsMail, IsKept}
 use Rattle.crash_free.specs.Wanted.{Wants, WantsAt, ProbesAt}
 use Rattle.crash_free.proofs.Taking.{no_history}
 use Rattle.crash_free.proofs.SlotLemmas.{eligible_first, first_eligible, packet_first}
@@ -32,18 +32,18 @@ use Rattle.crash_free.proofs.Choosing.{wants_it, value_of, allowed_act, IsDone, 
 use Rattle.crash_free.proofs.Seeking.{Seeks, receiving, probing, trying}
 
 -- what is found stands first, so it may be taken or hit
-found_eligible : (program : ProgramValue) (machines : List MachineValue) (lanes : List (List Slot)) (C : List Passed) (r s i : ℕ) (w : Selector)
-    → IsKept program machines lanes C → r < length machines → s < length machines → position (passes w) (lane lanes s r) ≡ Some i
+found_eligible : (program : ProgramValue) (machines : List MachineValue) (channels : List (List Slot)) (C : List Passed) (r s i : ℕ) (w : Selector)
+    → IsKept program machines channels C → r < length machines → s < length machines → position (passes w) (channel channels s r) ≡ Some i
     → IsEligible (inbound_of C r) (history C r) s (suc i) w
-found_eligible program machines lanes C r s i w kept rank source found =
+found_eligible program machines channels C r s i w kept rank source found =
     eligible_first (inbound_of C r) (history C r) s i w (ap (position (passes w)) (sym (kept.mail.each r s rank source)) ∙ found)
 
 -- the slot that was found holds a packet
-pub found_there : (program : ProgramValue) (machines : List MachineValue) (lanes : List (List Slot)) (C : List Passed) (r s i : ℕ) (w : Selector)
-    → IsKept program machines lanes C → r < length machines → s < length machines → position (passes w) (lane lanes s r) ≡ Some i
-    → (p : packet.PacketValue) × (slice_get (lane lanes s r) i ≡ Some (Some p)) × (p.source ≡ s)
-found_there program machines lanes C r s i w kept rank source found =
-    let e = found_eligible program machines lanes C r s i w kept rank source found in
+pub found_there : (program : ProgramValue) (machines : List MachineValue) (channels : List (List Slot)) (C : List Passed) (r s i : ℕ) (w : Selector)
+    → IsKept program machines channels C → r < length machines → s < length machines → position (passes w) (channel channels s r) ≡ Some i
+    → (p : packet.PacketValue) × (slice_get (channel channels s r) i ≡ Some (Some p)) × (p.source ≡ s)
+found_there program machines channels C r s i w kept rank source found =
+    let e = found_eligible program machines channels C r s i w kept rank source found in
     (packet_of s e.message, ap (λ xs. slice_get xs i) (kept.mail.each r s rank source) ∙ packet_first (inbound_of C r) (history C r) s i w e, refl)
 
 -- for a machine that looks for it, the choice of a message means its act
@@ -51,25 +51,25 @@ means_it : (m : MachineValue) (v : Want) (w : Selector) (act : ℕ → ℕ → A
 means_it m v w act s j k a = ap (λ u. meaning u (payload (state_of m)) (choice.Take s j)) a.at_want ∙ k.means (payload (state_of m)) s j
 
 -- the act that is made of the message that was found
-done_first : (program : ProgramValue) (machines : List MachineValue) (lanes lanes' : List (List Slot)) (C : List Passed) (r s i : ℕ) (m m' : MachineValue)
+done_first : (program : ProgramValue) (machines : List MachineValue) (channels channels' : List (List Slot)) (C : List Passed) (r s i : ℕ) (m m' : MachineValue)
     (v : Want) (w : Selector) (act : ℕ → ℕ → Act) (p : packet.PacketValue)
-    → Seeks v w act → IsKept program machines lanes C → slice_get machines r ≡ Some m → Wants m v → s < length machines
-    → position (passes w) (lane lanes s r) ≡ Some i → slice_get (lane lanes s r) i ≡ Some (Some p)
+    → Seeks v w act → IsKept program machines channels C → slice_get machines r ≡ Some m → Wants m v → s < length machines
+    → position (passes w) (channel channels s r) ≡ Some i → slice_get (channel channels s r) i ≡ Some (Some p)
     → ((place : ℕ) → state_of m' ≡ next (state_of m) (act p.source place) (Some (carried p)))
     → m'.position ≡ position_after_act m (act s (suc i)) m'.fault → KeepsRank m m'
-    → IsMail (length machines) lanes' (record { rank = r; act = act s (suc i) } ∷ C)
-    → IsDone program machines lanes' C r m' (choice.Take s (suc i)) (act s (suc i))
-done_first program machines lanes lanes' C r s i m m' v w act p k kept there a source found slot state position stays mail =
+    → IsMail (length machines) channels' (record { rank = r; act = act s (suc i) } ∷ C)
+    → IsDone program machines channels' C r m' (choice.Take s (suc i)) (act s (suc i))
+done_first program machines channels channels' C r s i m m' v w act p k kept there a source found slot state position stays mail =
     record {
       allowed = allowed_act program machines C r m m' (choice.Take s (suc i)) (act s (suc i)) there (means_it m v w act s (suc i) k a) free after;
-      kept = kept_act program machines lanes lanes' C r m m' (act s (suc i)) kept there made free after mail;
+      kept = kept_act program machines channels channels' C r m m' (act s (suc i)) kept there made free after mail;
     }
   where
     rank : r < length machines
     rank = slice_get_within machines r m there
 
     e : IsEligible (inbound_of C r) (history C r) s (suc i) w
-    e = found_eligible program machines lanes C r s i w kept rank source found
+    e = found_eligible program machines channels C r s i w kept rank source found
 
     wanted : wants (state_of m) ≡ v
     wanted = wants_it m v a k.no_step
@@ -107,12 +107,12 @@ refused_at : (s : SimValue) (r : ℕ) (m : MachineValue) (c : Choice) (M : Meani
 refused_at s r m c M why there means refused = rw (there, means) refused
 
 -- where nothing was found nothing may be taken or hit
-not_eligible : (program : ProgramValue) (machines : List MachineValue) (lanes : List (List Slot)) (C : List Passed) (r s j : ℕ) (m : MachineValue)
+not_eligible : (program : ProgramValue) (machines : List MachineValue) (channels : List (List Slot)) (C : List Passed) (r s j : ℕ) (m : MachineValue)
     (v : Want) (w : Selector) (act : ℕ → ℕ → Act)
-    → Seeks v w act → IsKept program machines lanes C → slice_get machines r ≡ Some m → Wants m v
-    → (s < length machines → (i : ℕ) → i + 1 ≡ j → position (passes w) (lane lanes s r) ≢ Some i)
+    → Seeks v w act → IsKept program machines channels C → slice_get machines r ≡ Some m → Wants m v
+    → (s < length machines → (i : ℕ) → i + 1 ≡ j → position (passes w) (channel channels s r) ≢ Some i)
     → Refuses (value_of program machines C) r (choice.Take s j) refusal.NotEligible
-not_eligible program machines lanes C r s j m v w act k kept there a none =
+not_eligible program machines channels C r s j m v w act k kept there a none =
     refused_at (value_of program machines C) r m (choice.Take s j) (makes (act s j)) refusal.NotEligible there (means_it m v w act s j k a)
     (λ free. never j none (k.eligible (inbound_of C r) (history C r) s j (subst (λ u. IsFree u (act s j) (inbound_of C r) (history C r)) wanted free)))
   where
@@ -129,7 +129,7 @@ not_eligible program machines lanes C r s j m v w act k kept there a none =
     unsent : length machines ≤ s → sent C s r ≡ []
     unsent high = ap (λ h. sends_from 0 r h) (no_history (start_of program (length machines)) (length machines) C kept.simulates.is_run s high)
 
-    never : (j : ℕ) → (s < length machines → (i : ℕ) → i + 1 ≡ j → position (passes w) (lane lanes s r) ≢ Some i)
+    never : (j : ℕ) → (s < length machines → (i : ℕ) → i + 1 ≡ j → position (passes w) (channel channels s r) ≢ Some i)
         → IsEligible (inbound_of C r) (history C r) s j w → ⊥
     never zero none e = nothing zero e.message e.there
     never (suc i) none e = go (cases_lt s (length machines))
@@ -145,30 +145,30 @@ machine_of (m ∷ machines) zero low = (m, refl)
 machine_of (m ∷ machines) (suc r) low = machine_of machines r (omega arith)
 
 -- What a call knows of a rank that looks for a message: the simulation it sees, what that keeps, and what the rank asks for.
-pub record Sought (now : SimValue) (program : ProgramValue) (machines : List MachineValue) (lanes : List (List Slot)) (C : List Passed) (r : ℕ)
+pub record Sought (now : SimValue) (program : ProgramValue) (machines : List MachineValue) (channels : List (List Slot)) (C : List Passed) (r : ℕ)
     (v : Want) : Type 0 where
   pub seen : value_of program machines C ≡ now
-  pub kept : IsKept program machines lanes C
+  pub kept : IsKept program machines channels C
   pub rank : r < length now.machines
   pub wanted : WantsAt now.machines r v
 
 -- what was found by a call, for the source and the index that it was given
-pub record Found (machines : List MachineValue) (lanes : List (List Slot)) (r : ℕ) (w : Selector) (source index s i : ℕ) : Type 0 where
+pub record Found (machines : List MachineValue) (channels : List (List Slot)) (r : ℕ) (w : Selector) (source index s i : ℕ) : Type 0 where
   pub same_source : s ≡ source
   pub place : i + 1 ≡ index
   pub there : s < length machines
-  pub first : position (passes w) (lane lanes s r) ≡ Some i
+  pub first : position (passes w) (channel channels s r) ≡ Some i
 
 -- what a call knows of a rank, from what the call was given
-pub sought : {now : SimValue} {program : ProgramValue} {machines : List MachineValue} {lanes : List (List Slot)} {C : List Passed} (r : ℕ) (v : Want)
-    → value_of program machines C ≡ now → IsKept program machines lanes C → r < length now.machines → WantsAt now.machines r v
-    → Sought now program machines lanes C r v
+pub sought : {now : SimValue} {program : ProgramValue} {machines : List MachineValue} {channels : List (List Slot)} {C : List Passed} (r : ℕ) (v : Want)
+    → value_of program machines C ≡ now → IsKept program machines channels C → r < length now.machines → WantsAt now.machines r v
+    → Sought now program machines channels C r v
 sought r v seen kept rank wanted = record { seen = seen; kept = kept; rank = rank; wanted = wanted }
 
 -- what a call found is there, where it counts the ranks
-pub found_by : {now : SimValue} {program : ProgramValue} {machines : List MachineValue} {lanes : List (List Slot)} {C : List Passed}
-    {r source index s i n : ℕ} {v : Want} (w : Selector) → Sought now program machines lanes C r v → n ≡ length now.machines → (s ≡ source) × (s < n)
-    → i + 1 ≡ index → position (passes w) (lane lanes s r) ≡ Some i → Found machines lanes r w source index s i
+pub found_by : {now : SimValue} {program : ProgramValue} {machines : List MachineValue} {channels : List (List Slot)} {C : List Passed}
+    {r source index s i n : ℕ} {v : Want} (w : Selector) → Sought now program machines channels C r v → n ≡ length now.machines → (s ≡ source) × (s < n)
+    → i + 1 ≡ index → position (passes w) (channel channels s r) ≡ Some i → Found machines channels r w source index s i
 found_by w known ranks at place first = record {
   same_source = at.0;
   place = place;
@@ -177,32 +177,32 @@ found_by w known ranks at place first = record {
 }
 
 -- where nothing was found the choice is refused
-pub refuses_take : {now : SimValue} {program : ProgramValue} {machines : List MachineValue} {lanes : List (List Slot)} {C : List Passed} {r n : ℕ} (s j : ℕ)
+pub refuses_take : {now : SimValue} {program : ProgramValue} {machines : List MachineValue} {channels : List (List Slot)} {C : List Passed} {r n : ℕ} (s j : ℕ)
     {v : Want} {w : Selector} {act : ℕ → ℕ → Act}
-    → Seeks v w act → Sought now program machines lanes C r v → n ≡ length now.machines
-    → (s < n → (i : ℕ) → i + 1 ≡ j → position (passes w) (lane lanes s r) ≢ Some i)
+    → Seeks v w act → Sought now program machines channels C r v → n ≡ length now.machines
+    → (s < n → (i : ℕ) → i + 1 ≡ j → position (passes w) (channel channels s r) ≢ Some i)
     → Refuses now r (choice.Take s j) refusal.NotEligible
-refuses_take {now} {program} {machines} {lanes} {C} {r} {n} s j {v} {w} {act} k known ranks none =
+refuses_take {now} {program} {machines} {channels} {C} {r} {n} s j {v} {w} {act} k known ranks none =
     let count : n ≡ length machines = ranks ∙ ap (λ (v : SimValue). length v.machines) (sym known.seen) in
     let rank = subst (λ (s : SimValue). r < length s.machines) (sym known.seen) known.rank in
     let wanted = subst (λ (s : SimValue). WantsAt s.machines r v) (sym known.seen) known.wanted in
     let m = machine_of machines r rank in
     subst (λ z. Refuses z r (choice.Take s j) refusal.NotEligible) known.seen
-    (not_eligible program machines lanes C r s j m.0 v w act k known.kept m.1 (wants_there machines r v m.0 wanted m.1) (λ low. none (rw count low)))
+    (not_eligible program machines channels C r s j m.0 v w act k known.kept m.1 (wants_there machines r v m.0 wanted m.1) (λ low. none (rw count low)))
 
 -- where it was found memory may want
-pub refuses_memory : {now : SimValue} {program : ProgramValue} {machines : List MachineValue} {lanes : List (List Slot)} {C : List Passed}
+pub refuses_memory : {now : SimValue} {program : ProgramValue} {machines : List MachineValue} {channels : List (List Slot)} {C : List Passed}
     {r source index s i : ℕ} {v : Want} {w : Selector} {act : ℕ → ℕ → Act}
-    → Seeks v w act → Sought now program machines lanes C r v → Found machines lanes r w source index s i
+    → Seeks v w act → Sought now program machines channels C r v → Found machines channels r w source index s i
     → Refuses now r (choice.Take source index) refusal.Memory
-refuses_memory {now} {program} {machines} {lanes} {C} {r} {source} {index} {s} {i} {v} {w} {act} k known found =
+refuses_memory {now} {program} {machines} {channels} {C} {r} {source} {index} {s} {i} {v} {w} {act} k known found =
     subst (λ z. Refuses z r (choice.Take source index) refusal.Memory) known.seen (at (machine_of machines r rank))
   where
     rank : r < length machines
     rank = subst (λ (s : SimValue). r < length s.machines) (sym known.seen) known.rank
 
     e : IsEligible (inbound_of C r) (history C r) s (suc i) w
-    e = found_eligible program machines lanes C r s i w known.kept rank found.there found.first
+    e = found_eligible program machines channels C r s i w known.kept rank found.there found.first
 
     e' : IsEligible (inbound_of C r) (history C r) source index w
     e' =
@@ -219,28 +219,28 @@ refuses_memory {now} {program} {machines} {lanes} {C} {r} {source} {index} {s} {
         (subst (λ u. IsFree u (act source index) (inbound_of C r) (history C r)) (sym wanted) (k.free (inbound_of C r) (history C r) source index e'))
 
 -- the slot that was found holds a packet
-pub slot_there : {now : SimValue} {program : ProgramValue} {machines : List MachineValue} {lanes : List (List Slot)} {C : List Passed}
+pub slot_there : {now : SimValue} {program : ProgramValue} {machines : List MachineValue} {channels : List (List Slot)} {C : List Passed}
     {r source index s i : ℕ} {v : Want} {w : Selector}
-    → Sought now program machines lanes C r v → Found machines lanes r w source index s i → IsSomeAnd (slice_get (lane lanes s r) i) IsSome
-slot_there {now} {program} {machines} {lanes} {C} {r} {source} {index} {s} {i} {v} {w} known found =
+    → Sought now program machines channels C r v → Found machines channels r w source index s i → IsSomeAnd (slice_get (channel channels s r) i) IsSome
+slot_there {now} {program} {machines} {channels} {C} {r} {source} {index} {s} {i} {v} {w} known found =
     let rank = subst (λ (s : SimValue). r < length s.machines) (sym known.seen) known.rank in
-    let p = found_there program machines lanes C r s i w known.kept rank found.there found.first in
+    let p = found_there program machines channels C r s i w known.kept rank found.there found.first in
     rw p.1 refl
 
 -- the packet that was found is one that the selector names
-pub packet_matches : {machines : List MachineValue} {lanes : List (List Slot)} {r source index s i : ℕ} {w : Selector} (p : packet.PacketValue)
-    → Found machines lanes r w source index s i → slice_get (lane lanes s r) i ≡ Some (Some p) → matches w p ≡ true
-packet_matches {machines} {lanes} {r} {source} {index} {s} {i} {w} p found slot =
-    let all = position-Some (passes w) (lane lanes s r) i None found.first in
-    ap (passes w) (sym (get_or_from_slice_get (lane lanes s r) i (Some p) None slot)) ∙ all.1
+pub packet_matches : {machines : List MachineValue} {channels : List (List Slot)} {r source index s i : ℕ} {w : Selector} (p : packet.PacketValue)
+    → Found machines channels r w source index s i → slice_get (channel channels s r) i ≡ Some (Some p) → matches w p ≡ true
+packet_matches {machines} {channels} {r} {source} {index} {s} {i} {w} p found slot =
+    let all = position-Some (passes w) (channel channels s r) i None found.first in
+    ap (passes w) (sym (get_or_from_slice_get (channel channels s r) i (Some p) None slot)) ∙ all.1
 
 -- and its source is a rank, as its slot is that of a message of one
-pub source_there : {now : SimValue} {program : ProgramValue} {machines : List MachineValue} {lanes : List (List Slot)} {C : List Passed}
+pub source_there : {now : SimValue} {program : ProgramValue} {machines : List MachineValue} {channels : List (List Slot)} {C : List Passed}
     {r source index s i : ℕ} {m : MachineValue} {v : Want} {w : Selector} {p : packet.PacketValue}
-    → Sought now program machines lanes C r v → Found machines lanes r w source index s i → slice_get machines r ≡ Some m
-    → slice_get (lane lanes s r) i ≡ Some (Some p) → p.source < m.store.size
-source_there {now} {program} {machines} {lanes} {C} {r} {source} {index} {s} {i} {m} {v} {w} {p} known found there slot =
-    let q = found_there program machines lanes C r s i w known.kept (slice_get_within machines r m there) found.there found.first in
+    → Sought now program machines channels C r v → Found machines channels r w source index s i → slice_get machines r ≡ Some m
+    → slice_get (channel channels s r) i ≡ Some (Some p) → p.source < m.store.size
+source_there {now} {program} {machines} {channels} {C} {r} {source} {index} {s} {i} {m} {v} {w} {p} known found there slot =
+    let q = found_there program machines channels C r s i w known.kept (slice_get_within machines r m there) found.there found.first in
     let same : p ≡ q.0 = some_same (some_same (sym slot ∙ q.1)) in
     let size = (known.kept.ranks r m there).size in
     rw (same, q.2, size) found.there
@@ -269,73 +269,73 @@ pub may_show : {m : MachineValue} {v : Want} (p : packet.PacketValue) → Wants 
 may_show p a shows = subst (λ u. IsShowing u p) (sym a.at_want) shows
 
 -- the act is made of the message that was found, for the source and the index that the call was given
-done_found : (program : ProgramValue) (machines : List MachineValue) (lanes lanes' : List (List Slot)) (C : List Passed) (r source index s i : ℕ)
+done_found : (program : ProgramValue) (machines : List MachineValue) (channels channels' : List (List Slot)) (C : List Passed) (r source index s i : ℕ)
     (m m' : MachineValue) (v : Want) (w : Selector) (act : ℕ → ℕ → Act) (p : packet.PacketValue)
-    → Seeks v w act → IsKept program machines lanes C → slice_get machines r ≡ Some m → Wants m v → Found machines lanes r w source index s i
-    → slice_get (lane lanes s r) i ≡ Some (Some p)
+    → Seeks v w act → IsKept program machines channels C → slice_get machines r ≡ Some m → Wants m v → Found machines channels r w source index s i
+    → slice_get (channel channels s r) i ≡ Some (Some p)
     → ((place : ℕ) → state_of m' ≡ next (state_of m) (act p.source place) (Some (carried p)))
     → m'.position ≡ position_after_act m (act s (suc i)) m'.fault → KeepsRank m m'
-    → IsMail (length machines) lanes' (record { rank = r; act = act s (suc i) } ∷ C)
-    → IsDone program machines lanes' C r m' (choice.Take source index) (act s index)
-done_found program machines lanes lanes' C r source index s i m m' v w act p k kept there a found slot state position stays mail =
+    → IsMail (length machines) channels' (record { rank = r; act = act s (suc i) } ∷ C)
+    → IsDone program machines channels' C r m' (choice.Take source index) (act s index)
+done_found program machines channels channels' C r source index s i m m' v w act p k kept there a found slot state position stays mail =
     let place : suc i ≡ index = let q = found.place in omega (arith, q) in
-    subst (λ z. IsDone program machines lanes' C r m' (choice.Take z index) (act s index)) found.same_source
-    (subst (λ z. IsDone program machines lanes' C r m' (choice.Take s z) (act s z)) place
-    (done_first program machines lanes lanes' C r s i m m' v w act p k kept there a found.there found.first slot state position stays mail))
+    subst (λ z. IsDone program machines channels' C r m' (choice.Take z index) (act s index)) found.same_source
+    (subst (λ z. IsDone program machines channels' C r m' (choice.Take s z) (act s z)) place
+    (done_first program machines channels channels' C r s i m m' v w act p k kept there a found.there found.first slot state position stays mail))
 
 -- the message that was found is received
-pub done_take : {program : ProgramValue} {machines : List MachineValue} {lanes : List (List Slot)} {C : List Passed} {r source index s i : ℕ}
+pub done_take : {program : ProgramValue} {machines : List MachineValue} {channels : List (List Slot)} {C : List Passed} {r source index s i : ℕ}
     {m m' : MachineValue} {w : Selector} {p : packet.PacketValue}
-    → IsKept program machines lanes C → slice_get machines r ≡ Some m → Wants m (want.Receive w) → Found machines lanes r w source index s i
-    → slice_get (lane lanes s r) i ≡ Some (Some p)
+    → IsKept program machines channels C → slice_get machines r ≡ Some m → Wants m (want.Receive w) → Found machines channels r w source index s i
+    → slice_get (channel channels s r) i ≡ Some (Some p)
     → ((place : ℕ) → state_of m' ≡ next (state_of m) (takes p.source place) (Some (carried p)))
     → m'.position ≡ position_after_act m (takes s (suc i)) m'.fault → KeepsRank m m'
-    → IsDone program machines (with_emptied lanes r s i) C r m' (choice.Take source index) (takes s index)
-done_take {program} {machines} {lanes} {C} {r} {source} {index} {s} {i} {m} {m'} {w} {p} kept there a found slot state position stays =
-    done_found program machines lanes (with_emptied lanes r s i) C r source index s i m m' (want.Receive w) w takes p (receiving w) kept there a found slot
-    state position stays (mail_take (length machines) lanes C r s i kept.mail kept.few (slice_get_within machines r m there) found.there)
+    → IsDone program machines (with_emptied channels r s i) C r m' (choice.Take source index) (takes s index)
+done_take {program} {machines} {channels} {C} {r} {source} {index} {s} {i} {m} {m'} {w} {p} kept there a found slot state position stays =
+    done_found program machines channels (with_emptied channels r s i) C r source index s i m m' (want.Receive w) w takes p (receiving w) kept there a found slot
+    state position stays (mail_take (length machines) channels C r s i kept.mail kept.few (slice_get_within machines r m there) found.there)
 
 -- the message that was found is hit, and stays
-pub done_hit : {program : ProgramValue} {machines : List MachineValue} {lanes : List (List Slot)} {C : List Passed} {r source index s i : ℕ}
+pub done_hit : {program : ProgramValue} {machines : List MachineValue} {channels : List (List Slot)} {C : List Passed} {r source index s i : ℕ}
     {m m' : MachineValue} {v : Want} {w : Selector} {p : packet.PacketValue}
-    → Seeks v w hits → IsKept program machines lanes C → slice_get machines r ≡ Some m → Wants m v → Found machines lanes r w source index s i
-    → slice_get (lane lanes s r) i ≡ Some (Some p)
+    → Seeks v w hits → IsKept program machines channels C → slice_get machines r ≡ Some m → Wants m v → Found machines channels r w source index s i
+    → slice_get (channel channels s r) i ≡ Some (Some p)
     → ((place : ℕ) → state_of m' ≡ next (state_of m) (hits p.source place) (Some (carried p)))
     → m'.position ≡ position_after_act m (hits s (suc i)) m'.fault → KeepsRank m m'
-    → IsDone program machines lanes C r m' (choice.Take source index) (hits s index)
-done_hit {program} {machines} {lanes} {C} {r} {source} {index} {s} {i} {m} {m'} {v} {w} {p} k kept there a found slot state position stays =
-    done_found program machines lanes lanes C r source index s i m m' v w hits p k kept there a found slot state position stays
-    (mail_hit (length machines) lanes C r s (suc i) kept.mail)
+    → IsDone program machines channels C r m' (choice.Take source index) (hits s index)
+done_hit {program} {machines} {channels} {C} {r} {source} {index} {s} {i} {m} {m'} {v} {w} {p} k kept there a found slot state position stays =
+    done_found program machines channels channels C r source index s i m m' v w hits p k kept there a found slot state position stays
+    (mail_hit (length machines) channels C r s (suc i) kept.mail)
 
 -- what was found first of a source is eligible
-pub first_found : {now : SimValue} {program : ProgramValue} {machines : List MachineValue} {lanes : List (List Slot)} {C : List Passed} (r s : ℕ)
-    (w : Selector) (o : Option ℕ) → value_of program machines C ≡ now → IsKept program machines lanes C → r < length now.machines → s < length now.machines
-    → o ≡ position (passes w) (lane lanes s r) → IfSome o (λ index. IsEligible (inbound_of now.run r) (history now.run r) s (suc index) w)
-first_found {now} {program} {machines} {lanes} {C} r s w o seen kept =
-    subst (λ (z : SimValue). r < length z.machines → s < length z.machines → o ≡ position (passes w) (lane lanes s r)
+pub first_found : {now : SimValue} {program : ProgramValue} {machines : List MachineValue} {channels : List (List Slot)} {C : List Passed} (r s : ℕ)
+    (w : Selector) (o : Option ℕ) → value_of program machines C ≡ now → IsKept program machines channels C → r < length now.machines → s < length now.machines
+    → o ≡ position (passes w) (channel channels s r) → IfSome o (λ index. IsEligible (inbound_of now.run r) (history now.run r) s (suc index) w)
+first_found {now} {program} {machines} {channels} {C} r s w o seen kept =
+    subst (λ (z : SimValue). r < length z.machines → s < length z.machines → o ≡ position (passes w) (channel channels s r)
     → IfSome o (λ index. IsEligible (inbound_of z.run r) (history z.run r) s (suc index) w)) seen (go o)
   where
-    go : (o : Option ℕ) → r < length machines → s < length machines → o ≡ position (passes w) (lane lanes s r)
+    go : (o : Option ℕ) → r < length machines → s < length machines → o ≡ position (passes w) (channel channels s r)
         → IfSome o (λ index. IsEligible (inbound_of C r) (history C r) s (suc index) w)
     go None rank source e = tt
-    go (Some i) rank source e = found_eligible program machines lanes C r s i w kept rank source (sym e)
+    go (Some i) rank source e = found_eligible program machines channels C r s i w kept rank source (sym e)
 
 -- and where nothing was found nothing is
-pub none_found : {now : SimValue} {program : ProgramValue} {machines : List MachineValue} {lanes : List (List Slot)} {C : List Passed} (r s : ℕ)
-    (w : Selector) (o : Option ℕ) → value_of program machines C ≡ now → IsKept program machines lanes C → r < length now.machines → s < length now.machines
-    → o ≡ position (passes w) (lane lanes s r) → IsNone o → (j : ℕ) → IsEligible (inbound_of now.run r) (history now.run r) s j w → ⊥
-none_found {now} {program} {machines} {lanes} {C} r s w o seen kept =
-    subst (λ (z : SimValue). r < length z.machines → s < length z.machines → o ≡ position (passes w) (lane lanes s r) → IsNone o
+pub none_found : {now : SimValue} {program : ProgramValue} {machines : List MachineValue} {channels : List (List Slot)} {C : List Passed} (r s : ℕ)
+    (w : Selector) (o : Option ℕ) → value_of program machines C ≡ now → IsKept program machines channels C → r < length now.machines → s < length now.machines
+    → o ≡ position (passes w) (channel channels s r) → IsNone o → (j : ℕ) → IsEligible (inbound_of now.run r) (history now.run r) s j w → ⊥
+none_found {now} {program} {machines} {channels} {C} r s w o seen kept =
+    subst (λ (z : SimValue). r < length z.machines → s < length z.machines → o ≡ position (passes w) (channel channels s r) → IsNone o
     → (j : ℕ) → IsEligible (inbound_of z.run r) (history z.run r) s j w → ⊥) seen (go o)
   where
     no_place : (x : Message) (xs : List Message) → at_place xs zero ≡ Some x → ⊥
     no_place x xs e = cc
 
-    go : (o : Option ℕ) → r < length machines → s < length machines → o ≡ position (passes w) (lane lanes s r) → IsNone o
+    go : (o : Option ℕ) → r < length machines → s < length machines → o ≡ position (passes w) (channel channels s r) → IsNone o
         → (j : ℕ) → IsEligible (inbound_of C r) (history C r) s j w → ⊥
     go (Some i) rank source e none j eligible = absurd cc
     go None rank source none is_none zero e = no_place e.message (inbound_of C r s) e.there
     go None rank source none is_none (suc i) e =
-        let found : position (passes w) (lane lanes s r) ≡ Some i =
+        let found : position (passes w) (channel channels s r) ≡ Some i =
         ap (position (passes w)) (kept.mail.each r s rank source) ∙ first_eligible (inbound_of C r) (history C r) s i w e in
         (let q : None ≡ Some i = none ∙ found in cc)

@@ -56,11 +56,11 @@ abbrev Stands : ProgramValue → ℕ → List Passed → ℕ → MachineValue �
 Stands program n C r m = (after : State) × Runs (start_of program n r) (history C r) after × Inners after (state_of m)
 
 -- with another machine of one rank, and perhaps more acts
-kept_with : (program : ProgramValue) (machines : List MachineValue) (lanes lanes' : List (List Slot)) (C C' : List Passed) (r : ℕ) (m m' : MachineValue)
-    → IsKept program machines lanes C → slice_get machines r ≡ Some m → KeepsRank m m' → IsRun (start_of program (length machines)) (length machines) C'
-    → Stands program (length machines) C' r m' → ((q : ℕ) → (r ≡ q → ⊥) → history C' q ≡ history C q) → IsMail (length machines) lanes' C'
-    → IsKept program (slice_set machines r m') lanes' C'
-kept_with program machines lanes lanes' C C' r m m' kept there keeps run stands others mail =
+kept_with : (program : ProgramValue) (machines : List MachineValue) (channels channels' : List (List Slot)) (C C' : List Passed) (r : ℕ) (m m' : MachineValue)
+    → IsKept program machines channels C → slice_get machines r ≡ Some m → KeepsRank m m' → IsRun (start_of program (length machines)) (length machines) C'
+    → Stands program (length machines) C' r m' → ((q : ℕ) → (r ≡ q → ⊥) → history C' q ≡ history C q) → IsMail (length machines) channels' C'
+    → IsKept program (slice_set machines r m') channels' C'
+kept_with program machines channels channels' C C' r m m' kept there keeps run stands others mail =
     record {
       simulates = record { is_run = rw same run; ranks = λ q x at. rw same (each q x (set_cases machines r m' q x at)) };
       ranks = λ q x at. rw same (each_rank q x (set_cases machines r m' q x at));
@@ -85,10 +85,10 @@ kept_with program machines lanes lanes' C C' r m m' kept there keeps run stands 
     each_rank q x (inr h) = kept.ranks q x h.1
 
 -- an internal step of a rank
-pub kept_step : (program : ProgramValue) (machines : List MachineValue) (lanes : List (List Slot)) (C : List Passed) (r : ℕ) (m m' : MachineValue)
-    → IsKept program machines lanes C → slice_get machines r ≡ Some m → GoesOn m m' → IsKept program (slice_set machines r m') lanes C
-kept_step program machines lanes C r m m' kept there goes =
-    kept_with program machines lanes lanes C C r m m' kept there (keeps_rank m m' goes) kept.simulates.is_run
+pub kept_step : (program : ProgramValue) (machines : List MachineValue) (channels : List (List Slot)) (C : List Passed) (r : ℕ) (m m' : MachineValue)
+    → IsKept program machines channels C → slice_get machines r ≡ Some m → GoesOn m m' → IsKept program (slice_set machines r m') channels C
+kept_step program machines channels C r m m' kept there goes =
+    kept_with program machines channels channels C C r m m' kept there (keeps_rank m m' goes) kept.simulates.is_run
     (further goes.state) (λ q never. refl) kept.mail
   where
     further : (inner (state_of m) ≡ Some (state_of m')) ⊎ (state_of m' ≡ state_of m) → Stands program (length machines) C r m'
@@ -96,23 +96,23 @@ kept_step program machines lanes C r m m' kept there goes =
     further (inr e) = let old = kept.simulates.ranks r m there in (old.0, old.1, subst (λ z. Inners old.0 z) (sym e) old.2)
 
 -- steps of its own of a rank, whatever their number
-pub kept_inside : (program : ProgramValue) (machines : List MachineValue) (lanes : List (List Slot)) (C : List Passed) (r : ℕ) (m m' : MachineValue)
-    → IsKept program machines lanes C → slice_get machines r ≡ Some m → KeepsRank m m' → Inners (state_of m) (state_of m')
-    → IsKept program (slice_set machines r m') lanes C
-kept_inside program machines lanes C r m m' kept there keeps inners =
+pub kept_inside : (program : ProgramValue) (machines : List MachineValue) (channels : List (List Slot)) (C : List Passed) (r : ℕ) (m m' : MachineValue)
+    → IsKept program machines channels C → slice_get machines r ≡ Some m → KeepsRank m m' → Inners (state_of m) (state_of m')
+    → IsKept program (slice_set machines r m') channels C
+kept_inside program machines channels C r m m' kept there keeps inners =
     let old = kept.simulates.ranks r m there in
-    kept_with program machines lanes lanes C C r m m' kept there keeps kept.simulates.is_run (old.0, old.1, Inners-append old.2 inners)
+    kept_with program machines channels channels C C r m m' kept there keeps kept.simulates.is_run (old.0, old.1, Inners-append old.2 inners)
     (λ q never. refl) kept.mail
 
 -- an act of a rank
-pub kept_act : (program : ProgramValue) (machines : List MachineValue) (lanes lanes' : List (List Slot)) (C : List Passed) (r : ℕ) (m m' : MachineValue)
+pub kept_act : (program : ProgramValue) (machines : List MachineValue) (channels channels' : List (List Slot)) (C : List Passed) (r : ℕ) (m m' : MachineValue)
     (act : Act)
-    → IsKept program machines lanes C → slice_get machines r ≡ Some m
+    → IsKept program machines channels C → slice_get machines r ≡ Some m
     → Makes (state_of m) act (looked_up (inbound_of C r) act) → IsFree (wants (state_of m)) act (inbound_of C r) (history C r)
-    → IsAfter m act (looked_up (inbound_of C r) act) m' → IsMail (length machines) lanes' (record { rank = r; act = act } ∷ C)
-    → IsKept program (slice_set machines r m') lanes' (record { rank = r; act = act } ∷ C)
-kept_act program machines lanes lanes' C r m m' act kept there makes free after mail =
-    kept_with program machines lanes lanes' C (record { rank = r; act = act } ∷ C) r m m' kept there after.stays (
+    → IsAfter m act (looked_up (inbound_of C r) act) m' → IsMail (length machines) channels' (record { rank = r; act = act } ∷ C)
+    → IsKept program (slice_set machines r m') channels' (record { rank = r; act = act } ∷ C)
+kept_act program machines channels channels' C r m m' act kept there makes free after mail =
+    kept_with program machines channels channels' C (record { rank = r; act = act } ∷ C) r m m' kept there after.stays (
       kept.simulates.is_run,
       slice_get_within machines r m there,
       record

@@ -9,19 +9,19 @@ use Rattle.matching.specs.declared.packet.Context.{Context}
 use Rattle.rank_machine.specs.States.{State}
 use Rattle.rank_machine.specs.Acts.{Act, Message, sends, takes, hits, misses, prints}
 use Rattle.crash_free.specs.Runs.{Passed, history, sent, send_at, taken, takes_it, IsRun}
-use Rattle.crash_free.specs.Slots.{Slot, packet_of, slots_from, slots_of, place_of, lane, IsMail}
+use Rattle.crash_free.specs.Slots.{Slot, packet_of, slots_from, slots_of, place_of, channel, IsMail}
 use Rattle.crash_free.proofs.Lists.{sent-own, sent-other}
 use Rattle.crash_free.proofs.Taking.{taken_after, sent_same, untaken_beyond}
 use Rattle.crash_free.proofs.SlotLemmas.{slots_same, slots-push, slots_take}
 
 -- the list of a pair is its own
-lane-set_same : (lanes : List (List Slot)) (s r : ℕ) (x : List Slot) → place_of s r < length lanes → lane (slice_set lanes (place_of s r) x) s r ≡ x
-lane-set_same lanes s r x low = get_or-set_same lanes (place_of s r) x [] low
+channel-set_same : (channels : List (List Slot)) (s r : ℕ) (x : List Slot) → place_of s r < length channels → channel (slice_set channels (place_of s r) x) s r ≡ x
+channel-set_same channels s r x low = get_or-set_same channels (place_of s r) x [] low
 
 -- and the other pairs' lists stay
-lane-set_other : (lanes : List (List Slot)) (s r s' r' : ℕ) (x : List Slot) → (place_of s' r' ≡ place_of s r → ⊥)
-    → lane (slice_set lanes (place_of s r) x) s' r' ≡ lane lanes s' r'
-lane-set_other lanes s r s' r' x differ = get_or-set_other lanes (place_of s r) (place_of s' r') x [] differ
+channel-set_other : (channels : List (List Slot)) (s r s' r' : ℕ) (x : List Slot) → (place_of s' r' ≡ place_of s r → ⊥)
+    → channel (slice_set channels (place_of s r) x) s' r' ≡ channel channels s' r'
+channel-set_other channels s r s' r' x differ = get_or-set_other channels (place_of s r) (place_of s' r') x [] differ
 
 -- nothing more is taken of s by r
 keeps_taken : (C : List Passed) (q : ℕ) (a : Act) (r s j : ℕ) → (q == r && takes_it s j a) ≡ false
@@ -45,9 +45,9 @@ and_false true = refl
 and_false false = refl
 
 -- an act that sends nothing and takes nothing leaves all slots
-mail_same : (n : ℕ) (lanes : List (List Slot)) (C : List Passed) (q : ℕ) (a : Act) → ((k r : ℕ) → send_at k r a [] ≡ []) → ((s j : ℕ) → takes_it s j a ≡ false)
-    → IsMail n lanes C → IsMail n lanes (record { rank = q; act = a } ∷ C)
-mail_same n lanes C q a silent none mail =
+mail_same : (n : ℕ) (channels : List (List Slot)) (C : List Passed) (q : ℕ) (a : Act) → ((k r : ℕ) → send_at k r a [] ≡ []) → ((s j : ℕ) → takes_it s j a ≡ false)
+    → IsMail n channels C → IsMail n channels (record { rank = q; act = a } ∷ C)
+mail_same n channels C q a silent none mail =
     record {
       size = mail.size;
       each = λ r s rank source. mail.each r s rank source
@@ -55,19 +55,19 @@ mail_same n lanes C q a silent none mail =
     }
 
 -- so does a print
-pub mail_print : (n : ℕ) (lanes : List (List Slot)) (C : List Passed) (q : ℕ) (v : ℤ) → IsMail n lanes C
-    → IsMail n lanes (record { rank = q; act = prints v } ∷ C)
-mail_print n lanes C q v mail = mail_same n lanes C q (prints v) (λ k r. refl) (λ s j. refl) mail
+pub mail_print : (n : ℕ) (channels : List (List Slot)) (C : List Passed) (q : ℕ) (v : ℤ) → IsMail n channels C
+    → IsMail n channels (record { rank = q; act = prints v } ∷ C)
+mail_print n channels C q v mail = mail_same n channels C q (prints v) (λ k r. refl) (λ s j. refl) mail
 
 -- a hit, which leaves the message to later acts
-pub mail_hit : (n : ℕ) (lanes : List (List Slot)) (C : List Passed) (q s j : ℕ) → IsMail n lanes C
-    → IsMail n lanes (record { rank = q; act = hits s j } ∷ C)
-mail_hit n lanes C q s j mail = mail_same n lanes C q (hits s j) (λ k r. refl) (λ s' j'. refl) mail
+pub mail_hit : (n : ℕ) (channels : List (List Slot)) (C : List Passed) (q s j : ℕ) → IsMail n channels C
+    → IsMail n channels (record { rank = q; act = hits s j } ∷ C)
+mail_hit n channels C q s j mail = mail_same n channels C q (hits s j) (λ k r. refl) (λ s' j'. refl) mail
 
 -- and a miss
-pub mail_miss : (n : ℕ) (lanes : List (List Slot)) (C : List Passed) (q : ℕ) → IsMail n lanes C
-    → IsMail n lanes (record { rank = q; act = misses } ∷ C)
-mail_miss n lanes C q mail = mail_same n lanes C q misses (λ k r. refl) (λ s j. refl) mail
+pub mail_miss : (n : ℕ) (channels : List (List Slot)) (C : List Passed) (q : ℕ) → IsMail n channels C
+    → IsMail n channels (record { rank = q; act = misses } ∷ C)
+mail_miss n channels C q mail = mail_same n channels C q misses (λ k r. refl) (λ s j. refl) mail
 
 -- a run after one more send, and one more reception
 abbrev pub sending : List Passed → ℕ → ℕ → Context → ℕ → List ℤ → List Passed
@@ -82,29 +82,29 @@ message_of C q context tag items = record { clock = length (history C q) + 1; co
 
 -- the slots of a pair of ranks with one more, and those of all pairs
 abbrev longer_by : List (List Slot) → ℕ → ℕ → Context → ℕ → List ℤ → List Slot
-longer_by lanes q d context tag items = lane lanes q d ++ Some (record { source = q; clock = 1; number = 1; context = context; tag = tag; items = items }) ∷ []
+longer_by channels q d context tag items = channel channels q d ++ Some (record { source = q; clock = 1; number = 1; context = context; tag = tag; items = items }) ∷ []
 
 abbrev pub with_slot : List (List Slot) → ℕ → ℕ → Context → ℕ → List ℤ → List (List Slot)
-with_slot lanes q d context tag items = slice_set lanes (place_of q d) (longer_by lanes q d context tag items)
+with_slot channels q d context tag items = slice_set channels (place_of q d) (longer_by channels q d context tag items)
 
 -- the slots of a pair of ranks with this one empty, and those of all pairs
 abbrev emptied : List (List Slot) → ℕ → ℕ → ℕ → List Slot
-emptied lanes q s₀ i = slice_set (lane lanes s₀ q) i None
+emptied channels q s₀ i = slice_set (channel channels s₀ q) i None
 
 abbrev pub with_emptied : List (List Slot) → ℕ → ℕ → ℕ → List (List Slot)
-with_emptied lanes q s₀ i = slice_set lanes (place_of s₀ q) (emptied lanes q s₀ i)
+with_emptied channels q s₀ i = slice_set channels (place_of s₀ q) (emptied channels q s₀ i)
 
 -- a send to a rank gives it one more slot from the sender
-pub mail_send : (start : ℕ → State) (n : ℕ) (lanes : List (List Slot)) (C : List Passed) (q d : ℕ) (context : Context) (tag : ℕ) (items : List ℤ)
-    → IsRun start n C → IsMail n lanes C → n ≤ most_ranks → q < n → d < n
-    → IsMail n (with_slot lanes q d context tag items) (sending C q d context tag items)
-mail_send start n lanes C q d context tag items run mail few sender receiver =
+pub mail_send : (start : ℕ → State) (n : ℕ) (channels : List (List Slot)) (C : List Passed) (q d : ℕ) (context : Context) (tag : ℕ) (items : List ℤ)
+    → IsRun start n C → IsMail n channels C → n ≤ most_ranks → q < n → d < n
+    → IsMail n (with_slot channels q d context tag items) (sending C q d context tag items)
+mail_send start n channels C q d context tag items run mail few sender receiver =
     record {
-      size = length-set lanes (place_of q d) (longer_by lanes q d context tag items) ∙ mail.size;
+      size = length-set channels (place_of q d) (longer_by channels q d context tag items) ∙ mail.size;
       each = λ r s rank source. go r s rank source (cases_eq d r) (cases_eq q s);
     }
   where
-    inside : place_of q d < length lanes
+    inside : place_of q d < length channels
     inside = let size = mail.size in omega (arith, sender, receiver, few, size)
 
     now : sent (sending C q d context tag items) q d ≡ sent C q d ++ (message_of C q context tag items) ∷ []
@@ -123,18 +123,18 @@ mail_send start n lanes C q d context tag items run mail few sender receiver =
         ∙ rw (slots_same 0 q (history C d) (history (sending C q d context tag items) d) (sent C q d) (λ j l. untaken j), fresh) refl
 
     other : (r s : ℕ) → r < n → s < n → ((s ≡ q) × (r ≡ d) → ⊥) → sent (sending C q d context tag items) s r ≡ sent C s r
-        → lane (with_slot lanes q d context tag items) s r ≡ slots_of (sending C q d context tag items) s r
+        → channel (with_slot channels q d context tag items) s r ≡ slots_of (sending C q d context tag items) s r
     other r s rank source differ same =
-        lane-set_other lanes q d s r (longer_by lanes q d context tag items)
+        channel-set_other channels q d s r (longer_by channels q d context tag items)
         (λ e. differ (omega (arith, e, source, sender, few), omega (arith, e, source, sender, few)))
         ∙ mail.each r s rank source ∙ sym (slots_kept C q (sends d context tag items) s r same (λ j. and_false (q == r)))
 
     go : (r s : ℕ) → r < n → s < n → (d ≡ r) ⊎ (d ≡ r → ⊥) → (q ≡ s) ⊎ (q ≡ s → ⊥)
-        → lane (with_slot lanes q d context tag items) s r ≡ slots_of (sending C q d context tag items) s r
+        → channel (with_slot channels q d context tag items) s r ≡ slots_of (sending C q d context tag items) s r
     go r s rank source (inl e) (inl f) =
-        subst (λ z. lane (with_slot lanes q d context tag items) z r ≡ slots_of (sending C q d context tag items) z r) f
-        (subst (λ z. lane (with_slot lanes q d context tag items) q z ≡ slots_of (sending C q d context tag items) q z) e
-        (lane-set_same lanes q d (longer_by lanes q d context tag items) inside
+        subst (λ z. channel (with_slot channels q d context tag items) z r ≡ slots_of (sending C q d context tag items) z r) f
+        (subst (λ z. channel (with_slot channels q d context tag items) q z ≡ slots_of (sending C q d context tag items) q z) e
+        (channel-set_same channels q d (longer_by channels q d context tag items) inside
         ∙ ap (λ xs. xs ++ Some (packet_of q (message_of C q context tag items)) ∷ []) (mail.each d q receiver sender) ∙ sym longer))
     go r s rank source (inr never) f = other r s rank source (λ h. never (sym h.1))
         (sent_same C q (sends d context tag items) s r (λ k. rw (ne_eqb d r never) refl))
@@ -142,16 +142,16 @@ mail_send start n lanes C q d context tag items run mail few sender receiver =
         (sent-other C (record { rank = q; act = sends d context tag items }) s r never)
 
 -- a reception empties the slot of its message
-pub mail_take : (n : ℕ) (lanes : List (List Slot)) (C : List Passed) (q s₀ i : ℕ)
-    → IsMail n lanes C → n ≤ most_ranks → q < n → s₀ < n
-    → IsMail n (with_emptied lanes q s₀ i) (taking C q s₀ i)
-mail_take n lanes C q s₀ i mail few receiver sender =
+pub mail_take : (n : ℕ) (channels : List (List Slot)) (C : List Passed) (q s₀ i : ℕ)
+    → IsMail n channels C → n ≤ most_ranks → q < n → s₀ < n
+    → IsMail n (with_emptied channels q s₀ i) (taking C q s₀ i)
+mail_take n channels C q s₀ i mail few receiver sender =
     record {
-      size = length-set lanes (place_of s₀ q) (emptied lanes q s₀ i) ∙ mail.size;
+      size = length-set channels (place_of s₀ q) (emptied channels q s₀ i) ∙ mail.size;
       each = λ r s rank source. go r s rank source (cases_eq q r) (cases_eq s₀ s);
     }
   where
-    inside : place_of s₀ q < length lanes
+    inside : place_of s₀ q < length channels
     inside = let size = mail.size in omega (arith, sender, receiver, few, size)
 
     one : (j : ℕ) → taken (history (taking C q s₀ i) q) s₀ j ≡ (taken (history C q) s₀ j || (0 + i + 1 == j))
@@ -160,16 +160,16 @@ mail_take n lanes C q s₀ i mail few receiver sender =
         taken_after C q (takes s₀ (suc i)) q s₀ j ∙ rw (eq-eqb q q refl, eq-eqb s₀ s₀ refl, place) refl
 
     other : (r s : ℕ) → r < n → s < n → ((s ≡ s₀) × (r ≡ q) → ⊥) → ((j : ℕ) → (q == r && takes_it s j (takes s₀ (suc i))) ≡ false)
-        → lane (with_emptied lanes q s₀ i) s r ≡ slots_of (taking C q s₀ i) s r
+        → channel (with_emptied channels q s₀ i) s r ≡ slots_of (taking C q s₀ i) s r
     other r s rank source differ no_take =
-        lane-set_other lanes s₀ q s r (emptied lanes q s₀ i) (λ e. differ (omega (arith, e, source, sender, few), omega (arith, e, source, sender, few)))
+        channel-set_other channels s₀ q s r (emptied channels q s₀ i) (λ e. differ (omega (arith, e, source, sender, few), omega (arith, e, source, sender, few)))
         ∙ mail.each r s rank source ∙ sym (slots_kept C q (takes s₀ (suc i)) s r (sent_same C q (takes s₀ (suc i)) s r (λ k. refl)) no_take)
 
-    go : (r s : ℕ) → r < n → s < n → (q ≡ r) ⊎ (q ≡ r → ⊥) → (s₀ ≡ s) ⊎ (s₀ ≡ s → ⊥) → lane (with_emptied lanes q s₀ i) s r ≡ slots_of (taking C q s₀ i) s r
+    go : (r s : ℕ) → r < n → s < n → (q ≡ r) ⊎ (q ≡ r → ⊥) → (s₀ ≡ s) ⊎ (s₀ ≡ s → ⊥) → channel (with_emptied channels q s₀ i) s r ≡ slots_of (taking C q s₀ i) s r
     go r s rank source (inl e) (inl f) =
-        subst (λ z. lane (with_emptied lanes q s₀ i) z r ≡ slots_of (taking C q s₀ i) z r) f
-        (subst (λ z. lane (with_emptied lanes q s₀ i) s₀ z ≡ slots_of (taking C q s₀ i) s₀ z) e
-        (lane-set_same lanes s₀ q (emptied lanes q s₀ i) inside
+        subst (λ z. channel (with_emptied channels q s₀ i) z r ≡ slots_of (taking C q s₀ i) z r) f
+        (subst (λ z. channel (with_emptied channels q s₀ i) s₀ z ≡ slots_of (taking C q s₀ i) s₀ z) e
+        (channel-set_same channels s₀ q (emptied channels q s₀ i) inside
         ∙ ap (λ xs. slice_set xs i None) (mail.each q s₀ receiver sender)
         ∙ sym (ap (λ ms. slots_from 0 s₀ (history (taking C q s₀ i) q) ms) (sent_same C q (takes s₀ (suc i)) s₀ q (λ k. refl))
         ∙ slots_take 0 s₀ i (history C q) (history (taking C q s₀ i) q) (sent C s₀ q) one)))

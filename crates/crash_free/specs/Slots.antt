@@ -38,8 +38,8 @@ abbrev pub place_of : ℕ → ℕ → ℕ
 place_of s r = most_ranks * r + s
 
 -- the slots of a pair of ranks
-abbrev pub lane : List (List Slot) → ℕ → ℕ → List Slot
-lane lanes s r = slice_index_or lanes (place_of s r) []
+abbrev pub channel : List (List Slot) → ℕ → ℕ → List Slot
+channel channels s r = slice_index_or channels (place_of s r) []
 
 -- the slot holds a packet that the selector names
 abbrev pub passes : Selector → Slot → Bool
@@ -47,9 +47,9 @@ passes w None = false
 passes w (Some m) = matches w m
 
 -- the slots of each pair of ranks are those of the run
-pub record IsMail (n : ℕ) (lanes : List (List Slot)) (C : List Passed) : Type 0 where
-  pub size : length lanes ≡ most_ranks * n
-  pub each : (r s : ℕ) → r < n → s < n → lane lanes s r ≡ slots_of C s r
+pub record IsMail (n : ℕ) (channels : List (List Slot)) (C : List Passed) : Type 0 where
+  pub size : length channels ≡ most_ranks * n
+  pub each : (r s : ℕ) → r < n → s < n → channel channels s r ≡ slots_of C s r
 
 -- a machine is this rank's
 pub record IsRanks (program : ProgramValue) (n r : ℕ) (m : MachineValue) : Type 0 where
@@ -58,9 +58,9 @@ pub record IsRanks (program : ProgramValue) (n r : ℕ) (m : MachineValue) : Typ
   pub size : m.store.size ≡ n
 
 -- what a simulation keeps
-pub record IsKept (program : ProgramValue) (machines : List MachineValue) (lanes : List (List Slot)) (C : List Passed) : Type 0 where
+pub record IsKept (program : ProgramValue) (machines : List MachineValue) (channels : List (List Slot)) (C : List Passed) : Type 0 where
   pub simulates : Simulates (record { program = program; machines = machines; run = C })
   pub ranks : (r : ℕ) (m : MachineValue) → slice_get machines r ≡ Some m → IsRanks program (length machines) r m
   pub some : 1 ≤ length machines
   pub few : length machines ≤ most_ranks
-  pub mail : IsMail (length machines) lanes C
+  pub mail : IsMail (length machines) channels C

@@ -6,20 +6,20 @@ use Rattle.std.proofs.lemmas.Bool.{eq-eqb, ne_eqb}
 use Rattle.std.proofs.lemmas.List.{length_push, get_or-set_same, get_or-set_other, get_or-replicate}
 use Rattle.metered.specs.Limits.{most_ranks}
 use Rattle.crash_free.specs.Runs.{Passed, history, looked_up, sends_from}
-use Rattle.run_trace.specs.Places.{clock_of, greatest_clock}
+use Rattle.run_trace.specs.Places.{clock_of, greatest_told}
 use Rattle.run_trace.specs.Clocks.{AreCounted}
 
 -- one more, but no more than the greatest
-one_more : (count : ℕ) → min (min count greatest_clock + 1) greatest_clock ≡ min (count + 1) greatest_clock
+one_more : (count : ℕ) → min (min count greatest_told + 1) greatest_told ≡ min (count + 1) greatest_told
 one_more count = omega arith
 
 -- an act counts for its rank
-clock_own : (p : Passed) (C : List Passed) → clock_of (p ∷ C) p.rank ≡ min (clock_of C p.rank + 1) greatest_clock
+clock_own : (p : Passed) (C : List Passed) → clock_of (p ∷ C) p.rank ≡ min (clock_of C p.rank + 1) greatest_told
 clock_own p C =
     let own : history (p ∷ C) p.rank ≡ history C p.rank ++ (p.act, looked_up (λ s. sends_from 0 p.rank (history C s)) p.act) ∷ [] =
     rw (eq-eqb p.rank p.rank refl) refl in
-    ap (λ h. min (length h) greatest_clock) own
-    ∙ ap (λ n. min n greatest_clock) (length_push (history C p.rank) (p.act, looked_up (λ s. sends_from 0 p.rank (history C s)) p.act))
+    ap (λ h. min (length h) greatest_told) own
+    ∙ ap (λ n. min n greatest_told) (length_push (history C p.rank) (p.act, looked_up (λ s. sends_from 0 p.rank (history C s)) p.act))
     ∙ sym (one_more (length (history C p.rank)))
 
 -- and for no other
@@ -28,9 +28,9 @@ clock_other p C r ne = rw (ne_eqb p.rank r ne) refl
 
 -- the clock that a count gives is that of the act
 pub next_is : (C run : List Passed) (clocks : List ℕ) (p : Passed) (clock : ℕ) → AreCounted C clocks → p.rank < most_ranks → run ≡ p ∷ C
-    → clock ≡ min (slice_index_or clocks p.rank 0 + 1) greatest_clock → clock ≡ clock_of run p.rank
+    → clock ≡ min (slice_index_or clocks p.rank 0 + 1) greatest_told → clock ≡ clock_of run p.rank
 next_is C run clocks p clock counted few more is =
-    is ∙ ap (λ n. min (n + 1) greatest_clock) (counted p.rank few) ∙ sym (clock_own p C) ∙ ap (λ z. clock_of z p.rank) (sym more)
+    is ∙ ap (λ n. min (n + 1) greatest_told) (counted p.rank few) ∙ sym (clock_own p C) ∙ ap (λ z. clock_of z p.rank) (sym more)
 
 -- the clocks after it are counted
 pub counts_on : (C run : List Passed) (clocks now : List ℕ) (p : Passed) (clock : ℕ) → AreCounted C clocks → p.rank < most_ranks

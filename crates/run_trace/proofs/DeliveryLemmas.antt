@@ -8,7 +8,7 @@ use Rattle.std.proofs.Math.Seq.{get_or-append_seam, map-set_same}
 use Rattle.std.proofs.lemmas.Option.{slice_get_within}
 use Rattle.rank_machine.specs.Acts.{Act, sends, takes, hits, misses, prints}
 use Rattle.crash_free.specs.Runs.{Passed, history}
-use Rattle.run_trace.specs.Places.{greatest_clock}
+use Rattle.run_trace.specs.Places.{greatest_told}
 use Rattle.run_trace.specs.Deliveries.{AreClocked, AreDelivered, AreFoundUpTo, as_told, delivered, made_by, run_before, sends_found, sent_as, sent_at, sent_by}
 use Rattle.run_trace.specs.declared.deliveries.Delivery.{Delivery}
 use Rattle.run_trace.specs.declared.place.Place.{Place}
@@ -58,7 +58,7 @@ module _ (acts : List Passed) (i : ℕ) (found now : List Delivery) (d : Deliver
   }
 
 -- the message of a send with a clock up to the greatest
-told_by : (act : Act) (clock : ℕ) → sent_by act (min clock greatest_clock) ≡ as_told (sent_by act clock)
+told_by : (act : Act) (clock : ℕ) → sent_by act (min clock greatest_told) ≡ as_told (sent_by act clock)
 told_by (sends dest context tag items) clock = refl
 told_by (takes source place) clock = refl
 told_by (hits source place) clock = refl

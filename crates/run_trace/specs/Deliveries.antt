@@ -4,7 +4,7 @@ use Rattle.std.specs.Prelude.{◌≡◌, ℕ, ◌+◌, ◌<◌, min, List, lengt
 use Rattle.rank_machine.specs.Acts.{Message, Act, sends, takes, hits, misses, prints}
 use Rattle.crash_free.specs.Runs.{Passed, history, looked_up}
 use Rattle.crash_free.specs.Sim.{inbound_of}
-use Rattle.run_trace.specs.Places.{clock_of, greatest_clock}
+use Rattle.run_trace.specs.Places.{clock_of, greatest_told}
 use Rattle.run_trace.specs.declared.deliveries.Delivery.{Delivery}
 use Rattle.run_trace.specs.declared.place.Place.{Place}
 
@@ -60,7 +60,7 @@ pub record AreClocked (acts : List Passed) (places : List Place) : Type 0 where
 
 -- a message as it is told: with a clock up to the greatest
 abbrev pub told_message : Message → Message
-told_message m = record m { clock = min m.clock greatest_clock }
+told_message m = record m { clock = min m.clock greatest_told }
 
 -- the same, where there is one
 abbrev pub as_told : Option Message → Option Message

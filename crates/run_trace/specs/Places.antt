@@ -21,12 +21,12 @@ is_try want.Halted = false
 is_try (want.Faulted fault) = false
 
 -- the greatest clock that is told; a rank's later acts have it too
-abbrev pub greatest_clock : ℕ
-greatest_clock = 2 ^ 32 - 1
+abbrev pub greatest_told : ℕ
+greatest_told = 2 ^ 32 - 1
 
 -- the clock of a rank's newest act: how many acts of the rank a run has
 abbrev pub clock_of : List Passed → ℕ → ℕ
-clock_of run r = min (length (history run r)) greatest_clock
+clock_of run r = min (length (history run r)) greatest_told
 
 -- a machine stands at the statement of this position, which is a probe that doesn't wait or isn't, as is said
 pub record StandsAt (m : MachineValue) (place : Place) : Type 0 where

@@ -1,7 +1,7 @@
 //! Where each act of a run was made.
 ghost use Rattle.std.specs.Prelude.{◌≡◌, ◌≤◌, ◌<◌, ◌+◌, IfOk, OnOk, length, min, slice_index_or, slice_set};
 ghost use Rattle.metered.specs.Limits.{most_ranks};
-ghost use Rattle.run_trace.specs.Places.{AreFound, IsMadeAt, greatest_clock, is_try};
+ghost use Rattle.run_trace.specs.Places.{AreFound, IsMadeAt, greatest_told, is_try};
 ghost use Rattle.run_trace.specs.Clocks.{AreCounted};
 
 mod seen;
@@ -78,7 +78,7 @@ fn made(
 // Counts an act of the rank, and answers its clock.
 fn next_clock(clocks: &mut [u32; MOST_RANKS], rank: u8) -> u32
     requires { rank < most_ranks }
-    ensures value { result ≡ min (slice_index_or clocks.old rank 0 + 1) greatest_clock }
+    ensures value { result ≡ min (slice_index_or clocks.old rank 0 + 1) greatest_told }
     ensures kept { clocks.new ≡ slice_set clocks.old rank result }
 {
     let clock = clocks[usize::from(rank)].saturating_add(1);

@@ -11,13 +11,13 @@ use std::mem;
 
 /// What one rank sent to another: a slot for each message, empty once it is taken.
 #[derive(Drop)]
-pub struct Lane {
+pub struct Channel {
     slots: Vec<Option<Packet>, Heap>,
     // so that no search walks slots that are empty or hold messages of another tag
     index: Index,
 }
 
-impl Model for Lane {
+impl Model for Channel {
     ghost use Rattle.std.specs.Prelude.{List};
     ghost use Rattle.crash_free.specs.Slots.{Slot};
     ghost use Rattle.crash_free.specs.Index.{IsIndex};
@@ -29,11 +29,11 @@ impl Model for Lane {
     ghost invariant = { λ l. IsIndex l.index l.slots.items };
 }
 
-impl Clone for Lane {
-    ghost is_clone = { λ lane clone. clone ≡ lane };
+impl Clone for Channel {
+    ghost is_clone = { λ channel clone. clone ≡ channel };
 
-    fn clone(&self) -> Result<Lane, AllocError> {
-        Ok(Lane {
+    fn clone(&self) -> Result<Channel, AllocError> {
+        Ok(Channel {
             slots: copied(*self.slots.allocator(), &self.slots)?,
             index: self.index.clone()?,
         })
@@ -55,11 +55,11 @@ fn copied(alloc: Heap, slots: &[Option<Packet>]) -> Result<Vec<Option<Packet>, H
     Ok(copies)
 }
 
-impl Lane {
-    pub fn new(alloc: Heap) -> Lane
+impl Channel {
+    pub fn new(alloc: Heap) -> Channel
         ensures { result ≡ [] }
     {
-        Lane {
+        Channel {
             slots: Vec::new(alloc),
             index: Index::new(alloc),
         }
