@@ -7,7 +7,8 @@ use checkpoint::{Shelf, ShelfFault};
 use metered::Heap;
 use std::marker::Model;
 
-/// A rank's desk at the logger, its shelf, and which of how many ranks it is.
+/// A rank's desk at the logger, its shelf, and which of how many ranks it is:
+/// calls on the shelf leave all else, as their `same` says.
 ///
 /// There are at most `MOST_RANKS` of `metered::limits`. The value must be spent.
 pub struct Stable<S: Shelf, D> {
