@@ -59,16 +59,18 @@ AreNamed inbound inbound' =
 module _ (inbound inbound' : ℕ → List Message) (named : AreNamed inbound inbound') (c : ℕ) (a b : Act) (o o' : Option Message)
     (found : o ≡ looked_up inbound a) (found' : o' ≡ looked_up inbound' b) (u v : List EventValue)
     (alike : cons_some (event_at c a o) [] ++ u ≡ cons_some (event_at c b o') [] ++ v) where
+  -- two messages of one clock, of the sources that two equal events name
+  same_message : (s s' j j' : ℕ) (m m' : Message) → s ≡ s' → at_place (inbound s) j ≡ Some m → at_place (inbound' s') j' ≡ Some m' → m.clock ≡ m'.clock
+      → (j ≡ j') × (m ≡ m')
+  same_message s s' j j' m m' source there there' = named s j j' m m' there (ap (λ q. at_place (inbound' q) j') source ∙ there')
+
   -- two receptions
   same_take : IsTake a o → IsTake b o' → (a ≡ b) × (o ≡ o')
   same_take i k =
       let event = first_event (event_at c a o) (event_at c b o') _ _ u v alike (take_event c a o i) (take_event c b o' k) in
       let source : i.source ≡ k.source = ap (λ (e : EventValue). e.sender) event in
-      let clock : i.message.clock ≡ k.message.clock = ap (λ (e : EventValue). e.sender_clock) event in
-      let there : at_place (inbound i.source) i.place ≡ Some i.message = sym (ap (looked_up inbound) i.act) ∙ sym found ∙ i.found in
-      let there' : at_place (inbound' i.source) k.place ≡ Some k.message =
-      ap (λ s. at_place (inbound' s) k.place) source ∙ sym (ap (looked_up inbound') k.act) ∙ sym found' ∙ k.found in
-      let same = named i.source i.place k.place i.message k.message there there' clock in
+      let same = same_message i.source k.source i.place k.place i.message k.message source (sym (ap (looked_up inbound) i.act) ∙ sym found ∙ i.found)
+      (sym (ap (looked_up inbound') k.act) ∙ sym found' ∙ k.found) (ap (λ (e : EventValue). e.sender_clock) event) in
       (i.act ∙ rw (source, same.0) (sym k.act), i.found ∙ ap Some same.1 ∙ sym k.found)
 
   -- two hits
@@ -76,11 +78,8 @@ module _ (inbound inbound' : ℕ → List Message) (named : AreNamed inbound inb
   same_hit i k =
       let event = first_event (event_at c a o) (event_at c b o') _ _ u v alike (hit_event c a o i) (hit_event c b o' k) in
       let source : i.source ≡ k.source = ap (λ (e : EventValue). e.sender) event in
-      let clock : i.message.clock ≡ k.message.clock = ap (λ (e : EventValue). e.sender_clock) event in
-      let there : at_place (inbound i.source) i.place ≡ Some i.message = sym (ap (looked_up inbound) i.act) ∙ sym found ∙ i.found in
-      let there' : at_place (inbound' i.source) k.place ≡ Some k.message =
-      ap (λ s. at_place (inbound' s) k.place) source ∙ sym (ap (looked_up inbound') k.act) ∙ sym found' ∙ k.found in
-      let same = named i.source i.place k.place i.message k.message there there' clock in
+      let same = same_message i.source k.source i.place k.place i.message k.message source (sym (ap (looked_up inbound) i.act) ∙ sym found ∙ i.found)
+      (sym (ap (looked_up inbound') k.act) ∙ sym found' ∙ k.found) (ap (λ (e : EventValue). e.sender_clock) event) in
       (i.act ∙ rw (source, same.0) (sym k.act), i.found ∙ ap Some same.1 ∙ sym k.found)
 
   -- a hit is no miss

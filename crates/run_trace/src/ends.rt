@@ -5,11 +5,11 @@ use crate::fates::Fate;
 use crate::given::Told;
 use crate::left::unreceived;
 use crate::message::{Message, put_mark};
-use audit::End;
+use audit::{End, fault_name};
 use matching::{Context, Selector};
 use metered::Heap;
 use metered::limits::{GREATEST_CLOCK, MOST_EVENTS};
-use rank_machine::{MachineFault, Want};
+use rank_machine::Want;
 use script_text::Order;
 use statement_lines::line_of_text;
 use std::alloc::AllocError;
@@ -40,7 +40,7 @@ fn put_end(
         End::Halted => to.push_str("halted")?,
         End::Faulted(fault) => {
             let number = fault.number();
-            let name = name_of(fault);
+            let name = fault_name(fault);
             write!(to, "fault {number} {name}")?;
             put_statement(to, told, rank)?;
         }
@@ -57,19 +57,6 @@ fn put_end(
         }
     }
     to.push('\n')
-}
-
-/// The name of a fault, as the manual has it.
-pub fn name_of(fault: MachineFault) -> &'static str {
-    match fault {
-        MachineFault::Overflow => "Overflow",
-        MachineFault::ZeroDivide => "ZeroDivide",
-        MachineFault::Index => "Index",
-        MachineFault::BadRank => "BadRank",
-        MachineFault::BadTag => "BadTag",
-        MachineFault::TooLong => "TooLong",
-        MachineFault::CollectiveMismatch => "CollectiveMismatch",
-    }
 }
 
 // Writes the line that the rank stands at, and its text.

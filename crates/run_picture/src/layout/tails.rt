@@ -2,9 +2,8 @@
 
 use crate::layout::measures::OVERHANG;
 use crate::layout::scene::{Seen, Tail, TailKind};
-use audit::End;
+use audit::{End, fault_name};
 use metered::Heap;
-use rank_machine::MachineFault;
 use std::alloc::AllocError;
 use std::fmt::Write;
 
@@ -58,22 +57,10 @@ fn put_end(text: &mut String<Heap>, end: End) -> Result<(), AllocError> {
         End::Halted => write!(text, "halted"),
         End::Faulted(fault) => {
             let number = fault.number();
-            let name = name_of(fault);
+            let name = fault_name(fault);
             write!(text, "fault {number} {name}")
         }
         End::Stalled => write!(text, "stalled"),
         End::Unfinished => write!(text, "unfinished"),
-    }
-}
-
-fn name_of(fault: MachineFault) -> &'static str {
-    match fault {
-        MachineFault::Overflow => "Overflow",
-        MachineFault::ZeroDivide => "ZeroDivide",
-        MachineFault::Index => "Index",
-        MachineFault::BadRank => "BadRank",
-        MachineFault::BadTag => "BadTag",
-        MachineFault::TooLong => "TooLong",
-        MachineFault::CollectiveMismatch => "CollectiveMismatch",
     }
 }
