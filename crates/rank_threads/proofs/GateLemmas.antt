@@ -6,13 +6,15 @@ use Rattle.event_logger.specs.Desks.{DeskValue}
 use Rattle.matching.specs.Inbox.{after_arrival}
 use Rattle.rank_node.specs.Frames.{after_frame, after_passed, outgoing_of, sent_off, with_inbox}
 use Rattle.rank_node.specs.Node.{Node}
+use Rattle.rank_node.specs.Phases.{arrived, passed}
 use Rattle.rank_node.specs.declared.frame.Frame.{Frame}
-use Rattle.rank_threads.specs.Phases.{gate_of, HasImage, SameShelf, TookImage}
-use Rattle.rank_threads.specs.declared.phase.Phase.{Phase}
+use Rattle.rank_node.specs.declared.phase.Phase.TheVariants as phase
+use Rattle.rank_threads.specs.Phases.{gate_in, gate_of, HasImage, SameShelf, TookImage}
+use Rattle.rank_threads.specs.Phases.{Phase}
 use Rattle.rank_node.specs.declared.frame.Frame.TheVariants as frame
 
 -- a frame that came leaves it
-pub frame_waits : (v : Node MemoryShelf DeskValue) (from : ℕ) (f : Frame) → gate_of (after_frame v from f) ≡ gate_of v
+frame_waits : (v : Node MemoryShelf DeskValue) (from : ℕ) (f : Frame) → gate_of (after_frame v from f) ≡ gate_of v
 frame_waits v from (frame.Data packet) = go (packet.source == from)
   where
     go : (b : Bool) → gate_of (if b then with_inbox v (after_arrival v.inbox packet) else v) ≡ gate_of v
@@ -20,6 +22,12 @@ frame_waits v from (frame.Data packet) = go (packet.source == from)
     go false = refl
 frame_waits v from (frame.Ask number) = refl
 frame_waits v from (frame.Kept number) = refl
+
+-- of a rank in any phase
+pub arrived_waits : (p : Phase) (from : ℕ) (f : Frame) → gate_in (arrived p from f) ≡ gate_in p
+arrived_waits (phase.Running v) from f = frame_waits v from f
+arrived_waits (phase.Replaying r) from f = refl
+arrived_waits (phase.Down s) from f = refl
 
 -- an image that was taken stays taken as long as the shelf is as it was
 pub took_image : (stood p : Phase) → HasImage stood → SameShelf stood p → TookImage p
@@ -37,5 +45,11 @@ sent_waits v dest (Some (frame.Kept number)) = refl
 sent_waits v dest (Some (frame.Data packet)) = refl
 
 -- so does what was outgoing
-pub passed_waits : (v : Node MemoryShelf DeskValue) (dest : ℕ) → gate_of (after_passed v dest) ≡ gate_of v
+passed_waits : (v : Node MemoryShelf DeskValue) (dest : ℕ) → gate_of (after_passed v dest) ≡ gate_of v
 passed_waits v dest = sent_waits v dest (outgoing_of v dest)
+
+-- of a rank in any phase
+pub gone_waits : (p : Phase) (dest : ℕ) → gate_in (passed p dest) ≡ gate_in p
+gone_waits (phase.Running v) dest = passed_waits v dest
+gone_waits (phase.Replaying r) dest = refl
+gone_waits (phase.Down s) dest = refl

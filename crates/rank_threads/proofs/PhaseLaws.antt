@@ -1,22 +1,12 @@
 -- When a replay is over.
-use Rattle.std.proofs.Common.{◌≡◌, ◌<◌, List, [], ◌∷◌, length, refl, sym, ap, ◌∙◌, arith}
+use Rattle.std.proofs.Common.{◌≡◌, List, [], ◌∷◌, refl, sym, ap, ◌∙◌}
 use Rattle.checkpoint.specs.declared.memory_shelf.MemoryShelf.{MemoryShelf}
 use Rattle.event_logger.specs.Desks.{DeskValue}
 use Rattle.plain_logger.specs.Event.{EventValue}
 use Rattle.rank_node.specs.Replay.{Replay}
-use Rattle.rank_threads.specs.Phases.{settled_of, settled_replay}
-use Rattle.rank_threads.specs.declared.phase.Phase.{Phase}
-use Rattle.rank_threads.specs.declared.phase.Phase.TheVariants as phase
-
--- a rank with an event left goes on replaying
-pub goes_on : (r : Replay MemoryShelf DeskValue) (left : List EventValue) → 0 < length left → settled_replay r left ≡ phase.Replaying r
-goes_on r [] some = absurd (omega (arith, some))
-goes_on r (e ∷ left) some = refl
-
--- a rank with none left runs
-pub is_done : (r : Replay MemoryShelf DeskValue) (left : List EventValue) → length left ≡ 0 → settled_replay r left ≡ phase.Running r.node
-is_done r [] none = refl
-is_done r (e ∷ left) none = absurd (omega (arith, none))
+use Rattle.rank_node.specs.Phases.{settled_of, settled_replay}
+use Rattle.rank_threads.specs.Phases.{Phase}
+use Rattle.rank_node.specs.declared.phase.Phase.TheVariants as phase
 
 -- one that was settled stays so
 settled_twice : (r : Replay MemoryShelf DeskValue) (left : List EventValue) → r.left ≡ left

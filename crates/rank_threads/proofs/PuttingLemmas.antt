@@ -2,11 +2,11 @@
 use Rattle.std.proofs.Common.{◌≡◌, ◌≢◌, ℕ, zero, suc, ◌+◌, ◌<◌, ◌≤◌, List, [], ◌∷◌, length, slice_index_or, slice_set, refl, subst, ap, arith, ◌⊎◌, inl, inr}
 use Rattle.std.proofs.lemmas.Bool.{cases_lt}
 use Rattle.ports.specs.Lanes.{TxValue, put_of}
-use Rattle.rank_threads.specs.Putting.{HasNothing, NothingBelow, Puts, PutsInto, Stays, node_of}
+use Rattle.rank_threads.specs.Putting.{HasNothing, NothingBelow, Puts, PutsInto, Stays}
 use Rattle.rank_node.specs.declared.frame.Frame.{Frame}
-use Rattle.rank_threads.specs.declared.phase.Phase.{Phase}
-use Rattle.rank_threads.specs.declared.phase.frames.Went.{Went}
-use Rattle.rank_threads.specs.declared.phase.frames.Went.TheVariants as went
+use Rattle.rank_threads.specs.Phases.{Phase}
+use Rattle.rank_threads.specs.declared.node.frames.Went.{Went}
+use Rattle.rank_threads.specs.declared.node.frames.Went.TheVariants as went
 
 -- what was set at a place stands there
 pub set_here : {A : Type 0} (xs : List A) (i : ℕ) (y d : A) → i < length xs → slice_index_or (slice_set xs i y) i d ≡ y
@@ -44,12 +44,12 @@ puts_into went p q dest lanes d y within puts = record {
 }
 
 -- where nothing goes to the ranks below this one, nor to this one, nothing goes to those below the next
-pub nothing_next : (k : ℕ) (p : Phase) → NothingBelow k p → HasNothing (node_of p) k → NothingBelow (k + 1) p
+pub nothing_next : (k : ℕ) (p : Phase) → NothingBelow k p → HasNothing p k → NothingBelow (k + 1) p
 nothing_next k p below here dest low = go (cases_lt dest k)
   where
-    go : (dest < k) ⊎ (k ≤ dest) → HasNothing (node_of p) dest
+    go : (dest < k) ⊎ (k ≤ dest) → HasNothing p dest
     go (inl less) = below dest less
-    go (inr more) = (let same : k ≡ dest = omega (arith, low, more) in subst (HasNothing (node_of p)) same here)
+    go (inr more) = (let same : k ≡ dest = omega (arith, low, more) in subst (HasNothing p) same here)
 
 -- where nothing went, all lanes are as they were
 pub no_lane : (p : Phase) (dest : ℕ) (lanes : List TxValue) → PutsInto went.Full p dest lanes p lanes

@@ -6,8 +6,9 @@ use Rattle.std.proofs.lemmas.List.{length-set}
 use Rattle.ports.specs.Lanes.{RxValue, taken_of}
 use Rattle.rank_node.specs.declared.frame.Frame.{Frame}
 use Rattle.rank_threads.proofs.PuttingLemmas.{set_here, same_there, set_elsewhere}
-use Rattle.rank_threads.specs.Taking.{arrived, all_arrived, is_some_frame, those_of, Takes, TookFrom, TookBelow}
-use Rattle.rank_threads.specs.declared.phase.Phase.{Phase}
+use Rattle.rank_node.specs.Phases.{arrived}
+use Rattle.rank_threads.specs.Taking.{all_arrived, is_some_frame, those_of, Takes, TookFrom, TookBelow}
+use Rattle.rank_threads.specs.Phases.{Phase}
 use Rattle.rank_threads.specs.declared.life.Life.{Life}
 use Rattle.rank_threads.specs.declared.tally.Tally.{Tally}
 use Rattle.rank_threads.specs.Tally.{all_taken, woken}

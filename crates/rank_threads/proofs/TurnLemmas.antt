@@ -7,10 +7,11 @@ use Rattle.rank_node.specs.declared.fault.NodeFault.{NodeFault}
 use Rattle.rank_node.specs.declared.fault.NodeFault.TheVariants as fault
 use Rattle.rank_node.specs.declared.turn.Turn.{Turn}
 use Rattle.rank_node.specs.declared.turn.Turn.TheVariants as turn
-use Rattle.rank_threads.specs.Phases.{clock_in, want_in}
+use Rattle.rank_node.specs.Phases.{clock_in}
+use Rattle.rank_threads.specs.Phases.{want_in}
 use Rattle.rank_threads.specs.Steps.{acts_made, acts_of, counted, is_limit, is_own, is_stopped, step_of, told, turn_in, Counts}
 use Rattle.rank_threads.specs.Turns.{Brings, IsBegun}
-use Rattle.rank_threads.specs.declared.phase.Phase.{Phase}
+use Rattle.rank_threads.specs.Phases.{Phase}
 use Rattle.rank_threads.specs.declared.life.Life.{Life}
 use Rattle.rank_threads.specs.declared.stepping.Stepped.{Stepped}
 use Rattle.rank_threads.specs.declared.stepping.Stepped.TheVariants as stepped

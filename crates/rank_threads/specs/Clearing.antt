@@ -1,7 +1,7 @@
 -- When a turn leaves what waits at its rank's gate, so that further misses join it.
 use Rattle.std.specs.Prelude.{Bool, true, false, not, ◌&&◌}
 use Rattle.rank_threads.specs.Phases.{misses_only_in}
-use Rattle.rank_threads.specs.declared.phase.Phase.{Phase}
+use Rattle.rank_threads.specs.Phases.{Phase}
 use Rattle.rank_threads.specs.declared.stepping.Stepped.{Stepped}
 use Rattle.rank_threads.specs.declared.stepping.Stepped.TheVariants as stepped
 

@@ -7,7 +7,7 @@ use Rattle.rank_threads.specs.Tally.{one_more}
 use Rattle.rank_threads.specs.declared.ending.Ending.{Ending}
 use Rattle.rank_threads.specs.declared.ending.Ending.TheVariants as ending
 use Rattle.rank_threads.specs.declared.ending.Why.TheVariants as why
-use Rattle.rank_threads.specs.declared.phase.Phase.{Phase}
+use Rattle.rank_threads.specs.Phases.{Phase}
 use Rattle.rank_threads.specs.declared.station.Station.{Station}
 use Rattle.rank_threads.specs.declared.turn.After.{After}
 use Rattle.rank_threads.specs.declared.turn.After.TheVariants as after

@@ -5,8 +5,8 @@ use Rattle.audit.specs.declared.outcome.End.TheVariants as end
 use Rattle.rank_machine.specs.declared.want.Want.{Want}
 use Rattle.rank_machine.specs.declared.want.Want.TheVariants as want
 use Rattle.rank_machine.specs.Machine.{machine_want}
-use Rattle.rank_threads.specs.declared.phase.Phase.{Phase}
-use Rattle.rank_threads.specs.declared.phase.Phase.TheVariants as phase
+use Rattle.rank_threads.specs.Phases.{Phase}
+use Rattle.rank_node.specs.declared.phase.Phase.TheVariants as phase
 
 -- a rank whose machine wants this and is not stepped any more: only a receive and a probe that waits can be stalled
 abbrev pub end_at : Want → End

@@ -3,9 +3,9 @@ use Rattle.std.specs.Prelude.{Bool, true, false, List, Option, Some, None}
 use Rattle.script_text.specs.declared.line.Order.{Order}
 use Rattle.script_text.specs.declared.line.Order.TheVariants.{Kill, Image}
 use Rattle.script_text.specs.declared.line.ScriptLine.{ScriptLine}
-use Rattle.rank_threads.specs.Phases.{clock_in}
+use Rattle.rank_node.specs.Phases.{clock_in}
 use Rattle.rank_threads.specs.Plans.{order_at}
-use Rattle.rank_threads.specs.declared.phase.Phase.{Phase}
+use Rattle.rank_threads.specs.Phases.{Phase}
 use Rattle.rank_threads.specs.declared.stepping.Stepped.{Stepped}
 use Rattle.rank_threads.specs.declared.stepping.Stepped.TheVariants as stepped
 

@@ -1,6 +1,5 @@
--- What stays of a rank, whether it runs, replays or is down (fail-stop processes with stable storage: Schlichting and
--- Schneider, "Fail-Stop Processors", 1983).
-use Rattle.std.specs.Prelude.{◌≡◌, ℕ, Bool, true, false, List, [], ◌∷◌, Option, Some, None}
+-- What is asked of a rank at its logger, whether it runs, replays or is down.
+use Rattle.std.specs.Prelude.{◌≡◌, ℕ, Bool, true, false, List, [], Option, Some, None}
 use Rattle.checkpoint.specs.Shelf.{image_bytes}
 use Rattle.checkpoint.specs.Spelling.{spelling}
 use Rattle.checkpoint.specs.declared.memory_shelf.MemoryShelf.{MemoryShelf}
@@ -17,20 +16,13 @@ use Rattle.rank_node.specs.Replay.{Replay}
 use Rattle.rank_node.specs.Stored.{Stored}
 use Rattle.rank_node.specs.Waiting.{Gate, misses_only}
 use Rattle.rank_threads.specs.declared.row.Row.{Row}
-use Rattle.rank_threads.specs.declared.phase.Phase.{Phase}
-use Rattle.rank_threads.specs.declared.phase.Phase.TheVariants as phase
+use Rattle.rank_node.specs.Phases.{stable_of, settled_of}
+use Rattle.rank_node.specs.declared.phase.Phase as ranks
+use Rattle.rank_node.specs.declared.phase.Phase.TheVariants as phase
 
--- what outlives a crash of the rank
-abbrev pub stable_of : Phase → Stored MemoryShelf DeskValue
-stable_of (phase.Running v) = v.stable
-stable_of (phase.Replaying r) = r.node.stable
-stable_of (phase.Down s) = s
-
--- how many acts the rank has made
-abbrev pub clock_in : Phase → ℕ
-clock_in (phase.Running v) = v.clock
-clock_in (phase.Replaying r) = r.node.clock
-clock_in (phase.Down s) = 0
+-- a rank with a desk at its logger and a shelf in memory
+abbrev pub Phase : Type 0
+Phase = ranks.Phase MemoryShelf DeskValue
 
 -- what the rank's machine wants; nothing where the rank is down
 abbrev pub want_in : Phase → Option Want
@@ -103,17 +95,6 @@ ReadsRow (phase.Running v) of after events q =
 ReadsRow (phase.Replaying r) of after events q =
     IsRead r.node.stable.desk of after events (stable_of q).desk × (q ≡ phase.Replaying (record r { node = at_desk r.node (stable_of q).desk }))
 ReadsRow (phase.Down s) of after events q = (events ≡ []) × (q ≡ phase.Down s)
-
--- a rank that replays runs as soon as nothing is left to replay
-abbrev pub settled_replay : Replay MemoryShelf DeskValue → List EventValue → Phase
-settled_replay r [] = phase.Running r.node
-settled_replay r (e ∷ left) = phase.Replaying r
-
--- the same of a rank in any phase
-abbrev pub settled_of : Phase → Phase
-settled_of (phase.Running v) = phase.Running v
-settled_of (phase.Replaying r) = settled_replay r r.left
-settled_of (phase.Down s) = phase.Down s
 
 -- The rank begins to live: at the beginning of its program, where it has fetched no row, else at its image with what of
 -- its row is above that, which it replays.

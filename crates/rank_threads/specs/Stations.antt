@@ -2,7 +2,8 @@
 use Rattle.std.specs.Prelude.{◌≡◌, List, [], ◌∷◌, Some, None}
 use Rattle.event_logger.specs.Desks.{own_row}
 use Rattle.plain_logger.specs.History.{above}
-use Rattle.rank_threads.specs.Phases.{stable_of, SameStable}
+use Rattle.rank_node.specs.Phases.{stable_of}
+use Rattle.rank_threads.specs.Phases.{SameStable}
 use Rattle.rank_threads.specs.Lanes.{SameTxs, SameRxs}
 use Rattle.rank_threads.specs.declared.parcel.Parcel.{Parcel}
 use Rattle.rank_threads.specs.declared.row.Row.{Row}

@@ -14,8 +14,8 @@ use Rattle.rank_node.specs.declared.turn.Turn.{Turn}
 use Rattle.rank_node.specs.declared.turn.Turn.TheVariants as turn
 use Rattle.rank_threads.specs.Phases.{want_in}
 use Rattle.rank_threads.specs.Tally.{after_steps}
-use Rattle.rank_threads.specs.declared.phase.Phase.{Phase}
-use Rattle.rank_threads.specs.declared.phase.Phase.TheVariants as phase
+use Rattle.rank_threads.specs.Phases.{Phase}
+use Rattle.rank_node.specs.declared.phase.Phase.TheVariants as phase
 use Rattle.rank_threads.specs.declared.stepping.Stepped.{Stepped}
 use Rattle.rank_threads.specs.declared.stepping.Stepped.TheVariants as stepped
 use Rattle.rank_threads.specs.declared.tally.Tally.{Tally}

@@ -1,10 +1,10 @@
 -- What comes into a rank out of its lanes, each lane's frames in their order (MPI 1.1, section 3.5).
 use Rattle.std.specs.Prelude.{◌≡◌, ◌≢◌, ℕ, zero, suc, Bool, true, false, ◌||◌, List, [], ◌∷◌, ◌++◌, Option, Some, None, length, slice_index_or}
 use Rattle.ports.specs.Lanes.{RxValue, taken_of}
-use Rattle.rank_node.specs.Frames.{after_frame}
+use Rattle.rank_node.specs.Phases.{arrived}
 use Rattle.rank_node.specs.declared.frame.Frame.{Frame}
-use Rattle.rank_threads.specs.declared.phase.Phase.{Phase}
-use Rattle.rank_threads.specs.declared.phase.Phase.TheVariants as phase
+use Rattle.rank_threads.specs.Phases.{Phase}
+use Rattle.rank_node.specs.declared.phase.Phase.TheVariants as phase
 use Rattle.rank_threads.specs.declared.life.Life.{Life}
 use Rattle.rank_threads.specs.Tally.{all_taken}
 
@@ -17,12 +17,6 @@ those_of (Some frame) = frame ∷ []
 abbrev pub is_some_frame : List Frame → Bool
 is_some_frame [] = false
 is_some_frame (frame ∷ frames) = true
-
--- the rank after a frame that came from a rank; one that is down drops it
-abbrev pub arrived : Phase → ℕ → Frame → Phase
-arrived (phase.Running v) source frame = phase.Running (after_frame v source frame)
-arrived (phase.Replaying r) source frame = phase.Replaying (record r { node = after_frame r.node source frame })
-arrived (phase.Down s) source frame = phase.Down s
 
 -- the rank after frames that came from a rank, in their order
 abbrev pub all_arrived : Phase → ℕ → List Frame → Phase

@@ -5,7 +5,7 @@ use Rattle.script_text.specs.declared.line.ScriptLine.{ScriptLine}
 use Rattle.rank_threads.specs.Orders.{is_kill, order_after}
 use Rattle.rank_threads.specs.Steps.{step_of}
 use Rattle.rank_threads.specs.Taking.{TookBelow}
-use Rattle.rank_threads.specs.declared.phase.Phase.{Phase}
+use Rattle.rank_threads.specs.Phases.{Phase}
 use Rattle.rank_threads.specs.declared.life.Life.{Life}
 use Rattle.rank_threads.specs.declared.taking.Brought.{Brought}
 use Rattle.rank_threads.specs.declared.taking.Brought.TheVariants as brought

@@ -7,11 +7,11 @@ ghost use Rattle.rank_threads.specs.Stations.{IsLifeOf};
 
 use crate::life::Life;
 use crate::marks::AllAtRest;
-use crate::phase::Phase;
 use crate::shared::Stopped;
 use crate::station::Station;
 use audit::End;
 use rank_machine::Want;
+use rank_node::Phase;
 use script_text::Order;
 
 /// The script kills the rank. Only `kill_of` makes one, and only `end_life`

@@ -6,8 +6,7 @@ ghost use Rattle.rank_threads.specs.Phases.{gate_in, SameShelf};
 ghost use Rattle.rank_threads.specs.Putting.{PutsInto};
 ghost use Rattle.rank_threads.specs.Taking.{Takes, those_of};
 
-use crate::node::Node;
-use crate::phase::Went;
+use crate::node::{Node, Went};
 use metered::Heap;
 use ports::{Rx, Tx};
 use rank_node::Frame;

@@ -16,7 +16,6 @@ mod marks;
 mod node;
 mod orders;
 mod parcel;
-mod phase;
 mod plan;
 mod playing;
 mod putting;

@@ -1,16 +1,23 @@
 //! A rank at its logger.
 ghost use Rattle.std.specs.Prelude.{◌≡◌};
-ghost use Rattle.rank_threads.specs.Phases.{stable_of};
+ghost use Rattle.rank_node.specs.Phases.{stable_of};
 
 mod calls;
+mod frames;
 mod lives;
+mod steps;
 
-use crate::phase::Phase;
-use event_logger::Logger;
+use checkpoint::MemoryShelf;
+use event_logger::{Desk, Logger};
+pub use frames::Went;
+use rank_node::Phase;
 
 /// A rank in its phase, with the logger that its desk is of. It must be spent.
+///
+/// What it keeps apart from the rank is that pair: whoever holds a node calls no
+/// other logger, and names no rank that there isn't.
 pub struct Node<'p, 'l> {
-    phase: Phase<'p>,
+    phase: Phase<'p, MemoryShelf, Desk>,
     logger: &'l Logger,
     /// How many ranks there are.
     pub size: u8,

@@ -1,11 +1,11 @@
 //! Part 5 of a turn: what goes out.
 ghost use Rattle.std.specs.Prelude.{◌≡◌, ◌<◌, true, false, OnOk};
 ghost use Rattle.rank_threads.specs.Lives.{SameLife, SamePlan, SameGate};
-ghost use Rattle.rank_threads.specs.Putting.{HasNothing, NothingBelow, node_of};
+ghost use Rattle.rank_threads.specs.Putting.{HasNothing, NothingBelow};
 
 use crate::lanes_of::put_to;
 use crate::life::Life;
-use crate::phase::Went;
+use crate::node::Went;
 use crate::shared::Shared;
 use metered::limits::MOST_FRAMES;
 use std::alloc::AllocError;
@@ -39,7 +39,7 @@ fn put_all_to<H>(
     dest: u8,
 ) -> Result<bool, AllocError>
     requires { dest < life.old.node.size }
-    ensures nothing { OnOk result (life.new.tally.may_owe ≡ false → HasNothing (node_of life.new.node.phase) dest) }
+    ensures nothing { OnOk result (life.new.tally.may_owe ≡ false → HasNothing life.new.node.phase dest) }
     ensures untouched { OnOk result (life.new.tally.may_owe ≡ false → life.new.node.phase ≡ life.old.node.phase) }
     ensures owing { OnOk result (life.old.tally.may_owe ≡ true → life.new.tally.may_owe ≡ true) }
     ensures plan { SamePlan life.old life.new }

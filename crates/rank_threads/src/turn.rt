@@ -4,7 +4,8 @@ ghost use Rattle.rank_threads.specs.Clearing.{leaves_misses};
 ghost use Rattle.rank_threads.specs.Endings.{goes_down, is_down, is_leave};
 ghost use Rattle.rank_threads.specs.Lives.{SameLife, SamePlan};
 ghost use Rattle.rank_threads.specs.Orders.{order_after, is_kill, is_image};
-ghost use Rattle.rank_threads.specs.Phases.{NoneWaits, TookImage, gate_in, is_running, misses_only_in, settled_of};
+ghost use Rattle.rank_node.specs.Phases.{settled_of};
+ghost use Rattle.rank_threads.specs.Phases.{NoneWaits, TookImage, gate_in, is_running, misses_only_in};
 ghost use Rattle.rank_threads.specs.Putting.{NothingBelow};
 ghost use Rattle.rank_threads.specs.Turns.{IsBegun, kills_after};
 

@@ -2,16 +2,16 @@
 ghost use Rattle.std.specs.Prelude.{◌≡◌, Some, None};
 ghost use Rattle.rank_node.specs.Node.{opening};
 ghost use Rattle.rank_threads.specs.Lives.{SameNode};
-ghost use Rattle.rank_threads.specs.Phases.{stable_of, settled_of, Begins, SameStable};
+ghost use Rattle.rank_node.specs.Phases.{stable_of, settled_of};
+ghost use Rattle.rank_threads.specs.Phases.{Begins, SameStable};
 
 use super::Node;
-use crate::phase::Phase;
 use crate::row::Row;
 use checkpoint::MemoryShelf;
 use event_logger::{Desk, Logger};
 use metered::Heap;
 use rank_language::Program;
-use rank_node::{Down, NodeFault, Running};
+use rank_node::{Down, NodeFault, Phase, Running};
 
 impl<'p, 'l> Node<'p, 'l> {
     /// A rank at the beginning of a life: of its program, or where there is a
@@ -84,7 +84,7 @@ fn first<'p>(
     alloc: Heap,
     program: &'p Program,
     down: Down<MemoryShelf, Desk>,
-) -> (Phase<'p>, Option<NodeFault>)
+) -> (Phase<'p, MemoryShelf, Desk>, Option<NodeFault>)
     ensures begins { result.1 ≡ None → result.0 ≡ Phase.Running (opening program.now down) }
     ensures stable { stable_of result.0 ≡ down }
 {
@@ -100,7 +100,7 @@ fn again<'p>(
     program: &'p Program,
     down: Down<MemoryShelf, Desk>,
     row: Row,
-) -> (Phase<'p>, Option<NodeFault>)
+) -> (Phase<'p, MemoryShelf, Desk>, Option<NodeFault>)
     ensures begins { result.1 ≡ None → Begins program.now down (Some row) result.0 }
     ensures same { SameStable down (stable_of result.0) }
 {

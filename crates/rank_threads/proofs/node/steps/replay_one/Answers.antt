@@ -1,6 +1,6 @@
 use Rattle.ports.specs.contracts.console_state.ConsoleStateScreen.TheImpl as screen
 use Rattle.rank_threads.proofs.StepLaws.{again_answers, again_ok_clocks, again_quiet}
-use Rattle.rank_threads.proofs.phase.replay_one.Goals as goal
+use Rattle.rank_threads.proofs.node.steps.replay_one.Goals as goal
 
 -- it answers by the next event
 pub returns-clause-answer : goal.returns-clause-answer

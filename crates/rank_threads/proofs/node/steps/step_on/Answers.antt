@@ -1,7 +1,7 @@
 use Rattle.rank_node.specs.Steps.{refusal_of, turn_of}
 use Rattle.ports.specs.contracts.console_state.ConsoleStateScreen.TheImpl as screen
 use Rattle.rank_threads.proofs.StepLaws.{run_answers, run_clocks, run_quiet}
-use Rattle.rank_threads.proofs.phase.step_on.Goals as goal
+use Rattle.rank_threads.proofs.node.steps.step_on.Goals as goal
 
 -- it answers as the rank that runs does
 pub returns-clause-answer : goal.returns-clause-answer

@@ -1,8 +1,8 @@
 use Rattle.std.proofs.Common.{Some, sym, ap, ◌∙◌}
 use Rattle.rank_threads.specs.Phases.{want_in}
 use Rattle.rank_threads.proofs.StepLaws.{again_stood, own_stride, run_stood, some_stride}
-use Rattle.rank_threads.specs.declared.phase.Phase.TheVariants as phase
-use Rattle.rank_threads.proofs.phase.Phase.stride.Goals as goal
+use Rattle.rank_node.specs.declared.phase.Phase.TheVariants as phase
+use Rattle.rank_threads.proofs.node.Node.stride.Goals as goal
 
 -- a rank that runs
 pub returns-in-Running-clause-some : goal.returns-in-Running-clause-some

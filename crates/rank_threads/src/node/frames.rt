@@ -1,0 +1,67 @@
+//! The frames of a rank in its lanes.
+ghost use Rattle.std.specs.Prelude.{◌≡◌, ◌<◌, IfOk, OnOk, OnErr};
+ghost use Rattle.ports.specs.Lanes.{lane_to, put_of};
+ghost use Rattle.rank_node.specs.Phases.{arrived};
+ghost use Rattle.rank_threads.specs.Lives.{SameNode};
+ghost use Rattle.rank_threads.specs.Phases.{gate_in, SameShelf};
+ghost use Rattle.rank_threads.specs.Putting.{Puts};
+
+use super::Node;
+use ports::Tx;
+use rank_node::Frame;
+use std::alloc::AllocError;
+
+/// What became of one frame.
+#[derive(Clone, Copy, Debug, PartialEq, Eq)]
+pub enum Went {
+    /// It is in the lane.
+    Gone,
+    /// The lane is full; it is still outgoing.
+    Full,
+    /// Nothing was outgoing.
+    Nothing,
+}
+
+impl<'p, 'l> Node<'p, 'l> {
+    /// Takes in a frame that came from this rank. One that is down drops it.
+    /// An `Err` is want of memory.
+    #[tactic(auto, using(crate::proofs::GateLemmas::arrived_waits))]
+    pub fn arrive(&mut self, from: u8, frame: Frame) -> Result<(), AllocError>
+        requires { from < self.old.size }
+        ensures ok { OnOk result (self.new.phase ≡ arrived self.old.phase from frame) }
+        ensures shelf { SameShelf self.old.phase self.new.phase }
+        ensures gate { gate_in self.new.phase ≡ gate_in self.old.phase }
+        ensures same { SameNode self.old self.new }
+    {
+        match self.phase.arrive(from, frame) {
+            Ok(_) => Ok(()),
+            Err(_) => Err(AllocError),
+        }
+    }
+
+    /// Puts what is outgoing to this rank next into the lane to it: it is gone
+    /// when it is in the lane, and not before. An `Err` is want of memory, and
+    /// leaves all as it was.
+    #[tactic(auto, using(crate::proofs::GateLemmas::gone_waits))]
+    pub fn put_one(&mut self, dest: u8, lane: &mut Tx) -> Result<Went, AllocError>
+        requires { dest < self.old.size }
+        ensures puts { IfOk result (λ went. Puts went self.old.phase dest (put_of lane.old) self.new.phase (put_of lane.new)) }
+        ensures err { OnErr result ((self.new.phase ≡ self.old.phase) × (put_of lane.new ≡ put_of lane.old)) }
+        ensures shelf { SameShelf self.old.phase self.new.phase }
+        ensures gate { gate_in self.new.phase ≡ gate_in self.old.phase }
+        ensures same { SameNode self.old self.new }
+        ensures lane { lane_to lane.new ≡ lane_to lane.old }
+    {
+        let Ok(frame) = self.phase.outgoing(dest) else {
+            return Err(AllocError);
+        };
+        let Some(frame) = frame else {
+            return Ok(Went::Nothing);
+        };
+        if lane.put(frame).is_err() {
+            return Ok(Went::Full);
+        }
+        self.phase.passed(dest);
+        Ok(Went::Gone)
+    }
+}
