@@ -1,3 +1,2 @@
 mod Gates
-mod Replays
 mod Rows

@@ -1,2 +1,2 @@
 pub mod Gate
-pub mod State
+pub mod Place

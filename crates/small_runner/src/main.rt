@@ -7,7 +7,6 @@ mod failure;
 mod gate;
 mod rank;
 mod runner;
-mod state;
 
 use crate::failure::Failure;
 use crate::runner::Runner;

@@ -1,14 +1,13 @@
 //! One of the ranks, and the parts of its turn.
-ghost use Rattle.std.specs.Prelude.{◌≡◌, ◌<◌, IfOk, OnOk, IsSome};
-ghost use Rattle.small_runner.specs.State.{outgoing_in, IsRank, NoneWaits};
+ghost use Rattle.std.specs.Prelude.{◌≡◌, ◌<◌, Some, IfOk, OnOk, IsSome};
+ghost use Rattle.small_runner.specs.Place.{outgoing_at, IsRank, NoneWaits};
 
 use crate::around::{Around, Parcel, RANKS};
 use crate::gate;
-use crate::state::State;
+use checkpoint::MemoryShelf;
 use ports::ConsoleState;
 use rank_machine::Want;
-use rank_node::{Frame, NodeFault, Turn};
-use std::mem;
+use rank_node::{Frame, NodeFault, Phase, Running, Stable, Turn};
 
 // How many steps a rank makes in a turn, at most.
 const STEPS: u32 = 8;
@@ -16,12 +15,13 @@ const STEPS: u32 = 8;
 // How many frames it puts on a wire in a turn, at most.
 const FRAMES: u32 = 16;
 
-/// One of the ranks. It must be ended.
+/// One of the ranks, with a shelf in memory. It has no desk, since the logger is this thread's own. It must be ended.
 pub struct Rank<'p> {
     number: u8,
-    state: State<'p>,
+    // empty only while the rank goes from one phase to another
+    place: Option<Phase<'p, MemoryShelf, ()>>,
     ghost there: { number < 2 },
-    ghost own: { IsRank number state },
+    ghost own: { IsRank number place },
 }
 
 impl<'p> Rank<'p> {
@@ -29,58 +29,79 @@ impl<'p> Rank<'p> {
     pub fn start(around: &Around<'p>, number: u8) -> Result<Rank<'p>, NodeFault>
         requires { number < 2 }
     {
-        let state = State::start(around, number)?;
-        Ok(Rank { number, state })
+        let stable = Stable::new((), MemoryShelf::new(around.alloc), number, RANKS);
+        match Running::start(around.alloc, around.program, stable) {
+            Ok(rank) => Ok(Rank {
+                number,
+                place: Some(Phase::Running(rank)),
+            }),
+            Err((stable, fault)) => {
+                stable.parts();
+                Err(fault)
+            }
+        }
     }
 
     /// Ends the rank.
     pub fn end(self) {
-        let Rank { number: _, state } = self;
-        state.end();
+        let Rank { number: _, place } = self;
+        end(place);
     }
 
     /// How many acts it has made.
     pub fn clock(&self) -> u32 {
-        match &self.state {
-            State::Running(rank) => rank.clock(),
-            State::Replaying(rank) => rank.clock(),
-            State::Down(_) | State::Empty => 0,
+        match &self.place {
+            Some(rank) => rank.clock(),
+            None => 0,
         }
     }
 
     /// How many events it has to replay.
     pub fn left(&self) -> u32 {
-        match &self.state {
-            State::Replaying(rank) => rank.left(),
-            State::Running(_) | State::Down(_) | State::Empty => 0,
+        match &self.place {
+            Some(rank) => rank.left(),
+            None => 0,
         }
     }
 
     /// Whether it is down.
     pub fn is_down(&self) -> bool {
-        matches!(&self.state, State::Down(_))
+        matches!(&self.place, Some(Phase::Down(_)))
     }
 
     /// Whether it has come to the end of its program.
     pub fn has_halted(&self) -> bool {
-        match &self.state {
-            State::Running(rank) => rank.wants() == Want::Halted,
-            State::Replaying(_) | State::Down(_) | State::Empty => false,
+        match &self.place {
+            Some(Phase::Running(rank)) => rank.wants() == Want::Halted,
+            Some(Phase::Replaying(_) | Phase::Down(_)) | None => false,
         }
     }
 
-    /// The rank crashes.
+    /// The rank crashes: what is stable outlives it, and nothing else does.
     pub fn crash(&mut self) {
-        let state = self.take().crash();
-        self.put(state);
+        if let Some(rank) = self.place.take() {
+            self.put(Phase::Down(rank.crash()));
+        }
     }
 
-    /// Begins again, where it is down.
+    /// A rank that is down begins again at its image, or at the beginning of the program, with its row to replay.
     pub fn restart(&mut self, around: &mut Around<'p>) -> Result<(), NodeFault> {
-        let number = self.number;
-        let (state, restarted) = self.take().restart(around, number);
-        self.put(state);
-        restarted
+        let row = around.row_of(self.number)?;
+        let Some(rank) = self.place.take() else {
+            return Ok(());
+        };
+        // what is down already stays so
+        let down = rank.crash();
+        match down.restart(around.alloc, around.program, row) {
+            Ok(replaying) => {
+                self.put(Phase::Replaying(replaying));
+                Ok(())
+            }
+            Err((down, fault)) => {
+                self.put(Phase::Down(down));
+                Err(fault)
+            }
+        }
     }
 
     /// Takes in the frames that are on their way to it. Where it is down they are lost.
@@ -93,12 +114,10 @@ impl<'p> Rank<'p> {
 
     fn arrive(&mut self, parcel: Parcel) -> Result<(), NodeFault> {
         let Parcel { from, frame } = parcel;
-        let arrived = match &mut self.state {
-            State::Running(rank) => rank.arrive(from, frame),
-            State::Replaying(rank) => rank.arrive(from, frame),
-            State::Down(_) | State::Empty => return Ok(()),
+        let Some(rank) = &mut self.place else {
+            return Ok(());
         };
-        match arrived {
+        match rank.arrive(from, frame) {
             Ok(_) => Ok(()),
             Err((_, fault)) => Err(fault),
         }
@@ -114,33 +133,37 @@ impl<'p> Rank<'p> {
         Ok(())
     }
 
+    // Where nothing is left to replay then, it runs.
     fn step_once(&mut self, console: &mut ConsoleState) -> Result<Turn, NodeFault> {
-        let turn = match &mut self.state {
-            State::Running(rank) => rank.step(console)?,
-            State::Replaying(rank) if rank.left() > 0 => rank.step(console)?,
-            State::Replaying(_) => Turn::Moved,
-            State::Down(_) | State::Empty => Turn::Blocked,
+        let turn = match &mut self.place {
+            Some(Phase::Running(rank)) => rank.step(console)?,
+            Some(Phase::Replaying(rank)) if rank.left() > 0 => rank.step(console)?,
+            Some(Phase::Replaying(_)) => Turn::Moved,
+            Some(Phase::Down(_)) | None => Turn::Blocked,
         };
-        let state = self.take().settle();
-        self.put(state);
+        if let Some(rank) = self.place.take() {
+            self.put(rank.settled());
+        }
         Ok(turn)
     }
 
     /// What waits at its gate passes.
     pub fn clear_gate(&mut self, around: &mut Around<'p>) -> Result<(), NodeFault>
-        ensures { OnOk result (NoneWaits self.new.state) }
+        ensures { OnOk result (NoneWaits self.new.place) }
     {
-        match &mut self.state {
-            State::Running(rank) => gate::clear(rank, &mut around.logger, &mut around.console),
-            State::Replaying(_) | State::Down(_) | State::Empty => Ok(()),
+        match &mut self.place {
+            Some(Phase::Running(rank)) => {
+                gate::clear(rank, &mut around.logger, &mut around.console)
+            }
+            Some(Phase::Replaying(_) | Phase::Down(_)) | None => Ok(()),
         }
     }
 
     /// Takes an image of itself, where it runs and nothing waits.
     pub fn image(&mut self) -> Result<(), NodeFault> {
-        match &mut self.state {
-            State::Running(rank) => rank.image(),
-            State::Replaying(_) | State::Down(_) | State::Empty => Ok(()),
+        match &mut self.place {
+            Some(Phase::Running(rank)) => rank.image(),
+            Some(Phase::Replaying(_) | Phase::Down(_)) | None => Ok(()),
         }
     }
 
@@ -168,37 +191,35 @@ impl<'p> Rank<'p> {
 
     fn outgoing(&self, dest: u8) -> Result<Option<Frame>, NodeFault>
         requires { dest < 2 }
-        ensures { IfOk result (λ frame. frame ≡ outgoing_in self.now.state dest) }
+        ensures { IfOk result (λ frame. frame ≡ outgoing_at self.now.place dest) }
     {
-        match &self.state {
-            State::Running(rank) => rank.outgoing(dest),
-            State::Replaying(rank) => rank.outgoing(dest),
-            State::Down(_) | State::Empty => Ok(None),
+        match &self.place {
+            Some(rank) => rank.outgoing(dest),
+            None => Ok(None),
         }
     }
 
     fn passed(&mut self, dest: u8)
         requires there { dest < 2 }
-        requires due { IsSome (outgoing_in self.old.state dest) }
+        requires due { IsSome (outgoing_at self.old.place dest) }
     {
-        match &mut self.state {
-            State::Running(rank) => rank.passed(dest),
-            State::Replaying(rank) => rank.passed(dest),
-            State::Down(_) | State::Empty => {}
+        if let Some(rank) = &mut self.place {
+            rank.passed(dest);
         }
     }
 
-    fn take(&mut self) -> State<'p>
-        ensures state { result ≡ self.old.state }
+    // The rank stands here now. What stood here ends.
+    fn put(&mut self, rank: Phase<'p, MemoryShelf, ()>)
+        requires { IsRank self.old.number (Some rank) }
+        ensures place { self.new.place ≡ Some rank.entry }
         ensures number { self.new.number ≡ self.old.number }
     {
-        mem::replace(&mut self.state, State::Empty)
+        end(self.place.replace(rank));
     }
+}
 
-    fn put(&mut self, state: State<'p>)
-        requires { IsRank self.old.number state }
-        ensures { self.new.state ≡ state.entry }
-    {
-        mem::replace(&mut self.state, state).end();
+fn end(place: Option<Phase<'_, MemoryShelf, ()>>) {
+    if let Some(rank) = place {
+        rank.retire().parts();
     }
 }
