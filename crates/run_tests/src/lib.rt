@@ -36,6 +36,8 @@ mod reports;
 #[cfg(test)]
 mod scenes;
 #[cfg(test)]
+mod script_lines;
+#[cfg(test)]
 mod streams;
 #[cfg(test)]
 mod told;
