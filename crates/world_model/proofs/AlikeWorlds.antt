@@ -1,6 +1,6 @@
 -- A world like one that is a world is one too: what the invariant says names no shelf but by its image, and not the logger's
 -- history.
-use Rattle.std.proofs.Common.{◌≡◌, ℕ, ◌<◌, List, [], ◌∷◌, map, option_map, length, Option, Some, None, sym, ap, subst, ◌∙◌, slice_get}
+use Rattle.std.proofs.Common.{◌≡◌, ℕ, ◌<◌, List, [], ◌∷◌, map, option_map, Option, Some, None, sym, ap, subst, ◌∙◌, slice_get}
 use Rattle.checkpoint.specs.Image.{ImageValue}
 use Rattle.checkpoint.specs.declared.memory_shelf.MemoryShelf.{MemoryShelf}
 use Rattle.crash_free.specs.Runs.{Passed}
@@ -16,24 +16,15 @@ use Rattle.rank_node.specs.Replay.{is_cut}
 use Rattle.world_model.specs.Plain.{plain, without_runs, RankRuns, RunsOfMisses}
 use Rattle.world_model.specs.Driven.{shelved, IsAlike, AreAlike, Alike}
 use Rattle.world_model.proofs.Likeness.{alike_live, alike_size}
+use Rattle.world_model.proofs.Ranks.{stands_otherwise}
+use Rattle.world_model.proofs.Worlds.{Stands-ranks}
 
 -- ---- a rank on another shelf
 
 -- a rank stands where it stood in the run, whatever its shelf
 stands_shelf : (start : ℕ → State) (n : ℕ) (C : List Passed) (r : ℕ) (v : Live) (shelf : MemoryShelf) → RankStands start n C r v
     → RankStands start n C r (shelved v shelf)
-stands_shelf start n C r v shelf k =
-    record {
-      number = k.number;
-      size = k.size;
-      acts = k.acts;
-      pending = k.pending;
-      stored = k.stored;
-      all_made = k.all_made;
-      left = k.left;
-      logs = k.logs;
-      at = k.at;
-    }
+stands_shelf start n C r v shelf k = stands_otherwise start n C r v shelf v.rank.made k
 
 -- images cover what a rank dropped, on whatever shelf it is
 covers_shelf : (images : List (Option ImageValue)) (r : ℕ) (v : Live) (shelf : MemoryShelf) → RankCovers images r v → RankCovers images r (shelved v shelf)
@@ -70,19 +61,8 @@ row_is a b r events k e = ap (λ z. slice_get z r) (sym k.rows) ∙ e
 -- ranks and images stand in the run where the shelves and the logger's history are those of a world alike
 stands_at : (a b : WorldValue) (n : ℕ) → Alike a b → StandsAt n a → StandsAt n (moved a b)
 stands_at a b n k s =
-    record {
-      is_run = s.is_run;
-      as_many_rows = ap length k.rows ∙ s.as_many_rows;
-      rows = λ r events e. s.rows r events (row_is a b r events k e);
-      as_many_wires = s.as_many_wires;
-      wires_to_all = s.wires_to_all;
-      packets = s.packets;
-      lines = s.lines;
-      as_many_images = s.as_many_images;
-      images = s.images;
-      ranks = λ r v live. on_live a b r v (λ z. RankStands (start_at a n) n a.run r z) k live
-          (λ u shelf l. stands_shelf (start_at a n) n a.run r u shelf (s.ranks r u l));
-    }
+    Stands-ranks n a b.ranks b.logger s k.rows (λ r v live. on_live a b r v (λ z. RankStands (start_at a n) n a.run r z) k live
+    (λ u shelf l. stands_shelf (start_at a n) n a.run r u shelf (s.ranks r u l)))
 
 -- what senders may drop is the same there
 covers : (a b : WorldValue) → Alike a b → Covers a → Covers (moved a b)

@@ -1,5 +1,5 @@
 -- Copies of a rank, of a seat and of all seats.
-use Rattle.std.proofs.Common.{◌≡◌, ℕ, ◌+◌, zero, suc, List, [], ◌∷◌, ◌++◌, length, take, add-one, refl, sym, ap, subst, ◌∙◌, Some}
+use Rattle.std.proofs.Common.{◌≡◌, ℕ, ◌+◌, zero, suc, List, [], ◌∷◌, ◌++◌, length, take, add-one, refl, sym, ap, subst, ◌∙◌, Option, Some}
 use Rattle.std.proofs.Common.{slice_get}
 use Rattle.std.specs.List.{AllZip}
 use Rattle.checkpoint.specs.Shelf.{image_bytes}
@@ -7,15 +7,14 @@ use Rattle.checkpoint.specs.declared.memory_shelf.MemoryShelf.{MemoryShelf}
 use Rattle.rank_language.specs.Program.{ProgramValue}
 use Rattle.rank_node.specs.Copied.{node_with, stored_with}
 use Rattle.rank_node.specs.Image.{Reads, image_on}
-use Rattle.rank_node.specs.Replay.{Replay}
 use Rattle.rank_node.specs.Stored.{Stored}
-use Rattle.world_model.specs.declared.state.State.{State}
-use Rattle.world_model.specs.declared.state.State.TheVariants.{Running, Replaying, Down, Empty}
+use Rattle.rank_node.specs.Phases.{phase_with, stable_of}
+use Rattle.rank_node.specs.declared.phase.Phase.TheVariants.{Running, Replaying, Down}
 use Rattle.world_model.specs.World.{Rank}
 use Rattle.world_model.specs.Seats.{SeatValue, AreSeats, lives, images}
-use Rattle.world_model.specs.Seat.{IsOwn, IsOf, IsKept, bytes_of, live_of, shelf_of}
+use Rattle.world_model.specs.Seat.{IsOwn, IsOf, IsKept, IsSeated, Phase, seat_of, shelf_of}
 use Rattle.world_model.specs.Driven.{AreAlike}
-use Rattle.world_model.specs.Copied.{IsStateCopy, IsSeatCopy}
+use Rattle.world_model.specs.Copied.{IsPhaseCopy, IsSeatCopy}
 
 -- ---- what stands at a seat
 
@@ -29,43 +28,30 @@ of_copy : (program : ProgramValue) (r n : ℕ) (v : Rank) (shelf : MemoryShelf) 
     → IsOf program r n v → IsOf program r n (node_with v tt shelf)
 of_copy program r n v shelf b k = record { same_program = k.same_program; own = own_copy program r n v.stable shelf b k.own }
 
--- a rank at work
-pub running_copy : (v c : Rank) (shelf : MemoryShelf) → image_bytes shelf.image ≡ shelf_of v.stable → c ≡ node_with v tt shelf
-    → IsStateCopy (Running v) (Running c)
-running_copy v c shelf b e =
-    subst (λ z. IsStateCopy (Running v) (Running z)) (sym e)
-    (record { live = (shelf, refl); bytes = b; standing = λ program r n k. of_copy program r n v shelf b k; left = λ k. k })
-
--- a rank that replays
-pub replaying_copy : (v c : Replay MemoryShelf (Unit {0})) (shelf : MemoryShelf) → image_bytes shelf.image ≡ shelf_of v.node.stable
-    → c ≡ record { node = node_with v.node tt shelf; left = v.left } → IsStateCopy (Replaying v) (Replaying c)
-replaying_copy v c shelf b e =
-    subst (λ z. IsStateCopy (Replaying v) (Replaying z)) (sym e)
-    (record { live = (shelf, refl); bytes = b; standing = λ program r n k. of_copy program r n v.node shelf b k; left = λ k. k })
-
--- a rank that is down
-pub down_copy : (s c : Stored MemoryShelf (Unit {0})) (shelf : MemoryShelf) → image_bytes shelf.image ≡ shelf_of s → c ≡ stored_with s tt shelf
-    → IsStateCopy (Down s) (Down c)
-down_copy s c shelf b e =
-    subst (λ z. IsStateCopy (Down s) (Down z)) (sym e)
-    (record { live = tt; bytes = b; standing = λ program r n k. own_copy program r n s shelf b k; left = λ k. k })
-
--- an empty seat is a copy of an empty seat
-pub empty_copy : IsStateCopy Empty Empty
-empty_copy = record { live = tt; bytes = refl; standing = λ program r n k. k; left = λ k. k }
+-- a rank in any phase, which is copied with its shelf
+pub phase_copy : (s c : Phase) (shelf : MemoryShelf) → image_bytes shelf.image ≡ shelf_of (stable_of s) → c ≡ phase_with s tt shelf → IsPhaseCopy s c
+phase_copy s c shelf b e = subst (λ z. IsPhaseCopy s z) (sym e) (go s b)
+  where
+    go : (s : Phase) → image_bytes shelf.image ≡ shelf_of (stable_of s) → IsPhaseCopy s (phase_with s tt shelf)
+    go (Running v) b = record { live = (shelf, refl); bytes = b; standing = λ program r n k. of_copy program r n v shelf b k; left = λ k. k }
+    go (Replaying v) b = record { live = (shelf, refl); bytes = b; standing = λ program r n k. of_copy program r n v.node shelf b k; left = λ k. k }
+    go (Down s) b = record { live = tt; bytes = b; standing = λ program r n k. own_copy program r n s shelf b k; left = λ k. k }
 
 -- ---- seats
 
--- what holds of a seat holds of its copy
-pub kept_copy : (program : ProgramValue) (r n : ℕ) (s c : State) → IsKept program r n s → IsStateCopy s c → IsKept program r n c
-kept_copy program r n s c k copy = record { standing = copy.standing program r n k.standing; left = copy.left k.left }
+-- what holds of a rank at a seat holds of its copy
+pub kept_copy : (program : ProgramValue) (r n : ℕ) (place : Option Phase) (s c : Phase) → IsSeated program r n place → place ≡ Some s → IsPhaseCopy s c
+    → IsKept program r n c
+kept_copy program r n place s c k is copy =
+    let kept : IsKept program r n s = subst (λ z. IsSeated program r n z) is k in
+    record { standing = copy.standing program r n kept.standing; left = copy.left kept.left }
 
 -- the image is the same
-pub seat_copy : (program : ProgramValue) (r n : ℕ) (s c : State) → IsStateCopy s c → IsSeatCopy
-    (record { program = program; rank = r; size = n; live = live_of s; image = image_on program r n (bytes_of s) })
-    (record { program = program; rank = r; size = n; live = live_of c; image = image_on program r n (bytes_of c) })
-seat_copy program r n s c copy =
-    record { same_program = refl; rank = refl; size = refl; live = copy.live; image = ap (λ z. image_on program r n z) copy.bytes }
+pub seat_copy : (program : ProgramValue) (r n : ℕ) (place : Option Phase) (s c : Phase) → place ≡ Some s → IsPhaseCopy s c
+    → IsSeatCopy (seat_of program r n place) (seat_of program r n (Some c))
+seat_copy program r n place s c is copy =
+    subst (λ z. IsSeatCopy (seat_of program r n z) (seat_of program r n (Some c))) (sym is)
+    (record { same_program = refl; rank = refl; size = refl; live = copy.live; image = ap (λ z. image_on program r n z) copy.bytes })
 
 -- ---- all seats
 

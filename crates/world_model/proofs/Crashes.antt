@@ -1,9 +1,9 @@
 -- A crash keeps what a world stands for and what senders keep.
-use Rattle.std.proofs.Common.{◌≡◌, ℕ, None, length, refl, sym, subst}
+use Rattle.std.proofs.Common.{◌≡◌, ℕ, None, refl, sym, subst}
 use Rattle.std.proofs.lemmas.List.{length-set}
 use Rattle.world_model.specs.World.{WorldValue, size}
 use Rattle.world_model.specs.declared.reply.Reply.{Reply}
-use Rattle.world_model.specs.Stands.{StandsAt, Stands}
+use Rattle.world_model.specs.Stands.{StandsAt}
 use Rattle.world_model.specs.Follows.{CrashFollows}
 use Rattle.world_model.proofs.Covers.{Covers-rank}
 use Rattle.world_model.proofs.Worlds.{Goes, changed, Stands-rank}

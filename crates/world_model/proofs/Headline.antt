@@ -10,8 +10,8 @@ use Rattle.world_model.proofs.StandingFrames.{Stands-putting, Stands-arrive}
 use Rattle.world_model.proofs.StandingStores.{Stands-ack}
 use Rattle.world_model.proofs.StandingParts.{Stands-store}
 use Rattle.world_model.proofs.StandingReleases.{effect_there, Stands-release}
-use Rattle.world_model.proofs.Counts.{Counts-put, Counts-arrive, Counts-crash, Counts-restart, Counts-ack, Counts-store, Counts-release}
-use Rattle.world_model.proofs.CountsOfSteps.{Counts-step, Counts-replay}
+use Rattle.world_model.proofs.RunsCounts.{Counts-put, Counts-arrive, Counts-crash, Counts-restart, Counts-ack, Counts-store, Counts-release}
+use Rattle.world_model.proofs.RunsCountsOfSteps.{Counts-step, Counts-replay}
 use Rattle.world_model.proofs.Ranks.{settled_behind}
 use Rattle.plain_logger.specs.Misses.{expand}
 use Rattle.std.proofs.lemmas.Option.{slice_get_within}

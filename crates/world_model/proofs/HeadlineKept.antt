@@ -20,7 +20,7 @@ use Rattle.rank_node.specs.declared.due.Due.{Due}
 use Rattle.rank_node.specs.declared.frame.Frame.{Frame}
 use Rattle.crash_free.specs.Runs.{printed, IsRun}
 use Rattle.world_model.specs.Rows.{row}
-use Rattle.world_model.specs.World.{Live, unstored, WorldValue, size, IsLive, IsWire, covered}
+use Rattle.world_model.specs.World.{Live, WorldValue, size, IsLive, IsWire, covered}
 use Rattle.world_model.specs.Headline.{stable_of, lines_of, IsFresh, IsOpened}
 use Rattle.rank_node.specs.declared.waiting.Waiting.{Waiting}
 use Rattle.rank_node.specs.Releasing.{effect_of, next_effect}
@@ -32,7 +32,7 @@ use Rattle.rank_node.specs.Image.{first_image, begins_at}
 use Rattle.world_model.specs.Stands.{ImageStands, RankStands, start_at, StandsAt, DueCovered, RankCovers, Stands}
 use Rattle.world_model.proofs.Lists.{replicate_get, replicate_length, get_map, map_length}
 use Rattle.world_model.proofs.PlainRanks.{none_waits, none_left}
-use Rattle.world_model.proofs.PlainWorlds.{IsPlain, is_plain, rank_of, as_many_rows}
+use Rattle.world_model.proofs.PlainWorlds.{IsPlain, is_plain, rank_of}
 
 -- ---- want of memory
 

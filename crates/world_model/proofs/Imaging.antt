@@ -9,13 +9,13 @@ use Rattle.world_model.specs.declared.reply.Reply.{Reply}
 use Rattle.world_model.specs.World.{Live, WorldValue, size}
 use Rattle.world_model.specs.Headline.{stable_of}
 use Rattle.world_model.specs.Counts.{RankCounts, Counts}
-use Rattle.world_model.specs.Stands.{start_at, ImageStands, RankStands, StandsAt, Stands}
+use Rattle.world_model.specs.Stands.{start_at, ImageStands, RankStands, StandsAt}
 use Rattle.world_model.specs.Follows.{ImageFollows}
 use Rattle.world_model.proofs.Places.{slice_set-get}
 use Rattle.world_model.proofs.Ranks.{RankStands-same_clock}
 use Rattle.world_model.proofs.Worlds.{Goes, changed, replaced}
 use Rattle.world_model.proofs.Crashes.{resized}
-use Rattle.world_model.proofs.Counts.{Counts-rank}
+use Rattle.world_model.proofs.RunsCounts.{Counts-rank}
 use Rattle.world_model.proofs.Images.{ImageStands-taken}
 use Rattle.world_model.proofs.ImageCovers.{Covers-imaged}
 

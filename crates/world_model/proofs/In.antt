@@ -143,16 +143,32 @@ pub record NextAct (h : History) (c : ℕ) (m : MachineValue) : Type 0 where
   pub is_next : drop c h ≡ (act, message) ∷ rest
   pub makes : Makes (state_of m) act message
 
--- a machine that is behind stands at the next act
-pub next_act : (start : State) (n r : ℕ) (inbound : ℕ → List Message) (h : History) (c : ℕ) (m : MachineValue)
+-- The next act of a history whose first acts led to this state, which makes it.
+pub record NextDoes (h : History) (c : ℕ) (from : State) : Type 0 where
+  pub act : Act
+  pub message : Option Message
+  pub rest : History
+  pub is_next : drop c h ≡ (act, message) ∷ rest
+  pub after : State
+  pub does : Does from act message after
+
+-- so it is of a machine that is behind
+pub next_does : (start : State) (n r : ℕ) (inbound : ℕ → List Message) (h : History) (c : ℕ) (m : MachineValue)
     (box : Mailbox) (log : List BacklogValue) (z : State)
-    → Runs start h z → c < length h → inner (state_of m) ≡ None → StandsIn start n r inbound h c m box log → NextAct h c m
-next_act start n r inbound h c m box log z whole l stop s =
+    → Runs start h z → c < length h → (s : StandsIn start n r inbound h c m box log) → NextDoes h c s.after
+next_does start n r inbound h c m box log z whole l s =
     let d = drop_some c h l in
     let split : Runs start (take c h ++ drop c h) z = rw (take-append-drop c h) whole in
     let parts = Runs-split start z (take c h) (drop c h) split in
     let same : parts.0 ≡ s.after = same_runs start parts.0 s.after (take c h) parts.1 s.reached in
     let goes : Runs s.after (d.0 ∷ d.1) z = subst (λ q. Runs q (d.0 ∷ d.1) z) same (subst (λ q. Runs parts.0 q z) d.2 parts.2) in
-    let does : Does s.after d.0.0 d.0.1 goes.0 = goes.1 in
-    let here_it_is : does.0 ≡ state_of m = same_stop does.1 s.inner (still does.0 d.0.0 d.0.1 does.2) stop in
-    record { act = d.0.0; message = d.0.1; rest = d.1; is_next = d.2; makes = subst (λ q. Makes q d.0.0 d.0.1) here_it_is does.2 }
+    record { act = d.0.0; message = d.0.1; rest = d.1; is_next = d.2; after = goes.0; does = goes.1 }
+
+-- a machine that is behind stands at the next act
+pub next_act : (start : State) (n r : ℕ) (inbound : ℕ → List Message) (h : History) (c : ℕ) (m : MachineValue)
+    (box : Mailbox) (log : List BacklogValue) (z : State)
+    → Runs start h z → c < length h → inner (state_of m) ≡ None → StandsIn start n r inbound h c m box log → NextAct h c m
+next_act start n r inbound h c m box log z whole l stop s =
+    let d = next_does start n r inbound h c m box log z whole l s in
+    let here_it_is : d.does.0 ≡ state_of m = same_stop d.does.1 s.inner (still d.does.0 d.act d.message d.does.2) stop in
+    record { act = d.act; message = d.message; rest = d.rest; is_next = d.is_next; makes = subst (λ q. Makes q d.act d.message) here_it_is d.does.2 }

@@ -6,7 +6,6 @@ use Rattle.checkpoint.specs.declared.memory_shelf.MemoryShelf.{MemoryShelf}
 use Rattle.plain_logger.specs.Event.{EventValue}
 use Rattle.rank_machine.specs.Machine.{machine_want}
 use Rattle.rank_node.specs.declared.frame.Frame.{Frame}
-use Rattle.rank_node.specs.declared.frame.Frame.TheVariants as frame
 use Rattle.rank_node.specs.declared.turn.Turn.{Turn}
 use Rattle.rank_node.specs.Frames.{outgoing_of, after_passed, after_frame}
 use Rattle.rank_node.specs.Replay.{left_after, replay_turn_of, after_replay, ReplayStep}

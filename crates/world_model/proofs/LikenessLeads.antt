@@ -1,5 +1,5 @@
 -- A restart, and so any event of the way, leaves alike worlds alike; the list leads the other world on too.
-use Rattle.std.proofs.Common.{◌≡◌, ℕ, ◌+◌, List, [], ◌∷◌, ◌++◌, Option, Some, length, refl, sym, ap}
+use Rattle.std.proofs.Common.{◌≡◌, ℕ, List, [], ◌∷◌, ◌++◌, Option, Some, length, refl, sym, ap}
 use Rattle.std.proofs.Common.{subst, ◌∙◌, arith, slice_get, slice_set}
 use Rattle.checkpoint.specs.Image.{ImageValue}
 use Rattle.plain_logger.specs.Event.{EventValue}

@@ -1,6 +1,6 @@
 -- What an event does to a world it does to the world without runs of misses too: frames, acknowledgments, releases, images and
 -- crashes.
-use Rattle.std.proofs.Common.{◌≡◌, ℕ, ◌+◌, ◌-◌, Bool, true, false, ◌==◌, if◌then◌else◌, List, [], ◌∷◌, ◌++◌, Option, Some, None, drop, refl, sym, ap}
+use Rattle.std.proofs.Common.{◌≡◌, ℕ, ◌-◌, Bool, true, false, ◌==◌, if◌then◌else◌, List, [], ◌∷◌, ◌++◌, Option, Some, None, drop, refl, sym, ap}
 use Rattle.std.proofs.Common.{subst, ◌∙◌}
 use Rattle.std.proofs.Common.{slice_get, slice_set, option_and_then, option_map}
 use Rattle.matching.specs.Inbox.{after_arrival}

@@ -1,5 +1,5 @@
 -- A rank without runs of misses: what a rank does, the rank without runs does by one event for each act.
-use Rattle.std.proofs.Common.{◌≡◌, ℕ, ℤ, ◌+◌, ◌≤◌, ◌⊎◌, ⊎_elim, Bool, true, false, if◌then◌else◌, nat_lt, List, [], ◌∷◌, ◌++◌}
+use Rattle.std.proofs.Common.{◌≡◌, ℕ, ℤ, ◌+◌, ◌≤◌, ⊎_elim, Bool, true, false, if◌then◌else◌, nat_lt, List, [], ◌∷◌, ◌++◌}
 use Rattle.std.proofs.Common.{map, Option, Some, None, length, slice_get, refl, sym, ap, subst, ◌∙◌, append_assoc}
 use Rattle.std.proofs.lemmas.List.{append-nil, length_push}
 use Rattle.matching.specs.PacketValue as packet
@@ -27,12 +27,12 @@ use Rattle.crash_free.specs.Runs.{Passed, history, sent, looked_up, continue}
 use Rattle.crash_free.proofs.Lists.{history-own}
 use Rattle.ports.specs.declared.line.Line.{Line}
 use Rattle.ports.specs.Console.{after_line}
-use Rattle.world_model.specs.World.{Rank, Live, unpassed, unstored}
+use Rattle.world_model.specs.World.{Rank, Live, unpassed}
 use Rattle.world_model.specs.Plain.{plainly, plain_rank, plain, RankRuns}
 use Rattle.world_model.specs.Stands.{Pending, RankStands}
 use Rattle.world_model.specs.Follows.{effect_at, lines_after}
 use Rattle.world_model.proofs.Rows.{event_clock}
-use Rattle.world_model.proofs.Ranks.{nothing_unpassed}
+use Rattle.world_model.proofs.Ranks.{nothing_unpassed, stands_otherwise}
 use Rattle.world_model.proofs.PlainEvents.{LastPart, last_part}
 use Rattle.world_model.proofs.Plain.{expanded_append, unpassed_plain, plainly_effects, plainly_push, plainly_settled, plainly_none, none_plainly}
 use Rattle.world_model.proofs.Plain.{plainly_joined, LastMiss, last_miss, last_counted}
@@ -71,18 +71,7 @@ none_left v k e = go v.left refl
 -- what waits passes one for each act
 pub made_otherwise : (start : ℕ → State) (n : ℕ) (C : List Passed) (r : ℕ) (v : Rank) (left : List EventValue) (made : ℕ)
     → RankStands start n C r (record { rank = v; left = left }) → RankStands start n C r (record { rank = record v { made = made }; left = left })
-made_otherwise start n C r v left made k =
-    record {
-      number = k.number;
-      size = k.size;
-      acts = k.acts;
-      pending = k.pending;
-      stored = k.stored;
-      all_made = k.all_made;
-      left = k.left;
-      logs = k.logs;
-      at = k.at;
-    }
+made_otherwise start n C r v left made k = stands_otherwise start n C r (record { rank = v; left = left }) v.stable.shelf made k
 
 -- ---- the event that waits last
 

@@ -10,7 +10,6 @@ use Rattle.plain_logger.proofs.NextParts.{part, part_fits, Fits as FitsPart}
 use Rattle.rank_machine.specs.declared.want.Want.{Want}
 use Rattle.rank_machine.specs.Machine.{MachineValue, machine_want}
 use Rattle.rank_node.specs.declared.turn.Turn.{Turn}
-use Rattle.rank_node.specs.declared.turn.Turn.TheVariants as turn
 use Rattle.rank_node.specs.Waiting.{events_in}
 use Rattle.rank_node.specs.Replay.{is_last, uses_event, left_after}
 use Rattle.rank_node.specs.Replay.{replay_turn_at, ReplayStepAt, replayed_at}

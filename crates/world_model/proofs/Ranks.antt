@@ -326,3 +326,18 @@ RankStands-passed_by start n C r v s a settled clock left effect =
         ∙ ap (λ z. events_from v.rank.clock z) (drop_append v.rank.clock (history C r) ((a, looked_up (λ q. sent C q r) a) ∷ []) (omega (arith, clock)))
         ∙ ap (λ z. events_from v.rank.clock (z ++ (a, looked_up (λ q. sent C q r) a) ∷ [])) (drop_beyond v.rank.clock (history C r) (omega (arith, clock)))
         ∙ rw (no_event (v.rank.clock + 1) a (looked_up (λ q. sent C q r) a) effect) refl
+
+-- a rank stands where it stood in the run, whatever its shelf, and however many events it has made
+pub stands_otherwise : (start : ℕ → State) (n : ℕ) (C : List Passed) (r : ℕ) (v : Live) (shelf : MemoryShelf) (made : ℕ) → RankStands start n C r v
+    → RankStands start n C r (record { rank = record v.rank { stable = record v.rank.stable { shelf = shelf }; made = made }; left = v.left })
+stands_otherwise start n C r v shelf made k = record {
+  number = k.number;
+  size = k.size;
+  acts = k.acts;
+  pending = k.pending;
+  stored = k.stored;
+  all_made = k.all_made;
+  left = k.left;
+  logs = k.logs;
+  at = k.at;
+}

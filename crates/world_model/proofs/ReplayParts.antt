@@ -1,25 +1,24 @@
--- What a replay works on: its payload log after a send that is made again, and the packet that an event names.
-use Rattle.std.proofs.Common.{◌≡◌, ℕ, ℤ, ◌+◌, ◌≤◌, true, ◌==◌, List, [], ◌∷◌, ◌++◌, Option, Some}
-use Rattle.std.proofs.Common.{None, length, take, refl, sym, ap, subst, ◌∙◌, arith, slice_get, slice_set}
-use Rattle.std.proofs.lemmas.Bool.{eq-eqb, ne_eqb, eqb-true, and_parts}
+-- What a replay works on: its payload log after a send that is made again, and after any other act, and the acts that are left.
+use Rattle.std.proofs.Common.{◌≡◌, ℕ, ℤ, ◌+◌, ◌<◌, ◌≤◌, ◌⊎◌, inl, inr, ◌==◌, List, [], ◌∷◌, ◌++◌, Option, Some}
+use Rattle.std.proofs.Common.{None, length, take, drop, refl, sym, ap, subst, ◌∙◌, arith, slice_get, slice_set}
+use Rattle.std.proofs.lemmas.Bool.{cases_lt, eq-eqb, ne_eqb}
 use Rattle.std.proofs.lemmas.List.{append-nil}
 use Rattle.std.proofs.lemmas.Option.{get_or_from_slice_get}
 use Rattle.matching.specs.declared.packet.Context.{Context}
 use Rattle.matching.specs.PacketValue as packet
-use Rattle.matching.specs.Matching.{is_named}
-use Rattle.matching.specs.Inbox.{Mailbox}
 use Rattle.payload_log.specs.Backlog.{BacklogValue, backlog, saved, new_backlog}
 use Rattle.rank_machine.specs.Wants.{payload}
 use Rattle.rank_machine.specs.Acts.{Act, Message, sends, carried}
 use Rattle.rank_machine.specs.Machine.{state_of}
 use Rattle.rank_node.specs.Steps.{message_of}
-use Rattle.crash_free.specs.Runs.{Passed, History, at_place, history, sent, sends_from, send_at, cons_if}
+use Rattle.crash_free.specs.Runs.{History, sends_from, send_at, cons_if}
 use Rattle.crash_free.proofs.Lists.{sends_from-push}
-use Rattle.crash_free.proofs.Clocks.{one_clock}
 use Rattle.world_model.specs.World.{Rank}
-use Rattle.world_model.specs.Stands.{InboxStands, LogStands, LogsStand}
+use Rattle.world_model.specs.Stands.{LogStands, LogsStand}
 use Rattle.world_model.proofs.Places.{replaced_keeps}
-use Rattle.world_model.proofs.Lists.{take_length}
+use Rattle.plain_logger.specs.Event.{EventValue}
+use Rattle.world_model.specs.Rows.{events_from}
+use Rattle.world_model.proofs.Lists.{take_length, drop_beyond}
 use Rattle.world_model.proofs.Logs.{LogStands-saved}
 
 -- what the first c acts sent, and a send as the next
@@ -77,23 +76,10 @@ logs_quiet r h v a o none s e b at =
     subst (λ z. LogStands r z [] b) (sym (sends_from-push 0 e (take v.clock h) (a, o) ∙ ap (λ z. sends_from 0 e (take v.clock h) ++ z) (none _ e)
     ∙ append-nil _)) (s e b at)
 
--- ---- the packet that an event names
--- what an event names
-pub named_parts : (source clock : ℕ) (p : packet.PacketValue) → is_named source clock p ≡ true → (p.source ≡ source) × (p.clock ≡ clock)
-named_parts source clock p e = (let x = and_parts (p.source == source) (p.clock == clock) e in (eqb-true p.source source x.0, eqb-true p.clock clock x.1))
-
--- in an inbox that stands, the packet of this source and clock is the message of that clock, with its place
-pub record IsOf (s j : ℕ) (m : Message) (p : packet.PacketValue) : Type 0 where
-  pub source : p.source ≡ s
-  pub number : p.number ≡ j
-  pub message : carried p ≡ m
-
--- a source and a clock name one message
-pub one_message : (C : List Passed) (r : ℕ) (box : Mailbox) (acts : History) (i s j : ℕ) (m : Message) (p : packet.PacketValue)
-    → InboxStands box (λ q. sent C q r) acts → slice_get box.packets i ≡ Some p → p.source ≡ s → p.clock ≡ m.clock → at_place (sent C s r) j ≡ Some m
-    → IsOf s j m p
-one_message C r box acts i s j m p stands at source clock there =
-    let real : at_place (sent C s r) p.number ≡ Some (carried p) = subst (λ z. at_place (sent C z r) p.number ≡ Some (carried p)) source (stands.real i p at) in
-    let same : p.number ≡ j = one_clock 0 r (history C s) p.number j (carried p) m real there clock in
-    let both : Some (carried p) ≡ Some m = sym real ∙ ap (λ z. at_place (sent C s r) z) same ∙ there in
-    record { source = source; number = same; message = cc }
+-- where events are left behind a clock, acts are
+pub not_past : (h : History) (c : ℕ) (e : EventValue) (rest : List EventValue) → e ∷ rest ≡ events_from c (drop c h) → c < length h
+not_past h c e rest was = go (cases_lt c (length h))
+  where
+    go : (c < length h) ⊎ (length h ≤ c) → c < length h
+    go (inl l) = l
+    go (inr l) = absurd (let q : e ∷ rest ≡ [] = was ∙ ap (λ y. events_from c y) (drop_beyond c h l) in cc)

@@ -1,45 +1,41 @@
 -- A rank that replays is never refused, and each of its steps keeps it with the run.
-use Rattle.std.proofs.Common.{◌≡◌, ℕ, ℤ, ◌+◌, ◌<◌, ◌≤◌, ◌⊎◌, inl, inr, ⊎_elim, true, false, ◌&&◌, nat_le, nat_lt, if◌then◌else◌, List, [], ◌∷◌, ◌++◌, Option}
-use Rattle.std.proofs.Common.{Some}
-use Rattle.std.proofs.Common.{None, Ok, Err, length, take, drop, refl, sym, ap, subst, ◌∙◌, arith, slice_get, slice_set, position, option_and_then}
-use Rattle.std.proofs.lemmas.Bool.{cases_lt, lt-ltb, le-leb, eq-eqb}
+use Rattle.std.proofs.Common.{◌≡◌, ℕ, ℤ, ◌+◌, ◌<◌, ◌⊎◌, inl, inr, ⊎_elim, true, false, nat_lt, if◌then◌else◌, List, [], ◌∷◌, ◌++◌, Option}
+use Rattle.std.proofs.Common.{Some, None, Ok, Err, length, take, drop, refl, sym, ap, subst, ◌∙◌, slice_get, slice_set}
+use Rattle.std.proofs.lemmas.Bool.{lt-ltb, eq-eqb}
 use Rattle.std.proofs.lemmas.List.{length-set}
-use Rattle.std.proofs.lemmas.Option.{get_or_from_slice_get}
-use Rattle.std.proofs.lemmas.List.Quantifiers.{position-Some}
 use Rattle.matching.specs.declared.packet.Context.{Context}
 use Rattle.matching.specs.declared.selector.Selector.{Selector}
 use Rattle.matching.specs.PacketValue as packet
-use Rattle.matching.specs.Matching.{matches, is_named}
 use Rattle.matching.specs.Inbox.{Mailbox, without}
 use Rattle.payload_log.specs.Backlog.{BacklogValue, backlog, saved}
-use Rattle.plain_logger.specs.Event.{EventValue, event_of, first_clock}
-use Rattle.plain_logger.proofs.RowLaws.{first_low}
+use Rattle.plain_logger.specs.Event.{EventValue, event_of}
 use Rattle.plain_logger.specs.declared.kind.Kind.{Kind}
 use Rattle.plain_logger.specs.declared.kind.Kind.TheVariants as kind
 use Rattle.rank_machine.specs.declared.want.Want.{Want}
 use Rattle.rank_machine.specs.declared.want.Want.TheVariants as want
+use Rattle.rank_machine.specs.declared.fault.MachineFault.{MachineFault}
 use Rattle.rank_machine.specs.States.{State, inner}
 use Rattle.rank_machine.specs.Wants.{payload}
-use Rattle.rank_machine.specs.Acts.{Act, Message, sends, takes, hits, misses, prints, carried, Fits, Makes, Matches, next}
+use Rattle.rank_machine.specs.Acts.{Act, Message, sends, takes, hits, misses, prints, carried, Fits, Makes, next}
 use Rattle.rank_machine.specs.Machine.{MachineValue, state_of, machine_want}
 use Rattle.rank_node.specs.declared.fault.NodeFault.TheVariants as fault
 use Rattle.rank_node.specs.declared.turn.Turn.{Turn}
 use Rattle.rank_node.specs.declared.turn.Turn.TheVariants.{Moved, Blocked}
-use Rattle.rank_node.specs.Steps.{at_index, message_of, WasShown, TakesFound, IsShownFound}
+use Rattle.rank_node.specs.Steps.{message_of, WasShown, TakesFound, IsShownFound}
 use Rattle.crash_free.specs.Runs.{Passed, at_place, history, sent, sends_from, looked_up, takes_it, IsRun}
 use Rattle.world_model.specs.Rows.{event_at, events_from, cons_some}
 use Rattle.world_model.specs.World.{Live}
 use Rattle.world_model.specs.Stands.{InboxStands, LogStands, LogsStand, StandsIn, RankStands}
-use Rattle.world_model.proofs.Inboxes.{matches_if_named, InboxStands-noted, InboxStands-taken}
-use Rattle.rank_node.specs.Replay.{named, is_now, is_before, is_last, replay_turn_at, replayed_at, ReplayStepAt, left_after, taken_named, shown_named}
-use Rattle.rank_node.specs.Replay.{named_turn, receive_turn, probe_turn, try_turn, tried_named, TriesNamed}
-use Rattle.world_model.proofs.Lists.{next_of_drop, drop_beyond}
+use Rattle.world_model.proofs.Inboxes.{InboxStands-noted, InboxStands-taken}
+use Rattle.rank_node.specs.Replay.{named, is_before, is_last, replay_turn_at, replayed_at, ReplayStepAt, left_after, taken_named, shown_named}
+use Rattle.rank_node.specs.Replay.{try_turn, tried_named, TriesNamed}
+use Rattle.world_model.proofs.Lists.{next_of_drop}
 use Rattle.world_model.proofs.In.{StandsIn-moved, NextAct, next_act, run_reaches}
-use Rattle.world_model.proofs.Ranks.{at_run, left_run, logs_run, settled_behind, RankStands-settled, RankStands-same_clock, after_again}
-use Rattle.world_model.proofs.Ranks.{RankStands-again}
+use Rattle.world_model.proofs.Ranks.{at_run, left_run, logs_run, settled_behind, RankStands-settled, RankStands-same_clock, RankStands-again, after_again}
 use Rattle.world_model.proofs.Fits.{fits_send, fits_print, FitsTakes, fits_receive, FitsHits, fits_probe, fits_try, fits_ended, wanted, stopped}
 use Rattle.world_model.proofs.Fits.{history_looks_up, first_event_late, first_event_first}
-use Rattle.world_model.proofs.ReplayParts.{logs_saved, logs_quiet, named_parts, IsOf, one_message}
+use Rattle.world_model.proofs.ReplayNames.{is_now_true, names_it, packet_is, receive_turned, probe_turned, try_turned, IsOf}
+use Rattle.world_model.proofs.ReplayParts.{logs_saved, logs_quiet, not_past}
 
 module _ (start : ℕ → State) (n : ℕ) (C : List Passed) (r : ℕ) (v : Live)
     (run : IsRun start n C) (s : RankStands start n C r v) (e : EventValue) (rest : List EventValue) (left : v.left ≡ e ∷ rest) where
@@ -60,11 +56,7 @@ module _ (start : ℕ → State) (n : ℕ) (C : List Passed) (r : ℕ) (v : Live
   was = sym left ∙ left_run start n C r v s none
 
   pub behind : v.rank.clock < length (history C r)
-  behind = go (cases_lt v.rank.clock (length (history C r)))
-    where
-      go : (v.rank.clock < length (history C r)) ⊎ (length (history C r) ≤ v.rank.clock) → v.rank.clock < length (history C r)
-      go (inl l) = l
-      go (inr l) = absurd (let q : e ∷ rest ≡ [] = was ∙ ap (λ y. events_from v.rank.clock y) (drop_beyond v.rank.clock (history C r) l) in cc)
+  behind = not_past (history C r) v.rank.clock e rest was
 
   -- the next act is the run's
   pub next_is : inner (state_of v.rank.machine) ≡ None → NextAct (history C r) v.rank.clock v.rank.machine
@@ -75,6 +67,11 @@ module _ (start : ℕ → State) (n : ℕ) (C : List Passed) (r : ℕ) (v : Live
   left_is : (x : NextAct (history C r) v.rank.clock v.rank.machine)
       → e ∷ rest ≡ cons_some (event_at (v.rank.clock + 1) x.act x.message) (events_from (v.rank.clock + 1) x.rest)
   left_is x = was ∙ ap (λ z. events_from v.rank.clock z) x.is_next
+
+  -- and fits what the machine wants
+  fits : (w : Want) → machine_want v.rank.machine ≡ w → (w ≡ want.Internal → ⊥) → (x : NextAct (history C r) v.rank.clock v.rank.machine)
+      → Fits w (payload (state_of v.rank.machine)) x.act x.message
+  fits w is stop x = subst (λ z. Fits z (payload (state_of v.rank.machine)) x.act x.message) (wanted v.rank.machine w is stop) x.makes
 
   -- what a step comes to: it isn't refused, and the rank goes with the run
   pub record Goes (w : Want) : Type 0 where
@@ -105,10 +102,8 @@ module _ (start : ℕ → State) (n : ℕ) (C : List Passed) (r : ℕ) (v : Live
 
   -- the message of the next act is in the run
   looked : (x : NextAct (history C r) v.rank.clock v.rank.machine) → looked_up (λ q. sent C q r) x.act ≡ x.message
-  looked x = (
-      let y = history_looks_up start n C r run v.rank.clock (x.act, x.message)
-      (next_of_drop v.rank.clock (history C r) (x.act, x.message) x.rest x.is_next).there in
-      y.3)
+  looked x =
+      (history_looks_up start n C r run v.rank.clock (x.act, x.message) (next_of_drop v.rank.clock (history C r) (x.act, x.message) x.rest x.is_next).there).3
 
   -- a rank that makes the run's next act
   goes_on : (x : NextAct (history C r) v.rank.clock v.rank.machine) (m : MachineValue) (inbox : Mailbox) (log : List BacklogValue)
@@ -132,9 +127,7 @@ module _ (start : ℕ → State) (n : ℕ) (C : List Passed) (r : ℕ) (v : Live
   sending : (d : ℕ) (c : Context) (t : ℕ) → machine_want v.rank.machine ≡ want.Send d c t → Goes (want.Send d c t)
   sending d c t is =
       let x = next_is (stopped v.rank.machine (want.Send d c t) is (λ z. cc)) in
-      let f = fits_send d c t (payload (state_of v.rank.machine)) x.act x.message
-      (subst (λ z. Fits z (payload (state_of v.rank.machine)) x.act x.message)
-      (wanted v.rank.machine (want.Send d c t) is (λ z. cc)) x.makes) in
+      let f = fits_send d c t (payload (state_of v.rank.machine)) x.act x.message (fits (want.Send d c t) is (λ z. cc) x) in
       let b = before x (ap (λ z. event_at (v.rank.clock + 1) z x.message) f.0) in
       record {
         turn = Moved;
@@ -153,9 +146,7 @@ module _ (start : ℕ → State) (n : ℕ) (C : List Passed) (r : ℕ) (v : Live
   printing : (z : ℤ) → machine_want v.rank.machine ≡ want.Print z → Goes (want.Print z)
   printing z is =
       let x = next_is (stopped v.rank.machine (want.Print z) is (λ y. cc)) in
-      let f = fits_print z (payload (state_of v.rank.machine)) x.act x.message
-      (subst (λ y. Fits y (payload (state_of v.rank.machine)) x.act x.message)
-      (wanted v.rank.machine (want.Print z) is (λ y. cc)) x.makes) in
+      let f = fits_print z (payload (state_of v.rank.machine)) x.act x.message (fits (want.Print z) is (λ y. cc) x) in
       let b = before x (ap (λ y. event_at (v.rank.clock + 1) y x.message) f.0) in
       record {
         turn = Moved;
@@ -167,15 +158,7 @@ module _ (start : ℕ → State) (n : ℕ) (C : List Passed) (r : ℕ) (v : Live
             (logs_quiet r (history C r) v.rank (prints z) None (λ c d. refl) logs) b.0;
       }
 
-  -- the next act is the event's
-  is_now_true : (k : Kind) (source clock : ℕ) → e ≡ event_of k source clock (v.rank.clock + 1) → is_now v.rank e ≡ true
-  is_now_true k source clock ee =
-      ap (λ z. is_now v.rank z) ee
-      ∙ ap (λ b. b && nat_le (v.rank.clock + 1) (v.rank.clock + 1))
-      (le-leb (first_clock (event_of k source clock (v.rank.clock + 1))) (v.rank.clock + 1) (first_low k clock (v.rank.clock + 1)))
-      ∙ le-leb (v.rank.clock + 1) (v.rank.clock + 1) (omega arith)
-
-  -- and its last: what is left then is behind it
+  -- the next act is the event's last: what is left then is behind it
   used : (k : Kind) (source clock : ℕ) (x : NextAct (history C r) v.rank.clock v.rank.machine) → e ≡ event_of k source clock (v.rank.clock + 1)
       → rest ≡ events_from (v.rank.clock + 1) x.rest → (if is_last v.rank e then rest else e ∷ rest) ≡ events_from (v.rank.clock + 1) x.rest
   used k source clock x ee er =
@@ -184,70 +167,23 @@ module _ (start : ℕ → State) (n : ℕ) (C : List Passed) (r : ℕ) (v : Live
   missing : (selector : Selector) → machine_want v.rank.machine ≡ want.TryProbe selector → (x : NextAct (history C r) v.rank.clock v.rank.machine)
       → x.act ≡ misses → x.message ≡ None → Goes (want.TryProbe selector)
   missing selector is x ea eo =
-      let y = now x (event_of kind.Miss 0 0 (v.rank.clock + 1)) (ap (λ z. event_at (v.rank.clock + 1) z x.message) ea) in
-      go y.0 y.1
-    where
-      go : e ≡ event_of kind.Miss 0 0 (v.rank.clock + 1) → rest ≡ events_from (v.rank.clock + 1) x.rest → Goes (want.TryProbe selector)
-      go ee er = record {
+      let y = now x (event_of kind.Miss 0 0 (v.rank.clock + 1)) (ap (λ z. event_at (v.rank.clock + 1) z x.message) ea) in record {
         turn = Moved;
         turned =
-            ap (λ b. if b then try_turn selector (named v.rank e) e.kind else Err fault.Replay) (is_now_true kind.Miss 0 0 ee)
-            ∙ ap (λ k. try_turn selector (named v.rank e) k) (ap (λ z. z.kind) ee);
+            ap (λ b. if b then try_turn selector (named v.rank e) e.kind else Err fault.Replay) (is_now_true v.rank e kind.Miss 0 0 y.0)
+            ∙ ap (λ k. try_turn selector (named v.rank e) k) (ap (λ z. z.kind) y.0);
         stands =
             subst (λ z. (m : MachineValue) → ReplayStepAt v.rank z (want.TryProbe selector) m → RankStands start n C r
-            (record { rank = replayed_at v.rank z (want.TryProbe selector) m; left = if is_last v.rank e then rest else e ∷ rest })) (sym ee)
+            (record { rank = replayed_at v.rank z (want.TryProbe selector) m; left = if is_last v.rank e then rest else e ∷ rest })) (sym y.0)
             (λ m did. goes_on x m v.rank.inbox v.rank.log misses None (if is_last v.rank e then rest else e ∷ rest) ea eo
             did.state
             at.counted (quietly misses None (λ q j. refl)) at.logged
-            (logs_quiet r (history C r) v.rank misses None (λ c d. refl) logs) (used kind.Miss 0 0 x ee er));
+            (logs_quiet r (history C r) v.rank misses None (λ c d. refl) logs) (used kind.Miss 0 0 x y.0 y.1));
       }
-
-  -- the packet that the event names, if it is there
-  named_is : (i : ℕ) (p : packet.PacketValue) → named v.rank e ≡ Some (i, p)
-      → (slice_get v.rank.inbox.packets i ≡ Some p) × (p.source ≡ e.sender) × (p.clock ≡ e.sender_clock)
-  named_is i p is = go (position (is_named e.sender e.sender_clock) v.rank.inbox.packets) refl is
-    where
-      at_it : (k : ℕ) (o : Option packet.PacketValue) → slice_get v.rank.inbox.packets k ≡ o
-          → position (is_named e.sender e.sender_clock) v.rank.inbox.packets ≡ Some k
-          → option_and_then {U = ℕ × packet.PacketValue} (λ q. Some (k, q)) o ≡ Some (i, p)
-          → (slice_get v.rank.inbox.packets i ≡ Some p) × (p.source ≡ e.sender) × (p.clock ≡ e.sender_clock)
-      at_it k None f g h = absurd cc
-      at_it k (Some q) f g h =
-          let both : ◌≡◌ {A = ℕ × packet.PacketValue} (k, q) (i, p) = cc in
-          let ek : k ≡ i = ap (λ z. z.0) both in
-          let eq : q ≡ p = ap (λ z. z.1) both in
-          let there : slice_get v.rank.inbox.packets k ≡ Some p = f ∙ ap Some eq in
-          let first = position-Some (is_named e.sender e.sender_clock) v.rank.inbox.packets k p g in
-          let parts = named_parts e.sender e.sender_clock p
-          (subst (λ z. is_named e.sender e.sender_clock z ≡ true) (get_or_from_slice_get v.rank.inbox.packets k p p there) first.1) in
-          (subst (λ z. slice_get v.rank.inbox.packets z ≡ Some p) ek there, parts.0, parts.1)
-
-      go : (o : Option ℕ) → position (is_named e.sender e.sender_clock) v.rank.inbox.packets ≡ o
-          → option_and_then (at_index v.rank.inbox.packets) o ≡ Some (i, p)
-          → (slice_get v.rank.inbox.packets i ≡ Some p) × (p.source ≡ e.sender) × (p.clock ≡ e.sender_clock)
-      go None f h = absurd cc
-      go (Some k) f h = at_it k (slice_get v.rank.inbox.packets k) refl f h
-
-  -- the packet of the next act, where it is there
-  packet_is : (i source place : ℕ) (m : Message) (p : packet.PacketValue) → named v.rank e ≡ Some (i, p) → (k : Kind)
-      → e ≡ event_of k source m.clock (v.rank.clock + 1) → at_place (sent C source r) place ≡ Some m
-      → (slice_get v.rank.inbox.packets i ≡ Some p) × IsOf source place m p
-  packet_is i source place m p f k ee there =
-      let x = named_is i p f in (
-        x.0,
-        one_message C r v.rank.inbox (take v.rank.clock (history C r)) i source place m p at.inbox x.0 (x.1 ∙ ap (λ z. z.sender) ee)
-            (x.2 ∙ ap (λ z. z.sender_clock) ee) there,
-      )
-
-  names_it : (selector : Selector) (source place : ℕ) (m : Message) (p : packet.PacketValue) → IsOf source place m p → Matches selector source m
-      → matches selector p ≡ true
-  names_it selector source place m p is fits =
-      matches_if_named selector p (subst (λ z. Matches selector z (carried p)) (sym is.source) (subst (λ z. Matches selector source z) (sym is.message) fits))
 
   receiving : (selector : Selector) → machine_want v.rank.machine ≡ want.Receive selector → Goes (want.Receive selector)
   receiving selector is =
-      act (fits_receive selector (payload (state_of v.rank.machine)) x.act x.message
-      (subst (λ z. Fits z (payload (state_of v.rank.machine)) x.act x.message) (wanted v.rank.machine (want.Receive selector) is (λ z. cc)) x.makes))
+      act (fits_receive selector (payload (state_of v.rank.machine)) x.act x.message (fits (want.Receive selector) is (λ z. cc) x))
     where
       x : NextAct (history C r) v.rank.clock v.rank.machine
       x = next_is (stopped v.rank.machine (want.Receive selector) is (λ z. cc))
@@ -263,27 +199,21 @@ module _ (start : ℕ → State) (n : ℕ) (C : List Passed) (r : ℕ) (v : Live
               now x (event_of kind.Reception f.source f.message.clock (v.rank.clock + 1))
               (ap (λ z. event_at (v.rank.clock + 1) z x.message) f.act ∙ ap (λ z. event_at (v.rank.clock + 1) (takes f.source f.place) z) f.found)
 
-          turned_by : (o : Option (ℕ × packet.PacketValue)) → e ≡ event_of kind.Reception f.source f.message.clock (v.rank.clock + 1) → named v.rank e ≡ o
-              → replay_turn_at v.rank e (want.Receive selector) ≡ named_turn selector o
-          turned_by o ee eo =
-              ap (λ b. if b then receive_turn selector (named v.rank e) e.kind else Err fault.Replay) (is_now_true kind.Reception f.source f.message.clock ee)
-              ∙ ap (λ k. receive_turn selector (named v.rank e) k) (ap (λ z. z.kind) ee) ∙ ap (λ z. named_turn selector z) eo
-
           go : e ≡ event_of kind.Reception f.source f.message.clock (v.rank.clock + 1) → rest ≡ events_from (v.rank.clock + 1) x.rest
               → (o : Option (ℕ × packet.PacketValue)) → named v.rank e ≡ o → Goes (want.Receive selector)
           go ee er None eo = record {
             turn = Blocked;
-            turned = turned_by None ee eo;
+            turned = receive_turned v.rank e selector f.source f.message.clock None ee eo;
             stands =
                 subst (λ z. (m : MachineValue) → TakesFound z v.rank.machine m → RankStands start n C r
                 (record { rank = taken_named v.rank m z; left = e ∷ rest })) (sym eo) (λ m did. stays);
           }
           go ee er (Some g) eo =
-              let k = packet_is g.0 f.source f.place f.message g.1 eo kind.Reception ee there in
+              let k = packet_is C r (take v.rank.clock (history C r)) v.rank e g.0 f.source f.place f.message g.1 kind.Reception at.inbox eo ee there in
               record {
                 turn = Moved;
                 turned =
-                    turned_by (Some g) ee eo ∙ ap (λ b. if b then Ok Moved else Err fault.Replay)
+                    receive_turned v.rank e selector f.source f.message.clock (Some g) ee eo ∙ ap (λ b. if b then Ok Moved else Err fault.Replay)
                     (names_it selector f.source f.place f.message g.1 k.1 f.matching);
                 stands =
                     subst (λ z. (m : MachineValue) → TakesFound z v.rank.machine m → RankStands start n C r
@@ -327,8 +257,7 @@ module _ (start : ℕ → State) (n : ℕ) (C : List Passed) (r : ℕ) (v : Live
 
   probing : (selector : Selector) → machine_want v.rank.machine ≡ want.Probe selector → Goes (want.Probe selector)
   probing selector is =
-      act (fits_probe selector (payload (state_of v.rank.machine)) x.act x.message
-      (subst (λ z. Fits z (payload (state_of v.rank.machine)) x.act x.message) (wanted v.rank.machine (want.Probe selector) is (λ z. cc)) x.makes))
+      act (fits_probe selector (payload (state_of v.rank.machine)) x.act x.message (fits (want.Probe selector) is (λ z. cc) x))
     where
       x : NextAct (history C r) v.rank.clock v.rank.machine
       x = next_is (stopped v.rank.machine (want.Probe selector) is (λ z. cc))
@@ -336,27 +265,21 @@ module _ (start : ℕ → State) (n : ℕ) (C : List Passed) (r : ℕ) (v : Live
       act : FitsHits selector x.act x.message → Goes (want.Probe selector)
       act f = go (hit_now x selector f).0 (hit_now x selector f).1 (named v.rank e) refl
         where
-          turned_by : (o : Option (ℕ × packet.PacketValue)) → e ≡ event_of kind.Hit f.source f.message.clock (v.rank.clock + 1) → named v.rank e ≡ o
-              → replay_turn_at v.rank e (want.Probe selector) ≡ named_turn selector o
-          turned_by o ee eo =
-              ap (λ b. if b then probe_turn selector (named v.rank e) e.kind else Err fault.Replay) (is_now_true kind.Hit f.source f.message.clock ee)
-              ∙ ap (λ k. probe_turn selector (named v.rank e) k) (ap (λ z. z.kind) ee) ∙ ap (λ z. named_turn selector z) eo
-
           go : e ≡ event_of kind.Hit f.source f.message.clock (v.rank.clock + 1) → rest ≡ events_from (v.rank.clock + 1) x.rest
               → (o : Option (ℕ × packet.PacketValue)) → named v.rank e ≡ o → Goes (want.Probe selector)
           go ee er None eo = record {
             turn = Blocked;
-            turned = turned_by None ee eo;
+            turned = probe_turned v.rank e selector f.source f.message.clock None ee eo;
             stands =
                 subst (λ z. (m : MachineValue) → IsShownFound z v.rank.machine m → RankStands start n C r
                 (record { rank = shown_named v.rank m z; left = e ∷ rest })) (sym eo) (λ m did. stays);
           }
           go ee er (Some g) eo =
-              let k = packet_is g.0 f.source f.place f.message g.1 eo kind.Hit ee (hit_there x selector f) in
+              let k = packet_is C r (take v.rank.clock (history C r)) v.rank e g.0 f.source f.place f.message g.1 kind.Hit at.inbox eo ee (hit_there x selector f) in
               record {
                 turn = Moved;
                 turned =
-                    turned_by (Some g) ee eo ∙ ap (λ b. if b then Ok Moved else Err fault.Replay)
+                    probe_turned v.rank e selector f.source f.message.clock (Some g) ee eo ∙ ap (λ b. if b then Ok Moved else Err fault.Replay)
                     (names_it selector f.source f.place f.message g.1 k.1 f.matching);
                 stands =
                     subst (λ z. (m : MachineValue) → IsShownFound z v.rank.machine m → RankStands start n C r
@@ -367,8 +290,7 @@ module _ (start : ℕ → State) (n : ℕ) (C : List Passed) (r : ℕ) (v : Live
   trying : (selector : Selector) → machine_want v.rank.machine ≡ want.TryProbe selector → Goes (want.TryProbe selector)
   trying selector is =
       ⊎_elim (λ f. act f) (λ f. missing selector is x f.0 f.1)
-      (fits_try selector (payload (state_of v.rank.machine)) x.act x.message
-      (subst (λ z. Fits z (payload (state_of v.rank.machine)) x.act x.message) (wanted v.rank.machine (want.TryProbe selector) is (λ z. cc)) x.makes))
+      (fits_try selector (payload (state_of v.rank.machine)) x.act x.message (fits (want.TryProbe selector) is (λ z. cc) x))
     where
       x : NextAct (history C r) v.rank.clock v.rank.machine
       x = next_is (stopped v.rank.machine (want.TryProbe selector) is (λ z. cc))
@@ -376,43 +298,41 @@ module _ (start : ℕ → State) (n : ℕ) (C : List Passed) (r : ℕ) (v : Live
       act : FitsHits selector x.act x.message → Goes (want.TryProbe selector)
       act f = go (hit_now x selector f).0 (hit_now x selector f).1 (named v.rank e) refl
         where
-          turned_by : (o : Option (ℕ × packet.PacketValue)) → e ≡ event_of kind.Hit f.source f.message.clock (v.rank.clock + 1) → named v.rank e ≡ o
-              → replay_turn_at v.rank e (want.TryProbe selector) ≡ named_turn selector o
-          turned_by o ee eo =
-              ap (λ b. if b then try_turn selector (named v.rank e) e.kind else Err fault.Replay) (is_now_true kind.Hit f.source f.message.clock ee)
-              ∙ ap (λ k. try_turn selector (named v.rank e) k) (ap (λ z. z.kind) ee) ∙ ap (λ z. named_turn selector z) eo
-
-          kinds : e ≡ event_of kind.Hit f.source f.message.clock (v.rank.clock + 1) → e.kind ≡ kind.Hit
-          kinds ee = ap (λ z. z.kind) ee
-
           go : e ≡ event_of kind.Hit f.source f.message.clock (v.rank.clock + 1) → rest ≡ events_from (v.rank.clock + 1) x.rest
               → (o : Option (ℕ × packet.PacketValue)) → named v.rank e ≡ o → Goes (want.TryProbe selector)
           go ee er None eo = record {
             turn = Blocked;
-            turned = turned_by None ee eo;
+            turned = try_turned v.rank e selector f.source f.message.clock None ee eo;
             stands =
                 subst (λ k. (m : MachineValue) → TriesNamed (named v.rank e) k v.rank.machine m → RankStands start n C r
-                (record { rank = tried_named v.rank m (named v.rank e) k; left = e ∷ rest })) (sym (kinds ee))
+                (record { rank = tried_named v.rank m (named v.rank e) k; left = e ∷ rest })) (sym (ap (λ z. z.kind) ee))
                 (subst (λ z. (m : MachineValue) → IsShownFound z v.rank.machine m → RankStands start n C r
                 (record { rank = shown_named v.rank m z; left = e ∷ rest })) (sym eo) (λ m did. stays));
           }
           go ee er (Some g) eo =
-              let k = packet_is g.0 f.source f.place f.message g.1 eo kind.Hit ee (hit_there x selector f) in
+              let k = packet_is C r (take v.rank.clock (history C r)) v.rank e g.0 f.source f.place f.message g.1 kind.Hit at.inbox eo ee (hit_there x selector f) in
               record {
                 turn = Moved;
                 turned =
-                    turned_by (Some g) ee eo ∙ ap (λ b. if b then Ok Moved else Err fault.Replay)
+                    try_turned v.rank e selector f.source f.message.clock (Some g) ee eo ∙ ap (λ b. if b then Ok Moved else Err fault.Replay)
                     (names_it selector f.source f.place f.message g.1 k.1 f.matching);
                 stands =
                     subst (λ y. (m : MachineValue) → TriesNamed (named v.rank e) y v.rank.machine m → RankStands start n C r
-                    (record { rank = tried_named v.rank m (named v.rank e) y; left = if is_last v.rank e then rest else e ∷ rest })) (sym (kinds ee))
+                    (record { rank = tried_named v.rank m (named v.rank e) y; left = if is_last v.rank e then rest else e ∷ rest })) (sym (ap (λ z. z.kind) ee))
                     (subst (λ z. (m : MachineValue) → IsShownFound z v.rank.machine m → RankStands start n C r
                     (record { rank = shown_named v.rank m z; left = if is_last v.rank e then rest else e ∷ rest })) (sym eo)
                     (λ m did. shown_goes x selector f m g ee er k.1 did));
               }
 
-  going : Goes want.Internal
-  going = record {
+  -- no machine has ended before its rank's next act
+  ended : (w : Want) → (w ≡ want.Halted) ⊎ ((k : MachineFault) × (w ≡ want.Faulted k)) → machine_want v.rank.machine ≡ w → (w ≡ want.Internal → ⊥) → ⊥
+  ended w end is stop =
+      let x = next_is (stopped v.rank.machine w is stop) in
+      fits_ended w (payload (state_of v.rank.machine)) x.act x.message end (fits w is stop x)
+
+  -- each step of a rank in replay is one that it may make: it is never refused, and keeps the rank with the run
+  pub replays : (w : Want) → machine_want v.rank.machine ≡ w → Goes w
+  replays want.Internal is = record {
     turn = Moved;
     turned = refl;
     stands = λ m did.
@@ -420,20 +340,10 @@ module _ (start : ℕ → State) (n : ℕ) (C : List Passed) (r : ℕ) (v : Live
         stays v.rank.stable m v.rank.inbox v.rank.log v.rank.dues s.number s.size stays.logs
         (StandsIn-moved (start r) n r (λ q. sent C q r) _ v.rank.clock v.rank.machine m v.rank.inbox v.rank.log did.state stays.at);
   }
-
-  -- each step of a rank in replay is one that it may make: it is never refused, and keeps the rank with the run
-  pub replays : (w : Want) → machine_want v.rank.machine ≡ w → Goes w
-  replays want.Internal is = going
   replays (want.Send d c t) is = sending d c t is
   replays (want.Receive selector) is = receiving selector is
   replays (want.Probe selector) is = probing selector is
   replays (want.TryProbe selector) is = trying selector is
   replays (want.Print z) is = printing z is
-  replays want.Halted is =
-      let x = next_is (stopped v.rank.machine want.Halted is (λ z. cc)) in
-      absurd (fits_ended want.Halted (payload (state_of v.rank.machine)) x.act x.message (inl refl)
-      (subst (λ z. Fits z (payload (state_of v.rank.machine)) x.act x.message) (wanted v.rank.machine want.Halted is (λ z. cc)) x.makes))
-  replays (want.Faulted k) is =
-      let x = next_is (stopped v.rank.machine (want.Faulted k) is (λ z. cc)) in
-      absurd (fits_ended (want.Faulted k) (payload (state_of v.rank.machine)) x.act x.message (inr (k, refl))
-      (subst (λ z. Fits z (payload (state_of v.rank.machine)) x.act x.message) (wanted v.rank.machine (want.Faulted k) is (λ z. cc)) x.makes))
+  replays want.Halted is = absurd (ended want.Halted (inl refl) is (λ z. cc))
+  replays (want.Faulted k) is = absurd (ended (want.Faulted k) (inr (k, refl)) is (λ z. cc))

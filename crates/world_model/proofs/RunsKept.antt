@@ -129,14 +129,13 @@ Runs-ack w r answer w' s f =
     one_back zero ne = absurd (ne refl)
     one_back (suc m) ne = omega arith
 
--- so does a release, where nothing stored waits in front of it
-pub Runs-release : (w : WorldValue) (r : ℕ) (answer : Reply) (w' : WorldValue) → Stands w → (f : ReleaseFollows w r answer w')
-    → f.before.rank.stored ≡ 0 → RunsOfMisses w'
-Runs-release w r answer w' s f none =
-    Runs-rank w w' r _ (ap (λ z. z.ranks) f.after) (ap (λ z. z.logger.rows) f.after) (ap (λ z. z.images) f.after) (ap (λ z. z.program) f.after)
-    (λ x e. one (record { rank = after_release f.before.rank f.effect; left = f.before.left }) x
-    (same_runs f.before (record { rank = after_release f.before.rank f.effect; left = f.before.left }) (s.runs.ranks r f.before f.live) same refl refl) e)
-    s.runs
+-- a release loses an effect, which is no event, where nothing stored waits in front of it
+pub released_events : (w : WorldValue) (r : ℕ) (answer : Reply) (w' : WorldValue) (f : ReleaseFollows w r answer w') → f.before.rank.stored ≡ 0
+    → events_in (drop f.before.rank.stored (drop 1 f.before.rank.pending)) ≡ events_in (drop f.before.rank.stored f.before.rank.pending)
+released_events w r answer w' f none =
+    ap (λ z. events_in (drop z (drop 1 f.before.rank.pending))) none ∙ ap events_in (drop_zero (drop 1 f.before.rank.pending))
+    ∙ sym (without f.effect (drop 1 f.before.rank.pending) first.1)
+    ∙ ap events_in (sym first.0) ∙ sym (ap (λ z. events_in (drop z f.before.rank.pending)) none ∙ ap events_in (drop_zero f.before.rank.pending))
   where
     first : (f.before.rank.pending ≡ f.effect ∷ drop 1 f.before.rank.pending) × (event_in f.effect ≡ None)
     first = effect_there f.before.rank.pending f.effect f.oldest
@@ -146,11 +145,14 @@ Runs-release w r answer w' s f none =
     without (waits.Send d q) xs n = refl
     without (waits.Line q v) xs n = refl
 
-    same : events_in (drop f.before.rank.stored (drop 1 f.before.rank.pending)) ≡ events_in (drop f.before.rank.stored f.before.rank.pending)
-    same =
-        ap (λ z. events_in (drop z (drop 1 f.before.rank.pending))) none ∙ ap events_in (drop_zero (drop 1 f.before.rank.pending))
-        ∙ sym (without f.effect (drop 1 f.before.rank.pending) first.1)
-        ∙ ap events_in (sym first.0) ∙ sym (ap (λ z. events_in (drop z f.before.rank.pending)) none ∙ ap events_in (drop_zero f.before.rank.pending))
+-- so it keeps the runs
+pub Runs-release : (w : WorldValue) (r : ℕ) (answer : Reply) (w' : WorldValue) → Stands w → (f : ReleaseFollows w r answer w')
+    → f.before.rank.stored ≡ 0 → RunsOfMisses w'
+Runs-release w r answer w' s f none =
+    Runs-rank w w' r _ (ap (λ z. z.ranks) f.after) (ap (λ z. z.logger.rows) f.after) (ap (λ z. z.images) f.after) (ap (λ z. z.program) f.after)
+    (λ x e. one (record { rank = after_release f.before.rank f.effect; left = f.before.left }) x
+    (same_runs f.before (record { rank = after_release f.before.rank f.effect; left = f.before.left }) (s.runs.ranks r f.before f.live) (released_events w r answer w' f none) refl refl) e)
+    s.runs
 
 -- ---- steps
 

@@ -1,6 +1,6 @@
 -- What a call on a rank leaves of its seat: the machine keeps its program, and what is stable stays, but for the shelf
 -- where an image is taken.
-use Rattle.std.proofs.Common.{◌≡◌, ◌≢◌, ℕ, true, false, List, [], ◌∷◌, Option, Some, None, Result, Ok, Err, refl, sym, ap, subst, ◌∙◌, ◌⊎◌, inl, inr}
+use Rattle.std.proofs.Common.{◌≡◌, ◌≢◌, ℕ, Bool, true, false, ◌==◌, length, List, [], ◌∷◌, Option, Some, None, Result, Ok, Err, refl, sym, ap, subst, ◌∙◌, ◌⊎◌, inl, inr}
 use Rattle.std.proofs.Common.{arith}
 use Rattle.checkpoint.specs.Image.{ImageValue}
 use Rattle.checkpoint.specs.Reading.{reading}
@@ -11,7 +11,7 @@ use Rattle.matching.specs.PacketValue as packet
 use Rattle.plain_logger.specs.Event.{EventValue}
 use Rattle.plain_logger.specs.declared.kind.Kind.{Kind}
 use Rattle.plain_logger.specs.declared.kind.Kind.TheVariants as kind
-use Rattle.std.specs.Prelude.{IfSome}
+use Rattle.std.specs.Prelude.{IfSome, OnOk, OnErr, option_and_then, if◌then◌else◌}
 use Rattle.rank_language.specs.Block.{lines_at}
 use Rattle.rank_language.specs.Program.{ProgramValue, block_of}
 use Rattle.rank_machine.specs.declared.want.Want.{Want}
@@ -24,13 +24,19 @@ use Rattle.rank_node.specs.Image.{image_of, image_on, begins_at, where_read, IsI
 use Rattle.rank_node.specs.Stored.{Stored}
 use Rattle.rank_node.specs.Steps.{TakesFound, IsShownFound}
 use Rattle.rank_node.specs.Replay as replay
-use Rattle.rank_node.specs.Replay.{named, cuts, ReplayStep, ReplayStepAt, TriesNamed}
-use Rattle.world_model.specs.World.{Rank}
-use Rattle.world_model.specs.declared.state.State.{State}
-use Rattle.world_model.specs.declared.state.State.TheVariants.{Running, Replaying, Down, Empty}
+use Rattle.rank_node.specs.Replay.{named, cuts, left_of, restarted, ReplayStep, ReplayStepAt, TriesNamed}
+use Rattle.world_model.specs.World.{Rank, Live}
+use Rattle.rank_node.specs.declared.phase.Phase.TheVariants.{Running, Replaying, Down}
+use Rattle.matching.specs.Inbox.{after_arrival}
+use Rattle.rank_node.specs.Frames.{after_frame, with_inbox}
+use Rattle.rank_node.specs.declared.frame.Frame.{Frame}
+use Rattle.rank_node.specs.declared.frame.Frame.TheVariants as frame
+use Rattle.rank_node.specs.Phases.{arrived, settled_of, stable_of}
 use Rattle.world_model.specs.Measures.{HasLines}
-use Rattle.world_model.specs.Seat.{bytes_of, live_of, shelf_of, HasLeft, IsKept, IsOf, IsOwn, IsStanding}
+use Rattle.world_model.specs.Seat.{bytes_of, live_of, seat_of, shelf_of, HasLeft, IsKept, IsOf, IsOwn, IsSeated, IsStanding, Phase}
+use Rattle.world_model.specs.Seats.{in_replay, with_live, IsRestarted}
 use Rattle.world_model.proofs.Reading.{read_program}
+use Rattle.world_model.proofs.Settling.{settled_left, settled_standing}
 
 -- ---- the machine keeps its program
 
@@ -76,6 +82,16 @@ of_replay p r n v x some stable s o = go v.left refl
     go : (left : List EventValue) → v.left ≡ left → IsOf p r n x.node
     go [] e = absurd (some e)
     go (e ∷ rest) is = of_again p r n v.node x.node stable (replay_program_at v.node e (machine_want v.node.machine) x.node.machine (s e rest is)) o
+
+-- after a frame
+of_frame : (p : ProgramValue) (r n : ℕ) (v : Rank) (from : ℕ) (f : Frame) → IsOf p r n v → IsOf p r n (after_frame v from f)
+of_frame p r n v from (frame.Ask number) k = record { same_program = k.same_program; own = k.own }
+of_frame p r n v from (frame.Kept number) k = record { same_program = k.same_program; own = k.own }
+of_frame p r n v from (frame.Data packet) k = go (packet.source == from)
+  where
+    go : (b : Bool) → IsOf p r n (if b then with_inbox v (after_arrival v.inbox packet) else v)
+    go true = record { same_program = k.same_program; own = k.own }
+    go false = k
 
 -- ---- images
 
@@ -129,62 +145,100 @@ of_restart p r n row d x again o = record {
   };
 }
 
+-- and what is live then is the rank of its image, or of the beginning, with what of its row is above that
+pub restarted_is : (p : ProgramValue) (r n : ℕ) (row : List EventValue) (d : Stored MemoryShelf (Unit {0})) (x : replay.Replay MemoryShelf (Unit {0}))
+    → BeginsAgain (λ (s : MemoryShelf). image_bytes s.image) p row d x → IsOwn p r n d → IsRestarted p n r (image_on p r n (shelf_of d)) row (in_replay x)
+restarted_is p r n row d x again own = record {
+  shelf = again.kept.shelf;
+  after = ap (λ (y : Rank). up y x.left) node ∙ ap (λ z. up (restarted (stored n r) (begins r n) (length row)) z) left;
+  held = ap (λ z. image_on p r n z) again.kept.image;
+}
+  where
+    up : Rank → List EventValue → Option Live
+    up y l = Some (record { rank = y; left = l })
+
+    stored : ℕ → ℕ → Stored MemoryShelf (Unit {0})
+    stored m k = record { desk = tt; shelf = again.kept.shelf; rank = k; size = m }
+
+    begins : ℕ → ℕ → ImageValue
+    begins k m = begins_at p k m (image_on p k m (shelf_of d))
+
+    node : x.node ≡ restarted (stored n r) (begins r n) (length row)
+    node =
+        again.node ∙ ap (λ z. restarted z (begins d.rank d.size) (length row)) again.kept.same
+        ∙ ap (λ z. restarted (stored d.size z) (begins z d.size) (length row)) own.rank
+        ∙ ap (λ z. restarted (stored z r) (begins r z) (length row)) own.size
+
+    left : x.left ≡ left_of (begins r n) row
+    left = again.left ∙ ap (λ z. left_of (begins z d.size) row) own.rank ∙ ap (λ z. left_of (begins r z) row) own.size
+
 -- ---- what stands at a seat
 
+-- of a rank that stands at its seat that holds
+pub kept_there : (p : ProgramValue) (r n : ℕ) (place : Option Phase) (x : Phase) → IsSeated p r n place → place ≡ Some x → IsKept p r n x
+kept_there p r n place x seated is = subst (λ z. IsSeated p r n z) is seated
+
+-- and of what is put there
+seated_there : (p : ProgramValue) (r n : ℕ) (place : Option Phase) (x : Phase) → IsKept p r n x → place ≡ Some x → IsSeated p r n place
+seated_there p r n place x kept is = subst (λ z. IsSeated p r n z) (sym is) kept
+
+-- a frame keeps it
+kept_arrived : (p : ProgramValue) (r n : ℕ) (x : Phase) (from : ℕ) (f : Frame) → IsKept p r n x → IsKept p r n (arrived x from f)
+kept_arrived p r n (Running v) from f k = record { standing = of_frame p r n v from f k.standing; left = tt }
+kept_arrived p r n (Replaying v) from f k = record { standing = of_frame p r n v.node from f k.standing; left = k.left }
+kept_arrived p r n (Down s) from f k = k
+
+-- and so does one that is refused
+pub arrive_kept : {A B : Type 0} (p : ProgramValue) (r n : ℕ) (place : Option Phase) (x y : Phase) (from : ℕ) (f : Frame) (result : Result A B)
+    → IsSeated p r n place → place ≡ Some x → OnOk result (y ≡ arrived x from f) → OnErr result (y ≡ x) → IsKept p r n y
+arrive_kept {A = A} {B = B} p r n place x y from f (Ok a) seated is ok err =
+    subst (λ z. IsKept p r n z) (sym ok) (kept_arrived p r n x from f (kept_there p r n place x seated is))
+arrive_kept {A = A} {B = B} p r n place x y from f (Err b) seated is ok err = subst (λ z. IsKept p r n z) (sym err) (kept_there p r n place x seated is)
+
 -- where a rank runs, it is of its seat
-pub as_running : (p : ProgramValue) (r n : ℕ) (state : State) (v : Rank) → IsKept p r n state → state ≡ Running v → IsOf p r n v
-as_running p r n state v kept is = subst (λ z. IsStanding p r n z) is kept.standing
+pub as_running : (p : ProgramValue) (r n : ℕ) (place : Option Phase) (v : Rank) → IsSeated p r n place → place ≡ Some (Running v) → IsOf p r n v
+as_running p r n place v seated is = (kept_there p r n place (Running v) seated is).standing
 
--- what was taken from the seat, and put back otherwise
-pub kept_then : (p : ProgramValue) (r n : ℕ) (old taken new put : State) → IsKept p r n old → taken ≡ old
-    → ((r n : ℕ) → IsStanding p r n taken → IsStanding p r n new) → HasLeft new → put ≡ new → IsKept p r n put
-kept_then p r n old taken new put kept same standing left is =
-    subst (λ z. IsKept p r n z) (sym is)
-    (record { standing = standing r n (subst (λ z. IsStanding p r n z) (sym same) kept.standing); left = left })
+-- what is stable of a rank is this rank's, whatever it does
+own_of : (p : ProgramValue) (r n : ℕ) (x : Phase) → IsStanding p r n x → IsOwn p r n (stable_of x)
+own_of p r n (Running v) k = k.own
+own_of p r n (Replaying v) k = k.own
+own_of p r n (Down s) k = k
 
--- a restart of what stands at a seat is refused for want of memory alone
-pub is_memory : (p : ProgramValue) (r n : ℕ) (old taken : State) (fault : NodeFault) → IsKept p r n old → taken ≡ old
-    → ((r n : ℕ) → IsStanding p r n taken → fault ≡ Memory)
-    → (fault ≡ NotSettled) ⊎ ((fault ≡ Shelf) ⊎ ((fault ≡ Image) ⊎ ((fault ≡ Replay) ⊎ ((fault ≡ ClockSpent) ⊎ (fault ≡ Log))))) → ⊥
-is_memory p r n old taken fault kept same refused is = go is
-  where
-    memory : fault ≡ Memory
-    memory = refused r n (subst (λ z. IsStanding p r n z) (sym same) kept.standing)
+-- so it is where the rank was taken from its seat, and crashed
+pub own_down : (p : ProgramValue) (r n : ℕ) (place : Option Phase) (x : Phase) (down : Stored MemoryShelf (Unit {0})) → IsSeated p r n place → place ≡ Some x
+    → down ≡ stable_of x → IsOwn p r n down
+own_down p r n place x down seated is crashed = subst (λ z. IsOwn p r n z) (sym crashed) (own_of p r n x (kept_there p r n place x seated is).standing)
 
-    go : (fault ≡ NotSettled) ⊎ ((fault ≡ Shelf) ⊎ ((fault ≡ Image) ⊎ ((fault ≡ Replay) ⊎ ((fault ≡ ClockSpent) ⊎ (fault ≡ Log))))) → ⊥
-    go (inl e) = (let q : Memory ≡ NotSettled = sym memory ∙ e in cc)
-    go (inr (inl e)) = (let q : Memory ≡ Shelf = sym memory ∙ e in cc)
-    go (inr (inr (inl e))) = (let q : Memory ≡ Image = sym memory ∙ e in cc)
-    go (inr (inr (inr (inl e)))) = (let q : Memory ≡ Replay = sym memory ∙ e in cc)
-    go (inr (inr (inr (inr (inl e))))) = (let q : Memory ≡ ClockSpent = sym memory ∙ e in cc)
-    go (inr (inr (inr (inr (inr e))))) = (let q : Memory ≡ Log = sym memory ∙ e in cc)
+-- a rank that is down keeps its seat
+pub seated_down : (p : ProgramValue) (r n : ℕ) (place : Option Phase) (down : Stored MemoryShelf (Unit {0})) → IsOwn p r n down → place ≡ Some (Down down)
+    → IsSeated p r n place
+seated_down p r n place down own is = seated_there p r n place (Down down) (record { standing = own; left = tt }) is
+
+-- a seat whose rank was taken, and put back down with the bytes on its shelf, has the same image
+pub seat_down : (p : ProgramValue) (r n : ℕ) (old new : Option Phase) (x : Phase) (down : Stored MemoryShelf (Unit {0})) → old ≡ Some x
+    → shelf_of down ≡ bytes_of x → new ≡ Some (Down down) → seat_of p r n new ≡ with_live (seat_of p r n old) None
+seat_down p r n old new x down was bytes is =
+    ap (seat_of p r n) is ∙ ap (λ z. record { program = p; rank = r; size = n; live = None; image = image_on p r n z }) bytes
+    ∙ sym (ap (λ z. with_live (seat_of p r n z) None) was)
 
 -- the image of a rank that is down cuts no event of a row, whatever rank it is said to be
-pub uncut_then : (p : ProgramValue) (r n : ℕ) (old taken : State) (row : List EventValue) → IsKept p r n old → taken ≡ old → live_of old ≡ None
-    → cuts (begins_at p r n (image_on p r n (bytes_of old))).clock row ≡ false
-    → (q k : ℕ) → IsStanding p q k taken → cuts (begins_at p q k (image_on p q k (bytes_of taken))).clock row ≡ false
-uncut_then p r n old taken row kept same down uncut q k standing =
-    subst (λ z. cuts (begins_at p q k (image_on p q k (bytes_of z))).clock row ≡ false) (sym same)
-    (go old kept.standing down uncut (subst (λ z. IsStanding p q k z) same standing))
-  where
-    go : (state : State) → IsStanding p r n state → live_of state ≡ None → cuts (begins_at p r n (image_on p r n (bytes_of state))).clock row ≡ false
-        → IsStanding p q k state → cuts (begins_at p q k (image_on p q k (bytes_of state))).clock row ≡ false
-    go (Running v) s d u h = absurd cc
-    go (Replaying v) s d u h = absurd cc
-    go Empty s d u h = absurd s
-    go (Down stable) s d u h =
-        subst (λ z. cuts (begins_at p z k (image_on p z k (bytes_of (Down stable)))).clock row ≡ false) (sym s.rank ∙ h.rank)
-        (subst (λ z. cuts (begins_at p r z (image_on p r z (bytes_of (Down stable)))).clock row ≡ false) (sym s.size ∙ h.size) u)
+pub uncut_then : (p : ProgramValue) (r n : ℕ) (stable : Stored MemoryShelf (Unit {0})) (row : List EventValue) → IsOwn p r n stable
+    → cuts (begins_at p r n (image_on p r n (shelf_of stable))).clock row ≡ false
+    → (q k : ℕ) → IsOwn p q k stable → cuts (begins_at p q k (image_on p q k (shelf_of stable))).clock row ≡ false
+uncut_then p r n stable row s u q k h =
+    subst (λ z. cuts (begins_at p z k (image_on p z k (shelf_of stable))).clock row ≡ false) (sym s.rank ∙ h.rank)
+    (subst (λ z. cuts (begins_at p r z (image_on p r z (shelf_of stable))).clock row ≡ false) (sym s.size ∙ h.size) u)
 
 -- a rank whose image cuts no event isn't refused for that
-pub not_cut : (p : ProgramValue) (r n : ℕ) (stable : Stored MemoryShelf (Unit {0})) (row : List EventValue) (fault : NodeFault)
-    → (fault ≡ Replay → cuts (begins_at p stable.rank stable.size (image_on p stable.rank stable.size (image_bytes stable.shelf.image))).clock row ≡ true)
-    → ((q k : ℕ) → IsStanding p q k (Down stable) → cuts (begins_at p q k (image_on p q k (bytes_of (Down stable)))).clock row ≡ false)
-    → IsStanding p r n (Down stable) → fault ≡ Replay → ⊥
+not_cut : (p : ProgramValue) (r n : ℕ) (stable : Stored MemoryShelf (Unit {0})) (row : List EventValue) (fault : NodeFault)
+    → (fault ≡ Replay → cuts (begins_at p stable.rank stable.size (image_on p stable.rank stable.size (shelf_of stable))).clock row ≡ true)
+    → ((q k : ℕ) → IsOwn p q k stable → cuts (begins_at p q k (image_on p q k (shelf_of stable))).clock row ≡ false)
+    → IsOwn p r n stable → fault ≡ Replay → ⊥
 not_cut p r n stable row fault cut uncut s is =
-    let u : cuts (begins_at p stable.rank stable.size (image_on p stable.rank stable.size (image_bytes stable.shelf.image))).clock row ≡ false =
-    subst (λ z. cuts (begins_at p z stable.size (image_on p z stable.size (image_bytes stable.shelf.image))).clock row ≡ false) (sym s.rank)
-    (subst (λ z. cuts (begins_at p r z (image_on p r z (image_bytes stable.shelf.image))).clock row ≡ false) (sym s.size) (uncut r n s)) in
+    let u : cuts (begins_at p stable.rank stable.size (image_on p stable.rank stable.size (shelf_of stable))).clock row ≡ false =
+    subst (λ z. cuts (begins_at p z stable.size (image_on p z stable.size (shelf_of stable))).clock row ≡ false) (sym s.rank)
+    (subst (λ z. cuts (begins_at p r z (image_on p r z (shelf_of stable))).clock row ≡ false) (sym s.size) (uncut r n s)) in
     let q : true ≡ false = sym (cut is) ∙ u in
     cc
 
@@ -205,37 +259,53 @@ memory_alone Memory may shelf image replay = refl
 
 -- a rank whose shelf holds an image of it, which cuts no event, is refused for want of memory alone
 pub refused_alone : (p : ProgramValue) (r n : ℕ) (stable : Stored MemoryShelf (Unit {0})) (row : List EventValue) (fault : NodeFault) → MayRefuseRestart fault
-    → (fault ≡ Shelf → Grew 0 0) → (fault ≡ Image → Reads p stable.rank stable.size (image_bytes stable.shelf.image) → ⊥)
-    → (fault ≡ Replay → cuts (begins_at p stable.rank stable.size (image_on p stable.rank stable.size (image_bytes stable.shelf.image))).clock row ≡ true)
-    → ((q k : ℕ) → IsStanding p q k (Down stable) → cuts (begins_at p q k (image_on p q k (bytes_of (Down stable)))).clock row ≡ false)
-    → IsStanding p r n (Down stable) → fault ≡ Memory
+    → (fault ≡ Shelf → Grew 0 0) → (fault ≡ Image → Reads p stable.rank stable.size (shelf_of stable) → ⊥)
+    → (fault ≡ Replay → cuts (begins_at p stable.rank stable.size (image_on p stable.rank stable.size (shelf_of stable))).clock row ≡ true)
+    → ((q k : ℕ) → IsOwn p q k stable → cuts (begins_at p q k (image_on p q k (shelf_of stable))).clock row ≡ false)
+    → IsOwn p r n stable → fault ≡ Memory
 refused_alone p r n stable row fault may shelf image cut uncut s =
     memory_alone fault may shelf (λ is. image is reads) (not_cut p r n stable row fault cut uncut s)
   where
-    reads : Reads p stable.rank stable.size (image_bytes stable.shelf.image)
-    reads = subst (λ z. Reads p z stable.size (image_bytes stable.shelf.image)) (sym s.rank)
-        (subst (λ z. Reads p r z (image_bytes stable.shelf.image)) (sym s.size) s.reads)
+    reads : Reads p stable.rank stable.size (shelf_of stable)
+    reads = subst (λ z. Reads p z stable.size (shelf_of stable)) (sym s.rank)
+        (subst (λ z. Reads p r z (shelf_of stable)) (sym s.size) s.reads)
 
--- a rank that replayed a step, and what it settled to
-pub replayed_then : (p : ProgramValue) (r n : ℕ) (old taken new put : State) (v x : replay.Replay MemoryShelf (Unit {0})) → IsKept p r n old
-    → old ≡ Replaying v → taken ≡ Replaying x → x.node.stable ≡ v.node.stable
+-- that is no other fault
+pub is_memory : (fault : NodeFault) → fault ≡ Memory
+    → (fault ≡ NotSettled) ⊎ ((fault ≡ Shelf) ⊎ ((fault ≡ Image) ⊎ ((fault ≡ Replay) ⊎ ((fault ≡ ClockSpent) ⊎ (fault ≡ Log))))) → ⊥
+is_memory fault memory (inl e) = (let q : Memory ≡ NotSettled = sym memory ∙ e in cc)
+is_memory fault memory (inr (inl e)) = (let q : Memory ≡ Shelf = sym memory ∙ e in cc)
+is_memory fault memory (inr (inr (inl e))) = (let q : Memory ≡ Image = sym memory ∙ e in cc)
+is_memory fault memory (inr (inr (inr (inl e)))) = (let q : Memory ≡ Replay = sym memory ∙ e in cc)
+is_memory fault memory (inr (inr (inr (inr (inl e))))) = (let q : Memory ≡ ClockSpent = sym memory ∙ e in cc)
+is_memory fault memory (inr (inr (inr (inr (inr e))))) = (let q : Memory ≡ Log = sym memory ∙ e in cc)
+
+-- a rank that started again keeps its seat
+pub seated_again : (p : ProgramValue) (r n : ℕ) (place : Option Phase) (x : Phase) → IsStanding p r n x → HasLeft x → place ≡ Some x → IsSeated p r n place
+seated_again p r n place x standing left is = seated_there p r n place x (record { standing = standing; left = left }) is
+
+-- so does one that replayed a step, and was settled
+pub replayed_then : (p : ProgramValue) (r n : ℕ) (old new : Option Phase) (v x : replay.Replay MemoryShelf (Unit {0})) → IsSeated p r n old
+    → old ≡ Some (Replaying v) → x.node.stable ≡ v.node.stable
     → ((e : EventValue) (rest : List EventValue) → v.left ≡ e ∷ rest → ReplayStep v.node e x.node.machine)
-    → (IsStanding p r n taken → IsStanding p r n new) → HasLeft new → put ≡ new → IsKept p r n put
-replayed_then p r n old taken new put v x kept was is stable steps standing left same =
-    subst (λ z. IsKept p r n z) (sym same) (record { standing = standing (subst (λ z. IsStanding p r n z) (sym is) after); left = left })
+    → new ≡ Some (settled_of (Replaying x)) → IsSeated p r n new
+replayed_then p r n old new v x seated was stable steps is =
+    seated_there p r n new (settled_of (Replaying x)) (record { standing = settled_standing p r n (Replaying x) after; left = settled_left (Replaying x) }) is
   where
     before : IsKept p r n (Replaying v)
-    before = subst (λ z. IsKept p r n z) was kept
+    before = kept_there p r n old (Replaying v) seated was
 
     after : IsOf p r n x.node
     after = of_replay p r n v x before.left stable steps before.standing
 
 -- ---- lines
 
--- the program of what stands at a seat has its lines where that of the seat has
-pub lines_of : (program : ProgramValue) (r n : ℕ) (s : State) → IsStanding program r n s → program.statements ≡ lines_at 0 (block_of program)
-    → IfSome (live_of s) HasLines
-lines_of program r n (Running node) k e = subst (λ (z : ProgramValue). z.statements ≡ lines_at 0 (block_of z)) (sym k.same_program) e
-lines_of program r n (Replaying replay) k e = subst (λ (z : ProgramValue). z.statements ≡ lines_at 0 (block_of z)) (sym k.same_program) e
-lines_of program r n (Down stable) k e = tt
-lines_of program r n Empty k e = tt
+-- the program of the rank at a seat has its lines where that of the seat has
+pub lines_of : (program : ProgramValue) (r n : ℕ) (place : Option Phase) → IsSeated program r n place → program.statements ≡ lines_at 0 (block_of program)
+    → IfSome (option_and_then live_of place) HasLines
+lines_of program r n None k e = absurd k
+lines_of program r n (Some (Running node)) k e =
+    subst (λ (z : ProgramValue). z.statements ≡ lines_at 0 (block_of z)) (sym k.standing.same_program) e
+lines_of program r n (Some (Replaying replay)) k e =
+    subst (λ (z : ProgramValue). z.statements ≡ lines_at 0 (block_of z)) (sym k.standing.same_program) e
+lines_of program r n (Some (Down stable)) k e = tt

@@ -1,5 +1,5 @@
 -- A rank that replays settles exactly where nothing is left.
-use Rattle.std.proofs.Common.{◌≡◌, ◌≢◌, List, [], ◌∷◌, Result, Ok, Err, refl, sym, ◌∙◌}
+use Rattle.std.proofs.Common.{◌≡◌, ◌≢◌, ℕ, List, [], ◌∷◌, Result, Ok, Err, refl, sym, ◌∙◌}
 use Rattle.std.proofs.Common.{ap, true, Some, IfErr, OnErr, IsErrOf}
 use Rattle.plain_logger.specs.Event.{EventValue}
 use Rattle.rank_node.specs.declared.fault.NodeFault.{NodeFault}
@@ -9,20 +9,42 @@ use Rattle.checkpoint.specs.declared.memory_shelf.MemoryShelf.{MemoryShelf}
 use Rattle.rank_node.specs.declared.turn.Turn.{Turn}
 use Rattle.rank_node.specs.Replay.{replay_turn_of, replay_takes_memory, after_replay, left_after, ReplayStep}
 use Rattle.rank_node.specs.Replay as replay
-use Rattle.world_model.specs.World.{Rank, Live}
-use Rattle.world_model.specs.Seats.{at_work, in_replay, IsFitting, IsReplayed}
+use Rattle.rank_language.specs.Program.{ProgramValue}
+use Rattle.rank_node.specs.Phases.{settled_of, settled_replay}
+use Rattle.rank_node.specs.declared.phase.Phase.TheVariants.{Running, Replaying, Down}
+use Rattle.world_model.specs.World.{Live}
+use Rattle.world_model.specs.Seat.{live_of, HasLeft, IsStanding, Phase}
+use Rattle.world_model.specs.Seats.{in_replay, IsFitting, IsReplayed}
 
--- what settles has nothing left
-pub is_settled : {A B : Type 0} (left : List EventValue) (result : Result A B) (a : A) (b : B)
-    → (left ≡ [] → result ≡ Ok a) → (left ≢ [] → result ≡ Err b) → (x : A) → result ≡ Ok x → (left ≡ []) × (x ≡ a)
-is_settled [] result a b done more x e = (refl, (let q : Ok x ≡ Ok a = sym e ∙ done refl in cc))
-is_settled (y ∷ left) result a b done more x e = (let q : Ok x ≡ Err b = sym e ∙ more (λ z. cc) in absurd cc)
+-- a rank is settled where nothing is left, and is live as it was
+pub settled_live : (p : Phase) → live_of (settled_of p) ≡ live_of p
+settled_live (Running v) = refl
+settled_live (Down s) = refl
+settled_live (Replaying r) = go r.left refl
+  where
+    go : (left : List EventValue) → r.left ≡ left → live_of (settled_replay r left) ≡ in_replay r
+    go [] e = ap (λ z. Some (record { rank = r.node; left = z })) (sym e)
+    go (x ∷ left) e = refl
 
--- what doesn't has something left
-pub is_not_settled : {A B : Type 0} (left : List EventValue) (result : Result A B) (a : A) (b : B)
-    → (left ≡ [] → result ≡ Ok a) → (left ≢ [] → result ≡ Err b) → (x : B) → result ≡ Err x → (left ≢ []) × (x ≡ b)
-is_not_settled [] result a b done more x e = (let q : Err x ≡ Ok a = sym e ∙ done refl in absurd cc)
-is_not_settled (y ∷ left) result a b done more x e = (λ z. cc, (let q : Err x ≡ Err b = sym e ∙ more (λ z. cc) in cc))
+-- it stays of its seat
+pub settled_standing : (program : ProgramValue) (r n : ℕ) (p : Phase) → IsStanding program r n p → IsStanding program r n (settled_of p)
+settled_standing program r n (Running v) k = k
+settled_standing program r n (Down s) k = k
+settled_standing program r n (Replaying v) k = go v.left
+  where
+    go : (left : List EventValue) → IsStanding program r n (settled_replay v left)
+    go [] = k
+    go (x ∷ left) = k
+
+-- one that replays still has something left
+pub settled_left : (p : Phase) → HasLeft (settled_of p)
+settled_left (Running v) = tt
+settled_left (Down s) = tt
+settled_left (Replaying r) = go r.left refl
+  where
+    go : (left : List EventValue) → r.left ≡ left → HasLeft (settled_replay r left)
+    go [] e = tt
+    go (x ∷ left) e = λ none. (let q : x ∷ left ≡ [] = sym e ∙ none in cc)
 
 -- a step of a replay that fits is refused for want of memory alone
 pub replay_refused : {A : Type 0} (v : Live) (result : Result A NodeFault) → v.left ≢ [] → IsFitting v
@@ -51,13 +73,6 @@ replay_refused {A = A} v (Err fault) some fits refused memory = go fault refused
     go Replay refused memory = absurd (no Replay (refused (λ z. cc)))
     go ClockSpent refused memory = absurd (no ClockSpent (refused (λ z. cc)))
     go Log refused memory = absurd (no Log (refused (λ z. cc)))
-
--- what settles is the rank that replayed, at work
-pub settled_live : (r : replay.Replay MemoryShelf (Unit {0})) (result : Result Rank (replay.Replay MemoryShelf (Unit {0})))
-    → (r.left ≡ [] → result ≡ Ok r.node) → (r.left ≢ [] → result ≡ Err r) → (x : Rank) → result ≡ Ok x → at_work x ≡ in_replay r
-settled_live r result done more x e =
-    let h = is_settled r.left result r.node r done more x e in
-    ap at_work h.1 ∙ ap (λ z. Some (record { rank = r.node; left = z })) (sym h.0)
 
 -- a step of a replay, as a world sees it
 pub replayed_is : (r after : replay.Replay MemoryShelf (Unit {0})) (t : Turn) → r.left ≢ []

@@ -23,7 +23,7 @@ use Rattle.world_model.proofs.Places.{replaced_keeps}
 use Rattle.world_model.proofs.Arrivals.{InboxStands-arrived, after_arrival_counts}
 use Rattle.checkpoint.specs.Image.{ImageValue}
 use Rattle.world_model.specs.Stands.{LogStands, sends_of, RankStands, start_at, StandsAt}
-use Rattle.world_model.specs.Stands.{KeptCovered, DueCovered, RankCovers, Stands}
+use Rattle.world_model.specs.Stands.{KeptCovered, DueCovered, RankCovers}
 use Rattle.world_model.proofs.In.{StandsIn-frames}
 use Rattle.world_model.proofs.Ranks.{RankStands-same_clock}
 use Rattle.world_model.proofs.Covers.{Covers-rank, Covers-put, bases_with, base_at, arrival_more}

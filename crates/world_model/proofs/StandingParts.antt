@@ -12,12 +12,12 @@ use Rattle.rank_node.specs.Storing.{after_store}
 use Rattle.rank_node.specs.declared.waiting.Waiting.{Waiting}
 use Rattle.rank_node.specs.declared.waiting.Waiting.TheVariants as waits
 use Rattle.rank_node.specs.Waiting.{BeginsWithEvents, expanded, events_in}
-use Rattle.crash_free.specs.Runs.{Passed, history, sent, looked_up, continue}
+use Rattle.crash_free.specs.Runs.{Passed, sent, looked_up, continue}
 use Rattle.world_model.specs.Rows.{row}
 use Rattle.world_model.specs.World.{Live, WorldValue, size, IsLive, unpassed}
 use Rattle.world_model.specs.declared.reply.Reply.{Reply}
 use Rattle.world_model.specs.Plain.{plainly, plain_rank, plain, without_runs}
-use Rattle.world_model.specs.Stands.{start_at, RankStands, StandsAt, Stands}
+use Rattle.world_model.specs.Stands.{start_at, StandsAt, Stands}
 use Rattle.world_model.specs.Follows.{StoreFollows}
 use Rattle.world_model.proofs.Rows.{row_one_more, row-other, event_prints_none}
 use Rattle.world_model.proofs.Lines.{printed_same}

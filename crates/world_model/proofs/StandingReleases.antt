@@ -26,7 +26,7 @@ use Rattle.world_model.specs.declared.reply.Reply.{Reply}
 use Rattle.world_model.proofs.Pending.{begins_effect, effect_for}
 use Rattle.world_model.proofs.Places.{replaced_keeps}
 use Rattle.world_model.specs.Stands.{LogStands, LogsStand, sends_of, packet_of, IsFor, RankStands, start_at, StandsAt}
-use Rattle.world_model.specs.Stands.{RankCovers, Stands}
+use Rattle.world_model.specs.Stands.{RankCovers}
 use Rattle.world_model.proofs.Lists.{drop_zero}
 use Rattle.world_model.proofs.Covers.{Covers-rank, bases_with, base_at}
 use Rattle.world_model.proofs.Worlds.{Goes, changed, Stands-passed}

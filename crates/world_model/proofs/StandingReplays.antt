@@ -14,7 +14,7 @@ use Rattle.rank_node.specs.declared.turn.Turn.TheVariants.{Moved, Blocked, Held,
 use Rattle.crash_free.specs.Runs.{history}
 use Rattle.world_model.specs.World.{Live, WorldValue, size}
 use Rattle.world_model.specs.Follows.{passed_at, lines_after, effect_at, ReplayFollows, after_turn}
-use Rattle.world_model.specs.Stands.{RankStands, start_at, StandsAt, RankCovers, Stands}
+use Rattle.world_model.specs.Stands.{RankStands, start_at, StandsAt, RankCovers}
 use Rattle.world_model.specs.declared.reply.Reply.{Reply}
 use Rattle.rank_node.specs.Replay.{replayed_at, left_after}
 use Rattle.world_model.proofs.Lists.{next_of_drop}

@@ -26,11 +26,11 @@ use Rattle.crash_free.specs.Runs.{Passed, history, sent, printed, sends_from, Is
 use Rattle.crash_free.proofs.Going.{free_silent, sent_grows}
 use Rattle.crash_free.proofs.Lists.{history-own}
 use Rattle.world_model.specs.Rows.{event_at, events_from, cons_some}
-use Rattle.world_model.specs.World.{Live, WorldValue, size, IsLive}
+use Rattle.world_model.specs.World.{Live, WorldValue, IsLive}
 use Rattle.world_model.specs.Headline.{lines_of}
 use Rattle.world_model.specs.Follows.{passed_at, lines_after, effect_at}
 use Rattle.rank_node.specs.declared.waiting.Waiting.{Waiting}
-use Rattle.world_model.specs.Stands.{InboxStands, LogStands, LogsStand, StandsIn, RankStands, start_at, StandsAt, Stands}
+use Rattle.world_model.specs.Stands.{InboxStands, LogStands, LogsStand, StandsIn, RankStands, start_at, StandsAt}
 use Rattle.world_model.proofs.Rows.{IsEffect, row_of_effect, effect_finds, effect_takes_none}
 use Rattle.world_model.proofs.Inboxes.{InboxStands-noted, InboxStands-longer}
 use Rattle.world_model.proofs.Lines.{lines_after_print, printed_same}

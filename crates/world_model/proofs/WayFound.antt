@@ -7,9 +7,9 @@ use Rattle.world_model.specs.Onward.{IsWorld}
 use Rattle.world_model.specs.Way.{CaughtUp, IsWayOn}
 use Rattle.world_model.specs.Driven.{Alike, AreAlike, Driven, AllLive, Heard, Ready, Advanced, Flushed, Emptied, Listened}
 use Rattle.world_model.proofs.Likeness.{alike_size}
-use Rattle.world_model.proofs.Hearing.{heard_no_gaps, same_wire}
-use Rattle.world_model.proofs.Going.{caught_up_at_end}
-use Rattle.world_model.proofs.Making.{ready_first, way_ends}
+use Rattle.world_model.proofs.WayHearing.{heard_no_gaps, same_wire}
+use Rattle.world_model.proofs.WayGoing.{caught_up_at_end}
+use Rattle.world_model.proofs.WayMaking.{ready_first, way_ends}
 
 -- a world like the start was driven by no events yet
 driven_none : (start w : WorldValue) → Alike start w → IsWorld w → Driven start [] w

@@ -41,22 +41,28 @@ replaced n start C ranks r x others k q u e = go (slice_set-get ranks r q (Some 
     go (inr h) = others q u h.0 h.1
     go (inl h) = rw (h.0) (k u (sym h.1))
 
+-- other ranks stand in the run, and the logger has the same rows
+pub Stands-ranks : (n : ℕ) (w : WorldValue) (ranks : List (Option Live)) (logger : StateValue) → StandsAt n w → logger.rows ≡ w.logger.rows
+    → ((r : ℕ) (v : Live) → slice_get ranks r ≡ Some (Some v) → RankStands (start_at w n) n w.run r v)
+    → StandsAt n (record w { ranks = ranks; logger = logger })
+Stands-ranks n w ranks logger s rows k = record {
+  is_run = s.is_run;
+  as_many_rows = ap length rows ∙ s.as_many_rows;
+  rows = λ q events e. s.rows q events (subst (λ z. slice_get z q ≡ Some events) rows e);
+  as_many_wires = s.as_many_wires;
+  wires_to_all = s.wires_to_all;
+  packets = s.packets;
+  lines = s.lines;
+  as_many_images = s.as_many_images;
+  images = s.images;
+  ranks = k;
+}
+
 -- a rank changes, crashes or starts again
 pub Stands-rank : (n : ℕ) (w : WorldValue) (r : ℕ) (x : Option Live) (logger : StateValue) → StandsAt n w → logger.rows ≡ w.logger.rows
     → ((v : Live) → x ≡ Some v → RankStands (start_at w n) n w.run r v) → StandsAt n (changed w r x w.images logger w.lines w.run)
 Stands-rank n w r x logger s rows k =
-    record {
-      is_run = s.is_run;
-      as_many_rows = ap length rows ∙ s.as_many_rows;
-      rows = λ q events e. s.rows q events (subst (λ z. slice_get z q ≡ Some events) rows e);
-      as_many_wires = s.as_many_wires;
-      wires_to_all = s.wires_to_all;
-      packets = s.packets;
-      lines = s.lines;
-      as_many_images = s.as_many_images;
-      images = s.images;
-      ranks = replaced n (start_at w n) w.run w.ranks r x (λ q u ne e. s.ranks q u e) k;
-    }
+    Stands-ranks n w (slice_set w.ranks r x) logger s rows (replaced n (start_at w n) w.run w.ranks r x (λ q u ne e. s.ranks q u e) k)
 
 -- a packet that was real stays so
 IsReal-longer : (C : List Passed) (p : Passed) (s d : ℕ) (f : Frame) → IsReal C s d f → IsReal (p ∷ C) s d f

@@ -1,13 +1,12 @@
 -- Copies of the ranks of a world: each is the same rank, on a shelf of its own that holds the same image.
 use Rattle.std.specs.Prelude.{◌≡◌, ℕ}
 use Rattle.rank_language.specs.Program.{ProgramValue}
-use Rattle.world_model.specs.declared.state.State.{State}
 use Rattle.world_model.specs.Seats.{SeatValue}
-use Rattle.world_model.specs.Seat.{bytes_of, live_of, HasLeft, IsStanding}
+use Rattle.world_model.specs.Seat.{bytes_of, live_of, HasLeft, IsStanding, Phase}
 use Rattle.world_model.specs.Driven.{IsAlike}
 
--- What stands at a seat and a copy of it.
-pub record IsStateCopy (s c : State) : Type 0 where
+-- A rank and a copy of it.
+pub record IsPhaseCopy (s c : Phase) : Type 0 where
   pub live : IsAlike (live_of s) (live_of c)
   pub bytes : bytes_of c ≡ bytes_of s
   pub standing : (program : ProgramValue) (r n : ℕ) → IsStanding program r n s → IsStanding program r n c

@@ -2,13 +2,13 @@
 //! stands for.
 #![tactic(auto)]
 
+mod bare_world;
 mod event;
-mod parts;
+mod place;
 mod reply;
 mod run;
 mod seat;
 mod seats;
-mod state;
 mod view;
 mod wire;
 mod wires;

@@ -16,7 +16,7 @@ use std::marker::Model;
 
 /// The acts that passed, in order.
 ///
-/// Contracts see the newest first.
+/// Contracts see the newest first, and nothing of the index that is asked here.
 #[derive(Debug, Drop)]
 pub struct Run {
     ranks: u8,
@@ -119,7 +119,7 @@ impl Run {
 
     /// Puts so many misses of a rank, or none where memory ends. An `Err` is
     /// want of memory.
-    #[tactic(auto, using(crate::proofs::Missing::misses_more, crate::proofs::Missing::misses_back))]
+    #[tactic(auto, using(crate::proofs::RunsMissing::misses_more, crate::proofs::RunsMissing::misses_back))]
     pub fn push_misses(&mut self, rank: u8, count: u32) -> Result<(), AllocError>
         requires { rank < self.old.ranks }
         ensures ok { OnOk result (self.new.acts ≡ with_misses rank count self.old.acts) }
@@ -137,7 +137,7 @@ impl Run {
     }
 
     /// Takes so many of the newest acts back. This takes no memory.
-    #[tactic(auto, using(crate::proofs::Missing::drop_next, crate::proofs::Lists::drop_zero))]
+    #[tactic(auto, using(crate::proofs::RunsMissing::drop_next, crate::proofs::Lists::drop_zero))]
     pub fn take_back_many(&mut self, count: u32)
         ensures acts { self.new.acts ≡ drop count self.old.acts }
         ensures ranks { self.new.ranks ≡ self.old.ranks }

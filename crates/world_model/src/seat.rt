@@ -12,17 +12,16 @@ mod imaging;
 mod living;
 mod stepping;
 
-use crate::state::State;
+use crate::place::{Place, end};
 use crate::view::View;
 use checkpoint::MemoryShelf;
 use metered::Heap;
 use rank_language::Program;
-use rank_node::{Running, Stable};
+use rank_node::{Phase, Running, Stable};
 use std::alloc::AllocError;
 use std::marker::Model;
 
-/// The place of a rank, which the rank keeps through its lives. It must be
-/// spent.
+/// What a rank keeps through its lives, with where it stands. It must be spent.
 ///
 /// Contracts see the program and which rank of how many it is, the rank's
 /// value, None where it is down, and the image on its shelf, None where that is
@@ -32,29 +31,22 @@ pub struct Seat<'p> {
     program: &'p Program,
     rank: u8,
     size: u8,
-    state: State<'p>,
+    place: Place<'p>,
 }
 
 impl<'p> Model for Seat<'p> {
     ghost use Rattle.std.specs.Coded.{codes};
     ghost use Rattle.rank_language.specs.Coding.{placed_code};
-    ghost use Rattle.rank_node.specs.Image.{image_on};
     ghost use Rattle.world_model.specs.Seats.{SeatValue};
-    ghost use Rattle.world_model.specs.Seat.{bytes_of, live_of, IsKept};
+    ghost use Rattle.world_model.specs.Seat.{seat_of, IsSeated};
 
     ghost Value = { SeatValue };
 
     ghost coded = { Prim.hlevel (codes, placed_code) };
 
-    ghost view = { λ s. record {
-      program = s.program.now;
-      rank = s.rank;
-      size = s.size;
-      live = live_of s.state;
-      image = image_on s.program.now s.rank s.size (bytes_of s.state);
-    } };
+    ghost view = { λ s. seat_of s.program.now s.rank s.size s.place };
 
-    ghost invariant = { λ s. IsKept s.program.now s.rank s.size s.state };
+    ghost invariant = { λ s. IsSeated s.program.now s.rank s.size s.place };
 }
 
 impl<'p> Seat<'p> {
@@ -75,7 +67,7 @@ impl<'p> Seat<'p> {
                 program,
                 rank,
                 size,
-                state: State::Running(running),
+                place: Some(Phase::Running(running)),
             }),
             Err((stable, _)) => {
                 stable.parts();
@@ -90,18 +82,18 @@ impl<'p> Seat<'p> {
             program: _,
             rank: _,
             size: _,
-            state,
+            place,
         } = self;
-        state.end();
+        end(place);
     }
 
     /// Whether the rank is down.
     pub fn is_down(&self) -> bool
         ensures { result ≡ is_none self.now.live }
     {
-        match &self.state {
-            State::Running(_) | State::Replaying(_) => false,
-            State::Down(_) | State::Empty => true,
+        match &self.place {
+            Some(Phase::Running(_) | Phase::Replaying(_)) => false,
+            Some(Phase::Down(_)) | None => true,
         }
     }
 
@@ -110,9 +102,9 @@ impl<'p> Seat<'p> {
         ensures yes { OnTrue result (IfLive self.now.live (λ v. v.left ≢ [])) }
         ensures no { OnFalse result (IsNotInReplay self.now.live) }
     {
-        match &self.state {
-            State::Replaying(_) => true,
-            State::Running(_) | State::Down(_) | State::Empty => false,
+        match &self.place {
+            Some(Phase::Replaying(_)) => true,
+            Some(Phase::Running(_) | Phase::Down(_)) | None => false,
         }
     }
 
@@ -121,9 +113,9 @@ impl<'p> Seat<'p> {
         ensures some { IfSome result (λ running. self.now.live ≡ at_work running.now) }
         ensures none { IfNone result (IsNotAtWork self.now.live) }
     {
-        match &self.state {
-            State::Running(running) => Some(running),
-            State::Replaying(_) | State::Down(_) | State::Empty => None,
+        match &self.place {
+            Some(Phase::Running(running)) => Some(running),
+            Some(Phase::Replaying(_) | Phase::Down(_)) | None => None,
         }
     }
 
@@ -134,32 +126,21 @@ impl<'p> Seat<'p> {
         ensures { IfSome self.now.live HasLines }
     {
         self.program.law_lines();
-        let _state = &self.state;
+        let _place = &self.place;
     }
 
     /// What is shown of the rank, which has made so many acts of the run.
     pub fn view(&self, acts: usize) -> View
         ensures { result ≡ shown_of self.now.live acts }
     {
-        match &self.state {
-            State::Running(running) => View {
-                live: true,
-                left: 0,
-                clock: running.clock(),
-                acts,
-            },
-            State::Replaying(replaying) => View {
-                live: true,
-                left: replaying.left(),
-                clock: replaying.clock(),
-                acts,
-            },
-            State::Down(_) | State::Empty => View {
-                live: false,
-                left: 0,
-                clock: 0,
-                acts,
-            },
+        let Some(rank) = &self.place else {
+            unreachable!();
+        };
+        View {
+            live: !matches!(rank, Phase::Down(_)),
+            left: rank.left(),
+            clock: rank.clock(),
+            acts,
         }
     }
 }

@@ -6,7 +6,8 @@ use rank_node::Frame;
 use std::alloc::AllocError;
 use std::marker::Model;
 
-/// The frames that were put on the way from one rank to another, oldest first.
+/// The frames that were put on the way from one rank to another, oldest first:
+/// a vector to which frames are added, and from which none is taken.
 #[derive(Drop)]
 pub struct Wire {
     frames: Vec<Frame, Heap>,

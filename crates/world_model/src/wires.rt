@@ -62,7 +62,8 @@ impl WiresFrom {
     }
 }
 
-/// A wire from each rank to each.
+/// A wire from each rank to each. A call goes to the wires of its source, and from
+/// there to that of its destination; contracts see lists of lists.
 #[derive(Drop)]
 pub struct Wires {
     from: Vec<WiresFrom, Heap>,

@@ -10,8 +10,8 @@ ghost use Rattle.world_model.specs.Follows.{CanNot, Follows};
 ghost use Rattle.world_model.specs.Memory.{TakesNoMemory, Unchanged};
 ghost use Rattle.world_model.specs.Sequences.{FollowsAll, Stops};
 
+use crate::bare_world::BareWorld;
 use crate::event::WorldEvent;
-use crate::parts::Parts;
 use crate::reply::Reply;
 use crate::view::View;
 use crash_free::Passed;
@@ -29,8 +29,11 @@ pub struct Stopped {
 
 /// Ranks of a program with their event logger, wires and console, and the
 /// crash-free run that they stand for. It must be spent.
+///
+/// It is a bare world that stands for its run: each call is that one's, and what
+/// it keeps apart is this invariant, of which the bare world knows nothing.
 pub struct World<'p> {
-    parts: Parts<'p>,
+    bare: BareWorld<'p>,
 }
 
 impl<'p> Model for World<'p> {
@@ -43,9 +46,9 @@ impl<'p> Model for World<'p> {
 
     ghost coded = { Prim.hlevel (codes, placed_code) };
 
-    ghost view = { λ w. w.parts };
+    ghost view = { λ w. w.bare };
 
-    ghost invariant = { λ w. IsWorld w.parts };
+    ghost invariant = { λ w. IsWorld w.bare };
 }
 
 impl<'p> World<'p> {
@@ -58,35 +61,35 @@ impl<'p> World<'p> {
         ensures stands { IfOk result (λ world. StandsFor world []) }
         ensures nothing_gone { IfOk result (λ world. NothingGone world []) }
     {
-        let parts = Parts::new(alloc, program, ranks)?;
-        Ok(World { parts })
+        let bare = BareWorld::new(alloc, program, ranks)?;
+        Ok(World { bare })
     }
 
     /// Ends the world. This takes no memory.
     pub fn close(self) {
-        let World { parts } = self;
-        parts.end();
+        let World { bare } = self;
+        bare.end();
     }
 
     /// How many ranks there are.
     pub fn ranks(&self) -> u8
         ensures { result ≡ size self.now }
     {
-        self.parts.ranks()
+        self.bare.ranks()
     }
 
     /// The console's lines, in the order in which they were shown.
     pub fn lines(&self) -> &[Line]
         ensures { result.now ≡ self.now.lines }
     {
-        self.parts.lines()
+        self.bare.lines()
     }
 
     /// The acts of the run that the world stands for, the oldest first.
     pub fn acts(&self) -> &[Passed]
         ensures { result.now ≡ reverse self.now.run }
     {
-        self.parts.acts()
+        self.bare.acts()
     }
 
     /// What is shown of a rank: whether it is live, how many events it has
@@ -96,7 +99,7 @@ impl<'p> World<'p> {
         requires { rank < size self.now }
         ensures { IsView self.now rank result }
     {
-        self.parts.view(rank)
+        self.bare.view(rank)
     }
 
     /// A way on from this world, which stays: events after which, on whatever
@@ -110,7 +113,7 @@ impl<'p> World<'p> {
     pub fn catch_up(&self) -> Result<Vec<WorldEvent, Heap>, AllocError>
         ensures { IfOk result (λ events. IsWayOn self.now events.items) }
     {
-        let mut copy = self.parts.copy()?;
+        let mut copy = self.bare.copy()?;
         let found = copy.way();
         copy.end();
         found
@@ -132,7 +135,7 @@ impl<'p> World<'p> {
         ensures possible { OnErr result (CanNot self.old event → ⊥) }
         ensures frugal { OnErr result (TakesNoMemory self.old event → ⊥) }
     {
-        self.parts.apply(event)
+        self.bare.apply(event)
     }
 
     /// A list of events, one after another. There is room for all replies
@@ -148,7 +151,7 @@ impl<'p> World<'p> {
         ensures done { IfErr result (λ stopped. stopped.done < length events.now) }
         ensures stopped { IfErr result (λ stopped. Stops self.old events.now stopped.done self.new) }
     {
-        let _parts = &self.parts;
+        let _bare = &self.bare;
         let mut replies = Vec::new(alloc);
         let Ok(()) = replies.reserve(events.len()) else {
             return Err(Stopped { done: 0 });

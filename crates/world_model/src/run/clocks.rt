@@ -7,7 +7,7 @@ use metered::Heap;
 use std::alloc::AllocError;
 use std::marker::Model;
 
-/// The clocks of what one rank sent to another, in order.
+/// The clocks of what one rank sent to another, in order, which rise.
 #[derive(Debug, Drop)]
 pub(super) struct Clocks {
     items: Vec<u64, Heap>,

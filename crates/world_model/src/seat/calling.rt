@@ -6,10 +6,9 @@ ghost use Rattle.rank_node.specs.Frames.{outgoing_of, after_passed, arrival_of, 
 ghost use Rattle.world_model.specs.Seats.{IfLive, with_live, with_rank_value};
 
 use crate::seat::Seat;
-use crate::state::State;
 use plain_logger::LoggerState;
 use ports::ConsoleState;
-use rank_node::{Arrived, Frame};
+use rank_node::{Arrived, Frame, Phase};
 use std::alloc::AllocError;
 
 impl<'p> Seat<'p> {
@@ -25,12 +24,10 @@ impl<'p> Seat<'p> {
         ensures ok { IfOk result (λ frame. IfLive self.now.live (λ v. frame ≡ outgoing_of v.rank dest)) }
         ensures packet_only { OnErr result (IfLive self.now.live (λ v. IsPacket (outgoing_of v.rank dest))) }
     {
-        let next = match &self.state {
-            State::Running(running) => running.outgoing(dest),
-            State::Replaying(replaying) => replaying.outgoing(dest),
-            State::Down(_) | State::Empty => unreachable!(),
+        let Some(rank) = &self.place else {
+            unreachable!();
         };
-        let Ok(frame) = next else {
+        let Ok(frame) = rank.outgoing(dest) else {
             return Err(AllocError);
         };
         Ok(frame)
@@ -42,11 +39,10 @@ impl<'p> Seat<'p> {
         ensures passed { IfLive self.old.live (λ v. self.new.live ≡ with_rank_value v (after_passed v.rank dest)) }
         ensures others { self.new ≡ with_live self.old self.new.live }
     {
-        match &mut self.state {
-            State::Running(running) => running.passed(dest),
-            State::Replaying(replaying) => replaying.passed(dest),
-            State::Down(_) | State::Empty => unreachable!(),
-        }
+        let Some(rank) = &mut self.place else {
+            unreachable!();
+        };
+        rank.passed(dest);
     }
 
     /// A frame from another rank arrives. An `Err` is want of memory.
@@ -57,15 +53,14 @@ impl<'p> Seat<'p> {
         ensures others { self.new ≡ with_live self.old self.new.live }
         ensures err { OnErr result (self.new ≡ self.old) }
     {
-        let arrival = match &mut self.state {
-            State::Running(running) => running.arrive(from, frame),
-            State::Replaying(replaying) => replaying.arrive(from, frame),
-            State::Down(_) | State::Empty => unreachable!(),
+        let Some(rank) = &mut self.place else {
+            unreachable!();
         };
-        let Ok(arrived) = arrival else {
-            return Err(AllocError);
-        };
-        Ok(arrived)
+        match rank.arrive(from, frame) {
+            Ok(Some(arrived)) => Ok(arrived),
+            Ok(None) => unreachable!(),
+            Err(_) => Err(AllocError),
+        }
     }
 
     /// The oldest stored event is acknowledged, where the rank is at work.
@@ -76,9 +71,9 @@ impl<'p> Seat<'p> {
         ensures none { OnFalse result (IfLive self.old.live (λ v. v.rank.stored ≡ 0)) }
         ensures stays { OnFalse result (self.new ≡ self.old) }
     {
-        match &mut self.state {
-            State::Running(running) => running.ack(),
-            State::Replaying(_) | State::Down(_) | State::Empty => unreachable!(),
+        match &mut self.place {
+            Some(Phase::Running(running)) => running.ack(),
+            Some(Phase::Replaying(_) | Phase::Down(_)) | None => unreachable!(),
         }
     }
 
@@ -95,9 +90,9 @@ impl<'p> Seat<'p> {
         ensures err { OnErr result (self.new ≡ self.old) }
         ensures err_logger { OnErr result (logger.new ≡ logger.old) }
     {
-        let stored = match &mut self.state {
-            State::Running(running) => running.store_state(logger),
-            State::Replaying(_) | State::Down(_) | State::Empty => unreachable!(),
+        let stored = match &mut self.place {
+            Some(Phase::Running(running)) => running.store_state(logger),
+            Some(Phase::Replaying(_) | Phase::Down(_)) | None => unreachable!(),
         };
         match stored {
             Ok(Some(count)) => Ok(count),
@@ -119,9 +114,9 @@ impl<'p> Seat<'p> {
         ensures err { OnErr result (self.new ≡ self.old) }
         ensures err_console { OnErr result (console.new ≡ console.old) }
     {
-        let released = match &mut self.state {
-            State::Running(running) => running.release(console),
-            State::Replaying(_) | State::Down(_) | State::Empty => unreachable!(),
+        let released = match &mut self.place {
+            Some(Phase::Running(running)) => running.release(console),
+            Some(Phase::Replaying(_) | Phase::Down(_)) | None => unreachable!(),
         };
         match released {
             Ok(Some(clock)) => Ok(clock),

@@ -1,24 +1,42 @@
 //! Copies of a seat.
 ghost use Rattle.std.specs.Prelude.{IfOk};
-ghost use Rattle.world_model.specs.Copied.{IsSeatCopy};
+ghost use Rattle.world_model.specs.Copied.{IsPhaseCopy, IsSeatCopy};
 
 use crate::seat::Seat;
+use checkpoint::MemoryShelf;
 use metered::Heap;
+use rank_node::Phase;
 use std::alloc::AllocError;
 
 impl<'p> Seat<'p> {
-    /// The same rank in the same state, on a shelf of its own that holds the
+    /// The same rank in the same phase, on a shelf of its own that holds the
     /// same image. An `Err` is want of memory.
-    #[tactic(auto, using(crate::proofs::Copying::kept_copy, crate::proofs::Copying::seat_copy))]
+    #[tactic(auto, using(crate::proofs::Copying::seat_copy))]
     pub fn copy(&self, alloc: Heap) -> Result<Seat<'p>, AllocError>
         ensures { IfOk result (λ copy. IsSeatCopy self.now copy) }
     {
-        let state = self.state.copy(alloc)?;
+        let Some(rank) = &self.place else {
+            unreachable!();
+        };
         Ok(Seat {
             program: self.program,
             rank: self.rank,
             size: self.size,
-            state,
+            place: Some(copied(rank, alloc)?),
         })
+    }
+}
+
+#[tactic(auto, using(crate::proofs::Copying::phase_copy))]
+fn copied<'p>(
+    rank: &Phase<'p, MemoryShelf, ()>,
+    alloc: Heap,
+) -> Result<Phase<'p, MemoryShelf, ()>, AllocError>
+    ensures { IfOk result (λ copy. IsPhaseCopy rank.now copy) }
+{
+    let shelf = rank.shelf().copy(alloc)?;
+    match rank.copy(alloc, (), shelf) {
+        Ok(copy) => Ok(copy),
+        Err(_) => Err(AllocError),
     }
 }

@@ -3,8 +3,7 @@ ghost use Rattle.std.specs.Prelude.{◌≡◌, [], OnOk, OnErr};
 ghost use Rattle.world_model.specs.Seats.{with_both, IfLive, IsImaged};
 
 use crate::seat::Seat;
-use crate::state::State;
-use rank_node::NodeFault;
+use rank_node::{NodeFault, Phase};
 use std::alloc::AllocError;
 
 impl<'p> Seat<'p> {
@@ -17,9 +16,9 @@ impl<'p> Seat<'p> {
         ensures others { self.new ≡ with_both self.old self.new.live self.new.image }
         ensures err { OnErr result (self.new ≡ self.old) }
     {
-        let imaged = match &mut self.state {
-            State::Running(running) => running.image(),
-            State::Replaying(_) | State::Down(_) | State::Empty => unreachable!(),
+        let imaged = match &mut self.place {
+            Some(Phase::Running(running)) => running.image(),
+            Some(Phase::Replaying(_) | Phase::Down(_)) | None => unreachable!(),
         };
         let Err(fault) = imaged else {
             return Ok(());

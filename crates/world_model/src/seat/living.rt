@@ -1,14 +1,18 @@
 //! How a rank goes down and comes up again.
-ghost use Rattle.std.specs.Prelude.{◌≡◌, ◌≤◌, false, None, length, IfOk, OnOk, OnErr};
+ghost use Rattle.std.specs.Prelude.{◌≡◌, ◌≤◌, ℕ, false, None, length, IfOk, IfErr, OnOk, OnErr};
 ghost use Rattle.metered.specs.Limits.{most_events};
-ghost use Rattle.rank_node.specs.Image.{begins_at};
+ghost use Rattle.rank_node.specs.Image.{begins_at, image_on};
 ghost use Rattle.rank_node.specs.Replay.{cuts, left_of};
+ghost use Rattle.world_model.specs.Seat.{bytes_of, live_of, shelf_of, HasLeft, IsOwn, IsStanding};
 ghost use Rattle.world_model.specs.Seats.{with_live, IsRestarted};
 
+use crate::place::{put, take};
 use crate::seat::Seat;
+use checkpoint::MemoryShelf;
 use metered::Heap;
 use plain_logger::Event;
-use rank_node::NodeFault;
+use rank_language::Program;
+use rank_node::{Down, NodeFault, Phase};
 use std::alloc::AllocError;
 
 impl<'p> Seat<'p> {
@@ -17,8 +21,8 @@ impl<'p> Seat<'p> {
     pub fn crash(&mut self)
         ensures { self.new ≡ with_live self.old None }
     {
-        let down = self.state.take().crash();
-        self.state.put(down);
+        let crashed = take(&mut self.place).crash();
+        put(&mut self.place, Phase::Down(crashed));
     }
 
     /// The rank, which is down, starts again at its image, or at the beginning
@@ -34,13 +38,15 @@ impl<'p> Seat<'p> {
         ensures others { self.new ≡ with_live self.old self.new.live }
         ensures err { OnErr result (self.new ≡ self.old) }
     {
-        match self.state.take().restart(alloc, self.program, row) {
-            Ok((state, left)) => {
-                self.state.put(state);
+        // what is down already stays so
+        let down = take(&mut self.place).crash();
+        match restarted(down, alloc, self.program, row) {
+            Ok((rank, left)) => {
+                put(&mut self.place, rank);
                 Ok(left)
             }
-            Err((state, fault)) => {
-                self.state.put(state);
+            Err((down, fault)) => {
+                put(&mut self.place, Phase::Down(down));
                 match fault {
                     NodeFault::Memory => Err(AllocError),
                     NodeFault::NotSettled
@@ -53,4 +59,33 @@ impl<'p> Seat<'p> {
             }
         }
     }
+}
+
+// A rank that is down starts again at its image, or at the beginning of the program, and this is how many events of its row
+// are left to replay. Whichever rank of the program it is, its image cuts no event of the row.
+#[tactic(auto, using(crate::proofs::Settling::settled_left))]
+fn restarted<'p>(
+    down: Down<MemoryShelf, ()>,
+    alloc: Heap,
+    program: &'p Program,
+    row: Vec<Event, Heap>,
+) -> Result<(Phase<'p, MemoryShelf, ()>, u32), (Down<MemoryShelf, ()>, NodeFault)>
+    requires row { length row.items ≤ most_events }
+    requires uncut { (r n : ℕ) → IsOwn program.now r n down →
+        cuts (begins_at program.now r n (image_on program.now r n (shelf_of down))).clock row.items ≡ false }
+    ensures count { IfOk result (λ up. (r n : ℕ) → IsOwn program.now r n down →
+        up.1 ≡ length (left_of (begins_at program.now r n (image_on program.now r n (shelf_of down))) row.items)) }
+    ensures ok { IfOk result (λ up. (r n : ℕ) → IsOwn program.now r n down →
+        IsRestarted program.now n r (image_on program.now r n (shelf_of down)) row.items (live_of up.0)) }
+    ensures bytes { IfOk result (λ up. bytes_of up.0 ≡ shelf_of down) }
+    ensures standing { IfOk result (λ up. (r n : ℕ) → IsOwn program.now r n down → IsStanding program.now r n up.0) }
+    ensures left { IfOk result (λ up. HasLeft up.0) }
+
+    ensures err_bytes { IfErr result (λ refused. shelf_of refused.0 ≡ shelf_of down) }
+    ensures err_own { IfErr result (λ refused. (r n : ℕ) → IsOwn program.now r n down → IsOwn program.now r n refused.0) }
+    ensures refused { IfErr result (λ refused. (r n : ℕ) → IsOwn program.now r n down → refused.1 ≡ NodeFault.Memory) }
+{
+    let replaying = down.restart(alloc, program, row)?;
+    let left = replaying.left();
+    Ok((Phase::Replaying(replaying).settled(), left))
 }

@@ -2,10 +2,10 @@
 ghost use Rattle.std.specs.Prelude.{◌≡◌, ◌≢◌, [], true, None, IfOk, OnOk, OnErr};
 ghost use Rattle.world_model.specs.Seats.{with_live, IfLive, IsFitting, IsReplayed, IsStep};
 
+use crate::place::{put, take};
 use crate::seat::Seat;
-use crate::state::State;
 use ports::ConsoleState;
-use rank_node::Turn;
+use rank_node::{Phase, Turn};
 use std::alloc::AllocError;
 
 impl<'p> Seat<'p> {
@@ -26,9 +26,9 @@ impl<'p> Seat<'p> {
         ensures memory { OnErr result (IfLive self.old.live (λ v. takes_memory v.rank ≡ true)) }
         ensures err_console { OnErr result (console.new ≡ console.old) }
     {
-        let step = match &mut self.state {
-            State::Running(running) => running.step(console),
-            State::Replaying(_) | State::Down(_) | State::Empty => unreachable!(),
+        let step = match &mut self.place {
+            Some(Phase::Running(running)) => running.step(console),
+            Some(Phase::Replaying(_) | Phase::Down(_)) | None => unreachable!(),
         };
         let Ok(turn) = step else {
             return Err(AllocError);
@@ -39,7 +39,6 @@ impl<'p> Seat<'p> {
     /// The rank, which replays and isn't refused, makes one step of its
     /// replay, and runs on where nothing is left then. An `Err` is want of
     /// memory.
-    #[tactic(auto, using(crate::proofs::Settling::replayed_is))]
     pub fn replay(&mut self, console: &mut ConsoleState) -> Result<Turn, AllocError>
         requires replays { IfLive self.old.live (λ v. v.left ≢ []) }
         requires fits { IfLive self.old.live IsFitting }
@@ -51,15 +50,15 @@ impl<'p> Seat<'p> {
         ensures memory { OnErr result (IfLive self.old.live (λ v. replay_takes_memory v.rank ≡ true)) }
         ensures err_console { OnErr result (console.new ≡ console.old) }
     {
-        let step = match &mut self.state {
-            State::Replaying(replaying) => replaying.step(console),
-            State::Running(_) | State::Down(_) | State::Empty => unreachable!(),
+        let step = match &mut self.place {
+            Some(Phase::Replaying(replaying)) => replaying.step(console),
+            Some(Phase::Running(_) | Phase::Down(_)) | None => unreachable!(),
         };
         let Ok(turn) = step else {
             return Err(AllocError);
         };
-        let state = self.state.take().settle();
-        self.state.put(state);
+        let settled = take(&mut self.place).settled();
+        put(&mut self.place, settled);
         Ok(turn)
     }
 }

@@ -18,18 +18,18 @@ go_on w v w' events replies k d answer l f g s n = rw (take_more events k d l) (
 
 -- src/world.rt
 pub returns-in_default-clause-stands : goal.returns-in_default-clause-stands
-returns-in_default-clause-stands c = subst (λ w. StandsFor w w.run) c.self.view_is (world_stands c.self.inside.parts c.self.invariant)
+returns-in_default-clause-stands c = subst (λ w. StandsFor w w.run) c.self.view_is (world_stands c.self.inside.bare c.self.invariant)
 
 -- src/world.rt
 pub returns-in_default-clause-nothing_gone : goal.returns-in_default-clause-nothing_gone
-returns-in_default-clause-nothing_gone c = subst (λ w. NothingGone w w.run) c.self.view_is (world_retains c.self.inside.parts c.self.invariant)
+returns-in_default-clause-nothing_gone c = subst (λ w. NothingGone w w.run) c.self.view_is (world_retains c.self.inside.bare c.self.invariant)
 
 -- src/world.rt
 pub loop-done-init : goal.loop-done-init
 loop-done-init c = record {
   ran = subst (λ z. FollowsAll c.args.self.now [] z c.args.self.now) (sym (c.reserve.ensures.items ∙ c.new-replies.ensures.items)) refl;
-  stands = subst (λ w. StandsFor w w.run) c.self.view_is (world_stands c.self.inside.parts c.self.invariant);
-  nothing_gone = subst (λ w. NothingGone w w.run) c.self.view_is (world_retains c.self.inside.parts c.self.invariant);
+  stands = subst (λ w. StandsFor w w.run) c.self.view_is (world_stands c.self.inside.bare c.self.invariant);
+  nothing_gone = subst (λ w. NothingGone w w.run) c.self.view_is (world_retains c.self.inside.bare c.self.invariant);
   count = omega (arith, c.reserve.ensures.len, c.new-replies.ensures.len);
   room = grind (arith, c.in-Ok.ensures.ok, c.reserve.ensures.len, c.new-replies.ensures.len);
 }

@@ -1,0 +1,35 @@
+use Rattle.std.proofs.Common.{◌≡◌, Some, sym, ap, subst, ◌∙◌, slice_get}
+use Rattle.plain_logger.specs.declared.call.Reply.TheVariants.{Length}
+use Rattle.rank_node.specs.Storing.{next_unstored, after_store, Appends}
+use Rattle.world_model.specs.World.{Live, WorldValue}
+use Rattle.world_model.specs.Seats.{at_work, AtRank, with_value, IsAccepted, NotedAs}
+use Rattle.world_model.proofs.DoingStores.{store_accepted, store_named}
+use Rattle.world_model.proofs.bare_world.BareWorld.store.Goals as goal
+
+-- src/bare_world/storing.rt
+pub store-requires-clause-accepted : goal.store-requires-clause-accepted
+store-requires-clause-accepted c =
+    subst (λ (z : WorldValue). AtRank z.ranks c.in-Some.rank (λ (v : Live). IsAccepted z.logger c.in-Some.rank (next_unstored v.rank))) (sym c.self-2.view_is)
+    (subst (λ (z : WorldValue). AtRank z.ranks c.in-Some.rank (λ (v : Live). IsAccepted z.logger c.in-Some.rank (next_unstored v.rank)))
+    (sym c.in_ok-acts.ensures.others)
+    (store_accepted c.args.self.now c.in-Some.rank c.in-Some-running.running.now c.in-Some-oldest_unstored.event c.requires
+    (subst (λ z. slice_get z.ranks c.in-Some.rank ≡ Some (at_work c.in-Some-running.running.now)) c.self.view_is c.in-Some-running.ensures.some)
+    (sym c.oldest_unstored.ensures ∙ c.in-Some-oldest_unstored.is)))
+
+-- src/bare_world/storing.rt
+pub returns-clause-follows : goal.returns-clause-follows
+returns-clause-follows c =
+    let both = c.self-2.view_is ∙ c.in_ok-acts.ensures.others in
+    store_named c.args.self.now _ c.in-Some.rank c.args.rank c.in_ok-acts.acts c.in-Some-running.running.now
+    c.in-Some-oldest_unstored.event c.in-Ok.count c.in-Some.ensures.0
+    (subst (λ z. slice_get z.ranks c.in-Some.rank ≡ Some (at_work c.in-Some-running.running.now)) c.self.view_is c.in-Some-running.ensures.some)
+    (sym c.oldest_unstored.ensures ∙ c.in-Some-oldest_unstored.is)
+    (subst (λ z. NotedAs c.args.self.now.run c.in-Some.rank c.in-Some-oldest_unstored.event c.in_ok-acts.acts z)
+    (sym (ap (λ (z : WorldValue). z.run) c.self-2.view_is)) c.in_ok-acts.ensures.noted)
+    (subst (λ (z : WorldValue). AtRank z.ranks c.in-Some.rank
+    (λ (v : Live). Appends (next_unstored v.rank) c.in-Some.rank z.logger (Length c.in-Ok.count) c.store.new.logger))
+    both c.in-Ok.ensures.row)
+    (subst (λ (z : WorldValue). AtRank z.ranks c.in-Some.rank (λ (v : Live). c.store.new.self.ranks ≡ with_value z.ranks c.in-Some.rank v (after_store v.rank)))
+    both c.in-Ok.ensures.ok)
+    (c.in-Ok.ensures.program ∙ ap (λ (z : WorldValue). z.program) both) (c.in-Ok.ensures.images ∙ ap (λ (z : WorldValue). z.images) both)
+    (ap (λ (z : WorldValue). z.wires) both) (ap (λ (z : WorldValue). z.lines) both)

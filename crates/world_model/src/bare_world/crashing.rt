@@ -1,0 +1,24 @@
+//! Crashes.
+
+use crate::bare_world::BareWorld;
+use crate::reply::Reply;
+
+impl<'p> BareWorld<'p> {
+    ghost use Rattle.world_model.specs.declared.event.WorldEvent.TheVariants.{Crash};
+    ghost use Rattle.world_model.specs.Follows.{Follows};
+
+    /// The rank crashes, and nothing of it stays but what is stable.
+    #[tactic(auto, using(crate::proofs::DoingLives::crash_nowhere, crate::proofs::DoingLives::crash_down, crate::proofs::DoingLives::crash_some))]
+    pub fn crash(&mut self, rank: u32) -> Reply
+        ensures { Follows self.old (Crash rank) result self.new }
+    {
+        let Some(rank) = self.rank_of(rank) else {
+            return Reply::Refused;
+        };
+        if self.seats.is_down(rank) {
+            return Reply::Refused;
+        }
+        self.seats.crash(rank);
+        Reply::Crashed
+    }
+}
