@@ -2,9 +2,8 @@
 
 use crate::near::put_nearest;
 use crate::piece::{Piece, words_of};
-use crate::program::put_no_text;
-use crate::script::has_no_text;
 use crate::shown::{line_of, put_piece};
+use crate::wordless::put_wordless;
 use events_text::EventsFaultKind;
 use metered::Heap;
 use std::alloc::AllocError;
@@ -103,14 +102,10 @@ fn put_bad_line(
     line: &[u8],
     words: &[Piece<'_>],
 ) -> Result<(), AllocError> {
-    if has_no_text(line) {
-        return put_no_text(told, number, line);
+    if put_wordless(told, number, line, words)? {
+        return Ok(());
     }
     let first = words.first().copied();
-    if first.is_some_and(|word| word.text.first() == Some(&b'#')) {
-        put_piece(told, line, first)?;
-        return told.push_str("a comment begins at the line's first byte\n");
-    }
     let Some(form) = first.and_then(form_of) else {
         put_piece(told, line, first)?;
         told.push_str("no event begins so")?;

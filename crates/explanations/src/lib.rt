@@ -16,6 +16,7 @@ mod script;
 mod shown;
 mod unmet;
 mod value;
+mod wordless;
 
 pub use events::explain_events;
 pub use program::explain_program;

@@ -2,8 +2,8 @@
 
 use crate::near::{is_among, put_nearest};
 use crate::piece::{Piece, words_of};
-use crate::program::put_no_text;
 use crate::shown::{line_of, put_piece};
+use crate::wordless::put_wordless;
 use metered::Heap;
 use metered::limits::GREATEST_CLOCK;
 use script_text::{ScriptFault, ScriptFaultKind};
@@ -57,15 +57,8 @@ fn put_bad_line(
     line: &[u8],
     words: &[Piece<'_>],
 ) -> Result<(), AllocError> {
-    if has_no_text(line) {
-        return put_no_text(told, number, line);
-    }
-    if words
-        .first()
-        .is_some_and(|word| word.text.first() == Some(&b'#'))
-    {
-        put_piece(told, line, words.first().copied())?;
-        return told.push_str("a comment begins at the line's first byte\n");
+    if put_wordless(told, number, line, words)? {
+        return Ok(());
     }
     let (place, expected) = misfit(words);
     let word = words.get(place).copied();
@@ -76,11 +69,6 @@ fn put_bad_line(
     }
     write!(told, "; {FORM}\n")?;
     Ok(())
-}
-
-/// Whether some byte of the line is none of a text.
-pub fn has_no_text(line: &[u8]) -> bool {
-    line.iter().any(|byte| *byte < b' ' || b'~' < *byte)
 }
 
 // How many words fit, and what is expected behind them.
