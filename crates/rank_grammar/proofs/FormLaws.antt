@@ -6,6 +6,7 @@
 -- tokens have two forms (`one_form`).
 use Rattle.std.proofs.Common.{◌≡◌, ℕ, List, [], ◌∷◌, ◌++◌, Option, Some, None, Result, Ok, Err, IfOk, IfSome, refl, ap, ◌∙◌, sym, subst}
 use Rattle.std.specs.declared.alloc.AllocError.{AllocError}
+use Rattle.rank_grammar.specs.declared.token.Keyword.{Keyword}
 use Rattle.rank_grammar.specs.declared.token.Keyword.TheVariants as k
 use Rattle.rank_grammar.specs.declared.token.Reduction.{Reduction}
 use Rattle.rank_grammar.specs.declared.token.Token.{Token}
@@ -20,7 +21,7 @@ use Rattle.rank_grammar.specs.Forms.{send_form, recv_form, probe_form, try_probe
 use Rattle.rank_grammar.specs.Forms.{IsPattern, is_any, is_value, IsNoName, IsPayload, is_lone, is_one}
 use Rattle.rank_grammar.specs.Forms.{IsForm, is_var, is_array, is_let, is_let_item, is_if, is_else, is_end, is_while}
 use Rattle.rank_grammar.specs.Forms.{is_send, is_recv, is_probe, is_try_probe, is_print, is_barrier, is_bcast, is_reduce}
-use Rattle.rank_grammar.specs.Forms.{◌>>=◌, comma, bracket_assign, lone_name, pattern_at, whole_pattern, payload_of}
+use Rattle.rank_grammar.specs.Forms.{◌>>=◌, comma, bracket_assign, lone_name, pattern_at, envelope_at, whole_pattern, payload_of}
 use Rattle.rank_grammar.specs.Forms.{var_of, array_of, let_of, item_of, if_of, while_of}
 use Rattle.rank_grammar.specs.Forms.{send_of, recv_of, probe_of, try_probe_of, print_of, bcast_of, reduced_of, reduce_of, form_of}
 use Rattle.rank_grammar.specs.SeenForms.{form_in, form_seen}
@@ -64,6 +65,14 @@ whole_pattern_read : {ts : List Token} {c : Pattern} → IsPattern ts c → whol
 whole_pattern_read is_any = refl
 whole_pattern_read (is_value {ts} {e} d) = of_whole ts (read_whole ts e d)
 
+-- a source, a tag and a comma behind each are read as that envelope
+envelope_read : {ss gs : List Token} {s g : Pattern} → IsPattern ss s → IsPattern gs g → (vs : List Token)
+    → envelope_at (ss ++ t.Comma ∷ (gs ++ t.Comma ∷ vs)) ≡ Some (s, g, vs)
+unfolding envelope_at
+envelope_read {ss} {gs} {s} {g} ds dg vs =
+    ap (λ o. o >>= (λ s. comma s.1 >>= (λ us. pattern_at us >>= (λ g. comma g.1 >>= (λ vs. Some (s.0, g.0, vs)))))) (pattern_read ds (gs ++ t.Comma ∷ vs))
+    ∙ ap (λ o. o >>= (λ g. comma g.1 >>= (λ vs. Some (s, g.0, vs)))) (pattern_read dg vs)
+
 -- what has a form is read as that form
 pub form_read : {ts : List Token} {f : Form} → IsForm ts f → form_of ts ≡ Some f
 unfolding var_of array_of let_of item_of if_of while_of send_of recv_of probe_of try_probe_of print_of bcast_of reduced_of reduce_of
@@ -83,17 +92,13 @@ form_read (is_send {ds} {gs} {ps} {d} {g} {p} dd dg dp) =
     (complete dd (t.Comma ∷ (gs ++ t.Comma ∷ ps)) tt)
     ∙ ap (λ o. o >>= (λ g. comma g.1 >>= (λ vs. payload_of vs >>= (λ p. Some (send_form d g.0 p))))) (complete dg (t.Comma ∷ ps) tt)
     ∙ ap (λ o. o >>= (λ p. Some (send_form d g p))) (payload_read dp)
-form_read (is_recv {ss} {gs} {s} {g} {x} ds dg) =
-    ap (λ o. o >>= (λ s. comma s.1 >>= (λ us. pattern_at us >>= (λ g. comma g.1 >>= (λ vs. lone_name vs >>= (λ x. Some (recv_form s.0 g.0 x)))))))
-    (pattern_read ds (gs ++ t.Comma ∷ (t.Name x ∷ [])))
-    ∙ ap (λ o. o >>= (λ g. comma g.1 >>= (λ vs. lone_name vs >>= (λ x. Some (recv_form s g.0 x))))) (pattern_read dg (t.Name x ∷ []))
+form_read (is_recv {x = x} ds dg) =
+    ap (λ o. o >>= (λ e. lone_name e.2 >>= (λ x. Some (recv_form e.0 e.1 x)))) (envelope_read ds dg (t.Name x ∷ []))
 form_read (is_probe {ss} {gs} {s} {g} ds dg) =
     ap (λ o. o >>= (λ s. comma s.1 >>= (λ us. whole_pattern us >>= (λ g. Some (probe_form s.0 g))))) (pattern_read ds gs)
     ∙ ap (λ o. o >>= (λ g. Some (probe_form s g))) (whole_pattern_read dg)
-form_read (is_try_probe {ss} {gs} {s} {g} {x} ds dg) =
-    ap (λ o. o >>= (λ s. comma s.1 >>= (λ us. pattern_at us >>= (λ g. comma g.1 >>= (λ vs. lone_name vs >>= (λ x. Some (try_probe_form s.0 g.0 x)))))))
-    (pattern_read ds (gs ++ t.Comma ∷ (t.Name x ∷ [])))
-    ∙ ap (λ o. o >>= (λ g. comma g.1 >>= (λ vs. lone_name vs >>= (λ x. Some (try_probe_form s g.0 x))))) (pattern_read dg (t.Name x ∷ []))
+form_read (is_try_probe {x = x} ds dg) =
+    ap (λ o. o >>= (λ e. lone_name e.2 >>= (λ x. Some (try_probe_form e.0 e.1 x)))) (envelope_read ds dg (t.Name x ∷ []))
 form_read (is_print {ts} {e} d) = ap (λ o. o >>= (λ e. Some (print_form e))) (read_whole ts e d)
 form_read is_barrier = refl
 form_read (is_bcast {rs} {root} {x} d) =
@@ -176,13 +181,28 @@ pattern_spelled (t.Any ∷ ts) = (t.Any ∷ [], is_any, refl)
 pattern_spelled (token ∷ ts) = valued (expression_at (token ∷ ts)) (token ∷ ts) (sound (token ∷ ts))
 
 -- a pattern, a comma and more
-pattern_comma : (o : Option (Pattern × List Token)) (ts : List Token) (next : Pattern → List Token → Option Form) (all : List Token)
+pattern_comma : {B : Type 0} (Holds : Option B → Type 0) → Holds None
+    → (o : Option (Pattern × List Token)) (ts : List Token) (next : Pattern → List Token → Option B)
     → PatternIs o ts
-    → ((c : Pattern) (ds us : List Token) → IsPattern ds c → ts ≡ ds ++ t.Comma ∷ us → FormIs (next c us) all)
-    → FormIs (o >>= (λ d. comma d.1 >>= (λ us. next d.0 us))) all
-pattern_comma None ts next all h build = tt
-pattern_comma (Some (c, (t.Comma ∷ us))) ts next all h build = build c h.0 us h.1 h.2
-pattern_comma (Some (c, _)) ts next all h build = tt
+    → ((c : Pattern) (ds us : List Token) → IsPattern ds c → ts ≡ ds ++ t.Comma ∷ us → Holds (next c us))
+    → Holds (o >>= (λ d. comma d.1 >>= (λ us. next d.0 us)))
+pattern_comma Holds none None ts next h build = none
+pattern_comma Holds none (Some (c, (t.Comma ∷ us))) ts next h build = build c h.0 us h.1 h.2
+pattern_comma Holds none (Some (c, _)) ts next h build = none
+
+-- the tokens begin with the source and the tag, where there are both, and end with what is behind them
+abbrev EnvelopeIs : Option (Pattern × Pattern × List Token) → List Token → Type 0
+EnvelopeIs None ts = Unit {0}
+EnvelopeIs (Some e) ts = (ss gs : List Token) × IsPattern ss e.0 × IsPattern gs e.1 × (ts ≡ ss ++ t.Comma ∷ (gs ++ t.Comma ∷ e.2))
+
+-- what is read as the source and the tag in front are both
+envelope_spelled : (ts : List Token) → EnvelopeIs (envelope_at ts) ts
+unfolding envelope_at
+envelope_spelled ts =
+    pattern_comma (λ o. EnvelopeIs o ts) tt (pattern_at ts) ts (λ s us. pattern_at us >>= (λ g. comma g.1 >>= (λ vs. Some (s, g.0, vs))))
+    (pattern_spelled ts) (λ s ss us ds q.
+    pattern_comma (λ o. EnvelopeIs o ts) tt (pattern_at us) us (λ g vs. Some (s, g, vs)) (pattern_spelled us) (λ g gs vs dg r.
+    (ss, gs, ds, dg, q ∙ ap (λ z. ss ++ t.Comma ∷ z) r)))
 
 -- a name and nothing more
 last_name : (vs : List Token) (make : List ℕ → Form) (all : List Token)
@@ -191,29 +211,27 @@ last_name (t.Name x ∷ []) make all build = build x refl
 last_name (t.Name x ∷ (y ∷ vs)) make all build = tt
 last_name _ make all build = tt
 
+-- a source, a tag and a name, and nothing more
+envelope_name : (o : Option (Pattern × Pattern × List Token)) (ts : List Token) (word : Keyword) (make : Pattern → Pattern → List ℕ → Form)
+    → EnvelopeIs o ts
+    → ((ss gs : List Token) (s g : Pattern) (x : List ℕ) → IsPattern ss s → IsPattern gs g
+    → IsForm (t.Keyword word ∷ (ss ++ t.Comma ∷ (gs ++ t.Comma ∷ (t.Name x ∷ [])))) (make s g x))
+    → FormIs (o >>= (λ e. lone_name e.2 >>= (λ x. Some (make e.0 e.1 x)))) (t.Keyword word ∷ ts)
+envelope_name None ts word make h build = tt
+envelope_name (Some (s, g, vs)) ts word make h build =
+    last_name vs (make s g) (t.Keyword word ∷ ts) (λ x l.
+    subst (λ z. IsForm (t.Keyword word ∷ z) (make s g x)) (sym (h.4 ∙ ap (λ z. h.0 ++ t.Comma ∷ (h.1 ++ t.Comma ∷ z)) l))
+    (build h.0 h.1 s g x h.2 h.3))
+
 -- what is read as a receive is one
 recv_spelled : (ts : List Token) → FormIs (form_of (t.Keyword k.Recv ∷ ts)) (t.Keyword k.Recv ∷ ts)
 unfolding recv_of
-recv_spelled ts =
-    pattern_comma (pattern_at ts) ts
-    (λ s us. pattern_at us >>= (λ g. comma g.1 >>= (λ vs. lone_name vs >>= (λ x. Some (recv_form s g.0 x)))))
-    (t.Keyword k.Recv ∷ ts) (pattern_spelled ts) (λ s ds us dd q.
-    pattern_comma (pattern_at us) us (λ g vs. lone_name vs >>= (λ x. Some (recv_form s g x))) (t.Keyword k.Recv ∷ ts) (pattern_spelled us) (λ g gs vs dg r.
-    last_name vs (recv_form s g) (t.Keyword k.Recv ∷ ts) (λ x l.
-    subst (λ z. IsForm (t.Keyword k.Recv ∷ z) (recv_form s g x)) (sym (q ∙ ap (λ z. ds ++ t.Comma ∷ z) (r ∙ ap (λ z. gs ++ t.Comma ∷ z) l))) (is_recv dd dg))))
+recv_spelled ts = envelope_name (envelope_at ts) ts k.Recv recv_form (envelope_spelled ts) (λ ss gs s g x ds dg. is_recv ds dg)
 
 -- what is read as an `iprobe` is one
 try_probe_spelled : (ts : List Token) → FormIs (form_of (t.Keyword k.Iprobe ∷ ts)) (t.Keyword k.Iprobe ∷ ts)
 unfolding try_probe_of
-try_probe_spelled ts =
-    pattern_comma (pattern_at ts) ts
-    (λ s us. pattern_at us >>= (λ g. comma g.1 >>= (λ vs. lone_name vs >>= (λ x. Some (try_probe_form s g.0 x)))))
-    (t.Keyword k.Iprobe ∷ ts) (pattern_spelled ts) (λ s ds us dd q.
-    pattern_comma (pattern_at us) us (λ g vs. lone_name vs >>= (λ x. Some (try_probe_form s g x)))
-    (t.Keyword k.Iprobe ∷ ts) (pattern_spelled us) (λ g gs vs dg r.
-    last_name vs (try_probe_form s g) (t.Keyword k.Iprobe ∷ ts) (λ x l.
-    subst (λ z. IsForm (t.Keyword k.Iprobe ∷ z) (try_probe_form s g x))
-    (sym (q ∙ ap (λ z. ds ++ t.Comma ∷ z) (r ∙ ap (λ z. gs ++ t.Comma ∷ z) l))) (is_try_probe dd dg))))
+try_probe_spelled ts = envelope_name (envelope_at ts) ts k.Iprobe try_probe_form (envelope_spelled ts) (λ ss gs s g x ds dg. is_try_probe ds dg)
 
 -- the tokens are the pattern, where there is one
 abbrev WholePatternIs : Option Pattern → List Token → Type 0
@@ -242,7 +260,8 @@ last_pattern (Some g) us make all h build = build g h
 probe_spelled : (ts : List Token) → FormIs (form_of (t.Keyword k.Probe ∷ ts)) (t.Keyword k.Probe ∷ ts)
 unfolding probe_of
 probe_spelled ts =
-    pattern_comma (pattern_at ts) ts (λ s us. whole_pattern us >>= (λ g. Some (probe_form s g))) (t.Keyword k.Probe ∷ ts) (pattern_spelled ts) (λ s ds us dd q.
+    pattern_comma (λ o. FormIs o (t.Keyword k.Probe ∷ ts)) tt (pattern_at ts) ts (λ s us. whole_pattern us >>= (λ g. Some (probe_form s g)))
+    (pattern_spelled ts) (λ s ds us dd q.
     last_pattern (whole_pattern us) us (probe_form s) (t.Keyword k.Probe ∷ ts) (whole_pattern_spelled us) (λ g dg.
     subst (λ z. IsForm (t.Keyword k.Probe ∷ z) (probe_form s g)) (sym q) (is_probe dd dg)))
 

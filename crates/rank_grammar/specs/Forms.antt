@@ -119,6 +119,15 @@ pattern_at ts = do
   e ← expression_at ts
   Some (value e.0, e.1)
 
+-- the source and the tag in front, each with the comma behind it, and the tokens after them
+unfoldable pub envelope_at : List Token → Option (Pattern × Pattern × List Token)
+envelope_at ts = do
+  s ← pattern_at ts
+  us ← comma s.1
+  g ← pattern_at us
+  vs ← comma g.1
+  Some (s.0, g.0, vs)
+
 -- the pattern that all of the tokens are
 abbrev pub whole_pattern : List Token → Option Pattern
 whole_pattern (t.Any ∷ []) = Some any
@@ -190,12 +199,9 @@ send_of ts = do
 -- the form of `recv` with these arguments
 unfoldable pub recv_of : List Token → Option Form
 recv_of ts = do
-  s ← pattern_at ts
-  us ← comma s.1
-  g ← pattern_at us
-  vs ← comma g.1
-  x ← lone_name vs
-  Some (recv_form s.0 g.0 x)
+  e ← envelope_at ts
+  x ← lone_name e.2
+  Some (recv_form e.0 e.1 x)
 
 -- the form of `probe` with these arguments
 unfoldable pub probe_of : List Token → Option Form
@@ -208,12 +214,9 @@ probe_of ts = do
 -- the form of `iprobe` with these arguments
 unfoldable pub try_probe_of : List Token → Option Form
 try_probe_of ts = do
-  s ← pattern_at ts
-  us ← comma s.1
-  g ← pattern_at us
-  vs ← comma g.1
-  x ← lone_name vs
-  Some (try_probe_form s.0 g.0 x)
+  e ← envelope_at ts
+  x ← lone_name e.2
+  Some (try_probe_form e.0 e.1 x)
 
 -- the form of `print` with these arguments
 unfoldable pub print_of : List Token → Option Form

@@ -55,6 +55,11 @@ abbrev pub pattern_in : Option (source_pattern.Pattern × Bor (List Token)) → 
 pattern_in None = None
 pattern_in (Some c) = Some (pattern_of c.0, c.1.now)
 
+-- the source and the tag in front, and the tokens after them
+abbrev pub envelope_in : Option (source_pattern.Pattern × source_pattern.Pattern × Bor (List Token)) → Option (Pattern × Pattern × List Token)
+envelope_in None = None
+envelope_in (Some e) = Some (pattern_of e.0, pattern_of e.1, e.2.now)
+
 -- the pattern that all of the tokens are
 abbrev pub whole_pattern_in : Option source_pattern.Pattern → Option Pattern
 whole_pattern_in None = None

@@ -1,8 +1,8 @@
 //! What the arguments of several statements are made of.
 ghost use Rattle.std.specs.Prelude.{◌≡◌, IfOk, Some};
 ghost use Rattle.rank_grammar.specs.declared.token.Token.{Token};
-ghost use Rattle.rank_grammar.specs.Forms.{comma, bracket_assign, lone_name, pattern_at, whole_pattern, payload_of};
-ghost use Rattle.rank_grammar.specs.SeenForms.{payload_in, pattern_in, whole_pattern_in, rest_in, lone_in};
+ghost use Rattle.rank_grammar.specs.Forms.{comma, bracket_assign, lone_name, pattern_at, envelope_at, whole_pattern, payload_of};
+ghost use Rattle.rank_grammar.specs.SeenForms.{payload_in, pattern_in, envelope_in, whole_pattern_in, rest_in, lone_in};
 
 use crate::form::{Pattern, Payload};
 use crate::name::Name;
@@ -51,6 +51,41 @@ pub(super) fn pattern_in_front(
         return Ok(None);
     };
     Ok(Some((Pattern::Value(value), rest)))
+}
+
+/// The source and the tag in front, each with the comma behind it, and the
+/// tokens after them.
+#[tactic(auto, unfolding(crate::specs::Forms::envelope_at))]
+pub(super) fn envelope_in_front(
+    alloc: Heap,
+    tokens: &[Token],
+) -> Result<Option<(Pattern, Pattern, &[Token])>, AllocError>
+    ensures { IfOk result (λ e. envelope_in e ≡ envelope_at tokens.now) }
+{
+    let Some((source, rest)) = pattern_in_front(alloc, tokens)? else {
+        return Ok(None);
+    };
+    let Some(rest) = after_comma(rest) else {
+        drop(source);
+        return Ok(None);
+    };
+    let (tag, rest) = match pattern_in_front(alloc, rest) {
+        Ok(Some(found)) => found,
+        Ok(None) => {
+            drop(source);
+            return Ok(None);
+        }
+        Err(error) => {
+            drop(source);
+            return Err(error);
+        }
+    };
+    let Some(rest) = after_comma(rest) else {
+        drop(source);
+        drop(tag);
+        return Ok(None);
+    };
+    Ok(Some((source, tag, rest)))
 }
 
 pub(super) fn whole_pattern(alloc: Heap, tokens: &[Token]) -> Result<Option<Pattern>, AllocError>

@@ -5,7 +5,9 @@ ghost use Rattle.rank_grammar.specs.Forms.{whole_pattern};
 ghost use Rattle.rank_grammar.specs.Forms.{send_of, recv_of, probe_of, try_probe_of};
 ghost use Rattle.rank_grammar.specs.SeenForms.{form_in};
 
-use super::arguments::{after_comma, only_name, pattern_in_front, read_payload, whole_pattern};
+use super::arguments::{
+    after_comma, envelope_in_front, only_name, pattern_in_front, read_payload, whole_pattern,
+};
 use crate::form::Form;
 use crate::reader::expression_at;
 use crate::token::Token;
@@ -59,27 +61,7 @@ pub(super) fn read_send(alloc: Heap, tokens: &[Token]) -> Result<Option<Form>, A
 pub(super) fn read_recv(alloc: Heap, tokens: &[Token]) -> Result<Option<Form>, AllocError>
     ensures { IfOk result (λ f. form_in f ≡ recv_of tokens.now) }
 {
-    let Some((source, rest)) = pattern_in_front(alloc, tokens)? else {
-        return Ok(None);
-    };
-    let Some(rest) = after_comma(rest) else {
-        drop(source);
-        return Ok(None);
-    };
-    let (tag, rest) = match pattern_in_front(alloc, rest) {
-        Ok(Some(found)) => found,
-        Ok(None) => {
-            drop(source);
-            return Ok(None);
-        }
-        Err(error) => {
-            drop(source);
-            return Err(error);
-        }
-    };
-    let Some(rest) = after_comma(rest) else {
-        drop(source);
-        drop(tag);
+    let Some((source, tag, rest)) = envelope_in_front(alloc, tokens)? else {
         return Ok(None);
     };
     let Some(buffer) = only_name(rest) else {
@@ -119,27 +101,7 @@ pub(super) fn read_probe(alloc: Heap, tokens: &[Token]) -> Result<Option<Form>, 
 pub(super) fn read_try_probe(alloc: Heap, tokens: &[Token]) -> Result<Option<Form>, AllocError>
     ensures { IfOk result (λ f. form_in f ≡ try_probe_of tokens.now) }
 {
-    let Some((source, rest)) = pattern_in_front(alloc, tokens)? else {
-        return Ok(None);
-    };
-    let Some(rest) = after_comma(rest) else {
-        drop(source);
-        return Ok(None);
-    };
-    let (tag, rest) = match pattern_in_front(alloc, rest) {
-        Ok(Some(found)) => found,
-        Ok(None) => {
-            drop(source);
-            return Ok(None);
-        }
-        Err(error) => {
-            drop(source);
-            return Err(error);
-        }
-    };
-    let Some(rest) = after_comma(rest) else {
-        drop(source);
-        drop(tag);
+    let Some((source, tag, rest)) = envelope_in_front(alloc, tokens)? else {
         return Ok(None);
     };
     let Some(flag) = only_name(rest) else {
