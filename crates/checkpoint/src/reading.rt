@@ -3,7 +3,6 @@ ghost use Rattle.std.specs.Prelude.{◌≡◌, ◌<◌, ◌≤◌, length, IfOk,
 ghost use Rattle.std.specs.Int.{w64};
 ghost use Rattle.metered.specs.Limits.{greatest_clock};
 ghost use Rattle.matching.specs.PacketValue.{greatest_tag, least_items, most_items};
-ghost use Rattle.checkpoint.specs.declared.fault.ImageFault.TheVariants as fault;
 ghost use Rattle.checkpoint.specs.Reading.{Gives, number_at, count_at, value_at, values_at, context_at, tail_at};
 
 use crate::fault::ImageFault;

@@ -292,8 +292,9 @@ pub done_take : {program : ProgramValue} {machines : List MachineValue} {channel
     → m'.position ≡ position_after_act m (takes s (suc i)) m'.fault → KeepsRank m m'
     → IsDone program machines (with_emptied channels r s i) C r m' (choice.Take source index) (takes s index)
 done_take {program} {machines} {channels} {C} {r} {source} {index} {s} {i} {m} {m'} {w} {p} kept there a found slot state position stays =
-    done_found program machines channels (with_emptied channels r s i) C r source index s i m m' (want.Receive w) w takes p (receiving w) kept there a found slot
-    state position stays (mail_take (length machines) channels C r s i kept.mail kept.few (slice_get_within machines r m there) found.there)
+    done_found program machines channels (with_emptied channels r s i) C r source index s i m m' (want.Receive w) w takes p (receiving w)
+    kept there a found slot state position stays
+    (mail_take (length machines) channels C r s i kept.mail kept.few (slice_get_within machines r m there) found.there)
 
 -- the message that was found is hit, and stays
 pub done_hit : {program : ProgramValue} {machines : List MachineValue} {channels : List (List Slot)} {C : List Passed} {r source index s i : ℕ}

@@ -15,7 +15,8 @@ use Rattle.crash_free.proofs.Taking.{taken_after, sent_same, untaken_beyond}
 use Rattle.crash_free.proofs.SlotLemmas.{slots_same, slots-push, slots_take}
 
 -- the list of a pair is its own
-channel-set_same : (channels : List (List Slot)) (s r : ℕ) (x : List Slot) → place_of s r < length channels → channel (slice_set channels (place_of s r) x) s r ≡ x
+channel-set_same : (channels : List (List Slot)) (s r : ℕ) (x : List Slot) → place_of s r < length channels
+    → channel (slice_set channels (place_of s r) x) s r ≡ x
 channel-set_same channels s r x low = get_or-set_same channels (place_of s r) x [] low
 
 -- and the other pairs' lists stay
@@ -45,7 +46,8 @@ and_false true = refl
 and_false false = refl
 
 -- an act that sends nothing and takes nothing leaves all slots
-mail_same : (n : ℕ) (channels : List (List Slot)) (C : List Passed) (q : ℕ) (a : Act) → ((k r : ℕ) → send_at k r a [] ≡ []) → ((s j : ℕ) → takes_it s j a ≡ false)
+mail_same : (n : ℕ) (channels : List (List Slot)) (C : List Passed) (q : ℕ) (a : Act)
+    → ((k r : ℕ) → send_at k r a [] ≡ []) → ((s j : ℕ) → takes_it s j a ≡ false)
     → IsMail n channels C → IsMail n channels (record { rank = q; act = a } ∷ C)
 mail_same n channels C q a silent none mail =
     record {
@@ -82,7 +84,8 @@ message_of C q context tag items = record { clock = length (history C q) + 1; co
 
 -- the slots of a pair of ranks with one more, and those of all pairs
 abbrev longer_by : List (List Slot) → ℕ → ℕ → Context → ℕ → List ℤ → List Slot
-longer_by channels q d context tag items = channel channels q d ++ Some (record { source = q; clock = 1; number = 1; context = context; tag = tag; items = items }) ∷ []
+longer_by channels q d context tag items =
+    channel channels q d ++ Some (record { source = q; clock = 1; number = 1; context = context; tag = tag; items = items }) ∷ []
 
 abbrev pub with_slot : List (List Slot) → ℕ → ℕ → Context → ℕ → List ℤ → List (List Slot)
 with_slot channels q d context tag items = slice_set channels (place_of q d) (longer_by channels q d context tag items)
@@ -162,10 +165,13 @@ mail_take n channels C q s₀ i mail few receiver sender =
     other : (r s : ℕ) → r < n → s < n → ((s ≡ s₀) × (r ≡ q) → ⊥) → ((j : ℕ) → (q == r && takes_it s j (takes s₀ (suc i))) ≡ false)
         → channel (with_emptied channels q s₀ i) s r ≡ slots_of (taking C q s₀ i) s r
     other r s rank source differ no_take =
-        channel-set_other channels s₀ q s r (emptied channels q s₀ i) (λ e. differ (omega (arith, e, source, sender, few), omega (arith, e, source, sender, few)))
-        ∙ mail.each r s rank source ∙ sym (slots_kept C q (takes s₀ (suc i)) s r (sent_same C q (takes s₀ (suc i)) s r (λ k. refl)) no_take)
+        channel-set_other channels s₀ q s r (emptied channels q s₀ i)
+        (λ e. differ (omega (arith, e, source, sender, few), omega (arith, e, source, sender, few)))
+        ∙ mail.each r s rank source
+        ∙ sym (slots_kept C q (takes s₀ (suc i)) s r (sent_same C q (takes s₀ (suc i)) s r (λ k. refl)) no_take)
 
-    go : (r s : ℕ) → r < n → s < n → (q ≡ r) ⊎ (q ≡ r → ⊥) → (s₀ ≡ s) ⊎ (s₀ ≡ s → ⊥) → channel (with_emptied channels q s₀ i) s r ≡ slots_of (taking C q s₀ i) s r
+    go : (r s : ℕ) → r < n → s < n → (q ≡ r) ⊎ (q ≡ r → ⊥) → (s₀ ≡ s) ⊎ (s₀ ≡ s → ⊥)
+        → channel (with_emptied channels q s₀ i) s r ≡ slots_of (taking C q s₀ i) s r
     go r s rank source (inl e) (inl f) =
         subst (λ z. channel (with_emptied channels q s₀ i) z r ≡ slots_of (taking C q s₀ i) z r) f
         (subst (λ z. channel (with_emptied channels q s₀ i) s₀ z ≡ slots_of (taking C q s₀ i) s₀ z) e

@@ -2,6 +2,7 @@
 use Rattle.matching.specs.PacketValue.{PacketValue}
 use Rattle.matching.specs.declared.packet.Packet.TheInside.{Inside}
 
+-- the packet that these fields are
 abbrev pub seen : Inside → PacketValue
 seen p = record {
   source = p.source;

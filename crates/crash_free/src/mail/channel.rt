@@ -26,7 +26,7 @@ impl Model for Channel {
 
     ghost view = { λ l. l.slots.items };
 
-    ghost invariant = { λ l. IsIndex l.index l.slots.items };
+    ghost invariant = { λ c. IsIndex c.index c.slots.items };
 }
 
 impl Clone for Channel {
