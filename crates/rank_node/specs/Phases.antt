@@ -1,10 +1,9 @@
--- What stays of a rank, whether it runs, replays or is down (fail-stop processes with stable storage: Schlichting and
--- Schneider, "Fail-Stop Processors", 1983).
+-- A rank in any phase: what of it is stable, what it still has to replay, its frames and its copies (fail-stop processes with
+-- stable storage: Schlichting and Schneider, "Fail-Stop Processors", 1983).
 use Rattle.std.specs.Prelude.{ℕ, List, [], ◌∷◌, Option, Some, None}
 use Rattle.plain_logger.specs.Event.{EventValue}
 use Rattle.rank_node.specs.Copied.{node_with, stored_with}
 use Rattle.rank_node.specs.Frames.{after_frame, after_passed, arrival_of, outgoing_of}
-use Rattle.rank_node.specs.Node.{Node}
 use Rattle.rank_node.specs.Replay.{Replay}
 use Rattle.rank_node.specs.Stored.{Stored}
 use Rattle.rank_node.specs.declared.frame.Frame.{Frame}
@@ -13,16 +12,10 @@ use Rattle.rank_node.specs.declared.phase.Phase.TheVariants as phase
 use Rattle.rank_node.specs.declared.turn.Arrived.{Arrived}
 
 -- what outlives a crash of the rank
-abbrev pub stable_of : {S D : Type 0} → Phase S D → Stored S D
-stable_of (phase.Running v) = v.stable
-stable_of (phase.Replaying r) = r.node.stable
-stable_of (phase.Down s) = s
-
--- what of the rank is in memory; nothing where it is down
-abbrev pub node_of : {S D : Type 0} → Phase S D → Option (Node S D)
-node_of (phase.Running v) = Some v
-node_of (phase.Replaying r) = Some r.node
-node_of (phase.Down s) = None
+abbrev pub stable_in : {S D : Type 0} → Phase S D → Stored S D
+stable_in (phase.Running v) = v.stable
+stable_in (phase.Replaying r) = r.node.stable
+stable_in (phase.Down s) = s
 
 -- how many acts the rank has made; none where it is down
 abbrev pub clock_in : {S D : Type 0} → Phase S D → ℕ
@@ -42,10 +35,10 @@ settled_replay r [] = phase.Running r.node
 settled_replay r (e ∷ left) = phase.Replaying r
 
 -- the same of a rank in any phase
-abbrev pub settled_of : {S D : Type 0} → Phase S D → Phase S D
-settled_of (phase.Running v) = phase.Running v
-settled_of (phase.Replaying r) = settled_replay r r.left
-settled_of (phase.Down s) = phase.Down s
+abbrev pub settled_in : {S D : Type 0} → Phase S D → Phase S D
+settled_in (phase.Running v) = phase.Running v
+settled_in (phase.Replaying r) = settled_replay r r.left
+settled_in (phase.Down s) = phase.Down s
 
 -- ---- frames
 
@@ -56,10 +49,10 @@ arrival_in (phase.Replaying r) source frame = Some (arrival_of r.node source fra
 arrival_in (phase.Down s) source frame = None
 
 -- the rank after a frame that came from a rank; one that is down drops it
-abbrev pub arrived : {S D : Type 0} → Phase S D → ℕ → Frame → Phase S D
-arrived (phase.Running v) source frame = phase.Running (after_frame v source frame)
-arrived (phase.Replaying r) source frame = phase.Replaying (record r { node = after_frame r.node source frame })
-arrived (phase.Down s) source frame = phase.Down s
+abbrev pub arrived_in : {S D : Type 0} → Phase S D → ℕ → Frame → Phase S D
+arrived_in (phase.Running v) source frame = phase.Running (after_frame v source frame)
+arrived_in (phase.Replaying r) source frame = phase.Replaying (record r { node = after_frame r.node source frame })
+arrived_in (phase.Down s) source frame = phase.Down s
 
 -- what goes to a rank next; nothing from one that is down
 abbrev pub outgoing_in : {S D : Type 0} → Phase S D → ℕ → Option Frame
@@ -68,10 +61,10 @@ outgoing_in (phase.Replaying r) dest = outgoing_of r.node dest
 outgoing_in (phase.Down s) dest = None
 
 -- the rank after what is outgoing has gone
-abbrev pub passed : {S D : Type 0} → Phase S D → ℕ → Phase S D
-passed (phase.Running v) dest = phase.Running (after_passed v dest)
-passed (phase.Replaying r) dest = phase.Replaying (record r { node = after_passed r.node dest })
-passed (phase.Down s) dest = phase.Down s
+abbrev pub passed_in : {S D : Type 0} → Phase S D → ℕ → Phase S D
+passed_in (phase.Running v) dest = phase.Running (after_passed v dest)
+passed_in (phase.Replaying r) dest = phase.Replaying (record r { node = after_passed r.node dest })
+passed_in (phase.Down s) dest = phase.Down s
 
 -- ---- copies
 

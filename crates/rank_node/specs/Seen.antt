@@ -2,6 +2,7 @@
 use Rattle.rank_node.specs.Node.{Node}
 use Rattle.rank_node.specs.declared.running.Running.TheInside.{Inside}
 
+-- the rank that these fields are
 abbrev pub seen : {S D : Type 0} → Inside S D → Node S D
 seen r = record {
   stable = r.stable;

@@ -80,7 +80,7 @@ impl Pending {
 
     /// Whether a miss joins what waits last: a miss or a run of misses that
     /// isn't stored.
-    #[tactic(auto, using(crate::proofs::Joining::joins_stored, crate::proofs::Joining::joins_last,))]
+    #[tactic(auto, using(crate::proofs::Joining::joins_stored, crate::proofs::Joining::joins_last))]
     pub fn joins(&self) -> bool
         ensures { result ≡ joins self.now.stored self.now.waiting }
     {

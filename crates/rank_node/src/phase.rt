@@ -1,6 +1,7 @@
 //! A rank, whatever it does.
-ghost use Rattle.std.specs.Prelude.{◌≡◌, length};
-ghost use Rattle.rank_node.specs.Phases.{stable_of, settled_of, settled_replay, clock_in, left_in};
+ghost use Rattle.std.specs.Prelude.{◌≡◌, ◌≤◌, length};
+ghost use Rattle.metered.specs.Limits.{most_events};
+ghost use Rattle.rank_node.specs.Phases.{stable_in, settled_in, settled_replay, clock_in, left_in};
 
 mod copying;
 mod frames;
@@ -22,7 +23,7 @@ impl<'p, S: Shelf, D> Phase<'p, S, D> {
     /// The rank is down, whatever it was: what is stable outlives the crash,
     /// and nothing else does. It takes no memory.
     pub fn crash(self) -> Down<S, D>
-        ensures { result ≡ stable_of self.entry }
+        ensures { result ≡ stable_in self.entry }
     {
         match self {
             Phase::Running(rank) => rank.crash(),
@@ -33,15 +34,15 @@ impl<'p, S: Shelf, D> Phase<'p, S, D> {
 
     /// The rank stops for good.
     pub fn retire(self) -> Stable<S, D>
-        ensures { result ≡ stable_of self.entry }
+        ensures { result ≡ stable_in self.entry }
     {
         self.crash().retire()
     }
 
     /// A rank that has nothing left to replay runs. Any other stays as it is.
     pub fn settled(self) -> Phase<'p, S, D>
-        ensures settled { result ≡ settled_of self.entry }
-        ensures stable { stable_of result ≡ stable_of self.entry }
+        ensures settled { result ≡ settled_in self.entry }
+        ensures stable { stable_in result ≡ stable_in self.entry }
     {
         match self {
             Phase::Replaying(rank) => settled(rank),
@@ -63,7 +64,8 @@ impl<'p, S: Shelf, D> Phase<'p, S, D> {
 
     /// How many events it still has to replay; none where it runs or is down.
     pub fn left(&self) -> u32
-        ensures { result ≡ length (left_in self.now) }
+        ensures left { result ≡ length (left_in self.now) }
+        ensures most { result ≤ most_events }
     {
         match self {
             Phase::Replaying(rank) => rank.left(),
@@ -75,7 +77,7 @@ impl<'p, S: Shelf, D> Phase<'p, S, D> {
 #[tactic(auto, using(crate::proofs::Phases::goes_on, crate::proofs::Phases::is_done))]
 fn settled<'p, S: Shelf, D>(rank: Replaying<'p, S, D>) -> Phase<'p, S, D>
     ensures settled { result ≡ settled_replay rank.entry rank.entry.left }
-    ensures stable { stable_of result ≡ rank.entry.node.stable }
+    ensures stable { stable_in result ≡ rank.entry.node.stable }
 {
     if rank.left() > 0 {
         return Phase::Replaying(rank);

@@ -17,10 +17,9 @@ use rank_machine::{Want, Wanted};
 use std::marker::Model;
 
 /// A rank that replays. It must be settled, crashed or retired.
-///
-/// What is the same in a replay it hands on to the rank that runs: frames,
-/// strides, clock, and what is read. What those calls keep apart is that the
-/// events left stay, and that nothing waits at the gate.
+// It hands the rank that runs what is the same in a replay: frames, strides,
+// clock, and what is read. Its own clauses add that the events left stay, and
+// that nothing waits at the gate.
 pub struct Replaying<'p, S: Shelf, D> {
     pub(crate) running: Running<'p, S, D>,
     // what its row had above the clock of its beginning

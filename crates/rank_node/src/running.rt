@@ -19,9 +19,8 @@ use std::alloc::AllocError;
 use std::marker::Model;
 
 /// A rank that runs. It must be spent, as by `retire`.
-///
-/// Its machine, the list at its gate and its shelf are handed on what is theirs
-/// alone, so that whoever drives a rank has one value under one invariant.
+// It hands its machine, the list at its gate and its shelf what is theirs alone,
+// so that whoever drives a rank has one value under one invariant.
 pub struct Running<'p, S: Shelf, D> {
     pub(crate) stable: Stable<S, D>,
     pub(crate) alloc: Heap,

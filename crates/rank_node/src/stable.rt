@@ -7,10 +7,10 @@ use checkpoint::{Shelf, ShelfFault};
 use metered::Heap;
 use std::marker::Model;
 
-/// A rank's desk at the logger, its shelf, and which of how many ranks it is:
-/// calls on the shelf leave all else, as their `same` says.
+/// A rank's desk at the logger, its shelf, and which of how many ranks it is.
 ///
 /// There are at most `MOST_RANKS` of `metered::limits`. The value must be spent.
+// Calls on the shelf leave all else, as their clause `same` says.
 pub struct Stable<S: Shelf, D> {
     pub(crate) desk: D,
     shelf: S,

@@ -6,7 +6,7 @@ use Rattle.event_logger.specs.Desks.{DeskValue}
 use Rattle.matching.specs.Inbox.{after_arrival}
 use Rattle.rank_node.specs.Frames.{after_frame, after_passed, outgoing_of, sent_off, with_inbox}
 use Rattle.rank_node.specs.Node.{Node}
-use Rattle.rank_node.specs.Phases.{arrived, passed}
+use Rattle.rank_node.specs.Phases.{arrived_in, passed_in}
 use Rattle.rank_node.specs.declared.frame.Frame.{Frame}
 use Rattle.rank_node.specs.declared.phase.Phase.TheVariants as phase
 use Rattle.rank_threads.specs.Phases.{gate_in, gate_of, HasImage, SameShelf, TookImage}
@@ -24,7 +24,7 @@ frame_waits v from (frame.Ask number) = refl
 frame_waits v from (frame.Kept number) = refl
 
 -- of a rank in any phase
-pub arrived_waits : (p : Phase) (from : ℕ) (f : Frame) → gate_in (arrived p from f) ≡ gate_in p
+pub arrived_waits : (p : Phase) (from : ℕ) (f : Frame) → gate_in (arrived_in p from f) ≡ gate_in p
 arrived_waits (phase.Running v) from f = frame_waits v from f
 arrived_waits (phase.Replaying r) from f = refl
 arrived_waits (phase.Down s) from f = refl
@@ -49,7 +49,7 @@ passed_waits : (v : Node MemoryShelf DeskValue) (dest : ℕ) → gate_of (after_
 passed_waits v dest = sent_waits v dest (outgoing_of v dest)
 
 -- of a rank in any phase
-pub gone_waits : (p : Phase) (dest : ℕ) → gate_in (passed p dest) ≡ gate_in p
+pub gone_waits : (p : Phase) (dest : ℕ) → gate_in (passed_in p dest) ≡ gate_in p
 gone_waits (phase.Running v) dest = passed_waits v dest
 gone_waits (phase.Replaying r) dest = refl
 gone_waits (phase.Down s) dest = refl

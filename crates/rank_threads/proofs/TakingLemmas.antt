@@ -5,8 +5,8 @@ use Rattle.std.proofs.Common.{◌+◌, ◌||◌, refl, sym, subst, ap, ◌∙◌
 use Rattle.std.proofs.lemmas.List.{length-set}
 use Rattle.ports.specs.Lanes.{RxValue, taken_of}
 use Rattle.rank_node.specs.declared.frame.Frame.{Frame}
+use Rattle.rank_node.specs.Phases.{arrived_in}
 use Rattle.rank_threads.proofs.PuttingLemmas.{set_here, same_there, set_elsewhere}
-use Rattle.rank_node.specs.Phases.{arrived}
 use Rattle.rank_threads.specs.Taking.{all_arrived, is_some_frame, those_of, Takes, TookFrom, TookBelow}
 use Rattle.rank_threads.specs.Phases.{Phase}
 use Rattle.rank_threads.specs.declared.life.Life.{Life}
@@ -44,7 +44,7 @@ takes_then source frames more a b c first next = record {
 arrived_then : (p : Phase) (source : ℕ) (frames more : List Frame)
     → all_arrived p source (frames ++ more) ≡ all_arrived (all_arrived p source frames) source more
 arrived_then p source [] more = refl
-arrived_then p source (frame ∷ frames) more = arrived_then (arrived p source frame) source frames more
+arrived_then p source (frame ∷ frames) more = arrived_then (arrived_in p source frame) source frames more
 
 -- frames are counted, and then more frames
 taken_then : (t : Tally) (frames more : List Frame) → all_taken t (frames ++ more) ≡ all_taken (all_taken t frames) more
@@ -75,7 +75,7 @@ took_nothing source life = record { frames = []; lanes = takes_none source life.
 
 -- one frame came
 pub took_frame : (source : ℕ) (old new : Life) (frame : Frame) → Takes source (frame ∷ []) old.from.items new.from.items
-    → new.node.phase ≡ arrived old.node.phase source frame → new.tally ≡ woken old.tally → new.plan ≡ old.plan → new.to ≡ old.to
+    → new.node.phase ≡ arrived_in old.node.phase source frame → new.tally ≡ woken old.tally → new.plan ≡ old.plan → new.to ≡ old.to
     → TookFrom source old new true
 took_frame source old new frame takes came counted plan to =
     record { frames = frame ∷ []; lanes = takes; rank = came; took = refl; tally = counted; plan = plan; to = to }

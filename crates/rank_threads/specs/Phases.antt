@@ -15,10 +15,10 @@ use Rattle.rank_node.specs.Node.{Node, opening}
 use Rattle.rank_node.specs.Replay.{Replay}
 use Rattle.rank_node.specs.Stored.{Stored}
 use Rattle.rank_node.specs.Waiting.{Gate, misses_only}
-use Rattle.rank_threads.specs.declared.row.Row.{Row}
-use Rattle.rank_node.specs.Phases.{stable_of, settled_of}
+use Rattle.rank_node.specs.Phases.{stable_in, settled_in}
 use Rattle.rank_node.specs.declared.phase.Phase as ranks
 use Rattle.rank_node.specs.declared.phase.Phase.TheVariants as phase
+use Rattle.rank_threads.specs.declared.row.Row.{Row}
 
 -- a rank with a desk at its logger and a shelf in memory
 abbrev pub Phase : Type 0
@@ -62,11 +62,11 @@ pub record SameStable (a b : Stored MemoryShelf DeskValue) : Type 0 where
 
 -- a rank at the same desk, of as many
 abbrev pub SamePhase : Phase → Phase → Type 0
-SamePhase a b = SameStable (stable_of a) (stable_of b)
+SamePhase a b = SameStable (stable_in a) (stable_in b)
 
 -- the shelf of the rank is as it was
 abbrev pub SameShelf : Phase → Phase → Type 0
-SameShelf a b = (stable_of b).shelf ≡ (stable_of a).shelf
+SameShelf a b = (stable_in b).shelf ≡ (stable_in a).shelf
 
 -- the last image on a shelf in memory
 abbrev pub last_image : MemoryShelf → Option (List ℕ)
@@ -91,9 +91,9 @@ TookImage p = (stood : Phase) × HasImage stood × SameShelf stood p
 -- These events were read of that rank's row, above that clock, and the rank is at its desk as it was; one that is down reads none.
 abbrev pub ReadsRow : Phase → ℕ → ℕ → List EventValue → Phase → Type 0
 ReadsRow (phase.Running v) of after events q =
-    IsRead v.stable.desk of after events (stable_of q).desk × (q ≡ phase.Running (at_desk v (stable_of q).desk))
+    IsRead v.stable.desk of after events (stable_in q).desk × (q ≡ phase.Running (at_desk v (stable_in q).desk))
 ReadsRow (phase.Replaying r) of after events q =
-    IsRead r.node.stable.desk of after events (stable_of q).desk × (q ≡ phase.Replaying (record r { node = at_desk r.node (stable_of q).desk }))
+    IsRead r.node.stable.desk of after events (stable_in q).desk × (q ≡ phase.Replaying (record r { node = at_desk r.node (stable_in q).desk }))
 ReadsRow (phase.Down s) of after events q = (events ≡ []) × (q ≡ phase.Down s)
 
 -- The rank begins to live: at the beginning of its program, where it has fetched no row, else at its image with what of
@@ -101,4 +101,4 @@ ReadsRow (phase.Down s) of after events q = (events ≡ []) × (q ≡ phase.Down
 abbrev pub Begins : ProgramValue → Stored MemoryShelf DeskValue → Option Row → Phase → Type 0
 Begins program stable None p = p ≡ phase.Running (opening program stable)
 Begins program stable (Some row) p =
-    (r : Replay MemoryShelf DeskValue) × BeginsAgain last_image program row.events.items stable r × (p ≡ settled_of (phase.Replaying r))
+    (r : Replay MemoryShelf DeskValue) × BeginsAgain last_image program row.events.items stable r × (p ≡ settled_in (phase.Replaying r))

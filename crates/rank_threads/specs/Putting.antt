@@ -1,6 +1,6 @@
 -- What goes out of a rank into a lane (reception in the order of sending: MPI 1.1, section 3.5).
 use Rattle.std.specs.Prelude.{◌≡◌, ◌≢◌, ℕ, ◌<◌, List, [], ◌∷◌, ◌++◌, Some, None, slice_index_or}
-use Rattle.rank_node.specs.Phases.{outgoing_in, passed}
+use Rattle.rank_node.specs.Phases.{outgoing_in, passed_in}
 use Rattle.rank_node.specs.declared.frame.Frame.{Frame}
 use Rattle.ports.specs.Lanes.{TxValue, put_of}
 use Rattle.rank_threads.specs.Phases.{Phase}
@@ -11,7 +11,7 @@ use Rattle.rank_threads.specs.declared.node.frames.Went.TheVariants as went
 pub record PutsOne (p : Phase) (dest : ℕ) (put : List Frame) (q : Phase) (put' : List Frame) : Type 0 where
   pub frame : Frame
   pub outgoing : outgoing_in p dest ≡ Some frame
-  pub gone : q ≡ passed p dest
+  pub gone : q ≡ passed_in p dest
   pub last : put' ≡ put ++ frame ∷ []
 
 -- nothing goes to that rank

@@ -2,7 +2,7 @@
 use Rattle.std.specs.Prelude.{◌≡◌, List, [], ◌∷◌, Some, None}
 use Rattle.event_logger.specs.Desks.{own_row}
 use Rattle.plain_logger.specs.History.{above}
-use Rattle.rank_node.specs.Phases.{stable_of}
+use Rattle.rank_node.specs.Phases.{stable_in}
 use Rattle.rank_threads.specs.Phases.{SameStable}
 use Rattle.rank_threads.specs.Lanes.{SameTxs, SameRxs}
 use Rattle.rank_threads.specs.declared.parcel.Parcel.{Parcel}
@@ -22,7 +22,7 @@ SameRest a b = (b.plan ≡ a.plan) × (b.row ≡ a.row) × (b.end ≡ a.end)
 -- this is a life of that station's rank: it has the same rank, desk and lanes
 abbrev pub IsLifeOf : Station → Life → Type 0
 IsLifeOf a s =
-    (s.rank ≡ a.rank) × SameStable a.down (stable_of s.node.phase) × (s.node.size ≡ a.size) × SameTxs a.to.items s.to.items × SameRxs a.from.items s.from.items
+    (s.rank ≡ a.rank) × SameStable a.down (stable_in s.node.phase) × (s.node.size ≡ a.size) × SameTxs a.to.items s.to.items × SameRxs a.from.items s.from.items
 
 -- The station has fetched its row: all the events that its desk has stored.
 pub record HasRow (s : Station) : Type 0 where

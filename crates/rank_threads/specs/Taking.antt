@@ -1,7 +1,7 @@
 -- What comes into a rank out of its lanes, each lane's frames in their order (MPI 1.1, section 3.5).
 use Rattle.std.specs.Prelude.{◌≡◌, ◌≢◌, ℕ, zero, suc, Bool, true, false, ◌||◌, List, [], ◌∷◌, ◌++◌, Option, Some, None, length, slice_index_or}
 use Rattle.ports.specs.Lanes.{RxValue, taken_of}
-use Rattle.rank_node.specs.Phases.{arrived}
+use Rattle.rank_node.specs.Phases.{arrived_in}
 use Rattle.rank_node.specs.declared.frame.Frame.{Frame}
 use Rattle.rank_threads.specs.Phases.{Phase}
 use Rattle.rank_node.specs.declared.phase.Phase.TheVariants as phase
@@ -21,7 +21,7 @@ is_some_frame (frame ∷ frames) = true
 -- the rank after frames that came from a rank, in their order
 abbrev pub all_arrived : Phase → ℕ → List Frame → Phase
 all_arrived p source [] = p
-all_arrived p source (frame ∷ frames) = all_arrived (arrived p source frame) source frames
+all_arrived p source (frame ∷ frames) = all_arrived (arrived_in p source frame) source frames
 
 -- These frames were taken from the lane from a rank, and none from the others.
 pub record Takes (source : ℕ) (frames : List Frame) (lanes lanes' : List RxValue) : Type 0 where

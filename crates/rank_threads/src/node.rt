@@ -1,6 +1,6 @@
 //! A rank at its logger.
 ghost use Rattle.std.specs.Prelude.{◌≡◌};
-ghost use Rattle.rank_node.specs.Phases.{stable_of};
+ghost use Rattle.rank_node.specs.Phases.{stable_in};
 
 mod calls;
 mod frames;
@@ -21,7 +21,7 @@ pub struct Node<'p, 'l> {
     logger: &'l Logger,
     /// How many ranks there are.
     pub size: u8,
-    ghost own: { (stable_of phase).desk.table ≡ logger.now.table },
+    ghost own: { (stable_in phase).desk.table ≡ logger.now.table },
     ghost ranks: { logger.now.ranks ≡ size },
-    ghost sized: { (stable_of phase).size ≡ size },
+    ghost sized: { (stable_in phase).size ≡ size },
 }

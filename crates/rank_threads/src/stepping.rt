@@ -1,7 +1,7 @@
 //! Part 2 of a turn: a stride or a step of the rank.
 ghost use Rattle.std.specs.Prelude.{◌≡◌, ◌≢◌, ◌+◌, true, false, Ok, Err, IfOk, OnErr};
-ghost use Rattle.rank_threads.specs.Lives.{SameLife, SamePlan};
 ghost use Rattle.rank_node.specs.Phases.{clock_in};
+ghost use Rattle.rank_threads.specs.Lives.{SameLife, SamePlan};
 ghost use Rattle.rank_threads.specs.Phases.{want_in};
 ghost use Rattle.rank_threads.specs.Steps.{acts_made, acts_of, counted, is_limit, is_own, step_of, told, turn_in, Counts, Strode};
 

@@ -1,10 +1,10 @@
 //! One turn of a rank.
 ghost use Rattle.std.specs.Prelude.{◌≡◌, true, false, Some, None, IfOk, OnOk, drop};
+ghost use Rattle.rank_node.specs.Phases.{settled_in};
 ghost use Rattle.rank_threads.specs.Clearing.{leaves_misses};
 ghost use Rattle.rank_threads.specs.Endings.{goes_down, is_down, is_leave};
 ghost use Rattle.rank_threads.specs.Lives.{SameLife, SamePlan};
 ghost use Rattle.rank_threads.specs.Orders.{order_after, is_kill, is_image};
-ghost use Rattle.rank_node.specs.Phases.{settled_of};
 ghost use Rattle.rank_threads.specs.Phases.{NoneWaits, TookImage, gate_in, is_running, misses_only_in};
 ghost use Rattle.rank_threads.specs.Putting.{NothingBelow};
 ghost use Rattle.rank_threads.specs.Turns.{IsBegun, kills_after};
@@ -66,7 +66,7 @@ pub fn finish<W: Wait, H: Hold>(
     life: &mut Life<'_, '_>,
     begun: Result<Begun, NodeFault>,
 ) -> After
-    requires { settled_of life.old.node.phase ≡ life.old.node.phase }
+    requires { settled_in life.old.node.phase ≡ life.old.node.phase }
     ensures killed { is_down result ≡ kills_after begun life.old.plan life.old.node.phase }
     ensures settled { is_down result ≡ false → life.new.tally.fault ≡ None → life.new.tally.is_refused ≡ false
         → misses_only_in life.new.node.phase ≡ false → NoneWaits life.new.node.phase }
@@ -157,7 +157,7 @@ fn let_out<W: Wait, H>(
 
 /// A rank that has nothing left to replay runs from now on.
 pub fn settled<'p, 'l>(life: Life<'p, 'l>) -> Life<'p, 'l>
-    ensures settled { result.node.phase ≡ settled_of life.entry.node.phase }
+    ensures settled { result.node.phase ≡ settled_in life.entry.node.phase }
     ensures rest { result ≡ record life.entry { node = result.node } }
     ensures same { SameLife life.entry result }
 {

@@ -1,2 +1,2 @@
 pub mod Gate
-pub mod Place
+pub mod Occupant

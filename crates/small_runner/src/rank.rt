@@ -1,6 +1,6 @@
 //! One of the ranks, and the parts of its turn.
 ghost use Rattle.std.specs.Prelude.{◌≡◌, ◌<◌, Some, IfOk, OnOk, IsSome};
-ghost use Rattle.small_runner.specs.Place.{outgoing_at, IsRank, NoneWaits};
+ghost use Rattle.small_runner.specs.Occupant.{outgoing_at, IsRank, NoneWaits};
 
 use crate::around::{Around, Parcel, RANKS};
 use crate::gate;
@@ -18,10 +18,10 @@ const FRAMES: u32 = 16;
 /// One of the ranks, with a shelf in memory. It has no desk, since the logger is this thread's own. It must be ended.
 pub struct Rank<'p> {
     number: u8,
-    // empty only while the rank goes from one phase to another
-    place: Option<Phase<'p, MemoryShelf, ()>>,
+    // none only while the rank goes from one phase to another
+    occupant: Option<Phase<'p, MemoryShelf, ()>>,
     ghost there: { number < 2 },
-    ghost own: { IsRank number place },
+    ghost own: { IsRank number occupant },
 }
 
 impl<'p> Rank<'p> {
@@ -33,7 +33,7 @@ impl<'p> Rank<'p> {
         match Running::start(around.alloc, around.program, stable) {
             Ok(rank) => Ok(Rank {
                 number,
-                place: Some(Phase::Running(rank)),
+                occupant: Some(Phase::Running(rank)),
             }),
             Err((stable, fault)) => {
                 stable.parts();
@@ -44,13 +44,16 @@ impl<'p> Rank<'p> {
 
     /// Ends the rank.
     pub fn end(self) {
-        let Rank { number: _, place } = self;
-        end(place);
+        let Rank {
+            number: _,
+            occupant,
+        } = self;
+        end(occupant);
     }
 
     /// How many acts it has made.
     pub fn clock(&self) -> u32 {
-        match &self.place {
+        match &self.occupant {
             Some(rank) => rank.clock(),
             None => 0,
         }
@@ -58,7 +61,7 @@ impl<'p> Rank<'p> {
 
     /// How many events it has to replay.
     pub fn left(&self) -> u32 {
-        match &self.place {
+        match &self.occupant {
             Some(rank) => rank.left(),
             None => 0,
         }
@@ -66,12 +69,12 @@ impl<'p> Rank<'p> {
 
     /// Whether it is down.
     pub fn is_down(&self) -> bool {
-        matches!(&self.place, Some(Phase::Down(_)))
+        matches!(&self.occupant, Some(Phase::Down(_)))
     }
 
     /// Whether it has come to the end of its program.
     pub fn has_halted(&self) -> bool {
-        match &self.place {
+        match &self.occupant {
             Some(Phase::Running(rank)) => rank.wants() == Want::Halted,
             Some(Phase::Replaying(_) | Phase::Down(_)) | None => false,
         }
@@ -79,7 +82,7 @@ impl<'p> Rank<'p> {
 
     /// The rank crashes: what is stable outlives it, and nothing else does.
     pub fn crash(&mut self) {
-        if let Some(rank) = self.place.take() {
+        if let Some(rank) = self.occupant.take() {
             self.put(Phase::Down(rank.crash()));
         }
     }
@@ -87,11 +90,14 @@ impl<'p> Rank<'p> {
     /// A rank that is down begins again at its image, or at the beginning of the program, with its row to replay.
     pub fn restart(&mut self, around: &mut Around<'p>) -> Result<(), NodeFault> {
         let row = around.row_of(self.number)?;
-        let Some(rank) = self.place.take() else {
-            return Ok(());
+        let down = match self.occupant.take() {
+            Some(Phase::Down(down)) => down,
+            Some(other) => {
+                self.put(other);
+                return Ok(());
+            }
+            None => return Ok(()),
         };
-        // what is down already stays so
-        let down = rank.crash();
         match down.restart(around.alloc, around.program, row) {
             Ok(replaying) => {
                 self.put(Phase::Replaying(replaying));
@@ -114,7 +120,7 @@ impl<'p> Rank<'p> {
 
     fn arrive(&mut self, parcel: Parcel) -> Result<(), NodeFault> {
         let Parcel { from, frame } = parcel;
-        let Some(rank) = &mut self.place else {
+        let Some(rank) = &mut self.occupant else {
             return Ok(());
         };
         match rank.arrive(from, frame) {
@@ -135,13 +141,13 @@ impl<'p> Rank<'p> {
 
     // Where nothing is left to replay then, it runs.
     fn step_once(&mut self, console: &mut ConsoleState) -> Result<Turn, NodeFault> {
-        let turn = match &mut self.place {
+        let turn = match &mut self.occupant {
             Some(Phase::Running(rank)) => rank.step(console)?,
             Some(Phase::Replaying(rank)) if rank.left() > 0 => rank.step(console)?,
             Some(Phase::Replaying(_)) => Turn::Moved,
             Some(Phase::Down(_)) | None => Turn::Blocked,
         };
-        if let Some(rank) = self.place.take() {
+        if let Some(rank) = self.occupant.take() {
             self.put(rank.settled());
         }
         Ok(turn)
@@ -149,9 +155,9 @@ impl<'p> Rank<'p> {
 
     /// What waits at its gate passes.
     pub fn clear_gate(&mut self, around: &mut Around<'p>) -> Result<(), NodeFault>
-        ensures { OnOk result (NoneWaits self.new.place) }
+        ensures { OnOk result (NoneWaits self.new.occupant) }
     {
-        match &mut self.place {
+        match &mut self.occupant {
             Some(Phase::Running(rank)) => {
                 gate::clear(rank, &mut around.logger, &mut around.console)
             }
@@ -161,7 +167,7 @@ impl<'p> Rank<'p> {
 
     /// Takes an image of itself, where it runs and nothing waits.
     pub fn image(&mut self) -> Result<(), NodeFault> {
-        match &mut self.place {
+        match &mut self.occupant {
             Some(Phase::Running(rank)) => rank.image(),
             Some(Phase::Replaying(_) | Phase::Down(_)) | None => Ok(()),
         }
@@ -191,9 +197,9 @@ impl<'p> Rank<'p> {
 
     fn outgoing(&self, dest: u8) -> Result<Option<Frame>, NodeFault>
         requires { dest < 2 }
-        ensures { IfOk result (λ frame. frame ≡ outgoing_at self.now.place dest) }
+        ensures { IfOk result (λ frame. frame ≡ outgoing_at self.now.occupant dest) }
     {
-        match &self.place {
+        match &self.occupant {
             Some(rank) => rank.outgoing(dest),
             None => Ok(None),
         }
@@ -201,25 +207,26 @@ impl<'p> Rank<'p> {
 
     fn passed(&mut self, dest: u8)
         requires there { dest < 2 }
-        requires due { IsSome (outgoing_at self.old.place dest) }
+        requires due { IsSome (outgoing_at self.old.occupant dest) }
     {
-        if let Some(rank) = &mut self.place {
+        if let Some(rank) = &mut self.occupant {
             rank.passed(dest);
         }
     }
 
-    // The rank stands here now. What stood here ends.
+    // The rank is this one now. What it was ends.
     fn put(&mut self, rank: Phase<'p, MemoryShelf, ()>)
         requires { IsRank self.old.number (Some rank) }
-        ensures place { self.new.place ≡ Some rank.entry }
+        ensures occupant { self.new.occupant ≡ Some rank.entry }
         ensures number { self.new.number ≡ self.old.number }
     {
-        end(self.place.replace(rank));
+        end(self.occupant.replace(rank));
     }
 }
 
-fn end(place: Option<Phase<'_, MemoryShelf, ()>>) {
-    if let Some(rank) = place {
+// The rank ends, if there is one.
+fn end(occupant: Option<Phase<'_, MemoryShelf, ()>>) {
+    if let Some(rank) = occupant {
         rank.retire().parts();
     }
 }

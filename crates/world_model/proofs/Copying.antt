@@ -8,7 +8,7 @@ use Rattle.rank_language.specs.Program.{ProgramValue}
 use Rattle.rank_node.specs.Copied.{node_with, stored_with}
 use Rattle.rank_node.specs.Image.{Reads, image_on}
 use Rattle.rank_node.specs.Stored.{Stored}
-use Rattle.rank_node.specs.Phases.{phase_with, stable_of}
+use Rattle.rank_node.specs.Phases.{phase_with, stable_in}
 use Rattle.rank_node.specs.declared.phase.Phase.TheVariants.{Running, Replaying, Down}
 use Rattle.world_model.specs.World.{Rank}
 use Rattle.world_model.specs.Seats.{SeatValue, AreSeats, lives, images}
@@ -29,10 +29,10 @@ of_copy : (program : ProgramValue) (r n : ℕ) (v : Rank) (shelf : MemoryShelf) 
 of_copy program r n v shelf b k = record { same_program = k.same_program; own = own_copy program r n v.stable shelf b k.own }
 
 -- a rank in any phase, which is copied with its shelf
-pub phase_copy : (s c : Phase) (shelf : MemoryShelf) → image_bytes shelf.image ≡ shelf_of (stable_of s) → c ≡ phase_with s tt shelf → IsPhaseCopy s c
+pub phase_copy : (s c : Phase) (shelf : MemoryShelf) → image_bytes shelf.image ≡ shelf_of (stable_in s) → c ≡ phase_with s tt shelf → IsPhaseCopy s c
 phase_copy s c shelf b e = subst (λ z. IsPhaseCopy s z) (sym e) (go s b)
   where
-    go : (s : Phase) → image_bytes shelf.image ≡ shelf_of (stable_of s) → IsPhaseCopy s (phase_with s tt shelf)
+    go : (s : Phase) → image_bytes shelf.image ≡ shelf_of (stable_in s) → IsPhaseCopy s (phase_with s tt shelf)
     go (Running v) b = record { live = (shelf, refl); bytes = b; standing = λ program r n k. of_copy program r n v shelf b k; left = λ k. k }
     go (Replaying v) b = record { live = (shelf, refl); bytes = b; standing = λ program r n k. of_copy program r n v.node shelf b k; left = λ k. k }
     go (Down s) b = record { live = tt; bytes = b; standing = λ program r n k. own_copy program r n s shelf b k; left = λ k. k }

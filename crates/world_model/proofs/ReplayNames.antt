@@ -70,10 +70,10 @@ named_is v e i p is = go (position (is_named e.sender e.sender_clock) v.inbox.pa
     go (Some k) f h = at_it k (slice_get v.inbox.packets k) refl f h
 
 -- it carries the message that is at the act's place
-pub packet_is : (C : List Passed) (r : ℕ) (acts : History) (v : Rank) (e : EventValue) (i source place : ℕ) (m : Message) (p : packet.PacketValue) (k : Kind)
+pub packet_is : (C : List Passed) (r : ℕ) {acts : History} (v : Rank) (e : EventValue) (i source place : ℕ) (m : Message) (p : packet.PacketValue) (k : Kind)
     → InboxStands v.inbox (λ q. sent C q r) acts → named v e ≡ Some (i, p) → e ≡ event_of k source m.clock (v.clock + 1)
     → at_place (sent C source r) place ≡ Some m → (slice_get v.inbox.packets i ≡ Some p) × IsOf source place m p
-packet_is C r acts v e i source place m p k stands f ee there =
+packet_is C r {acts} v e i source place m p k stands f ee there =
     let x = named_is v e i p f in (
       x.0,
       one_message C r v.inbox acts i source place m p stands x.0 (x.1 ∙ ap (λ z. z.sender) ee) (x.2 ∙ ap (λ z. z.sender_clock) ee) there,

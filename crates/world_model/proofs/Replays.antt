@@ -209,7 +209,7 @@ module _ (start : ℕ → State) (n : ℕ) (C : List Passed) (r : ℕ) (v : Live
                 (record { rank = taken_named v.rank m z; left = e ∷ rest })) (sym eo) (λ m did. stays);
           }
           go ee er (Some g) eo =
-              let k = packet_is C r (take v.rank.clock (history C r)) v.rank e g.0 f.source f.place f.message g.1 kind.Reception at.inbox eo ee there in
+              let k = packet_is C r v.rank e g.0 f.source f.place f.message g.1 kind.Reception at.inbox eo ee there in
               record {
                 turn = Moved;
                 turned =
@@ -275,7 +275,7 @@ module _ (start : ℕ → State) (n : ℕ) (C : List Passed) (r : ℕ) (v : Live
                 (record { rank = shown_named v.rank m z; left = e ∷ rest })) (sym eo) (λ m did. stays);
           }
           go ee er (Some g) eo =
-              let k = packet_is C r (take v.rank.clock (history C r)) v.rank e g.0 f.source f.place f.message g.1 kind.Hit at.inbox eo ee (hit_there x selector f) in
+              let k = packet_is C r v.rank e g.0 f.source f.place f.message g.1 kind.Hit at.inbox eo ee (hit_there x selector f) in
               record {
                 turn = Moved;
                 turned =
@@ -310,7 +310,7 @@ module _ (start : ℕ → State) (n : ℕ) (C : List Passed) (r : ℕ) (v : Live
                 (record { rank = shown_named v.rank m z; left = e ∷ rest })) (sym eo) (λ m did. stays));
           }
           go ee er (Some g) eo =
-              let k = packet_is C r (take v.rank.clock (history C r)) v.rank e g.0 f.source f.place f.message g.1 kind.Hit at.inbox eo ee (hit_there x selector f) in
+              let k = packet_is C r v.rank e g.0 f.source f.place f.message g.1 kind.Hit at.inbox eo ee (hit_there x selector f) in
               record {
                 turn = Moved;
                 turned =

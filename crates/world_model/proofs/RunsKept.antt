@@ -151,7 +151,8 @@ pub Runs-release : (w : WorldValue) (r : ℕ) (answer : Reply) (w' : WorldValue)
 Runs-release w r answer w' s f none =
     Runs-rank w w' r _ (ap (λ z. z.ranks) f.after) (ap (λ z. z.logger.rows) f.after) (ap (λ z. z.images) f.after) (ap (λ z. z.program) f.after)
     (λ x e. one (record { rank = after_release f.before.rank f.effect; left = f.before.left }) x
-    (same_runs f.before (record { rank = after_release f.before.rank f.effect; left = f.before.left }) (s.runs.ranks r f.before f.live) (released_events w r answer w' f none) refl refl) e)
+    (same_runs f.before (record { rank = after_release f.before.rank f.effect; left = f.before.left })
+    (s.runs.ranks r f.before f.live) (released_events w r answer w' f none) refl refl) e)
     s.runs
 
 -- ---- steps

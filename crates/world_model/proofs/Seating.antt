@@ -1,7 +1,7 @@
 -- What a call on a rank leaves of its seat: the machine keeps its program, and what is stable stays, but for the shelf
 -- where an image is taken.
-use Rattle.std.proofs.Common.{◌≡◌, ◌≢◌, ℕ, Bool, true, false, ◌==◌, length, List, [], ◌∷◌, Option, Some, None, Result, Ok, Err, refl, sym, ap, subst, ◌∙◌, ◌⊎◌, inl, inr}
-use Rattle.std.proofs.Common.{arith}
+use Rattle.std.proofs.Common.{◌≡◌, ◌≢◌, ℕ, Bool, true, false, ◌==◌, length, List, [], ◌∷◌, Option, Some, None, Result, Ok, Err}
+use Rattle.std.proofs.Common.{refl, sym, ap, subst, ◌∙◌, ◌⊎◌, inl, inr, arith}
 use Rattle.checkpoint.specs.Image.{ImageValue}
 use Rattle.checkpoint.specs.Reading.{reading}
 use Rattle.checkpoint.specs.Shelf.{image_bytes, Grew}
@@ -31,7 +31,7 @@ use Rattle.matching.specs.Inbox.{after_arrival}
 use Rattle.rank_node.specs.Frames.{after_frame, with_inbox}
 use Rattle.rank_node.specs.declared.frame.Frame.{Frame}
 use Rattle.rank_node.specs.declared.frame.Frame.TheVariants as frame
-use Rattle.rank_node.specs.Phases.{arrived, settled_of, stable_of}
+use Rattle.rank_node.specs.Phases.{arrived_in, settled_in, stable_in}
 use Rattle.world_model.specs.Measures.{HasLines}
 use Rattle.world_model.specs.Seat.{bytes_of, live_of, seat_of, shelf_of, HasLeft, IsKept, IsOf, IsOwn, IsSeated, IsStanding, Phase}
 use Rattle.world_model.specs.Seats.{in_replay, with_live, IsRestarted}
@@ -175,45 +175,45 @@ restarted_is p r n row d x again own = record {
 -- ---- what stands at a seat
 
 -- of a rank that stands at its seat that holds
-pub kept_there : (p : ProgramValue) (r n : ℕ) (place : Option Phase) (x : Phase) → IsSeated p r n place → place ≡ Some x → IsKept p r n x
-kept_there p r n place x seated is = subst (λ z. IsSeated p r n z) is seated
+pub kept_there : (p : ProgramValue) (r n : ℕ) (occupant : Option Phase) (x : Phase) → IsSeated p r n occupant → occupant ≡ Some x → IsKept p r n x
+kept_there p r n occupant x seated is = subst (λ z. IsSeated p r n z) is seated
 
 -- and of what is put there
-seated_there : (p : ProgramValue) (r n : ℕ) (place : Option Phase) (x : Phase) → IsKept p r n x → place ≡ Some x → IsSeated p r n place
-seated_there p r n place x kept is = subst (λ z. IsSeated p r n z) (sym is) kept
+seated_there : (p : ProgramValue) (r n : ℕ) (occupant : Option Phase) (x : Phase) → IsKept p r n x → occupant ≡ Some x → IsSeated p r n occupant
+seated_there p r n occupant x kept is = subst (λ z. IsSeated p r n z) (sym is) kept
 
 -- a frame keeps it
-kept_arrived : (p : ProgramValue) (r n : ℕ) (x : Phase) (from : ℕ) (f : Frame) → IsKept p r n x → IsKept p r n (arrived x from f)
+kept_arrived : (p : ProgramValue) (r n : ℕ) (x : Phase) (from : ℕ) (f : Frame) → IsKept p r n x → IsKept p r n (arrived_in x from f)
 kept_arrived p r n (Running v) from f k = record { standing = of_frame p r n v from f k.standing; left = tt }
 kept_arrived p r n (Replaying v) from f k = record { standing = of_frame p r n v.node from f k.standing; left = k.left }
 kept_arrived p r n (Down s) from f k = k
 
 -- and so does one that is refused
-pub arrive_kept : {A B : Type 0} (p : ProgramValue) (r n : ℕ) (place : Option Phase) (x y : Phase) (from : ℕ) (f : Frame) (result : Result A B)
-    → IsSeated p r n place → place ≡ Some x → OnOk result (y ≡ arrived x from f) → OnErr result (y ≡ x) → IsKept p r n y
-arrive_kept {A = A} {B = B} p r n place x y from f (Ok a) seated is ok err =
-    subst (λ z. IsKept p r n z) (sym ok) (kept_arrived p r n x from f (kept_there p r n place x seated is))
-arrive_kept {A = A} {B = B} p r n place x y from f (Err b) seated is ok err = subst (λ z. IsKept p r n z) (sym err) (kept_there p r n place x seated is)
+pub arrive_kept : {A B : Type 0} (p : ProgramValue) (r n : ℕ) (occupant : Option Phase) (x y : Phase) (from : ℕ) (f : Frame) (result : Result A B)
+    → IsSeated p r n occupant → occupant ≡ Some x → OnOk result (y ≡ arrived_in x from f) → OnErr result (y ≡ x) → IsKept p r n y
+arrive_kept {A = A} {B = B} p r n occupant x y from f (Ok a) seated is ok err =
+    subst (λ z. IsKept p r n z) (sym ok) (kept_arrived p r n x from f (kept_there p r n occupant x seated is))
+arrive_kept {A = A} {B = B} p r n occupant x y from f (Err b) seated is ok err = subst (λ z. IsKept p r n z) (sym err) (kept_there p r n occupant x seated is)
 
 -- where a rank runs, it is of its seat
-pub as_running : (p : ProgramValue) (r n : ℕ) (place : Option Phase) (v : Rank) → IsSeated p r n place → place ≡ Some (Running v) → IsOf p r n v
-as_running p r n place v seated is = (kept_there p r n place (Running v) seated is).standing
+pub as_running : (p : ProgramValue) (r n : ℕ) (occupant : Option Phase) (v : Rank) → IsSeated p r n occupant → occupant ≡ Some (Running v) → IsOf p r n v
+as_running p r n occupant v seated is = (kept_there p r n occupant (Running v) seated is).standing
 
 -- what is stable of a rank is this rank's, whatever it does
-own_of : (p : ProgramValue) (r n : ℕ) (x : Phase) → IsStanding p r n x → IsOwn p r n (stable_of x)
+own_of : (p : ProgramValue) (r n : ℕ) (x : Phase) → IsStanding p r n x → IsOwn p r n (stable_in x)
 own_of p r n (Running v) k = k.own
 own_of p r n (Replaying v) k = k.own
 own_of p r n (Down s) k = k
 
 -- so it is where the rank was taken from its seat, and crashed
-pub own_down : (p : ProgramValue) (r n : ℕ) (place : Option Phase) (x : Phase) (down : Stored MemoryShelf (Unit {0})) → IsSeated p r n place → place ≡ Some x
-    → down ≡ stable_of x → IsOwn p r n down
-own_down p r n place x down seated is crashed = subst (λ z. IsOwn p r n z) (sym crashed) (own_of p r n x (kept_there p r n place x seated is).standing)
+pub own_down : (p : ProgramValue) (r n : ℕ) (occupant : Option Phase) (x : Phase) (down : Stored MemoryShelf (Unit {0}))
+    → IsSeated p r n occupant → occupant ≡ Some x → down ≡ stable_in x → IsOwn p r n down
+own_down p r n occupant x down seated is crashed = subst (λ z. IsOwn p r n z) (sym crashed) (own_of p r n x (kept_there p r n occupant x seated is).standing)
 
 -- a rank that is down keeps its seat
-pub seated_down : (p : ProgramValue) (r n : ℕ) (place : Option Phase) (down : Stored MemoryShelf (Unit {0})) → IsOwn p r n down → place ≡ Some (Down down)
-    → IsSeated p r n place
-seated_down p r n place down own is = seated_there p r n place (Down down) (record { standing = own; left = tt }) is
+pub seated_down : (p : ProgramValue) (r n : ℕ) (occupant : Option Phase) (down : Stored MemoryShelf (Unit {0})) → IsOwn p r n down → occupant ≡ Some (Down down)
+    → IsSeated p r n occupant
+seated_down p r n occupant down own is = seated_there p r n occupant (Down down) (record { standing = own; left = tt }) is
 
 -- a seat whose rank was taken, and put back down with the bytes on its shelf, has the same image
 pub seat_down : (p : ProgramValue) (r n : ℕ) (old new : Option Phase) (x : Phase) (down : Stored MemoryShelf (Unit {0})) → old ≡ Some x
@@ -281,16 +281,17 @@ is_memory fault memory (inr (inr (inr (inr (inl e))))) = (let q : Memory ≡ Clo
 is_memory fault memory (inr (inr (inr (inr (inr e))))) = (let q : Memory ≡ Log = sym memory ∙ e in cc)
 
 -- a rank that started again keeps its seat
-pub seated_again : (p : ProgramValue) (r n : ℕ) (place : Option Phase) (x : Phase) → IsStanding p r n x → HasLeft x → place ≡ Some x → IsSeated p r n place
-seated_again p r n place x standing left is = seated_there p r n place x (record { standing = standing; left = left }) is
+pub seated_again : (p : ProgramValue) (r n : ℕ) (occupant : Option Phase) (x : Phase) → IsStanding p r n x → HasLeft x → occupant ≡ Some x
+    → IsSeated p r n occupant
+seated_again p r n occupant x standing left is = seated_there p r n occupant x (record { standing = standing; left = left }) is
 
 -- so does one that replayed a step, and was settled
 pub replayed_then : (p : ProgramValue) (r n : ℕ) (old new : Option Phase) (v x : replay.Replay MemoryShelf (Unit {0})) → IsSeated p r n old
     → old ≡ Some (Replaying v) → x.node.stable ≡ v.node.stable
     → ((e : EventValue) (rest : List EventValue) → v.left ≡ e ∷ rest → ReplayStep v.node e x.node.machine)
-    → new ≡ Some (settled_of (Replaying x)) → IsSeated p r n new
+    → new ≡ Some (settled_in (Replaying x)) → IsSeated p r n new
 replayed_then p r n old new v x seated was stable steps is =
-    seated_there p r n new (settled_of (Replaying x)) (record { standing = settled_standing p r n (Replaying x) after; left = settled_left (Replaying x) }) is
+    seated_there p r n new (settled_in (Replaying x)) (record { standing = settled_standing p r n (Replaying x) after; left = settled_left (Replaying x) }) is
   where
     before : IsKept p r n (Replaying v)
     before = kept_there p r n old (Replaying v) seated was
@@ -301,8 +302,8 @@ replayed_then p r n old new v x seated was stable steps is =
 -- ---- lines
 
 -- the program of the rank at a seat has its lines where that of the seat has
-pub lines_of : (program : ProgramValue) (r n : ℕ) (place : Option Phase) → IsSeated program r n place → program.statements ≡ lines_at 0 (block_of program)
-    → IfSome (option_and_then live_of place) HasLines
+pub lines_of : (program : ProgramValue) (r n : ℕ) (occupant : Option Phase) → IsSeated program r n occupant → program.statements ≡ lines_at 0 (block_of program)
+    → IfSome (option_and_then live_of occupant) HasLines
 lines_of program r n None k e = absurd k
 lines_of program r n (Some (Running node)) k e =
     subst (λ (z : ProgramValue). z.statements ≡ lines_at 0 (block_of z)) (sym k.standing.same_program) e

@@ -10,14 +10,14 @@ use Rattle.rank_node.specs.declared.turn.Turn.{Turn}
 use Rattle.rank_node.specs.Replay.{replay_turn_of, replay_takes_memory, after_replay, left_after, ReplayStep}
 use Rattle.rank_node.specs.Replay as replay
 use Rattle.rank_language.specs.Program.{ProgramValue}
-use Rattle.rank_node.specs.Phases.{settled_of, settled_replay}
+use Rattle.rank_node.specs.Phases.{settled_in, settled_replay}
 use Rattle.rank_node.specs.declared.phase.Phase.TheVariants.{Running, Replaying, Down}
 use Rattle.world_model.specs.World.{Live}
 use Rattle.world_model.specs.Seat.{live_of, HasLeft, IsStanding, Phase}
 use Rattle.world_model.specs.Seats.{in_replay, IsFitting, IsReplayed}
 
 -- a rank is settled where nothing is left, and is live as it was
-pub settled_live : (p : Phase) → live_of (settled_of p) ≡ live_of p
+pub settled_live : (p : Phase) → live_of (settled_in p) ≡ live_of p
 settled_live (Running v) = refl
 settled_live (Down s) = refl
 settled_live (Replaying r) = go r.left refl
@@ -27,7 +27,7 @@ settled_live (Replaying r) = go r.left refl
     go (x ∷ left) e = refl
 
 -- it stays of its seat
-pub settled_standing : (program : ProgramValue) (r n : ℕ) (p : Phase) → IsStanding program r n p → IsStanding program r n (settled_of p)
+pub settled_standing : (program : ProgramValue) (r n : ℕ) (p : Phase) → IsStanding program r n p → IsStanding program r n (settled_in p)
 settled_standing program r n (Running v) k = k
 settled_standing program r n (Down s) k = k
 settled_standing program r n (Replaying v) k = go v.left
@@ -37,7 +37,7 @@ settled_standing program r n (Replaying v) k = go v.left
     go (x ∷ left) = k
 
 -- one that replays still has something left
-pub settled_left : (p : Phase) → HasLeft (settled_of p)
+pub settled_left : (p : Phase) → HasLeft (settled_in p)
 settled_left (Running v) = tt
 settled_left (Down s) = tt
 settled_left (Replaying r) = go r.left refl

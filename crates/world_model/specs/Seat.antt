@@ -4,7 +4,7 @@ use Rattle.checkpoint.specs.Shelf.{image_bytes}
 use Rattle.checkpoint.specs.declared.memory_shelf.MemoryShelf.{MemoryShelf}
 use Rattle.rank_language.specs.Program.{ProgramValue}
 use Rattle.rank_node.specs.Image.{Reads, image_on}
-use Rattle.rank_node.specs.Phases.{stable_of}
+use Rattle.rank_node.specs.Phases.{stable_in}
 use Rattle.rank_node.specs.Stored.{Stored}
 use Rattle.rank_node.specs.declared.phase.Phase as ranks
 use Rattle.rank_node.specs.declared.phase.Phase.TheVariants.{Running, Replaying, Down}
@@ -27,7 +27,7 @@ shelf_of stable = image_bytes stable.shelf.image
 
 -- the bytes on the shelf of a rank, whatever it does
 abbrev pub bytes_of : Phase → Option (List ℕ)
-bytes_of p = shelf_of (stable_of p)
+bytes_of p = shelf_of (stable_in p)
 
 -- What is stable is of this rank of so many, and its shelf is empty or holds an image of this rank of the program.
 pub record IsOwn (program : ProgramValue) (r n : ℕ) (stable : Stored MemoryShelf (Unit {0})) : Type 0 where
@@ -64,10 +64,10 @@ IsSeated program r n (Some p) = IsKept program r n p
 
 -- the seat, as contracts see it
 abbrev pub seat_of : ProgramValue → ℕ → ℕ → Option Phase → SeatValue
-seat_of program r n place = record {
+seat_of program r n occupant = record {
   program = program;
   rank = r;
   size = n;
-  live = option_and_then live_of place;
-  image = image_on program r n (option_and_then bytes_of place);
+  live = option_and_then live_of occupant;
+  image = image_on program r n (option_and_then bytes_of occupant);
 }

@@ -4,7 +4,7 @@
 
 mod bare_world;
 mod event;
-mod place;
+mod occupant;
 mod reply;
 mod run;
 mod seat;

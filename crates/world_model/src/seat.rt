@@ -12,7 +12,7 @@ mod imaging;
 mod living;
 mod stepping;
 
-use crate::place::{Place, end};
+use crate::occupant::{Occupant, end};
 use crate::view::View;
 use checkpoint::MemoryShelf;
 use metered::Heap;
@@ -31,7 +31,7 @@ pub struct Seat<'p> {
     program: &'p Program,
     rank: u8,
     size: u8,
-    place: Place<'p>,
+    occupant: Occupant<'p>,
 }
 
 impl<'p> Model for Seat<'p> {
@@ -44,9 +44,9 @@ impl<'p> Model for Seat<'p> {
 
     ghost coded = { Prim.hlevel (codes, placed_code) };
 
-    ghost view = { λ s. seat_of s.program.now s.rank s.size s.place };
+    ghost view = { λ s. seat_of s.program.now s.rank s.size s.occupant };
 
-    ghost invariant = { λ s. IsSeated s.program.now s.rank s.size s.place };
+    ghost invariant = { λ s. IsSeated s.program.now s.rank s.size s.occupant };
 }
 
 impl<'p> Seat<'p> {
@@ -67,7 +67,7 @@ impl<'p> Seat<'p> {
                 program,
                 rank,
                 size,
-                place: Some(Phase::Running(running)),
+                occupant: Some(Phase::Running(running)),
             }),
             Err((stable, _)) => {
                 stable.parts();
@@ -82,16 +82,16 @@ impl<'p> Seat<'p> {
             program: _,
             rank: _,
             size: _,
-            place,
+            occupant,
         } = self;
-        end(place);
+        end(occupant);
     }
 
     /// Whether the rank is down.
     pub fn is_down(&self) -> bool
         ensures { result ≡ is_none self.now.live }
     {
-        match &self.place {
+        match &self.occupant {
             Some(Phase::Running(_) | Phase::Replaying(_)) => false,
             Some(Phase::Down(_)) | None => true,
         }
@@ -102,7 +102,7 @@ impl<'p> Seat<'p> {
         ensures yes { OnTrue result (IfLive self.now.live (λ v. v.left ≢ [])) }
         ensures no { OnFalse result (IsNotInReplay self.now.live) }
     {
-        match &self.place {
+        match &self.occupant {
             Some(Phase::Replaying(_)) => true,
             Some(Phase::Running(_) | Phase::Down(_)) | None => false,
         }
@@ -113,7 +113,7 @@ impl<'p> Seat<'p> {
         ensures some { IfSome result (λ running. self.now.live ≡ at_work running.now) }
         ensures none { IfNone result (IsNotAtWork self.now.live) }
     {
-        match &self.place {
+        match &self.occupant {
             Some(Phase::Running(running)) => Some(running),
             Some(Phase::Replaying(_) | Phase::Down(_)) | None => None,
         }
@@ -126,14 +126,14 @@ impl<'p> Seat<'p> {
         ensures { IfSome self.now.live HasLines }
     {
         self.program.law_lines();
-        let _place = &self.place;
+        let _occupant = &self.occupant;
     }
 
     /// What is shown of the rank, which has made so many acts of the run.
     pub fn view(&self, acts: usize) -> View
         ensures { result ≡ shown_of self.now.live acts }
     {
-        let Some(rank) = &self.place else {
+        let Some(rank) = &self.occupant else {
             unreachable!();
         };
         View {

@@ -27,9 +27,8 @@ use std::marker::Model;
 /// The ranks of a world. They must be spent.
 ///
 /// Contracts see the program, the ranks, and what image each has.
-///
-/// A call goes to the seat of its rank. What it keeps apart is one rank from all
-/// of them: here lists are by rank, and all but one stay as they were.
+// A call goes to the seat of its rank, and its own clauses are of all ranks: here
+// lists are by rank, and all but one stay as they were.
 pub struct Seats<'p> {
     program: &'p Program,
     seats: Vec<Seat<'p>, Heap>,

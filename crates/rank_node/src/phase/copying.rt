@@ -1,6 +1,6 @@
-//! Copies of a rank, whatever it does.
+//! The shelf of a rank, whatever it does, and copies of it on another.
 ghost use Rattle.std.specs.Prelude.{◌≡◌, IfErr, IfOk};
-ghost use Rattle.rank_node.specs.Phases.{stable_of, phase_with};
+ghost use Rattle.rank_node.specs.Phases.{stable_in, phase_with};
 
 use crate::phase::Phase;
 use checkpoint::Shelf;
@@ -9,7 +9,7 @@ use metered::Heap;
 impl<'p, S: Shelf, D> Phase<'p, S, D> {
     /// The shelf of the rank.
     pub fn shelf(&self) -> &S
-        ensures { result.now ≡ (stable_of self.now).shelf }
+        ensures { result.now ≡ (stable_in self.now).shelf }
     {
         match self {
             Phase::Running(rank) => rank.shelf(),

@@ -1,8 +1,8 @@
 //! The frames of a rank, whatever it does: those that arrive, and those that go
 //! out.
-ghost use Rattle.std.specs.Prelude.{◌≡◌, ◌<◌, IsSome, IfOk, IfErr, OnOk, OnErr};
+ghost use Rattle.std.specs.Prelude.{◌≡◌, ◌<◌, Some, IsSome, IfOk, IfErr, OnOk, OnErr};
 ghost use Rattle.rank_node.specs.Frames.{IsPacket};
-ghost use Rattle.rank_node.specs.Phases.{stable_of, arrival_in, arrived, outgoing_in, passed};
+ghost use Rattle.rank_node.specs.Phases.{stable_in, arrival_in, arrived_in, outgoing_in, passed_in};
 
 use crate::fault::NodeFault;
 use crate::frame::Frame;
@@ -15,12 +15,13 @@ impl<'p, S: Shelf, D> Phase<'p, S, D> {
     /// and answers nothing. An `Err` is want of memory, and gives the frame
     /// back.
     pub fn arrive(&mut self, from: u8, frame: Frame) -> Result<Option<Arrived>, (Frame, NodeFault)>
-        requires { from < (stable_of self.old).size }
+        requires { from < (stable_in self.old).size }
         ensures answer { IfOk result (λ answer. answer ≡ arrival_in self.old from frame) }
-        ensures ok { OnOk result (self.new ≡ arrived self.old from frame) }
+        ensures ok { OnOk result (self.new ≡ arrived_in self.old from frame) }
         ensures back { IfErr result (λ refused. refused ≡ (frame, NodeFault.Memory)) }
+        ensures accepted_only { OnErr result (arrival_in self.old from frame ≡ Some Arrived.Accepted) }
         ensures err { OnErr result (self.new ≡ self.old) }
-        ensures stable { stable_of self.new ≡ stable_of self.old }
+        ensures stable { stable_in self.new ≡ stable_in self.old }
     {
         let arrived = match self {
             Phase::Running(rank) => rank.arrive(from, frame)?,
@@ -33,7 +34,7 @@ impl<'p, S: Shelf, D> Phase<'p, S, D> {
     /// What goes to this rank next; nothing from one that is down. An `Err` is
     /// want of memory.
     pub fn outgoing(&self, dest: u8) -> Result<Option<Frame>, NodeFault>
-        requires { dest < (stable_of self.now).size }
+        requires { dest < (stable_in self.now).size }
         ensures ok { IfOk result (λ frame. frame ≡ outgoing_in self.now dest) }
         ensures packet_only { OnErr result (IsPacket (outgoing_in self.now dest)) }
         ensures memory { IfErr result (λ e. e ≡ NodeFault.Memory) }
@@ -47,10 +48,10 @@ impl<'p, S: Shelf, D> Phase<'p, S, D> {
 
     /// What was outgoing to this rank has gone.
     pub fn passed(&mut self, dest: u8)
-        requires rank { dest < (stable_of self.old).size }
+        requires rank { dest < (stable_in self.old).size }
         requires due { IsSome (outgoing_in self.old dest) }
-        ensures passed { self.new ≡ passed self.old dest }
-        ensures stable { stable_of self.new ≡ stable_of self.old }
+        ensures passed { self.new ≡ passed_in self.old dest }
+        ensures stable { stable_in self.new ≡ stable_in self.old }
     {
         match self {
             Phase::Running(rank) => rank.passed(dest),

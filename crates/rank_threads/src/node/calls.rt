@@ -1,7 +1,7 @@
 //! What a rank is asked for in its life.
 ghost use Rattle.std.specs.Prelude.{◌≡◌, ◌<◌, true, false, OnErr, IfOk, IfErr};
 ghost use Rattle.rank_node.specs.Fault.{MayRefuseImage};
-ghost use Rattle.rank_node.specs.Phases.{clock_in, settled_of};
+ghost use Rattle.rank_node.specs.Phases.{clock_in, settled_in};
 ghost use Rattle.rank_threads.specs.Lives.{SameNode};
 ghost use Rattle.rank_threads.specs.Phases.{gate_in, misses_only_in, is_running};
 ghost use Rattle.rank_threads.specs.Phases.{HasImage, NoneWaits, ReadsRow, SameShelf};
@@ -27,8 +27,8 @@ impl<'p, 'l> Node<'p, 'l> {
 
     /// Whether it replays, and nothing is left to replay.
     pub fn has_replayed(&self) -> bool
-        ensures stays { result ≡ false → settled_of self.now.phase ≡ self.now.phase }
-        ensures runs { result ≡ true → is_running (settled_of self.now.phase) ≡ true }
+        ensures stays { result ≡ false → settled_in self.now.phase ≡ self.now.phase }
+        ensures runs { result ≡ true → is_running (settled_in self.now.phase) ≡ true }
     {
         match &self.phase {
             Phase::Replaying(rank) => rank.left() == 0,
@@ -47,7 +47,7 @@ impl<'p, 'l> Node<'p, 'l> {
         }
     }
 
-    /// How many acts it has made.
+    /// How many acts it has made; none where it is down.
     pub fn clock(&self) -> u32
         ensures { result ≡ clock_in self.now.phase }
     {
@@ -77,6 +77,8 @@ impl<'p, 'l> Node<'p, 'l> {
         ensures running { IfOk result (λ took. took ≡ is_running self.new.phase) }
         ensures image { IfOk result (λ took. took ≡ true → HasImage self.new.phase) }
         ensures refused { IfErr result MayRefuseImage }
+        ensures stays { IfOk result (λ took. took ≡ false → self.new.phase ≡ self.old.phase) }
+        ensures clock { clock_in self.new.phase ≡ clock_in self.old.phase }
         ensures runs { is_running self.new.phase ≡ is_running self.old.phase }
         ensures gate { gate_in self.new.phase ≡ gate_in self.old.phase }
         ensures same { SameNode self.old self.new }

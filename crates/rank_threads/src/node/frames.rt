@@ -1,7 +1,8 @@
 //! The frames of a rank in its lanes.
-ghost use Rattle.std.specs.Prelude.{◌≡◌, ◌<◌, IfOk, OnOk, OnErr};
+ghost use Rattle.std.specs.Prelude.{◌≡◌, ◌<◌, Some, IfOk, OnOk, OnErr};
 ghost use Rattle.ports.specs.Lanes.{lane_to, put_of};
-ghost use Rattle.rank_node.specs.Phases.{arrived};
+ghost use Rattle.rank_node.specs.declared.turn.Arrived.TheVariants.{Accepted};
+ghost use Rattle.rank_node.specs.Phases.{arrival_in, arrived_in};
 ghost use Rattle.rank_threads.specs.Lives.{SameNode};
 ghost use Rattle.rank_threads.specs.Phases.{gate_in, SameShelf};
 ghost use Rattle.rank_threads.specs.Putting.{Puts};
@@ -28,7 +29,9 @@ impl<'p, 'l> Node<'p, 'l> {
     #[tactic(auto, using(crate::proofs::GateLemmas::arrived_waits))]
     pub fn arrive(&mut self, from: u8, frame: Frame) -> Result<(), AllocError>
         requires { from < self.old.size }
-        ensures ok { OnOk result (self.new.phase ≡ arrived self.old.phase from frame) }
+        ensures ok { OnOk result (self.new.phase ≡ arrived_in self.old.phase from frame) }
+        ensures accepted_only { OnErr result (arrival_in self.old.phase from frame ≡ Some Accepted) }
+        ensures err { OnErr result (self.new.phase ≡ self.old.phase) }
         ensures shelf { SameShelf self.old.phase self.new.phase }
         ensures gate { gate_in self.new.phase ≡ gate_in self.old.phase }
         ensures same { SameNode self.old self.new }

@@ -1,8 +1,8 @@
 //! How a life of a rank begins and ends.
-ghost use Rattle.std.specs.Prelude.{◌≡◌, Some, None};
+ghost use Rattle.std.specs.Prelude.{◌≡◌, ◌≢◌, Some, None};
 ghost use Rattle.rank_node.specs.Node.{opening};
+ghost use Rattle.rank_node.specs.Phases.{stable_in, settled_in};
 ghost use Rattle.rank_threads.specs.Lives.{SameNode};
-ghost use Rattle.rank_node.specs.Phases.{stable_of, settled_of};
 ghost use Rattle.rank_threads.specs.Phases.{Begins, SameStable};
 
 use super::Node;
@@ -29,7 +29,8 @@ impl<'p, 'l> Node<'p, 'l> {
         requires ranks { logger.now.ranks ≡ size }
         requires sized { down.size ≡ size }
         ensures begins { result.1 ≡ None → Begins program.now down row result.0.phase }
-        ensures same { SameStable down (stable_of result.0.phase) }
+        ensures down { result.1 ≢ None → result.0.phase ≡ Phase.Down (stable_in result.0.phase) }
+        ensures same { SameStable down (stable_in result.0.phase) }
         ensures size { result.0.size ≡ size }
     {
         let (phase, fault) = match row {
@@ -46,7 +47,7 @@ impl<'p, 'l> Node<'p, 'l> {
 
     /// A rank that has nothing left to replay runs from now on.
     pub fn settled(self) -> Node<'p, 'l>
-        ensures settled { result.phase ≡ settled_of self.entry.phase }
+        ensures settled { result.phase ≡ settled_in self.entry.phase }
         ensures same { SameNode self.entry result }
     {
         let Node {
@@ -64,7 +65,7 @@ impl<'p, 'l> Node<'p, 'l> {
     /// The life is over: what is stable outlives it, and nothing else does of
     /// the rank. Gives the logger and the number of ranks back too.
     pub fn end(self) -> (Down<MemoryShelf, Desk>, &'l Logger, u8)
-        ensures down { result.0 ≡ stable_of self.entry.phase }
+        ensures down { result.0 ≡ stable_in self.entry.phase }
         ensures size { result.2 ≡ self.entry.size }
         ensures own { result.0.desk.table ≡ result.1.now.table }
         ensures ranks { result.1.now.ranks ≡ result.2 }
@@ -86,7 +87,8 @@ fn first<'p>(
     down: Down<MemoryShelf, Desk>,
 ) -> (Phase<'p, MemoryShelf, Desk>, Option<NodeFault>)
     ensures begins { result.1 ≡ None → result.0 ≡ Phase.Running (opening program.now down) }
-    ensures stable { stable_of result.0 ≡ down }
+    ensures down { result.1 ≢ None → result.0 ≡ Phase.Down (stable_in result.0) }
+    ensures stable { stable_in result.0 ≡ down }
 {
     match Running::start(alloc, program, down.retire()) {
         Ok(rank) => (Phase::Running(rank), None),
@@ -102,7 +104,8 @@ fn again<'p>(
     row: Row,
 ) -> (Phase<'p, MemoryShelf, Desk>, Option<NodeFault>)
     ensures begins { result.1 ≡ None → Begins program.now down (Some row) result.0 }
-    ensures same { SameStable down (stable_of result.0) }
+    ensures down { result.1 ≢ None → result.0 ≡ Phase.Down (stable_in result.0) }
+    ensures same { SameStable down (stable_in result.0) }
 {
     match down.restart(alloc, program, row.into_events()) {
         Ok(rank) => (Phase::Replaying(rank).settled(), None),

@@ -24,7 +24,7 @@ impl<'p> Seat<'p> {
         ensures ok { IfOk result (λ frame. IfLive self.now.live (λ v. frame ≡ outgoing_of v.rank dest)) }
         ensures packet_only { OnErr result (IfLive self.now.live (λ v. IsPacket (outgoing_of v.rank dest))) }
     {
-        let Some(rank) = &self.place else {
+        let Some(rank) = &self.occupant else {
             unreachable!();
         };
         let Ok(frame) = rank.outgoing(dest) else {
@@ -39,7 +39,7 @@ impl<'p> Seat<'p> {
         ensures passed { IfLive self.old.live (λ v. self.new.live ≡ with_rank_value v (after_passed v.rank dest)) }
         ensures others { self.new ≡ with_live self.old self.new.live }
     {
-        let Some(rank) = &mut self.place else {
+        let Some(rank) = &mut self.occupant else {
             unreachable!();
         };
         rank.passed(dest);
@@ -49,11 +49,12 @@ impl<'p> Seat<'p> {
     pub fn arrive(&mut self, from: u8, frame: Frame) -> Result<Arrived, AllocError>
         requires { IfLive self.old.live (λ v. from < v.rank.stable.size) }
         ensures answer { IfOk result (λ answer. IfLive self.old.live (λ v. answer ≡ arrival_of v.rank from frame)) }
+        ensures accepted_only { OnErr result (IfLive self.old.live (λ v. arrival_of v.rank from frame ≡ Arrived.Accepted)) }
         ensures ok { OnOk result (IfLive self.old.live (λ v. self.new.live ≡ with_rank_value v (after_frame v.rank from frame))) }
         ensures others { self.new ≡ with_live self.old self.new.live }
         ensures err { OnErr result (self.new ≡ self.old) }
     {
-        let Some(rank) = &mut self.place else {
+        let Some(rank) = &mut self.occupant else {
             unreachable!();
         };
         match rank.arrive(from, frame) {
@@ -71,7 +72,7 @@ impl<'p> Seat<'p> {
         ensures none { OnFalse result (IfLive self.old.live (λ v. v.rank.stored ≡ 0)) }
         ensures stays { OnFalse result (self.new ≡ self.old) }
     {
-        match &mut self.place {
+        match &mut self.occupant {
             Some(Phase::Running(running)) => running.ack(),
             Some(Phase::Replaying(_) | Phase::Down(_)) | None => unreachable!(),
         }
@@ -90,7 +91,7 @@ impl<'p> Seat<'p> {
         ensures err { OnErr result (self.new ≡ self.old) }
         ensures err_logger { OnErr result (logger.new ≡ logger.old) }
     {
-        let stored = match &mut self.place {
+        let stored = match &mut self.occupant {
             Some(Phase::Running(running)) => running.store_state(logger),
             Some(Phase::Replaying(_) | Phase::Down(_)) | None => unreachable!(),
         };
@@ -114,7 +115,7 @@ impl<'p> Seat<'p> {
         ensures err { OnErr result (self.new ≡ self.old) }
         ensures err_console { OnErr result (console.new ≡ console.old) }
     {
-        let released = match &mut self.place {
+        let released = match &mut self.occupant {
             Some(Phase::Running(running)) => running.release(console),
             Some(Phase::Replaying(_) | Phase::Down(_)) | None => unreachable!(),
         };

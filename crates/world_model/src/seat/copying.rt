@@ -15,18 +15,19 @@ impl<'p> Seat<'p> {
     pub fn copy(&self, alloc: Heap) -> Result<Seat<'p>, AllocError>
         ensures { IfOk result (λ copy. IsSeatCopy self.now copy) }
     {
-        let Some(rank) = &self.place else {
+        let Some(rank) = &self.occupant else {
             unreachable!();
         };
         Ok(Seat {
             program: self.program,
             rank: self.rank,
             size: self.size,
-            place: Some(copied(rank, alloc)?),
+            occupant: Some(copied(rank, alloc)?),
         })
     }
 }
 
+// The same rank on a shelf of its own, with the image that its shelf holds.
 #[tactic(auto, using(crate::proofs::Copying::phase_copy))]
 fn copied<'p>(
     rank: &Phase<'p, MemoryShelf, ()>,

@@ -16,7 +16,7 @@ impl<'p> Seat<'p> {
         ensures others { self.new ≡ with_both self.old self.new.live self.new.image }
         ensures err { OnErr result (self.new ≡ self.old) }
     {
-        let imaged = match &mut self.place {
+        let imaged = match &mut self.occupant {
             Some(Phase::Running(running)) => running.image(),
             Some(Phase::Replaying(_) | Phase::Down(_)) | None => unreachable!(),
         };

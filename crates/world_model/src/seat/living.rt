@@ -6,7 +6,7 @@ ghost use Rattle.rank_node.specs.Replay.{cuts, left_of};
 ghost use Rattle.world_model.specs.Seat.{bytes_of, live_of, shelf_of, HasLeft, IsOwn, IsStanding};
 ghost use Rattle.world_model.specs.Seats.{with_live, IsRestarted};
 
-use crate::place::{put, take};
+use crate::occupant::{put, take};
 use crate::seat::Seat;
 use checkpoint::MemoryShelf;
 use metered::Heap;
@@ -21,8 +21,8 @@ impl<'p> Seat<'p> {
     pub fn crash(&mut self)
         ensures { self.new ≡ with_live self.old None }
     {
-        let crashed = take(&mut self.place).crash();
-        put(&mut self.place, Phase::Down(crashed));
+        let crashed = take(&mut self.occupant).crash();
+        put(&mut self.occupant, Phase::Down(crashed));
     }
 
     /// The rank, which is down, starts again at its image, or at the beginning
@@ -39,14 +39,14 @@ impl<'p> Seat<'p> {
         ensures err { OnErr result (self.new ≡ self.old) }
     {
         // what is down already stays so
-        let down = take(&mut self.place).crash();
+        let down = take(&mut self.occupant).crash();
         match restarted(down, alloc, self.program, row) {
             Ok((rank, left)) => {
-                put(&mut self.place, rank);
+                put(&mut self.occupant, rank);
                 Ok(left)
             }
             Err((down, fault)) => {
-                put(&mut self.place, Phase::Down(down));
+                put(&mut self.occupant, Phase::Down(down));
                 match fault {
                     NodeFault::Memory => Err(AllocError),
                     NodeFault::NotSettled

@@ -2,7 +2,7 @@
 ghost use Rattle.std.specs.Prelude.{◌≡◌, ◌≢◌, [], true, None, IfOk, OnOk, OnErr};
 ghost use Rattle.world_model.specs.Seats.{with_live, IfLive, IsFitting, IsReplayed, IsStep};
 
-use crate::place::{put, take};
+use crate::occupant::{put, take};
 use crate::seat::Seat;
 use ports::ConsoleState;
 use rank_node::{Phase, Turn};
@@ -26,7 +26,7 @@ impl<'p> Seat<'p> {
         ensures memory { OnErr result (IfLive self.old.live (λ v. takes_memory v.rank ≡ true)) }
         ensures err_console { OnErr result (console.new ≡ console.old) }
     {
-        let step = match &mut self.place {
+        let step = match &mut self.occupant {
             Some(Phase::Running(running)) => running.step(console),
             Some(Phase::Replaying(_) | Phase::Down(_)) | None => unreachable!(),
         };
@@ -50,15 +50,15 @@ impl<'p> Seat<'p> {
         ensures memory { OnErr result (IfLive self.old.live (λ v. replay_takes_memory v.rank ≡ true)) }
         ensures err_console { OnErr result (console.new ≡ console.old) }
     {
-        let step = match &mut self.place {
+        let step = match &mut self.occupant {
             Some(Phase::Replaying(replaying)) => replaying.step(console),
             Some(Phase::Running(_) | Phase::Down(_)) | None => unreachable!(),
         };
         let Ok(turn) = step else {
             return Err(AllocError);
         };
-        let settled = take(&mut self.place).settled();
-        put(&mut self.place, settled);
+        let settled = take(&mut self.occupant).settled();
+        put(&mut self.occupant, settled);
         Ok(turn)
     }
 }

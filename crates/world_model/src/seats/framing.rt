@@ -36,6 +36,7 @@ impl<'p> Seats<'p> {
         requires rank { rank < length self.old.ranks }
         requires from { AtRank self.old.ranks rank (λ v. from < v.rank.stable.size) }
         ensures answer { IfOk result (λ answer. AtRank self.old.ranks rank (λ v. answer ≡ arrival_of v.rank from frame)) }
+        ensures accepted_only { OnErr result (AtRank self.old.ranks rank (λ v. arrival_of v.rank from frame ≡ Arrived.Accepted)) }
         ensures ok { OnOk result (AtRank self.old.ranks rank (λ v. self.new.ranks ≡ with_value self.old.ranks rank v (after_frame v.rank from frame))) }
         ensures program { self.new.program ≡ self.old.program }
         ensures images { self.new.images ≡ self.old.images }

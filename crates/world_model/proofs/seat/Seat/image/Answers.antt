@@ -8,6 +8,6 @@ invariant_of-self c =
     let rank = c.in-Some-Running in
     record {
       standing = of_image _ _ _ rank.running c.image-imaged.new.self c.in_default.ensures.ok
-          (as_running _ _ _ c.self.inside.place rank.running c.self.invariant (rank.is ∙ ap Some rank.field-0-is));
+          (as_running _ _ _ c.self.inside.occupant rank.running c.self.invariant (rank.is ∙ ap Some rank.field-0-is));
       left = tt;
     }
