@@ -7,12 +7,10 @@ mod clocks;
 mod counts;
 mod fault;
 mod lines;
-mod names;
 mod outcome;
 mod trace;
 
 pub use auditing::{Audited, audit, find_run};
 pub use fault::AuditFault;
-pub use names::fault_name;
 pub use outcome::{End, Outcome};
 pub use ports::Line;

@@ -5,7 +5,7 @@ use crate::fates::Fate;
 use crate::given::Told;
 use crate::left::unreceived;
 use crate::message::{Message, put_mark};
-use audit::{End, fault_name};
+use audit::End;
 use matching::{Context, Selector};
 use metered::Heap;
 use metered::limits::{GREATEST_CLOCK, MOST_EVENTS};
@@ -40,7 +40,7 @@ fn put_end(
         End::Halted => to.push_str("halted")?,
         End::Faulted(fault) => {
             let number = fault.number();
-            let name = fault_name(fault);
+            let name = fault.name();
             write!(to, "fault {number} {name}")?;
             put_statement(to, told, rank)?;
         }

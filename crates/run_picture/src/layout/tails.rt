@@ -2,7 +2,7 @@
 
 use crate::layout::measures::OVERHANG;
 use crate::layout::scene::{Seen, Tail, TailKind};
-use audit::{End, fault_name};
+use audit::End;
 use metered::Heap;
 use std::alloc::AllocError;
 use std::fmt::Write;
@@ -57,7 +57,7 @@ fn put_end(text: &mut String<Heap>, end: End) -> Result<(), AllocError> {
         End::Halted => write!(text, "halted"),
         End::Faulted(fault) => {
             let number = fault.number();
-            let name = fault_name(fault);
+            let name = fault.name();
             write!(text, "fault {number} {name}")
         }
         End::Stalled => write!(text, "stalled"),

@@ -5,7 +5,7 @@ use super::line::Line;
 use crate::circles::circle_from;
 use crate::ends::{line_of, other, statement_of, waits_for, why_unfinished};
 use crate::given::Told;
-use audit::{End, fault_name};
+use audit::End;
 use metered::Heap;
 use serde_json::Value;
 use std::alloc::AllocError;
@@ -36,7 +36,7 @@ fn put_end(
         End::Faulted(fault) => {
             line.text("end", "fault")?;
             line.number("fault", u64::from(fault.number()))?;
-            line.text("name", fault_name(fault))?;
+            line.text("name", fault.name())?;
             put_statement(alloc, line, told, rank)
         }
         End::Stalled => {
