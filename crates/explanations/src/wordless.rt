@@ -14,7 +14,7 @@ pub fn put_wordless(
     line: &[u8],
     words: &[Piece<'_>],
 ) -> Result<bool, AllocError> {
-    if has_no_text(line) {
+    if has_foreign_byte(line) {
         put_no_text(told, number, line)?;
         return Ok(true);
     }
@@ -27,6 +27,7 @@ pub fn put_wordless(
     Ok(false)
 }
 
-fn has_no_text(line: &[u8]) -> bool {
+// Whether a byte of the line is none of a text.
+fn has_foreign_byte(line: &[u8]) -> bool {
     line.iter().any(|byte| *byte < b' ' || b'~' < *byte)
 }
