@@ -5,7 +5,7 @@ use Rattle.std.proofs.lemmas.Option.{slice_get_within, get_or_from_slice_get}
 use Rattle.std.proofs.lemmas.List.Sums.{sum_by-drop_more}
 use Rattle.rank_language.specs.Program.{ProgramValue}
 use Rattle.rank_machine.specs.Acts.{Act}
-use Rattle.crash_free.specs.Runs.{Passed}
+use Rattle.crash_free.specs.Standing.{Rows}
 use Rattle.crash_free.specs.Sim.{SimValue, choice_of, Simulates, start_of, Allows}
 use Rattle.crash_free.specs.Wanted.{StandsAtAct}
 use Rattle.explore.specs.declared.branch.Branch.{Branch}
@@ -107,7 +107,7 @@ enough_begins program n k b begins e =
     (k, zero, subst (λ P. AreEnough (start_of program n) n k P) (sym begins.run) e, tt, omega arith)
 
 -- after a branch was looked at fewer are enough
-pub enough_on : (program : ProgramValue) (n k runs most : ℕ) (outcomes : List (List RankOutcome)) (pending new : List Branch) (met : List (List Passed))
+pub enough_on : (program : ProgramValue) (n k runs most : ℕ) (outcomes : List (List RankOutcome)) (pending new : List Branch) (met : List Rows)
     (cut : Bool) (b : Branch) → Searches program n outcomes (pending ++ b ∷ []) met cut → Spares b.sim pending new
     → EnoughForAll program n k (pending ++ b ∷ []) → k + runs ≤ most
     → (i : ℕ) × EnoughForAll program n i new × (i + (runs + 1) ≤ most)

@@ -1,0 +1,94 @@
+-- Runs that stand alike have the same outcomes, end alike, and are searched alike: so a search may leave a run out where one was searched that
+-- it stands alike with.
+use Rattle.std.proofs.Common.{ℕ, ◌<◌, List, sym, subst, ◌∙◌}
+use Rattle.std.proofs.lemmas.Option.{slice_get_within}
+use Rattle.rank_machine.specs.States.{State}
+use Rattle.rank_machine.specs.Wants.{wants}
+use Rattle.crash_free.specs.Runs.{Passed, history, IsRun}
+use Rattle.crash_free.specs.Alike.{StandsAlike, StandAlike}
+use Rattle.crash_free.proofs.Alike.{comes_too, alike_back, each_follows_too}
+use Rattle.final_runs.specs.Maximal.{IsMaximal, RankOutcome, IsRankOutcome, IsOutcomeOf}
+use Rattle.explore.specs.Exploring.{and_then, HasOneAnswer, IsExplored, ends, fixed, branch}
+use Rattle.explore.specs.Exploring.{AlwaysEndsIn, at_end, goes_on}
+use Rattle.explore.specs.Onward.{GoesOnTo, there, further, MayEndSo}
+use Rattle.final_runs.proofs.Simulating.{no_step}
+
+-- where the one is maximal the other is
+pub maximal_too : (start : ℕ → State) (n : ℕ) (P Q : List Passed) → IsRun start n P → IsRun start n Q → StandAlike start n P Q → IsMaximal start n P
+    → IsMaximal start n Q
+maximal_too start n P Q run run' alike maximal r act may =
+    let f = each_follows_too start n Q P run' run (alike_back start n P Q alike) r act may.0 may.1 in
+    maximal r f.other (may.0, f.may)
+
+-- a rank that stands alike in both has one outcome
+rank_too : (start : State) (n : ℕ) (P Q : List Passed) (r : ℕ) (x : RankOutcome) → StandsAlike start n P Q r → IsRankOutcome start (history P r) x
+    → IsRankOutcome start (history Q r) x
+rank_too start n P Q r x a o =
+    let too = comes_too start (history P r) (history Q r) a.state o.stands a.comes a.comes_too o.after o.reached o.inner (no_step o.stands x.end o.ended) in
+    record { lines = o.lines ∙ a.lines; after = too.0; stands = o.stands; reached = too.1; inner = too.2; ended = o.ended }
+
+-- so the outcome of the one is that of the other
+pub outcome_too : (start : ℕ → State) (n : ℕ) (P Q : List Passed) (o : List RankOutcome) → IsRun start n Q → StandAlike start n P Q → IsOutcomeOf start n P o
+    → IsOutcomeOf start n Q o
+outcome_too start n P Q o run' alike is_its =
+    record {
+      is_run = run';
+      maximal = maximal_too start n P Q is_its.is_run run' alike is_its.maximal;
+      as_many = is_its.as_many;
+      each =
+          λ r x e.
+          (let low : r < n = subst (λ k. r < k) is_its.as_many (slice_get_within o r x e) in
+          rank_too (start r) n P Q r x (alike r low) (is_its.each r x e));
+    }
+
+-- A run that goes on from the other, and stands alike with one that goes on from the first.
+pub record Onward (start : ℕ → State) (n : ℕ) (Q C : List Passed) : Type 0 where
+  pub run : List Passed
+  pub is_run : IsRun start n run
+  pub onward : GoesOnTo start n Q run
+  pub alike : StandAlike start n C run
+
+-- for each run that goes on from the one there is such a run
+pub goes_on_too : (start : ℕ → State) (n : ℕ) (P Q C : List Passed) → IsRun start n P → IsRun start n Q → StandAlike start n P Q → GoesOnTo start n P C
+    → Onward start n Q C
+goes_on_too start n P Q C run run' alike there = record { run = Q; is_run = run'; onward = there; alike = alike }
+goes_on_too start n P Q C run run' alike (further r act may on) =
+    let f = each_follows_too start n P Q run run' alike r act may.0 may.1 in
+    let next = goes_on_too start n (and_then P r act) (and_then Q r f.other) C (run, may.0, may.1) (run', may.0, f.may) f.alike on in
+    record { run = next.run; is_run = next.is_run; onward = further r f.other (may.0, f.may) next.onward; alike = next.alike }
+
+-- So the outcomes of the maximal runs that go on from the one are those of the maximal runs that go on from the other.
+pub ends_so_too : (start : ℕ → State) (n : ℕ) (P Q : List Passed) → IsRun start n P → IsRun start n Q → StandAlike start n P Q → (o : List RankOutcome)
+    → MayEndSo start n P o → MayEndSo start n Q o
+ends_so_too start n P Q run run' alike o m =
+    let next = goes_on_too start n P Q m.0 run run' alike m.1 in
+    (next.run, next.onward, outcome_too start n m.0 next.run o next.is_run next.alike m.2)
+
+-- where each way on from the one comes to an end that is found, each from the other does
+pub always_ends_too : (start : ℕ → State) (n : ℕ) (found : List RankOutcome → Type 0) (P Q : List Passed) → IsRun start n P → IsRun start n Q
+    → StandAlike start n P Q → AlwaysEndsIn start n found P → AlwaysEndsIn start n found Q
+always_ends_too start n found P Q run run' alike (at_end o is_its is_found) = at_end o (outcome_too start n P Q o run' alike is_its) is_found
+always_ends_too start n found P Q run run' alike (goes_on r act may ending) =
+    let f = each_follows_too start n P Q run run' alike r act may.0 may.1 in
+    goes_on r f.other (may.0, f.may)
+    (λ q a may'.
+    (let g = each_follows_too start n Q P run' run (alike_back start n P Q alike) q a may'.0 may'.1 in
+    always_ends_too start n found (and_then P q g.other) (and_then Q q a) (run, may'.0, g.may) (run', may'.0, may'.1)
+    (alike_back start n (and_then Q q a) (and_then P q g.other) g.alike) (ending q g.other (may'.0, g.may))))
+
+-- and where all was searched that may follow the one, all was that may follow the other
+pub explored_too : (start : ℕ → State) (n : ℕ) (found : List RankOutcome → Type 0) (P Q : List Passed) → IsRun start n P → IsRun start n Q
+    → StandAlike start n P Q → IsExplored start n found P → IsExplored start n found Q
+explored_too start n found P Q run run' alike (ends o is_its is_found) = ends o (outcome_too start n P Q o run' alike is_its) is_found
+explored_too start n found P Q run run' alike (fixed r act fix explored) =
+    let f = each_follows_too start n P Q run run' alike r act fix.low fix.may in
+    fixed r f.other
+    (record { low = fix.low; may = f.may; one = subst (λ a. HasOneAnswer (wants a)) (sym f.stands_same) fix.one })
+    (explored_too start n found (and_then P r act) (and_then Q r f.other) (run, fix.low, fix.may) (run', fix.low, f.may) f.alike explored)
+explored_too start n found P Q run run' alike (branch r act may explored) =
+    let f = each_follows_too start n P Q run run' alike r act may.0 may.1 in
+    branch r f.other (may.0, f.may)
+    (λ q a may'.
+    (let g = each_follows_too start n Q P run' run (alike_back start n P Q alike) q a may'.0 may'.1 in
+    explored_too start n found (and_then P q g.other) (and_then Q q a) (run, may'.0, g.may) (run', may'.0, may'.1)
+    (alike_back start n (and_then Q q a) (and_then P q g.other) g.alike) (explored q g.other (may'.0, g.may))))

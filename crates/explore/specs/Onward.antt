@@ -1,0 +1,16 @@
+-- What may come of a run: the runs that go on from it, and their outcomes.
+use Rattle.std.specs.Prelude.{ℕ, List}
+use Rattle.rank_machine.specs.States.{State}
+use Rattle.rank_machine.specs.Acts.{Act}
+use Rattle.crash_free.specs.Runs.{Passed}
+use Rattle.final_runs.specs.Maximal.{MayFollow, RankOutcome, IsOutcomeOf}
+use Rattle.explore.specs.Exploring.{and_then}
+
+-- acts that may follow, one after another, lead from the one run to the other
+pub data GoesOnTo (start : ℕ → State) (n : ℕ) : List Passed → List Passed → Type 0 where
+  there : {P : List Passed} → GoesOnTo start n P P
+  further : {P C : List Passed} (r : ℕ) (act : Act) → MayFollow start n P r act → GoesOnTo start n (and_then P r act) C → GoesOnTo start n P C
+
+-- some maximal run that goes on from this one has the outcome
+abbrev pub MayEndSo : (ℕ → State) → ℕ → List Passed → List RankOutcome → Type 0
+MayEndSo start n P o = (C : List Passed) × GoesOnTo start n P C × IsOutcomeOf start n C o
