@@ -23,7 +23,7 @@ pub struct ExplainJob<'a> {
 /// The form of the words.
 pub fn explain<'a>(alloc: Global) -> Result<Command<'a>, AllocError> {
     Command::new(alloc, "explain")
-        .about("Tells a text's first fault: where it stands and what was expected")
+        .about("Explains a text's first fault: where it is and what was expected")
         .after_help(help::EXPLAIN)
         .arg(ranks_argument(alloc).required(false))?
         .arg(script(alloc)?)?

@@ -5,7 +5,7 @@ use crate::syntax::of_a_run;
 use clap::{Arg, ArgAction, ArgMatches, Command, value_parser};
 use std::alloc::{AllocError, Global};
 
-/// In which form a run is told.
+/// In which form a run is traced.
 #[derive(Clone, Copy, Debug, PartialEq, Eq)]
 pub enum TraceForm {
     /// Lines for a person.
@@ -18,7 +18,7 @@ pub enum TraceForm {
     Picture { from: u32, to: u32 },
 }
 
-/// One run that is told.
+/// One run that is traced.
 #[derive(Clone, Copy, PartialEq, Eq)]
 pub struct TraceJob<'a> {
     pub run: RunJob<'a>,
@@ -41,7 +41,7 @@ pub fn trace<'a>(alloc: Global) -> Result<Command<'a>, AllocError> {
 fn json<'a>(alloc: Global) -> Arg<'a> {
     Arg::new(alloc, "json")
         .long("json")
-        .help("Tells the same as JSON, an object a line")
+        .help("Prints the same as JSON, an object a line")
         .action(ArgAction::SetTrue)
 }
 

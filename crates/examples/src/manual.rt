@@ -1,7 +1,7 @@
 //! Runs of the texts of the manual.
 
-/// The words of each run, after the program's name: the texts of docs/LANGUAGE.md
-/// in its order.
+/// The words of each run, after the program's name: the texts of the manual's
+/// pages (LANGUAGE, TROUBLESHOOTING and ERRORS under docs/).
 pub const RUNS: [&str; 93] = [
     "run --ranks 1 manual/var.rank",
     "run --ranks 1 manual/array.rank",

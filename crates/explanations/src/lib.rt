@@ -1,5 +1,5 @@
-//! What is wrong with a text, told to the person who wrote it: the line, the
-//! place in it, what was expected there, and a near word where there is one.
+//! Explains what is wrong with a text to the person who wrote it: the line, the
+//! place in it, what was expected there, and a near word if there is one.
 //!
 //! The faults themselves are those of `rank_language`, `script_text` and
 //! `events_text`; here they are only explained.
@@ -8,6 +8,7 @@
 mod declared;
 mod events;
 mod fitting;
+mod foreign;
 mod limits;
 mod near;
 mod piece;

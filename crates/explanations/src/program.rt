@@ -2,6 +2,7 @@
 
 use crate::declared::{Before, Block, Declared, Sort};
 use crate::fitting::{STATEMENTS, first_misfit};
+use crate::foreign::{Aim, aim_of};
 use crate::limits::limit_passed;
 use crate::near::put_nearest;
 use crate::piece::{Piece, pieces_of};
@@ -106,9 +107,31 @@ fn put_no_statement(
     put_piece(told, line, first)?;
     told.push_str("no statement begins so")?;
     if let Some(piece) = first {
-        put_nearest(told, alloc, piece.text, &STATEMENTS)?;
+        put_meant(told, alloc, piece, pieces.get(1).copied())?;
     }
     told.push('\n')
+}
+
+// What to write in place of this word, by what stands behind it, or by itself.
+fn put_meant(
+    told: &mut String<Heap>,
+    alloc: Heap,
+    word: Piece<'_>,
+    behind: Option<Piece<'_>>,
+) -> Result<(), AllocError> {
+    let sets = word.is_word() && behind.is_some_and(|piece| piece.is(b"="));
+    let aim = if sets {
+        Some(Aim::Set)
+    } else {
+        aim_of(alloc, word.text)?
+    };
+    match aim {
+        Some(aim) => {
+            told.push_str("; ")?;
+            told.push_str(aim.text())
+        }
+        None => put_nearest(told, alloc, word.text, &STATEMENTS),
+    }
 }
 
 fn put_misfit(

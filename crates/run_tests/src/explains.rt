@@ -3,7 +3,7 @@ use crate::scenes::expect_answer;
 use std::test::*;
 
 /// Programs.
-const PROGRAMS: [(&str, &str); 40] = [
+const PROGRAMS: [(&str, &str); 47] = [
     (
         "print 1\r\n",
         "line 1: fault 1 NotText\n  print 1?\n         ^\na carriage return: end the lines with a line feed alone\nmanual: docs/LANGUAGE.md, \"Lines, words and names\"\n",
@@ -34,7 +34,35 @@ const PROGRAMS: [(&str, &str); 40] = [
     ),
     (
         "receive 0, 0, x\n",
-        "line 1: fault 2 NotAStatement\n  receive 0, 0, x\n  ^^^^^^^\nno statement begins so\nmanual: docs/LANGUAGE.md, \"Lines, words and names\"\n",
+        "line 1: fault 2 NotAStatement\n  receive 0, 0, x\n  ^^^^^^^\nno statement begins so; to receive a message, write `recv RANK, TAG, x`, or `recv any, any, x`\nmanual: docs/LANGUAGE.md, \"Lines, words and names\"\n",
+    ),
+    (
+        "recieve 0, 0, x\n",
+        "line 1: fault 2 NotAStatement\n  recieve 0, 0, x\n  ^^^^^^^\nno statement begins so; to receive a message, write `recv RANK, TAG, x`, or `recv any, any, x`\nmanual: docs/LANGUAGE.md, \"Lines, words and names\"\n",
+    ),
+    (
+        "MPI_Recv(x)\n",
+        "line 1: fault 2 NotAStatement\n  MPI_Recv(x)\n  ^^^^^^^^\nno statement begins so; to receive a message, write `recv RANK, TAG, x`, or `recv any, any, x`\nmanual: docs/LANGUAGE.md, \"Lines, words and names\"\n",
+    ),
+    (
+        "for i = 0\n",
+        "line 1: fault 2 NotAStatement\n  for i = 0\n  ^^^\nno statement begins so; to repeat lines, write `while x < size` and end them with `end`\nmanual: docs/LANGUAGE.md, \"Lines, words and names\"\n",
+    ),
+    (
+        "elif x\n",
+        "line 1: fault 2 NotAStatement\n  elif x\n  ^^^^\nno statement begins so; to test again, write `else` and, on the next line, an `if` with its own `end`\nmanual: docs/LANGUAGE.md, \"Lines, words and names\"\n",
+    ),
+    (
+        "int x\n",
+        "line 1: fault 2 NotAStatement\n  int x\n  ^^^\nno statement begins so; to declare a variable, write `var x`, and `let x = 0` to set it\nmanual: docs/LANGUAGE.md, \"Lines, words and names\"\n",
+    ),
+    (
+        "x = 1\n",
+        "line 1: fault 2 NotAStatement\n  x = 1\n  ^\nno statement begins so; to set a variable, write `let x = 0`\nmanual: docs/LANGUAGE.md, \"Lines, words and names\"\n",
+    ),
+    (
+        "MPI_Init()\n",
+        "line 1: fault 2 NotAStatement\n  MPI_Init()\n  ^^^^^^^^\nno statement begins so; nothing is to be set up: each rank knows `rank` and `size`\nmanual: docs/LANGUAGE.md, \"Lines, words and names\"\n",
     ),
     (
         "print 1 +\n",

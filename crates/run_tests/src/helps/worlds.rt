@@ -55,9 +55,8 @@ and on it the lowest fault. `ftmpi check --help` has the faults of a program.
   1 BadLine  the line has none of these forms
   2 Limit    there are more than 100000 lines
 
-Exit status: 0 where the replies are printed, whatever they are, 2 where the
-program or the events are refused or can't be read; `ftmpi --help` has the
-others.
+Exit status: 0 if the replies are printed, whatever they are, 2 if the program
+or the events are refused or can't be read; `ftmpi --help` has the others.
 
 Example, at the top of the repository:
   ./ftmpi world --ranks 2 examples/answer.rank examples/crash.events
@@ -80,11 +79,11 @@ Options:
   -h, --help       Print help
 
 The events are given to the ranks as by `ftmpi world`, and no reply is printed.
-What is printed is a way on from there: events, one a line, after which every
-rank is up, has nothing left to replay, and has made each act of its own that
-had passed. None of them is a crash. Of the frames that were on the wires, only
-asks for packets arrive; each packet that arrives is put first. Where nothing
-is to be done, nothing is printed.
+What is printed is a recovery schedule from there: events, one a line, after
+which every rank is up, has nothing left to replay, and has made each act of its
+own that had passed. None of them is a crash. Of the frames that were on the
+wires, only asks for packets arrive; each packet that arrives is put first. If
+nothing is to be done, nothing is printed.
 
 The lines can be put behind those of EVENTS and given to `ftmpi world`, as long
 as both together have at most 100000 lines.
@@ -95,11 +94,11 @@ and on it the lowest fault. `ftmpi check --help` has the faults of a program,
   1 BadLine  the line has none of the forms of an event
   2 Limit    there are more than 100000 lines
 
-Exit status: 0 where the way on is printed, 2 where the program or the events
-are refused or can't be read; `ftmpi --help` has the others.
+Exit status: 0 if the schedule is printed, 2 if the program or the events are
+refused or can't be read; `ftmpi --help` has the others.
 
 Example, at the top of the repository:
   ./ftmpi catch-up --ranks 2 examples/answer.rank examples/all_down.events
 
-docs/WORLDS.md is a guide to worlds, and shows a way on.
+docs/WORLDS.md is a guide to worlds, and shows a recovery schedule.
 ";
