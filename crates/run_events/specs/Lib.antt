@@ -1,3 +1,4 @@
 pub mod Planned
+pub mod Finishing
 pub mod Fault
 pub mod Plays

@@ -1,4 +1,5 @@
--- Copies of the ranks of a world: each is the same rank, on a shelf of its own that holds the same image.
+-- Copies of the ranks of a world: each is the same rank, on a shelf of its own that holds the same
+-- image.
 use Rattle.std.specs.Prelude.{◌≡◌, ℕ}
 use Rattle.rank_language.specs.Program.{ProgramValue}
 use Rattle.world_model.specs.Seats.{SeatValue}

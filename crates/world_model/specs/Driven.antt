@@ -1,4 +1,5 @@
--- A world that is driven along the way: what it is like beside the world at the start, and what holds of it.
+-- A world that is driven along a recovery schedule: what it is like beside the world at the start,
+-- and what holds of it.
 use Rattle.std.specs.Prelude.{◌≡◌, ℕ, ◌+◌, ◌<◌, ◌≤◌, ◌⊎◌, ◌++◌, List, [], ◌∷◌, length, Option, Some, None, slice_get, slice_index_or, max, Bool, true, false}
 use Rattle.std.specs.Prelude.{if◌then◌else◌}
 use Rattle.checkpoint.specs.declared.memory_shelf.MemoryShelf.{MemoryShelf}
@@ -38,14 +39,15 @@ IsAlike None (Some v) = ⊥
 IsAlike (Some u) None = ⊥
 IsAlike (Some u) (Some v) = (shelf : MemoryShelf) × (v ≡ shelved u shelf)
 
--- so for each rank
+-- each rank is the other, on a shelf of its own
 abbrev pub AreAlike : List (Option Live) → List (Option Live) → Type 0
 AreAlike [] [] = Unit {0}
 AreAlike [] (y ∷ ys) = ⊥
 AreAlike (x ∷ xs) [] = ⊥
 AreAlike (x ∷ xs) (y ∷ ys) = IsAlike x y × AreAlike xs ys
 
--- Two worlds are the same but for the shelves themselves, whose images are the same, and the logger's history.
+-- Two worlds are the same except for the shelves themselves, whose images are the same, and the
+-- logger's history.
 pub record Alike (a b : WorldValue) : Type 0 where
   pub program : b.program ≡ a.program
   pub ranks : AreAlike a.ranks b.ranks
@@ -57,7 +59,7 @@ pub record Alike (a b : WorldValue) : Type 0 where
 
 -- ---- the way that a world was driven
 
--- the way is made of these alone
+-- a recovery schedule is made of these alone
 abbrev pub IsUsed : WorldEvent → Type 0
 IsUsed (Step r) = Unit {0}
 IsUsed (Put s d) = Unit {0}
@@ -69,7 +71,7 @@ IsUsed (Crash r) = ⊥
 IsUsed (Restart r) = Unit {0}
 IsUsed (Release r) = ⊥
 
--- these events happened one after another: each is used on the way, is its own, and could happen
+-- these events happened one after another: each is used by recovery, is its own, and could happen
 abbrev pub Drove : WorldValue → WorldValue → List WorldEvent → WorldValue → Type 0
 Drove start w [] w' = w' ≡ w
 Drove start w (event ∷ events) w' =
@@ -80,7 +82,8 @@ Drove start w (event ∷ events) w' =
 abbrev pub AreLonger : WorldValue → WorldValue → Type 0
 AreLonger start w = (s d : ℕ) (old frames : List Frame) → IsWire start s d old → IsWire w s d frames → length old ≤ length frames
 
--- A world that was driven by these events from one like the start: it is a world, and its run is the one at the start.
+-- A world that was driven by these events from one like the start: it is a world, and its run is
+-- the one at the start.
 pub record Driven (start : WorldValue) (events : List WorldEvent) (w : WorldValue) : Type 0 where
   pub first : WorldValue
   pub alike : Alike start first
@@ -96,13 +99,13 @@ pub record Driven (start : WorldValue) (events : List WorldEvent) (w : WorldValu
 abbrev pub AllLive : WorldValue → Type 0
 AllLive w = (r : ℕ) → r < size w → (v : Live) × IsLive w r v
 
--- No message that a rank behind the run may lack was passed by: for these pairs, the cursor of the one stands at most at
--- the next that the other accepts.
+-- No message that a rank behind the run may lack was passed by: for these pairs, the cursor of the
+-- one stands at most at the next that the other accepts.
 abbrev pub NoGapsIn : (ℕ → ℕ → Type 0) → WorldValue → Type 0
 NoGapsIn P w = (s d : ℕ) (u v : Live) → P s d → IsLive w s u → IsLive w d v → Behind w.run d v
     → (backlog u.rank.log d).cursor ≤ accepted_from v.rank.inbox s + 1
 
--- so for all pairs
+-- no message that a rank behind the run may lack was passed by, for all pairs of ranks
 abbrev pub NoGaps : WorldValue → Type 0
 NoGaps w = NoGapsIn (λ s d. Unit {0}) w
 
@@ -111,11 +114,11 @@ abbrev pub DrainedIn : (ℕ → ℕ → Type 0) → WorldValue → Type 0
 DrainedIn P w = (s d : ℕ) (u v : Live) → P s d → IsLive w s u → IsLive w d v → Behind w.run d v
     → (backlog u.rank.log d).sent ≤ accepted_from v.rank.inbox s
 
--- so for all pairs
+-- each rank behind the run has accepted all that any other has sent it
 abbrev pub Drained : WorldValue → Type 0
 Drained w = DrainedIn (λ s d. Unit {0}) w
 
--- so for one pair
+-- a rank behind the run has accepted all that one other has sent it
 abbrev pub DrainedFrom : ℕ → ℕ → WorldValue → Type 0
 DrainedFrom s d w = DrainedIn (λ a b. (a ≡ s) × (b ≡ d)) w
 
@@ -123,13 +126,13 @@ DrainedFrom s d w = DrainedIn (λ a b. (a ≡ s) × (b ≡ d)) w
 abbrev pub NoAskDue : ℕ → ℕ → WorldValue → Type 0
 NoAskDue r s w = (v : Live) → IsLive w r v → (due_to v.rank s).ask ≡ None
 
--- Each of the first k frames on the wire from r to s that is an Ask was heard: what s transmits next to r is no later than
--- it asks for, or the first that is kept.
+-- Each of the first k frames on the wire from r to s that is an Ask was heard: what s transmits
+-- next to r is no later than it asks for, or the first that is kept.
 abbrev pub HeardTo : ℕ → ℕ → ℕ → WorldValue → Type 0
 HeardTo k r s w = (i from : ℕ) (frames : List Frame) (u : Live) → i < k → IsWire w r s frames → slice_get frames i ≡ Some (frame.Ask from) → IsLive w s u
     → (backlog u.rank.log r).cursor ≤ max ((backlog u.rank.log r).base + 1) from
 
--- so all of them
+-- each frame on the wire from r to s that is an Ask was heard
 abbrev pub Heard : ℕ → ℕ → WorldValue → Type 0
 Heard r s w = (k : ℕ) → HeardTo k r s w
 
@@ -137,13 +140,14 @@ Heard r s w = (k : ℕ) → HeardTo k r s w
 abbrev pub LiveTo : ℕ → WorldValue → Type 0
 LiveTo k w = (r : ℕ) → r < k → r < size w → (v : Live) × IsLive w r v
 
--- The earlier acts of the run were gone through: every rank has made its own among them. A run is newest act first.
+-- The earlier acts of the run were gone through: every rank has made its own among them. A run is
+-- newest act first.
 pub record Through (w : WorldValue) (early : List Passed) : Type 0 where
   pub late : List Passed
   pub parts : w.run ≡ late ++ early
   pub made : (r : ℕ) (v : Live) → IsLive w r v → length (history early r) ≤ v.rank.clock
 
--- where the way stands after the earlier acts of the run were gone through
+-- where recovery stands after the earlier acts of the run were gone through
 pub record Ready (w : WorldValue) (early : List Passed) : Type 0 where
   pub is_world : IsWorld w
   pub all_live : AllLive w
@@ -222,7 +226,8 @@ index_of reply.Crashed = None
 index_of (reply.Restarted count) = None
 index_of (reply.Released clock) = None
 
--- The world is one still, of as many ranks and the same run, and was driven on by what the list has got.
+-- The world is still one, of as many ranks and the same run, and was driven on by what the list has
+-- got.
 pub record Advanced (w : WorldValue) (events : List WorldEvent) (w' : WorldValue) (events' : List WorldEvent) : Type 0 where
   pub is_world : IsWorld w'
   pub same_size : size w' ≡ size w
@@ -238,7 +243,8 @@ pub record Flushed (w : WorldValue) (events : List WorldEvent) (w' : WorldValue)
 abbrev pub IsGone : ℕ → ℕ → WorldValue → Type 0
 IsGone s d w = (u : Live) → IsLive w s u → outgoing_of u.rank d ≡ None
 
--- what went from a rank to another has gone: no Ask is due, and where there was no gap the pair is drained
+-- what went from a rank to another has gone: no Ask is due, and if there was no gap the pair is
+-- drained
 pub record Emptied (s d : ℕ) (w w' : WorldValue) : Type 0 where
   pub asks : NoAskDue s d w'
   pub drained : NoGaps w → DrainedFrom s d w'
@@ -252,7 +258,8 @@ pub record Listened (w : WorldValue) (events : List WorldEvent) (w' : WorldValue
 abbrev pub MadeAt : List Passed → ℕ → ℕ → WorldValue → Type 0
 MadeAt C k r w = (a : Act) × (earliest (k + 1) C ≡ record { rank = r; act = a } ∷ earliest k C) × Made w (record { rank = r; act = a }) (earliest k C)
 
--- it was made, or is the next, fewer steps of its rank's own ahead than n
+-- the act after the first k of a run was made, or is the next, fewer steps of its rank's own ahead
+-- than n
 abbrev pub IsNear : List Passed → ℕ → ℕ → ℕ → WorldValue → Type 0
 IsNear C k r n w = (Ready w (earliest k C) × RankNears n r w) ⊎ MadeAt C k r w
 
@@ -266,6 +273,6 @@ abbrev pub IsAsk : Frame → Bool → Type 0
 IsAsk x true = (n : ℕ) × (x ≡ frame.Ask n)
 IsAsk x false = (n : ℕ) → x ≡ frame.Ask n → ⊥
 
--- whether that of this index is
+-- whether the frame of this index is an Ask
 abbrev pub IsAskAt : List Frame → ℕ → Bool → Type 0
 IsAskAt frames i b = (x : Frame) × (slice_get frames i ≡ Some x) × IsAsk x b

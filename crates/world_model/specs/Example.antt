@@ -1,5 +1,5 @@
--- A run that computes: rank 0 of two sends 41 with tag 7, and rank 1 takes it from whomever and prints one more; and when the
--- message is needed still.
+-- A run that computes: rank 0 of two sends 41 with tag 7, and rank 1 takes it from any source and
+-- prints one more; and when the message is still needed.
 --
 --   var x
 --   if rank == 0
@@ -28,15 +28,19 @@ use Rattle.world_model.specs.Rows.{row}
 use Rattle.world_model.specs.World.{WorldValue}
 use Rattle.world_model.specs.Retained.{Needed, Retains}
 
+-- what rank 1 does after the reception: it prints one more
 abbrev printing : Block
 printing = plain (print (operation Add (variable 0) (number (pos 1)))) done
 
+-- what rank 1 does
 abbrev receiving : Block
 receiving = plain (receive any any (into_variable 0)) printing
 
+-- what rank 0 does
 abbrev sending : Block
 sending = plain (send (number (pos 1)) (number (pos 7)) (one (number (pos 41)))) done
 
+-- the program
 abbrev program : ProgramValue
 program = record {
   statements = lines_at 0 (plain (declare 0) (if_else (operation Equal (reading Rank) (number (pos 0))) sending receiving done));
@@ -44,9 +48,11 @@ program = record {
   arrays = [];
 }
 
+-- the state in which a rank begins
 abbrev start : ℕ → State
 start r = opening program r 2
 
+-- the message
 abbrev message : Message
 message = record { clock = 1; context = PointToPoint; tag = 7; items = pos 41 ∷ [] }
 
@@ -68,13 +74,15 @@ row_in_C = refl
 printed_in_C : printed C 1 ≡ (2, pos 42) ∷ []
 printed_in_C = refl
 
--- the states at the send, at the receive, and after the reception
+-- the state of rank 0 at the send
 abbrev at_send : State
 at_send = record { store = first_store program 0 2; rest = sending; fault = None }
 
+-- the state of rank 1 at the receive
 abbrev at_receive : State
 at_receive = record { store = first_store program 1 2; rest = receiving; fault = None }
 
+-- the state of rank 1 after the reception
 abbrev at_print : State
 at_print = record { store = with_status 0 message (written (into_variable 0) (pos 41 ∷ []) (first_store program 1 2)); rest = printing; fault = None }
 
@@ -141,11 +149,12 @@ down image = record {
   run = C;
 }
 
--- the message is needed where rank 1 has no image, though it took the message: it begins at the beginning again
+-- the message is needed if rank 1 has no image, though it took the message: it begins at the
+-- beginning again
 needed : Needed (down None) C 0 1 1 message
 needed = record { to = lit< tt; there = refl; above = lit< tt }
 
--- it isn't where an image of rank 1 has accepted it
+-- it isn't needed if an image of rank 1 has accepted it
 not_needed : (i : ImageValue) → accepted_from i.inbox 0 ≡ 1 → Needed (down (Some i)) C 0 1 1 message → ⊥
 not_needed i accepted n = (let a = n.above in omega (arith, accepted, a))
 

@@ -1,5 +1,7 @@
--- What each event does to a world: it is one call on the rank that it names, and the reply is that call's answer. A rank
--- that replays answers some calls otherwise than one that runs; a rank that is down only starts again.
+-- What each event of an adversarial execution does: it is one call on the rank that it names, and
+-- the reply is that call's answer. A rank that replays answers some calls otherwise than one that
+-- runs; a rank that is down only starts again.
+-- Source: checkpoints and what outlives a crash, Elnozahy and others 2002, section 2.
 use Rattle.std.specs.Prelude.{◌≡◌, ◌≢◌, ℕ, ℤ, ◌+◌, ◌<◌, ◌⊎◌, nat_le, List, [], ◌∷◌, ◌++◌, length, Option, Some, None, Ok, option_map}
 use Rattle.std.specs.Prelude.{slice_get, slice_set, if◌then◌else◌}
 use Rattle.checkpoint.specs.Image.{ImageValue}
@@ -42,9 +44,10 @@ use Rattle.world_model.specs.Rows.{Noted}
 use Rattle.world_model.specs.World.{Rank, Live, WorldValue, size, IsLive, IsDown, IsWire, BeginsAt}
 use Rattle.world_model.specs.Headline.{stable_of}
 
--- The event can't happen: a rank that it names isn't there; the rank that makes the call is down, or for a restart isn't;
--- there is nothing to put, to arrive, to store, to acknowledge or to release; or its step is refused by name. A rank in
--- replay has nothing to store, to acknowledge or to release, takes no image, and its step is never refused.
+-- The event can't happen: a rank that it names isn't there; the rank that makes the call is down,
+-- or for a restart isn't; there is nothing to put, to arrive, to store, to acknowledge or to
+-- release; or its step is refused by name. A rank in replay has nothing to store, to acknowledge or
+-- to release, takes no image, and its step is never refused.
 abbrev pub CanNot : WorldValue → WorldEvent → Type 0
 CanNot w (Step r) = (v : Live) → IsLive w r v → (v.left ≡ []) × (refusal_of v.rank ≢ None)
 CanNot w (Put s d) = (v : Live) → IsLive w s v → d < size w → outgoing_of v.rank d ≡ None
@@ -67,18 +70,20 @@ stepped turn.Blocked = reply.Blocked
 stepped turn.Held = reply.Held
 stepped turn.Ended = reply.Ended
 
--- the act that passes, where the turn made it
+-- the act that passes, if the turn made it
 abbrev pub where_moved : Turn → Option Act → Option Act
 where_moved turn.Moved passes = passes
 where_moved turn.Blocked passes = None
 where_moved turn.Held passes = None
 where_moved turn.Ended passes = None
 
--- a send or a print passes as soon as it is made where nothing waits; else it passes when it is released
+-- Output commit: a send or a print passes as soon as it is made if nothing waits; else it passes
+-- when it is released.
 abbrev pub at_once : Rank → Act → Option Act
 at_once v act = if is_settled v.pending then Some act else None
 
--- what passes with a step: a send or a print at once; a reception, a hit and a miss pass when they are stored
+-- what passes with a step: a send or a print at once; a reception, a hit and a miss pass when they
+-- are stored
 abbrev pub effect_at : Rank → Want → Turn → Option Act
 effect_at v (want.Send dest context tag) t = where_moved t (at_once v (sends dest context tag (payload (state_of v.machine))))
 effect_at v (want.Print value) t = where_moved t (at_once v (prints value))
@@ -89,12 +94,13 @@ effect_at v (want.TryProbe selector) t = None
 effect_at v want.Halted t = None
 effect_at v (want.Faulted fault) t = None
 
--- the run after an act of this clock passes, if one does: it goes on where the act passes for the first time
+-- the run after an act of this clock passes, if one does: it goes on if the act passes for the
+-- first time
 abbrev pub passed_at : List Passed → ℕ → ℕ → Option Act → List Passed
 passed_at C r clock None = C
 passed_at C r clock (Some act) = if nat_le clock (length (history C r)) then C else record { rank = r; act = act } ∷ C
 
--- the lines after a print, where the turn made it: it is shown at once where nothing waits
+-- the lines after a print, if the turn made it: it is shown at once if nothing waits
 abbrev pub shown_where_moved : List Line → ℕ → Rank → ℤ → Turn → List Line
 shown_where_moved lines r v value turn.Moved = if is_settled v.pending then after_line lines r (v.clock + 1) value else lines
 shown_where_moved lines r v value turn.Blocked = lines
@@ -112,8 +118,8 @@ lines_after lines r v (want.TryProbe selector) t = lines
 lines_after lines r v want.Halted t = lines
 lines_after lines r v (want.Faulted fault) t = lines
 
--- the world after a step of a rank to this value with these events left, by what it wanted and did; a send or a print that
--- the rank makes again passes no second time, and is shown no second time
+-- the world after a step of a rank to this value with these events left, by what it wanted and did;
+-- a send or a print that the rank makes again passes no second time, and is shown no second time
 abbrev pub after_turn : WorldValue → ℕ → Live → Turn → Rank → List EventValue → WorldValue
 after_turn w r before t rank left = record w {
   ranks = slice_set w.ranks r (Some (record { rank = rank; left = left }));
@@ -121,8 +127,8 @@ after_turn w r before t rank left = record w {
   run = passed_at w.run r (before.rank.clock + 1) (effect_at before.rank (machine_want before.rank.machine) t);
 }
 
--- A step of a rank that replays nothing: the machine makes the step that it wants, unless it is blocked or held or has
--- ended.
+-- A step of a rank that replays nothing: the machine makes the step that it wants, unless it is
+-- blocked or held or has ended.
 pub record StepFollows (w : WorldValue) (r : ℕ) (answer : Reply) (w' : WorldValue) : Type 0 where
   pub before : Live
   pub live : IsLive w r before
@@ -133,7 +139,8 @@ pub record StepFollows (w : WorldValue) (r : ℕ) (answer : Reply) (w' : WorldVa
   pub answered : answer ≡ stepped (turn_of before.rank)
   pub after : w' ≡ after_turn w r before (turn_of before.rank) (after_step before.rank machine) []
 
--- A step of a rank that replays: a reception or a hit is of the packet that the next event names, and a miss misses.
+-- A step of a rank that replays: a reception or a hit is of the packet that the next event names,
+-- and a miss misses.
 pub record ReplayFollows (w : WorldValue) (r : ℕ) (answer : Reply) (w' : WorldValue) : Type 0 where
   pub before : Live
   pub live : IsLive w r before
@@ -218,7 +225,8 @@ pub record AckFollows (w : WorldValue) (r : ℕ) (answer : Reply) (w' : WorldVal
 abbrev pub IsHeld : WorldValue → ℕ → MemoryShelf → Option ImageValue → Type 0
 IsHeld w r shelf image = image_on w.program r (size w) (image_bytes shelf.image) ≡ image
 
--- The rank takes an image of itself, which its shelf holds then, in the place of an older one, and word of it is due to those whose messages it has.
+-- The rank takes an image of itself (a checkpoint), which its shelf then holds in the place of an
+-- older one, and word of it is due to those whose messages it has.
 pub record ImageFollows (w : WorldValue) (r : ℕ) (answer : Reply) (w' : WorldValue) : Type 0 where
   pub before : Live
   pub live : IsLive w r before
@@ -232,15 +240,15 @@ pub record ImageFollows (w : WorldValue) (r : ℕ) (answer : Reply) (w' : WorldV
     images = slice_set w.images r (Some (image_of before.rank));
   }
 
--- The rank crashes: what is stable alone outlives it.
+-- The rank crashes (fail-stop): only what is stable outlives it.
 pub record CrashFollows (w : WorldValue) (r : ℕ) (answer : Reply) (w' : WorldValue) : Type 0 where
   pub before : Live
   pub live : IsLive w r before
   pub answered : answer ≡ reply.Crashed
   pub after : w' ≡ with_rank w r None
 
--- The rank starts again: it fetches its row, and begins at its image, or at the beginning of the program, with the events
--- above that to replay. Its shelf holds what it held.
+-- The rank starts again: it fetches its row, and begins at its image, or at the beginning of the
+-- program, with the events above that to replay. Its shelf holds what it held.
 pub record RestartFollows (w : WorldValue) (r : ℕ) (answer : Reply) (w' : WorldValue) : Type 0 where
   pub down : IsDown w r
   pub events : List EventValue
@@ -263,7 +271,8 @@ oldest_held v dest = slice_get (backlog v.log dest).held 0
 abbrev pub send_of : ℕ → packet.PacketValue → Act
 send_of dest p = sends dest p.context p.tag p.items
 
--- the act of an effect: a send of the packet that the payload log holds longest for its destination, or a print
+-- the act of an effect: a send of the packet that the payload log holds longest for its
+-- destination, or a print
 abbrev pub released_act : Rank → Waiting → Option Act
 released_act v (waits.Send dest clock) = option_map (send_of dest) (oldest_held v dest)
 released_act v (waits.Line clock value) = Some (prints value)
@@ -275,8 +284,8 @@ lines_released lines r (waits.Line clock value) = after_line lines r clock value
 lines_released lines r (waits.Send dest clock) = lines
 lines_released lines r (waits.Event e) = lines
 
--- The oldest effect of what waits is released: its line is shown, or its packet goes to those that may be transmitted, and
--- its act passes.
+-- The oldest effect of what waits is released: its line is shown, or its packet goes to those that
+-- may be transmitted, and its act passes.
 pub record ReleaseFollows (w : WorldValue) (r : ℕ) (answer : Reply) (w' : WorldValue) : Type 0 where
   pub before : Live
   pub live : IsLive w r before
@@ -305,7 +314,8 @@ Happens w (Crash r) answer w' = CrashFollows w r answer w'
 Happens w (Restart r) answer w' = RestartFollows w r answer w'
 Happens w (Release r) answer w' = ReleaseFollows w r answer w'
 
--- What an event does: it is refused and leaves all as it was, exactly where it can't happen; else it happens.
+-- What an event does: it is refused and leaves all as it was, if and only if it can't happen; else
+-- it happens.
 abbrev pub Follows : WorldValue → WorldEvent → Reply → WorldValue → Type 0
 Follows w event reply.Refused w' = CanNot w event × (w' ≡ w)
 Follows w event reply.Moved w' = Happens w event reply.Moved w'

@@ -1,4 +1,8 @@
--- The world stands for a crash-free run. This is what the contracts of the world promise after each event.
+-- The headline: a world is an adversarial execution, and it refines a crash-free execution of its
+-- program, the run. So there are no orphans: what others see of a rank rests on stored events
+-- alone. The contracts of the world promise this after each event.
+-- Source: piecewise determinism, Alvisi and Marzullo 1998; output commit and executions without
+-- failures, Elnozahy and others 2002, section 2.
 use Rattle.std.specs.Prelude.{◌≡◌, ◌≢◌, ℕ, ◌+◌, ◌≤◌, List, [], ◌++◌, length, take, Option, Some, None, slice_get, replicate}
 use Rattle.rank_language.specs.Program.{ProgramValue}
 use Rattle.rank_machine.specs.States.{State, Inners}
@@ -24,14 +28,15 @@ IsReal C s d (frame.Data p) = (p.source ≡ s) × (at_place (sent C s d) p.numbe
 IsReal C s d (frame.Ask from) = Unit {0}
 IsReal C s d (frame.Kept upto) = Unit {0}
 
--- how many acts a rank has made that aren't in the run yet: its events that aren't stored, and its effects that aren't
--- released
+-- how many acts a rank has made that aren't in the run yet, as output commit holds them back: its
+-- events that aren't stored, and its effects that aren't released
 abbrev pub owed : Live → ℕ
 owed v = length (expand (unstored v.rank)) + unreleased v.rank
 
--- Where a live rank is: some run continues the run by the acts alone that the rank owes, of which the events are its
--- unstored ones, and its machine is, by inner steps, at the state after its first acts there, as many as its clock says.
--- Where it owes something, these are all its acts there.
+-- Where a live rank is, as its program and its acts determine (piecewise determinism): some run
+-- continues the run by the acts alone that the rank owes, of which the events are its unstored
+-- ones, and its machine is, by inner steps, at the state after its first acts there, as many as its
+-- clock says. If it owes something, these are all its acts there.
 pub record IsWhere (start : ℕ → State) (n : ℕ) (C : List Passed) (r : ℕ) (v : Live) : Type 0 where
   pub acts : List Act
   pub as_many : length acts ≡ owed v
@@ -43,9 +48,10 @@ pub record IsWhere (start : ℕ → State) (n : ℕ) (C : List Passed) (r : ℕ)
   pub inner : Inners after (state_of v.rank.machine)
   pub all_made : owed v ≢ 0 → v.rank.clock ≡ length (history (continue C r acts) r)
 
--- The world stands for the run: it is a crash-free run of the world's program; each row of the logger is the rank's in
--- the run; each packet ever put on a wire is one that the run sent; the console's lines of each rank are those that it
--- printed in the run; and each live rank is somewhere in the run or ahead of it by what it owes.
+-- The world stands for the run: it is a crash-free run of the world's program; each row of the
+-- logger is the rank's in the run; each packet ever put on a wire is one that the run sent; the
+-- console's lines of each rank are those that it printed in the run; and each live rank is
+-- somewhere in the run or ahead of it by what it owes.
 pub record StandsFor (w : WorldValue) (C : List Passed) : Type 0 where
   pub is_run : IsRun (start_of w) (size w) C
   pub as_many_rows : length w.logger.rows ≡ size w
@@ -66,8 +72,8 @@ IsOpened program n r None = ⊥
 IsOpened program n r (Some v) =
     (v ≡ record { rank = opening program (stable_of n r v.rank.stable.shelf); left = [] }) × (image_bytes v.rank.stable.shelf.image ≡ None)
 
--- A world that is new: all its ranks are at the beginning of the program, and no image is taken and nothing stored, put,
--- shown or passed.
+-- A world that is new: all its ranks are at the beginning of the program, and no image is taken and
+-- nothing stored, put, shown or passed.
 pub record IsFresh (program : ProgramValue) (n : ℕ) (w : WorldValue) : Type 0 where
   pub same_program : w.program ≡ program
   pub as_many : size w ≡ n

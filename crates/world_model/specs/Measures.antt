@@ -1,4 +1,5 @@
--- What is left to do on the way: the loops of the way come to their ends by it.
+-- What recovery has left to do: the loops that find a recovery schedule come to their ends by these
+-- measures.
 use Rattle.std.specs.Prelude.{◌≡◌, ℕ, zero, suc, ◌+◌, ◌-◌, ◌*◌, ◌<◌, true, List, [], ◌∷◌, length, Option, Some, None, is_none, IsSomeAnd, slice_get}
 use Rattle.matching.specs.PacketValue as packet
 use Rattle.payload_log.specs.Backlog.{BacklogValue, backlog}
@@ -13,7 +14,8 @@ use Rattle.world_model.specs.World.{Rank, Live, WorldValue, IsLive}
 
 -- ---- frames from a rank to another that are put and arrive at once
 
--- A due Ask stands for itself and for all that is kept: a rank that asks itself has all of that to transmit again.
+-- A due Ask stands for itself and for all that is kept: a rank that asks itself has all of that to
+-- transmit again.
 abbrev pub for_ask : Option ℕ → List packet.PacketValue → ℕ
 for_ask None kept = 0
 for_ask (Some from) kept = 1 + length kept
@@ -27,7 +29,7 @@ for_kept (Some upto) = 1
 abbrev pub to_transmit : BacklogValue → ℕ
 to_transmit b = length b.kept - (b.cursor - (b.base + 1))
 
--- so many frames at most a rank has to put for another
+-- how many frames at most a rank has to put for another
 abbrev pub outstanding : Rank → ℕ → ℕ
 outstanding v d = for_ask (due_to v d).ask (backlog v.log d).kept + for_kept (due_to v d).kept + to_transmit (backlog v.log d)
 
@@ -37,7 +39,7 @@ outstanding_of None d = 0
 outstanding_of (Some None) d = 0
 outstanding_of (Some (Some v)) d = outstanding v.rank d
 
--- so many frames at most are outgoing from rank s to rank d
+-- how many frames at most are outgoing from rank s to rank d
 abbrev pub outstanding_at : ℕ → ℕ → WorldValue → ℕ
 outstanding_at s d w = outstanding_of (slice_get w.ranks s) d
 
@@ -48,8 +50,9 @@ abbrev pub StopsAfter : ℕ → State → Type 0
 StopsAfter zero a = is_none (inner a) ≡ true
 StopsAfter (suc k) a = IsSomeAnd (inner a) (λ b. StopsAfter k b)
 
--- Among n lines, so many steps at most leave a machine's state, one after another, from this line at position p on: an `else` that
--- is reached from above and an `end` lead on, and the `end` of a `while` leads back to it.
+-- Among n lines, so many steps at most leave a machine's state, one after another, from this line
+-- at position p on: an `else` that is reached from above and an `end` lead on, and the `end` of a
+-- `while` leads back to it.
 abbrev pub hops : ℕ → ℕ → Option Line → ℕ
 hops n p None = 0
 hops n p (Some (simple_line s)) = 0
@@ -59,19 +62,21 @@ hops n p (Some end_line) = 2 + n - p
 hops n p (Some (while_line e q)) = 0
 hops n p (Some (back_line q)) = 1
 
--- so many steps of its own a machine makes at most, whose state makes k inner steps: before and after each there are hops
+-- so many steps of its own a machine makes at most, whose state makes k inner steps: before and
+-- after each there are hops
 abbrev pub steps_of : ℕ → MachineValue → ℕ
 steps_of k m = k * (length m.program.statements + 3) + hops (length m.program.statements) m.position (line_at m)
 
--- A machine of a program whose lines are those of its tree makes fewer steps of its own than n, and then stands at its next act or
--- at its end.
+-- A machine of a program whose lines are those of its tree makes fewer steps of its own than n, and
+-- then stands at its next act or at its end.
 pub record Nears (n : ℕ) (m : MachineValue) : Type 0 where
   pub inner_steps : ℕ
   pub stops : StopsAfter inner_steps (state_of m)
   pub lines : m.program.statements ≡ lines_at 0 (block_of m.program)
   pub few : steps_of inner_steps m < n
 
--- so does the machine of a live rank
+-- the machine of this rank, if it is live, makes fewer steps of its own than n to its next act or
+-- its end
 abbrev pub RankNears : ℕ → ℕ → WorldValue → Type 0
 RankNears n r w = (v : Live) → IsLive w r v → Nears n v.rank.machine
 
@@ -79,11 +84,11 @@ RankNears n r w = (v : Live) → IsLive w r v → Nears n v.rank.machine
 abbrev pub HasLines : Live → Type 0
 HasLines v = v.rank.machine.program.statements ≡ lines_at 0 (block_of v.rank.machine.program)
 
--- a machine without a program, where no other is at hand
+-- a machine without a program, if no other is at hand
 abbrev pub no_machine : MachineValue
 no_machine = first_machine (record { statements = []; variables = []; arrays = [] }) 0 0
 
--- the machine of a rank, where it is live
+-- the machine of a rank, if it is live
 abbrev pub machine_of : Option (Option Live) → MachineValue
 machine_of None = no_machine
 machine_of (Some None) = no_machine

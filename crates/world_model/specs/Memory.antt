@@ -1,4 +1,4 @@
--- What want of memory leaves of a world, and which events take none.
+-- What is left of a world when memory is refused, and which events take none.
 use Rattle.std.specs.Prelude.{◌≡◌, ℕ, Bool, false, ◌⊎◌, List, [], ◌∷◌}
 use Rattle.plain_logger.specs.Event.{EventValue}
 use Rattle.plain_logger.specs.History.{Answers}
@@ -11,14 +11,15 @@ use Rattle.world_model.specs.declared.event.WorldEvent.TheVariants.{Step, Put, A
 use Rattle.world_model.specs.World.{Rank, Live, WorldValue, IsLive, IsDown}
 use Rattle.world_model.specs.Follows.{CanNot}
 
--- a restart's fetch was answered, and then memory was refused: the call stays in the logger's history
+-- a restart's fetch was answered, and then memory was refused: the call stays in the logger's
+-- history
 pub record Fetched (w : WorldValue) (r : ℕ) (w' : WorldValue) : Type 0 where
   pub down : IsDown w r
   pub events : List EventValue
   pub fetches : Answers w.logger r (Fetch 0) (Events events) w'.logger
   pub after : w' ≡ record w { logger = w'.logger }
 
--- what want of memory leaves: all as it was, but for a fetch that was answered
+-- what is left when memory is refused: all as it was, except for a fetch that was answered
 abbrev pub Unchanged : WorldValue → WorldEvent → WorldValue → Type 0
 Unchanged w (Step r) w' = w' ≡ w
 Unchanged w (Put s d) w' = w' ≡ w
@@ -35,8 +36,9 @@ abbrev pub step_takes_memory : Rank → List EventValue → Bool
 step_takes_memory v [] = takes_memory v
 step_takes_memory v (e ∷ rest) = replay_takes_memory v
 
--- The event takes no memory: a step that is the machine's own, or is blocked or held, or comes after the end, or replays a
--- reception, a hit or a miss; each acknowledgment; and each crash. An event that can't happen takes none either.
+-- The event takes no memory: a step that is the machine's own, or is blocked or held, or comes
+-- after the end, or replays a reception, a hit or a miss; each acknowledgment; and each crash. An
+-- event that can't happen takes none either.
 abbrev pub TakesNoMemory : WorldValue → WorldEvent → Type 0
 TakesNoMemory w (Step r) = (v : Live) → IsLive w r v → step_takes_memory v.rank v.left ≡ false
 TakesNoMemory w (Put s d) = CanNot w (Put s d)

@@ -1,4 +1,5 @@
--- A state stops after one number of inner steps at the most, so that the number may stand in a ghost field.
+-- A state stops after at most one number of inner steps, so that the number may stand in a ghost
+-- field.
 use Rattle.std.specs.Prelude.{◌≡◌, ℕ, zero, suc, true, Option, Some, None, is_none, IsSomeAnd}
 use Rattle.std.proofs.Common.{refl, ap}
 use mathlib.Core.Bool.{Bool-set}

@@ -1,5 +1,5 @@
--- A world without runs of misses: what isn't stored waits one for each act, and rows and what is left to replay are events
--- of one act each. What a world stands for is said of it.
+-- A world without runs of misses: what isn't stored waits one for each act, and rows and what is
+-- left to replay are events of one act each. What a world stands for is said of it.
 use Rattle.std.specs.Prelude.{◌≡◌, ℕ, zero, suc, ◌<◌, false, List, [], ◌∷◌, map, Option, Some, slice_get, option_map}
 use Rattle.plain_logger.specs.Event.{EventValue}
 use Rattle.plain_logger.specs.Misses.{expand, IsCounted}
@@ -11,13 +11,13 @@ use Rattle.rank_node.specs.Image.{begins_at}
 use Rattle.rank_node.specs.Replay.{is_cut}
 use Rattle.world_model.specs.World.{Rank, Live, WorldValue, size, IsLive, unstored}
 
--- what waits, where so many of the first are stored: what isn't stored waits one for each act
+-- what waits, if so many of the first are stored: what isn't stored waits one for each act
 abbrev pub plainly : ℕ → List Waiting → List Waiting
 plainly zero xs = expanded xs
 plainly (suc k) [] = []
 plainly (suc k) (x ∷ xs) = x ∷ plainly k xs
 
--- a rank without runs of misses; how many events it has made isn't told
+-- a rank without runs of misses, apart from how many events it has made
 abbrev pub plain_rank : Rank → Rank
 plain_rank v = record v { made = 0; pending = plainly v.stored v.pending }
 
@@ -33,14 +33,15 @@ without_runs w = record w { ranks = map (option_map plain) w.ranks; logger = rec
 abbrev pub AllCounted : List EventValue → Type 0
 AllCounted events = (k : ℕ) (e : EventValue) → slice_get events k ≡ Some e → IsCounted e
 
--- the runs of misses of a live rank: those that wait, and those that are left to replay, each of which ends after its clock
+-- the runs of misses of a live rank: those that wait, and those that are left to replay, each of
+-- which ends after its clock
 pub record RankRuns (v : Live) : Type 0 where
   pub unstored : AllCounted (unstored v.rank)
   pub left : AllCounted v.left
   pub later : (k : ℕ) (e : EventValue) → slice_get v.left k ≡ Some e → v.rank.clock < e.receiver_clock
 
--- The runs of misses of a world: those that are stored are of acts that there are, and none of them is cut by its rank's
--- image, so that the rank can start again there.
+-- The runs of misses of a world: those that are stored are of acts that there are, and none of them
+-- is cut by its rank's image, so that the rank can start again there.
 pub record RunsOfMisses (w : WorldValue) : Type 0 where
   pub rows : (r : ℕ) (events : List EventValue) → slice_get w.logger.rows r ≡ Some events → AllCounted events
   pub uncut : (r k : ℕ) (events : List EventValue) (e : EventValue) (o : Option ImageValue) → slice_get w.logger.rows r ≡ Some events

@@ -1,6 +1,8 @@
--- Nothing that is still needed is gone, whatever senders dropped and crashes took away (payloads kept in the memory of their
--- sender until a checkpoint of the receiver has them: MPICH-V2; garbage collection in message logging: Elnozahy, Alvisi,
--- Wang and Johnson 2002, section 3). This is what the contracts of the world promise after each event, beside the headline.
+-- Garbage collection of payload logs keeps what may still be needed, whatever senders dropped and
+-- crashes took away. A sender keeps payloads in its memory until a checkpoint of the receiver has
+-- them. The contracts of the world promise this after each event, beside the headline.
+-- Source: MPICH-V2, Bouteiller and others 2003; garbage collection in message logging, Elnozahy and
+-- others 2002.
 use Rattle.std.specs.Prelude.{◌≡◌, ℕ, ◌<◌, ◌≤◌, ◌⊎◌, false, List, length, take, Some, slice_get}
 use Rattle.checkpoint.specs.Image.{ImageValue}
 use Rattle.matching.specs.PacketValue as packet
@@ -13,7 +15,8 @@ use Rattle.crash_free.specs.Runs.{Passed, History, at_place, history, sent, take
 use Rattle.world_model.specs.World.{Live, WorldValue, size, IsLive, IsWire, BeginsAt, covered}
 use Rattle.world_model.specs.Headline.{StandsFor}
 
--- s sent r this message as its kth in the run, and what r's last image had accepted from s doesn't reach so far
+-- s sent r this message as its kth in the run, and what r's last image had accepted from s doesn't
+-- reach so far
 pub record Needed (w : WorldValue) (C : List Passed) (s r k : ℕ) (m : Message) : Type 0 where
   pub to : r < size w
   pub there : at_place (sent C s r) k ≡ Some m
@@ -28,13 +31,13 @@ pub record KeepsPacket (log : List BacklogValue) (s r k : ℕ) (m : Message) : T
   pub number : packet.number ≡ k
   pub content : carried packet ≡ m
 
--- Where rank s has this clock and this payload log: it has yet to make the act again that sends the message, or it keeps its
--- packet.
+-- A rank s with this clock and this payload log has yet to make the act again that sends the
+-- message, or it keeps its packet.
 abbrev pub Retains : ℕ → List BacklogValue → ℕ → ℕ → ℕ → Message → Type 0
 Retains clock log s r k m = (clock < m.clock) ⊎ KeepsPacket log s r k m
 
--- Of the messages that were sent to r in the run, the inbox accepted the first from each sender, and of these it holds just
--- those that these acts of r don't take, each once.
+-- Of the messages that were sent to r in the run, the inbox accepted the first from each sender,
+-- and of these it holds just those that these acts of r don't take, each once.
 pub record Holds (C : List Passed) (r : ℕ) (acts : History) (box : Mailbox) : Type 0 where
   pub within : (s : ℕ) → accepted_from box s ≤ length (sent C s r)
   pub just : (i : ℕ) (p : packet.PacketValue) → slice_get box.packets i ≡ Some p
@@ -45,11 +48,12 @@ pub record Holds (C : List Passed) (r : ℕ) (acts : History) (box : Mailbox) : 
   pub once : (i j : ℕ) (p q : packet.PacketValue) → slice_get box.packets i ≡ Some p → slice_get box.packets j ≡ Some q
       → p.source ≡ q.source → p.number ≡ q.number → i ≡ j
 
--- The world stands for the run, and nothing that is needed is gone: each message that the last image of its receiver hadn't accepted is retained by its
--- sender, where that is live, and by the sender's image, or the beginning where it has none; each Kept on a wire names at
--- most what the last image of its sender accepted; inboxes hold what was accepted and isn't taken, in an image by the acts
--- of the run that it has made, and of a live rank by its first acts, as many as its clock says, in the run that goes on by
--- what the rank owes.
+-- The world stands for the run, and nothing that is needed is gone: each message that the last
+-- image of its receiver hadn't accepted is retained by its sender, if that is live, and by the
+-- sender's image, or the beginning if it has none; each Kept on a wire names at most what the last
+-- image of its sender accepted; inboxes hold what was accepted and isn't taken, in an image by the
+-- acts of the run that it has made, and of a live rank by its first acts, as many as its clock
+-- says, in the run that goes on by what the rank owes.
 pub record NothingGone (w : WorldValue) (C : List Passed) : Type 0 where
   pub stands : StandsFor w C
   pub live : (s r k : ℕ) (m : Message) (v : Live) → Needed w C s r k m → IsLive w s v

@@ -1,5 +1,5 @@
--- The run that a world keeps, and its index: for each rank how many acts it made, and the clocks of what it sent to each
--- rank, so that no look-up walks the run.
+-- The run that a world keeps, and its index: for each rank how many acts it made, and the clocks of
+-- what it sent to each rank, so that no look-up walks the run.
 use Rattle.std.specs.Prelude.{◌≡◌, ℕ, zero, suc, ◌+◌, ◌-◌, ◌<◌, ◌≤◌, List, [], ◌∷◌, ◌++◌, length, map, take, drop, replicate, slice_get, slice_set}
 use Rattle.std.specs.Prelude.{slice_index_or}
 use Rattle.std.specs.Prelude.{Option, Some, option_map}

@@ -1,4 +1,4 @@
--- What stands at the seat of a rank.
+-- What stands at the seat of a rank, its process slot, which outlives its crashes.
 use Rattle.std.specs.Prelude.{◌≡◌, ◌≢◌, ℕ, List, [], Option, Some, None, option_and_then}
 use Rattle.checkpoint.specs.Shelf.{image_bytes}
 use Rattle.checkpoint.specs.declared.memory_shelf.MemoryShelf.{MemoryShelf}
@@ -15,13 +15,13 @@ use Rattle.world_model.specs.Seats.{at_work, in_replay, SeatValue}
 abbrev pub Phase : Type 0
 Phase = ranks.Phase MemoryShelf (Unit {0})
 
--- the rank, where it is live
+-- the rank, if it is live
 abbrev pub live_of : Phase → Option Live
 live_of (Running node) = at_work node
 live_of (Replaying replay) = in_replay replay
 live_of (Down stable) = None
 
--- the bytes on a rank's shelf, where there are some
+-- the bytes on a rank's shelf, if there are some
 abbrev pub shelf_of : Stored MemoryShelf (Unit {0}) → Option (List ℕ)
 shelf_of stable = image_bytes stable.shelf.image
 
@@ -29,7 +29,8 @@ shelf_of stable = image_bytes stable.shelf.image
 abbrev pub bytes_of : Phase → Option (List ℕ)
 bytes_of p = shelf_of (stable_in p)
 
--- What is stable is of this rank of so many, and its shelf is empty or holds an image of this rank of the program.
+-- What is stable is of this rank of so many, and its shelf is empty or holds an image of this rank
+-- of the program.
 pub record IsOwn (program : ProgramValue) (r n : ℕ) (stable : Stored MemoryShelf (Unit {0})) : Type 0 where
   pub rank : stable.rank ≡ r
   pub size : stable.size ≡ n

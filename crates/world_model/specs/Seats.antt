@@ -21,8 +21,8 @@ use Rattle.world_model.specs.World.{Rank, Live, WorldValue}
 use Rattle.world_model.specs.Headline.{stable_of, IsOpened}
 use Rattle.world_model.specs.Follows.{lines_after}
 
--- The seat of a rank: the program, which rank of how many it is, its value where it is live, and the image on its shelf,
--- where there is one.
+-- The seat of a rank, its process slot: the program, which rank of how many it is, its value if it
+-- is live, and the image on its shelf, if there is one.
 pub record SeatValue : Type 0 where
   pub program : ProgramValue
   pub rank : ℕ
@@ -123,7 +123,8 @@ pub record IsReplayed (v : Live) (turn : Turn) (x : Option Live) : Type 0 where
   pub steps : ReplayStep v.rank event machine
   pub after : x ≡ Some (record { rank = after_replay v.rank event machine; left = left_after v.rank (machine_want v.rank.machine) turn event rest })
 
--- the rank r of n started again at this image, or at the beginning of the program, with these events in its row
+-- the rank r of n started again at this image, or at the beginning of the program, with these
+-- events in its row
 pub record IsRestarted (program : ProgramValue) (n r : ℕ) (image : Option ImageValue) (row : List EventValue) (x : Option Live) : Type 0 where
   pub shelf : MemoryShelf
   pub after : x ≡ Some (record {

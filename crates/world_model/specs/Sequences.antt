@@ -1,4 +1,4 @@
--- What a list of events does, one after another, and where it stops for want of memory.
+-- What a list of events does, one after another, and where it stops if memory is refused.
 use Rattle.std.specs.Prelude.{◌≡◌, ℕ, ◌⊎◌, List, [], ◌∷◌, take, Some}
 use Rattle.std.specs.Prelude.{slice_get}
 use Rattle.world_model.specs.declared.event.WorldEvent.{WorldEvent}
@@ -9,7 +9,8 @@ use Rattle.world_model.specs.Retained.{NothingGone}
 use Rattle.world_model.specs.Follows.{CanNot, Follows}
 use Rattle.world_model.specs.Memory.{Unchanged, TakesNoMemory}
 
--- What a list of events does, one after another; after each the world stands for its run, and nothing needed is gone.
+-- What a list of events does, one after another; after each the world stands for its run, and
+-- nothing needed is gone.
 abbrev pub FollowsAll : WorldValue → List WorldEvent → List Reply → WorldValue → Type 0
 FollowsAll w [] [] w' = w' ≡ w
 FollowsAll w (event ∷ events) (answer ∷ answers) w' =
@@ -22,8 +23,8 @@ pub record NotBegun (w : WorldValue) (done : ℕ) (w' : WorldValue) : Type 0 whe
   pub none : done ≡ 0
   pub same : w' ≡ w
 
--- Memory ended after so many events of a list: these happened, and the next, which can happen and takes memory, left the
--- world unchanged.
+-- Memory ended after so many events of a list: these happened, and the next, which can happen and
+-- takes memory, left the world unchanged.
 pub record StoppedAt (w : WorldValue) (events : List WorldEvent) (done : ℕ) (w' : WorldValue) : Type 0 where
   pub replies : List Reply
   pub middle : WorldValue
@@ -34,6 +35,7 @@ pub record StoppedAt (w : WorldValue) (events : List WorldEvent) (done : ℕ) (w
   pub frugal : TakesNoMemory middle event → ⊥
   pub unchanged : Unchanged middle event w'
 
--- where a list of events stops for want of memory: before it begins, or at an event that takes some
+-- where a list of events stops when memory is refused: before it begins, or at an event that takes
+-- some
 abbrev pub Stops : WorldValue → List WorldEvent → ℕ → WorldValue → Type 0
 Stops w events done w' = NotBegun w done w' ⊎ StoppedAt w events done w'

@@ -1,6 +1,7 @@
--- The invariant of a world: how its ranks, inboxes, payload logs and images go with the run, and what senders may drop. Of
--- what goes with the run all is said of the world without runs of misses, where each event is of one act. That the world
--- stands for its run, and that nothing needed is gone, follow from it.
+-- The invariant behind the headline: how ranks, inboxes, payload logs and images of a world go with
+-- the run, and what senders may drop. What goes with the run is said of the world without runs of
+-- misses, in which each event is of one act. That the world stands for its run, and that nothing
+-- needed is gone, follow from it.
 use Rattle.std.specs.Prelude.{◌≡◌, ℕ, ◌+◌, ◌<◌, ◌≤◌, ◌⊎◌, true, false, List, [], ◌∷◌, length, take, drop, Option, Some, None, slice_get}
 use Rattle.plain_logger.specs.Event.{EventValue}
 use Rattle.matching.specs.PacketValue as packet
@@ -24,8 +25,9 @@ use Rattle.rank_node.specs.Image.{begins_at}
 use Rattle.world_model.specs.Counts.{Counts}
 use Rattle.world_model.specs.Plain.{without_runs, RunsOfMisses}
 
--- The inbox of a rank with this history, to which each sender sent what is inbound: each packet is what was sent under
--- its number, isn't taken and was accepted; what was accepted and isn't taken is there, in the order of its numbers.
+-- The inbox of a rank with this history, to which each sender sent what is inbound: each packet is
+-- what was sent under its number, isn't taken and was accepted; what was accepted and isn't taken
+-- is there, in the order of its numbers.
 pub record InboxStands (box : Mailbox) (inbound : ℕ → List Message) (h : History) : Type 0 where
   pub real : (k : ℕ) (p : packet.PacketValue) → slice_get box.packets k ≡ Some p → at_place (inbound p.source) p.number ≡ Some (carried p)
   pub untaken : (k : ℕ) (p : packet.PacketValue) → slice_get box.packets k ≡ Some p → taken h p.source p.number ≡ false
@@ -46,8 +48,8 @@ abbrev pub packets_from : ℕ → ℕ → List Message → List packet.PacketVal
 packets_from r k [] = []
 packets_from r k (m ∷ ms) = packet_of r (k + 1) m ∷ packets_from r (k + 1) ms
 
--- The payload log of rank r for one destination, to which it sent these messages, and then these that wait: it counts the
--- first, and keeps just those above its base; it holds the others.
+-- The payload log of rank r for one destination, to which it sent these messages, and then these
+-- that wait: it counts the first, and keeps just those above its base; it holds the others.
 pub record LogStands (r : ℕ) (messages later : List Message) (b : BacklogValue) : Type 0 where
   pub sent : b.sent ≡ length messages
   pub kept : b.kept ≡ drop b.base (packets_from r 0 messages)
@@ -58,12 +60,13 @@ abbrev pub sends_of : ℕ → ℕ → List Act → List Message
 sends_of k d [] = []
 sends_of k d (a ∷ acts) = send_at (k + 1) d a (sends_of (k + 1) d acts)
 
--- The payload log of a rank that has made the first c of its acts in the run, and these after the run.
+-- The payload log of a rank that has made the first c of its acts in the run, and these after the
+-- run.
 abbrev pub LogsStand : ℕ → History → ℕ → List Act → List BacklogValue → Type 0
 LogsStand r h c acts log = (d : ℕ) (b : BacklogValue) → slice_get log d ≡ Some b → LogStands r (sends_from 0 d (take c h)) (sends_of (length h) d acts) b
 
--- A rank r of n, or an image of it, to which others sent what is inbound, has made the first c acts of a history: its
--- machine and its inbox are where these have led them.
+-- A rank r of n, or an image of it, to which others sent what is inbound, has made the first c acts
+-- of a history: its machine and its inbox are where these have led them.
 pub record StandsIn (start : State) (n r : ℕ) (inbound : ℕ → List Message) (h : History) (c : ℕ) (m : MachineValue) (box : Mailbox)
     (log : List BacklogValue) : Type 0 where
   pub within : c ≤ length h
@@ -101,9 +104,10 @@ Pending start C r (a ∷ acts) (x ∷ xs) =
 Pending start C r [] (x ∷ xs) = ⊥
 Pending start C r (a ∷ acts) [] = ⊥
 
--- A live rank goes with the run. What waits is of acts that it may make after the run. Where something is pending, be it
--- stored, it has made all of the run's acts and these; else it may be behind the run, and makes the run's acts again: the
--- events among them are what is left to replay, so where nothing is left only sends and prints are.
+-- A live rank goes with the run. What waits is of acts that it may make after the run. If something
+-- is pending, even if it is stored, the rank has made all of the run's acts and these; else it may
+-- be behind the run, and makes the run's acts again: the events among them are what is left to
+-- replay, so if nothing is left they are sends and prints only.
 pub record RankStands (start : ℕ → State) (n : ℕ) (C : List Passed) (r : ℕ) (v : Live) : Type 0 where
   pub number : v.rank.stable.rank ≡ r
   pub size : v.rank.stable.size ≡ n
@@ -149,13 +153,15 @@ abbrev pub DueCovered : List (Option ImageValue) → ℕ → ℕ → Option ℕ 
 DueCovered images r s None = Unit {0}
 DueCovered images r s (Some upto) = upto ≤ covered images r s
 
--- a live rank drops nothing that is needed, tells no one to, and has accepted at least what its own image had
+-- a live rank drops nothing that is needed, tells no one to, and has accepted at least what its own
+-- image had
 pub record RankCovers (images : List (Option ImageValue)) (r : ℕ) (v : Live) : Type 0 where
   pub bases : BasesCovered images r v.rank.log
   pub dues : (d : ℕ) (due : Due) → slice_get v.rank.dues d ≡ Some due → DueCovered images r d due.kept
   pub since : (s : ℕ) → covered images r s ≤ accepted_from v.rank.inbox s
 
--- no payload log, be it a live rank's or an image's, lacks what a restart may need, and no Kept lets one drop it
+-- no payload log, be it a live rank's or an image's, lacks what a restart may need, and no Kept
+-- lets one drop it
 pub record Covers (w : WorldValue) : Type 0 where
   pub images : (s : ℕ) (i : ImageValue) → slice_get w.images s ≡ Some (Some i) → BasesCovered w.images s i.log
   pub wires : (r s k : ℕ) (frames : List Frame) (f : Frame) → IsWire w r s frames → slice_get frames k ≡ Some f → KeptCovered w.images r s f

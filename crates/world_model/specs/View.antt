@@ -4,7 +4,8 @@ use Rattle.crash_free.specs.Runs.{history}
 use Rattle.world_model.specs.World.{Live, WorldValue}
 use Rattle.world_model.specs.declared.view.View.{View}
 
--- what is shown of a rank that is down, or live with this value, and has made so many acts of the run
+-- what is shown of a rank that is down, or live with this value, and has made so many acts of the
+-- run
 abbrev pub shown_of : Option Live → ℕ → View
 shown_of None acts = record { live = false; left = 0; clock = 0; acts = acts }
 shown_of (Some v) acts = record { live = true; left = length v.left; clock = v.rank.clock; acts = acts }

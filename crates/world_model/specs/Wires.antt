@@ -1,7 +1,8 @@
--- The wires of a world, by the ranks between which they go.
+-- The wires of a world, which are unreliable channels, by the ranks between which they go.
 use Rattle.std.specs.Prelude.{ℕ, ◌<◌, List, [], ◌∷◌, ◌++◌, length, slice_set, slice_index_or}
 use Rattle.rank_node.specs.declared.frame.Frame.{Frame}
 
+-- the wires from each rank to each, by source and then by destination
 abbrev pub AllWires : Type 0
 AllWires = List (List (List Frame))
 

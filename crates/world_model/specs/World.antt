@@ -1,5 +1,6 @@
--- A world as contracts see it: its ranks, their images, the event logger, the wires, the console, and the run that it
--- stands for.
+-- A world as contracts see it, which is an adversarial execution of a program: its ranks, their
+-- checkpoints (images), the event logger, the wires (channels that may lose, repeat and reorder),
+-- the console, and the crash-free execution that it stands for (the run).
 use Rattle.std.specs.Prelude.{◌≡◌, ℕ, List, length, Option, Some, None, slice_get, drop}
 use Rattle.checkpoint.specs.Image.{ImageValue}
 use Rattle.checkpoint.specs.declared.memory_shelf.MemoryShelf.{MemoryShelf}
@@ -20,14 +21,14 @@ use Rattle.crash_free.specs.Runs.{Passed}
 abbrev pub Rank : Type 0
 Rank = Node MemoryShelf (Unit {0})
 
--- a live rank, with the events that are left to replay, none where it replays nothing
+-- a live rank, with the events that are left to replay, none if it replays nothing
 pub record Live : Type 0 where
   pub rank : Rank
   pub left : List EventValue
 
--- The wire from each rank to each has every frame ever put on it, oldest first. A rank that is down is None. The image
--- of a rank is what its shelf holds, as it reads, None where no image was taken. The run is newest act first; no rank
--- reads it.
+-- The wire from each rank to each has every frame ever put on it, oldest first. A rank that is down
+-- is None. The image of a rank is what its shelf holds, as it reads, None if no image was taken.
+-- The run is newest act first; no rank reads it.
 pub record WorldValue : Type 0 where
   pub program : ProgramValue
   pub ranks : List (Option Live)
@@ -61,7 +62,8 @@ BeginsAt w r i = (o : Option ImageValue) × (slice_get w.images r ≡ Some o) ×
 abbrev pub IsWire : WorldValue → ℕ → ℕ → List Frame → Type 0
 IsWire w s d frames = (of_s : List (List Frame)) × (slice_get w.wires s ≡ Some of_s) × (slice_get of_s d ≡ Some frames)
 
--- what a rank has made that hasn't passed: its events that aren't stored, and its effects that aren't released
+-- what a rank has made that hasn't passed: its events that aren't stored, and its effects that
+-- aren't released
 abbrev pub unpassed : Rank → List Waiting
 unpassed v = drop v.stored v.pending
 
@@ -73,16 +75,17 @@ unstored v = events_in (unpassed v)
 abbrev pub unreleased : Rank → ℕ
 unreleased v = effects (unpassed v)
 
--- how many messages of s an image had accepted, none where there is no image
+-- how many messages of s an image had accepted, none if there is no image
 abbrev pub accepted_in : Option ImageValue → ℕ → ℕ
 accepted_in None s = 0
 accepted_in (Some i) s = accepted_from i.inbox s
 
--- the same of what stands at some place, where something does
+-- how many messages of s the image at some place had accepted, none if none is there
 abbrev pub accepted_at : Option (Option ImageValue) → ℕ → ℕ
 accepted_at None s = 0
 accepted_at (Some o) s = accepted_in o s
 
--- how many messages of s the last image of r had accepted: senders may drop these
+-- how many messages of s the last image of r had accepted: senders may drop these (garbage
+-- collection)
 abbrev pub covered : List (Option ImageValue) → ℕ → ℕ → ℕ
 covered images r s = accepted_at (slice_get images r) s

@@ -1,5 +1,5 @@
-//! A world of ranks under events in any order, and the crash-free run that it
-//! stands for.
+//! A world: the ranks of a program under events in any order, crashes among
+//! them (an adversarial execution), and the crash-free run that it refines.
 #![tactic(auto)]
 
 mod bare_world;

@@ -1,4 +1,5 @@
-//! A wire, which keeps every frame ever put on it.
+//! A wire, an unreliable channel: it keeps every frame ever put on it, and each
+//! may arrive in any order, often or never.
 ghost use Rattle.std.specs.Prelude.{◌≡◌, [], ◌∷◌, ◌++◌, None, Some, length, slice_get, MatchOption, OnOk, OnErr};
 
 use metered::Heap;

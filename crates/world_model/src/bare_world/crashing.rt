@@ -1,4 +1,4 @@
-//! Crashes.
+//! Crashes (fail-stop): what is stable alone is left.
 
 use crate::bare_world::BareWorld;
 use crate::reply::Reply;

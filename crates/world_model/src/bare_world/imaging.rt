@@ -1,4 +1,4 @@
-//! Images.
+//! Images: checkpoints of ranks.
 ghost use Rattle.std.specs.Prelude.{◌≡◌, IfOk, OnErr};
 
 use crate::bare_world::BareWorld;

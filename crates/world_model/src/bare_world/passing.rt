@@ -1,4 +1,4 @@
-//! Acts that pass.
+//! Acts that pass, and so join the run.
 ghost use Rattle.std.specs.Prelude.{◌≡◌, ◌<◌, drop, length, option_map, if◌then◌else◌, IsSome, IfOk, OnOk, OnErr, MatchBool};
 ghost use Rattle.crash_free.specs.Seen.{act_of};
 

@@ -1,4 +1,4 @@
-//! Sends and lines that are released.
+//! Sends and lines that are released (output commit).
 ghost use Rattle.std.specs.Prelude.{◌≡◌, Some, IfOk, IsSome, OnErr};
 ghost use Rattle.crash_free.specs.Seen.{act_of};
 ghost use Rattle.rank_node.specs.Releasing.{IsHeld};

@@ -1,4 +1,5 @@
-//! Restarts.
+//! Restarts: a rank that is down begins again at its image, its last
+//! checkpoint, and replays.
 ghost use Rattle.std.specs.Prelude.{IfOk, OnErr};
 
 use crate::bare_world::BareWorld;

@@ -1,5 +1,5 @@
-//! A way on: the world is driven until every rank has caught up with the run,
-//! and what happened is the list.
+//! A recovery schedule: the world is driven until every rank has caught up with
+//! the run, and what happened is the list.
 ghost use Rattle.std.specs.Prelude.{◌≡◌, IfOk, OnOk};
 ghost use Rattle.world_model.specs.Driven.{is_refused};
 ghost use Rattle.world_model.specs.World.{WorldValue};
@@ -20,8 +20,9 @@ impl<'p> BareWorld<'p> {
     ghost use Rattle.world_model.specs.Driven.{AllLive, Advanced, Alike, listed};
     ghost use Rattle.world_model.specs.Way.{CaughtUp, IsWayOn};
 
-    /// The world is driven on, and the events that it takes are a way on from
-    /// each world that is like it. An `Err` is want of memory.
+    /// The world is driven on, and the events that it takes are a recovery
+    /// schedule for each world that is like it. An `Err` means that memory was
+    /// refused.
     #[tactic(auto, using(crate::proofs::WayFound::way_found))]
     pub fn way(&mut self) -> Result<Vec<WorldEvent, Heap>, AllocError>
         requires { IsWorld self.old }

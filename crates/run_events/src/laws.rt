@@ -1,0 +1,18 @@
+//! What a complete search says of every world of its program. Crates above may
+//! cite this.
+ghost use Rattle.std.specs.Prelude.{List};
+ghost use Rattle.final_runs.specs.Maximal.{RankOutcome};
+ghost use Rattle.run_events.specs.Finishing.{FinishesAmong};
+
+use world_model::World;
+
+/// A law, for proofs alone: where a search is complete, as `explore` has it in
+/// its clause `ends`, each world of the program can finish by events of which
+/// none is a crash, with an outcome that was found, whatever crashed before.
+#[tactic(auto, using(crate::proofs::Finishing::finishes))]
+pub fn law_can_finish(world: &World<'_>)
+    ensures { (outcomes : List (List RankOutcome)) → FinishesAmong outcomes world.now }
+{
+    world.law_stands();
+    world.law_to_the_end();
+}
