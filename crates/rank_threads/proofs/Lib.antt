@@ -17,3 +17,4 @@ mod StationLemmas
 mod StepLaws
 mod TakingLemmas
 mod TurnLemmas
+mod UsedLines

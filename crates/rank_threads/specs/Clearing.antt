@@ -1,4 +1,5 @@
--- When a turn leaves what waits at its rank's gate, so that further misses join it.
+-- When a turn leaves what waits at its rank's gate (output commit) unstored, so that further misses
+-- join it.
 use Rattle.std.specs.Prelude.{Bool, true, false, not, ◌&&◌}
 use Rattle.rank_threads.specs.Phases.{misses_only_in}
 use Rattle.rank_threads.specs.Phases.{Phase}
@@ -13,7 +14,7 @@ has_stepped stepped.Blocked = false
 has_stepped stepped.Held = false
 has_stepped stepped.Ended = false
 
--- Just one miss or run of misses is left at the gate, unless the rank made no step, is to take an image, or was stopped by
--- a limit.
+-- Just one miss or run of misses is left at the gate, unless the rank made no step, is to take an
+-- image, or was stopped by a limit.
 abbrev pub leaves_misses : Stepped → Bool → Bool → Phase → Bool
 leaves_misses stepped is_imaged is_spent p = has_stepped stepped && not is_imaged && not is_spent && misses_only_in p

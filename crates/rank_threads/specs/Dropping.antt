@@ -1,4 +1,5 @@
--- The frames that a crash loses: those on their way to the rank, which count as taken.
+-- The frames that a crash loses: those on their way to the rank, which count as taken, so that
+-- termination detection doesn't wait for them.
 use Rattle.std.specs.Prelude.{◌≡◌, ℕ, zero, suc, true, false, List, [], ◌∷◌}
 use Rattle.rank_node.specs.declared.frame.Frame.{Frame}
 use Rattle.rank_threads.specs.Taking.{Takes}

@@ -1,14 +1,15 @@
--- How a life of a rank ends: the script kills it, or it leaves. Only a kill is counted as a crash.
+-- How a life of a rank (an incarnation) ends: the script kills it, or it leaves. Only a kill is
+-- counted as a crash.
 use Rattle.std.specs.Prelude.{◌≡◌, ℕ, Bool, true, false, Option, Some, None, Result, Ok, Err}
 use Rattle.audit.specs.declared.outcome.End.{End}
 use Rattle.rank_node.specs.declared.fault.NodeFault.{NodeFault}
 use Rattle.rank_threads.specs.Ends.{end_of}
+use Rattle.rank_node.specs.Phases.{clock_in}
 use Rattle.rank_threads.specs.Tally.{one_more}
 use Rattle.rank_threads.specs.declared.ending.Ending.{Ending}
 use Rattle.rank_threads.specs.declared.ending.Ending.TheVariants as ending
 use Rattle.rank_threads.specs.declared.ending.Why.TheVariants as why
 use Rattle.rank_threads.specs.Phases.{Phase}
-use Rattle.rank_threads.specs.declared.station.Station.{Station}
 use Rattle.rank_threads.specs.declared.turn.After.{After}
 use Rattle.rank_threads.specs.declared.turn.After.TheVariants as after
 
@@ -35,12 +36,24 @@ is_at_rest (ending.Crashed killed) = false
 is_at_rest (ending.Left (why.AtRest rest)) = true
 is_at_rest (ending.Left (why.Told stopped)) = false
 
+-- a rank that is to go down by what a turn came to is at the clock of its kill: it has made no act
+-- since
+abbrev pub GoesDownAt : After → Phase → Type 0
+GoesDownAt (after.Turn is_idle) p = Unit {0}
+GoesDownAt (after.Crash killed) p = killed.at ≡ clock_in p
+GoesDownAt (after.Leave reason) p = Unit {0}
+
+-- so is a rank whose life ended by a kill
+abbrev pub IsKilledAt : Ending → Phase → Type 0
+IsKilledAt (ending.Crashed killed) p = killed.at ≡ clock_in p
+IsKilledAt (ending.Left reason) p = Unit {0}
+
 -- how often a rank has crashed, after a life that ended so
 abbrev pub crashes_after : Ending → ℕ → ℕ
 crashes_after (ending.Crashed killed) crashes = one_more crashes
 crashes_after (ending.Left reason) crashes = crashes
 
--- with which end its station comes back: none where it crashed, else by where it stands
+-- with which end its station comes back: none if it crashed, else by where it stands
 abbrev pub end_after : Ending → Bool → Phase → Option End
 end_after (ending.Crashed killed) is_spent p = None
 end_after (ending.Left reason) is_spent p = Some (end_of is_spent p)
@@ -49,7 +62,3 @@ end_after (ending.Left reason) is_spent p = Some (end_of is_spent p)
 abbrev pub crashes_by : Option End → ℕ → ℕ
 crashes_by None crashes = one_more crashes
 crashes_by (Some e) crashes = crashes
-
--- A life was lived, and it was counted where the rank crashed. Where the rank met a fault nothing is said.
-abbrev pub HasLived : Station → Station → Type 0
-HasLived old new = new.tally.fault ≡ None → new.tally.crashes ≡ crashes_by new.end old.tally.crashes

@@ -8,7 +8,8 @@ use Rattle.rank_machine.specs.Machine.{machine_want}
 use Rattle.rank_threads.specs.Phases.{Phase}
 use Rattle.rank_node.specs.declared.phase.Phase.TheVariants as phase
 
--- a rank whose machine wants this and is not stepped any more: only a receive and a probe that waits can be stalled
+-- a rank whose machine wants this and isn't stepped any more: only a receive and a probe that waits
+-- can be stalled
 abbrev pub end_at : Want → End
 end_at want.Halted = end.Halted
 end_at (want.Faulted fault) = end.Faulted fault

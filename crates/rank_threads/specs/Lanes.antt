@@ -1,4 +1,4 @@
--- What stays of the lanes of a rank.
+-- What stays of the lanes of a rank, the channels from its thread to each and from each to it.
 use Rattle.std.specs.Prelude.{◌≡◌, List, map}
 use Rattle.ports.specs.Lanes.{TxValue, RxValue, lane_to, lane_from}
 

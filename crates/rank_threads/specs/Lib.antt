@@ -1,6 +1,8 @@
 pub mod Phases
 pub mod Lanes
 pub mod Lives
+pub mod Keeping
+pub mod Used
 pub mod Clearing
 pub mod Stations
 pub mod Seating

@@ -1,4 +1,4 @@
--- What stays of a rank within a life.
+-- What stays of a rank within a life (an incarnation).
 use Rattle.std.specs.Prelude.{◌≡◌}
 use Rattle.rank_threads.specs.Lanes.{SameTxs, SameRxs}
 use Rattle.rank_threads.specs.Phases.{SamePhase, SameShelf, gate_in}
@@ -13,7 +13,7 @@ SameNode a b = SamePhase a.phase b.phase × (b.size ≡ a.size)
 abbrev pub SamePlace : Life → Life → Type 0
 SamePlace a b = (b.rank ≡ a.rank) × SameNode a.node b.node × SameTxs a.to.items b.to.items × SameRxs a.from.items b.from.items
 
--- the same, and no crash was counted
+-- the rank, its desk and its lanes are the same, and no crash was counted
 abbrev pub SameLife : Life → Life → Type 0
 SameLife a b = SamePlace a b × (b.tally.crashes ≡ a.tally.crashes)
 
@@ -21,7 +21,8 @@ SameLife a b = SamePlace a b × (b.tally.crashes ≡ a.tally.crashes)
 abbrev pub SamePlan : Life → Life → Type 0
 SamePlan a b = b.plan ≡ a.plan
 
--- the same waits at the gate, with as many events stored, the logger has refused an event of the rank or hasn't, as before, and its shelf is as it was
+-- the same waits at the gate, with as many events stored, the logger has refused an event of the
+-- rank or hasn't, as before, and its shelf is as it was
 abbrev pub SameGate : Life → Life → Type 0
 SameGate a b =
     (gate_in b.node.phase ≡ gate_in a.node.phase) × (b.tally.is_refused ≡ a.tally.is_refused) × SameShelf a.node.phase b.node.phase

@@ -24,13 +24,13 @@ use Rattle.rank_threads.specs.declared.row.Row.{Row}
 abbrev pub Phase : Type 0
 Phase = ranks.Phase MemoryShelf DeskValue
 
--- what the rank's machine wants; nothing where the rank is down
+-- what the rank's machine wants; nothing if the rank is down
 abbrev pub want_in : Phase → Option Want
 want_in (phase.Running v) = Some (machine_want v.machine)
 want_in (phase.Replaying r) = Some (machine_want r.node.machine)
 want_in (phase.Down s) = None
 
--- this was found of the rank's machine; nothing is where the rank is down
+-- this was found of the rank's machine; nothing is found if the rank is down
 abbrev pub IsWantedIn : Phase → Wanted → Type 0
 IsWantedIn (phase.Running v) found = IsWantedBy v.machine found
 IsWantedIn (phase.Replaying r) found = IsWantedBy r.node.machine found
@@ -40,7 +40,7 @@ IsWantedIn (phase.Down s) found = ⊥
 abbrev pub gate_of : Node MemoryShelf DeskValue → Gate
 gate_of v = record { waiting = v.pending; stored = v.stored }
 
--- the gate of the rank; nothing waits where it replays or is down
+-- the gate of the rank; nothing waits there if it replays or is down
 abbrev pub gate_in : Phase → Gate
 gate_in (phase.Running v) = gate_of v
 gate_in (phase.Replaying r) = record { waiting = []; stored = 0 }
@@ -78,17 +78,19 @@ is_running (phase.Running v) = true
 is_running (phase.Replaying r) = false
 is_running (phase.Down s) = false
 
--- the shelf holds the image of the rank as it stands, which it can only where the rank runs
+-- the shelf holds the image of the rank as it stands, which it can only if the rank runs
 abbrev pub HasImage : Phase → Type 0
 HasImage (phase.Running v) = last_image v.stable.shelf ≡ Some (spelling (image_of v))
 HasImage (phase.Replaying r) = ⊥
 HasImage (phase.Down s) = ⊥
 
--- the shelf holds the image of the rank as it stood when it was taken, though frames may have come and gone since
+-- the shelf holds the image of the rank as it stood when it was taken, though frames may have come
+-- and gone since
 abbrev pub TookImage : Phase → Type 0
 TookImage p = (stood : Phase) × HasImage stood × SameShelf stood p
 
--- These events were read of that rank's row, above that clock, and the rank is at its desk as it was; one that is down reads none.
+-- These events were read of that rank's row, above that clock, and the rank is at its desk as it
+-- was; a rank that is down reads none.
 abbrev pub ReadsRow : Phase → ℕ → ℕ → List EventValue → Phase → Type 0
 ReadsRow (phase.Running v) of after events q =
     IsRead v.stable.desk of after events (stable_in q).desk × (q ≡ phase.Running (at_desk v (stable_in q).desk))
@@ -96,8 +98,8 @@ ReadsRow (phase.Replaying r) of after events q =
     IsRead r.node.stable.desk of after events (stable_in q).desk × (q ≡ phase.Replaying (record r { node = at_desk r.node (stable_in q).desk }))
 ReadsRow (phase.Down s) of after events q = (events ≡ []) × (q ≡ phase.Down s)
 
--- The rank begins to live: at the beginning of its program, where it has fetched no row, else at its image with what of
--- its row is above that, which it replays.
+-- The rank begins to live: at the beginning of its program, if it has fetched no row, else at its
+-- image with what of its row is above that, which it replays.
 abbrev pub Begins : ProgramValue → Stored MemoryShelf DeskValue → Option Row → Phase → Type 0
 Begins program stable None p = p ≡ phase.Running (opening program stable)
 Begins program stable (Some row) p =

@@ -4,7 +4,7 @@ use Rattle.script_text.specs.Script.{orders_of}
 use Rattle.script_text.specs.declared.line.Order.{Order}
 use Rattle.script_text.specs.declared.line.ScriptLine.{ScriptLine}
 
--- what the first of these lines asks for, where it is for the act of this clock
+-- what the first of these lines asks for, if it is for the act of this clock
 abbrev pub order_at : List ScriptLine → ℕ → Option Order
 order_at [] clock = None
 order_at (line ∷ lines) clock = if line.clock == clock then Some line.order else None

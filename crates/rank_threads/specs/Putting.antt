@@ -1,4 +1,5 @@
--- What goes out of a rank into a lane (reception in the order of sending: MPI 1.1, section 3.5).
+-- What goes out of a rank into a lane, a channel to another rank (reception in the order of
+-- sending: MPI 1.1, section 3.5).
 use Rattle.std.specs.Prelude.{◌≡◌, ◌≢◌, ℕ, ◌<◌, List, [], ◌∷◌, ◌++◌, Some, None, slice_index_or}
 use Rattle.rank_node.specs.Phases.{outgoing_in, passed_in}
 use Rattle.rank_node.specs.declared.frame.Frame.{Frame}
@@ -22,19 +23,21 @@ HasNothing p dest = outgoing_in p dest ≡ None
 abbrev pub NothingBelow : ℕ → Phase → Type 0
 NothingBelow count p = (dest : ℕ) → dest < count → HasNothing p dest
 
--- What is outgoing to a rank next goes into a lane, finds it full, or isn't there. Where nothing went, all is as it was.
+-- What is outgoing to a rank next goes into a lane, finds it full, or isn't there. If nothing went,
+-- all is as it was.
 abbrev pub Puts : Went → Phase → ℕ → List Frame → Phase → List Frame → Type 0
 Puts went.Gone p dest put q put' = PutsOne p dest put q put'
 Puts went.Full p dest put q put' = (q ≡ p) × (put' ≡ put)
 Puts went.Nothing p dest put q put' = (q ≡ p) × (put' ≡ put) × HasNothing p dest
 
--- where nothing went the rank is as it was, and where the lane had room nothing is outgoing to that rank
+-- if nothing went the rank is as it was, and if the lane had room nothing is outgoing to that rank
 abbrev pub Stays : Went → Phase → ℕ → Phase → Type 0
 Stays went.Gone p dest q = Unit {0}
 Stays went.Full p dest q = q ≡ p
 Stays went.Nothing p dest q = (q ≡ p) × HasNothing p dest
 
--- The same of the lane to that rank among the lanes to each: the others are left.
+-- What is outgoing to a rank next goes into the lane to that rank, among the lanes to each, or
+-- finds it full, or isn't there: the other lanes are left as they were.
 pub record PutsInto (went : Went) (p : Phase) (dest : ℕ) (lanes : List TxValue) (q : Phase) (lanes' : List TxValue) : Type 0 where
   pub lane : (d : TxValue) → Puts went p dest (put_of (slice_index_or lanes dest d)) q (put_of (slice_index_or lanes' dest d))
   pub others : (k : ℕ) (d : TxValue) → k ≢ dest → slice_index_or lanes' k d ≡ slice_index_or lanes k d

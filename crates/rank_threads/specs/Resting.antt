@@ -1,18 +1,20 @@
--- When a rank comes to rest: what an idle turn makes of one that hasn't marked itself yet (docs/ARCHITECTURE.md, "Lives, keepers and leaving").
+-- When a rank comes to rest, in the detection of termination by counting (Mattern 1987): what an
+-- idle turn makes of one that hasn't marked itself yet (docs/ARCHITECTURE.md).
 use Rattle.std.specs.Prelude.{◌≡◌, ℕ, Bool, true, false, ◌⊎◌}
 use Rattle.rank_threads.specs.Tally.{after_idle, is_last_idle}
 use Rattle.rank_threads.specs.declared.stepping.Stepped.{Stepped}
 use Rattle.rank_threads.specs.declared.stepping.Stepped.TheVariants as stepped
 use Rattle.rank_threads.specs.declared.tally.Tally.{Tally}
 
--- A rank that waits has counted the turn. Where that isn't the last of as many in succession as the limits say, nothing else
--- changes; where it is, the rank marks itself, or notes how far it has read other rows.
+-- A rank that waits has counted the turn. If that isn't the last of as many in succession as the
+-- limits say, nothing else changes; if it is, the rank marks itself, or notes how far it has read
+-- other rows.
 abbrev pub WaitsOn : Bool → Tally → Tally → Type 0
 WaitsOn false t u = u ≡ t
 WaitsOn true t u = (u ≡ record t { is_marked = true }) ⊎ (u ≡ record t { seen = u.seen })
 
--- A rank that owes no other a frame marks itself at once where it has ended or steps no more, and one that waits after so
--- many idle turns in succession; any other isn't at rest.
+-- A rank that owes no other a frame marks itself at once if it has ended or steps no more, and one
+-- that waits after so many idle turns in succession; any other isn't at rest.
 abbrev pub ComesToRest : ℕ → Stepped → Tally → Tally → Type 0
 ComesToRest idle stepped.Ended t u = u ≡ record t { is_marked = true }
 ComesToRest idle stepped.Blocked t u = WaitsOn (is_last_idle t idle) (after_idle t idle) u

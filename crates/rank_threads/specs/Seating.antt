@@ -1,4 +1,4 @@
--- The stations of a run, the last rank's first.
+-- The stations of a run, which are the process slots of its ranks, the last rank's first.
 use Rattle.std.specs.Prelude.{◌≡◌, ℕ, ◌+◌, ◌≤◌, List, [], ◌∷◌, ◌++◌, Option, Some, None, length, map, vec_len, vec_capacity}
 use Rattle.audit.specs.declared.outcome.End.{End}
 use Rattle.audit.specs.declared.outcome.End.TheVariants as end
@@ -40,7 +40,8 @@ abbrev pub ended : Option End → End
 ended None = end.Unfinished
 ended (Some e) = e
 
--- what a rank came to: how it left, how often it crashed, how many lines of the script it left unused, and why it can't go on
+-- what a rank came to: how it left, how often it crashed, how many lines of the script it left
+-- unused, and why it can't go on
 abbrev pub account_of : Station → Account
 account_of s = record { end = ended s.end; crashes = s.tally.crashes; unused = length s.plan; fault = s.tally.fault }
 

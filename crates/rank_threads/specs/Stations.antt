@@ -1,4 +1,5 @@
--- What stays of a rank's station from life to life.
+-- What stays of a rank's station, its process slot, from life to life (from incarnation to
+-- incarnation).
 use Rattle.std.specs.Prelude.{◌≡◌, List, [], ◌∷◌, Some, None}
 use Rattle.event_logger.specs.Desks.{own_row}
 use Rattle.plain_logger.specs.History.{above}
@@ -15,7 +16,8 @@ use Rattle.rank_threads.specs.Tally.{new_tally}
 abbrev pub SameStation : Station → Station → Type 0
 SameStation a b = (b.rank ≡ a.rank) × SameStable a.down b.down × (b.size ≡ a.size) × SameTxs a.to.items b.to.items × SameRxs a.from.items b.from.items
 
--- the lines of the script that are left, the row that was fetched and how the rank left are the same
+-- the lines of the script that are left, the row that was fetched and how the rank left are the
+-- same
 abbrev pub SameRest : Station → Station → Type 0
 SameRest a b = (b.plan ≡ a.plan) × (b.row ≡ a.row) × (b.end ≡ a.end)
 

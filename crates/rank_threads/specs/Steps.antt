@@ -25,12 +25,13 @@ abbrev pub unless_refused : Option NodeFault → Turn → Result Turn NodeFault
 unless_refused None turn = Ok turn
 unless_refused (Some f) turn = Err f
 
--- a replay goes by the next event, and is refused where none is left
+-- a replay goes by the next event, and is refused if none is left
 abbrev pub replay_turn : Node MemoryShelf DeskValue → List EventValue → Result Turn NodeFault
 replay_turn v [] = Err fault.Replay
 replay_turn v (e ∷ left) = replay_turn_of v e
 
--- what a step of the rank does, or why it is refused, as long as there is memory; a rank that is down has ended
+-- what a step of the rank does, or why it is refused, as long as there is memory; a rank that is
+-- down has ended
 abbrev pub turn_in : Phase → Result Turn NodeFault
 turn_in (phase.Running v) = unless_refused (refusal_of v) (turn_of v)
 turn_in (phase.Replaying r) = replay_turn r.node r.left
@@ -43,7 +44,8 @@ moves turn.Blocked = 0
 moves turn.Held = 0
 moves turn.Ended = 0
 
--- how many acts a step was, by what the machine wanted: one if it moved, but a step of its own is none
+-- how many acts a step was, by what the machine wanted: one if it moved, but a step of its own is
+-- none
 abbrev pub acts_made : Option Want → Turn → ℕ
 acts_made None t = moves t
 acts_made (Some want.Internal) t = 0
@@ -97,7 +99,8 @@ is_limit fault.Shelf = false
 is_limit fault.Image = false
 is_limit fault.Replay = false
 
--- what a turn is told of a step that isn't one of the machine's own: a rank that a limit refuses has ended
+-- what a turn learns of a step that isn't one of the machine's own: a rank that a limit refuses has
+-- ended
 abbrev pub told : Result Turn NodeFault → Result Stepped NodeFault
 told (Ok turn.Moved) = Ok stepped.Acted
 told (Ok turn.Blocked) = Ok stepped.Blocked
@@ -105,8 +108,9 @@ told (Ok turn.Held) = Ok stepped.Held
 told (Ok turn.Ended) = Ok stepped.Ended
 told (Err f) = if is_limit f then Ok stepped.Ended else Err f
 
--- What a turn's step is answered, as long as there is memory: a rank that a limit stopped has ended, one that is blocked
--- isn't asked, and any other makes steps of its own where it wants one, else the step that its state says.
+-- What a turn's step answers, as long as there is memory: a rank that a limit stopped has ended,
+-- one that is blocked isn't asked, and any other makes steps of its own if it wants one, else the
+-- step that its state says.
 abbrev pub step_of : Tally → Phase → Result Stepped NodeFault
 step_of t p =
     if t.is_spent then Ok stepped.Ended
@@ -117,7 +121,7 @@ abbrev pub is_stopped : Result Turn NodeFault → Bool
 is_stopped (Ok t) = false
 is_stopped (Err f) = is_limit f
 
--- after a step that isn't one of the machine's own, where the limits allow `most`
+-- after a step that isn't one of the machine's own, if the limits allow `most`
 abbrev pub counted : ℕ → Result Turn NodeFault → Tally → Tally
 counted most (Ok turn.Moved) t = after_steps t 1 most true
 counted most (Ok turn.Blocked) t = record t { is_blocked = true }
@@ -129,7 +133,8 @@ counted most (Err f) t = record t { is_spent = is_limit f || t.is_spent }
 abbrev pub Strode : ℕ → Tally → Tally → Type 0
 Strode most t u = (made : ℕ) × (made ≢ 0) × (u ≡ after_steps t made most false)
 
--- What a turn counts of its step, of a rank that stood so: an act as one, and a limit that stops the rank.
+-- What a turn counts of its step, of a rank that stood so: an act as one, and a limit that stops
+-- the rank.
 abbrev pub Counts : ℕ → Phase → Stepped → Tally → Tally → Type 0
 Counts most p stepped.Moved t u = Strode most t u
 Counts most p stepped.Acted t u = u ≡ after_steps t 1 most true

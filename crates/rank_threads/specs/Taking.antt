@@ -1,10 +1,10 @@
--- What comes into a rank out of its lanes, each lane's frames in their order (MPI 1.1, section 3.5).
+-- What comes into a rank out of its lanes, the channels from the others, each lane's frames in
+-- their order (MPI 1.1, section 3.5).
 use Rattle.std.specs.Prelude.{◌≡◌, ◌≢◌, ℕ, zero, suc, Bool, true, false, ◌||◌, List, [], ◌∷◌, ◌++◌, Option, Some, None, length, slice_index_or}
 use Rattle.ports.specs.Lanes.{RxValue, taken_of}
 use Rattle.rank_node.specs.Phases.{arrived_in}
 use Rattle.rank_node.specs.declared.frame.Frame.{Frame}
 use Rattle.rank_threads.specs.Phases.{Phase}
-use Rattle.rank_node.specs.declared.phase.Phase.TheVariants as phase
 use Rattle.rank_threads.specs.declared.life.Life.{Life}
 use Rattle.rank_threads.specs.Tally.{all_taken}
 
@@ -29,8 +29,8 @@ pub record Takes (source : ℕ) (frames : List Frame) (lanes lanes' : List RxVal
   pub lane : (d : RxValue) → taken_of (slice_index_or lanes' source d) ≡ taken_of (slice_index_or lanes source d) ++ frames
   pub others : (k : ℕ) (d : RxValue) → k ≢ source → slice_index_or lanes' k d ≡ slice_index_or lanes k d
 
--- A rank took in what the lane from a rank brought, each frame was counted, and it was answered whether any came. The plan
--- and the lanes to other ranks stayed.
+-- A rank took in what the lane from a rank brought, each frame was counted, and it was answered
+-- whether any came. The plan and the lanes to other ranks stayed.
 pub record TookFrom (source : ℕ) (old new : Life) (answer : Bool) : Type 0 where
   pub frames : List Frame
   pub lanes : Takes source frames old.from.items new.from.items
@@ -40,8 +40,8 @@ pub record TookFrom (source : ℕ) (old new : Life) (answer : Bool) : Type 0 whe
   pub plan : new.plan ≡ old.plan
   pub to : new.to ≡ old.to
 
--- A rank took in what the lanes from the ranks below this number brought, from rank 0 on, and answered whether that was
--- anything.
+-- A rank took in what the lanes from the ranks below this number brought, from rank 0 on, and
+-- answered whether that was anything.
 abbrev pub TookBelow : ℕ → Life → Life → Bool → Type 0
 TookBelow zero old new answer = (new ≡ old) × (answer ≡ false)
 TookBelow (suc k) old new answer =

@@ -1,4 +1,5 @@
--- How a run counts.
+-- How a run counts: the frames that are put and taken, by which termination is detected (Mattern
+-- 1987), and steps, crashes and idle turns.
 use Rattle.std.specs.Prelude.{ℕ, ◌+◌, ◌-◌, ◌^◌, min, Bool, true, false, ◌||◌, nat_le, if◌then◌else◌, List, [], ◌∷◌, None, replicate}
 use Rattle.metered.specs.Limits.{most_ranks}
 use Rattle.rank_node.specs.declared.frame.Frame.{Frame}
@@ -25,7 +26,7 @@ new_tally = record {
 abbrev pub one_more : ℕ → ℕ
 one_more count = min (count + 1) (2 ^ 64 - 1)
 
--- so many more, up to the greatest `u32`
+-- a count with so many more, up to the greatest `u32`
 abbrev pub more : ℕ → ℕ → ℕ
 more count by = min (count + by) (2 ^ 32 - 1)
 

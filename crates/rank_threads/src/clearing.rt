@@ -1,8 +1,9 @@
-//! Part 4 of a turn: what waits at the gate, and an image.
+//! Part 4 of a turn: what waits at the gate (output commit), and an image.
 ghost use Rattle.std.specs.Prelude.{◌≡◌, true, false, Ok, drop};
 ghost use Rattle.rank_threads.specs.Clearing.{has_stepped, leaves_misses};
 ghost use Rattle.rank_threads.specs.Lives.{SameLife};
 ghost use Rattle.rank_threads.specs.Phases.{is_running, HasImage, NoneWaits};
+ghost use Rattle.rank_threads.specs.Used.{MayUseOne};
 
 use crate::life::Life;
 use crate::shared::Shared;
@@ -33,6 +34,7 @@ pub fn clear_gate<W: Wait, H>(
         → is_running life.new.node.phase ≡ true → life.new.plan ≡ drop 1 life.old.plan }
     ensures kept { is_running life.new.node.phase ≡ false → life.new.plan ≡ life.old.plan }
     ensures unasked { is_imaged ≡ false → life.new.plan ≡ life.old.plan }
+    ensures lines { MayUseOne is_imaged life.old.plan life.new.plan }
     ensures owing { life.old.tally.may_owe ≡ true → life.new.tally.may_owe ≡ true }
     ensures runs { is_running life.new.node.phase ≡ is_running life.old.node.phase }
     ensures blank { blank.new ≡ blank.old }
@@ -79,6 +81,7 @@ fn pass_all<W: Wait, H>(
         → is_running life.new.node.phase ≡ true → life.new.plan ≡ drop 1 life.old.plan }
     ensures kept { is_running life.new.node.phase ≡ false → life.new.plan ≡ life.old.plan }
     ensures unasked { is_imaged ≡ false → life.new.plan ≡ life.old.plan }
+    ensures lines { MayUseOne is_imaged life.old.plan life.new.plan }
     ensures owing { life.old.tally.may_owe ≡ true → life.new.tally.may_owe ≡ true }
     ensures runs { is_running life.new.node.phase ≡ is_running life.old.node.phase }
     ensures blank { blank.new ≡ blank.old }

@@ -1,4 +1,4 @@
-//! The keepers of all ranks, each on a thread of its own.
+//! The keepers of all ranks, their supervisors, each on a thread of its own.
 ghost use Rattle.std.specs.Prelude.{◌≡◌, vec_len, vec_capacity};
 ghost use Rattle.rank_threads.specs.Stations.{SameStation, SameStations};
 

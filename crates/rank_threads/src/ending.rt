@@ -1,6 +1,6 @@
-//! How a life of a rank ends.
-ghost use Rattle.std.specs.Prelude.{◌≡◌, is_some};
-ghost use Rattle.rank_threads.specs.Endings.{end_after};
+//! How a life of a rank (an incarnation) ends.
+ghost use Rattle.std.specs.Prelude.{◌≡◌, is_some, IfSome};
+ghost use Rattle.rank_threads.specs.Endings.{IsKilledAt, end_after};
 ghost use Rattle.rank_threads.specs.Ends.{end_at, end_of};
 ghost use Rattle.rank_threads.specs.Orders.{is_kill};
 ghost use Rattle.rank_threads.specs.Stations.{IsLifeOf};
@@ -14,45 +14,50 @@ use rank_machine::Want;
 use rank_node::Phase;
 use script_text::Order;
 
-/// The script kills the rank. Only `kill_of` makes one, and only `end_life`
-/// takes it: no rank that is killed goes on.
-pub struct Killed(());
+/// The script kills the rank at its act of this clock. Only `kill_of` makes one,
+/// and only `end_life` takes it: a rank that is killed crashes, and makes no
+/// further act before.
+pub struct Killed {
+    at: u32,
+}
 
 /// Why a rank leaves.
-#[derive(Clone, Copy)]
-pub enum Why {
+#[derive(Drop)]
+pub enum Why<'s> {
     /// All ranks are at rest.
     AtRest(AllAtRest),
     /// All ranks were told to leave.
-    Told(Stopped),
+    Told(Stopped<'s>),
 }
 
 /// How a life ended. It must be spent.
-pub enum Ending {
+pub enum Ending<'s> {
     /// The script killed the rank.
     Crashed(Killed),
-    Left(Why),
+    Left(Why<'s>),
 }
 
-/// That the rank is to crash, where the script's line says so.
-pub fn kill_of(order: Option<Order>) -> Option<Killed>
-    ensures { is_some result ≡ is_kill order }
+/// That the rank is to crash, if the script's line for this clock says so.
+pub fn kill_of(order: Option<Order>, clock: u32) -> Option<Killed>
+    ensures kill { is_some result ≡ is_kill order }
+    ensures at { IfSome result (λ killed. killed.at ≡ clock) }
 {
     match order {
-        Some(Order::Kill) => Some(Killed(())),
+        Some(Order::Kill) => Some(Killed { at: clock }),
         Some(Order::Image) | None => None,
     }
 }
 
 /// The life is over: the rank has gone down, or left.
-pub fn end_life<'l>(life: Life<'_, 'l>, ended: Ending) -> Station<'l>
-    ensures end { result.end ≡ end_after ended life.entry.tally.is_spent life.entry.node.phase }
+pub fn end_life<'l>(life: Life<'_, 'l>, ended: Ending<'_>) -> Station<'l>
+    requires at { IsKilledAt ended life.node.phase }
+    ensures end { result.end ≡ end_after ended.entry life.entry.tally.is_spent life.entry.node.phase }
     ensures plan { result.plan ≡ life.entry.plan }
     ensures tally { result.tally ≡ life.entry.tally }
     ensures same { IsLifeOf result life.entry }
 {
     let end = match ended {
-        Ending::Crashed(Killed(())) => None,
+        Ending::Crashed(Killed { at: _ }) => None,
         Ending::Left(_) => Some(end_of(&life)),
     };
     life.leave(end)

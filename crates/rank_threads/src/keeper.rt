@@ -1,7 +1,8 @@
-//! A keeper starts and joins the threads of a rank's lives.
+//! A keeper, the supervisor of a rank, starts and joins the threads of the
+//! rank's lives (its incarnations).
 ghost use Rattle.std.specs.Prelude.{◌≡◌, ◌≢◌, Some, None};
 ghost use Rattle.rank_node.specs.declared.fault.NodeFault.TheVariants.{Memory};
-ghost use Rattle.rank_threads.specs.Endings.{HasLived};
+ghost use Rattle.rank_threads.specs.Keeping.{HasLived, IsToldToLeave, Lives};
 ghost use Rattle.rank_threads.specs.Stations.{SameStation, HasRow};
 ghost use Rattle.rank_threads.specs.Tally.{begun_again};
 
@@ -20,12 +21,14 @@ use std::thread::Threads;
 
 /// Plays lives until one doesn't crash, or all are told to leave: the rank has
 /// come to its end either way.
+#[tactic(auto, using(crate::proofs::LifeLemmas::keeper_laws))]
 pub fn keep<'l, R: Threads + Wait + Sync + Copy + Send, H: Hold + Sync>(
     rt: R,
     shared: &Shared<'_, H>,
     station: Station<'l>,
 ) -> Station<'l>
     ensures ended { result.end ≢ None }
+    ensures lives { Lives station.entry result }
     ensures same { SameStation station.entry result }
 {
     let mut station = station;
@@ -42,9 +45,8 @@ pub fn keep<'l, R: Threads + Wait + Sync + Copy + Send, H: Hold + Sync>(
 }
 
 // All were told to leave, so the rank lives no more.
-fn told_to_leave(station: Station<'_>, _: Stopped) -> Station<'_>
-    ensures end { result.end ≡ Some End.Unfinished }
-    ensures tally { result.tally ≡ station.entry.tally }
+fn told_to_leave<'l>(station: Station<'l>, _: Stopped<'_>) -> Station<'l>
+    ensures told { IsToldToLeave station.entry result }
     ensures same { SameStation station.entry result }
 {
     let mut station = station;

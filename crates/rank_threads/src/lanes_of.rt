@@ -1,4 +1,5 @@
-//! One of a rank's lanes among all of them.
+//! One of a rank's lanes (channels between two ranks' threads) among all of
+//! them.
 ghost use Rattle.std.specs.Prelude.{◌≡◌, ◌≢◌, ◌+◌, ◌<◌, IfOk};
 ghost use Rattle.rank_threads.specs.Lanes.{SameTxs, SameRxs};
 ghost use Rattle.rank_threads.specs.Lives.{SameNode};

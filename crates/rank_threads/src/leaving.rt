@@ -1,5 +1,5 @@
-//! What a rank does in idle turns: it marks itself, and looks whether all may
-//! leave.
+//! Part 6 of a turn: in an idle one a rank marks itself, and looks whether all
+//! may leave (termination detection).
 ghost use Rattle.std.specs.Prelude.{◌≡◌, ◌≢◌, ℕ, ◌<◌, false, IfOk, slice_index_or};
 ghost use Rattle.rank_threads.specs.Lives.{SameLife, SamePlan, SameGate};
 ghost use Rattle.rank_threads.specs.Resting.{Rests};

@@ -1,5 +1,9 @@
-//! Ranks on threads of their own: they are killed and imaged by a script, start
-//! again and replay, and the report of a run is audited.
+//! One driver of the protocol: ranks on threads of their own, which a script
+//! kills and images, and which start again and replay.
+//!
+//! The threads aren't verified end to end. A run is validated after the fact,
+//! as a certifying program is: there is a report only if a verified checker
+//! finds a crash-free run that explains it.
 #![tactic(auto)]
 
 mod clearing;

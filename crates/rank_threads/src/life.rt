@@ -1,4 +1,4 @@
-//! A rank in one life.
+//! A rank in one life: an incarnation, on a thread of its own.
 use crate::node::Node;
 use crate::plan::Plan;
 use crate::tally::Tally;

@@ -1,9 +1,11 @@
 //! A rank's life, turn by turn.
 ghost use Rattle.std.specs.Prelude.{◌≡◌, true, false, Some, None};
-ghost use Rattle.rank_threads.specs.Endings.{HasLived, crashes_after, is_at_rest};
+ghost use Rattle.rank_threads.specs.Endings.{IsKilledAt, crashes_after, is_at_rest};
+ghost use Rattle.rank_threads.specs.Keeping.{HasLived};
 ghost use Rattle.rank_threads.specs.Lives.{SamePlace};
 ghost use Rattle.rank_threads.specs.Phases.{NoneWaits};
 ghost use Rattle.rank_threads.specs.Stations.{SameStation, SameRest};
+ghost use Rattle.rank_threads.specs.Used.{UsesLines};
 
 use crate::ending::{Ending, Why, end_life};
 use crate::hold::Hold;
@@ -43,13 +45,15 @@ pub fn live<'l, W: Wait, H: Hold>(
 }
 
 // Turns, until the rank is killed or leaves.
-#[tactic(auto, using(crate::proofs::PhaseLaws::stays_settled))]
-fn make_turns<'p, 'l, W: Wait, H: Hold>(
+#[tactic(auto, using(crate::proofs::PhaseLaws::stays_settled, crate::proofs::UsedLines::line_laws))]
+fn make_turns<'p, 'l, 's, W: Wait, H: Hold>(
     rt: &W,
-    shared: &Shared<'_, H>,
+    shared: &Shared<'s, H>,
     blank: &mut ConsoleState,
     life: Life<'p, 'l>,
-) -> (Life<'p, 'l>, Ending)
+) -> (Life<'p, 'l>, Ending<'s>)
+    ensures at { IsKilledAt result.1 result.0.node.phase }
+    ensures lines { UsesLines result.1 life.entry.plan result.0.plan }
     ensures crashes { result.0.tally.crashes ≡ crashes_after result.1 life.entry.tally.crashes }
     ensures left { is_at_rest result.1 ≡ true → result.0.tally.fault ≡ None → result.0.tally.is_refused ≡ false → NoneWaits result.0.node.phase }
     ensures blank { blank.new ≡ blank.old }

@@ -1,5 +1,5 @@
 //! When a rank may leave: every rank is at rest, and as many frames were taken
-//! as were put.
+//! as were put (termination detection by counting: Mattern 1987).
 //!
 //! A rank at rest has nothing to put and waits or has ended, so that only a
 //! frame can wake it. Its mark says so, with how many frames it has put and

@@ -1,4 +1,4 @@
-//! What the script's next line asks of a turn.
+//! Part 3 of a turn: what the script's next line asks for.
 ghost use Rattle.std.specs.Prelude.{◌≡◌};
 ghost use Rattle.rank_threads.specs.Orders.{order_after, is_image};
 

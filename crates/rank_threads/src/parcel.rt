@@ -1,6 +1,6 @@
 //! A station on its way into a thread or back.
 ghost use Rattle.std.specs.Prelude.{◌≡◌};
-ghost use Rattle.rank_threads.specs.Endings.{HasLived};
+ghost use Rattle.rank_threads.specs.Keeping.{HasLived};
 ghost use Rattle.rank_threads.specs.Stations.{SameStation};
 
 use crate::station::Station;
@@ -8,8 +8,9 @@ use std::snapshot::Snapshot;
 use std::sync::Wait;
 use std::thread::Promise;
 
-/// A station on its way into a thread or back. What a thread captures and gives back has to be `Drop`, and a station is not,
-/// so a drop of a parcel never returns. No code drops one: it is always opened.
+/// A station on its way into a thread or back. What a thread captures and gives
+/// back has to be `Drop`, and a station is not, so a drop of a parcel never
+/// returns. No code drops one: it is always opened.
 pub struct Parcel<'p, W: Wait + Drop> {
     pub rt: W,
     pub station: Station<'p>,

@@ -1,4 +1,4 @@
-//! What waits at the gate of a rank that runs.
+//! What waits at the gate of a rank that runs, and leaves it (output commit).
 ghost use Rattle.std.specs.Prelude.{◌≡◌, [], true, is_some, IfOk, OnOk};
 ghost use Rattle.rank_node.specs.Releasing.{next_effect, released};
 ghost use Rattle.rank_threads.specs.Phases.{SameStable};

@@ -1,4 +1,5 @@
-//! What is left of a run as its report, or why it has none.
+//! What is left of a run as its report, if it can be validated, or why it has
+//! none.
 ghost use Rattle.std.specs.Prelude.{◌≡◌, ◌≤◌, None, IfOk, length, map};
 ghost use Rattle.metered.specs.Limits.{most_ranks};
 ghost use Rattle.rank_threads.specs.Faults.{crashes_from, fault_of, is_memory, lacked_memory, lowest_from};

@@ -1,5 +1,5 @@
 //! What all ranks of a run share.
-ghost use Rattle.std.specs.Prelude.{◌≡◌};
+ghost use Rattle.std.specs.Prelude.{◌≡◌, IfSome};
 
 use crate::marks::Mark;
 use crate::running::RunLimits;
@@ -17,20 +17,22 @@ pub struct Stop<'a> {
     why: NodeFault,
 }
 
-impl Stop<'_> {
+impl<'a> Stop<'a> {
     /// Why, to be noted of the rank that can't go on.
-    pub fn spent(self) -> (NodeFault, Stopped)
-        ensures { result.0 ≡ self.entry.why }
+    pub fn spent(self) -> (NodeFault, Stopped<'a>)
+        ensures why { result.0 ≡ self.entry.why }
+        ensures set { result.1.flag.of ≡ self.entry.flag.of }
     {
-        let Stop { flag: _, why } = self;
-        (why, Stopped(()))
+        let Stop { flag, why } = self;
+        (why, Stopped { flag })
     }
 }
 
-/// All ranks were told to leave. Only `Stop::spent` makes one, and who sees that
-/// they were told.
-#[derive(Clone, Copy)]
-pub struct Stopped(());
+/// All ranks were told to leave: their flag is set, which the token alone shows.
+#[derive(Drop)]
+pub struct Stopped<'a> {
+    flag: OnceToken<'a, ()>,
+}
 
 /// What the mark of a rank says. Only `Shared::set_mark` makes one.
 #[derive(Clone, Copy)]
@@ -92,9 +94,12 @@ impl<'a, H> Shared<'a, H> {
     }
 
     /// Whether all ranks are to leave.
-    pub fn stopped(&self) -> Option<Stopped> {
-        match self.stop.witness() {
-            Some(_) => Some(Stopped(())),
+    pub fn stopped(&self) -> Option<Stopped<'a>>
+        ensures set { IfSome result (λ stopped. stopped.flag.of ≡ self.now.stop.now.id) }
+    {
+        let stop = self.stop;
+        match stop.witness() {
+            Some(flag) => Some(Stopped { flag }),
             None => None,
         }
     }

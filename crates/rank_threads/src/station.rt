@@ -1,4 +1,4 @@
-//! What of a rank outlives its lives.
+//! What of a rank outlives its lives: its station, or process slot.
 ghost use Rattle.std.specs.Prelude.{◌≡◌};
 
 mod lives;

@@ -60,7 +60,7 @@ impl Tally {
     }
 
     /// The rank can't go on, and all were told to leave.
-    pub fn refuse(&mut self, stop: Stop<'_>) -> Stopped
+    pub fn refuse<'s>(&mut self, stop: Stop<'s>) -> Stopped<'s>
         ensures { self.new ≡ record self.old { fault = Some stop.entry.why } }
     {
         let (why, stopped) = stop.spent();

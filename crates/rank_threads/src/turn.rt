@@ -1,13 +1,16 @@
-//! One turn of a rank.
-ghost use Rattle.std.specs.Prelude.{◌≡◌, true, false, Some, None, IfOk, OnOk, drop};
+//! One turn of a rank, in six parts: what the lanes bring (`taking`), a stride or
+//! a step (`stepping`), what the script asks for (`orders`), what waits at the
+//! gate (`clearing`), what goes out (`putting`), and the rank's mark (`leaving`).
+ghost use Rattle.std.specs.Prelude.{◌≡◌, true, false, Some, None, IfOk, OnOk, OnErr, drop};
 ghost use Rattle.rank_node.specs.Phases.{settled_in};
 ghost use Rattle.rank_threads.specs.Clearing.{leaves_misses};
-ghost use Rattle.rank_threads.specs.Endings.{goes_down, is_down, is_leave};
+ghost use Rattle.rank_threads.specs.Endings.{GoesDownAt, goes_down, is_down, is_leave};
 ghost use Rattle.rank_threads.specs.Lives.{SameLife, SamePlan};
 ghost use Rattle.rank_threads.specs.Orders.{order_after, is_kill, is_image};
 ghost use Rattle.rank_threads.specs.Phases.{NoneWaits, TookImage, gate_in, is_running, misses_only_in};
 ghost use Rattle.rank_threads.specs.Putting.{NothingBelow};
 ghost use Rattle.rank_threads.specs.Turns.{IsBegun, kills_after};
+ghost use Rattle.rank_threads.specs.Used.{MayUseImage, MayUseOne, UsesLine};
 
 use crate::clearing::clear_gate;
 use crate::ending::{Killed, Why, kill_of};
@@ -24,11 +27,11 @@ use rank_node::NodeFault;
 use std::sync::Wait;
 
 /// What follows a turn. It must be spent.
-pub enum After {
+pub enum After<'s> {
     /// Another turn; after an idle one others go first.
     Turn { is_idle: bool },
     Crash(Killed),
-    Leave(Why),
+    Leave(Why<'s>),
 }
 
 /// What the first two parts of a turn came to.
@@ -59,15 +62,17 @@ pub fn begin<W: Wait, H: Hold>(
 /// gate, what goes out, and the rank's mark. Nothing waits then but misses of a
 /// rank that goes on. A replay that is over has to be settled before.
 #[tactic(auto, using(crate::proofs::ClearingLemmas::left_unspent, crate::proofs::ClearingLemmas::left_only))]
-pub fn finish<W: Wait, H: Hold>(
+pub fn finish<'s, W: Wait, H: Hold>(
     rt: &W,
-    shared: &Shared<'_, H>,
+    shared: &Shared<'s, H>,
     blank: &mut ConsoleState,
     life: &mut Life<'_, '_>,
     begun: Result<Begun, NodeFault>,
-) -> After
+) -> After<'s>
     requires { settled_in life.old.node.phase ≡ life.old.node.phase }
     ensures killed { is_down result ≡ kills_after begun life.old.plan life.old.node.phase }
+    ensures at { GoesDownAt result life.new.node.phase }
+    ensures lines { UsesLine result life.old.plan life.new.plan }
     ensures settled { is_down result ≡ false → life.new.tally.fault ≡ None → life.new.tally.is_refused ≡ false
         → misses_only_in life.new.node.phase ≡ false → NoneWaits life.new.node.phase }
     ensures spent { is_down result ≡ false → life.new.tally.fault ≡ None → life.new.tally.is_refused ≡ false
@@ -86,15 +91,18 @@ pub fn finish<W: Wait, H: Hold>(
     }
 }
 
-#[tactic(auto, using(crate::proofs::GateLemmas::took_still, crate::proofs::ClearingLemmas::left_stepped))]
-fn end<W: Wait, H: Hold>(
+#[tactic(auto, using(crate::proofs::GateLemmas::took_still, crate::proofs::ClearingLemmas::left_stepped, crate::proofs::UsedLines::kill_used, crate::proofs::UsedLines::image_used))]
+fn end<'s, W: Wait, H: Hold>(
     rt: &W,
-    shared: &Shared<'_, H>,
+    shared: &Shared<'s, H>,
     blank: &mut ConsoleState,
     life: &mut Life<'_, '_>,
     begun: Begun,
-) -> Result<After, NodeFault>
+) -> Result<After<'s>, NodeFault>
     ensures killed { goes_down result ≡ is_kill (order_after begun.stepped life.old.plan life.old.node.phase) }
+    ensures at { IfOk result (λ after. GoesDownAt after life.new.node.phase) }
+    ensures lines { IfOk result (λ after. UsesLine after life.old.plan life.new.plan) }
+    ensures err_lines { OnErr result (MayUseImage life.old.plan life.new.plan) }
     ensures used { goes_down result ≡ true → life.new.plan ≡ drop 1 life.old.plan }
     ensures unasked { order_after begun.stepped life.old.plan life.old.node.phase ≡ None → life.new.plan ≡ life.old.plan }
     ensures image { is_image (order_after begun.stepped life.old.plan life.old.node.phase) ≡ true → is_running life.old.node.phase ≡ true
@@ -110,7 +118,7 @@ fn end<W: Wait, H: Hold>(
     ensures same { SameLife life.old life.new }
 {
     let order = order_after(begun.stepped, life);
-    if let Some(killed) = kill_of(order) {
+    if let Some(killed) = kill_of(order, life.node.clock()) {
         life.plan.use_one();
         return Ok(After::Crash(killed));
     }
@@ -148,6 +156,7 @@ fn let_out<W: Wait, H>(
     ensures image { is_imaged ≡ true → is_running life.old.node.phase ≡ true
         → life.new.tally.is_refused ≡ false → OnOk result (TookImage life.new.node.phase) }
     ensures unasked { is_imaged ≡ false → life.new.plan ≡ life.old.plan }
+    ensures lines { MayUseOne is_imaged life.old.plan life.new.plan }
     ensures blank { blank.new ≡ blank.old }
     ensures same { SameLife life.old life.new }
 {
@@ -180,14 +189,15 @@ pub fn settled<'p, 'l>(life: Life<'p, 'l>) -> Life<'p, 'l>
 }
 
 // The rank can't go on, and all are to leave.
-fn faulted<W: Wait, H>(
+fn faulted<'s, W: Wait, H>(
     rt: &W,
-    shared: &Shared<'_, H>,
+    shared: &Shared<'s, H>,
     life: &mut Life<'_, '_>,
     fault: NodeFault,
-) -> After
+) -> After<'s>
     ensures leaves { is_leave result ≡ true }
     ensures stays { is_down result ≡ false }
+    ensures at { GoesDownAt result life.new.node.phase }
     ensures fault { life.new ≡ record life.old { tally = record life.old.tally { fault = Some fault } } }
     ensures same { SameLife life.old life.new }
 {

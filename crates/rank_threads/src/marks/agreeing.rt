@@ -1,4 +1,4 @@
-//! When two looks at all marks agree.
+//! When two looks at all marks agree (termination detection by counting).
 ghost use Rattle.std.specs.Prelude.{◌≡◌, ◌≢◌, true, false};
 ghost use Rattle.std.specs.Option.{is_none};
 

@@ -1,4 +1,4 @@
-//! From a station to a life and back.
+//! From a station (a process slot) to a life (an incarnation) and back.
 ghost use Rattle.std.specs.Prelude.{◌≡◌, ◌<◌, ◌≤◌, None, IfErr, OnOk, OnErr};
 ghost use Rattle.metered.specs.Limits.{most_ranks};
 ghost use Rattle.rank_threads.specs.Phases.{Begins};

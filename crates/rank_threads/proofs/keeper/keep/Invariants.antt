@@ -1,6 +1,11 @@
+use Rattle.rank_threads.specs.Keeping.{Lives}
 use Rattle.rank_threads.specs.Stations.{SameStation}
+use Rattle.rank_threads.specs.declared.station.Station.{Station}
 use Rattle.rank_threads.proofs.keeper.keep.Given as goal
 
--- what stays
+-- what stays, and that the lives from here on are behind those so far
 abbrev pub invariant-loop : goal.invariant-loop
-invariant-loop g l = SameStation l.initial.station l.station
+invariant-loop g l = record {
+  same : SameStation l.initial.station l.station;
+  lives : (u : Station) → Lives l.station u → Lives l.initial.station u;
+}

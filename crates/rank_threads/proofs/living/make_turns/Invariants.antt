@@ -1,10 +1,12 @@
 use Rattle.std.proofs.Common.{◌≡◌}
 use Rattle.rank_threads.specs.Lives.{SameLife}
+use Rattle.rank_threads.specs.Used.{UsesImages}
 use Rattle.rank_threads.proofs.living.make_turns.Given as goal
 
--- what stays, and no crash is counted
+-- what stays, that no crash is counted, and which lines of the script are used
 abbrev pub invariant-loop : goal.invariant-loop
 invariant-loop g l = record {
   blank : l.blank ≡ l.fn.blank;
   same : SameLife l.initial.life l.life;
+  lines : UsesImages l.initial.life.plan l.life.plan;
 }
