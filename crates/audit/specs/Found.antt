@@ -1,4 +1,4 @@
--- The run that an audit finds: a simulation that has come to an outcome.
+-- The run that an audit finds, the witness of its yes: a simulation that has come to an outcome.
 use Rattle.std.specs.Prelude.{◌≡◌, ℕ, Some, length, slice_get}
 use Rattle.rank_language.specs.Program.{ProgramValue}
 use Rattle.crash_free.specs.Sim.{SimValue, start_of}
@@ -7,8 +7,9 @@ use Rattle.audit.specs.Outcome.{OutcomeValue, IsOutcome}
 use Rattle.audit.specs.Audits.{AreReached}
 use Rattle.audit.specs.Reachable.{IsWithinSteps}
 
--- The simulation is of this program on n ranks, its run has the outcome, each machine asks for what its rank may want that
--- ended as the outcome says, and no rank needed more than so many steps for its part.
+-- The simulation is of this program on n ranks, its run has the outcome, each machine asks for what
+-- its rank may want that ended as the outcome says, and no rank needed more than so many steps for
+-- its part.
 pub record IsFound (p : ProgramValue) (n : ℕ) (o : OutcomeValue) (steps : ℕ) (s : SimValue) : Type 0 where
   pub program : s.program ≡ p
   pub size : length s.machines ≡ n

@@ -1,5 +1,6 @@
--- What is known of a run afterwards, and what it is to be the outcome of a run without crashes (consistent states, which
--- are those of executions without failures: Elnozahy, Alvisi, Wang and Johnson 2002, section 2).
+-- What is known of a run afterwards, and what it is to be the outcome of a run without crashes:
+-- what validation after the fact has to find (consistent states, which are those of executions
+-- without failures: Elnozahy, Alvisi, Wang and Johnson 2002, section 2).
 use Rattle.std.specs.Prelude.{◌≡◌, ℕ, ℤ, ◌==◌, List, [], ◌∷◌, length, Some, slice_get}
 use Rattle.plain_logger.specs.Event.{EventValue}
 use Rattle.ports.specs.declared.line.Line.{Line}
@@ -37,7 +38,7 @@ IsWaiting (want.Print value) = ⊥
 IsWaiting want.Halted = ⊥
 IsWaiting (want.Faulted fault) = ⊥
 
--- a rank that ended so may want this; of one that is unfinished nothing is said
+-- a rank that ended so may want this; one that is unfinished may want anything
 abbrev pub MayWant : End → Want → Type 0
 MayWant end.Halted w = w ≡ want.Halted
 MayWant (end.Faulted fault) w = w ≡ want.Faulted fault
@@ -52,8 +53,8 @@ pub record HasEnded (start : State) (h : History) (e : End) : Type 0 where
   pub inner : Inners after stands
   pub ended : MayWant e (wants stands)
 
--- The outcome is that of this run of n ranks: each row has the rank's events, the lines of each rank are those that it
--- printed, and each rank is where it is said to have ended.
+-- The outcome is that of this run of n ranks: each row has the rank's events, the lines of each
+-- rank are those that it printed, and each rank is where the outcome says that it ended.
 pub record IsOutcome (start : ℕ → State) (n : ℕ) (C : List Passed) (o : OutcomeValue) : Type 0 where
   pub is_run : IsRun start n C
   pub as_many_rows : length o.rows ≡ n

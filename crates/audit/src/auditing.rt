@@ -1,4 +1,5 @@
-//! Whether an outcome is that of a run without crashes.
+//! Whether an outcome is that of a run without crashes: validation after the
+//! fact, by a certifying checker.
 ghost use Rattle.std.specs.Prelude.{◌≡◌, ◌≤◌, length, IfOk, IfErr};
 ghost use Rattle.metered.specs.Limits.{most_ranks};
 ghost use Rattle.audit.specs.Outcome.{IsOfSomeRun};
@@ -19,8 +20,8 @@ use rank_language::Program;
 #[derive(Clone, Copy, Debug, PartialEq, Eq)]
 pub struct Audited;
 
-/// Says yes only where some run of the program without crashes has the outcome,
-/// and, where there is memory, to each such outcome that no rank needs more than
+/// Says yes only if some run of the program without crashes has the outcome,
+/// and, if there is memory, to each such outcome that no rank needs more than
 /// so many steps for.
 ///
 /// There are 1 to `MOST_RANKS` ranks of `metered::limits`. Internal steps count
@@ -48,7 +49,7 @@ pub fn audit(
 }
 
 /// The run that `audit` finds: one of the program without crashes that has the
-/// outcome, with each rank where it is said to have ended.
+/// outcome, with each rank where the outcome says that it ended.
 ///
 /// It answers as `audit` does, and takes as long. Of an unfinished rank it has
 /// what the rank can do with its row, its lines and its steps.
@@ -84,7 +85,7 @@ pub fn find_run<'p>(
     come_to(alloc, program, ranks, &goal, steps)
 }
 
-/// The same, where the outcome has a row, its lines and an end of each rank.
+/// The same, if the outcome has a row, its lines and an end of each rank.
 fn come_to<'p>(
     alloc: Heap,
     program: &'p Program,

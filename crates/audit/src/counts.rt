@@ -28,8 +28,8 @@ impl Model for Counts {
 }
 
 impl Counts {
-    /// Of these events, or `None` where they stand for more acts than a rank
-    /// may make.
+    /// Of these events, or `None` if they stand for more acts than a rank may
+    /// make.
     fn of(alloc: Heap, events: &[Event]) -> Result<Option<Counts>, AllocError>
         ensures some { IfOk result (λ counts. IfSome counts (λ counts. counts ≡ ends_from 0 events.now)) }
         ensures none { IfOk result (λ counts. IfNone counts (greatest_clock < length (expand events.now))) }
@@ -85,7 +85,7 @@ fn part(event: Event, count: u32, later: u32) -> Option<Event>
     }
 }
 
-/// Of each rank's row, or `None` where one stands for more acts than a rank may
+/// Of each rank's row, or `None` if one stands for more acts than a rank may
 /// make.
 pub fn count(alloc: Heap, outcome: &Outcome) -> Result<Option<Vec<Counts, Heap>>, AllocError>
     ensures some { IfOk result (λ all. IfSome all (λ all. AreCounted outcome.now.rows all.items)) }

@@ -1,4 +1,6 @@
-//! Audits: whether an outcome is that of a run without crashes.
+//! Audits: whether an outcome is that of a run without crashes. A run of
+//! threads is validated after the fact by this certifying checker, which is
+//! proved.
 #![tactic(auto)]
 
 mod auditing;

@@ -1,5 +1,6 @@
--- The image of a rank, as those that take one and begin at one see it (uncoordinated checkpoints: Elnozahy, Alvisi,
--- Wang and Johnson 2002, "A Survey of Rollback-Recovery Protocols in Message-Passing Systems", section 2).
+-- The image, or checkpoint, of a rank, as those that take one and begin at one see it
+-- (uncoordinated checkpoints: Elnozahy, Alvisi, Wang and Johnson 2002, "A Survey of
+-- Rollback-Recovery Protocols in Message-Passing Systems", section 2).
 use Rattle.std.specs.Prelude.{ℕ, ◌+◌, Bool, ◌&&◌, List, [], length, map, ℤ, nat_lt, ◌==◌, Option}
 use Rattle.matching.specs.Inbox.{Mailbox}
 use Rattle.payload_log.specs.Backlog.{BacklogValue}
@@ -9,8 +10,8 @@ use Rattle.rank_machine.specs.declared.status.Status.{Status}
 use Rattle.rank_machine.specs.Collectives.{Call}
 use Rattle.rank_machine.specs.Machine.{MachineValue, line_at, call_at, stages, gathers}
 
--- what an image says: the machine, the clock of the last act, the inbox with what was accepted, and the payload log;
--- nothing waits in it, and it has no cursors but those right after the base
+-- what an image says: the machine, the clock of the last act, the inbox with what was accepted, and
+-- the payload log; nothing waits in it, and it has no cursors but those right after the base
 pub record ImageValue : Type 0 where
   pub machine : MachineValue
   pub clock : ℕ
@@ -25,8 +26,8 @@ rewound b = record b { cursor = b.base + 1; held = [] }
 abbrev pub at_rest : ImageValue → ImageValue
 at_rest i = record i { log = map rewound i.log }
 
--- Where a machine stands: its position, the acts done in the collective there, the fault that an act left, the values
--- gathered there, and how many collectives it has finished.
+-- Where a machine stands: its position, the acts done in the collective there, the fault that an
+-- act left, the values gathered there, and how many collectives it has finished.
 pub record Standing : Type 0 where
   pub position : ℕ
   pub done : ℕ
@@ -44,11 +45,13 @@ standing_of m = record {
   finished = m.store.finished;
 }
 
--- the collective at a machine's position, as it is called there; none at another line, and none where its call faults
+-- the collective at a machine's position, as it is called there; none at another line, and none if
+-- its call faults
 abbrev pub call_of : MachineValue → Option Call
 call_of m = call_at m.store (line_at m)
 
--- a machine can have done so much of the collective at its position, and gathered so many values there
+-- a machine can have done so much of the collective at its position, and gathered so many values
+-- there
 abbrev pub is_underway : MachineValue → Bool
 is_underway m =
     nat_lt m.store.done (stages m.store (call_of m)) && (length m.store.gathered == gathers m.store (call_of m))

@@ -1,5 +1,5 @@
--- How an image is read (docs/FORMATS.md, "Images"): from left to right, each number looked at as soon as its bytes are
--- read, up to the first fault.
+-- How an image is read (docs/FORMATS.md, "Images"): from left to right, each number looked at as
+-- soon as its bytes are read, up to the first fault.
 use Rattle.std.specs.Prelude.{◌≡◌, ℕ, zero, suc, ◌+◌, ◌-◌, Bool, ◌&&◌, ◌||◌, List, [], ◌∷◌, ◌++◌, length, ℤ, drop, Option}
 use Rattle.std.specs.Prelude.{Some, None, Result, Ok, Err, nat_lt, nat_le, ◌==◌, if◌then◌else◌, slice_index}
 use Rattle.std.specs.Int.{w64, cast_signed}
@@ -29,6 +29,7 @@ use Rattle.checkpoint.specs.Image.{ImageValue, Standing, machine_of, lengths_of,
 abbrev pub Read : Type 0 → Type 0
 Read A = Result (A × List ℕ) ImageFault
 
+-- first the one, then what follows from it; a fault stands
 infixl 10 ◌>>=◌
 abbrev pub ◌>>=◌ : {A B : Type 0} → Result A ImageFault → (A → Result B ImageFault) → Result B ImageFault
 (Ok x) >>= f = f x
@@ -52,7 +53,7 @@ Gives view (Err e) read = Fails e read
 abbrev pub number_at : ℕ → List ℕ → Read ℕ
 number_at n bytes = if nat_lt (length bytes) n then Err Short else Ok (big_number n bytes, drop n bytes)
 
--- this, where the test passes
+-- this, if the test passes
 abbrev pub where_holds : {A : Type 0} → Bool → ImageFault → A → Result A ImageFault
 where_holds b fault x = if b then Ok x else Err fault
 
@@ -109,7 +110,7 @@ packet_at size accepted before bytes = do
   number ← field 4 Field (may_follow (record { packets = before; accepted = accepted }) source.0) clock.1
   tail_at source.0 clock.0 number.0 number.1
 
--- the clock of the last message, 0 where there is none
+-- the clock of the last message, 0 if there is none
 abbrev pub last_clock : List PacketValue → ℕ
 last_clock [] = 0
 last_clock (m ∷ []) = m.clock
@@ -232,12 +233,12 @@ status_at size bytes = do
 abbrev pub arrays_at : List ℕ → List ℕ → Read (List (List ℤ))
 arrays_at lengths bytes = many_at (λ before. values_at (slice_index lengths (length before))) (length lengths) [] bytes
 
--- this machine, where it can have done and gathered so much of the collective at its position
+-- this machine, if it can have done and gathered so much of the collective at its position
 abbrev pub where_underway : MachineValue → List ℕ → Read MachineValue
 where_underway m rest = where_holds (is_underway m) Field (m, rest)
 
--- A machine of this program, rank and number of ranks. What is done and gathered of a collective is looked at behind the last item:
--- its root may read any of them.
+-- A machine of this program, rank and number of ranks. What is done and gathered of a collective is
+-- looked at behind the last item: its root may read any of them.
 unfoldable pub machine_at : ProgramValue → ℕ → ℕ → List ℕ → Read MachineValue
 machine_at p rank size bytes = do
   standing ← standing_at (length p.statements) bytes

@@ -1,4 +1,5 @@
--- The bytes of an image (docs/FORMATS.md, "Images"): all numbers big-endian, one field after the other.
+-- The bytes of an image (docs/FORMATS.md, "Images"): all numbers big-endian, one field after the
+-- other.
 use Rattle.std.specs.Prelude.{ℕ, ◌<◌, ◌^◌, List, [], ◌++◌, length, ℤ, Option, Some, None}
 use Rattle.std.specs.List.{flat_map}
 use Rattle.std.specs.Int.{w64, cast_unsigned}
@@ -39,6 +40,7 @@ events Two = big_bytes 1 event_version
 unfoldable pub value : ℤ → List ℕ
 value z = big_bytes 8 (cast_unsigned w64 z)
 
+-- values, one after another
 abbrev pub values : List ℤ → List ℕ
 values zs = flat_map value zs
 
@@ -75,7 +77,7 @@ origin format rank size = heading format ++ (big_bytes 1 rank ++ big_bytes 1 siz
 abbrev pub lengths : List (List ℕ × ℕ) → List ℕ
 lengths arrays = flat_map (λ a. big_bytes 2 a.1) arrays
 
--- the program's numbers, by which an image of another program is told apart
+-- the program's numbers, by which an image of another program is recognized
 unfoldable pub table : ProgramValue → List ℕ
 table p =
     big_bytes 2 (length p.statements) ++ (big_bytes 1 (length p.variables) ++ (big_bytes 1 (length p.arrays)

@@ -114,7 +114,8 @@ fn law_within_program(machine: &Machine<'_>)
     let _statements = program.len();
 }
 
-// A law, for proofs alone: a byte holds what is done of a collective, and how many values are gathered.
+// A law, for proofs alone: a byte holds what is done of a collective, and how many values are
+// gathered.
 fn law_few_parts(machine: &Machine<'_>)
     requires { machine.now.store.size ≤ most_ranks }
     ensures done { FitsBytes 1 machine.now.store.done }
@@ -171,7 +172,8 @@ fn whole_of<'p>(
 
 /// The image of this rank of the program that is all of the bytes, in either format.
 ///
-/// An `Err` is the first fault of the bytes from left to right, or want of memory.
+/// An `Err` is the first fault of the bytes from left to right, or means out of
+/// memory.
 pub fn decode<'p>(
     alloc: Heap,
     program: &'p Program,

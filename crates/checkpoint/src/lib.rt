@@ -1,5 +1,5 @@
-//! Checkpoints of a rank: its image as bytes, and the shelf on which the image
-//! outlives a crash.
+//! Checkpoints of a rank: its image, the checkpoint, as bytes, and the shelf,
+//! the checkpoint store, on which the image outlives a crash.
 #![tactic(auto)]
 
 mod fault;

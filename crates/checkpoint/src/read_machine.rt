@@ -222,8 +222,8 @@ fn gathered_of(alloc: Heap, size: u8, values: &[i64]) -> Result<Gathered, ImageF
     Ok(gathered)
 }
 
-/// The machine of this rank. What is done and gathered is looked at behind the last item, which the root of a collective
-/// may read.
+/// The machine of this rank. What is done and gathered is looked at behind the last item, which the
+/// root of a collective may read.
 #[tactic(auto, unfolding(crate::specs::Reading::machine_at))]
 pub fn machine_of<'p, 'b>(
     alloc: Heap,

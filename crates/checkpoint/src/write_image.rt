@@ -160,7 +160,8 @@ fn fault_byte(fault: Option<MachineFault>) -> u8
     }
 }
 
-// The parts of a collective are few, and so are the values gathered, so that a byte holds each number.
+// The parts of a collective are few, and so are the values gathered, so that a byte holds each
+// number.
 #[tactic(auto, unfolding(crate::specs::Spelling::standing))]
 fn put_standing(out: &mut Vec<u8, Heap>, m: &Machine<'_>) -> Result<(), AllocError>
     requires position { FitsBytes 2 m.now.position }

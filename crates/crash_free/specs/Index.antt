@@ -1,5 +1,6 @@
--- By which a message is found among the slots of a pair of ranks: for each kind of messages a queue of places, oldest
--- first. A kind is a context with a tag, or with any tag. A queue may also have places of slots that are empty.
+-- By which a message is found among the slots of a pair of ranks: for each kind of messages a queue
+-- of places, oldest first. A kind is a context with a tag, or with any tag. A queue may also have
+-- places of slots that are empty.
 use Rattle.std.specs.Prelude.{◌≡◌, ℕ, ◌+◌, ◌*◌, ◌<◌, ◌≤◌, Bool, List, [], ◌∷◌, ◌++◌, ◌⊎◌, length, Option, Some, None}
 use Rattle.std.specs.Prelude.{slice_get, slice_index_or, IsSomeAnd, option_and_then}
 use Rattle.std.specs.Ordering.{nat_cmp}
@@ -77,7 +78,8 @@ pub record HasQueues (i i' : IndexValue) : Type 0 where
   pub numbers : (kind q : ℕ) → queue_number i kind ≡ Some q → queue_number i' kind ≡ Some q
   pub queues : (i'.queues ≡ i.queues) ⊎ (i'.queues ≡ i.queues ++ [] ∷ [])
 
--- what is listed in the first index is in the second, and what is an index of slots before a place stays one
+-- what is listed in the first index is in the second, and what is an index of slots before a place
+-- stays one
 pub record ListsMore (i : IndexValue) (place : ℕ) (i' : IndexValue) : Type 0 where
   pub listed : (kind other : ℕ) → IsListed i kind other → IsListed i' kind other
   pub index : (slots : List Slot) → length slots ≡ place → IsIndex i slots → IsIndex i' slots

@@ -1,4 +1,5 @@
--- Steps of its own that one rank makes in succession: no other rank sees them, and the run stays as it is.
+-- Steps of its own that one rank makes in succession: no other rank sees them, and the run stays as
+-- it is.
 use Rattle.std.specs.Prelude.{◌≡◌, ◌≢◌, ℕ, length, slice_get, IsSomeAnd}
 use Rattle.rank_machine.specs.Machine.{Strides}
 use Rattle.crash_free.specs.Sim.{SimValue}

@@ -1,5 +1,6 @@
--- What collectives mean over a crash-free run (MPI 1.1, sections 4.3, 4.4 and 4.9.1: barrier, broadcast, reduce). They are
--- numbered by rank, from 1, in the order in which the rank makes them.
+-- What collectives mean over a crash-free run (MPI 1.1, chapter 4; sections 4.3, 4.4 and 4.9.1:
+-- barrier, broadcast, reduce). They are numbered by rank, from 1, in the order in which the rank
+-- makes them.
 use Rattle.std.specs.Prelude.{◌≡◌, ℕ, ℤ, ◌<◌, List, [], ◌∷◌, ◌++◌, length, slice_get, slice_set, Ok, Option, Some, None, ◌⊎◌}
 use Rattle.rank_grammar.specs.declared.token.Reduction.{Reduction}
 use Rattle.rank_language.specs.Placed.{declare, declare_array, assign, assign_item, send, receive, probe, try_probe, print, collect}
@@ -12,7 +13,7 @@ use Rattle.rank_machine.specs.States.{State, Inners, inner}
 use Rattle.rank_machine.specs.Acts.{Makes, Runs, next, written}
 use Rattle.crash_free.specs.Runs.{Passed, History, history}
 
--- the first of these statements, where it is a collective
+-- the first of these statements, if it is a collective
 abbrev pub first_collective : Block → Option Collective
 first_collective done = None
 first_collective (plain (declare p) r) = None
@@ -29,7 +30,7 @@ first_collective (if_only e y r) = None
 first_collective (if_else e y o r) = None
 first_collective (loop e y r) = None
 
--- a collective as it is called now; none where root, value or ordinal faults
+-- a collective as it is called now; none if root, value or ordinal faults
 abbrev pub call_now : Store → Option Collective → Option Call
 call_now s None = None
 call_now s (Some c) = unfaulted (called s c)
@@ -43,8 +44,8 @@ call_unless (Some k) call = None
 abbrev pub call_in : State → Option Call
 call_in a = call_unless a.fault (call_now a.store (first_collective a.rest))
 
--- A moment of a rank that began at this state and has this history: after some of its acts, and some inner steps, it is in that
--- state.
+-- A moment of a rank that began at this state and has this history: after some of its acts, and
+-- some inner steps, it is in that state.
 pub record Moment (start : State) (h : History) (a : State) : Type 0 where
   pub before : History
   pub later : History
@@ -82,26 +83,28 @@ pub record Finished (start : State) (h : History) (k : ℕ) (call : Call) (from 
 abbrev pub BeganBarrier : State → History → ℕ → Type 0
 BeganBarrier start h k = (call : Call) × Began start h k call × (call.kind ≡ barriers)
 
--- the rank has begun its kth collective, and it is a broadcast from this root, to which the rank gives these items
+-- the rank has begun its kth collective, and it is a broadcast from this root, to which the rank
+-- gives these items
 abbrev pub BeganBroadcast : State → History → ℕ → ℕ → List ℤ → Type 0
 BeganBroadcast start h k root items =
     (call : Call) × Began start h k call × (call.kind ≡ broadcasts) × (call.root ≡ root) × (call.items ≡ items)
 
--- the rank has begun its kth collective, and it is this reduce to this root, to which the rank gives this value
+-- the rank has begun its kth collective, and it is this reduce to this root, to which the rank
+-- gives this value
 abbrev pub BeganReduce : State → History → ℕ → Reduction → ℕ → ℤ → Type 0
 BeganReduce start h k f root v =
     (call : Call) × Began start h k call × (call.kind ≡ folds f) × (call.root ≡ root) × (call.items ≡ v ∷ [])
 
--- These items are in the buffer of the broadcast that stood, and nothing else that is stored changed but the number of finished
--- collectives.
+-- These items are in the buffer of the broadcast that stood, and nothing else that is stored
+-- changed but the number of finished collectives.
 abbrev pub Got : Store → Option Collective → List ℤ → Store → Type 0
 Got s None items s' = ⊥
 Got s (Some barrier) items s' = ⊥
 Got s (Some (broadcast root buffer)) items s' = s' ≡ counted (written buffer items s)
 Got s (Some (reduce f root value place)) items s' = ⊥
 
--- The fold of these values, from the left, is in the variable of the reduce that stood, and nothing else that is stored changed
--- but the number of finished collectives.
+-- The fold of these values, from the left, is in the variable of the reduce that stood, and nothing
+-- else that is stored changed but the number of finished collectives.
 abbrev pub Folded : Store → Option Collective → Reduction → List ℤ → Store → Type 0
 Folded s None f values s' = ⊥
 Folded s (Some barrier) f values s' = ⊥
@@ -114,14 +117,15 @@ abbrev pub OneCall : (ℕ → State) → ℕ → List Passed → Type 0
 OneCall start n C =
     (r k : ℕ) (one other : Call) → r < n → Began (start r) (history C r) k one → Began (start r) (history C r) k other → one ≡ other
 
--- Where a rank finished its kth collective and it is a barrier, each rank has begun its kth and it is a barrier.
+-- Where a rank finished its kth collective and it is a barrier, each rank has begun its kth and it
+-- is a barrier.
 abbrev pub BarrierLaw : (ℕ → State) → ℕ → List Passed → Type 0
 BarrierLaw start n C =
     (r k : ℕ) (call : Call) (from to : State) → r < n → Finished (start r) (history C r) k call from to → call.kind ≡ barriers
     → (s : ℕ) → s < n → BeganBarrier (start s) (history C s) k
 
--- Where a rank finished its kth collective and it is a broadcast, its buffer got the items that the root gave in its kth, a
--- broadcast from the same root.
+-- Where a rank finished its kth collective and it is a broadcast, its buffer got the items that the
+-- root gave in its kth, a broadcast from the same root.
 abbrev pub BroadcastLaw : (ℕ → State) → ℕ → List Passed → Type 0
 BroadcastLaw start n C =
     (r k : ℕ) (call : Call) (from to : State) → r < n → Finished (start r) (history C r) k call from to → call.kind ≡ broadcasts
@@ -129,8 +133,9 @@ BroadcastLaw start n C =
     × (items : List ℤ) × BeganBroadcast (start call.root) (history C call.root) k call.root items
     × Got from.store (first_collective from.rest) items to.store
 
--- Where a root finished its kth collective and it is a reduce, its variable got the fold of the values that all ranks gave in
--- their kth, in rising rank order; each of these is the same reduce to the same root.
+-- Where a root finished its kth collective and it is a reduce, its variable got the fold of the
+-- values that all ranks gave in their kth, in rising rank order; each of these is the same reduce
+-- to the same root.
 abbrev pub ReduceLaw : (ℕ → State) → ℕ → List Passed → Type 0
 ReduceLaw start n C =
     (r k : ℕ) (call : Call) (f : Reduction) (from to : State) → r < n → Finished (start r) (history C r) k call from to

@@ -1,9 +1,11 @@
--- Crash-free runs of all ranks: which acts may follow which (MPI 1.1, section 3.5: messages of one sender don't overtake
--- one another, and the choice among senders is free; section 3.8: a probe finds what a receive would take).
+-- Crash-free runs of all ranks, the reference (specification) of refinement: which acts may follow
+-- which (MPI 1.1, chapter 3; section 3.5: messages of one sender don't overtake one another, and
+-- the choice among senders is free; section 3.8: a probe finds what a receive would take).
 --
--- A run is the list of its acts, the newest first. A rank's history is the list of its own acts, the oldest first, each
--- with the message that it took or hit. Places count from 1: the kth act of a rank has clock k, and the kth message of
--- a sender to a rank has number k.
+-- A run is the list of its acts, the newest first. A rank's history is the list of its own acts,
+-- the oldest first, each with the message that it took or hit: what determines a piecewise
+-- deterministic rank (Alvisi and Marzullo 1998). Places count from 1: the kth act of a rank has
+-- clock k, and the kth message of a sender to a rank has number k.
 use Rattle.std.specs.Prelude.{◌≡◌, ℕ, ℤ, zero, suc, ◌+◌, ◌<◌, ◌==◌, ◌&&◌, ◌||◌, Bool, true, false, List, [], ◌∷◌, ◌++◌, Option, Some, None, IsSomeAnd}
 use Rattle.std.specs.Prelude.{slice_get}
 use Rattle.matching.specs.declared.selector.Selector.{Selector}
@@ -97,8 +99,9 @@ abbrev pub taken : History → ℕ → ℕ → Bool
 taken [] s j = false
 taken (x ∷ h) s j = takes_it s j x.0 || taken h s j
 
--- A rank with this history, to which each sender sent what is inbound, may take or hit the message at place j of s: it
--- is there, it isn't taken, it matches, and each earlier message of s that matches is taken.
+-- A rank with this history, to which each sender sent what is inbound, may take or hit the message
+-- at place j of s: it is there, it isn't taken, it matches, and each earlier message of s that
+-- matches is taken.
 pub record IsEligible (inbound : ℕ → List Message) (h : History) (s j : ℕ) (selector : Selector) : Type 0 where
   pub message : Message
   pub there : at_place (inbound s) j ≡ Some message
@@ -136,8 +139,8 @@ IsFree w (sends dest context tag items) inbound h = Unit {0}
 IsFree w misses inbound h = Unit {0}
 IsFree w (prints value) inbound h = Unit {0}
 
--- A rank that began at this state and has this history may make this act next: by inner steps it gets to a state whose
--- first statement makes the act, and what the act takes or hits is eligible.
+-- A rank that began at this state and has this history may make this act next: by inner steps it
+-- gets to a state whose first statement makes the act, and what the act takes or hits is eligible.
 pub record MayMake (start : State) (inbound : ℕ → List Message) (h : History) (act : Act) : Type 0 where
   pub after : State
   pub stands : State

@@ -22,6 +22,6 @@ value_if true (acts.takes source place) = None
 value_if true (acts.hits source place) = None
 value_if true acts.misses = None
 
--- the value that this rank prints, where the act is a print of its own
+-- the value that this rank prints, if the act is a print of its own
 abbrev pub line_of : ℕ → Passed → Option ℤ
 line_of r p = value_if (p.rank == r) p.act

@@ -1,4 +1,4 @@
--- A run that is made act by act: which choices it allows, and what each does.
+-- A crash-free run that is made act by act: which choices it allows, and what each does.
 use Rattle.std.specs.Prelude.{◌≡◌, ℕ, ℤ, ◌<◌, ◌≤◌, nat_lt, Bool, List, [], ◌∷◌, Option, Some, IsSomeAnd, length, slice_get, slice_set, take}
 use Rattle.std.specs.List.{list_all}
 use Rattle.rank_language.specs.Program.{ProgramValue}
@@ -26,14 +26,15 @@ pub record SimValue : Type 0 where
 abbrev pub start_of : ProgramValue → ℕ → ℕ → State
 start_of program n r = opening program r n
 
--- The run is one of the program with as many ranks, and each machine stands, by inner steps, at the state after its
--- rank's acts in the run.
+-- The run is one of the program with as many ranks, and each machine stands, by inner steps, at the
+-- state after its rank's acts in the run.
 pub record Simulates (s : SimValue) : Type 0 where
   pub is_run : IsRun (start_of s.program (length s.machines)) (length s.machines) s.run
   pub ranks : (r : ℕ) (m : MachineValue) → slice_get s.machines r ≡ Some m
       → (after : State) × Runs (start_of s.program (length s.machines) r) (history s.run r) after × Inners after (state_of m)
 
--- The collective laws hold of the run, and each collective that a machine counts was finished in it.
+-- The collective laws hold of the run, and each collective that a machine counts was finished in
+-- it.
 pub record CollectivesAgree (s : SimValue) : Type 0 where
   pub laws : CollectiveLaws (start_of s.program (length s.machines)) (length s.machines) s.run
   pub counts : (r : ℕ) (m : MachineValue) (k : ℕ) → slice_get s.machines r ≡ Some m → 0 < k → k ≤ m.store.finished
@@ -57,7 +58,7 @@ pub data Meaning : Type 0 where
   own_step : Meaning
   makes : (act : Act) → Meaning
 
--- the choice that makes this act, where it may be made
+-- the choice that makes this act, if it may be made
 abbrev pub choice_of : Act → Choice
 choice_of (sends dest context tag items) = choice.Next
 choice_of (takes source place) = choice.Take source place
@@ -65,7 +66,8 @@ choice_of (hits source place) = choice.Take source place
 choice_of misses = choice.Miss
 choice_of (prints value) = choice.Next
 
--- a rank that has halted or faulted has ended; else the choice names the step or the act that is wanted, with these items to send, or another
+-- a rank that has halted or faulted has ended; else the choice names the step or the act that is
+-- wanted, with these items to send, or another
 abbrev pub meaning : Want → List ℤ → Choice → Meaning
 meaning want.Halted items c = ended
 meaning (want.Faulted fault) items c = ended
@@ -122,8 +124,8 @@ with_act s r m act = record s { machines = slice_set s.machines r m; run = recor
 abbrev pub IsFreeAt : SimValue → ℕ → MachineValue → Act → Type 0
 IsFreeAt s r m act = IsFree (wants (state_of m)) act (inbound_of s.run r) (history s.run r)
 
--- What a choice of this meaning does for a rank, from one machine to the other: a step of its own leaves the run as it
--- is, and an act that is free makes the run one act longer.
+-- What a choice of this meaning does for a rank, from one machine to the other: a step of its own
+-- leaves the run as it is, and an act that is free makes the run one act longer.
 abbrev pub Does : Meaning → SimValue → ℕ → MachineValue → MachineValue → SimValue → Type 0
 Does ended s r m m' s' = ⊥
 Does other s r m m' s' = ⊥
@@ -134,7 +136,7 @@ Does (makes act) s r m m' s' = IsFreeAt s r m act × IsAfter m act (looked_up (i
 abbrev pub Allows : SimValue → ℕ → Choice → SimValue → Type 0
 Allows s r c s' = IsSomeAnd (slice_get s.machines r) (λ m. IsSomeAnd (slice_get s'.machines r) (λ m'. Does (meant m c) s r m m' s'))
 
--- a choice of this meaning is refused so; want of memory comes where an act is made alone
+-- a choice of this meaning is refused so; only a choice that makes an act can run out of memory
 abbrev pub IsRefused : NotAllowed → Meaning → SimValue → ℕ → MachineValue → Type 0
 IsRefused refusal.Ended ended s r m = Unit {0}
 IsRefused refusal.Ended other s r m = ⊥
@@ -162,7 +164,8 @@ abbrev pub AllowsAll : SimValue → List (ℕ × Choice) → SimValue → Type 0
 AllowsAll s [] s' = s' ≡ s
 AllowsAll s (x ∷ xs) s' = (mid : SimValue) × Allows s x.0 x.1 mid × AllowsAll mid xs s'
 
--- the choices before the one at this index are allowed and lead to the second simulation, which refuses that one
+-- the choices before the one at this index are allowed and lead to the second simulation, which
+-- refuses that one
 pub record StopsAt (s : SimValue) (choices : List (ℕ × Choice)) (index : ℕ) (why : NotAllowed) (s' : SimValue) : Type 0 where
   pub done : AllowsAll s (take index choices) s'
   pub refused : IsSomeAnd (slice_get choices index) (λ x. Refuses s' x.0 x.1 why)

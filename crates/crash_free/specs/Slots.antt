@@ -1,5 +1,5 @@
--- What a simulation keeps beside its machines and its run: for each ordered pair of ranks a list of slots, one for each
--- message that the one sent to the other, of which those taken are empty.
+-- What a simulation keeps beside its machines and its run: for each ordered pair of ranks a list of
+-- slots, one for each message that the one sent to the other, of which those taken are empty.
 use Rattle.std.specs.Prelude.{◌≡◌, ℕ, ◌+◌, ◌*◌, ◌<◌, ◌≤◌, Bool, true, false, List, [], ◌∷◌, Option, Some, None, length, slice_index_or, slice_get}
 use Rattle.metered.specs.Limits.{most_ranks}
 use Rattle.matching.specs.PacketValue as packet
@@ -19,7 +19,7 @@ Slot = Option packet.PacketValue
 abbrev pub packet_of : ℕ → Message → packet.PacketValue
 packet_of s m = record { source = s; clock = 1; number = 1; context = m.context; tag = m.tag; items = m.items }
 
--- the slot of a message, which is empty where it is taken
+-- the slot of a message, which is empty once it is taken
 abbrev pub slot_of : ℕ → Bool → Message → Slot
 slot_of s true m = None
 slot_of s false m = Some (packet_of s m)

@@ -23,6 +23,7 @@ ProbesAt machines r w = WantsAt machines r (want.Probe w) ⊎ WantsAt machines r
 abbrev pub TriesAt : List MachineValue → ℕ → Type 0
 TriesAt machines r = (w : Selector) × WantsAt machines r (want.TryProbe w)
 
--- the machine of a rank asks for something else than a step of its own: for an act, or for nothing more
+-- the machine of a rank asks for something else than a step of its own: for an act, or for nothing
+-- more
 abbrev pub StandsAtAct : List MachineValue → ℕ → Type 0
 StandsAtAct machines r = (w : Want) × WantsAt machines r w × (w ≢ want.Internal)

@@ -38,7 +38,7 @@ pub enum Act {
 impl Act {
     ghost use Rattle.crash_free.specs.Sim.{choice_of};
 
-    /// The choice that makes this act, where it may be made.
+    /// The choice that makes this act, if it may be made.
     pub fn choice(&self) -> Choice
         ensures { result ≡ choice_of (act_of self.now) }
     {
@@ -85,7 +85,7 @@ impl Passed {
     ghost use Rattle.rank_machine.specs.Acts as acts;
     ghost use Rattle.crash_free.specs.Seen.{line_of};
 
-    /// The value that this rank prints, where the act is a print of its own.
+    /// The value that this rank prints, if the act is a print of its own.
     pub(crate) fn line(&self, rank: u8) -> Option<i64>
         ensures { result ≡ line_of rank self.now }
     {

@@ -1,4 +1,5 @@
--- The events of a text, or its first faulty line and that line's lowest fault (docs/FORMATS.md, "Events of a world").
+-- The events of a text, or its first faulty line and that line's lowest fault (docs/FORMATS.md,
+-- "Events of a world").
 use Rattle.std.specs.Prelude.{ℕ, ◌+◌, List, [], ◌∷◌, ◌++◌, nat_lt, length, codes, Option}
 use Rattle.std.specs.Prelude.{Some, None, Result, Ok, Err, if◌then◌else◌}
 use Rattle.std.specs.Str.{bytes_eq}
@@ -59,11 +60,11 @@ abbrev pub event_of : List (List ℕ) → Option WorldEvent
 event_of [] = None
 event_of (name ∷ ws) = named_event name ws
 
--- what a line of this number gives, where no form is wrong
+-- what a line of this number gives, if no form is wrong
 abbrev pub within_limit : ℕ → Option WorldEvent → Result (Option WorldEvent) EventsFaultKind
 within_limit n e = if nat_lt most_event_lines n then Err Limit else Ok e
 
--- an event, or the fault where there is none
+-- an event, or the fault if there is none
 abbrev pub formed : ℕ → Option WorldEvent → Result (Option WorldEvent) EventsFaultKind
 formed n None = Err BadLine
 formed n (Some e) = within_limit n (Some e)

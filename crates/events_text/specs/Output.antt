@@ -1,4 +1,5 @@
--- The text of a world's run: a line for each reply, and then the lines that each rank printed (docs/FORMATS.md, "Events of a world").
+-- The text of a world's run: a line for each reply, and then the lines that each rank printed
+-- (docs/FORMATS.md, "Events of a world").
 use Rattle.std.specs.Prelude.{◌≡◌, ℕ, ℤ, zero, suc, List, [], ◌∷◌, ◌++◌, codes}
 use Rattle.std.specs.Fmt.{decimal, signed_decimal}
 use Rattle.ports.specs.declared.line.Line.{Line}
@@ -45,7 +46,8 @@ abbrev pub printed_text : ℕ → List (ℕ × ℤ) → List ℕ
 printed_text rank [] = []
 printed_text rank (line ∷ lines) = line_text rank line.1 ++ printed_text rank lines
 
--- the lines of the first n ranks, rank by rank; those of one rank keep the console's order, in which their clocks rise
+-- the lines of the first n ranks, rank by rank; those of one rank keep the console's order, in
+-- which their clocks rise
 abbrev pub ranks_text : ℕ → List Line → List ℕ
 ranks_text zero lines = []
 ranks_text (suc n) lines = ranks_text n lines ++ printed_text n (lines_of n lines)
@@ -54,8 +56,8 @@ ranks_text (suc n) lines = ranks_text n lines ++ printed_text n (lines_of n line
 abbrev pub world_text : List Reply → ℕ → List Line → List ℕ
 world_text replies n lines = replies_text replies ++ ranks_text n lines
 
--- The text of a world's run from one world to another: these events were answered in their order, and the text is that
--- of all the answers and of the lines of all ranks.
+-- The text of a world's run from one world to another: these events were answered in their order,
+-- and the text is that of all the answers and of the lines of all ranks.
 pub record IsRunText (before : WorldValue) (events : List WorldEvent) (after : WorldValue) (text : List ℕ) : Type 0 where
   pub replies : List Reply
   pub follows : FollowsAll before events replies after

@@ -1,4 +1,5 @@
--- The text of events, one a line, and that of a way on (docs/FORMATS.md, "Events of a world").
+-- The text of events, one a line, and that of a recovery schedule (docs/FORMATS.md, "Events of a
+-- world").
 use Rattle.std.specs.Prelude.{◌≡◌, ℕ, List, [], ◌∷◌, ◌++◌, codes}
 use Rattle.std.specs.Fmt.{decimal}
 use Rattle.world_model.specs.declared.event.WorldEvent.{WorldEvent}
@@ -25,8 +26,8 @@ abbrev pub events_text : List WorldEvent → List ℕ
 events_text [] = []
 events_text (event ∷ events) = event_text event ++ codes "\n" ++ events_text events
 
--- The text of a way on from where these events lead: each was answered, and the text is that of a way on from the world
--- after them.
+-- The text of a recovery schedule from where these events lead: each was answered, and the text is
+-- that of a recovery schedule from the world after them.
 pub record IsWayText (before : WorldValue) (events : List WorldEvent) (after : WorldValue) (text : List ℕ) : Type 0 where
   pub replies : List Reply
   pub follows : FollowsAll before events replies after

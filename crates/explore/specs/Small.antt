@@ -13,8 +13,9 @@ use Rattle.explore.specs.Counting.{GoesBeyond}
 use Rattle.explore.specs.Moves.{move_of}
 use Rattle.explore.specs.Outcomes.{IsAmong}
 
--- So many runs are enough to search all that may follow this one: an act is fixed, and as many are enough after it; or each act that may be made
--- is among some moves, after each as many are enough as its move needs, and together the moves need no more. There is one at least.
+-- So many runs are enough to search all that may follow this one: an act is fixed, and as many are
+-- enough after it; or each act that may be made is among some moves, after each as many are enough
+-- as its move needs, and together the moves need no more. There is one at least.
 pub data AreEnough (start : ℕ → State) (n : ℕ) : ℕ → List Passed → Type 0 where
   at_once : {k : ℕ} {P : List Passed} (r : ℕ) (act : Act) → IsFixed start n P r act → AreEnough start n k (and_then P r act) → AreEnough start n k P
   tree : {k : ℕ} {P : List Passed} (moves : List Move) (needs : Move → ℕ)
@@ -22,7 +23,8 @@ pub data AreEnough (start : ℕ → State) (n : ℕ) : ℕ → List Passed → T
       → ((r : ℕ) (act : Act) → MayFollow start n P r act → AreEnough start n (needs (move_of r (choice_of act))) (and_then P r act))
       → sum_by needs moves ≤ k → 0 < k → AreEnough start n k P
 
--- So many runs are enough for the program on n ranks, and in no run a rank goes beyond so many steps.
+-- So many runs are enough for the program on n ranks, and in no run a rank goes beyond so many
+-- steps.
 pub record IsSmall (program : ProgramValue) (n runs steps : ℕ) : Type 0 where
   pub enough : AreEnough (start_of program n) n runs []
   pub within : GoesBeyond program n steps → ⊥
@@ -37,13 +39,14 @@ EnoughForAll program n k [] = Unit {0}
 EnoughForAll program n k (b ∷ bs) =
     (here : ℕ) × (rest : ℕ) × AreEnough (start_of program n) n here b.sim.run × EnoughForAll program n rest bs × (here + rest ≤ k)
 
--- where so many runs are enough for a branch and those before, fewer are for those after
+-- if so many runs are enough for a branch and those before, fewer are for those after
 abbrev pub Spares : SimValue → List Branch → List Branch → Type 0
 Spares s old new =
     (j k : ℕ) → EnoughForAll s.program (length s.machines) j old → EnoughFor s k s.run
     → (i : ℕ) × EnoughForAll s.program (length s.machines) i new × (i < j + k)
 
--- where so many are enough for a branch that goes on from the first simulation and those before, as many are once it is at the second
+-- if so many are enough for a branch that goes on from the first simulation and those before, as
+-- many are once it is at the second
 abbrev pub KeepsEnough : SimValue → List Branch → SimValue → List Branch → Type 0
 KeepsEnough s old s' new =
     (j k : ℕ) → EnoughForAll s.program (length s.machines) j old → EnoughFor s k s.run

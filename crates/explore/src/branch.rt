@@ -18,7 +18,8 @@ pub struct Branch<'p> {
     pub sim: Sim<'p>,
     /// How many steps each rank has left.
     pub left: [u32; MOST_RANKS],
-    /// The moves that were made where there were others too, the first one first.
+    /// The moves that were made when there were others too, the first one
+    /// first.
     pub choices: Vec<Noted, Heap>,
 }
 
@@ -45,7 +46,7 @@ impl<'p> Branch<'p> {
         })
     }
 
-    /// The same, in memory of its own. An `Err` is want of memory.
+    /// The same, in memory of its own. An `Err` means out of memory.
     pub fn copy(&self) -> Result<Branch<'p>, AllocError>
         ensures sim { IfOk result (λ branch. branch.sim ≡ self.now.sim) }
         ensures left { IfOk result (λ branch. branch.left ≡ self.now.left) }
@@ -57,8 +58,8 @@ impl<'p> Branch<'p> {
         })
     }
 
-    /// Makes a move, which is noted as a choice where there are others. An
-    /// `Err` is want of memory.
+    /// Makes a move, which is noted as a choice if there are others. An `Err`
+    /// means out of memory.
     pub fn choose(&mut self, chosen: Move, others: bool) -> Result<(), AllocError>
         requires rank { chosen.rank < length self.old.sim.machines }
         requires few { length self.old.sim.machines ≤ most_ranks }

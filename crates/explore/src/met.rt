@@ -47,7 +47,7 @@ impl Met {
     }
 
     /// Whether a run stood where this one does; if not, this is remembered. An
-    /// `Err` is want of memory.
+    /// `Err` means out of memory.
     #[tactic(auto, using(crate::proofs::Meeting::adds_nothing))]
     pub fn meets(&mut self, alloc: Heap, sim: &Sim<'_>) -> Result<bool, AllocError>
         ensures yes { result ≡ Ok true → WasMet self.new sim.now }
@@ -64,7 +64,7 @@ impl Met {
         Ok(false)
     }
 
-    // A yes is exact; a no may be wrong, where two have one hash.
+    // A yes is exact; a no may be wrong, if two have one hash.
     fn has(&self, hash: u64, standing: &Standing) -> bool
         ensures { result ≡ true → IsAmong self.now standing.now }
     {

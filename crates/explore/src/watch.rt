@@ -1,6 +1,6 @@
-//! Who is told how far a search is.
+//! Who hears how far a search is.
 
-/// Is told by a search how far it has come.
+/// Hears from a search how far it has come.
 pub trait Watch {
     /// So many runs were looked at, from 1 on. It is called after each of them.
     fn looked(&mut self, runs: u32);

@@ -1,4 +1,5 @@
--- The lanes of a run: from each rank to each rank, itself included.
+-- The lanes of a run: from each rank to each rank, itself included (the bounded buffer: Lamport,
+-- "Specifying Concurrent Program Modules", 1983).
 use Rattle.std.specs.Prelude.{◌≡◌, ℕ, ◌<◌, List, [], length, map, min, replicate, slice_index_or, Vec}
 use Rattle.std.specs.List.{All, sum_by}
 use Rattle.metered.specs.Limits.{most_frames}
@@ -9,7 +10,8 @@ use Rattle.lanes.specs.Crossed.{grow_all}
 abbrev pub AreWhole : ℕ → List (List Lane) → Type 0
 AreWhole ranks columns = All (λ column. length column ≡ ranks) columns
 
--- these rows and these columns are one table of lanes, and no column is longer or shorter than the table is high
+-- these rows and these columns are one table of lanes, and no column is longer or shorter than the
+-- table is high
 pub record IsCrossed (rows columns : List (List Lane)) : Type 0 where
   pub whole : AreWhole (length rows) columns
   pub same : rows ≡ grow_all (replicate (length rows) []) columns

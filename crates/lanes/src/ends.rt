@@ -21,7 +21,7 @@ pub struct Ends {
 }
 
 /// A lane from each of so many ranks to each, itself included, each for `MOST_FRAMES` of
-/// `metered::limits`. An error is want of memory.
+/// `metered::limits`. An error means out of memory.
 pub fn open_all(alloc: Heap, ranks: u8) -> Result<Ends, AllocError>
     ensures crossed { IfOk result (λ ends. AreCrossed ends.to.items ends.from.items) }
     ensures sizes { IfOk result (λ ends. (vec_len ends.to ≡ ranks) × (vec_len ends.from ≡ ranks)) }

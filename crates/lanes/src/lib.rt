@@ -1,4 +1,5 @@
-//! The lanes between each two ranks of a run, a rank and itself included.
+//! The lanes, or channels, between each two ranks of a run, a rank and itself
+//! included.
 #![tactic(auto)]
 
 mod ends;

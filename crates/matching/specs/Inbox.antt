@@ -1,5 +1,11 @@
--- The inbox as contracts see it (reception in the order of sending, without gap or repetition: Alvisi and
--- Marzullo 1998; order of messages: MPI 1.1, section 3.5).
+-- The inbox as contracts see it: duplicate suppression by sequence numbers, and non-overtaking
+-- order.
+--
+-- Each source numbers its messages to this rank. The inbox accepts them in the order of these
+-- numbers, without gap or repetition. So the messages of one source stand there in the order in
+-- which they were sent.
+--
+-- Source: Alvisi and Marzullo 1998; MPI 1.1, 3.5 (order of messages).
 use Rattle.std.specs.Prelude.{◌≡◌, ℕ, ◌+◌, ◌<◌, ◌≤◌, Bool, ◌&&◌, ◌||◌, not, List, [], ◌∷◌, ◌++◌}
 use Rattle.std.specs.Prelude.{length, ◌==◌, nat_le, nat_lt, if◌then◌else◌, slice_index, slice_set, remove}
 use Rattle.std.specs.Prelude.{All, AllPairs}
@@ -19,7 +25,8 @@ pub record Mailbox : Type 0 where
 abbrev pub accepted_from : Mailbox → ℕ → ℕ
 accepted_from box source = slice_index box.accepted source
 
--- a packet is repeated where its number isn't above the count of its source, accepted where it is the next, and else comes over a gap
+-- a packet is a repetition if its number isn't above the count of its source, accepted if it is
+-- the next of its source, and else comes over a gap
 abbrev pub answer_to : Mailbox → PacketValue → Accept
 answer_to box m =
     if nat_le m.number (accepted_from box m.source) then Repeated
@@ -66,8 +73,8 @@ pub record IsMailbox (box : Mailbox) : Type 0 where
 abbrev pub is_below : ℕ → ℕ → PacketValue → Bool
 is_below source number m = not (m.source == source) || nat_lt m.number number
 
--- a packet with this source and number can stand behind those of the inbox: it was accepted, and those of its source
--- have lower numbers
+-- a packet with this source and number can stand behind those of the inbox: it was accepted, and
+-- those of its source have lower numbers
 abbrev pub may_follow : Mailbox → ℕ → ℕ → Bool
 may_follow box source number =
     (nat_le 1 number && nat_le number (accepted_from box source)) && list_all (is_below source number) box.packets

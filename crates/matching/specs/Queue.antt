@@ -1,4 +1,7 @@
--- The first packet of a list that passes a test, and the list without it.
+-- The first packet of a list that passes a test, and the list without it: the order in which
+-- receives take messages.
+--
+-- Source: MPI 1.1, 3.5 (order of messages).
 use Rattle.std.specs.Prelude.{ℕ, nat_lt, Bool, true, List, Option, Some, None, ◌==◌, [], ◌∷◌, if◌then◌else◌, option_and_then, position, slice_get, remove}
 use Rattle.std.specs.List.{position_or_len}
 use Rattle.matching.specs.PacketValue.{PacketValue}

@@ -1,4 +1,5 @@
-//! The inbox of a rank.
+//! The inbox of a rank: duplicate suppression by sequence numbers, and packets
+//! in the order of their acceptance.
 ghost use Rattle.std.specs.Prelude.{◌≡◌, ◌+◌, ◌*◌, ◌<◌, ◌≤◌, [], length, replicate, slice_get, position};
 ghost use Rattle.std.specs.Prelude.{Some, None, true, IfOk, IfErr, IfSome, OnOk, OnErr, All, AllPairs};
 ghost use Rattle.std.specs.Bool.{OnTrue};

@@ -1,5 +1,6 @@
--- What a rank keeps for one destination when it has made so many acts (sender-based message logging: Alvisi and Marzullo
--- 1998).
+-- What the payload log of a rank has for one destination, if the rank has made so many acts.
+--
+-- Source: Alvisi and Marzullo 1998; Bouteiller and others 2003 (MPICH-V2).
 use Rattle.std.specs.Prelude.{◌≡◌, ℕ, ◌+◌, ◌<◌, ◌≤◌, ◌++◌, length, All, AllPairs}
 use Rattle.matching.specs.PacketValue.{PacketValue}
 use Rattle.payload_log.specs.Backlog.{BacklogValue}
@@ -8,8 +9,8 @@ use Rattle.payload_log.specs.Backlog.{BacklogValue}
 abbrev pub WasBefore : PacketValue → PacketValue → Type 0
 WasBefore m n = m.clock < n.clock
 
--- Every packet that is kept or held was sent by this rank, by an act of its own up to this clock; each packet that was
--- ever sent took an act.
+-- every packet that is kept or held was sent by this rank, by an act of its own up to this clock,
+-- and each packet that was ever sent took an act
 pub record IsSentBy (rank clock : ℕ) (b : BacklogValue) : Type 0 where
   pub sources : All (λ (m : PacketValue). m.source ≡ rank) (b.kept ++ b.held)
   pub rising : AllPairs WasBefore (b.kept ++ b.held)

@@ -1,4 +1,4 @@
-//! What is kept and held for one destination.
+//! The payload log of one destination: the packets that are kept for it, and those held back.
 ghost use Rattle.std.specs.Prelude.{◌≡◌, ◌+◌, ◌-◌, ◌<◌, ◌≤◌, ◌↔◌, IfSome, IsSome, IfErr, OnOk, OnErr, option_copied, slice_get, drop, max, length, []};
 ghost use Rattle.metered.specs.Limits.{greatest_clock};
 

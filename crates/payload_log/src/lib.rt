@@ -1,4 +1,8 @@
-//! The payloads that a sender keeps for receivers which may ask for them again.
+//! The payload log of sender-based message logging: a sender keeps the payloads
+//! that receivers may ask for again.
+//!
+//! A retransmission request, `ask`, moves the cursor back. When a receiver's
+//! checkpoint makes packets superfluous, `prune` collects them as garbage.
 #![tactic(auto)]
 
 mod backlog;

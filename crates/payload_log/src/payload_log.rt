@@ -1,4 +1,4 @@
-//! The payloads that a sender keeps, for each destination.
+//! The payload log of a sender: what it keeps for each destination.
 ghost use Rattle.std.specs.Prelude.{◌≡◌, ◌+◌, ◌<◌, ◌≤◌, ◌↔◌, IfSome, IsSome, IfErr, IfOk, OnOk, OnErr, length};
 ghost use Rattle.std.specs.Prelude.{replicate, slice_set, slice_get, option_copied, []};
 ghost use Rattle.metered.specs.Limits.{greatest_clock};

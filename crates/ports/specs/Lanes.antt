@@ -1,5 +1,6 @@
--- Lanes: bounded queues of frames, of one producer and one consumer each (the bounded buffer of Lamport, "Specifying
--- Concurrent Program Modules", 1983). Each end has its own history, and no clause but that of closing compares the two.
+-- Lanes: bounded queues of frames, of one producer and one consumer each (the bounded buffer of
+-- Lamport, "Specifying Concurrent Program Modules", 1983). Each end has its own history, and no
+-- clause but that of closing compares the two.
 use Rattle.std.specs.Prelude.{◌≡◌, ℕ, ◌++◌, List, length, min}
 use Rattle.std.specs.declared.alloc.Global.{Global}
 use Rattle.rtrb.specs.Shared.{Names}
@@ -7,7 +8,7 @@ use Rattle.rtrb.specs.declared.end.End.{End}
 use Rattle.rank_node.specs.declared.frame.Frame.{Frame}
 use denote.RawPtr.{Ptr}
 
--- what tells a lane from others: what the two ends of its ring share
+-- what identifies a lane: what the two ends of its ring share
 pub record Lane : Type 0 where
   pub words : Ptr
   pub slots : Ptr

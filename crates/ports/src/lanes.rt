@@ -1,4 +1,5 @@
-//! A lane: one end puts frames, the other takes them, in their order.
+//! A lane, a channel of one producer and one consumer: one end puts frames, the
+//! other takes them, in their order.
 //!
 //! Each end can move to a thread of its own, and neither waits for the other.
 mod ends;
@@ -83,7 +84,7 @@ impl Rx {
     ghost use Rattle.std.specs.Prelude.{◌≡◌, [], ◌∷◌, ◌++◌, IfSome, None};
     ghost use Rattle.ports.specs.Lanes.{lane_from, taken_of};
 
-    /// Takes the oldest frame, where this end sees one.
+    /// Takes the oldest frame, if this end sees one.
     pub fn take(&mut self) -> Option<Frame>
         ensures lane { lane_from self.new ≡ lane_from self.old }
         ensures taken { IfSome result (λ frame. taken_of self.new ≡ taken_of self.old ++ frame ∷ []) }

@@ -1,4 +1,5 @@
-//! What lies between ranks: lanes, and the console.
+//! What lies between ranks: lanes, which are channels of one producer and one
+//! consumer, and the console, on which each line is shown once.
 #![tactic(auto)]
 
 mod console;

@@ -1,4 +1,5 @@
--- A program as a tree, its lines in order, and the statements that remain at a line (the rank-program text, next positions).
+-- A program as a tree, its lines in order, and the statements that remain at a line
+-- (docs/LANGUAGE.md: next positions).
 use Rattle.std.specs.Prelude.{◌≡◌, ℕ, ◌+◌, ◌<◌, List, [], ◌∷◌, ◌++◌, Bool, true, false, Option, Some, None, slice_index_or}
 use Rattle.rank_language.specs.Placed.{Placed, Simple}
 

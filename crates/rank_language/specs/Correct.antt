@@ -1,4 +1,4 @@
--- Which program a text has (the rank-program text: forms, meaning of one step, next positions).
+-- Which program a text has (docs/LANGUAGE.md: forms, meaning of one step, next positions).
 use Rattle.std.specs.Prelude.{◌≡◌, ℕ, ◌≤◌, List, Some, length, map}
 use Rattle.metered.specs.Limits.{most_lines, most_variables, most_arrays}
 use Rattle.rank_grammar.specs.Forms.{Form}

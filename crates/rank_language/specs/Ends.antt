@@ -1,6 +1,7 @@
--- Where the statements of a text lead, found from the last one on: of each block that is still open in front of some
--- statements, the position behind the line that closes its present part (the rank-program text, next positions). An `end` is
--- met before the statement that it closes, so it goes on like that of an `if` until a `while` that is met leads it back.
+-- Where the statements of a text lead, found from the last one on: of each block that is still open
+-- in front of some statements, the position behind the line that closes its present part
+-- (docs/LANGUAGE.md: next positions). An `end` is met before the statement that it closes, so it
+-- goes on like that of an `if` until a `while` that is met leads it back.
 use Rattle.std.specs.Prelude.{ℕ, zero, suc, ◌+◌, ◌-◌, List, [], ◌∷◌, Option, Some, option_map}
 use Rattle.rank_grammar.specs.Forms.{Form, var_form, array_form, let_form, item_form, if_form, else_form, end_form, while_form, ◌>>=◌}
 use Rattle.rank_grammar.specs.Forms.{send_form, recv_form, probe_form, try_probe_form, print_form, barrier_form, bcast_form, reduce_form}

@@ -1,4 +1,4 @@
--- The statements of a program with names for places, as a text has them (the rank-program text, forms).
+-- The statements of a program with names for places, as a text has them (docs/LANGUAGE.md: forms).
 use Rattle.std.specs.Prelude.{ℕ, List, [], map, slice_index_or, unsigned_abs}
 use Rattle.rank_grammar.specs.Tree as text
 use Rattle.rank_grammar.specs.Forms as line

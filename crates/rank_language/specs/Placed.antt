@@ -1,4 +1,5 @@
--- Expressions and statements that read variables and arrays by their places (the rank-program text, meaning of one step).
+-- Expressions and statements that read variables and arrays by their places (docs/LANGUAGE.md:
+-- meaning of one step).
 use Rattle.std.specs.Prelude.{ℕ, ℤ}
 use Rattle.rank_grammar.specs.declared.token.Operator.{Operator}
 use Rattle.rank_grammar.specs.declared.token.Reading.{Reading}

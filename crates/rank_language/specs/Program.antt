@@ -1,4 +1,5 @@
--- A program as a value: its lines, and the names of its variables and arrays (the rank-program text, meaning of one step).
+-- A program as a value: its lines, and the names of its variables and arrays (docs/LANGUAGE.md:
+-- meaning of one step).
 use Rattle.std.specs.Prelude.{ℕ, ◌<◌, ◌≤◌, List, [], ◌∷◌, map}
 use Rattle.metered.specs.Limits.{most_items}
 use Rattle.rank_checker.specs.declared.scope.Array.{Array}

@@ -1,4 +1,5 @@
--- What the names of a text stand for: the places of what they declare (the rank-program text, fault Undeclared).
+-- What the names of a text stand for: the places of what they declare (docs/LANGUAGE.md: fault
+-- Undeclared).
 use Rattle.std.specs.Prelude.{ℕ, pos, List, [], ◌∷◌, Option, Some, None, option_map, map, position}
 use Rattle.std.specs.Str.{bytes_eq}
 use Rattle.rank_grammar.specs.Tree as text

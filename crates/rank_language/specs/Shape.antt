@@ -1,4 +1,4 @@
--- The tree that lines spell (the rank-program text: `if` .. `else` .. `end`, `while` .. `end`).
+-- The tree that lines spell (docs/LANGUAGE.md: `if` .. `else` .. `end`, `while` .. `end`).
 use Rattle.std.specs.Prelude.{◌≡◌, List, [], ◌∷◌, Bool, true, false, map}
 use Rattle.rank_language.specs.Placed.{Placed, Step, does, tests, repeats, otherwise, closes}
 use Rattle.rank_language.specs.Block.{Block, done, plain, if_only, if_else, loop, Line, simple_line}

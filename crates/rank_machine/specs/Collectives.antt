@@ -1,5 +1,6 @@
--- Collectives as the acts of their parts, in order (MPI 1.1, sections 4.3, 4.4 and 4.9.1: barrier, broadcast, reduce). Their
--- packets have a context of their own, so no receive and no probe of a program meets them (MPI 1.1, section 5.1).
+-- Collectives as the acts of their parts, in order (MPI 1.1, sections 4.3, 4.4 and 4.9.1: barrier,
+-- broadcast, reduce). Their packets have a context of their own, so no receive and no probe of a
+-- program meets them (MPI 1.1, section 5.1). What packets say: docs/FORMATS.md.
 use Rattle.std.specs.Prelude.{ℕ, zero, suc, ℤ, pos, ◌+◌, ◌==◌, nat_le, int_le, ◌+ℤ◌, Bool, true, false, ◌&&◌, List, [], ◌∷◌}
 use Rattle.std.specs.Prelude.{◌++◌, length, map, take, drop, slice_index_or, slice_set, Ok, Err, Option, Some, None, if◌then◌else◌}
 use Rattle.std.specs.Ordering.{int_eq}
@@ -25,8 +26,8 @@ kind_number (folds Sum) = 2
 kind_number (folds Max) = 3
 kind_number (folds Min) = 4
 
--- A collective as a rank calls it: its kind, its root, its ordinal among the collectives of the rank, and the items that the
--- rank gives.
+-- A collective as a rank calls it: its kind, its root, its ordinal among the collectives of the
+-- rank, and the items that the rank gives.
 pub record Call : Type 0 where
   pub kind : Kind
   pub root : ℕ
@@ -50,7 +51,8 @@ contents s (into_array p) = slice_index_or s.arrays p []
 abbrev pub given : Store → ℕ → Buffer → List ℤ
 given s root b = if root == s.rank then contents s b else []
 
--- Root and value are evaluated in this order; then the root is looked at, and then the ordinal. A barrier's root is 0.
+-- Root and value are evaluated in this order; then the root is looked at, and then the ordinal. A
+-- barrier's root is 0.
 abbrev pub called : Store → Collective → Valued Call
 called s barrier =
     ordinal_after s.finished >>= (λ k. Ok (record { kind = barriers; root = 0; ordinal = k; items = [] }))
@@ -77,8 +79,9 @@ abbrev pub others : ℕ → ℕ → ℕ → List ℕ
 others r from zero = []
 others r from (suc count) = if from == r then others r (from + 1) count else from ∷ others r (from + 1) count
 
--- The parts of rank r of n, two or more. The root of a barrier hears of all others and then tells them; the root of a broadcast
--- tells all others; the root of a reduce hears of all others and ends with a step of its own, the fold.
+-- The parts of rank r of n, two or more. The root of a barrier hears of all others and then tells
+-- them; the root of a broadcast tells all others; the root of a reduce hears of all others and ends
+-- with a step of its own, the fold.
 abbrev pub parts_among : Kind → ℕ → ℕ → ℕ → List Part
 parts_among barriers root n r =
     if r == 0 then map gets (others 0 0 n) ++ map gives (others 0 0 n) else gives 0 ∷ gets 0 ∷ []
@@ -126,7 +129,7 @@ is_counted (folds f) [] = false
 is_counted (folds f) (v ∷ []) = true
 is_counted (folds f) (v ∷ (w ∷ vs)) = false
 
--- the items that a packet gives, where it is one of this call
+-- the items that a packet gives, if it is one of this call
 abbrev pub given_by : Call → List ℤ → Valued (List ℤ)
 given_by call [] = Err CollectiveMismatch
 given_by call (x ∷ []) = Err CollectiveMismatch
@@ -157,7 +160,8 @@ folded f (a ∷ zs) = folded_from f a zs
 abbrev pub with_at : ℕ → List ℤ → List ℤ → List ℤ
 with_at place own items = take place items ++ own ++ drop place items
 
--- what is stored after the rank's own step: the root of a reduce folds all values, its own at its place, into its variable
+-- what is stored after the rank's own step: the root of a reduce folds all values, its own at its
+-- place, into its variable
 abbrev pub ended : Store → Collective → Call → Valued Store
 ended s barrier call = Ok (counted s)
 ended s (broadcast e b) call = Ok (counted s)
@@ -170,13 +174,13 @@ abbrev pub unfaulted : {A : Type 0} → Valued A → Option A
 unfaulted (Ok x) = Some x
 unfaulted (Err k) = None
 
--- what is stored after this part, where it is a step of the rank's own that doesn't fault
+-- what is stored after this part, if it is a step of the rank's own that doesn't fault
 abbrev pub ended_at : Store → Collective → Call → Part → Option Store
 ended_at s c call (gives dest) = None
 ended_at s c call (gets source) = None
 ended_at s c call ends = unfaulted (ended s c call)
 
--- what is stored after the part that stands, where it is such a step
+-- what is stored after the part that stands, if it is such a step
 abbrev pub ended_by : Store → Collective → Valued Call → Option Store
 ended_by s c (Ok call) = ended_at s c call (part_of s call)
 ended_by s c (Err k) = None
@@ -185,7 +189,7 @@ ended_by s c (Err k) = None
 abbrev pub own_end : Store → Collective → Option Store
 own_end s c = ended_by s c (called s c)
 
--- this, or what was stored where there is nothing
+-- this, or what was stored if there is nothing
 abbrev pub stored_or : Store → Option Store → Store
 stored_or s None = s
 stored_or s (Some s') = s'

@@ -1,4 +1,5 @@
--- The numbers and names that outputs give the faults of a rank at work (docs/LANGUAGE.md, "How a rank ends").
+-- The numbers and names that outputs give the faults of a rank at work (docs/ERRORS.md, "Faults of
+-- a rank").
 use Rattle.std.specs.Prelude.{ℕ, List, codes, Option, Some, None}
 use Rattle.rank_machine.specs.declared.fault.MachineFault.{MachineFault}
 use Rattle.rank_machine.specs.declared.fault.MachineFault.TheVariants.{Overflow, ZeroDivide, Index, BadRank, BadTag, TooLong, CollectiveMismatch}

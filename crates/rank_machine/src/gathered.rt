@@ -5,7 +5,8 @@ use metered::Heap;
 use std::alloc::AllocError;
 use std::marker::Model;
 
-/// Values gathered one after the other, with room for a number of them, so that gathering takes no memory.
+/// Values gathered one after the other, with room for a number of them, so that gathering takes no
+/// memory.
 #[derive(Drop)]
 pub struct Gathered {
     slots: Vec<i64, Heap>,

@@ -1,4 +1,6 @@
-//! One rank's machine: what a rank program means, an act at a time.
+//! One rank's machine: what a rank program means, an act at a time. It is
+//! piecewise deterministic: between two acts it has one way to go, and an act
+//! with its message leads to one state (`law_determined`).
 #![tactic(auto)]
 
 mod call;

@@ -16,7 +16,7 @@ pub struct Parts {
     pub status: Status,
     /// How many collectives it has finished, up to `GREATEST_CLOCK` of `metered::limits`.
     pub finished: u32,
-    /// How many parts of the collective that stands are done, 0 where none stands.
+    /// How many parts of the collective that stands are done, 0 if none stands.
     pub done: u16,
     /// What it has gathered of the reduce that stands, with room for as many values as ranks.
     pub gathered: Gathered,

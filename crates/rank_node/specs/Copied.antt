@@ -1,4 +1,5 @@
--- Copies of a rank, each with a desk and a shelf of its own.
+-- Copies of a rank, each with a desk (its handle at the event logger) and a shelf (its checkpoint
+-- store) of its own.
 use Rattle.std.specs.Prelude.{◌≡◌, List}
 use Rattle.checkpoint.specs.Image.{ImageValue}
 use Rattle.rank_node.specs.declared.due.Due.{Due}
@@ -14,7 +15,7 @@ stored_with s desk shelf = record s { desk = desk; shelf = shelf }
 abbrev pub node_with : {S D : Type 0} → Node S D → D → S → Node S D
 node_with v desk shelf = record v { stable = stored_with v.stable desk shelf }
 
--- These are what of a rank a crash would drop, but for the number of its events.
+-- This is what a crash would drop of a rank, without the number of its events.
 pub record IsCopied {S D : Type 0} (v : Node S D) (image : ImageValue) (gate : Gate) (dues : List Due) : Type 0 where
   pub same_image : image ≡ record { machine = v.machine; clock = v.clock; inbox = v.inbox; log = v.log }
   pub same_gate : gate ≡ record { waiting = v.pending; stored = v.stored }

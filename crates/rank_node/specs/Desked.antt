@@ -1,4 +1,6 @@
--- What a rank calls at the logger that threads share, through its desk (Alvisi and Marzullo 1998, section 3).
+-- What a rank calls at the event logger that threads share, through its desk: the store of a
+-- determinant, and the fetch of its own determinants before a replay (Alvisi and Marzullo 1998,
+-- section 3).
 use Rattle.std.specs.Prelude.{◌≡◌, Option, Some, None, ◌⊎◌}
 use Rattle.plain_logger.specs.Event.{EventValue}
 use Rattle.plain_logger.specs.History.{append_reply}
@@ -17,7 +19,8 @@ with_desk s desk = record s { desk = desk }
 abbrev pub at_desk : {S : Type 0} → Node S DeskValue → DeskValue → Node S DeskValue
 at_desk v desk = record v { stable = with_desk v.stable desk }
 
--- there is an event, the answer to its append is that of the row, and the append stands last in the desk's calls
+-- there is an event, the answer to its append is that of the row, and the append stands last in the
+-- desk's calls
 abbrev pub Appended : Option EventValue → DeskValue → Answer → DeskValue → Type 0
 Appended None old answer new = ⊥
 Appended (Some e) old answer new = (append_reply (own_row old) e ≡ reply_with (Append e) answer) × (new ≡ with_call old (Append e) answer)

@@ -1,5 +1,7 @@
--- Frames between ranks: what an arrival does, and what goes out next (a restarted receiver asks each sender for what it
--- lacks, and an image lets senders drop what it has: MPICH-V2).
+-- Frames between ranks: what an arrival does, and what goes out next. A restarted receiver asks
+-- each sender for what it lacks (Ask, a retransmission request), an image lets senders drop what it
+-- has (Kept, a garbage-collection notice of payload logs), and a packet that comes twice is dropped
+-- by its number (duplicate suppression): MPICH-V2; Alvisi and Marzullo 1998, section 3.
 use Rattle.std.specs.Prelude.{ℕ, List, Option, Some, None, slice_set, slice_index_or, ◌==◌, if◌then◌else◌}
 use Rattle.matching.specs.PacketValue.{PacketValue}
 use Rattle.matching.specs.Inbox.{Mailbox, answer_to, after_arrival}
@@ -37,7 +39,8 @@ arrival_of v from (frame.Data packet) = if packet.source == from then arrived_as
 arrival_of v from (frame.Ask number) = arrived.Noted
 arrival_of v from (frame.Kept number) = arrived.Noted
 
--- a packet goes to the inbox, unless it is foreign, and what isn't a packet goes to the payload log for that rank
+-- a packet goes to the inbox, unless it is foreign, and what isn't a packet goes to the payload log
+-- for that rank
 abbrev pub after_frame : {S D : Type 0} → Node S D → ℕ → Frame → Node S D
 after_frame v from (frame.Data packet) = if packet.source == from then with_inbox v (after_arrival v.inbox packet) else v
 after_frame v from (frame.Ask number) = with_log v (slice_set v.log from (asked (backlog v.log from) number))

@@ -1,5 +1,6 @@
--- A rank in any phase: what of it is stable, what it still has to replay, its frames and its copies (fail-stop processes with
--- stable storage: Schlichting and Schneider, "Fail-Stop Processors", 1983).
+-- A rank in any phase: what of it is stable, what it still has to replay, its frames and its copies
+-- (fail-stop processes with stable storage: Schlichting and Schneider, "Fail-Stop Processors",
+-- 1983).
 use Rattle.std.specs.Prelude.{ℕ, List, [], ◌∷◌, Option, Some, None}
 use Rattle.plain_logger.specs.Event.{EventValue}
 use Rattle.rank_node.specs.Copied.{node_with, stored_with}
@@ -17,13 +18,13 @@ stable_in (phase.Running v) = v.stable
 stable_in (phase.Replaying r) = r.node.stable
 stable_in (phase.Down s) = s
 
--- how many acts the rank has made; none where it is down
+-- how many acts the rank has made; none if it is down
 abbrev pub clock_in : {S D : Type 0} → Phase S D → ℕ
 clock_in (phase.Running v) = v.clock
 clock_in (phase.Replaying r) = r.node.clock
 clock_in (phase.Down s) = 0
 
--- the events that it still has to replay; none where it runs or is down
+-- the events that it still has to replay; none if it runs or is down
 abbrev pub left_in : {S D : Type 0} → Phase S D → List EventValue
 left_in (phase.Running v) = []
 left_in (phase.Replaying r) = r.left

@@ -1,4 +1,5 @@
--- How a send or a line that waits leaves the gate (output commit: Elnozahy, Alvisi, Wang and Johnson 2002, section 2.4).
+-- How a send or a line that waits leaves the gate, once no determinant stands before it (output
+-- commit: Elnozahy, Alvisi, Wang and Johnson 2002).
 use Rattle.std.specs.Prelude.{◌≡◌, ◌≢◌, ℕ, ℤ, ◌<◌, drop, List, slice_get, slice_set, option_and_then, Option, Some, None}
 use Rattle.payload_log.specs.Backlog.{BacklogValue, backlog, freed}
 use Rattle.rank_node.specs.declared.waiting.Waiting.{Waiting}
@@ -25,7 +26,7 @@ released_log log (waits.Line clock value) = log
 abbrev pub after_release : {S D : Type 0} → Node S D → Waiting → Node S D
 after_release v x = record v { log = released_log v.log x; pending = drop 1 v.pending }
 
--- the rank after a release: where no effect may pass nothing changes
+-- the rank after a release: if no effect may pass nothing changes
 abbrev pub released : {S D : Type 0} → Node S D → Option Waiting → Node S D
 released v None = v
 released v (Some x) = after_release v x
@@ -37,7 +38,7 @@ ShowsEffect shows v (Some (waits.Event e)) old new = new ≡ old
 ShowsEffect shows v (Some (waits.Send dest clock)) old new = new ≡ old
 ShowsEffect shows v (Some (waits.Line clock value)) old new = shows old v.stable.rank clock value new
 
--- a line waits, which is shown where it is released
+-- a line waits, which is shown when it is released
 abbrev pub IsLine : Option Waiting → Type 0
 IsLine None = ⊥
 IsLine (Some (waits.Event e)) = ⊥

@@ -1,4 +1,5 @@
--- What contracts see of a rank that runs: its gate as what waits there, with how many of these events are stored.
+-- What contracts see of a rank that runs: its gate as what waits there, with how many of these
+-- events are stored.
 use Rattle.rank_node.specs.Node.{Node}
 use Rattle.rank_node.specs.declared.running.Running.TheInside.{Inside}
 

@@ -1,4 +1,5 @@
--- How the events of a rank reach its row at the logger, and leave the rank (Alvisi and Marzullo 1998, section 3).
+-- How the events of a rank, its determinants, reach its row at the event logger, and leave the rank
+-- once they are acknowledged (pessimistic logging: Alvisi and Marzullo 1998, section 3).
 use Rattle.std.specs.Prelude.{ℕ, ◌+◌, ◌-◌, drop, slice_get, option_and_then, Option, Some, None, ◌⊎◌}
 use Rattle.plain_logger.specs.Event.{EventValue}
 use Rattle.plain_logger.specs.History.{StateValue, Answers}

@@ -20,7 +20,7 @@ impl<'p, S: Shelf, D> Running<'p, S, D> {
     }
 
     /// The same rank, in memory of its own, with this desk and this shelf. An
-    /// `Err` is want of memory, and gives back what was given.
+    /// `Err` means out of memory, and gives back what was given.
     pub fn copy(&self, alloc: Heap, desk: D, shelf: S) -> Result<Running<'p, S, D>, (D, S)>
         ensures ok { IfOk result (λ copy. copy ≡ node_with self.now desk shelf) }
         ensures err { IfErr result (λ back. back ≡ (desk, shelf)) }
@@ -72,7 +72,7 @@ impl<'p, S: Shelf, D> Replaying<'p, S, D> {
     }
 
     /// The same rank, in memory of its own, with this desk and this shelf. An
-    /// `Err` is want of memory, and gives back what was given.
+    /// `Err` means out of memory, and gives back what was given.
     pub fn copy(&self, alloc: Heap, desk: D, shelf: S) -> Result<Replaying<'p, S, D>, (D, S)>
         ensures ok { IfOk result (λ copy. copy ≡ record { node = node_with self.now.node desk shelf; left = self.now.left }) }
         ensures err { IfErr result (λ back. back ≡ (desk, shelf)) }

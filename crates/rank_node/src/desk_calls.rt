@@ -1,4 +1,5 @@
-//! What a rank calls at the logger that threads share.
+//! What a rank calls at the event logger that threads share: it stores
+//! determinants there, and fetches its own for a replay.
 ghost use Rattle.std.specs.Prelude.{◌≡◌, ◌<◌, ◌≤◌, ◌↔◌, None, Ok, length, IfOk, IfErr, OnErr, MatchOption};
 ghost use Rattle.metered.specs.Limits.{most_events};
 ghost use Rattle.plain_logger.specs.History.{above};
@@ -19,8 +20,9 @@ use plain_logger::Event;
 
 impl<'p, S: Shelf> Running<'p, S, Desk> {
     /// Appends the oldest unstored event to the rank's row and answers the
-    /// row's new length, or `None` where every event is stored or a send or a
-    /// line stands before it. It takes no memory.
+    /// row's new length, or `None` if every event is stored or a send or a line
+    /// stands before it. It takes no memory. This is MPICH-V2's store of a
+    /// determinant at the event logger.
     pub fn store(&mut self, logger: &Logger) -> Result<Option<u32>, NodeFault>
         requires { self.old.stable.desk.table ≡ logger.now.table }
         ensures none { (result ≡ Ok None) ↔ (next_unstored self.old ≡ None) }
@@ -47,7 +49,7 @@ impl<'p, S: Shelf> Running<'p, S, Desk> {
     }
 
     /// The events of rank `of`, below the logger's number of ranks, whose
-    /// receiver's clock is above `after`. An `Err` is want of memory.
+    /// receiver's clock is above `after`. An `Err` means out of memory.
     pub fn read(
         &mut self,
         logger: &Logger,
@@ -71,7 +73,7 @@ impl<'p, S: Shelf> Running<'p, S, Desk> {
 
 impl<'p, S: Shelf> Replaying<'p, S, Desk> {
     /// The events of rank `of`, below the logger's number of ranks, whose
-    /// receiver's clock is above `after`. An `Err` is want of memory.
+    /// receiver's clock is above `after`. An `Err` means out of memory.
     pub fn read(
         &mut self,
         logger: &Logger,
@@ -91,8 +93,8 @@ impl<'p, S: Shelf> Replaying<'p, S, Desk> {
 }
 
 impl<S: Shelf> Down<S, Desk> {
-    /// The whole row of the rank, at most `MOST_EVENTS` events. An `Err` is
-    /// want of memory.
+    /// The whole row of the rank, at most `MOST_EVENTS` events: the
+    /// determinants that a restart replays. An `Err` means out of memory.
     #[tactic(auto, using(crate::proofs::Rows::length_above))]
     pub fn fetch(&mut self, alloc: Heap, logger: &Logger) -> Result<Vec<Event, Heap>, NodeFault>
         requires { self.old.desk.table ≡ logger.now.table }

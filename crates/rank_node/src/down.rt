@@ -1,4 +1,4 @@
-//! A rank that is down.
+//! A rank that is down, after a fail-stop crash.
 ghost use Rattle.std.specs.Prelude.{◌≡◌};
 
 use crate::running::Running;

@@ -1,4 +1,5 @@
-//! What a rank owes another beside packets.
+//! What a rank owes another beside packets: a retransmission request, a
+//! garbage-collection notice.
 
 use crate::frame::{AskFrom, KeptUpto};
 

@@ -6,7 +6,7 @@ use matching::Packet;
 use std::alloc::AllocError;
 use std::marker::Model;
 
-/// The number from which a rank asks for packets: from 1 to one more than the greatest.
+/// The number from which a rank asks for packets, from 1 to one more than the greatest.
 #[derive(Clone, Copy, Debug)]
 pub struct AskFrom {
     number: u32,
@@ -89,9 +89,11 @@ impl KeptUpto {
 pub enum Frame {
     /// A packet of the sender's program.
     Data(Packet),
-    /// The sender lacks the receiver's packets from this number on.
+    /// A retransmission request: the sender lacks the receiver's packets from
+    /// this number on.
     Ask { from: AskFrom },
-    /// The sender's image has the receiver's packets up to this number.
+    /// A garbage-collection notice: the sender's image has the receiver's
+    /// packets up to this number.
     Kept { upto: KeptUpto },
 }
 

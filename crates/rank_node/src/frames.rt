@@ -1,4 +1,6 @@
-//! The frames of a rank: those that arrive, and those that go out.
+//! The frames of a rank: those that arrive, and those that go out. They follow
+//! MPICH-V2's rules of retransmission, duplicate suppression and garbage
+//! collection.
 ghost use Rattle.std.specs.Prelude.{◌≡◌, ◌<◌, None, Ok, IsSome, IfOk, IfErr, OnOk, OnErr};
 
 use crate::due::Due;
@@ -12,8 +14,10 @@ use matching::Accept;
 impl<'p, S: Shelf, D> Running<'p, S, D> {
     ghost use Rattle.rank_node.specs.Frames.{arrival_of, after_frame, outgoing_of, after_passed, IsPacket};
 
-    /// Takes in a frame that came from this rank. An `Err` is want of memory,
-    /// and gives the frame back.
+    /// Takes in a frame that came from this rank. A packet is accepted only by
+    /// its number, which suppresses duplicates; a retransmission request
+    /// (`Ask`) and a garbage-collection notice (`Kept`, which prunes) go to the
+    /// payload log. An `Err` means out of memory, and gives the frame back.
     pub fn arrive(&mut self, from: u8, frame: Frame) -> Result<Arrived, (Frame, NodeFault)>
         requires { from < self.old.stable.size }
         ensures answer { IfOk result (λ answer. answer ≡ arrival_of self.old from frame) }
@@ -48,7 +52,7 @@ impl<'p, S: Shelf, D> Running<'p, S, D> {
     }
 
     /// What goes to this rank next: a due `Ask`, else a due `Kept`, else the
-    /// payload log's next packet. An `Err` is want of memory.
+    /// payload log's next packet. An `Err` means out of memory.
     pub fn outgoing(&self, dest: u8) -> Result<Option<Frame>, NodeFault>
         requires { dest < self.now.stable.size }
         ensures ok { IfOk result (λ frame. frame ≡ outgoing_of self.now dest) }

@@ -1,4 +1,4 @@
-//! How a rank takes an image of itself.
+//! How a rank takes an image, its checkpoint.
 ghost use Rattle.std.specs.Prelude.{◌≡◌, ◌≢◌, ◌≤◌, [], length, Ok, Err, IfOk, IfErr, IsErrOf, OnOk, OnErr};
 ghost use Rattle.metered.specs.Limits.{greatest_clock};
 ghost use Rattle.checkpoint.specs.Reading.{reading};
@@ -19,12 +19,13 @@ use std::alloc::AllocError;
 impl<'p, S: Shelf, D> Running<'p, S, D> {
     ghost use Rattle.rank_node.specs.Image.{IsImaged, KeepsImage, image_of};
 
-    /// Takes an image of the rank, in the place of the last one on its shelf.
-    /// Each rank of which it accepted something is due a word of how much, so
-    /// that it may drop the payloads up to there.
+    /// Takes an image of the rank, in the place of the last one on its shelf,
+    /// the checkpoint store. Each rank from which it accepted something is due
+    /// a `Kept` with the number accepted: MPICH-V2's garbage-collection notice,
+    /// by which the sender drops those payloads.
     ///
-    /// It is refused where anything waits at the gate, where the shelf's
-    /// device fails, and for want of memory; the last image stays then.
+    /// It is refused if anything waits at the gate, if the shelf's device
+    /// fails, and when out of memory; the last image stays then.
     pub fn image(&mut self) -> Result<(), NodeFault>
         ensures ok { OnOk result (IsImaged S.last self.old self.new) }
         ensures err { OnErr result (self.new ≡ record self.old { stable = self.new.stable }) }
@@ -46,7 +47,7 @@ impl<'p, S: Shelf, D> Running<'p, S, D> {
         Ok(())
     }
 
-    // The bytes of its image, where nothing waits.
+    // The bytes of its image, if nothing waits.
     fn bytes(&self) -> Result<Vec<u8, Heap>, AllocError>
         requires { self.now.pending ≡ [] }
         ensures spelled { IfOk result (λ bytes. bytes.items ≡ spelling (image_of self.now)) }
@@ -62,7 +63,8 @@ impl<'p, S: Shelf, D> Running<'p, S, D> {
     }
 }
 
-// Each rank from which something was accepted is due a Kept that says how much, in the place of an older one.
+// Each rank from which something was accepted is due a Kept that says how much, in the place of an
+// older one.
 #[tactic(auto, using(crate::proofs::Images::length_kepts))]
 fn owe_kepts(dues: &mut Vec<Due, Heap>, inbox: &Inbox, size: u8)
     requires accepted { length inbox.now.accepted ≡ size }

@@ -1,5 +1,7 @@
-//! A rank at work: its machine behind the gate that lets nothing pass before
-//! the choices it rests on are stored and acknowledged.
+//! A rank at work: pessimistic, sender-based message logging (MPICH-V2) around
+//! a piecewise deterministic machine. Its gate commits output: no send and no
+//! print passes before the determinants on which it may rest are stored and
+//! acknowledged. That this leaves no orphans is the theorem of `world_model`.
 #![tactic(auto)]
 
 mod copying;

@@ -1,4 +1,6 @@
-//! What of a rank waits at its gate.
+//! What of a rank waits at its gate, which commits output: determinants for
+//! their store and acknowledgment, sends and lines for the determinants before
+//! them.
 ghost use Rattle.std.specs.Prelude.{◌≡◌, ◌+◌, ◌-◌, ◌<◌, true, [], ◌∷◌, ◌++◌, length, take, drop, slice_get, option_and_then};
 ghost use Rattle.std.specs.Prelude.{IsTrue, IsSome, ◌↔◌, OnOk, OnErr};
 ghost use Rattle.std.specs.Bool.{OnTrue, OnFalse};
@@ -67,7 +69,7 @@ impl Pending {
         self.effect_count < MOST_EFFECTS
     }
 
-    /// An event goes last. An `Err` is want of memory.
+    /// An event goes last. An `Err` means out of memory.
     #[tactic(auto, using(crate::proofs::Gates::effects_push, crate::proofs::Gates::begins_push))]
     pub fn push_event(&mut self, event: Event) -> Result<(), AllocError>
         ensures ok { OnOk result (self.new ≡ record { waiting = self.old.waiting ++ waits.Event event ∷ []; stored = self.old.stored }) }
@@ -126,7 +128,7 @@ impl Pending {
         self.waiting.len() == 1 && self.joins()
     }
 
-    /// A send to a rank goes last, where there is room. An `Err` is want of
+    /// A send to a rank goes last, if there is room. An `Err` means out of
     /// memory.
     #[tactic(auto, using(crate::proofs::Gates::effects_push, crate::proofs::Gates::begins_push, crate::proofs::Gates::begins_within))]
     pub fn push_send(&mut self, dest: u8, clock: u32) -> Result<(), AllocError>
@@ -141,7 +143,7 @@ impl Pending {
         Ok(())
     }
 
-    /// A line goes last, where there is room. An `Err` is want of memory.
+    /// A line goes last, if there is room. An `Err` means out of memory.
     #[tactic(auto, using(crate::proofs::Gates::effects_push, crate::proofs::Gates::begins_push))]
     pub fn push_line(&mut self, clock: u32, value: i64) -> Result<(), AllocError>
         requires { has_room self.old.waiting ≡ true }
@@ -166,7 +168,7 @@ impl Pending {
         }
     }
 
-    /// The oldest event that isn't stored, where no effect stands before it.
+    /// The oldest event that isn't stored, if no effect stands before it.
     pub fn oldest_unstored(&self) -> Option<Event>
         ensures { result ≡ option_and_then event_in (slice_get self.now.waiting self.now.stored) }
     {
@@ -201,7 +203,7 @@ impl Pending {
         self.waiting.pop_front().is_some()
     }
 
-    /// The oldest of what waits, where that is an effect.
+    /// The oldest of what waits, if that is an effect.
     pub fn oldest_effect(&self) -> Option<Waiting>
         ensures { result ≡ option_and_then effect_of (slice_get self.now.waiting 0) }
     {

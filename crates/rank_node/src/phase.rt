@@ -1,4 +1,4 @@
-//! A rank, whatever it does.
+//! A rank, whatever it does: it runs, replays or is down (fail-stop crashes).
 ghost use Rattle.std.specs.Prelude.{◌≡◌, ◌≤◌, length};
 ghost use Rattle.metered.specs.Limits.{most_events};
 ghost use Rattle.rank_node.specs.Phases.{stable_in, settled_in, settled_replay, clock_in, left_in};
@@ -51,7 +51,7 @@ impl<'p, S: Shelf, D> Phase<'p, S, D> {
         }
     }
 
-    /// How many acts it has made; none where it is down.
+    /// How many acts it has made; none if it is down.
     pub fn clock(&self) -> u32
         ensures { result ≡ clock_in self.now }
     {
@@ -62,7 +62,7 @@ impl<'p, S: Shelf, D> Phase<'p, S, D> {
         }
     }
 
-    /// How many events it still has to replay; none where it runs or is down.
+    /// How many events it still has to replay; none if it runs or is down.
     pub fn left(&self) -> u32
         ensures left { result ≡ length (left_in self.now) }
         ensures most { result ≤ most_events }

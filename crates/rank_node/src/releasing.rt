@@ -1,4 +1,5 @@
-//! The sends and lines of a rank that wait, as they leave the gate.
+//! The sends and lines of a rank that wait, as they leave the gate: output
+//! commit.
 ghost use Rattle.std.specs.Prelude.{◌≡◌, option_and_then, IfOk, IfErr, OnOk, OnErr};
 
 use crate::fault::NodeFault;
@@ -11,10 +12,11 @@ impl<'p, S: Shelf, D> Running<'p, S, D> {
     ghost use Rattle.rank_node.specs.Waiting.{effect_clock};
     ghost use Rattle.rank_node.specs.Releasing.{next_effect, released, ShowsEffect, IsLine};
 
-    /// Lets the oldest of what waits pass, where that is a send or a line: the
-    /// payload log saves the packet that it held, or the line is shown.
-    /// Answers its clock, or `None` where nothing waits or an event stands
-    /// first. An `Err` is want of memory, which only a line can meet.
+    /// Output commit: lets the oldest of what waits pass, if that is a send or
+    /// a line, so that no determinant before it is unstored or unacknowledged.
+    /// The payload log saves the packet that it held, or the line is shown.
+    /// Answers its clock, or `None` if nothing waits or an event stands first.
+    /// An `Err` means out of memory, which only a line can meet.
     pub fn release<C: Screen>(&mut self, screen: &mut C) -> Result<Option<u32>, NodeFault>
         ensures clock { IfOk result (λ clock. clock ≡ option_and_then effect_clock (next_effect self.old)) }
         ensures ok { OnOk result (self.new ≡ released self.old (next_effect self.old)) }

@@ -1,4 +1,5 @@
-//! A rank that replays its events.
+//! A rank that replays its events, its determinants, between a restart and the
+//! last of them.
 ghost use Rattle.std.specs.Prelude.{◌≡◌, ◌≢◌, ◌≤◌, [], length, Ok, Err};
 ghost use Rattle.metered.specs.Limits.{most_events};
 ghost use Rattle.rank_machine.specs.Machine.{machine_want, IsWantedBy};
@@ -53,8 +54,8 @@ impl<'p, S: Shelf, D> Replaying<'p, S, D> {
         (self.events.len() - self.next) as u32
     }
 
-    /// Goes on as a rank that runs, where nothing is left to be replayed. An
-    /// `Err` gives the rank back.
+    /// Goes on as a rank that runs, if nothing is left to be replayed. An `Err`
+    /// gives the rank back.
     pub fn settle(self) -> Result<Running<'p, S, D>, Replaying<'p, S, D>>
         ensures done { self.entry.left ≡ [] → result ≡ Ok self.entry.node }
         ensures more { self.entry.left ≢ [] → result ≡ Err self.entry }

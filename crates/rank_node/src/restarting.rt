@@ -1,4 +1,5 @@
-//! How a rank starts again.
+//! How a rank starts again: rollback to its last checkpoint, and replay of the
+//! determinants above it.
 ghost use Rattle.std.specs.Prelude.{◌≡◌, ◌<◌, ◌≤◌, ◌⊎◌, length, map, true, IfOk, IfErr, OnOk, IsErrOf};
 ghost use Rattle.metered.specs.Limits.{most_events, most_ranks};
 ghost use Rattle.plain_logger.specs.History.{above};
@@ -22,10 +23,11 @@ use rank_language::Program;
 use std::alloc::AllocError;
 
 impl<S: Shelf, D> Down<S, D> {
-    /// The rank starts again at the image on its shelf, or at the beginning of
-    /// its program where there is none, and replays what is above that of this
-    /// row, which is the whole of its own at the logger. It asks every rank,
-    /// itself too, for what it hasn't accepted.
+    /// The rank starts again at the image on its shelf, its last checkpoint, or
+    /// at the beginning of its program if there is none. It replays what is
+    /// above that of this row, which is the whole of its own at the logger. It
+    /// asks every rank, itself too, for what it hasn't accepted: MPICH-V2's
+    /// retransmission request.
     ///
     /// An `Err` gives the rank back: the shelf's device failed, its bytes are
     /// no image of this rank of the program, the image cuts an event of the
@@ -68,7 +70,8 @@ impl<S: Shelf, D> Down<S, D> {
         })
     }
 
-    // Where the rank begins again: at the image on its shelf, or at the beginning of its program where there is none.
+    // Where the rank begins again: at the image on its shelf, or at the beginning of its program if
+    // there is none.
     fn last_image<'p>(&mut self, alloc: Heap, program: &'p Program) -> Result<Image<'p>, NodeFault>
         ensures begins { IfOk result (λ image. image ≡ begins_at program.entry.now self.old.rank self.old.size
             (image_on program.entry.now self.old.rank self.old.size (S.last self.old.shelf))) }
@@ -90,7 +93,7 @@ impl<S: Shelf, D> Down<S, D> {
     }
 }
 
-// The image that these bytes are, or the beginning of the program where there are none.
+// The image that these bytes are, or the beginning of the program if there are none.
 fn image_of_bytes<'p>(
     alloc: Heap,
     program: &'p Program,

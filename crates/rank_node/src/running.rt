@@ -52,8 +52,8 @@ impl<'p, S: Shelf, D> Model for Running<'p, S, D> {
 impl<'p, S: Shelf, D> Running<'p, S, D> {
     ghost use Rattle.rank_node.specs.Node.{opening, at_image};
 
-    /// A rank at the beginning of its program. An `Err` is want of memory, and
-    /// gives back what was given.
+    /// A rank at the beginning of its program. An `Err` means out of memory,
+    /// and gives back what was given.
     pub fn start(
         alloc: Heap,
         program: &'p Program,
@@ -148,7 +148,8 @@ impl<'p, S: Shelf, D> Running<'p, S, D> {
     }
 }
 
-// The beginning of a program, as an image of the rank. An `Err` is want of memory.
+// The beginning of a program, as an image of the rank. An `Err` means out of
+// memory.
 #[tactic(auto, using(crate::proofs::Images::first_savable))]
 pub(crate) fn first_image<'p>(
     alloc: Heap,

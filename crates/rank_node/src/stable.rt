@@ -1,4 +1,5 @@
-//! What of a rank outlives a crash.
+//! What of a rank outlives a crash: its handles on stable storage, and its
+//! place.
 ghost use Rattle.std.specs.Prelude.{◌≡◌, ◌<◌, ◌≤◌, Some, IfOk, IsErrOf, OnOk, OnErr};
 ghost use Rattle.metered.specs.Limits.{most_ranks};
 ghost use Rattle.checkpoint.specs.Shelf.{Grew, image_bytes};

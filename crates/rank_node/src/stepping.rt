@@ -1,4 +1,4 @@
-//! The steps of a rank that runs.
+//! The steps of a rank that runs, behind the gate that commits output.
 ghost use Rattle.std.specs.Prelude.{◌≡◌, ◌≢◌, ◌+◌, ◌<◌, ◌≤◌, Some, None, true, IfOk, IfErr, OnOk, OnErr, IsErrOf};
 ghost use Rattle.metered.specs.Limits.{greatest_clock, most_events};
 ghost use Rattle.payload_log.specs.Backlog.{backlog, next_number};
@@ -22,7 +22,7 @@ impl<'p, S: Shelf, D> Running<'p, S, D> {
     ghost use Rattle.rank_node.specs.Steps.{refusal_of, refusal_at, event_refusal, takes_memory, takes_memory_at};
     ghost use Rattle.rank_node.specs.Steps.{MachineStep, MachineStepAt, DidAct, ShowsStep, ShowsAt};
 
-    /// One step of the machine, or none where it is blocked, held or ended. A
+    /// One step of the machine, or none if it is blocked, held or ended. A
     /// print is shown before the machine moves.
     pub fn step<C: Screen>(&mut self, screen: &mut C) -> Result<Turn, NodeFault>
         ensures turn { IfOk result (λ turn. turn ≡ turn_of self.old) }
@@ -41,7 +41,7 @@ impl<'p, S: Shelf, D> Running<'p, S, D> {
         self.step_wanted(screen, wanted)
     }
 
-    /// As `step`, where this was found of the machine, and isn't found again.
+    /// As `step`, if this was found of the machine, and isn't found again.
     pub fn step_wanted<C: Screen>(
         &mut self,
         screen: &mut C,

@@ -1,4 +1,4 @@
-//! The events of a rank on their way to the logger.
+//! The events of a rank, its determinants, on their way to the event logger.
 ghost use Rattle.std.specs.Prelude.{◌≡◌, ◌<◌, ◌↔◌, ◌⊎◌, length, None, Ok, IsTrue, IsErrOf, IfOk, IfErr, OnErr, MatchOption};
 ghost use Rattle.std.specs.Bool.{OnTrue, OnFalse};
 ghost use Rattle.plain_logger.specs.declared.call.Reply.TheVariants.{Length};
@@ -12,8 +12,9 @@ impl<'p, S: Shelf, D> Running<'p, S, D> {
     ghost use Rattle.rank_node.specs.Storing.{next_unstored, after_store, after_ack, Appends, IsRefused};
 
     /// Appends the oldest unstored event to the rank's row and answers the
-    /// row's new length, or `None` where every event is stored or a send or a
-    /// line stands before it.
+    /// row's new length, or `None` if every event is stored or a send or a line
+    /// stands before it. This is MPICH-V2's store of a determinant at the event
+    /// logger.
     pub fn store_state(&mut self, logger: &mut LoggerState) -> Result<Option<u32>, NodeFault>
         requires { self.old.stable.rank < length logger.old.rows }
         ensures none { (result ≡ Ok None) ↔ (next_unstored self.old ≡ None) }
@@ -42,7 +43,7 @@ impl<'p, S: Shelf, D> Running<'p, S, D> {
     }
 
     /// Acknowledges the oldest stored event that isn't acknowledged, if there
-    /// is one.
+    /// is one: the logger's acknowledgment, for which the gate waits.
     pub fn ack(&mut self) -> bool
         ensures some { IsTrue result ↔ (0 < self.old.stored) }
         ensures acked { OnTrue result (self.new ≡ after_ack self.old) }

@@ -1,4 +1,4 @@
-//! What waits at the gate of a rank.
+//! What waits at the gate of a rank until output may be committed.
 
 use plain_logger::Event;
 

@@ -1,4 +1,5 @@
--- Which acts of a run are drawn, where, and by which signs: each act whose time has a column and whose rank has a line gets one mark, where both meet.
+-- Which acts of a run are drawn, where, and by which signs: an act whose time has a column and
+-- whose rank has a line gets one mark, where both meet.
 use Rattle.std.specs.Prelude.{ℕ, List, [], ◌∷◌, Option, Some, None, slice_get}
 use Rattle.rank_machine.specs.Acts as acts
 use Rattle.crash_free.specs.Runs.{Passed}
@@ -37,7 +38,7 @@ abbrev pub sign_at : Option Place → MarkKind → List (Place × MarkKind)
 sign_at (Some place) sign = (place, sign) ∷ []
 sign_at None sign = []
 
--- the sign of the act that is made at this moment, where it is drawn
+-- the sign of the act that is made at this moment, if it is drawn
 abbrev pub signs_of : List Row → Columns → Moment → List (Place × MarkKind)
 signs_of rows columns moment = sign_at (place_in rows columns moment) moment.sign
 
@@ -45,9 +46,10 @@ signs_of rows columns moment = sign_at (place_in rows columns moment) moment.sig
 abbrev pub seen_of : Mark → Place × MarkKind
 seen_of mark = (mark.at, mark.kind)
 
--- an act's rank and sign, as its moment tells them, and as they are
+-- an act's rank and sign, as its moment has them
 abbrev pub told_of : Moment → ℕ × MarkKind
 told_of moment = (moment.rank, moment.sign)
 
+-- an act's rank and sign, as the act has them
 abbrev pub made_of : Passed → ℕ × MarkKind
 made_of passed = (passed.rank, sign_of passed.act)

@@ -1,4 +1,5 @@
--- Numbers in columns, and what stands between those of a list (docs/FORMATS.md, "Standard output of `trace`").
+-- Numbers in columns, and what stands between those of a list (docs/FORMATS.md, "Standard output of
+-- `trace`").
 use Rattle.std.specs.Prelude.{ℕ, ◌+◌, ◌-◌, ◌==◌, List, [], ◌++◌, length, replicate, codes, if◌then◌else◌}
 use Rattle.std.specs.Fmt.{decimal}
 
@@ -18,6 +19,6 @@ right width n = spaces (width - digit_count n) ++ decimal n
 abbrev pub between : ℕ → ℕ → List ℕ
 between index count = if index == 0 then [] else (if index + 1 == count then codes " and " else codes ", ")
 
--- the line above the columns, where that of the clocks has this width
+-- the line above the columns, if that of the clocks has this width
 abbrev pub head_text : ℕ → List ℕ
 head_text width = codes "rank " ++ spaces (width - 5) ++ codes "clock  line  act\n"

@@ -1,5 +1,6 @@
--- Which message an act takes or hits, and which act sent it (MPI 1.1, section 3.5). The acts of a run are the newest first, as
--- `crash_free` has them, where they are called a run, and the oldest first where an act is told by its index.
+-- Which message an act takes or hits, and which act sent it (MPI 1.1, section 3.5). The acts of a
+-- run are the newest first, as `crash_free` has them, where they are called a run, and the oldest
+-- first where an act is told by its index.
 use Rattle.std.specs.Prelude.{◌≡◌, ℕ, ◌+◌, ◌<◌, min, List, length, map, take, reverse, slice_get, slice_index_or, Option, Some, None}
 use Rattle.rank_machine.specs.Acts.{Message, Act, sends, takes, hits, misses, prints}
 use Rattle.crash_free.specs.Runs.{Passed, history, looked_up}
@@ -24,7 +25,8 @@ sent_by (prints value) clock = None
 abbrev pub run_before : List Passed → ℕ → List Passed
 run_before acts index = reverse (take index acts)
 
--- the message of an act that is the one of this index, by its clock the last of its rank's up to there
+-- the message of an act that is the one of this index, by its clock the last of its rank's up to
+-- there
 abbrev pub sent_as : List Passed → ℕ → Option Passed → Option Message
 sent_as acts index (Some p) = sent_by p.act (length (history (run_before acts (index + 1)) p.rank))
 sent_as acts index None = None
@@ -38,13 +40,14 @@ sent_at acts None = None
 abbrev pub sends_found : List Delivery → List (Option ℕ)
 sends_found found = map (λ (d : Delivery). d.send) found
 
--- for each of the first acts, of which there are so many, the send is found of the message that it takes or hits, if it does
+-- for each of the first acts, of which there are so many, the send is found of the message that it
+-- takes or hits, if it does
 pub record AreFoundUpTo (acts : List Passed) (count : ℕ) (found : List Delivery) : Type 0 where
   pub as_many : length found ≡ count
   pub each : (index : ℕ) (p : Passed) → index < count → slice_get acts index ≡ Some p
       → sent_at acts (slice_index_or (sends_found found) index None) ≡ delivered (run_before acts index) p
 
--- so for all acts
+-- for each act the send is found of the message that it takes or hits, if it does
 abbrev pub AreDelivered : List Passed → List Delivery → Type 0
 AreDelivered acts found = AreFoundUpTo acts (length acts) found
 
@@ -58,11 +61,11 @@ pub record AreClocked (acts : List Passed) (places : List Place) : Type 0 where
   pub each : (index : ℕ) (p : Passed) (place : Place) → slice_get acts index ≡ Some p → slice_get places index ≡ Some place
       → place.clock ≡ clock_of (run_before acts (index + 1)) p.rank
 
--- a message as it is told: with a clock up to the greatest
+-- a message as it is reported: with a clock up to the greatest
 abbrev pub told_message : Message → Message
 told_message m = record m { clock = min m.clock greatest_told }
 
--- the same, where there is one
+-- a message as it is reported, if there is one
 abbrev pub as_told : Option Message → Option Message
 as_told (Some m) = Some (told_message m)
 as_told None = None

@@ -1,4 +1,5 @@
--- The lines of the acts of a run (docs/FORMATS.md, "Standard output of `trace`"). A run has its newest act first, and so have its places.
+-- The lines of the acts of a run (docs/FORMATS.md, "Standard output of `trace`"). A run has its
+-- newest act first, and so have its places.
 use Rattle.std.specs.Prelude.{◌≡◌, ℕ, max, List, [], ◌∷◌, ◌++◌, codes, reverse, slice_index_or, Option}
 use Rattle.rank_language.specs.Program.{ProgramValue}
 use Rattle.rank_machine.specs.Acts.{Message}
@@ -18,8 +19,8 @@ greatest_of (place ∷ places) = max place.clock (greatest_of places)
 abbrev pub clock_width : List Place → ℕ
 clock_width places = max (digit_count (greatest_of places)) 5
 
--- three columns: the rank of an act, its clock, and the line of its statement, where the statements stand on these lines of the
--- program
+-- three columns: the rank of an act, its clock, and the number that this list has for its
+-- statement, which is the statement's line if the statements stand on these lines
 abbrev pub columns_text : ℕ → List ℕ → Passed → Place → List ℕ
 columns_text width lines p place =
     right 4 p.rank ++ codes " " ++ right width place.clock ++ codes "  " ++ right 4 (slice_index_or lines place.position 0) ++ codes "  "
@@ -40,13 +41,14 @@ lines_text width lines (p ∷ run) (place ∷ places) =
 abbrev pub order_text : List ℕ
 order_text = codes "# an order of the acts that the audit found, not that of the threads\n"
 
--- That, the head of the columns, and the lines of all acts. Here the acts and their places are the oldest first.
+-- That, the head of the columns, and the lines of all acts. Here the acts and their places are the
+-- oldest first.
 abbrev pub acts_text : List ℕ → List Passed → List Place → List ℕ
 acts_text lines acts places = order_text
     ++ head_text (clock_width places) ++ lines_text (clock_width places) lines (reverse acts) (reverse places)
 
--- The text of a run begins with its acts: they have their places from the beginning of the program on, each act has its line,
--- in their order, and no other line is among these.
+-- The text of a run begins with its acts: they have their places from the beginning of the program
+-- on, and each act has its line, in their order. What stands behind these lines isn't said.
 pub record BeginsWithActs (program : ProgramValue) (ranks : ℕ) (lines : List ℕ) (acts : List Passed) (text : List ℕ) : Type 0 where
   pub places : List Place
   pub found : AreFound program ranks acts places

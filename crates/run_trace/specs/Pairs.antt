@@ -39,8 +39,8 @@ noted_by rank (hits source place) index now = now
 noted_by rank misses index now = now
 noted_by rank (prints value) index now = now
 
--- For each pair of ranks that there can be the indices of its sends stand there, in their order, where the run is this one; and
--- no other rank sends.
+-- If the run is this one, the indices of the sends of each pair of ranks that there can be stand
+-- there, in their order; and no other rank sends.
 pub record AreNoted (acts run : List Passed) (now : List (List ℕ)) : Type 0 where
   pub as_many : length now ≡ most_ranks * most_ranks
   pub each : (source dest : ℕ) → source < most_ranks → dest < most_ranks

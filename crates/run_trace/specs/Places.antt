@@ -20,7 +20,7 @@ is_try (want.Print value) = false
 is_try want.Halted = false
 is_try (want.Faulted fault) = false
 
--- the greatest clock that is told; a rank's later acts have it too
+-- the greatest clock that is reported; a rank's later acts have it too
 abbrev pub greatest_told : ℕ
 greatest_told = 2 ^ 32 - 1
 
@@ -28,13 +28,14 @@ greatest_told = 2 ^ 32 - 1
 abbrev pub clock_of : List Passed → ℕ → ℕ
 clock_of run r = min (length (history run r)) greatest_told
 
--- a machine stands at the statement of this position, which is a probe that doesn't wait or isn't, as is said
+-- a machine stands at the statement of this position, which is a probe that doesn't wait or isn't,
+-- as is said
 pub record StandsAt (m : MachineValue) (place : Place) : Type 0 where
   pub position : m.position ≡ place.position
   pub tries : is_try (machine_want m) ≡ place.tries
 
--- By steps of its own the rank came to the statement of this position. There the act's choice was allowed, the act was
--- made and no other, and by its clock it was the rank's next.
+-- By steps of its own the rank came to the statement of this position. There the act's choice was
+-- allowed, the act was made and no other, and by its clock it was the rank's next.
 pub record IsMadeAt (s : SimValue) (passed : Passed) (place : Place) (s' : SimValue) : Type 0 where
   pub steps : ℕ
   pub there : SimValue
@@ -51,7 +52,8 @@ ArePlaces s [] (place ∷ places) s' = ⊥
 ArePlaces s (passed ∷ acts) [] s' = ⊥
 ArePlaces s (passed ∷ acts) (place ∷ places) s' = (mid : SimValue) × IsMadeAt s passed place mid × ArePlaces mid acts places s'
 
--- From the beginning of the program, where no act is made, the acts were made one after another, each at its place.
+-- From the beginning of the program, where no act is made, the acts were made one after another,
+-- each at its place.
 pub record AreFound (program : ProgramValue) (ranks : ℕ) (acts : List Passed) (places : List Place) : Type 0 where
   pub first : SimValue
   pub program_same : first.program ≡ program

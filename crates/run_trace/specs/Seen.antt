@@ -7,7 +7,7 @@ use Rattle.run_trace.specs.declared.message.Message.{Message}
 abbrev pub message_seen : Message → acts.Message
 message_seen m = record { clock = m.clock; context = m.context; tag = m.tag; items = m.items.now }
 
--- the same, where there is one
+-- a message, if there is one, without where its items lie in memory
 abbrev pub maybe_seen : Option Message → Option acts.Message
 maybe_seen (Some m) = Some (message_seen m)
 maybe_seen None = None

@@ -1,5 +1,6 @@
--- The acts of a run in words (docs/RUNS.md, "See a run"). A message between two ranks is told by its tag and its items; one of
--- a collective by the kind and the number of the collective, which its first three items have with the root, and by the others.
+-- The acts of a run in words (docs/RUNS.md, "See a run"). A message between two ranks is reported
+-- by its tag and its items; one of a collective by the kind and the number of the collective, which
+-- its first three items have with the root, and by the others.
 use Rattle.std.specs.Prelude.{ℕ, ℤ, pos, nat_lt, Bool, true, false, List, [], ◌∷◌, ◌++◌, length, take, drop, slice_get, codes}
 use Rattle.std.specs.Prelude.{Option, Some, None, if◌then◌else◌}
 use Rattle.std.specs.Fmt.{decimal, signed_decimal}
@@ -41,7 +42,8 @@ abbrev pub ordinal_text : Option ℤ → List ℕ
 ordinal_text (Some ordinal) = codes " " ++ signed_decimal ordinal
 ordinal_text None = []
 
--- the collective of a packet with these items: its kind, its root, its number, and what the rank gives
+-- the collective of a packet with these items: its kind, its root, its number, and what the rank
+-- gives
 abbrev pub collective_text : List ℤ → List ℕ
 collective_text items = name_text (slice_get items 0) ++ ordinal_text (slice_get items 2)
 
@@ -55,11 +57,11 @@ abbrev pub listed_text : List ℤ → List ℕ
 listed_text [] = []
 listed_text (item ∷ items) = codes " " ++ signed_decimal item ++ listed_text items
 
--- how many items there are, where not all are shown
+-- how many items there are, if not all are shown
 abbrev pub count_text : ℕ → List ℕ
 count_text count = if nat_lt most_shown count then codes " .. (" ++ decimal count ++ codes " items)" else []
 
--- the first items behind a colon; nothing where there is none
+-- the first items behind a colon; nothing if there is none
 abbrev pub items_text : List ℤ → List ℕ
 items_text [] = []
 items_text (item ∷ items) = codes ":" ++ listed_text (take most_shown (item ∷ items)) ++ count_text (length (item ∷ items))
@@ -78,7 +80,7 @@ given_items Collective items = drop 3 items
 abbrev pub content_text : Message → List ℕ
 content_text m = tag_text m.context m.tag ++ items_text (given_items m.context m.items)
 
--- by what to know a message where its items aren't told: its tag, or the collective that it is of
+-- how a message is named without its items: by its tag, or by the collective that it is of
 abbrev pub mark_text : Context → ℕ → List ℤ → List ℕ
 mark_text PointToPoint tag items = codes ", tag " ++ decimal tag
 mark_text Collective tag items = codes ", " ++ collective_text items
@@ -103,8 +105,8 @@ abbrev pub hit_text : Option Message → List ℕ
 hit_text None = []
 hit_text (Some m) = tag_text m.context m.tag
 
--- An act of this clock, with the message that it takes or hits. It is also said whether its statement is a probe that doesn't
--- wait.
+-- An act of this clock, with the message that it takes or hits. It is also said whether its
+-- statement is a probe that doesn't wait.
 abbrev pub act_text : ℕ → Bool → Act → Option Message → List ℕ
 act_text clock tries (sends dest context tag items) message =
     send_text dest (record { clock = clock; context = context; tag = tag; items = items })

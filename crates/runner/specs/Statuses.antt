@@ -1,4 +1,4 @@
--- What the program answers where its words name no job, and behind a run (docs/FORMATS.md, "Command").
+-- What the program answers if its words name no job, and behind a run (docs/FORMATS.md, "Command").
 use Rattle.std.specs.Prelude.{◌≡◌, ◌≤◌, ◌↔◌, ℕ, List, [], All}
 use Rattle.std.specs.String.{string_bytes}
 use Rattle.audit.specs.declared.outcome.End.TheVariants as end
@@ -6,7 +6,7 @@ use Rattle.audit.specs.Outcome.{OutcomeValue}
 use Rattle.command_line.specs.declared.no_job.NoJob.{NoJob}
 use Rattle.command_line.specs.declared.no_job.NoJob.TheVariants as no_job
 
--- 0 for help, 3 for a mistake in the words, 4 for want of memory
+-- 0 for help, 3 for a mistake in the words, 4 if there is no memory
 abbrev pub status_without_job : NoJob → ℕ
 status_without_job (no_job.Help text) = 0
 status_without_job (no_job.Mistake text) = 3
@@ -28,7 +28,7 @@ mistake_in no_job.Memory = []
 abbrev pub AreHalted : OutcomeValue → Type 0
 AreHalted outcome = All (λ e. e ≡ end.Halted) outcome.ends
 
--- the exit status behind a run: 0 exactly where every rank halted, and else 1
+-- the exit status behind a run: 0 if and only if every rank halted, and else 1
 pub record HasStatus (outcome : OutcomeValue) (status : ℕ) : Type 0 where
   pub halted : (status ≡ 0) ↔ AreHalted outcome
   pub else_one : status ≤ 1

@@ -1,4 +1,5 @@
--- What is printed of a world: the replies to the events of a file, or a way on from where they lead.
+-- What is printed of a world: the replies to the events of a file, or a recovery schedule from
+-- where they lead.
 use Rattle.std.specs.Prelude.{ℕ, List}
 use Rattle.events_text.specs.Output.{IsRunText}
 use Rattle.events_text.specs.Written.{IsWayText}
@@ -14,7 +15,8 @@ abbrev pub IsTextOf : Wanted → WorldValue → List WorldEvent → WorldValue �
 IsTextOf Replies before events after text = IsRunText before events after text
 IsTextOf WayOn before events after text = IsWayText before events after text
 
--- What is wanted of a new world of this program and so many ranks, under these events, is this text.
+-- What is wanted of a new world of this program and so many ranks, under these events, is this
+-- text.
 pub record IsAnswer (program : ProgramValue) (ranks : ℕ) (wanted : Wanted) (events : List WorldEvent) (text : List ℕ) : Type 0 where
   pub before : WorldValue
   pub after : WorldValue

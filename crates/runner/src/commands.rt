@@ -1,14 +1,15 @@
 //! The program: what its words ask for, what it writes, and its exit status.
 //!
-//! | Status | When |
-//! |---|---|
-//! | 0 | done, help too; after `explore` all was looked at and each rank halts; after `explain` there is no fault |
-//! | 1 | after a run or a trace a rank isn't halted, or its run ends without a report; a run gives no events |
-//! | | after `explore` not all was looked at, or in some outcome a rank isn't halted |
-//! | 2 | the program, the script or the events are refused, by `explain` too, or a file can't be read |
-//! | 3 | the words are refused |
-//! | 4 | there is no memory |
-//! | 5 | standard output can't be written |
+//! - 0: done, also for help; after `explore` all was looked at and each rank
+//!   halts; after `explain` there is no fault
+//! - 1: after a run or a trace a rank isn't halted, or its run ends without a
+//!   report; a run gives no events; after `explore` not all was looked at, or in
+//!   some outcome a rank isn't halted
+//! - 2: the program, the script or the events are refused, by `explain` too, or a
+//!   file can't be read
+//! - 3: the words are refused
+//! - 4: there is no memory
+//! - 5: standard output can't be written
 ghost use Rattle.std.specs.Prelude.{◌≡◌, ◌≢◌, ◌≤◌, IfOk, OnOk, string_bytes};
 ghost use Rattle.std.specs.Io.KnownBytes.{Appends};
 ghost use Rattle.runner.specs.Statuses.{status_without_job, help_in, mistake_in};

@@ -10,12 +10,12 @@ use Rattle.rank_node.specs.declared.phase.Phase.TheVariants.{Running, Replaying,
 abbrev pub Occupant : Type 0
 Occupant = Option (Phase MemoryShelf (Unit {0}))
 
--- which rank stands there; this one where none does
+-- which rank stands there; this one if none does
 abbrev pub number_at : ℕ → Occupant → ℕ
 number_at number (Some p) = (stable_in p).rank
 number_at number None = number
 
--- of how many ranks it is; of two where none stands there
+-- of how many ranks it is; of two if none stands there
 abbrev pub size_at : Occupant → ℕ
 size_at (Some p) = (stable_in p).size
 size_at None = 2
@@ -24,7 +24,7 @@ size_at None = 2
 abbrev pub IsRank : ℕ → Occupant → Type 0
 IsRank number occupant = (number_at number occupant ≡ number) × (size_at occupant ≡ 2)
 
--- nothing waits at its gate; where it replays or is down nothing can
+-- nothing waits at its gate; if it replays or is down nothing can
 abbrev pub NoneWaits : Occupant → Type 0
 NoneWaits (Some (Running v)) = v.pending ≡ []
 NoneWaits (Some (Replaying r)) = Unit {0}

@@ -225,7 +225,7 @@ fn suits(want: &Want, kind: Kind) -> bool
     }
 }
 
-/// Whether a choice was allowed; want of memory is an `Err`.
+/// Whether a choice was allowed; an `Err` means out of memory.
 fn was_allowed(answer: Result<(), NotAllowed>) -> Result<bool, AllocError>
     ensures ok { IfOk result (λ allowed. allowed ≡ is_ok answer) }
     ensures refused { IfOk result (λ _. IfErr answer (λ why. why ≢ NotAllowed.Memory)) }

@@ -105,7 +105,7 @@ impl Index {
         queue.push(place)
     }
 
-    // The number of the kind's queue, which is made where there is none.
+    // The number of the kind's queue, which is made if there is none.
     #[tactic(auto, using(crate::proofs::Putting::same_queues, crate::proofs::Putting::queue_more, crate::proofs::Putting::queue_more_there))]
     fn number(&mut self, kind: u32) -> Result<usize, AllocError>
         ensures ok { IfOk result (λ queue. queue_number self.new kind ≡ Some queue) }

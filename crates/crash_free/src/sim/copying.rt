@@ -8,7 +8,7 @@ use std::alloc::AllocError;
 
 impl<'p> Sim<'p> {
     /// The same run of the same program, with each rank where it stands, in
-    /// memory of its own. An `Err` is want of memory.
+    /// memory of its own. An `Err` means out of memory.
     pub fn copy(&self) -> Result<Sim<'p>, AllocError>
         ensures { IfOk result (λ sim. sim ≡ self.now) }
     {

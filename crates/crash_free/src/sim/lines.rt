@@ -9,7 +9,8 @@ use metered::Heap;
 use std::alloc::AllocError;
 
 impl Sim<'_> {
-    /// The values that the rank printed, in order. An `Err` is want of memory.
+    /// The values that the rank printed, in order. An `Err` means out of
+    /// memory.
     #[tactic(auto, using(crate::proofs::Printing::lines_printed))]
     pub fn lines(&self, rank: u8) -> Result<Vec<i64, Heap>, AllocError>
         ensures { IfOk result (λ lines. lines.items ≡ map (λ line. line.1) (printed self.now.run rank)) }

@@ -8,8 +8,8 @@ use matching::Packet;
 use rank_language::Statement;
 
 impl Machine<'_> {
-    /// The probe that it wants is shown the packet, which stays where it is. The packet's source has to be a rank, so that
-    /// the status always names one.
+    /// The probe that it wants is shown the packet, which stays where it is. The packet's source
+    /// has to be a rank, so that the status always names one.
     pub fn show(&mut self, packet: &Packet)
         requires showing { IsShowing (machine_want self.old) packet.now }
         requires source { packet.now.source < self.old.store.size }

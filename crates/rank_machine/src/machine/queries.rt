@@ -52,7 +52,7 @@ impl<'p> Machine<'p> {
         self.store.finished()
     }
 
-    /// How many parts of the collective that stands are done, 0 where none stands.
+    /// How many parts of the collective that stands are done, 0 if none stands.
     pub fn done(&self) -> u16
         ensures { result ≡ self.now.store.done }
     {
@@ -89,8 +89,9 @@ impl<'p> Machine<'p> {
         self.store.arrays()
     }
 
-    /// A law, for proofs alone: position, status, fault and number of collectives are within their limits, its arrays are
-    /// as long as its program says, and it is within the collective that stands.
+    /// A law, for proofs alone: position, status, fault and number of collectives are within their
+    /// limits, its arrays are as long as its program says, and it is within the collective that
+    /// stands.
     pub fn law_whole(&self)
         ensures { IsMachine self.now }
     {

@@ -16,7 +16,7 @@ use rank_language::{Buffer, Payload};
 use std::alloc::AllocError;
 
 impl Store {
-    /// The items that a send gives; none where their evaluation faults.
+    /// The items that a send gives; none if their evaluation faults.
     pub fn items_of(&self, alloc: Heap, payload: &Payload) -> Result<PacketItems, AllocError>
         requires { IsPayloadWithin (length self.now.variables) (length self.now.arrays) (payload_of payload.now) }
         ensures items { IfOk result (λ items. items.items ≡ or_nothing (items_of self.now (payload_of payload.now))) }

@@ -11,8 +11,8 @@ use crate::store::Store;
 use rank_language::{Expression, Reading};
 
 impl Store {
-    /// The expression's value; operands go from left to right, and the first fault stands. A number or a variable needs
-    /// no call.
+    /// The expression's value; operands go from left to right, and the first fault stands. A number
+    /// or a variable needs no call.
     #[inline(always)]
     pub fn value_of(&self, expression: &Expression) -> Result<i64, MachineFault>
         requires { IsWithin (length self.now.variables) (length self.now.arrays) (placed_of expression.now) }
@@ -24,7 +24,8 @@ impl Store {
         }
     }
 
-    // The same value; an operation on numbers and variables needs no call either. Most steps of a loop are such.
+    // The same value; an operation on numbers and variables needs no call either. Most steps of a
+    // loop are such.
     #[inline(always)]
     pub(super) fn step_value(&self, expression: &Expression) -> Result<i64, MachineFault>
         requires { IsWithin (length self.now.variables) (length self.now.arrays) (placed_of expression.now) }
@@ -36,7 +37,8 @@ impl Store {
         }
     }
 
-    // The value of a number, of a variable or of an operation on two such, where it doesn't fault: it needs no call.
+    // The value of a number, of a variable or of an operation on two such, if it doesn't fault: it
+    // needs no call.
     #[inline(always)]
     fn quick(&self, expression: &Expression) -> Option<i64>
         requires { IsWithin (length self.now.variables) (length self.now.arrays) (placed_of expression.now) }

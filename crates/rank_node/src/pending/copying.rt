@@ -7,7 +7,7 @@ use std::alloc::AllocError;
 use std::collections::VecDeque;
 
 impl Pending {
-    /// The same waits, in memory of its own. An `Err` is want of memory.
+    /// The same waits, in memory of its own. An `Err` means out of memory.
     pub fn copy(&self, alloc: Heap) -> Result<Pending, AllocError>
         ensures { IfOk result (λ copy. copy ≡ self.now) }
     {

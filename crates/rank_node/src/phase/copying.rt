@@ -19,7 +19,7 @@ impl<'p, S: Shelf, D> Phase<'p, S, D> {
     }
 
     /// The same rank, in memory of its own, with this desk and this shelf. An
-    /// `Err` is want of memory, and gives back what was given.
+    /// `Err` means out of memory, and gives back what was given.
     pub fn copy(&self, alloc: Heap, desk: D, shelf: S) -> Result<Phase<'p, S, D>, (D, S)>
         ensures ok { IfOk result (λ copy. copy ≡ phase_with self.now desk shelf) }
         ensures err { IfErr result (λ back. back ≡ (desk, shelf)) }

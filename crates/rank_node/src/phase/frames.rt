@@ -12,7 +12,7 @@ use checkpoint::Shelf;
 
 impl<'p, S: Shelf, D> Phase<'p, S, D> {
     /// Takes in a frame that came from this rank. One that is down drops it,
-    /// and answers nothing. An `Err` is want of memory, and gives the frame
+    /// and answers nothing. An `Err` means out of memory, and gives the frame
     /// back.
     pub fn arrive(&mut self, from: u8, frame: Frame) -> Result<Option<Arrived>, (Frame, NodeFault)>
         requires { from < (stable_in self.old).size }
@@ -31,8 +31,8 @@ impl<'p, S: Shelf, D> Phase<'p, S, D> {
         Ok(Some(arrived))
     }
 
-    /// What goes to this rank next; nothing from one that is down. An `Err` is
-    /// want of memory.
+    /// What goes to this rank next; nothing from one that is down. An `Err`
+    /// means out of memory.
     pub fn outgoing(&self, dest: u8) -> Result<Option<Frame>, NodeFault>
         requires { dest < (stable_in self.now).size }
         ensures ok { IfOk result (λ frame. frame ≡ outgoing_in self.now dest) }

@@ -10,8 +10,8 @@ use checkpoint::Shelf;
 impl<'p, S: Shelf, D> Replaying<'p, S, D> {
     ghost use Rattle.rank_node.specs.Frames.{arrival_of, after_frame, outgoing_of, after_passed, IsPacket};
 
-    /// Takes in a frame that came from this rank, which must be below the
-    /// size. An `Err` is want of memory, and gives the frame back.
+    /// Takes in a frame that came from this rank, which must be below the size.
+    /// An `Err` means out of memory, and gives the frame back.
     #[tactic(auto, using(crate::proofs::Settled::after_frame_pending))]
     pub fn arrive(&mut self, from: u8, frame: Frame) -> Result<Arrived, (Frame, NodeFault)>
         requires { from < self.old.node.stable.size }
@@ -27,8 +27,8 @@ impl<'p, S: Shelf, D> Replaying<'p, S, D> {
     }
 
     /// What goes to this rank next, which must be below the size: a due `Ask`,
-    /// else a due `Kept`, else the payload log's next packet. An `Err` is want
-    /// of memory.
+    /// else a due `Kept`, else the payload log's next packet. An `Err` means
+    /// out of memory.
     pub fn outgoing(&self, dest: u8) -> Result<Option<Frame>, NodeFault>
         requires { dest < self.now.node.stable.size }
         ensures ok { IfOk result (λ frame. frame ≡ outgoing_of self.now.node dest) }

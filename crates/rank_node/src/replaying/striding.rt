@@ -8,8 +8,9 @@ use crate::replaying::Replaying;
 use checkpoint::Shelf;
 
 impl<'p, S: Shelf, D> Replaying<'p, S, D> {
-    /// Steps of its machine that no other rank sees, until it wants something else, but no more than `most`. Answers how
-    /// many it made: as many calls of `step` would each have answered `Moved`, and no event is used up.
+    /// Steps of its machine that no other rank sees, until it wants something else, but no more
+    /// than `most`. Answers how many it made: as many calls of `step` would each have answered
+    /// `Moved`, and no event is used up.
     pub fn stride(&mut self, most: u32) -> u32
         ensures ok { self.new ≡ record { node = with_machine self.old.node self.new.node.machine; left = self.old.left } }
         ensures machine { Strides result self.old.node.machine self.new.node.machine }

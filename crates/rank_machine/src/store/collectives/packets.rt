@@ -64,8 +64,9 @@ impl Store {
         Ok(())
     }
 
-    /// The part of the call that stands, a reception, takes the items of a packet. One that isn't of this call is the
-    /// fault `CollectiveMismatch`, and only then is one longer than the buffer `TooLong`; both leave everything.
+    /// The part of the call that stands, a reception, takes the items of a packet. One that isn't
+    /// of this call is the fault `CollectiveMismatch`, and only then is one longer than the buffer
+    /// `TooLong`; both leave everything.
     pub fn collect(
         &mut self,
         collective: &Collective,
@@ -127,7 +128,7 @@ impl Store {
     }
 }
 
-// What a packet gives behind its header, where it is one of this call.
+// What a packet gives behind its header, if it is one of this call.
 fn given_by(call: Call, packet: &[i64]) -> Result<&[i64], MachineFault>
     ensures given { IfOk result (λ items. given_by (head_of call) packet.now ≡ Ok items.now) }
     ensures mismatch { (k : MachineFault) → result ≡ Err k → given_by (head_of call) packet.now ≡ Err k }
