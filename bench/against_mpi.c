@@ -1,5 +1,6 @@
-/* What bench/against_mpi times under MPI: against_mpi KIND COUNT plays COUNT rounds of one kind and has rank 0 print the nanoseconds of a
- * round. Its rounds are those of the rank programs in bench/against_mpi, as a bare loop: nothing is logged, nobody recovers. */
+/* The loops that bench/against_mpi times under MPI. `against_mpi KIND COUNT` runs COUNT rounds of a
+ * kind, and rank 0 prints the nanoseconds of a round. The rounds are those of the rank programs in
+ * bench/against_mpi, as bare loops: nothing is logged, and nothing recovers. */
 #include <mpi.h>
 #include <stdio.h>
 #include <stdlib.h>

@@ -1,9 +1,10 @@
-"""All outcomes of a small rank program, by brute force: every act of every rank in every order, with no reduction. Steps that no other
-rank sees, of `let`, `if` and `while`, are made at once.
+"""All outcomes of a small rank program, by brute force: the acts of all ranks in every order, with
+no reduction. Steps that no other rank sees (`let`, `if`, `while`) are made at once.
 
-A program here is its statements, as tuples; `text` writes them as the language has them. A probe that doesn't wait may miss at any time, as in
-the definition of a run without crashes. Collectives are packets of a context of their own, as in the machine: a barrier goes to rank 0 and back.
-A state that was met before, printed lines and all, isn't searched again.
+A program is a list of statements, as tuples; `text` writes them in the language. A probe that
+doesn't wait may miss at any time, as the definition of a crash-free run allows. Collectives are
+packets of a context of their own, as in the machine: a barrier goes to rank 0 and back. A state
+that was searched before, with the same printed lines, isn't searched again.
 """
 from __future__ import annotations
 
@@ -108,7 +109,7 @@ def set_to(r: Rank, **changes: int) -> Rank:
 
 
 def successors(state, size: int):
-    """Each state that one step of one rank leads to."""
+    """The states after one step of one rank."""
     ranks, queues = state
     for k in range(size):
         r = ranks[k]
@@ -123,7 +124,7 @@ def successors(state, size: int):
 
 
 def settled(r: Rank, k: int, size: int) -> Rank:
-    """The rank after the steps of its own that it makes next."""
+    """The rank after its next internal steps."""
     while r.todo and not r.fault and r.todo[0][0] in ("let", "if", "while"):
         try:
             r = next(steps(r, k, size, ()))[0]
@@ -254,7 +255,8 @@ def parts(r: Rank, on: Rank, s, k: int, size: int, queues, of):
 
 
 def outcomes(body, size: int, most_states: int = 50_000) -> set | None:
-    """The outcomes, each a tuple of (lines, end) of each rank; none where there are too many states."""
+    """The outcomes, each a tuple of (lines, end) of each rank; None if there are too many
+    states."""
     begin = (tuple(settled(Rank(tuple(body), (), ()), k, size) for k in range(size)), ((),) * (size * size))
     seen, left, found = {begin}, [begin], set()
     while left:

@@ -1,7 +1,9 @@
-"""Programs at random, none of which can wait in vain: each is a row of rounds in which what is sent is received, whatever the order.
+"""Random programs without deadlocks: each is a sequence of rounds, and in each round every message
+that is sent is received, in any order of the ranks.
 
-A round is made of statements that all ranks run. Where a program takes messages of any source and prints them as they come, or probes
-without waiting, its lines may differ from run to run, and it is said not to be deterministic.
+All ranks run the statements of a round. A program isn't deterministic if it receives messages of
+any source and prints them in their order, or if it probes without waiting: then its output may
+differ from run to run.
 """
 from __future__ import annotations
 
@@ -21,12 +23,12 @@ class Program(NamedTuple):
 class Round(NamedTuple):
     lines: list[str]
     is_deterministic: bool = True
-    # in a loop too: there the messages of two turns may be taken for each other
+    # also in a loop, where a receive may take the message of another iteration
     is_deterministic_in_a_loop: bool = True
 
 
 def shift(ranks: int, tag: int) -> Round:
-    """Each rank sends to one further along, and takes what comes from as far behind."""
+    """Each rank sends to the rank `by` further on, and receives from the rank `by` before it."""
     by = random.randrange(ranks)
     return Round(
         [
@@ -39,7 +41,7 @@ def shift(ranks: int, tag: int) -> Round:
 
 
 def one_message(ranks: int, tag: int) -> Round:
-    """One rank sends an array, which another takes, behind a probe or not."""
+    """One rank sends an array and another receives it, with or without a probe before."""
     source, dest = random.randrange(ranks), random.randrange(ranks)
     waits = [f"probe {source}, {tag}", "print count"] if random.random() < 0.5 else []
     return Round(
@@ -58,7 +60,7 @@ def one_message(ranks: int, tag: int) -> Round:
 
 
 def gathered(ranks: int, tag: int) -> Round:
-    """All send to one rank, which takes them as they come, and prints each or their sum."""
+    """All ranks send to one, which receives from any source, and prints each value or their sum."""
     dest = random.randrange(ranks)
     shows = random.random() < 0.5
     return Round(
@@ -83,7 +85,7 @@ def gathered(ranks: int, tag: int) -> Round:
 
 
 def polled(ranks: int, tag: int) -> Round:
-    """One rank asks a few times whether its message is there, and then takes it."""
+    """One rank polls a few times for its message, and then receives it."""
     source, dest = random.randrange(ranks), random.randrange(ranks)
     return Round(
         [

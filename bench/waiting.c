@@ -1,4 +1,4 @@
-// How ranks may wait for each other: a model of ftmpi's turns on threads, and nothing else of it. bench/waiting says what for.
+// A model of the turns of ftmpi's threads, to compare how ranks may wait; bench/waiting runs it.
 #define _GNU_SOURCE
 #include <linux/futex.h>
 #include <pthread.h>
@@ -12,7 +12,7 @@
 
 enum { MOST_RANKS = 64 };
 
-// What a rank's act takes, and a turn in which it finds nothing.
+// The nanoseconds of an act, and of a turn that finds nothing.
 static const double ACT = 600, TURN = 80;
 
 struct Bell {
@@ -23,8 +23,8 @@ struct Bell {
 static struct Bell bells[MOST_RANKS];
 static pthread_barrier_t gate;
 static int ranks, rounds;
-// So many looks before a core is given away; so many waits without looks after some in vain; so many yields before a
-// sleep, or none for no sleep.
+// How often a rank polls before it yields; how many waits yield at once after polls in vain; how
+// many yields come before a sleep (0: none).
 static int looks, rests, yields;
 
 static double clock_of(clockid_t clock) {
@@ -77,7 +77,7 @@ static void take(int rank, unsigned *taken) {
     work(ACT);
 }
 
-// As a barrier is made: rank 0 hears from all others, and then tells them. Of two ranks that is a round trip.
+// A barrier: rank 0 hears from all others, and then answers them. With two ranks, a round trip.
 static void *live(void *argument) {
     int rank = (int)(long)argument;
     unsigned taken = 0;

@@ -1,4 +1,4 @@
-"""Runs of the examples, for the scripts that look at what `ftmpi` prints of each."""
+"""Runs of the examples, for the scripts that test what `ftmpi` prints of them."""
 
 from __future__ import annotations
 
@@ -12,7 +12,7 @@ from dataclasses import dataclass
 TOP = os.path.dirname(os.path.dirname(os.path.realpath(__file__)))
 SECONDS = 60
 NUMBERS = {"one": 1, "two": 2, "three": 3, "four": 4, "sixteen": 16}
-# Where the comment names no number.
+# If the comment names no number.
 RANKS = 2
 
 
@@ -22,7 +22,7 @@ class Wrong(Exception):
 
 @dataclass
 class Run:
-    """A program with the words of its run."""
+    """A program with the arguments of its run."""
 
     name: str
     path: str
@@ -31,7 +31,7 @@ class Run:
 
 
 def runs() -> Iterator[Run]:
-    """One run of each program, and one more where a script is there."""
+    """One run of each program, and one more for each script that it has."""
     for path in sorted(glob.glob(f"{TOP}/examples/*.rank")):
         name = os.path.basename(path).removesuffix(".rank")
         ranks = ranks_of(path)
@@ -43,7 +43,7 @@ def runs() -> Iterator[Run]:
 
 
 def ranks_of(path: str) -> int:
-    """The number of ranks in the comment in front of the program."""
+    """The number of ranks that the comment before the program names."""
     with open(path, encoding="utf-8", errors="replace") as file:
         comment = " ".join(line[1:].strip() for line in file if line.startswith("#"))
     for found in re.finditer(r"\b[Oo]n (\w+) ranks?\b", comment):
@@ -59,7 +59,7 @@ class Program:
         self.path = path
 
     def answer(self, *words: str) -> tuple[int, str, str]:
-        """The status, and what goes to standard output and to standard error."""
+        """The status, standard output and standard error."""
         try:
             done = subprocess.run([self.path, *words], capture_output=True, timeout=SECONDS, check=False, cwd=TOP)
         except subprocess.TimeoutExpired as it:
@@ -67,5 +67,5 @@ class Program:
         return done.returncode, done.stdout.decode("utf-8"), done.stderr.decode("utf-8", errors="replace")
 
     def output(self, *words: str) -> tuple[int, str]:
-        """The status, and what goes to standard output."""
+        """The status and standard output."""
         return self.answer(*words)[:2]

@@ -1,7 +1,9 @@
-/* Loaded under a program (LD_PRELOAD), refuses its Nth call for memory, and each later one too where that is asked for, and leaves a file as
- * a mark that it did. Where the program ends and has joined all threads that it made, it leaves another. N is REFUSED_CALL, whether all later ones
- * are refused is REFUSED_ONWARD, and the files are REFUSED_MARK and REFUSED_JOINED, all of the environment. No header is included, since the
- * toolchain's clang has none: what stands here is that of Linux on x86-64 with glibc. */
+/* Preloaded into a program (LD_PRELOAD), refuses its Nth memory allocation, and on request each
+ * later one too, and creates a file as a mark that it did. If the program ends and has joined all
+ * threads that it made, it creates another file. The environment gives N as REFUSED_CALL, the
+ * request to refuse all later ones as REFUSED_ONWARD, and the files as REFUSED_MARK and
+ * REFUSED_JOINED. No header is included, because the toolchain's clang has none: the declarations
+ * are those of Linux on x86-64 with glibc. */
 
 typedef unsigned long size;
 typedef void *(*body)(void *);

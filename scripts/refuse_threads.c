@@ -1,6 +1,7 @@
-/* Loaded under a program (LD_PRELOAD), refuses its Nth call of pthread_create with EAGAIN, and leaves a file as a mark that it did. N is
- * REFUSED_CALL, and the file is REFUSED_MARK, both of the environment. No header is included, since the toolchain's clang has none: what
- * stands here is that of Linux on x86-64. */
+/* Preloaded into a program (LD_PRELOAD), refuses its Nth call of pthread_create with EAGAIN, and
+ * creates a file as a mark that it did. The environment gives N as REFUSED_CALL, and the file as
+ * REFUSED_MARK. No header is included, because the toolchain's clang has none: the declarations are
+ * those of Linux on x86-64. */
 
 typedef void *(*body)(void *);
 typedef int (*creator)(unsigned long *, const void *, body, void *);

@@ -1,4 +1,4 @@
-"""Runs programs of which calls to the C library are refused, one call a run or all from one on."""
+"""Fault injection: runs programs with a call to the C library refused, or all calls from one on."""
 
 from __future__ import annotations
 
@@ -16,25 +16,25 @@ OUT_OF_MEMORY = 4
 
 
 class Answer(NamedTuple):
-    """What a run of a program gave."""
+    """The status and the output of a run."""
 
-    status: int | None  # none where it had to be ended
-    printed: str
-    said: str
+    status: int | None  # None if it took too long and was ended
+    printed: str  # on standard output
+    errors: str  # on standard error
 
     def is_out_of_memory(self) -> bool:
-        """Whether it ended as for want of memory, and printed nothing."""
-        return self.status == OUT_OF_MEMORY and "out of memory" in self.said and not self.printed
+        """Whether it ended as out of memory, and printed nothing."""
+        return self.status == OUT_OF_MEMORY and "out of memory" in self.errors and not self.printed
 
     def brief(self) -> str:
-        """Its status, and what it said on standard error."""
-        return "it doesn't end" if self.status is None else f"status {self.status}, {self.said.strip()[:200] or 'nothing said'}"
+        """Its status, and its standard error."""
+        return "it doesn't end" if self.status is None else f"status {self.status}, {self.errors.strip()[:200] or 'no message'}"
 
     def __str__(self) -> str:
         if self.status is None:
             return "it doesn't end"
-        told = "; ".join(part for part in (self.said.strip(), self.printed.strip()) if part)
-        return f"status {self.status}, {told[:200] or 'nothing printed'}"
+        text = "; ".join(part for part in (self.errors.strip(), self.printed.strip()) if part)
+        return f"status {self.status}, {text[:200] or 'nothing printed'}"
 
 
 class Setting(NamedTuple):
@@ -44,7 +44,7 @@ class Setting(NamedTuple):
     words: list[str]
 
     def whole(self, seconds: float) -> Answer:
-        """What it prints where nothing is refused."""
+        """Its answer if nothing is refused."""
         answer = played(self.words, {}, seconds)
         if answer.status != 0:
             sys.exit(f"{self.name}: it fails with nothing refused: {answer}")
@@ -52,7 +52,7 @@ class Setting(NamedTuple):
 
 
 class Tried(NamedTuple):
-    """What came of a setting: a line, and its faults."""
+    """The result of a setting: a line, and its faults."""
 
     line: str
     faults: list[str]
@@ -64,7 +64,8 @@ class Tried(NamedTuple):
 
 
 class Refused(NamedTuple):
-    """What a run gave, whether it came to the refused call, and whether it was seen to end with all its threads joined, where the shim looks."""
+    """The answer of a run, whether it reached the refused call, and whether the shim (if it looks)
+    saw all threads joined at its end."""
 
     answer: Answer
     was_refused: bool
@@ -72,18 +73,18 @@ class Refused(NamedTuple):
 
 
 class Shim:
-    """A library that is loaded under a program, and refuses its Nth call of what the library's source names."""
+    """A library that is preloaded into a program and refuses its Nth call of certain functions."""
 
     def __init__(self, source: str, folder: str) -> None:
-        """Builds scripts/SOURCE in the folder, by the toolchain's clang, or else by cc."""
+        """Builds scripts/SOURCE in the folder, with the toolchain's clang, or else with cc."""
         self.path = f"{folder}/{source}.so"
         ours = f"{Kit().folder}/toolchain/bin/clang"
         words = [ours if os.access(ours, os.X_OK) else "cc", "-nostdlib", "-shared", "-fPIC", "-O1", "-fno-builtin"]
         subprocess.run([*words, "-o", self.path, f"{HERE}/{source}"], check=True)
 
     def refusing(self, call: int, play: Callable[[dict[str, str]], Answer], **more: str) -> Refused:
-        """What a play gives when it gets an environment in which this call is refused; more goes into that too. Plays of other calls may be
-        at work beside it."""
+        """The answer of a run in an environment in which this call is refused; more goes into the
+        environment too. Runs with other calls refused may be at work at the same time."""
         mark, joined = f"{self.path}.mark.{call}", f"{self.path}.joined.{call}"
         ours = {"LD_PRELOAD": self.path, "REFUSED_CALL": str(call), "REFUSED_MARK": mark, "REFUSED_JOINED": joined}
         answer = play({**ours, **more})
@@ -91,7 +92,7 @@ class Shim:
 
 
 def is_taken_away(mark: str) -> bool:
-    """Whether the mark was there; it isn't then."""
+    """Removes the mark. Returns whether it was there."""
     try:
         os.remove(mark)
         return True
@@ -100,7 +101,7 @@ def is_taken_away(mark: str) -> bool:
 
 
 def played(words: list[str], environment: dict[str, str], seconds: float, **more: object) -> Answer:
-    """Runs a program for at most so many seconds."""
+    """Runs a program, for at most so many seconds."""
     how = {"stdin": subprocess.DEVNULL, "stdout": subprocess.PIPE, "stderr": subprocess.PIPE, "text": True, "errors": "replace"}
     try:
         run = subprocess.run(words, env={**os.environ, **environment}, timeout=seconds, **how, **more)
@@ -110,7 +111,8 @@ def played(words: list[str], environment: dict[str, str], seconds: float, **more
 
 
 def copy_of_program(path: str, folder: str) -> str:
-    """A copy of the program in the folder, which any user may run: it stays as it is while the repository's is built anew."""
+    """A copy of the program in the folder. Any user may run it, and it stays the same if the
+    repository's program is rebuilt meanwhile."""
     copy = f"{folder}/{os.path.basename(path)}"
     shutil.copyfile(path, copy)
     os.chmod(copy, 0o755)

@@ -1,4 +1,4 @@
-"""The ways in which a build ends: a fault that is told, or a signal."""
+"""The ways in which a build ends: an error that is reported, or a signal."""
 
 from __future__ import annotations
 
@@ -14,7 +14,7 @@ class NotBuilt(Exception):
 
 
 class Stopped(Exception):
-    """A signal asked this script to end."""
+    """A signal ended this script."""
 
     def __init__(self, number: int) -> None:
         super().__init__(number)
@@ -22,13 +22,13 @@ class Stopped(Exception):
 
 
 def take_signals() -> dict[int, object]:
-    """Has the signals that end this script raise Stopped, and returns what they did before."""
+    """Makes the signals that end this script raise Stopped. Returns their former handlers."""
 
     def stop(number: int, _: object) -> NoReturn:
         ignore_signals()
         raise Stopped(number)
 
-    # (what waits for the end of a child asks for this one)
+    # (proving.Build.wait waits for this signal)
     signal.pthread_sigmask(signal.SIG_BLOCK, [signal.SIGCHLD])
     return {it: signal.signal(it, stop) for it in ENDING if signal.getsignal(it) is not signal.SIG_IGN}
 
@@ -39,16 +39,16 @@ def ignore_signals() -> None:
 
 
 def give_back_signals(before: dict[int, object]) -> None:
-    """Leaves the signals to a program that takes this script's place as this script was given them."""
+    """Restores the signals as this script found them, for the program that takes its place."""
     for it, was in before.items():
         signal.signal(it, signal.SIG_DFL if was is signal.default_int_handler else was)
-    # (Python ignores these two, which a program would inherit)
+    # (Python ignores these two, and a program would inherit that)
     for it in (signal.SIGPIPE, signal.SIGXFSZ):
         signal.signal(it, signal.SIG_DFL)
     signal.pthread_sigmask(signal.SIG_UNBLOCK, [signal.SIGCHLD])
 
 
 def die_by(number: int) -> None:
-    """Ends this process by the signal, so that whoever waits for it sees that."""
+    """Ends this process by the signal, so that its parent sees that."""
     signal.signal(number, signal.SIG_DFL)
     os.kill(os.getpid(), number)

@@ -1,4 +1,4 @@
-"""Texts and sums of files."""
+"""Contents and checksums of files."""
 
 import hashlib
 import os
@@ -9,14 +9,18 @@ def text_of(path: str) -> str:
         return file.read()
 
 
+def bytes_of(path: str) -> bytes:
+    with open(path, "rb") as file:
+        return file.read()
+
+
 def write(path: str, text: str) -> None:
     with open(path, "w", encoding="utf-8") as file:
         file.write(text)
 
 
 def sum_of_file(path: str) -> str:
-    """The sum of a file's contents. A link or a pipe is none that rt takes, and only counts as one."""
+    """The checksum of a file's contents. A link or a pipe gets a fixed word: rt doesn't read it."""
     if os.path.islink(path) or not os.path.isfile(path):
         return "no plain file"
-    with open(path, "rb") as file:
-        return hashlib.sha256(file.read()).hexdigest()
+    return hashlib.sha256(bytes_of(path)).hexdigest()

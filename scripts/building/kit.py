@@ -1,4 +1,4 @@
-"""The toolchain whose `rt` is on the path, and the crates as that knows them."""
+"""The toolchain whose `rt` is on the path, and the crates as this `rt` knows them."""
 
 from __future__ import annotations
 
@@ -28,8 +28,9 @@ class Kit:
         return text_of(self.file).strip()
 
     def rt(self) -> ModuleType:
-        """The module of `rt`, which knows the words that rattle wants for a crate and what a program may call. (No command of rt builds a
-        program over statements alone, and none keeps nothing; its parts are called here as its own commands call them.)"""
+        """The module of `rt`. It knows the arguments that rattle needs for a crate, and what a
+        program may call. (No command of rt builds a program from statements alone, and none keeps
+        nothing. So its functions are called here as its own commands call them.)"""
         loader = importlib.machinery.SourceFileLoader("rt", f"{self.folder}/bin/rt")
         module = importlib.util.module_from_spec(importlib.util.spec_from_loader("rt", loader))
         loader.exec_module(module)
@@ -37,7 +38,7 @@ class Kit:
 
 
 def crates_of(sources: Sources, rt: ModuleType, group: Group) -> dict[str, Any]:
-    """The crates as rt knows them, lowest first, held to what HANDLES allows."""
+    """The crates as rt knows them, lowest first, limited to what HANDLES allows."""
 
     class Crate(rt.Crate):
         allowed = rt.handles_of(sources.top)

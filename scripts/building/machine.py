@@ -1,4 +1,4 @@
-"""The processors and the memory that there are."""
+"""The processors and the memory of this machine."""
 
 from __future__ import annotations
 
@@ -13,7 +13,7 @@ MEGABYTE = 1_000_000
 
 
 def groups(controller: str) -> Iterator[str]:
-    """The folders of this process's control group and of those above it, in either version."""
+    """The folders of this process's control group and of those above it, of cgroups v1 and v2."""
     with contextlib.suppress(OSError):
         for line in text_of("/proc/self/cgroup").splitlines():
             _, names, path = line.split(":", 2)
@@ -24,7 +24,7 @@ def groups(controller: str) -> Iterator[str]:
 
 
 def number_in(path: str, pattern: str) -> int | None:
-    """The number that the pattern finds in a file, if there are both."""
+    """The number that the pattern finds in a file, if the file and a match exist."""
     with contextlib.suppress(OSError):
         found = re.search(pattern, text_of(path), re.M)
         return int(found[1]) if found else None
@@ -32,7 +32,7 @@ def number_in(path: str, pattern: str) -> int | None:
 
 
 def processors() -> int:
-    """The processors that this process may run on, or fewer by the quota of its control groups."""
+    """The processors that this process may run on, or fewer if its control groups have a quota."""
     found = len(os.sched_getaffinity(0))
     for at in groups("cpu"):
         quota = number_in(f"{at}/cpu.max", r"^(\d+) ") or number_in(f"{at}/cpu.cfs_quota_us", r"^(\d+)")
@@ -43,7 +43,8 @@ def processors() -> int:
 
 
 def free_megabytes() -> float:
-    """The memory that may be planned on: most of what is free, under the limits of the control groups too."""
+    """The memory to plan with: 85 % of what is free, also within the limits of the control
+    groups."""
     found = [1024 * (number_in("/proc/meminfo", r"^MemAvailable:\s+(\d+)") or 4_000_000)]
     for at in groups("memory"):
         limit = number_in(f"{at}/memory.max", r"^(\d+)") or number_in(f"{at}/memory.limit_in_bytes", r"^(\d+)")

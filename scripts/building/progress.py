@@ -1,4 +1,4 @@
-"""What is said while a program is built."""
+"""The messages during a build."""
 
 from __future__ import annotations
 
@@ -14,12 +14,13 @@ class Outlook(NamedTuple):
 
     done: int
     crates: int
-    work: float  # processor seconds that are left
-    seconds: float  # seconds by the clock that are left, at the speed that was measured
+    work: float  # processor seconds that remain
+    seconds: float  # seconds that remain, at the speed that was measured
 
 
 class Progress:
-    """Says on standard error how far the build is: on a terminal in one line that is written anew, elsewhere in a line a crate."""
+    """Shows on standard error how far the build is: on a terminal in one line that is redrawn,
+    elsewhere in a line per crate."""
 
     first: Outlook
 
@@ -33,10 +34,11 @@ class Progress:
 
     def begin(self, first: Outlook) -> None:
         self.first = first
-        self.say(f"it isn't built, or something changed since: all {first.crates} crates are proved first, {in_words(first.seconds)}")
+        self.say(f"not built, or a source changed: first all {first.crates} crates are proved, {in_words(first.seconds)}")
 
     def seconds_left(self, now: Outlook) -> float:
-        """What is left at the speed that was measured, times how much slower than that it has gone; at first that speed counts too."""
+        """The seconds that remain, scaled by how much slower than measured the build is so far. At
+        the beginning the measured speed counts too."""
         passed, planned = time.monotonic() - self.started, self.first.seconds - now.seconds
         return now.seconds * (passed + 60) / (max(planned, 0) + 60)
 
@@ -46,7 +48,7 @@ class Progress:
             self.say(f"{now.done} of {now.crates}: {crate} is proved, {took}; {in_words(self.seconds_left(now))}")
 
     def show(self, outlook: Callable[[], Outlook], names: list[str]) -> None:
-        """Writes the line of a terminal anew, at most once in half a second."""
+        """Redraws the line of a terminal, at most every half second."""
         if not self.is_terminal or time.monotonic() - self.shown < 0.5:
             return
         self.shown, now = time.monotonic(), outlook()
@@ -56,7 +58,7 @@ class Progress:
         print(f"\r{line[: shutil.get_terminal_size().columns - 1]}\x1b[K", end="", file=sys.stderr, flush=True)
 
     def clear(self) -> None:
-        """Takes the line of a terminal away."""
+        """Clears the line of a terminal."""
         if self.is_terminal:
             print("\r\x1b[K", end="", file=sys.stderr, flush=True)
 

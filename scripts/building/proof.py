@@ -22,12 +22,13 @@ class Proof:
     def __init__(self, crate: Any, jobs: int, niceness: int, group: Group) -> None:
         self.crate, self.started = crate, time.monotonic()
         os.makedirs(f"{crate.folder}/out/rlib", exist_ok=True)
-        self.file = f"{crate.folder}/out/said"
+        self.file = f"{crate.folder}/out/output"
         with open(self.file, "w", encoding="utf-8") as out:
             self.process = group.start([crate.rattle, *words_for(crate, jobs)], crate.folder, out, niceness)
 
     def ended(self) -> bool:
-        """Whether rattle has ended. If so, the status is its own, or the negative number of the signal that killed it."""
+        """Whether rattle has ended. If so, `status` is its exit status, or minus the signal that
+        killed it."""
         pid, status, usage = os.wait4(self.process.pid, os.WNOHANG)
         if not pid:
             return False
@@ -36,7 +37,8 @@ class Proof:
         return True
 
     def seconds(self) -> float:
-        """The processor seconds that the proof has taken until now, its ended copies' and those of the copies at work."""
+        """The processor seconds that the proof has taken until now, with those of its child
+        processes."""
         ticks = sum(ticks_of(pid) for pid in [self.process.pid, *children_of(self.process.pid)])
         return ticks / os.sysconf("SC_CLK_TCK")
 
@@ -44,24 +46,26 @@ class Proof:
         return self.status == -signal.SIGKILL
 
     def fault(self, verdict: re.Pattern[str]) -> str | None:
-        """Why a proof that has ended doesn't count, if it doesn't. The pattern is that of a last line by which all is proved."""
-        said = text_of(self.file)
-        why = self.why(said, verdict)
-        return f"{why}\n{what_counts(said)}" if why else None
+        """Why a proof that has ended doesn't count, if it doesn't. The pattern matches the last
+        line of a complete proof."""
+        output = text_of(self.file)
+        why = self.why(output, verdict)
+        return f"{why}\n{what_counts(output)}" if why else None
 
-    def why(self, said: str, verdict: re.Pattern[str]) -> str | None:
+    def why(self, output: str, verdict: re.Pattern[str]) -> str | None:
         if self.is_killed():
-            return "its check was killed again, most likely for memory"
+            return "its check was killed again, most likely because memory ran out"
         if self.status:
-            return full_disk(self.crate.folder, said) or f"not proved (rattle ended with {self.status}); it said:"
-        if not verdict.search(said):
-            return "rattle's last line doesn't say that it is proved; it said:"
-        beyond = self.crate.beyond(said.rstrip("\n").rpartition("\n")[2], False)
-        return f"{beyond}; rattle said:" if beyond else None
+            return full_disk(self.crate.folder, output) or f"not proved (rattle ended with status {self.status}); its output:"
+        if not verdict.search(output):
+            return "the last line of rattle doesn't say that all is proved; its output:"
+        beyond = self.crate.beyond(output.rstrip("\n").rpartition("\n")[2], False)
+        return f"{beyond}; output of rattle:" if beyond else None
 
 
 def words_for(crate: Any, jobs: int) -> list[str]:
-    """The words for rattle: as those of rt, a library's rlib with its statements alone, a program by LLVM."""
+    """The arguments for rattle, like those of rt, but with statements alone for a library, and
+    with LLVM for a program."""
     words = ["build", *crate.words(["--jobs", str(jobs)], keeps=False)]
     if crate.is_program:
         return [*words, "--toolchain", f"{crate.kit}/toolchain", "--backend", "llvm", "-o", f"out/{crate.name}.o"]
@@ -69,26 +73,27 @@ def words_for(crate: Any, jobs: int) -> list[str]:
 
 
 def link(crate: Any) -> str | None:
-    """Links a proved program, and returns why it couldn't be, if so."""
-    said = f"{crate.folder}/out/said"
-    with open(said, "w", encoding="utf-8") as crate.out:
+    """Links a proved program. Returns why it failed, if it did."""
+    output = f"{crate.folder}/out/output"
+    with open(output, "w", encoding="utf-8") as crate.out:
         status = crate.link(f"out/{crate.name}.o", f"out/{crate.name}")
     if not status:
         return None
-    return f"{full_disk(crate.folder, text_of(said)) or 'it could not be linked'}\n{text_of(said)}"
+    return f"{full_disk(crate.folder, text_of(output)) or 'it could not be linked'}\n{text_of(output)}"
 
 
-def what_counts(said: str) -> str:
-    """What rattle said of a crate that it refused, without the lines on what went well."""
+def what_counts(output: str) -> str:
+    """The output of rattle about a crate that it refused, without the lines about what it
+    proved."""
     dull = re.compile(r"(statements|libraries|logic) \S+: |.*: proved$|(fn|enum|struct|trait|impl|const) \S+: (proved|assumed)")
-    lines = [line for line in said.splitlines() if not dull.match(line)]
-    return "\n".join(lines[:200] or said.splitlines()[-20:])
+    lines = [line for line in output.splitlines() if not dull.match(line)]
+    return "\n".join(lines[:200] or output.splitlines()[-20:])
 
 
-def full_disk(folder: str, said: str) -> str | None:
-    """What to say where the disk is full, or was when a command failed."""
+def full_disk(folder: str, output: str) -> str | None:
+    """The message if the disk is full, or was full when a command failed."""
     free = shutil.disk_usage(folder).free / MEGABYTE
-    is_full = free < 50 or os.strerror(errno.ENOSPC) in said
+    is_full = free < 50 or os.strerror(errno.ENOSPC) in output
     return f"the disk that holds {folder} is full ({free:.0f} MB are free): make room, or set TMPDIR" if is_full else None
 
 

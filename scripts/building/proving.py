@@ -3,6 +3,7 @@
 from __future__ import annotations
 
 import signal
+from collections.abc import Iterator
 from types import ModuleType
 
 from .ending import NotBuilt
@@ -15,22 +16,25 @@ from .schedule import Schedule
 from .sources import Sources
 from .weights import Weights, lines_of
 
-# What isn't on the longest chain gets only what that leaves of the processors.
+# Crates that aren't on the longest chain get only the processor time that this chain leaves.
 NICENESS = 15
 
 
 class Build:
-    def __init__(self, sources: Sources, rt: ModuleType, group: Group, progress: Progress) -> None:
+    def __init__(self, sources: Sources, rt: ModuleType, group: Group, progress: Progress, beside: Iterator[int]) -> None:
+        """`beside` makes a preview. It gets a step at least each second, and yields the megabytes to
+        reserve for it."""
         self.group, self.progress, self.verdict = group, progress, rt.rtlib.VERDICT
         self.crates = crates_of(sources, rt, group)
         below = {name: [it.name for it in crate.below()] for name, crate in self.crates.items()}
         self.schedule = Schedule(below, Weights(lines_of(sources)), processors(), free_megabytes())
-        self.proofs: dict[str, Proof] = {}
+        self.proofs, self.beside = dict[str, Proof](), beside
 
     def run(self) -> str:
         """Proves all and returns the path of the linked program."""
         self.progress.begin(self.outlook())
         while self.schedule.left or self.proofs:
+            self.schedule.reserved = next(self.beside, 0)
             self.start_what_can()
             self.wait()
         program = [*self.crates.values()][-1]
@@ -55,9 +59,10 @@ class Build:
         self.show()
 
     def end(self, name: str, proof: Proof) -> None:
-        """Takes a proof that has ended: it holds, or it is tried again alone where it was killed for memory, or all ends."""
+        """Handles a proof that has ended. If it was killed, most likely because memory ran out, it
+        is tried once more, alone. Any other failure ends the build."""
         if proof.is_killed() and self.schedule.is_killed(name):
-            self.progress.say(f"{name}: its check was killed, most likely for memory: once more alone, with one job")
+            self.progress.say(f"{name}: its check was killed, most likely because memory ran out; it runs again alone, with one job")
             return
         why = proof.fault(self.verdict)
         if why:

@@ -1,4 +1,4 @@
-"""What is kept beside a program, and what find says of its sources."""
+"""The file beside a program that says from what it was built."""
 
 from __future__ import annotations
 
@@ -12,19 +12,20 @@ from typing import NamedTuple
 
 from .files import text_of, write
 
-# What find says of a file, or of a folder: each change of what it holds changes one of these. The launcher has the same words.
+# What find prints about a file or folder: inode, size, time of change and path. A change of its
+# contents changes one of these. The launcher has the same format.
 SEEN_BY_FIND = r"%i %s %C@ %P\n"
 
 
 class Record(NamedTuple):
-    """What CRATE.sum holds, a line each. The launcher reads the first three, and the rest is for scripts/built."""
+    """The contents of CRATE.sum, a line each. The launcher reads the first three lines."""
 
-    seen: str  # a sum of what find said of the places and of the kit when the sources were last read, or nothing
+    seen: str  # checksum of find's output when the sources were last read, or nothing
     places: str
-    kit_file: str  # the file with the kit's identity, or nothing
+    kit_file: str  # the file with the toolchain's identity, or nothing
     sources: str
     kit: str
-    program: str  # the sum of the program
+    program: str  # checksum of the program
 
     @classmethod
     def read(cls, path: str) -> Record | None:
@@ -38,10 +39,11 @@ class Record(NamedTuple):
 
 
 def seen_now(top: str, places: list[str], kit_file: str) -> str:
-    """A sum of what find says of these places, and of `rt` and the kit: as the launcher makes it."""
+    """A checksum of what find prints about these places, `rt` and the toolchain: as the launcher
+    computes it."""
     paths = [*(f"{top}/{it}" for it in places), shutil.which("rt") or "", kit_file]
     words = ["find", "-H", *paths, "-printf", SEEN_BY_FIND]
     ran = subprocess.run(words, stdout=subprocess.PIPE, stderr=subprocess.DEVNULL, env={**os.environ, "LC_ALL": "C"})
-    # (a file that changes again within the clock's tick in which find saw it is read after that tick)
+    # (a change within the same clock tick would go unseen; so wait until the tick is over)
     time.sleep(0.02)
     return hashlib.sha256(ran.stdout).hexdigest() if ran.stdout else "unknown"

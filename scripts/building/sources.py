@@ -1,4 +1,4 @@
-"""The crates that a program is made of, and the sum of their files."""
+"""The crates of a program, and the checksum of their files."""
 
 from __future__ import annotations
 
@@ -25,13 +25,15 @@ class Sources:
         self.lines = {it: lines[it] for it in with_those_below(name, lines)}
 
     def files(self) -> Iterator[str]:
-        """All files that a check of these crates reads, by their paths in the repository, in one order."""
+        """The files that a check of these crates reads: their paths in the repository, in a fixed
+        order."""
         for name in sorted(self.lines):
             for path in files_of_crate(f"{self.top}/crates/{name}"):
                 yield os.path.relpath(path, self.top)
 
     def sum(self, kit: str) -> str:
-        """A sum over the paths and contents of all files, the crates' lines, what the program may call, and the kit."""
+        """A checksum of the paths and contents of all files, the crates' lines, HANDLES and the
+        toolchain."""
         handles = text_of(f"{self.top}/HANDLES") if os.path.exists(f"{self.top}/HANDLES") else None
         total = hashlib.sha256(repr((sorted(self.lines.items()), handles, kit)).encode())
         for path in self.files():
@@ -39,11 +41,12 @@ class Sources:
         return total.hexdigest()
 
     def places(self) -> list[str]:
-        """The files and folders, by their paths in the repository, in which any change of these sources is seen."""
+        """The files and folders, as paths in the repository, in which a change of the sources
+        shows."""
         return ["crates.txt", "HANDLES", *(f"crates/{name}/{part}" for name in self.lines for part in PARTS)]
 
     def copy_to(self, folder: str) -> Sources:
-        """Copies these crates alone, so that nothing that is edited from here on is built."""
+        """Copies these crates, so that later edits don't reach the build."""
         for path in self.files():
             os.makedirs(os.path.dirname(f"{folder}/{path}"), exist_ok=True)
             shutil.copyfile(f"{self.top}/{path}", f"{folder}/{path}", follow_symlinks=False)
@@ -54,7 +57,7 @@ class Sources:
 
 
 def files_of_crate(folder: str) -> Iterator[str]:
-    """The files of a crate that a check reads, in one order."""
+    """The files of a crate that a check reads, in a fixed order."""
     for part in PARTS:
         for at, folders, files in os.walk(f"{folder}/{part}"):
             folders.sort()
@@ -62,13 +65,13 @@ def files_of_crate(folder: str) -> Iterator[str]:
 
 
 def crate_lines(text: str) -> dict[str, str]:
-    """The lines of crates.txt by the names of their crates, without comments."""
+    """The lines of crates.txt by crate, without comments."""
     lines = (" ".join(line.partition("#")[0].split()) for line in text.splitlines())
     return {re.split("[ :]", line)[0]: line for line in lines if line}
 
 
 def with_those_below(name: str, lines: dict[str, str]) -> list[str]:
-    """The crate after all of the repository's crates that it stands on."""
+    """All crates of this repository below the crate, and then the crate itself."""
     found: list[str] = []
     for below in lines[name].partition(":")[2].replace(",", " ").split():
         if below in lines:

@@ -1,4 +1,4 @@
-"""What each crate's proofs are expected to take."""
+"""The expected cost of each crate's proofs."""
 
 from __future__ import annotations
 
@@ -9,7 +9,8 @@ from .sources import Sources
 
 
 def measured() -> dict[str, tuple[int, int, int]]:
-    """For each crate of measured.txt its processor seconds, those of one process alone, and its megabytes."""
+    """For each crate of measured.txt: its processor seconds, those with one process, its
+    megabytes."""
     text = text_of(f"{os.path.dirname(__file__)}/measured.txt")
     rows = [line.split() for line in text.splitlines() if not line.startswith("#")]
     return {name: (int(seconds), int(alone), int(megabytes)) for name, seconds, alone, megabytes in rows}
@@ -24,11 +25,12 @@ class Weights:
         return self.measured[name][0] if name in self.measured else 12 + 0.07 * self.lines[name]
 
     def seconds_alone(self, name: str) -> float:
-        """Those of its seconds that no second processor shortens."""
+        """Those of its seconds that a second processor doesn't shorten."""
         return self.measured[name][1] if name in self.measured else 12 + 0.005 * self.lines[name]
 
     def megabytes(self, name: str, jobs: int) -> int:
-        """The memory to plan on: a fifth more than was measured at 4 jobs, and less for fewer jobs."""
+        """The memory to plan with: a fifth more than measured with 4 jobs, and less for fewer
+        jobs."""
         at_four = 1.2 * self.measured[name][2] if name in self.measured else 1500 + 0.4 * self.lines[name]
         return int(at_four * (0.55 + 0.15 * min(jobs, 4)) + 300 * max(jobs - 4, 0))
 

@@ -1,4 +1,4 @@
-"""Whether a program is built, and how it is."""
+"""Whether a program is built; builds it and installs it."""
 
 from __future__ import annotations
 
@@ -12,6 +12,7 @@ from collections.abc import Iterator
 
 from .files import sum_of_file
 from .kit import Kit
+from .preview import Preview, alone, beside
 from .progress import Progress
 from .proving import Build
 from .record import Record, seen_now
@@ -36,11 +37,12 @@ class Program:
         return Record.read(f"{self.path}.sum")
 
     def keep(self, record: Record, seen: str) -> None:
-        """Writes the record. What find says from here on is compared with what it said."""
+        """Writes the record. Later calls compare find's output with that in the record."""
         record._replace(seen=seen, places=" ".join(self.places), kit_file=self.kit.file).write(f"{self.path}.sum")
 
     def is_built(self) -> bool:
-        """Whether it is there as it was built, from these sources and by this kit. With no kit at hand, the builder's counts."""
+        """Whether the program exists as it was built, from these sources and by this toolchain. If
+        there is no toolchain on the path, the recorded one counts."""
         record = self.record()
         return record is not None and self.is_same(record)
 
@@ -51,23 +53,32 @@ class Program:
         return (record.sources, record.kit) == (Sources(TOP, self.name).sum(identity), identity)
 
 
-def build(name: str) -> str:
-    """Builds the program if it isn't built, and returns its path."""
+def build(name: str, words: list[str] | None = None) -> str:
+    """Builds the program if it isn't built, and returns its path. With words, a preview shows
+    meanwhile what the program prints when it is called with them."""
     program = Program(name)
     os.makedirs(os.path.dirname(program.path), exist_ok=True)
     with locked(f"{TOP}/crates", name):
-        # (find first: what changes from here on is seen at the next start)
+        # (find runs first, so the next start sees any later change)
         seen, record = program.seen(), program.record()
         if record is None or not program.is_same(record):
-            record = build_anew(program)
-            # (where a source has changed meanwhile, the next start looks at the sums)
+            record = build_anew(program, words)
+            # (if a source changed meanwhile, the next start compares checksums)
             seen = program.seen() if program.is_same(record) else ""
         program.keep(record, seen)
     return program.path
 
 
-def build_anew(program: Program) -> Record:
-    """Proves and builds a copy of the sources, puts the program in its place, and returns what it was built from."""
+def preview(name: str, words: list[str]) -> int:
+    """Runs the program unproved, and returns its exit status."""
+    program = Program(name)
+    program.kit.identity()
+    with room() as folder, Group(folder) as group:
+        return alone(lambda: Preview(program.sources, program.kit, words, group), name)
+
+
+def build_anew(program: Program, words: list[str] | None) -> Record:
+    """Proves and builds a copy of the sources, installs the program, and returns its record."""
     identity, progress, begin = program.kit.identity(), Progress(program.name), time.monotonic()
     with contextlib.ExitStack() as ending:
         ending.callback(progress.clear)
@@ -75,13 +86,14 @@ def build_anew(program: Program) -> Record:
         group = ending.enter_context(Group(folder))
         copied = program.sources.copy_to(folder)
         sources = copied.sum(identity)
-        put(Build(copied, program.kit.rt(), group, progress).run(), program.path)
+        shown = iter(()) if words is None else beside(copied, lambda: Preview(copied, program.kit, words, group), progress)
+        put(Build(copied, program.kit.rt(), group, progress, shown).run(), program.path)
         progress.say(f"proved and built in {(time.monotonic() - begin) / 60:.1f} minutes")
     return Record("", "", "", sources, identity, sum_of_file(program.path))
 
 
 def put(built: str, path: str) -> None:
-    """Puts the program in its place in one step."""
+    """Installs the program in one step."""
     new = f"{os.path.dirname(path)}/.{os.path.basename(path)}.new"
     try:
         shutil.copyfile(built, new)
@@ -94,7 +106,7 @@ def put(built: str, path: str) -> None:
 
 @contextlib.contextmanager
 def locked(folder: str, name: str) -> Iterator[None]:
-    """Has one call at a time build in this repository: a second one waits."""
+    """Lets one call at a time build in this repository; others wait."""
     lock = os.open(folder, os.O_RDONLY)
     try:
         # (some file systems have no locks)
@@ -102,7 +114,7 @@ def locked(folder: str, name: str) -> Iterator[None]:
             try:
                 fcntl.flock(lock, fcntl.LOCK_EX | fcntl.LOCK_NB)
             except BlockingIOError:
-                print(f"{name}: another call builds in this repository: waiting for it", file=sys.stderr, flush=True)
+                print(f"{name}: waiting for another build in this repository", file=sys.stderr, flush=True)
                 fcntl.flock(lock, fcntl.LOCK_EX)
         yield
     finally:

@@ -1,4 +1,4 @@
-"""Which changes have the program built again, and which don't."""
+"""Which changes cause a rebuild, and which don't."""
 
 import os
 import shutil

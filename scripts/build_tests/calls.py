@@ -1,4 +1,4 @@
-"""What a call of the launcher, or of scripts/built, gives."""
+"""What a call of the launcher, or of scripts/built, does."""
 
 import contextlib
 import glob
@@ -11,8 +11,8 @@ from .stage import Stage, text_of, write
 
 
 def anew_builds_what_is_needed_in_order(stage: Stage) -> None:
-    status, printed, said = stage.call("a  b", "", "--", "c")
-    assert (status, printed) == (0, "a  b  -- c\n"), (status, printed, said)
+    status, printed, errors = stage.call("a  b", "", "--", "c")
+    assert (status, printed) == (0, "a  b  -- c\n"), (status, printed, errors)
     log = stage.log()
     assert sorted(it.split()[1] for it in log if it.startswith("begin")) == ["ftmpi", "low", "middle", "side"], log
     assert log.index("end low") < next(n for n, it in enumerate(log) if it.startswith("begin middle")), log
@@ -21,7 +21,7 @@ def anew_builds_what_is_needed_in_order(stage: Stage) -> None:
     left = [it for it in glob.glob(f"{stage.top}/crates/*/out") if it != stage.out]
     assert not left and not stage.rooms_left(), (left, stage.rooms_left())
     for name in ("low", "side", "middle", "ftmpi"):
-        assert f"{name} is proved" in said, said
+        assert f"{name} is proved" in errors, errors
 
 
 def a_second_call_builds_nothing_and_starts_no_python(stage: Stage) -> None:
@@ -45,8 +45,8 @@ def with_no_kit_at_hand_what_is_built_runs(stage: Stage) -> None:
     assert stage.call("x", PATH=path)[:2] == (0, "x\n")
     assert stage.call("x", PATH=path)[:2] == (0, "x\n")
     stage.change("crates/low/src/lib.rt")
-    status, _, said = stage.call(PATH=path)
-    assert status == 125 and "no `rt` on the path" in said, (status, said)
+    status, _, errors = stage.call(PATH=path)
+    assert status == 125 and "no `rt` on the path" in errors, (status, errors)
 
 
 def works_from_anywhere(stage: Stage) -> None:
@@ -82,12 +82,12 @@ def the_script_builds_another_program_and_refuses_what_is_none(stage: Stage) -> 
     write(f"{stage.top}/crates/shown/src/main.rt", "// shown\n")
     stage.change("crates.txt", text_of(f"{stage.top}/crates.txt") + "shown: low\n")
     built = [f"{stage.top}/scripts/built"]
-    status, _, said = stage.call("shown", program=built)
-    assert status == 0 and os.access(f"{stage.top}/crates/shown/out/shown", os.X_OK), said
+    status, _, errors = stage.call("shown", program=built)
+    assert status == 0 and os.access(f"{stage.top}/crates/shown/out/shown", os.X_OK), errors
     assert stage.call("shown", "--", "x", program=built)[:2] == (0, "x\n")
     for word, why in (("low", "is a library"), ("none", "no crate none"), ("--none", "usage")):
-        status, _, said = stage.call(word, program=built)
-        assert status == 125 and (why in said or "scripts/built [CRATE]" in said), (word, status, said)
+        status, _, errors = stage.call(word, program=built)
+        assert status == 125 and (why in errors or "scripts/built [CRATE]" in errors), (word, status, errors)
 
 
 def anew_a_terminal_has_a_line_with_a_bar(stage: Stage) -> None:

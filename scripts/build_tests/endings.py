@@ -1,4 +1,4 @@
-"""The ways in which a build ends, and two at once."""
+"""The ways in which a build ends, and two builds at once."""
 
 import contextlib
 import glob
@@ -10,7 +10,7 @@ from .stage import Stage, text_of, until
 
 
 def ends_by(stage, end, wanted):
-    """Starts a build whose checks sleep, ends it, and looks whether all is gone."""
+    """Starts a build whose checks sleep, ends it, and tests that nothing is left."""
     stage.becomes("low", "sleeps")
     stage.becomes("side", "sleeps")
     run = stage.start()
@@ -68,7 +68,7 @@ def anew_the_next_start_removes_what_a_kill_of_all_left(stage: Stage) -> None:
     stage.becomes("low", "sleeps")
     run = stage.start()
     assert until(stage.checks_left)
-    is_keeper = lambda said: 'kill -9 -"$1"' in said and stage.rooms in said
+    is_keeper = lambda errors: 'kill -9 -"$1"' in errors and stage.rooms in errors
     keepers = [int(it.split("/")[2]) for it in glob.glob("/proc/[0-9]*/cmdline") if is_keeper(text_of(it))]
     assert len(keepers) == 1
     os.kill(keepers[0], signal.SIGKILL)
@@ -93,7 +93,7 @@ def anew_a_running_build_of_another_repository_is_left_alone(stage: Stage) -> No
 def anew_two_calls_at_once_build_once(stage: Stage) -> None:
     stage.becomes("side", "takes a second")
     runs = [stage.start(str(n)) for n in range(3)]
-    told = [run.communicate(timeout=60) for run in runs]
-    assert [run.returncode for run in runs] == [0, 0, 0], told
-    assert sorted(printed for printed, _ in told) == ["0\n", "1\n", "2\n"], told
-    assert stage.builds() == 1 and sum("waiting for it" in said for _, said in told) == 2, told
+    results = [run.communicate(timeout=60) for run in runs]
+    assert [run.returncode for run in runs] == [0, 0, 0], results
+    assert sorted(printed for printed, _ in results) == ["0\n", "1\n", "2\n"], results
+    assert stage.builds() == 1 and sum("waiting for another build" in errors for _, errors in results) == 2, results

@@ -14,9 +14,9 @@ from .stage import Stage, text_of
 
 def anew_a_check_killed_for_memory_is_tried_again_alone(stage: Stage) -> None:
     stage.becomes("side", "is killed once")
-    status, _, said = stage.call()
+    status, _, errors = stage.call()
     log = stage.log()
-    assert status == 0 and "once more alone, with one job" in said, (status, said)
+    assert status == 0 and "it runs again alone, with one job" in errors, (status, errors)
     at = log.index("begin side jobs 1", 1)
     begun = [it.split()[1] for it in log[:at] if it.startswith("begin")]
     ended = [it.split()[1] for it in log[:at] if it.startswith("end")] + ["side"]
@@ -26,16 +26,16 @@ def anew_a_check_killed_for_memory_is_tried_again_alone(stage: Stage) -> None:
 
 def anew_a_check_killed_twice_fails(stage: Stage) -> None:
     stage.becomes("side", "is killed")
-    status, _, said = stage.call()
-    assert status == 125 and "killed again, most likely for memory" in said, (status, said)
+    status, _, errors = stage.call()
+    assert status == 125 and "killed again, most likely because memory ran out" in errors, (status, errors)
 
 
 def anew_only_the_processors_given_are_used(stage: Stage) -> None:
     one = str(min(os.sched_getaffinity(0)))
     stage.becomes("low", "takes a second")
-    status, _, said = stage.call(program=["taskset", "-c", one, f"{stage.top}/ftmpi"])
+    status, _, errors = stage.call(program=["taskset", "-c", one, f"{stage.top}/ftmpi"])
     log = stage.log()
-    assert status == 0 and all(it.endswith("jobs 1") for it in log if it.startswith("begin")), (log, said)
+    assert status == 0 and all(it.endswith("jobs 1") for it in log if it.startswith("begin")), (log, errors)
     assert [it.split()[0] for it in log] == ["begin", "end"] * 4, log
 
 
@@ -61,7 +61,8 @@ def a_quota_and_a_limit_of_control_groups_are_respected(stage: Stage) -> None:
 
 
 def jobs_with(memory: int, at_work: dict[str, int], free: int) -> int:
-    """How many jobs the first of two crates of 1000 lines gets beside those at work, of 4 processors and so much memory."""
+    """How many jobs the first of two crates of 1000 lines gets, of 4 processors and so much memory,
+    while these crates are being proved."""
     plan = schedule.Schedule({"a": [], "b": []}, Weights({"a": 1000, "b": 1000}), 4, memory)
     plan.running = at_work
     with mock.patch.object(schedule, "free_megabytes", lambda: free):
@@ -76,21 +77,21 @@ def with_little_memory_there_are_fewer_jobs_and_crates(stage: Stage) -> None:
     assert jobs_with(9000, {"b": 1500}, 300) == 0
 
 
-def anew_a_full_disk_is_told(stage: Stage) -> None:
+def anew_a_full_disk_is_reported(stage: Stage) -> None:
     stage.becomes("low", "fills the disk")
-    status, _, said = stage.call()
-    assert status == 125 and "is full" in said and "TMPDIR" in said, said
+    status, _, errors = stage.call()
+    assert status == 125 and "is full" in errors and "TMPDIR" in errors, errors
 
 
-def anew_a_disk_that_is_full_from_the_start_is_told(stage: Stage) -> None:
+def anew_a_disk_that_is_full_from_the_start_is_reported(stage: Stage) -> None:
     small = f"{stage.rooms}/small"
     os.makedirs(small)
     if subprocess.run(["mount", "-t", "tmpfs", "-o", "size=64k", "none", small], stderr=subprocess.DEVNULL).returncode:
         return
     try:
         stage.change("crates/low/src/lib.rt", "// long\n" * 20000)
-        status, _, said = stage.call(TMPDIR=small)
-        assert status == 125 and "disk is full" in said, said
+        status, _, errors = stage.call(TMPDIR=small)
+        assert status == 125 and "disk is full" in errors, errors
         assert not os.listdir(small), os.listdir(small)
     finally:
         subprocess.run(["umount", small])

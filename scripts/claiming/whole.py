@@ -1,0 +1,124 @@
+"""All checks over one repository."""
+
+from __future__ import annotations
+
+import os
+from typing import Iterator
+
+from . import columns, links, mutants, pages, pairs
+from .claims import Claims, claims_of
+from .code import items_of_code
+from .items import Item
+from .markdown import spans_of
+from .mentions import DOCUMENTS, Mentions, is_checked
+from .naming import Naming
+from .pages import Written
+from .places import Crate, Fault, crates_of, documents, files_below, libraries_of, text_of, write
+from .reach import Reach, imports_of
+from .specs import items_of_antt, page_of
+
+
+class Whole:
+    """What the crates have and claim."""
+
+    def __init__(self, top: str) -> None:
+        self.top = top
+        self.crates = crates_of(top)
+        self.sources = {it.name: self.texts(it, "src", ".rt") for it in self.crates}
+        self.specs = {it.name: self.texts(it, "specs", ".antt") for it in self.crates}
+        self.items = {it.name: self.items_of(it) for it in self.crates}
+        self.reach = self.reach_of()
+        self.pages = {name: [page_of(path, text) for path, text in found.items()] for name, found in self.specs.items()}
+        self.claims = {it.name: self.claims_of(it) for it in self.crates}
+        self.mutants = {it.name: mutants.mutants_of(top, it.name) for it in self.crates}
+        self.links = {it: links.links_in(top, it) for it in documents(top)}
+
+    def text(self, path: str) -> str:
+        whole = os.path.join(self.top, path)
+        return text_of(whole) if os.path.isfile(whole) else ""
+
+    def texts(self, crate: Crate, folder: str, ends: str) -> dict[str, str]:
+        return {it: self.text(it) for it in files_below(self.top, f"{crate.folder()}/{folder}", (ends,))}
+
+    def items_of(self, crate: Crate) -> list[Item]:
+        found = [it for path, text in self.sources[crate.name].items() for it in items_of_code(crate.name, path, text)]
+        below = {**self.specs[crate.name], **self.texts(crate, "proofs", ".antt")}
+        return found + [it for path, text in below.items() for it in items_of_antt(crate.name, path, text)]
+
+    def reach_of(self) -> Reach:
+        texts = {path: text for found in (self.sources, self.specs) for of_crate in found.values() for path, text in of_crate.items()}
+        return Reach((it for found in self.items.values() for it in found), {path: imports_of(text) for path, text in texts.items()})
+
+    def claims_of(self, crate: Crate) -> Claims:
+        return claims_of(crate.readme(), self.text(crate.readme()))
+
+    def written(self) -> list[Written]:
+        return [pages.clauses_page(self.crates, self.claims), pages.definitions_page(self.crates, self.pages)]
+
+    def write(self) -> None:
+        for it in self.written():
+            write(os.path.join(self.top, it.path), it.text)
+
+    def has_to_claim(self, crate: Crate) -> bool:
+        return bool(self.mutants[crate.name]) or any(it.definitions for it in self.pages[crate.name])
+
+    def faults_of_pages(self) -> Iterator[Fault]:
+        for page in self.written():
+            there = self.text(page.path)
+            if there != page.text:
+                same = sum(1 for _ in common_lines(there, page.text))
+                yield Fault(page.path, same + 1, "isn't what scripts/claims --write writes")
+
+    def faults_of_crate(self, crate: Crate) -> Iterator[Fault]:
+        claims = self.claims[crate.name]
+        yield from mutants.faults_of_names(self.mutants[crate.name])
+        if claims.line is None:
+            if self.has_to_claim(crate):
+                yield Fault(crate.readme(), 1, "there is no section '## Claims', though the crate has mutants or definitions")
+            return
+        yield from claims.faults
+        naming = Naming(self.items[crate.name], [it for name in crate.below for it in self.items[name]], self.reach)
+        for claim in claims.claims:
+            yield from naming.faults(crate.readme(), claim)
+        yield from mutants.faults_of_claims(crate, claims, self.mutants)
+
+    def other_names(self, items: list[Item]) -> set[str]:
+        """Names that aren't items: clauses, mutants, crates, libraries and what comes of these, scripts."""
+        clauses = {name for it in items for name in [*it.clauses, *it.premises]}
+        edits = {name for crate, found in self.mutants.items() for it in map(mutants.name_of, found) for name in (it, f"{crate}/{it}")}
+        imported = {name for it in self.reach.imports.values() for name in it.names}
+        scripts = {os.path.basename(it) for it in files_below(self.top, "scripts", ("",))}
+        return clauses | edits | imported | scripts | set(self.items) | libraries_of(self.top)
+
+    def faults_of_documents(self) -> Iterator[Fault]:
+        items = [it for found in self.items.values() for it in found]
+        sources = "\n".join(text for found in self.sources.values() for text in found.values())
+        naming = Naming(items, [], self.reach)
+        mentions = Mentions(self.top, naming.all, self.other_names(items), sources)
+        for document, found in self.links.items():
+            text = self.text(document)
+            yield from links.faults_of(self.top, document, found)
+            yield from columns.faults_of(document, text)
+            if is_checked(document):
+                yield from mentions.faults(document, spans_of(text))
+            if document in DOCUMENTS:
+                yield from pairs.faults_of(document, text, naming)
+
+    def faults(self) -> list[Fault]:
+        found = [it for crate in self.crates for it in self.faults_of_crate(crate)]
+        return sorted({*self.faults_of_pages(), *found, *self.faults_of_documents()})
+
+    def counts(self) -> str:
+        claims = sum(len(it.claims) for it in self.claims.values())
+        definitions = sum(len(page.definitions) for found in self.pages.values() for page in found)
+        relative = sum(links.is_counted(link) for found in self.links.values() for link in found)
+        edits = sum(map(len, self.mutants.values()))
+        return f"{claims} claims, {definitions} definitions, {edits} mutants, {relative} links"
+
+
+def common_lines(one: str, other: str) -> Iterator[str]:
+    """The lines with which both begin."""
+    for mine, its in zip(one.splitlines(), other.splitlines()):
+        if mine != its:
+            return
+        yield mine
