@@ -44,7 +44,7 @@ asked_for o s r w act simulates wanted apart offered =
     let m = some_there (slice_get s.machines r) (λ m. Wants m w) wanted in
     record { machine = m.0; there = m.1; asks = m.2; is = is_asked s r m.0 w act simulates m.1 m.2 apart offered.may }
 
--- where a send is refused, but not for want of memory, no act is offered
+-- where a send is refused, but not when out of memory, no act is offered
 pub no_send : (o : OutcomeValue) (s : SimValue) (r d : ℕ) (w : Want) (why : NotAllowed) → Simulates s → WantsAt s.machines r w → IsSendTo d w
     → Refuses s r choice.Next why → why ≢ refusal.Memory → NoneIsOffered o s r
 no_send o s r d w why simulates wanted to refuses memory act offered =
@@ -90,7 +90,7 @@ no_fitting_event o s r w e simulates wanted of next none act offered =
     let p = picked o s r i.machine w e act of i.is offered next in
     none p.suits p.clock p.choice p.repeats
 
--- where the choice that repeats it is refused, but not for want of memory
+-- where the choice that repeats it is refused, but not when out of memory
 pub no_event_allowed : (o : OutcomeValue) (s : SimValue) (r : ℕ) (w : Want) (e : EventValue) (x : Choice) (why : NotAllowed) → Simulates s
     → WantsAt s.machines r w → IsOfMessage w → IsNextEvent o s r e → Repeats s.run r e x → Refuses s r x why → why ≢ refusal.Memory → NoneIsOffered o s r
 no_event_allowed o s r w e x why simulates wanted of next repeats refuses memory act offered =

@@ -78,7 +78,7 @@ rises_to n places r =
         absurd (omega (arith, le, last, low))
     rises le (inr e) (inr f) = let x = e.1 in let y = f.1 in omega (arith, x, y)
 
--- a place was put last in a queue, or want of memory left the queue as it was
+-- a place was put last in a queue, or refused memory left the queue as it was
 abbrev pub IsPut : List ℕ → ℕ → List ℕ → Type 0
 IsPut before place after = (after ≡ before) ⊎ (after ≡ before ++ place ∷ [])
 

@@ -1,4 +1,4 @@
--- Refusals are exact: no choice is both allowed and refused, but for want of memory, and none is refused in two ways.
+-- Refusals are exact: no choice is both allowed and refused, but when out of memory, and none is refused in two ways.
 -- And choices one after another.
 use Rattle.std.proofs.Common.{◌≡◌, ℕ, zero, suc, ◌<◌, List, [], ◌∷◌, Option, Some, None, length, refl, ap, ◌∙◌, subst, arith, slice_get, get_or, ◌++◌, true}
 use Rattle.std.specs.Prelude.{IsSomeAnd, Result, Ok, Err, OnOk, IfErr}
@@ -9,7 +9,7 @@ use Rattle.crash_free.specs.declared.not_allowed.NotAllowed.TheVariants as refus
 use Rattle.std.proofs.lemmas.List.{length-set}
 use Rattle.crash_free.specs.Sim.{SimValue, Meaning, ended, other, own_step, makes, meant, Does, Allows, AllowsAll, IsRefused, Refuses, are_of_ranks}
 
--- what is allowed is refused for want of memory at most
+-- what is allowed is refused when out of memory at most
 allowed_or_refused : (M : Meaning) (s s' : SimValue) (r : ℕ) (m m' : MachineValue) (why : NotAllowed) → Does M s r m m' s' → IsRefused why M s r m
     → (why ≡ refusal.Memory → ⊥) → ⊥
 allowed_or_refused ended s s' r m m' why d f n = absurd d
@@ -23,7 +23,7 @@ allowed_or_refused (makes act) s s' r m m' refusal.WantsOther d f n = absurd f
 allowed_or_refused (makes act) s s' r m m' refusal.NotEligible d f n = f d.0
 allowed_or_refused (makes act) s s' r m m' refusal.Memory d f n = n refl
 
--- of two refusals of one choice neither of which is want of memory both are one
+-- of two refusals of one choice neither of which means out of memory both are one
 one_refusal : (M : Meaning) (s : SimValue) (r : ℕ) (m : MachineValue) (w why : NotAllowed) → IsRefused w M s r m → IsRefused why M s r m
     → (why ≡ refusal.Memory → ⊥) → w ≡ why
 one_refusal ended s r m refusal.Ended refusal.Ended f g n = refl

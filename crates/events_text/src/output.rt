@@ -14,7 +14,7 @@ use world_model::{Reply, World, WorldEvent};
 /// a line for each reply, in the order of the events, and then the lines that
 /// each rank printed, rank by rank, each rank's by its clock.
 ///
-/// An `Err` is want of memory; the world then stands after some of the events.
+/// An `Err` means out of memory; the world then stands after some of the events.
 pub fn run_text(
     alloc: Heap,
     world: &mut World<'_>,

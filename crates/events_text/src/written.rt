@@ -8,7 +8,7 @@ use std::alloc::AllocError;
 use std::fmt::Write;
 use world_model::{World, WorldEvent};
 
-/// The events in their order, one a line. An `Err` is want of memory.
+/// The events in their order, one a line. An `Err` means out of memory.
 pub fn events_text(alloc: Heap, events: &[WorldEvent]) -> Result<String<Heap>, AllocError>
     ensures { IfOk result (λ text. string_bytes text ≡ events_text events.now) }
 {
@@ -25,7 +25,7 @@ pub fn events_text(alloc: Heap, events: &[WorldEvent]) -> Result<String<Heap>, A
 /// Makes the events, one after another, and answers a way on from where they
 /// lead, one event a line.
 ///
-/// An `Err` is want of memory; the world then stands after some of the events.
+/// An `Err` means out of memory; the world then stands after some of the events.
 pub fn way_text(
     alloc: Heap,
     world: &mut World<'_>,

@@ -252,7 +252,7 @@ const KINDS: [FaultKind; 9] = [
     FaultKind::NumberRange,
 ];
 
-/// The text of a fault of each kind, of the same fault as one of parsing, and its number and name; then want of memory.
+/// The text of a fault of each kind, of the same fault as one of parsing, and its number and name; then refused memory.
 const TEXTS_OF_FAULTS: &str = "\
 line 7: fault 1 NotText, line 7: fault 1 NotText, 1 NotText
 line 7: fault 2 NotAStatement, line 7: fault 2 NotAStatement, 2 NotAStatement
@@ -265,7 +265,7 @@ line 7: fault 8 Limit, line 7: fault 8 Limit, 8 Limit
 line 7: fault 9 NumberRange, line 7: fault 9 NumberRange, 9 NumberRange
 out of memory";
 
-/// What is said of these kinds, and of want of memory.
+/// What is said of these kinds, and of refused memory.
 fn said(alloc: Heap, kinds: &[FaultKind]) -> Result<String<Heap>, AllocError> {
     let mut text = String::new(alloc);
     for kind in kinds {

@@ -75,7 +75,7 @@ impl Inbox {
         }
     }
 
-    /// The same inbox, in memory of its own. An `Err` is want of memory.
+    /// The same inbox, in memory of its own. An `Err` means out of memory.
     pub fn copy(&self, alloc: Heap) -> Result<Inbox, AllocError>
         ensures { IfOk result (λ copy. copy ≡ self.now) }
     {
@@ -111,7 +111,7 @@ impl Inbox {
     }
 
     /// Takes in a packet that is the next of its source, and drops any other.
-    /// An `Err` is want of memory.
+    /// An `Err` means out of memory.
     pub fn accept(&mut self, packet: Packet) -> Result<Accept, Packet>
         requires { packet.source < length self.old.accepted }
         ensures answer { IfOk result (λ answer. answer ≡ answer_to self.old packet) }

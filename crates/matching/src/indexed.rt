@@ -45,7 +45,7 @@ impl Indexed {
         }
     }
 
-    /// The same packets, in memory of their own. An `Err` is want of memory.
+    /// The same packets, in memory of their own. An `Err` means out of memory.
     pub(crate) fn copy(&self, alloc: Heap) -> Result<Indexed, AllocError>
         ensures { IfOk result (λ copy. copy ≡ self.now) }
     {

@@ -48,7 +48,7 @@ impl Queue {
         }
     }
 
-    /// The same packets, in memory of their own. An `Err` is want of memory.
+    /// The same packets, in memory of their own. An `Err` means out of memory.
     pub(crate) fn copy(&self, alloc: Heap) -> Result<Queue, AllocError>
         ensures { IfOk result (λ copy. copy ≡ self.now) }
     {

@@ -10,7 +10,7 @@ use rank_language::Program;
 use rank_node::{Running, Stable};
 use std::test::*;
 
-/// How many events are fetched, are left, and are read of the own row. Zeros stand for want of memory.
+/// How many events are fetched, are left, and are read of the own row. Zeros stand when out of memory.
 type Counts = (usize, u32, usize);
 
 // The only rank of a run crashes, starts again, and reads its own row.

@@ -52,7 +52,7 @@ pub enum Call {
     Wants,
     Refusal,
     Clock,
-    /// From now on the screen refuses each line for want of memory.
+    /// From now on the screen refuses each line when out of memory.
     ScreenRefuses,
 }
 

@@ -46,7 +46,7 @@ impl PayloadLog {
         PayloadLog { kept }
     }
 
-    /// The same log, in memory of its own. An `Err` is want of memory.
+    /// The same log, in memory of its own. An `Err` means out of memory.
     pub fn copy(&self, alloc: Heap) -> Result<PayloadLog, AllocError>
         ensures { IfOk result (λ copy. copy ≡ self.now) }
     {
@@ -63,7 +63,7 @@ impl PayloadLog {
     }
 
     /// Counts the packet, and keeps it where its number is above the base. An
-    /// `Err` is want of memory.
+    /// `Err` means out of memory.
     pub fn save(&mut self, dest: usize, packet: Packet) -> Result<(), Packet>
         requires there { dest < length self.old }
         requires next { packet.number ≡ (backlog self.old dest).sent + 1 }
@@ -79,7 +79,7 @@ impl PayloadLog {
     }
 
     /// Holds the packet back behind those held already: it isn't transmitted
-    /// before it is freed. An `Err` is want of memory.
+    /// before it is freed. An `Err` means out of memory.
     pub fn hold(&mut self, dest: usize, packet: Packet) -> Result<(), Packet>
         requires there { dest < length self.old }
         requires next { packet.number ≡ next_number (backlog self.old dest) }

@@ -156,7 +156,7 @@ pub fn read(alloc: Heap, text: &[u8]) -> Result<Draft, ParseFault>
     ensures tables { IfOk result (λ draft. HasTables draft) }
     // A fault is the first faulty line and the lowest number that holds there.
     ensures fault { (f : ProgramFault) → result ≡ Err (Fault f) → IsFaultOf text.now f.line f.kind }
-    // A text by its definition is refused for want of memory alone.
+    // A text by its definition is refused when out of memory alone.
     ensures accepted { (fs : List forms.Form) → IsText text.now fs → IfErr result (λ e. e ≡ Memory) }
 {
     read_all(alloc, text)

@@ -87,7 +87,7 @@ impl Program {
 
     /// The canonical text, which is a text of this program, so that checking it gives it again.
     ///
-    /// The only error is want of memory.
+    /// The only error means out of memory.
     pub fn print(&self, alloc: Heap) -> Result<Vec<u8, Heap>, AllocError>
         // Its statements are written in the one canonical way.
         ensures text { IfOk result (λ text. text.items ≡ program_text (forms_of self.now)) }

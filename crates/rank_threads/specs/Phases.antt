@@ -84,8 +84,8 @@ HasImage (phase.Running v) = last_image v.stable.shelf ≡ Some (spelling (image
 HasImage (phase.Replaying r) = ⊥
 HasImage (phase.Down s) = ⊥
 
--- the shelf holds the image of the rank as it stood when it was taken, though frames may have come
--- and gone since
+-- The shelf holds the image of a rank that runs, though frames may have come and gone since. That
+-- it is this rank, as it stood when it was taken, isn't said.
 abbrev pub TookImage : Phase → Type 0
 TookImage p = (stood : Phase) × HasImage stood × SameShelf stood p
 

@@ -87,7 +87,7 @@ fn make_turns<'p, 'l, 's, W: Wait, H: Hold>(
     unreachable!()
 }
 
-/// The rank has met want of memory, and all were told to leave.
+/// The rank has met refused memory, and all were told to leave.
 pub fn refused<'l>(station: Station<'l>, stop: Stop<'_>) -> Station<'l>
     requires { stop.why ≡ NodeFault.Memory }
     ensures fault { result.tally ≡ record station.entry.tally { fault = Some NodeFault.Memory } }

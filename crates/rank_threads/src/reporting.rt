@@ -14,7 +14,7 @@ use ports::Line;
 use rank_node::NodeFault;
 use std::alloc::AllocError;
 
-/// Why the run has no report: want of memory, or else the fault of the lowest
+/// Why the run has no report: refused memory, or else the fault of the lowest
 /// rank that met one.
 pub fn fault_of(accounts: &[Account]) -> Option<RunFault>
     requires { length accounts.now ≤ most_ranks }

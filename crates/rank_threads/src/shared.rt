@@ -82,8 +82,8 @@ impl<H> Drop for Shared<'_, H> {
 }
 
 impl<'a, H> Shared<'a, H> {
-    /// All ranks are to leave, as one can't go on. A fault can be noted of a rank
-    /// only behind this, and has to be.
+    /// All ranks are to leave, as one can't go on. The call that notes a fault of
+    /// a rank takes what this answers, which must be spent.
     pub fn stop_all<W: Wait>(&self, rt: &W, why: NodeFault) -> Stop<'a>
         ensures set { result.flag.of ≡ self.now.stop.now.id }
         ensures why { result.why ≡ why }

@@ -14,7 +14,7 @@ use std::alloc::AllocError;
 
 /// Takes what the lanes bring, by rising source, from each at most as many
 /// frames as it holds, and answers whether a frame came. Each lane is looked at.
-/// An `Err` is want of memory.
+/// An `Err` means out of memory.
 #[tactic(auto, using(crate::proofs::TakingLemmas::took_before, crate::proofs::TakingLemmas::took_next))]
 pub fn take_in<H>(
     shared: &Shared<'_, H>,
@@ -66,7 +66,7 @@ fn take_all_from<H>(
 pub struct NoneCame(Looked);
 
 /// Takes what the lanes bring, and says so where that is nothing. An `Err` is
-/// want of memory.
+/// refused memory.
 pub fn none_came<H>(
     shared: &Shared<'_, H>,
     life: &mut Life<'_, '_>,
@@ -94,7 +94,7 @@ pub enum Brought {
 }
 
 /// Takes what the lanes bring, unless the rank's bell wasn't rung. An `Err` is
-/// want of memory.
+/// refused memory.
 pub fn taken<H>(shared: &Shared<'_, H>, life: &mut Life<'_, '_>) -> Result<Brought, AllocError>
     ensures brings { IfOk result (λ brought. Brings brought life.old life.new) }
     ensures plan { SamePlan life.old life.new }

@@ -48,7 +48,7 @@ fn expected<R: AllocGlobal + Print>(
     replies
 }
 
-/// Makes a list of events, and where that stops for want of memory the rest of
+/// Makes a list of events, and where that stops when out of memory the rest of
 /// it. Answers whether the replies are the last ones of these.
 fn run(
     alloc: Heap,

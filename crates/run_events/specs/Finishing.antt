@@ -1,6 +1,6 @@
 -- From a complete search to the end of every world: whatever crashed, the program can finish, and
--- its outcome is one of those that were found. No crash leads into a dead end, or to an outcome
--- that the program doesn't have.
+-- its outcome is one of those that were found, as long as each continuation of the world's run
+-- stays within the limits on acts and events.
 -- Source: recovery to a consistent state from which execution goes on, Elnozahy and others 2002;
 -- refinement of crash-free executions.
 use Rattle.std.specs.Prelude.{List, []}

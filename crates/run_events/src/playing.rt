@@ -15,7 +15,7 @@ use world_model::{Reply, World, WorldEvent};
 
 /// Whether the events play the run: none of them is a crash, and a new world of
 /// the program takes each of them, and then each rank has made its acts of the
-/// run. An `Err` is want of memory.
+/// run. An `Err` means out of memory.
 #[tactic(auto, using(crate::proofs::Played::played))]
 pub fn plays(
     alloc: Heap,

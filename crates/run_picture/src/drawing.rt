@@ -45,7 +45,7 @@ markerUnits='userSpaceOnUse' orient='auto'><path d='M5 0V10' fill='none' stroke=
 /// The run as one SVG file. Of a long one the beginning and the end are drawn, and
 /// between them how many acts are left out. The same request gives the same text.
 ///
-/// An `Err` is want of memory.
+/// An `Err` means out of memory.
 pub fn draw(alloc: Heap, request: &Request<'_>) -> Result<String<Heap>, AllocError> {
     let scene = scene_of(alloc, request)?;
     let text = text_of(alloc, request, &scene);

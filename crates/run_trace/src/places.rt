@@ -18,7 +18,7 @@ use std::alloc::AllocError;
 /// Where each act of a run of the program was made, in the order of the acts: the
 /// run is made once more, and each act is told where it is seen to be made again.
 ///
-/// An `Err` is want of memory, where `audit::find_run` found the run. Of other acts
+/// An `Err` means out of memory, where `audit::find_run` found the run. Of other acts
 /// it also says that one of them couldn't be made where the ones before it lead.
 pub fn places_of(
     alloc: Heap,

@@ -76,7 +76,7 @@ impl Found {
 /// The run in words: its acts, how its ranks ended, what nobody received, which
 /// lines of the script never came to pass, and what crashes and images the
 /// others were. `run` is the one that `audit::find_run` finds for the outcome
-/// that is given. An `Err` is want of memory.
+/// that is given. An `Err` means out of memory.
 pub fn trace_text(
     alloc: Heap,
     program: &Program,

@@ -78,7 +78,7 @@ impl Script {
         self.lines.as_slice()
     }
 
-    /// What is asked of one rank, in the text's order. An `Err` is want of memory.
+    /// What is asked of one rank, in the text's order. An `Err` means out of memory.
     pub fn lines_of(&self, alloc: Heap, rank: u8) -> Result<Vec<ScriptLine, Heap>, AllocError>
         ensures { IfOk result (λ lines. lines.items ≡ orders_of rank self.now) }
     {

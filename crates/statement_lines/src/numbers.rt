@@ -13,7 +13,7 @@ use text_lines::{next_line, without_front};
 
 /// The number, from 1, of the line on which each statement of a program's text stands. Skipped lines count.
 ///
-/// An `Err` is want of memory.
+/// An `Err` means out of memory.
 pub fn statement_lines(alloc: Heap, text: &[u8]) -> Result<Vec<usize, Heap>, AllocError>
     ensures { IfOk result (λ lines. (forms : List Form) → IsText text.now forms → StandOn text.now forms lines.items) }
 {

@@ -34,7 +34,7 @@ use Rattle.world_model.proofs.Lists.{replicate_get, replicate_length, get_map, m
 use Rattle.world_model.proofs.PlainRanks.{none_waits, none_left}
 use Rattle.world_model.proofs.PlainWorlds.{IsPlain, is_plain, rank_of}
 
--- ---- want of memory
+-- ---- refused memory
 
 -- a fetch keeps the invariant
 fetched_stands : (w : WorldValue) (r : ℕ) (w' : WorldValue) → Stands w → Fetched w r w' → Stands w'
@@ -72,7 +72,7 @@ fetched_stands w r w' s f =
     rows : w'.logger.rows ≡ w.logger.rows
     rows = ap (λ z. z.rows) f.fetches.logged
 
--- want of memory keeps the invariant
+-- refused memory keeps the invariant
 pub stands_unchanged : (w : WorldValue) (event : WorldEvent) (w' : WorldValue) → Stands w → Unchanged w event w' → Stands w'
 stands_unchanged w (Restart r) w' s u = ⊎_elim (λ e. subst (λ z. Stands z) (sym e) s) (λ f. fetched_stands w r w' s f) u
 stands_unchanged w (Step r) w' s u = subst (λ z. Stands z) (sym u) s

@@ -1,4 +1,4 @@
--- Each event keeps that the ranks of a world can get on; a new world has it, and want of memory leaves it.
+-- Each event keeps that the ranks of a world can get on; a new world has it, and refused memory leaves it.
 use Rattle.std.proofs.Common.{◌≡◌, ℕ, ⊎_elim, Some, None, length, sym, ap, subst, arith, slice_get}
 use Rattle.rank_language.specs.Program.{ProgramValue}
 use Rattle.crash_free.specs.Runs.{history}
@@ -60,7 +60,7 @@ onward_after w event answer w' f t k = go answer f (stands_after w event answer 
     go (reply.Restarted count) h t' = onward_happens w event (reply.Restarted count) w' h t t' k
     go (reply.Released clock) h t' = onward_happens w event (reply.Released clock) w' h t t' k
 
--- ---- want of memory
+-- ---- refused memory
 
 -- a fetch that was answered leaves all ranks
 fetched_onward : (w : WorldValue) (r : ℕ) (w' : WorldValue) → Fetched w r w' → Onward w → Onward w'
@@ -72,7 +72,7 @@ fetched_onward w r w' f k =
       ranks = λ q v live. (let o = k.ranks q v live in record { clock = o.clock; above = o.above; settled = o.settled; asked = o.asked });
     })
 
--- want of memory leaves it
+-- refused memory leaves it
 pub onward_unchanged : (w : WorldValue) (event : WorldEvent) (w' : WorldValue) → Unchanged w event w' → Onward w → Onward w'
 onward_unchanged w (Restart r) w' u k = ⊎_elim (λ e. subst (λ z. Onward z) (sym e) k) (λ f. fetched_onward w r w' f k) u
 onward_unchanged w (Step r) w' u k = subst (λ z. Onward z) (sym u) k

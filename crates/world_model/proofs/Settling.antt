@@ -46,7 +46,7 @@ settled_left (Replaying r) = go r.left refl
     go [] e = tt
     go (x ∷ left) e = λ none. (let q : x ∷ left ≡ [] = sym e ∙ none in cc)
 
--- a step of a replay that fits is refused for want of memory alone
+-- a step of a replay that fits is refused when out of memory alone
 pub replay_refused : {A : Type 0} (v : Live) (result : Result A NodeFault) → v.left ≢ [] → IsFitting v
     → IfErr result (λ fault. fault ≢ Memory → (e : EventValue) (rest : List EventValue) → v.left ≡ e ∷ rest → replay_turn_of v.rank e ≡ Err fault)
     → (IsErrOf result Memory → replay_takes_memory v.rank ≡ true) → OnErr result (replay_takes_memory v.rank ≡ true)

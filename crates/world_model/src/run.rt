@@ -49,7 +49,7 @@ impl Run {
         })
     }
 
-    /// The same run, in memory of its own. An `Err` is want of memory.
+    /// The same run, in memory of its own. An `Err` means out of memory.
     pub fn copy(&self, alloc: Heap) -> Result<Run, AllocError>
         ensures { IfOk result (λ copy. copy ≡ self.now) }
     {
@@ -103,7 +103,7 @@ impl Run {
         self.index[usize::from(source)].place_of(dest, u64::from(clock))
     }
 
-    /// Puts the newest act. An `Err` is want of memory.
+    /// Puts the newest act. An `Err` means out of memory.
     #[tactic(auto, using(crate::proofs::RunIndex::count_fits))]
     pub fn push(&mut self, passed: Passed) -> Result<(), AllocError>
         requires { passed.rank < self.old.ranks }
@@ -118,7 +118,7 @@ impl Run {
     }
 
     /// Puts so many misses of a rank, or none where memory ends. An `Err` is
-    /// want of memory.
+    /// refused memory.
     #[tactic(auto, using(crate::proofs::RunsMissing::misses_more, crate::proofs::RunsMissing::misses_back))]
     pub fn push_misses(&mut self, rank: u8, count: u32) -> Result<(), AllocError>
         requires { rank < self.old.ranks }

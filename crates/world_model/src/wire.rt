@@ -59,7 +59,7 @@ impl Wire {
         self.frames.get(index)
     }
 
-    /// A frame is put. An `Err` is want of memory.
+    /// A frame is put. An `Err` means out of memory.
     pub fn put(&mut self, frame: Frame) -> Result<(), AllocError>
         ensures ok { OnOk result (self.new ≡ self.old ++ frame ∷ []) }
         ensures err { OnErr result (self.new ≡ self.old) }

@@ -90,7 +90,7 @@ impl Wires {
         Ok(Wires { from })
     }
 
-    /// The same wires, in memory of their own. An `Err` is want of memory.
+    /// The same wires, in memory of their own. An `Err` means out of memory.
     pub fn copy(&self, alloc: Heap) -> Result<Wires, AllocError>
         ensures { IfOk result (λ copy. copy ≡ self.now) }
     {

@@ -55,7 +55,7 @@ impl<'p, 'l> Node<'p, 'l> {
     }
 
     /// The events of rank `of` whose receiver's clock is above `after`; none
-    /// for a rank that is down. An `Err` is want of memory.
+    /// for a rank that is down. An `Err` means out of memory.
     pub fn read(&mut self, alloc: Heap, of: u8, after: u32) -> Result<Vec<Event, Heap>, AllocError>
         requires { of < self.old.size }
         ensures read { IfOk result (λ events. ReadsRow self.old.phase of after events.items self.new.phase) }
@@ -93,7 +93,7 @@ impl<'p, 'l> Node<'p, 'l> {
     }
 
     /// What waits at the gate of a rank that runs passes. Answers whether the
-    /// logger took all its events. An `Err` is want of memory.
+    /// logger took all its events. An `Err` means out of memory.
     pub fn release<W: Wait>(
         &mut self,
         rt: &W,

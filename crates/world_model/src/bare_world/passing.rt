@@ -12,7 +12,7 @@ impl<'p> BareWorld<'p> {
 
     /// Adds to the run the act of a rank with this clock, if there is one and
     /// it passes for the first time, and answers whether it did. An `Err` is
-    /// want of memory.
+    /// refused memory.
     pub(crate) fn pass(
         &mut self,
         rank: u8,

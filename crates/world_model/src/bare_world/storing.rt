@@ -46,7 +46,7 @@ impl<'p> BareWorld<'p> {
     }
 
     /// The acts that the rank's oldest unstored event stands for go on the
-    /// run, so many. An `Err` is want of memory.
+    /// run, so many. An `Err` means out of memory.
     #[tactic(auto, using(crate::proofs::DoingStores::noted_one, crate::proofs::DoingStores::noted_misses))]
     fn note(&mut self, rank: u8, event: Event) -> Result<u32, AllocError>
         requires stands { Stands self.old }

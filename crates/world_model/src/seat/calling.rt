@@ -18,7 +18,7 @@ impl<'p> Seat<'p> {
     ghost use Rattle.rank_node.specs.Waiting.{effect_clock};
     ghost use Rattle.world_model.specs.Seats.{IsAccepted};
 
-    /// What goes next from the rank to another. An `Err` is want of memory.
+    /// What goes next from the rank to another. An `Err` means out of memory.
     pub fn outgoing(&self, dest: u8) -> Result<Option<Frame>, AllocError>
         requires { IfLive self.now.live (λ v. dest < v.rank.stable.size) }
         ensures ok { IfOk result (λ frame. IfLive self.now.live (λ v. frame ≡ outgoing_of v.rank dest)) }
@@ -45,7 +45,7 @@ impl<'p> Seat<'p> {
         rank.passed(dest);
     }
 
-    /// A frame from another rank arrives. An `Err` is want of memory.
+    /// A frame from another rank arrives. An `Err` means out of memory.
     pub fn arrive(&mut self, from: u8, frame: Frame) -> Result<Arrived, AllocError>
         requires { IfLive self.old.live (λ v. from < v.rank.stable.size) }
         ensures answer { IfOk result (λ answer. IfLive self.old.live (λ v. answer ≡ arrival_of v.rank from frame)) }
@@ -79,7 +79,7 @@ impl<'p> Seat<'p> {
     }
 
     /// The oldest unstored event of the rank, which the logger accepts, is
-    /// stored, and this is its row's new length. An `Err` is want of memory.
+    /// stored, and this is its row's new length. An `Err` means out of memory.
     pub fn store(&mut self, logger: &mut LoggerState) -> Result<u32, AllocError>
         requires work { IfLive self.old.live (λ v. v.left ≡ []) }
         requires row { IfLive self.old.live (λ v. v.rank.stable.rank < length logger.old.rows) }
@@ -103,7 +103,7 @@ impl<'p> Seat<'p> {
     }
 
     /// The oldest effect of the rank is released, and this is its clock. An
-    /// `Err` is want of memory.
+    /// `Err` means out of memory.
     pub fn release(&mut self, console: &mut ConsoleState) -> Result<u32, AllocError>
         requires work { IfLive self.old.live (λ v. v.left ≡ []) }
         requires effect { IfLive self.old.live (λ v. IsSome (next_effect v.rank)) }

@@ -10,7 +10,7 @@ use std::alloc::AllocError;
 
 impl<'p> Seat<'p> {
     /// The same rank in the same phase, on a shelf of its own that holds the
-    /// same image. An `Err` is want of memory.
+    /// same image. An `Err` means out of memory.
     #[tactic(auto, using(crate::proofs::Copying::seat_copy))]
     pub fn copy(&self, alloc: Heap) -> Result<Seat<'p>, AllocError>
         ensures { IfOk result (λ copy. IsSeatCopy self.now copy) }

@@ -8,7 +8,7 @@ use std::alloc::AllocError;
 
 impl<'p> Seat<'p> {
     /// The rank, which is at work and where nothing waits, takes an image of
-    /// itself. An `Err` is want of memory.
+    /// itself. An `Err` means out of memory.
     pub fn image(&mut self) -> Result<(), AllocError>
         requires work { IfLive self.old.live (λ v. v.left ≡ []) }
         requires settled { IfLive self.old.live (λ v. v.rank.pending ≡ []) }

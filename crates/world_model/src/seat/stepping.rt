@@ -14,7 +14,7 @@ impl<'p> Seat<'p> {
     ghost use Rattle.ports.specs.Console.{after_line};
 
     /// The rank, which is at work and whose step isn't refused by name, makes
-    /// one step. An `Err` is want of memory.
+    /// one step. An `Err` means out of memory.
     #[tactic(auto, using(crate::proofs::Showing::step_is))]
     pub fn step(&mut self, console: &mut ConsoleState) -> Result<Turn, AllocError>
         requires work { IfLive self.old.live (λ v. v.left ≡ []) }

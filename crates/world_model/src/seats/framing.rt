@@ -8,7 +8,7 @@ use rank_node::{Arrived, Frame};
 use std::alloc::AllocError;
 
 impl<'p> Seats<'p> {
-    /// What goes next from a rank to another. An `Err` is want of memory.
+    /// What goes next from a rank to another. An `Err` means out of memory.
     pub fn outgoing(&self, rank: u8, dest: u8) -> Result<Option<Frame>, AllocError>
         requires rank { rank < length self.now.ranks }
         requires dest { AtRank self.now.ranks rank (λ v. dest < v.rank.stable.size) }
@@ -30,7 +30,7 @@ impl<'p> Seats<'p> {
         self.seats[usize::from(rank)].passed(dest);
     }
 
-    /// A frame from one rank arrives at another. An `Err` is want of memory.
+    /// A frame from one rank arrives at another. An `Err` means out of memory.
     #[tactic(auto, using(crate::proofs::Places::set_same))]
     pub fn arrive(&mut self, rank: u8, from: u8, frame: Frame) -> Result<Arrived, AllocError>
         requires rank { rank < length self.old.ranks }

@@ -14,7 +14,7 @@ impl<'p> Seats<'p> {
     ghost use Rattle.ports.specs.Console.{after_line};
 
     /// A rank, which is at work and whose step isn't refused by name, makes
-    /// one step. An `Err` is want of memory.
+    /// one step. An `Err` means out of memory.
     #[tactic(auto, using(crate::proofs::Places::set_same))]
     pub fn step(&mut self, rank: u8, console: &mut ConsoleState) -> Result<Turn, AllocError>
         requires rank { rank < length self.old.ranks }
@@ -34,7 +34,7 @@ impl<'p> Seats<'p> {
     }
 
     /// A rank, which replays and isn't refused, makes one step of its replay.
-    /// An `Err` is want of memory.
+    /// An `Err` means out of memory.
     #[tactic(auto, using(crate::proofs::Places::set_same))]
     pub fn replay(&mut self, rank: u8, console: &mut ConsoleState) -> Result<Turn, AllocError>
         requires rank { rank < length self.old.ranks }

@@ -52,7 +52,7 @@ impl<'p> Seats<'p> {
     }
 
     /// The oldest effect of a rank at work is released, and this is its clock.
-    /// An `Err` is want of memory.
+    /// An `Err` means out of memory.
     #[tactic(auto, using(crate::proofs::Places::set_same))]
     pub fn release(&mut self, rank: u8, console: &mut ConsoleState) -> Result<u32, AllocError>
         requires rank { rank < length self.old.ranks }
