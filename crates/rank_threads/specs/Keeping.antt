@@ -46,7 +46,7 @@ pub record IsToldToLeave (old new : Station) : Type 0 where
 
 -- The lives of a rank, one after another: it was told to leave; or it lived, and left; or it lived
 -- and crashed, and its next lives begin at the station that this left, with the row that was
--- fetched.
+-- fetched. A life after which the rank has a fault ties the next ones to nothing.
 pub data Lives : Station → Station → Type 0 where
   told : {old new : Station} → IsToldToLeave old new → Lives old new
   last : {old new : Station} → HasLived old new → new.end ≢ None → Lives old new
