@@ -17,7 +17,7 @@ def anew_builds_what_is_needed_in_order(stage: Stage) -> None:
     assert sorted(it.split()[1] for it in log if it.startswith("begin")) == ["ftmpi", "low", "middle", "side"], log
     assert log.index("end low") < next(n for n, it in enumerate(log) if it.startswith("begin middle")), log
     assert log[-1] == "end ftmpi", log
-    assert sorted(os.listdir(stage.out)) == ["ftmpi", "ftmpi.sum"], os.listdir(stage.out)
+    assert sorted(os.listdir(stage.out)) == ["ftmpi", "ftmpi.costs", "ftmpi.sum"], os.listdir(stage.out)
     left = [it for it in glob.glob(f"{stage.top}/crates/*/out") if it != stage.out]
     assert not left and not stage.rooms_left(), (left, stage.rooms_left())
     for name in ("low", "side", "middle", "ftmpi"):

@@ -1,4 +1,4 @@
-"""Few processors, little memory, and a full disk."""
+"""Few processors, little memory, a full disk, and what a build measures."""
 
 from __future__ import annotations
 
@@ -7,7 +7,8 @@ import subprocess
 from unittest import mock
 
 from building import machine, schedule
-from building.weights import Weights
+from building.costs import Cost, Costs, calculation_time
+from building.weights import MEASURED, Weights
 
 from .stage import Stage, text_of
 
@@ -75,6 +76,30 @@ def with_little_memory_there_are_fewer_jobs_and_crates(stage: Stage) -> None:
     assert jobs_with(2000, {"b": 1500}, 9000) == 0
     assert jobs_with(9000, {"b": 1500}, 9000) == 4
     assert jobs_with(9000, {"b": 1500}, 300) == 0
+
+
+def a_build_measures_each_crate(stage: Stage) -> None:
+    costs = Costs.read(f"{stage.out}/ftmpi.costs")
+    assert costs and costs.speed > 0 and [*costs.of] == ["low", "middle", "side", "ftmpi"], costs
+
+
+def what_a_build_measured_counts_first(stage: Stage) -> None:
+    slow = Costs(calculation_time() / 2, {"a": Cost(100, 10, 700)})
+    weights = Weights({"a": 1000, "b": 1000, "rank_node": 1000}, slow, Costs(1, {"a": Cost(1, 1, 1)}))
+    assert (round(weights.seconds("a")), round(weights.seconds_alone("a"))) == (200, 20)
+    assert weights.seconds("b") == Weights({"b": 1000}).seconds("b") == 82
+    known = Costs.read(MEASURED)
+    assert known and round(weights.seconds("rank_node")) == round(known.of["rank_node"].seconds * calculation_time() / known.speed)
+
+
+def a_file_of_costs_that_is_cut_off_counts_for_nothing(stage: Stage) -> None:
+    for text in ("", "speed\n", "speed 0\n", "speed 27\nlow 1 2\n", "low 1 2 3\n", "speed 27\nlow one 2 3\n"):
+        stage.change("costs", text)
+        try:
+            found = Costs.read(f"{stage.top}/costs")
+        except TypeError as it:
+            raise AssertionError(text) from it
+        assert found is None, (text, found)
 
 
 def anew_a_full_disk_is_reported(stage: Stage) -> None:

@@ -6,7 +6,8 @@
     record      the file beside the program, and what find prints about the sources
     kit         the toolchain, and the crates as its `rt` knows them
     schedule    which crate is proved next, and with how many jobs
-    weights     what each crate is expected to cost: by measured.txt, or by its lines
+    weights     what each crate is expected to cost: by what was measured, or by its lines
+    costs       what each crate cost: files that an earlier build wrote
     proving     starts the proofs, collects each that has ended, and links the program
     proof       one crate while it is proved, and why a proof doesn't count
     preview     runs the program before it is proved

@@ -11,16 +11,19 @@ import signal
 import time
 from typing import Any
 
+from .costs import Cost
 from .files import text_of
 from .machine import MEGABYTE
 from .room import Group
+from .weights import share_with
 
 
 class Proof:
     """A crate while rattle proves it."""
 
     def __init__(self, crate: Any, jobs: int, niceness: int, group: Group) -> None:
-        self.crate, self.started = crate, time.monotonic()
+        self.crate, self.jobs, self.started = crate, jobs, time.monotonic()
+        self.seen, self.alone, self.resident = 0.0, 0.0, 0
         os.makedirs(f"{crate.folder}/out/rlib", exist_ok=True)
         self.file = f"{crate.folder}/out/output"
         with open(self.file, "w", encoding="utf-8") as out:
@@ -41,6 +44,21 @@ class Proof:
         processes."""
         ticks = sum(ticks_of(pid) for pid in [self.process.pid, *children_of(self.process.pid)])
         return ticks / os.sysconf("SC_CLK_TCK")
+
+    def look(self) -> None:
+        """Notes what the proof takes: its memory, and the seconds in which it has one process. So
+        it is called about once a second."""
+        now, children = self.seconds(), children_of(self.process.pid)
+        self.alone += 0 if children else max(now - self.seen, 0)
+        self.seen = now
+        self.resident = max(self.resident, sum(resident_of(pid) for pid in [self.process.pid, *children]))
+
+    def cost(self, expected_alone: float) -> Cost:
+        """What the proof took, when it has ended. With one job it has only one process. Then
+        nothing was seen of what more jobs can't shorten, and what was expected stays."""
+        _, seconds = self.took
+        alone = self.alone if self.jobs > 1 else expected_alone
+        return Cost(seconds, min(alone, seconds), self.resident / MEGABYTE / share_with(self.jobs))
 
     def is_killed(self) -> bool:
         return self.status == -signal.SIGKILL
@@ -100,6 +118,13 @@ def full_disk(folder: str, output: str) -> str | None:
 def ticks_of(pid: int) -> int:
     with contextlib.suppress(OSError):
         return sum(map(int, text_of(f"/proc/{pid}/stat").rpartition(")")[2].split()[11:15]))
+    return 0
+
+
+def resident_of(pid: int) -> int:
+    """The bytes of memory that a process holds."""
+    with contextlib.suppress(OSError):
+        return int(text_of(f"/proc/{pid}/statm").split()[1]) * os.sysconf("SC_PAGE_SIZE")
     return 0
 
 

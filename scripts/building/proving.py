@@ -6,6 +6,7 @@ import signal
 from collections.abc import Iterator
 from types import ModuleType
 
+from .costs import Cost, Costs, calculation_time
 from .ending import NotBuilt
 from .kit import crates_of
 from .machine import free_megabytes, processors
@@ -21,14 +22,24 @@ NICENESS = 15
 
 
 class Build:
-    def __init__(self, sources: Sources, rt: ModuleType, group: Group, progress: Progress, beside: Iterator[int]) -> None:
+    def __init__(
+        self,
+        sources: Sources,
+        rt: ModuleType,
+        group: Group,
+        progress: Progress,
+        beside: Iterator[int],
+        measured: Costs | None,
+    ) -> None:
         """`beside` makes a preview. It gets a step at least each second, and yields the megabytes to
-        reserve for it."""
+        reserve for it. `measured` has the costs of an earlier build here."""
         self.group, self.progress, self.verdict = group, progress, rt.rtlib.VERDICT
         self.crates = crates_of(sources, rt, group)
         below = {name: [it.name for it in crate.below()] for name, crate in self.crates.items()}
-        self.schedule = Schedule(below, Weights(lines_of(sources)), processors(), free_megabytes())
+        self.weights = Weights(lines_of(sources), measured)
+        self.schedule = Schedule(below, self.weights, processors(), free_megabytes())
         self.proofs, self.beside = dict[str, Proof](), beside
+        self.took = dict[str, Cost]()
 
     def run(self) -> str:
         """Proves all and returns the path of the linked program."""
@@ -54,6 +65,8 @@ class Build:
     def wait(self) -> None:
         """Waits until a proof has ended, or a second has passed."""
         signal.sigtimedwait([signal.SIGCHLD], 1)
+        for proof in self.proofs.values():
+            proof.look()
         for name in [name for name, proof in self.proofs.items() if proof.ended()]:
             self.end(name, self.proofs.pop(name))
         self.show()
@@ -68,7 +81,12 @@ class Build:
         if why:
             raise NotBuilt(f"{name}: {why}")
         self.schedule.ends(name)
+        self.took[name] = proof.cost(self.weights.seconds_alone(name))
         self.progress.proved(name, self.outlook(), *proof.took)
+
+    def costs(self) -> Costs:
+        """What the proofs took, lowest crate first."""
+        return Costs(calculation_time(), {name: self.took[name] for name in self.crates})
 
     def outlook(self) -> Outlook:
         return self.schedule.outlook({name: proof.seconds() for name, proof in self.proofs.items()})

@@ -8,6 +8,8 @@ from .machine import free_megabytes
 from .progress import Outlook
 from .weights import Weights
 
+# The part of the processors' time that is used: crates wait for those below them.
+USED = 0.9
 # rattle's documentation says that more jobs seldom help.
 MOST_JOBS = 8
 
@@ -103,4 +105,4 @@ class Schedule:
             left[name] = max(1 - seconds / self.weights.seconds(name), 0.03)
         work = sum(self.weights.seconds(it) * part for it, part in left.items())
         chain = max((self.behind[it] - (1 - part) * self.by_itself(it) for it, part in left.items()), default=0)
-        return Outlook(len(self.done), len(self.below), work, max(chain, work / self.processors))
+        return Outlook(len(self.done), len(self.below), work, max(chain, work / (USED * self.processors)))

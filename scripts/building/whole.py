@@ -10,6 +10,7 @@ import sys
 import time
 from collections.abc import Iterator
 
+from .costs import Costs
 from .files import sum_of_file
 from .kit import Kit
 from .preview import Preview, alone, beside
@@ -87,7 +88,10 @@ def build_anew(program: Program, words: list[str] | None) -> Record:
         copied = program.sources.copy_to(folder)
         sources = copied.sum(identity)
         shown = iter(()) if words is None else beside(copied, lambda: Preview(copied, program.kit, words, group), progress)
-        put(Build(copied, program.kit.rt(), group, progress, shown).run(), program.path)
+        costs = f"{program.path}.costs"
+        building = Build(copied, program.kit.rt(), group, progress, shown, Costs.read(costs))
+        put(building.run(), program.path)
+        building.costs().write(costs)
         progress.say(f"proved and built in {(time.monotonic() - begin) / 60:.1f} minutes")
     return Record("", "", "", sources, identity, sum_of_file(program.path))
 
