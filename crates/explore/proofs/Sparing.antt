@@ -6,7 +6,7 @@ use Rattle.std.proofs.lemmas.List.Sums.{sum_by-drop_more}
 use Rattle.rank_language.specs.Program.{ProgramValue}
 use Rattle.rank_machine.specs.Acts.{Act}
 use Rattle.crash_free.specs.Standing.{Rows}
-use Rattle.crash_free.specs.Sim.{SimValue, choice_of, Simulates, start_of, Allows}
+use Rattle.crash_free.specs.Sim.{SimValue, choice_of, start_of, Allows}
 use Rattle.crash_free.specs.Wanted.{StandsAtAct}
 use Rattle.explore.specs.declared.branch.Branch.{Branch}
 use Rattle.explore.specs.declared.moves.Move.{Move}
@@ -16,7 +16,7 @@ use Rattle.explore.specs.Counts.{HaveStopped, NoneIsFixed, StopsAtAct}
 use Rattle.explore.specs.Making.{LeadsTo}
 use Rattle.explore.specs.Moves.{move_of, HasAll}
 use Rattle.explore.specs.Outcomes.{IsAmong, AreDistinct}
-use Rattle.explore.specs.Searching.{IsAlike, HaveLeft, Begins, Searches}
+use Rattle.explore.specs.Searching.{IsAlike, HaveLeft, Begins, NeedsAfter, Searches}
 use Rattle.explore.specs.Small.{AreEnough, at_once, tree, EnoughFor, EnoughForAll, Spares, KeepsEnough}
 use Rattle.explore.proofs.Among.{among_last}
 use Rattle.explore.proofs.Choosing.{act_of_choice}
@@ -50,8 +50,8 @@ none_fixed s left moves stopped some all r act fix = go (stopped r fix.low)
         omega (arith, none, more)
     go (inr stops) = stops.1 act fix
 
-module _ (s mid s' : SimValue) (pending new : List Branch) (moves : List Move) (first : Move) (made : Moves s mid s' pending new moves first)
-    (once : AreDistinct moves) (none : (r : ℕ) → NoneIsFixed mid r) where
+module _ (s mid s' : SimValue) (pending new : List Branch) (moves : List Move) (first : Move) (met : List Rows)
+    (made : Moves s mid s' pending new moves first met) (once : AreDistinct moves) (none : (r : ℕ) → NoneIsFixed mid r) where
   -- each of the moves stands for an act that may follow
   stands_for : (m : Move) → IsAmong moves m
       → (act : Act) × MayFollow (start_of mid.program (length mid.machines)) (length mid.machines) mid.run m.rank act × (choice_of act ≡ m.choice)
@@ -70,7 +70,7 @@ module _ (s mid s' : SimValue) (pending new : List Branch) (moves : List Move) (
           (x.act, x.may, x.same)
       go (suc i) e =
           let other = made.off.made (suc i) m (omega arith) e in
-          let x = act_of_choice mid other.0.sim m.rank m.choice made.now other.3 at other.2 in
+          let x = act_of_choice mid other.0 m.rank m.choice made.now other.2 at other.1 in
           (x.act, x.may, x.same)
 
   -- what is enough before the moves is for all of them together
@@ -83,8 +83,8 @@ module _ (s mid s' : SimValue) (pending new : List Branch) (moves : List Move) (
           → (i' : ℕ) × (l' : ℕ) × EnoughForAll s.program (length s.machines) i' new × EnoughFor s l' s'.run × (i' + l' ≤ j + k)
       by i l left (at_once r act fix rest) low = absurd (none r act fix)
       by i l left (tree others needs among each few some) low =
-          let of : (m : Move) (t : SimValue) → IsAmong moves m → Allows mid m.rank m.choice t → Simulates t → EnoughFor mid (needs m) t.run =
-          λ m t a allows then.
+          let of : (m : Move) → IsAmong moves m → NeedsAfter mid m (needs m) =
+          λ m a t allows then.
           (let x = act_of_choice mid t m.rank m.choice made.now then (made.acts m a).1 allows in
           subst (λ P. EnoughFor mid (needs m) P) (sym x.run)
           (subst (λ c. EnoughFor mid (needs (move_of m.rank c)) (and_then mid.run m.rank x.act)) x.same (each m.rank x.act x.may))) in
@@ -96,7 +96,7 @@ module _ (s mid s' : SimValue) (pending new : List Branch) (moves : List Move) (
             i + sum_by needs (drop 1 moves),
             needs first,
             all_by s mid (i + sum_by needs (drop 1 moves)) new made.alike (made.off.enough needs of i left),
-            enough_by s mid (needs first) s'.run made.alike (of first s' (0, made.there) made.allows made.then),
+            enough_by s mid (needs first) s'.run made.alike (of first (0, made.there) s' made.allows made.then),
             omega (arith, low, few, sums, whole, it),
           )
 

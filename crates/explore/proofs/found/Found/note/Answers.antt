@@ -1,0 +1,34 @@
+use Rattle.std.proofs.Common.{◌≡◌, [], ◌∷◌, ◌++◌, sym, subst}
+use Rattle.explore.specs.Found.{hash_of, HaveEntries}
+use Rattle.explore.specs.Outcomes.{IsAmong}
+use Rattle.explore.specs.Searching.{Notes}
+use Rattle.explore.proofs.Among.{noted_new}
+use Rattle.explore.proofs.Finds.{entries_kept, entries_more, entries_same}
+use Rattle.explore.proofs.found.Found.note.Goals as goal
+
+pub invariant_of-self : goal.invariant_of-self
+invariant_of-self c =
+    entries_same c.self.inside.outcomes.items c.self.inside.by_hash c.insert.new.self c.self.invariant c.in_err-insert.ensures.err
+
+pub invariant_of-self-in_err-push : goal.invariant_of-self-in_err-push
+invariant_of-self-in_err-push c =
+    subst (λ xs. HaveEntries xs c.insert.new.self) (sym c.in_err-push.ensures.items)
+    (entries_kept c.self.inside.outcomes.items c.self.inside.by_hash c.insert.new.self c.hash_of-hash.result c.len.result c.self.invariant
+    c.in_ok-insert.ensures.updates.0)
+
+pub invariant_of-self-2 : goal.invariant_of-self-2
+invariant_of-self-2 c =
+    let kept =
+    entries_kept c.self.inside.outcomes.items c.self.inside.by_hash c.insert.new.self c.hash_of-hash.result c.len.result c.self.invariant
+    c.in_ok-insert.ensures.updates.0 in
+    subst (λ xs. HaveEntries xs c.insert.new.self) (sym c.in_ok-push.ensures.items)
+    (entries_more c.self.inside.outcomes.items c.args.outcome c.insert.new.self c.hash_of-hash.result c.len.result kept
+    (subst (λ o. c.hash_of-hash.result ≡ hash_of o) c.outcome.view_is (rw c.deref.ensures.value at c.hash_of-hash.ensures))
+    c.in_ok-insert.ensures.updates.1)
+
+pub returns : goal.returns
+returns c =
+    subst (λ xs. Notes c.args.self.now c.args.outcome xs) (sym c.in_ok-push.ensures.items)
+    (subst (λ xs. Notes xs c.args.outcome (c.self.inside.outcomes.items ++ c.args.outcome ∷ [])) c.self.view_is
+    (noted_new c.self.inside.outcomes.items c.args.outcome
+    (λ a. c.has.ensures.no c.if-has.false (subst (λ xs. IsAmong xs c.args.outcome) c.self.view_is a))))
