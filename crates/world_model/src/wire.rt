@@ -52,6 +52,13 @@ impl Wire {
         self.frames.len()
     }
 
+    /// All of them.
+    pub fn frames(&self) -> &[Frame]
+        ensures { result.now ≡ self.now }
+    {
+        self.frames.as_slice()
+    }
+
     /// The frame of this index, from 0, if there is one.
     pub fn get(&self, index: usize) -> Option<&Frame>
         ensures { MatchOption result (slice_get self.now index ≡ None) (λ frame. slice_get self.now index ≡ Some frame.now) }
