@@ -47,3 +47,5 @@ mod traces;
 mod watching;
 #[cfg(test)]
 mod words;
+#[cfg(test)]
+mod world_objects;

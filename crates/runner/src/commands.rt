@@ -24,6 +24,7 @@ mod refusal;
 mod said;
 mod trace;
 mod world;
+mod world_json;
 
 use crate::commands::job::work;
 pub use crate::commands::refusal::Refusal;

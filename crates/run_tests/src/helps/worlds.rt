@@ -4,7 +4,7 @@
 pub const WORLD: &str = "\
 Gives a program's ranks the events of a file and prints each reply
 
-Usage: ftmpi world --ranks <N> <PROGRAM> <EVENTS>
+Usage: ftmpi world [OPTIONS] --ranks <N> <PROGRAM> <EVENTS>
 
 Arguments:
   <PROGRAM>  The file of the rank program
@@ -12,6 +12,7 @@ Arguments:
 
 Options:
       --ranks <N>  The number of ranks, 1 to 16
+      --json       Prints what each event changes as JSON, an object a line
   -h, --help       Print help
 
 Events, one a line; R and S are ranks:
@@ -50,6 +51,10 @@ passed, as `R> V`:
   restart  restarted L   R is up, and has L events to replay
   any      refused       the event can't happen, and changes nothing
 
+With --json an object of JSON stands on each line instead: the texts, each rank
+at the beginning, and for each event its reply and what it changed. A page shows
+them step by step: scripts/page N PROGRAM EVENTS > page.html
+
 Faults of the events, as `events line L: fault K NAME`: the first faulty line,
 and on it the lowest fault. `ftmpi check --help` has the faults of a program.
   1 BadLine  the line has none of these forms
@@ -58,8 +63,9 @@ and on it the lowest fault. `ftmpi check --help` has the faults of a program.
 Exit status: 0 if the replies are printed, whatever they are, 2 if the program
 or the events are refused or can't be read; `ftmpi --help` has the others.
 
-Example, at the top of the repository:
+Examples, at the top of the repository:
   ./ftmpi world --ranks 2 examples/answer.rank examples/crash.events
+  ./ftmpi world --json --ranks 2 examples/answer.rank examples/crash.events
 
 docs/WORLDS.md is a guide to worlds, event by event.
 ";
