@@ -1,7 +1,7 @@
 //! Runs, checks and worlds of the examples.
 
 /// The words of each run, after the program's name.
-pub const RUNS: [&str; 88] = [
+pub const RUNS: [&str; 91] = [
     "run --ranks 2 examples/answer.rank",
     "run --ranks 4 examples/ring.rank",
     "run --ranks 2 examples/ping_pong.rank",
@@ -73,6 +73,9 @@ pub const RUNS: [&str; 88] = [
     "world --ranks 1 examples/polls.rank examples/polls.events",
     "world --ranks 2 examples/probe.rank examples/probe.events",
     "world --ranks 2 examples/answer.rank examples/crash.events",
+    "world --ranks 2 examples/answer.rank examples/two_lives.events",
+    "world --ranks 2 examples/overtaking.rank examples/crash_in_replay.events",
+    "world --ranks 2 examples/overtaking.rank examples/lost.events",
     "world --ranks 2 examples/probing.rank examples/crash_after_miss.events",
     "world --ranks 2 examples/overtaking.rank examples/image.events",
     "world --ranks 2 examples/overtaking.rank examples/old_ask.events",
