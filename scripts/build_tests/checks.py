@@ -33,7 +33,7 @@ echo "${0##*/}" >>"$STAND_IN/scripts"
 """
 # The scripts before `rt ci` and after it, in their order.
 OWN = ["claims", "diagrams", "test_manual", "test_guides", "mutants", "compile_fail"]
-AFTER = ["refuse_threads", "refuse_memory", "test_events", "test_pictures", "test_progress"]
+AFTER = ["refuse_threads", "refuse_memory", "test_events", "test_pictures", "test_progress", "page_is_seen"]
 
 
 class Check:
