@@ -1,11 +1,18 @@
--- Lists of stations.
-use Rattle.std.specs.Prelude.{List, [], ◌∷◌, ◌++◌}
-use Rattle.rank_threads.specs.Stations.{SameStation, SameStations}
+-- Lists of stations that were kept.
+use Rattle.std.proofs.Common.{◌≡◌, ℕ, List, [], ◌∷◌, ◌++◌, Some, None, sym, ◌∙◌}
+use Rattle.rank_node.specs.declared.fault.NodeFault.TheVariants as fault
+use Rattle.rank_threads.proofs.SeatingLemmas.{stations_snoc}
+use Rattle.rank_threads.specs.Keeping.{WasKept, WereKept, failed}
+use Rattle.rank_threads.specs.Stations.{SameStation, stations_of}
 use Rattle.rank_threads.specs.declared.parcel.Parcel.{Parcel}
+use Rattle.rank_threads.specs.declared.station.Station.{Station}
 
 module _ {W : Type 0} where
-  pub same_snoc : (xs ys : List (Parcel W)) (x y : Parcel W) → SameStations xs ys → SameStation x.station y.station → SameStations (xs ++ x ∷ []) (ys ++ y ∷ [])
-  same_snoc [] [] x y same one = (one, tt)
-  same_snoc [] (b ∷ bs) x y same one = absurd same
-  same_snoc (a ∷ rest) [] x y same one = absurd same
-  same_snoc (a ∷ rest) (b ∷ bs) x y same one = (same.0, same_snoc rest bs x y same.1 one)
+  -- one station more
+  pub kept_snoc : (text : List ℕ) (xs ys : List (Parcel W)) (x y : Parcel W) → WereKept text (stations_of xs) (stations_of ys)
+      → WasKept text x.station y.station → WereKept text (stations_of (xs ++ x ∷ [])) (stations_of (ys ++ y ∷ []))
+  kept_snoc text xs ys x y kept one = rw (stations_snoc xs x, stations_snoc ys y) (one, kept)
+
+-- where no thread could be made, the rank has met refused memory
+pub kept_refused : (text : List ℕ) (old new : Station) → SameStation old new → new.tally.fault ≡ Some fault.Memory → WasKept text old new
+kept_refused text old new same met = (same, failed (λ none. (let both : Some fault.Memory ≡ None = sym met ∙ none in absurd cc)))

@@ -2,8 +2,10 @@ mod ClearingLemmas
 mod Crews
 mod DroppingLemmas
 mod GateLemmas
+mod KillLemmas
 mod LaneLists
 mod LifeLemmas
+mod LivesLemmas
 mod LookLemmas
 mod PhaseLaws
 mod PlanLaws
@@ -13,7 +15,6 @@ mod ReportLemmas
 mod RestingLemmas
 mod RowLemmas
 mod SeatingLemmas
-mod StationLemmas
 mod StepLaws
 mod TakingLemmas
 mod TurnLemmas

@@ -1,10 +1,11 @@
 -- What a life counts, by the end with which its station comes back; and life after life.
-use Rattle.std.proofs.Common.{◌≡◌, ◌≢◌, ℕ, Bool, Some, None, refl, sym, ap, ◌∙◌}
+use Rattle.std.proofs.Common.{◌≡◌, ◌≢◌, ◌⊎◌, inl, inr, ℕ, Bool, true, false, is_some, List, Option, Some, None, refl, sym, ap, ◌∙◌}
+use Rattle.rank_language.specs.Correct.{IsProgramOf}
 use Rattle.rank_language.specs.Program.{ProgramValue}
 use Rattle.rank_node.specs.declared.fault.NodeFault.{NodeFault}
 use Rattle.rank_node.specs.declared.fault.NodeFault.TheVariants as fault
 use Rattle.rank_threads.specs.Endings.{IsKilledAt, crashes_after, crashes_by, end_after}
-use Rattle.rank_threads.specs.Keeping.{HasLived, IsToldToLeave, Lives, told, last, again}
+use Rattle.rank_threads.specs.Keeping.{HasLived, IsToldToLeave, Lives, told, failed, last, again}
 use Rattle.rank_threads.specs.Lives.{SamePlace}
 use Rattle.rank_threads.specs.Stations.{HasRow}
 use Rattle.rank_threads.specs.Used.{UsesLines}
@@ -20,19 +21,20 @@ by_end (ending.Crashed killed) is_spent p crashes = refl
 by_end (ending.Left reason) is_spent p crashes = refl
 
 -- a life that began at a station and ended so was lived, and is counted by the end
-pub has_lived : (old new : Station) (program : ProgramValue) (begun ended : Life) (how : Ending)
-    → (begun.tally.fault ≡ None → Begins program old.down old.row begun.node.phase)
-    → begun.plan ≡ old.plan → begun.tally ≡ record old.tally { fault = begun.tally.fault }
+pub has_lived : (text : List ℕ) (program : ProgramValue) (old new : Station) (begun ended : Life) (how : Ending)
+    → IsProgramOf text program → begun.tally.fault ≡ None → (begun.tally.fault ≡ None → Begins program old.down old.row begun.node.phase)
+    → begun.plan ≡ old.plan → (begun.tally.fault ≡ None → begun.tally ≡ old.tally)
     → SamePlace begun ended → UsesLines how begun.plan ended.plan → IsKilledAt how ended.node.phase
     → ended.tally.crashes ≡ crashes_after how begun.tally.crashes
     → new.end ≡ end_after how ended.tally.is_spent ended.node.phase
-    → new.plan ≡ ended.plan → new.tally ≡ ended.tally → HasLived old new
-has_lived old new program begun ended how begins plan counts same lines killed counted leaves left tally none = record {
+    → new.plan ≡ ended.plan → new.tally ≡ ended.tally → HasLived text old new
+has_lived text program old new begun ended how reads well begins plan counts same lines killed counted leaves left tally none = record {
   program = program;
+  reads = reads;
   begun = begun;
-  begins = begins;
+  begins = begins well;
   plan = plan;
-  counts = counts;
+  counts = counts well;
   ended = ended;
   same = same;
   how = how;
@@ -41,22 +43,27 @@ has_lived old new program begun ended how begins plan counts same lines killed c
   leaves = leaves;
   left = left;
   crashes =
-      ap (λ t. t.crashes) tally ∙ counted ∙ ap (λ t. crashes_after how t.crashes) counts
+      ap (λ t. t.crashes) tally ∙ counted ∙ ap (λ t. crashes_after how t.crashes) (counts well)
       ∙ by_end how ended.tally.is_spent ended.node.phase old.tally.crashes
       ∙ ap (λ e. crashes_by e old.tally.crashes) (sym leaves);
 }
 
 -- if a rank met a fault nothing is said
-pub met_fault : (old new : Station) (f : NodeFault) → new.tally.fault ≡ Some f → HasLived old new
-met_fault old new f met none = (let both : Some f ≡ None = sym met ∙ none in absurd cc)
+pub met_fault : (text : List ℕ) (old new : Station) (f : NodeFault) → new.tally.fault ≡ Some f → HasLived text old new
+met_fault text old new f met none = (let both : Some f ≡ None = sym met ∙ none in absurd cc)
+
+-- nor if it has one
+pub has_fault : (text : List ℕ) (old new : Station) → is_some new.tally.fault ≡ true → HasLived text old new
+has_fault text old new some none = (let gone : false ≡ true = ap is_some (sym none) ∙ some in absurd cc)
 
 -- what comes behind a life, counts no crash and uses no line leaves it as it was
-pub lived_on : (old mid new : Station) → HasLived old mid → (new.tally.fault ≢ Some fault.Memory → new.tally.fault ≡ mid.tally.fault)
-    → new.end ≡ mid.end → new.plan ≡ mid.plan → new.tally.crashes ≡ mid.tally.crashes → HasLived old new
-lived_on old mid new lived kept end plan same none =
+pub lived_on : (text : List ℕ) (old mid new : Station) → HasLived text old mid → (new.tally.fault ≢ Some fault.Memory → new.tally.fault ≡ mid.tally.fault)
+    → new.end ≡ mid.end → new.plan ≡ mid.plan → new.tally.crashes ≡ mid.tally.crashes → HasLived text old new
+lived_on text old mid new lived kept end plan same none =
     let life = lived (sym (kept (λ memory. (let both : None ≡ Some fault.Memory = sym none ∙ memory in absurd cc))) ∙ none) in
     record {
       program = life.program;
+      reads = life.reads;
       begun = life.begun;
       begins = life.begins;
       plan = life.plan;
@@ -71,18 +78,33 @@ lived_on old mid new lived kept end plan same none =
       crashes = same ∙ life.crashes ∙ ap (λ e. crashes_by e old.tally.crashes) (sym end);
     }
 
--- one life more, by which the rank crashed
-pub lives_on : (first old new : Station) → ((u : Station) → Lives old u → Lives first u) → HasLived old new → new.end ≡ None
-    → (new.end ≡ None → new.tally.fault ≡ None → HasRow new) → (u : Station) → Lives new u → Lives first u
-lives_on first old new before lived crashed row u rest = before u (again lived crashed (row crashed) rest)
+-- a fault or none
+well_or_not : (f : Option NodeFault) → (f ≡ None) ⊎ (f ≢ None)
+well_or_not None = inl refl
+well_or_not (Some e) = inr (λ both. absurd cc)
 
--- the last life, in which the rank left
-pub lives_last : (first old new : Station) → ((u : Station) → Lives old u → Lives first u) → HasLived old new → new.end ≢ None → Lives first new
-lives_last first old new before lived left = before new (last lived left)
+-- one life more, without a fault, by which the rank crashed
+pub lives_on : (text : List ℕ) (first old new : Station) → ((u : Station) → Lives text old u → Lives text first u)
+    → HasLived text old new → new.end ≡ None → new.tally.fault ≡ None → (new.end ≡ None → new.tally.fault ≡ None → HasRow new) → (u : Station) → Lives text new u → Lives text first u
+lives_on text first old new before lived crashed well row u rest = before u (again (lived well) well crashed (row crashed well) rest)
+
+-- the last life, in which the rank left, or met a fault
+pub lives_last : (text : List ℕ) (first old new : Station) → ((u : Station) → Lives text old u → Lives text first u) → HasLived text old new
+    → new.end ≢ None → Lives text first new
+lives_last text first old new before lived left =
+    elim (well_or_not new.tally.fault) [ inl well ↦ before new (last (lived well) well left) | inr fault ↦ before new (failed fault) ]
+
+-- the last life, behind which the rank has a fault, and is given up with it
+pub lives_failed : (text : List ℕ) (first old mid new : Station) → ((u : Station) → Lives text old u → Lives text first u)
+    → is_some mid.tally.fault ≡ true → new.tally ≡ mid.tally → Lives text first new
+lives_failed text first old mid new before some same = before new (failed (λ none.
+    let gone : false ≡ true = ap is_some (sym (ap (λ t. t.fault) (sym same) ∙ none)) ∙ some in
+    absurd cc))
 
 -- no life more, as the rank was told to leave
-pub lives_told : (first old new : Station) → ((u : Station) → Lives old u → Lives first u) → IsToldToLeave old new → Lives first new
-lives_told first old new before left = before new (told left)
+pub lives_told : (text : List ℕ) (first old new : Station) → ((u : Station) → Lives text old u → Lives text first u) → IsToldToLeave old new
+    → Lives text first new
+lives_told text first old new before left = before new (told left)
 
 -- what leads from life to life
-pub ruleset keeper_laws = (lives_on, lives_last, lives_told)
+pub ruleset keeper_laws = (lives_on, lives_last, lives_failed, lives_told)

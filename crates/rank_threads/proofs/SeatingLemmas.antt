@@ -1,112 +1,77 @@
 -- A station more and a station less.
 use Rattle.std.proofs.Common.{◌≡◌, ℕ, zero, suc, ◌+◌, List, [], ◌∷◌, ◌++◌, ◌<◌, length, map, slice_index_or, refl, sym, ◌∙◌, ap, arith, Vec}
-use Rattle.std.proofs.lemmas.List.{map-append, length-append, append_assoc}
-use Rattle.ports.specs.Lanes.{Lane, TxValue, RxValue, lane_to, lane_from}
+use Rattle.std.proofs.lemmas.List.{map-append, append_assoc}
+use Rattle.ports.specs.Lanes.{TxValue, RxValue, lane_to, lane_from}
 use Rattle.lanes.specs.Ends.{to_names, from_names}
 use Rattle.event_logger.specs.Desks.{DeskValue, LoggerValue, AreDesks}
-use Rattle.rank_threads.specs.Stations.{SameStations}
-use Rattle.rank_threads.specs.Report.{AreOfRanks}
-use Rattle.rank_threads.specs.Seating.{AreDesksFrom, stations_to, stations_from, AreSeated}
+use Rattle.rank_threads.specs.Keeping.{WereKept}
+use Rattle.rank_threads.specs.Seating.{AreDesksFrom, AreNew, desks_of, lanes_from, lanes_to}
+use Rattle.rank_threads.specs.Stations.{IsNew, stations_of}
 use Rattle.rank_threads.specs.declared.parcel.Parcel.{Parcel}
+use Rattle.rank_threads.specs.declared.station.Station.{Station}
 
 module _ {W : Type 0} where
-  to_snoc : (ps : List (Parcel W)) (p : Parcel W) → stations_to (ps ++ p ∷ []) ≡ map lane_to p.station.to.items ∷ stations_to ps
-  to_snoc [] p = refl
-  to_snoc (q ∷ ps) p = ap (λ l. l ++ map lane_to q.station.to.items ∷ []) (to_snoc ps p)
+  -- the last parcel has the lowest rank
+  pub stations_snoc : (ps : List (Parcel W)) (p : Parcel W) → stations_of (ps ++ p ∷ []) ≡ p.station ∷ stations_of ps
+  stations_snoc [] p = refl
+  stations_snoc (q ∷ ps) p = ap (λ l. l ++ q.station ∷ []) (stations_snoc ps p)
 
-  from_snoc : (ps : List (Parcel W)) (p : Parcel W) → stations_from (ps ++ p ∷ []) ≡ map lane_from p.station.from.items ∷ stations_from ps
-  from_snoc [] p = refl
-  from_snoc (q ∷ ps) p = ap (λ l. l ++ map lane_from q.station.from.items ∷ []) (from_snoc ps p)
+  -- what the last rank has goes to a station, and comes back
+  moves : {B : Type 0} (f : Station → B) (rest : List B) (one : B) (ps : List (Parcel W)) (p : Parcel W) → one ≡ f p.station
+      → (rest ++ one ∷ []) ++ map f (stations_of ps) ≡ rest ++ map f (stations_of (ps ++ p ∷ []))
+  moves f rest one ps p same =
+      append_assoc rest (one ∷ []) (map f (stations_of ps)) ∙ ap (λ b. rest ++ b ∷ map f (stations_of ps)) same
+      ∙ ap (λ l. rest ++ map f l) (sym (stations_snoc ps p))
 
-module _ {W A : Type 0} where
-  -- the ends of the last rank's puts go to a station, and come back
-  to_moves : (to : List (Vec TxValue A)) (to_each : Vec TxValue A) (ps : List (Parcel W)) (p : Parcel W) → to_each.items ≡ p.station.to.items
-      → to_names (to ++ to_each ∷ []) ++ stations_to ps ≡ to_names to ++ stations_to (ps ++ p ∷ [])
-  to_moves to to_each ps p same =
-      ap (λ l. l ++ stations_to ps) (map-append (λ (ends : Vec TxValue A). map lane_to ends.items) to (to_each ∷ []))
-      ∙ append_assoc (to_names to) (map lane_to to_each.items ∷ []) (stations_to ps)
-      ∙ ap (λ row. to_names to ++ map lane_to row ∷ stations_to ps) same
-      ∙ ap (λ l. to_names to ++ l) (sym (to_snoc ps p))
+  pub seated : {B : Type 0} (f : Station → B) (rest : List B) (one : B) (ps : List (Parcel W)) (p : Parcel W) (all : List B)
+      → (rest ++ one ∷ []) ++ map f (stations_of ps) ≡ all → one ≡ f p.station → rest ++ map f (stations_of (ps ++ p ∷ [])) ≡ all
+  seated f rest one ps p all before same = sym (moves f rest one ps p same) ∙ before
 
-  pub to_seated : (to : List (Vec TxValue A)) (to_each : Vec TxValue A) (ps : List (Parcel W)) (p : Parcel W) (all : List (List Lane))
-      → to_names (to ++ to_each ∷ []) ++ stations_to ps ≡ all → to_each.items ≡ p.station.to.items → to_names to ++ stations_to (ps ++ p ∷ []) ≡ all
-  to_seated to to_each ps p all before same = sym (to_moves to to_each ps p same) ∙ before
+  pub unseated : {B : Type 0} (f : Station → B) (rest : List B) (one : B) (ps : List (Parcel W)) (p : Parcel W) (all : List B)
+      → rest ++ map f (stations_of (ps ++ p ∷ [])) ≡ all → one ≡ f p.station → (rest ++ one ∷ []) ++ map f (stations_of ps) ≡ all
+  unseated f rest one ps p all before same = moves f rest one ps p same ∙ before
 
-  pub to_unseated : (to : List (Vec TxValue A)) (to_each : Vec TxValue A) (ps : List (Parcel W)) (p : Parcel W) (all : List (List Lane))
-      → to_names to ++ stations_to (ps ++ p ∷ []) ≡ all → to_each.items ≡ p.station.to.items → to_names (to ++ to_each ∷ []) ++ stations_to ps ≡ all
-  to_unseated to to_each ps p all before same = to_moves to to_each ps p same ∙ before
+  -- a further rank that hasn't lived yet
+  pub new_more : (ps : List (Parcel W)) (p : Parcel W) → AreNew (stations_of ps) → IsNew p.station → AreNew (stations_of (ps ++ p ∷ []))
+  new_more ps p all one = rw (stations_snoc ps p) (one, all)
 
-  from_moves : (from : List (Vec RxValue A)) (from_each : Vec RxValue A) (ps : List (Parcel W)) (p : Parcel W) → from_each.items ≡ p.station.from.items
-      → from_names (from ++ from_each ∷ []) ++ stations_from ps ≡ from_names from ++ stations_from (ps ++ p ∷ [])
-  from_moves from from_each ps p same =
-      ap (λ l. l ++ stations_from ps) (map-append (λ (ends : Vec RxValue A). map lane_from ends.items) from (from_each ∷ []))
-      ∙ append_assoc (from_names from) (map lane_from from_each.items ∷ []) (stations_from ps)
-      ∙ ap (λ row. from_names from ++ map lane_from row ∷ stations_from ps) same
-      ∙ ap (λ l. from_names from ++ l) (sym (from_snoc ps p))
+module _ {A : Type 0} where
+  -- the names of the lanes of one rank more
+  pub to_snoc : (to : List (Vec TxValue A)) (one : Vec TxValue A) → to_names (to ++ one ∷ []) ≡ to_names to ++ map lane_to one.items ∷ []
+  to_snoc to one = map-append (λ (ends : Vec TxValue A). map lane_to ends.items) to (one ∷ [])
 
-  pub from_seated : (from : List (Vec RxValue A)) (from_each : Vec RxValue A) (ps : List (Parcel W)) (p : Parcel W) (all : List (List Lane))
-      → from_names (from ++ from_each ∷ []) ++ stations_from ps ≡ all → from_each.items ≡ p.station.from.items
-      → from_names from ++ stations_from (ps ++ p ∷ []) ≡ all
-  from_seated from from_each ps p all before same = sym (from_moves from from_each ps p same) ∙ before
+  pub from_snoc : (from : List (Vec RxValue A)) (one : Vec RxValue A) → from_names (from ++ one ∷ []) ≡ from_names from ++ map lane_from one.items ∷ []
+  from_snoc from one = map-append (λ (ends : Vec RxValue A). map lane_from ends.items) from (one ∷ [])
 
-  pub from_unseated : (from : List (Vec RxValue A)) (from_each : Vec RxValue A) (ps : List (Parcel W)) (p : Parcel W) (all : List (List Lane))
-      → from_names from ++ stations_from (ps ++ p ∷ []) ≡ all → from_each.items ≡ p.station.from.items
-      → from_names (from ++ from_each ∷ []) ++ stations_from ps ≡ all
-  from_unseated from from_each ps p all before same = from_moves from from_each ps p same ∙ before
+-- what stays of stations that were kept: their number
+pub kept_length : (text : List ℕ) (a b : List Station) → WereKept text a b → length b ≡ length a
+kept_length text [] [] kept = refl
+kept_length text [] (y ∷ ys) kept = absurd kept
+kept_length text (x ∷ xs) [] kept = absurd kept
+kept_length text (x ∷ xs) (y ∷ ys) kept = ap suc (kept_length text xs ys kept.1)
 
-module _ {W : Type 0} where
-  -- a station of the rank below the others
-  pub seated_more : (logger : LoggerValue) (first : ℕ) (ps : List (Parcel W)) (p : Parcel W)
-      → AreSeated logger (first + 1) ps → p.station.down.desk.table ≡ logger.table → p.station.down.desk.rank ≡ first
-      → AreSeated logger first (ps ++ p ∷ [])
-  seated_more logger first [] p before same who = (same, who ∙ omega arith, tt)
-  seated_more logger first (q ∷ ps) p before same who =
-      (before.0, before.1 ∙ grind (arith, length-append ps (p ∷ [])), seated_more logger first ps p before.2 same who)
+-- the lanes into which they put
+pub kept_to : (text : List ℕ) (a b : List Station) → WereKept text a b → lanes_to b ≡ lanes_to a
+kept_to text [] [] kept = refl
+kept_to text [] (y ∷ ys) kept = absurd kept
+kept_to text (x ∷ xs) [] kept = absurd kept
+kept_to text (x ∷ xs) (y ∷ ys) kept = rw (kept_to text xs ys kept.1, kept.0.0.3) refl
 
-  -- without the last station, which is the lowest rank's
-  pub seated_less : (logger : LoggerValue) (first : ℕ) (ps : List (Parcel W)) (p : Parcel W)
-      → AreSeated logger first (ps ++ p ∷ [])
-      → (p.station.down.desk.table ≡ logger.table) × (p.station.down.desk.rank ≡ first) × AreSeated logger (first + 1) ps
-  seated_less logger first [] p all = (all.0, all.1 ∙ omega arith, tt)
-  seated_less logger first (q ∷ ps) p all =
-      let rest = seated_less logger first ps p all.2 in
-      (rest.0, rest.1, (all.0, all.1 ∙ grind (arith, length-append ps (p ∷ [])), rest.2))
+-- the lanes from which they take
+pub kept_from : (text : List ℕ) (a b : List Station) → WereKept text a b → lanes_from b ≡ lanes_from a
+kept_from text [] [] kept = refl
+kept_from text [] (y ∷ ys) kept = absurd kept
+kept_from text (x ∷ xs) [] kept = absurd kept
+kept_from text (x ∷ xs) (y ∷ ys) kept = rw (kept_from text xs ys kept.1, kept.0.0.4) refl
 
-  -- what stays of stations: their number
-  pub same_length : (a b : List (Parcel W)) → SameStations a b → length b ≡ length a
-  same_length [] [] same = refl
-  same_length [] (y ∷ ys) same = absurd same
-  same_length (x ∷ xs) [] same = absurd same
-  same_length (x ∷ xs) (y ∷ ys) same = ap suc (same_length xs ys same.1)
-
-  -- the lanes into which they put
-  pub same_to : (a b : List (Parcel W)) → SameStations a b → stations_to b ≡ stations_to a
-  same_to [] [] same = refl
-  same_to [] (y ∷ ys) same = absurd same
-  same_to (x ∷ xs) [] same = absurd same
-  same_to (x ∷ xs) (y ∷ ys) same = rw (same_to xs ys same.1, same.0.3) refl
-
-  -- the lanes from which they take
-  pub same_from : (a b : List (Parcel W)) → SameStations a b → stations_from b ≡ stations_from a
-  same_from [] [] same = refl
-  same_from [] (y ∷ ys) same = absurd same
-  same_from (x ∷ xs) [] same = absurd same
-  same_from (x ∷ xs) (y ∷ ys) same = rw (same_from xs ys same.1, same.0.4) refl
-
-  -- and their desks
-  pub same_seated : (logger : LoggerValue) (first : ℕ) (a b : List (Parcel W)) → SameStations a b → AreSeated logger first a → AreSeated logger first b
-  same_seated logger first [] [] same all = tt
-  same_seated logger first [] (y ∷ ys) same all = absurd same
-  same_seated logger first (x ∷ xs) [] same all = absurd same
-  same_seated logger first (x ∷ xs) (y ∷ ys) same all =
-      (same.0.1.desk.0 ∙ all.0, same.0.1.desk.1 ∙ all.1 ∙ ap (λ n. first + n) (sym (same_length xs ys same.1)), same_seated logger first xs ys same.1 all.2)
-
--- a further desk of the logger
-pub desks_more : (logger : LoggerValue) (first : ℕ) (ds : List DeskValue) (d : DeskValue)
-    → AreDesksFrom logger first ds → d.table ≡ logger.table → d.rank ≡ first + length ds
-    → AreDesksFrom logger first (ds ++ d ∷ [])
-desks_more logger first [] d all same who = (same, who ∙ omega arith, tt)
-desks_more logger first (e ∷ ds) d all same who = (all.0, all.1, desks_more logger (first + 1) ds d all.2 same (who ∙ omega arith))
+-- and whose desks they have
+pub kept_desks : (text : List ℕ) (logger : LoggerValue) (first : ℕ) (a b : List Station) → WereKept text a b
+    → AreDesksFrom logger first (desks_of a) → AreDesksFrom logger first (desks_of b)
+kept_desks text logger first [] [] kept all = tt
+kept_desks text logger first [] (y ∷ ys) kept all = absurd kept
+kept_desks text logger first (x ∷ xs) [] kept all = absurd kept
+kept_desks text logger first (x ∷ xs) (y ∷ ys) kept all =
+    (kept.0.0.1.desk.0 ∙ all.0, kept.0.0.1.desk.1 ∙ all.1, kept_desks text logger (first + 1) xs ys kept.1 all.2)
 
 -- desks in rank order, one after another, are desks in rank order, each at its place
 desks_at : (logger : LoggerValue) (first : ℕ) (ds : List DeskValue) → AreDesksFrom logger first ds → (k : ℕ) (d : DeskValue) → k < length ds
@@ -120,10 +85,6 @@ desks_at logger first (e ∷ ds) all (suc k) d low =
 -- so they may close their logger
 pub desks_listed : (logger : LoggerValue) (ds : List DeskValue) → AreDesksFrom logger 0 ds → AreDesks logger.table ds
 desks_listed logger ds all k d low = let at = desks_at logger 0 ds all k d low in (at.0, at.1 ∙ omega arith)
-
--- and each is its rank's
-pub desks_in_order : (logger : LoggerValue) (ranks : ℕ) (ds : List DeskValue) → AreDesksFrom logger 0 ds → length ds ≡ ranks → AreOfRanks ranks ds
-desks_in_order logger ranks ds all many k d low = let at = desks_at logger 0 ds all k d (omega (arith, many, low)) in at.1 ∙ omega arith
 
 -- and the other way round
 desks_from : (logger : LoggerValue) (first : ℕ) (ds : List DeskValue)
@@ -150,10 +111,4 @@ desks_less logger first (e ∷ ds) d all =
     ((all.0, all.1, rest.0), rest.1, rest.2 ∙ omega arith)
 
 -- what carries a run from its lanes and desks to its stations, through their lives, and back
-pub ruleset played_laws = (same_to, same_from, same_seated, same_length, desks_listed, desks_in_order, desks_ordered)
-
--- what one station more that is put together leaves
-pub ruleset seated_laws = (to_seated, from_seated, seated_more)
-
--- what one station more that is taken apart leaves
-pub ruleset unseated_laws = (to_unseated, from_unseated, seated_less, desks_more)
+pub ruleset played_laws = (kept_to, kept_from, kept_desks, kept_length, desks_listed, desks_ordered)

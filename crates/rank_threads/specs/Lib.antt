@@ -7,6 +7,8 @@ pub mod Clearing
 pub mod Stations
 pub mod Seating
 pub mod Report
+pub mod Kills
+pub mod Stage
 pub mod Putting
 pub mod Resting
 pub mod Tally

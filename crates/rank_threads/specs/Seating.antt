@@ -1,12 +1,11 @@
--- The stations of a run, which are the process slots of its ranks, the last rank's first.
-use Rattle.std.specs.Prelude.{◌≡◌, ℕ, ◌+◌, ◌≤◌, List, [], ◌∷◌, ◌++◌, Option, Some, None, length, map, vec_len, vec_capacity}
+-- The stations of a run, which are the process slots of its ranks, in rank order.
+use Rattle.std.specs.Prelude.{◌≡◌, ℕ, ◌+◌, ◌≤◌, List, [], ◌∷◌, Option, Some, None, length, map, vec_len, vec_capacity}
 use Rattle.audit.specs.declared.outcome.End.{End}
 use Rattle.audit.specs.declared.outcome.End.TheVariants as end
 use Rattle.ports.specs.Lanes.{Lane, lane_to, lane_from}
 use Rattle.event_logger.specs.Desks.{DeskValue, LoggerValue}
 use Rattle.script_text.specs.declared.line.ScriptLine.{ScriptLine}
 use Rattle.rank_threads.specs.Stations.{IsNew}
-use Rattle.rank_threads.specs.declared.parcel.Parcel.{Parcel}
 use Rattle.rank_threads.specs.declared.seating.Account.{Account}
 use Rattle.rank_threads.specs.declared.seating.Remains.{Remains}
 use Rattle.rank_threads.specs.declared.seating.Unseated.{Unseated}
@@ -45,34 +44,27 @@ ended (Some e) = e
 abbrev pub account_of : Station → Account
 account_of s = record { end = ended s.end; crashes = s.tally.crashes; unused = length s.plan; fault = s.tally.fault }
 
-module _ {W : Type 0} where
-  -- into which lanes each rank puts, by source
-  abbrev pub stations_to : List (Parcel W) → List (List Lane)
-  stations_to [] = []
-  stations_to (p ∷ ps) = stations_to ps ++ map lane_to p.station.to.items ∷ []
+-- no rank has lived yet
+abbrev pub AreNew : List Station → Type 0
+AreNew [] = Unit {0}
+AreNew (s ∷ ss) = IsNew s × AreNew ss
 
-  -- from which lanes each rank takes, by destination
-  abbrev pub stations_from : List (Parcel W) → List (List Lane)
-  stations_from [] = []
-  stations_from (p ∷ ps) = stations_from ps ++ map lane_from p.station.from.items ∷ []
+-- the desk of each of these stations
+abbrev pub desks_of : List Station → List DeskValue
+desks_of stations = map (λ s. s.down.desk) stations
 
-  -- the lines of the script that are left for each rank
-  abbrev pub stations_plans : List (Parcel W) → List (List ScriptLine)
-  stations_plans [] = []
-  stations_plans (p ∷ ps) = stations_plans ps ++ p.station.plan ∷ []
+-- the lines of the script that are left for each of these
+abbrev pub plans_of : List Station → List (List ScriptLine)
+plans_of stations = map (λ s. s.plan) stations
 
-  -- what each rank came to
-  abbrev pub stations_accounts : List (Parcel W) → List Account
-  stations_accounts [] = []
-  stations_accounts (p ∷ ps) = stations_accounts ps ++ account_of p.station ∷ []
+-- what the rank of each of these came to
+abbrev pub accounts_of : List Station → List Account
+accounts_of stations = map account_of stations
 
-  -- no rank has lived yet
-  abbrev pub AreNew : List (Parcel W) → Type 0
-  AreNew [] = Unit {0}
-  AreNew (p ∷ ps) = IsNew p.station × AreNew ps
+-- into which lanes each of these puts
+abbrev pub lanes_to : List Station → List (List Lane)
+lanes_to stations = map (λ s. map lane_to s.to.items) stations
 
-  -- the desks are of this logger, and of the ranks from this one on
-  abbrev pub AreSeated : LoggerValue → ℕ → List (Parcel W) → Type 0
-  AreSeated logger first [] = Unit {0}
-  AreSeated logger first (p ∷ ps) =
-      (p.station.down.desk.table ≡ logger.table) × (p.station.down.desk.rank ≡ first + length ps) × AreSeated logger first ps
+-- from which lanes each of these takes
+abbrev pub lanes_from : List Station → List (List Lane)
+lanes_from stations = map (λ s. map lane_from s.from.items) stations

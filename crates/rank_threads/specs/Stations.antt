@@ -1,6 +1,6 @@
 -- What stays of a rank's station, its process slot, from life to life (from incarnation to
 -- incarnation).
-use Rattle.std.specs.Prelude.{◌≡◌, List, [], ◌∷◌, Some, None}
+use Rattle.std.specs.Prelude.{◌≡◌, List, [], ◌∷◌, ◌++◌, Some, None}
 use Rattle.event_logger.specs.Desks.{own_row}
 use Rattle.plain_logger.specs.History.{above}
 use Rattle.rank_node.specs.Phases.{stable_in}
@@ -39,9 +39,7 @@ pub record IsNew (s : Station) : Type 0 where
   pub end : s.end ≡ None
 
 module _ {W : Type 0} where
-  -- the same stations in the same order
-  abbrev pub SameStations : List (Parcel W) → List (Parcel W) → Type 0
-  SameStations [] [] = Unit {0}
-  SameStations [] (y ∷ ys) = ⊥
-  SameStations (x ∷ xs) [] = ⊥
-  SameStations (x ∷ xs) (y ∷ ys) = SameStation x.station y.station × SameStations xs ys
+  -- the stations in rank order: the last rank's is the first of the parcels
+  abbrev pub stations_of : List (Parcel W) → List Station
+  stations_of [] = []
+  stations_of (p ∷ ps) = stations_of ps ++ p.station ∷ []

@@ -1,10 +1,11 @@
 //! The keepers of all ranks, their supervisors, each on a thread of its own.
 ghost use Rattle.std.specs.Prelude.{◌≡◌, vec_len, vec_capacity};
-ghost use Rattle.rank_threads.specs.Stations.{SameStation, SameStations};
+ghost use Rattle.rank_threads.specs.Keeping.{WasKept, WereKept};
+ghost use Rattle.rank_threads.specs.Stations.{stations_of};
 
 use crate::hold::Hold;
 use crate::keeper::{keep, unplayed};
-use crate::parcel::{Parcel, SameAs};
+use crate::parcel::{AfterLives, Parcel};
 use crate::shared::Shared;
 use metered::Heap;
 use rank_node::NodeFault;
@@ -22,7 +23,7 @@ pub fn keep_all<'p, R: Threads + Wait + Sync + Copy + Send, H: Hold + Sync>(
     shared: &Shared<'_, H>,
     stations: Vec<Parcel<'p, R>, Heap>,
 ) -> Vec<Parcel<'p, R>, Heap>
-    ensures same { SameStations stations.entry.items result.items }
+    ensures kept { WereKept shared.now.text.now (stations_of stations.entry.items) (stations_of result.items) }
     ensures len { vec_len result ≡ vec_len stations.entry }
     ensures room { vec_capacity result ≡ vec_capacity stations.entry }
 {
@@ -39,7 +40,7 @@ fn keep_one<'p, R: Threads + Wait + Sync + Copy + Send, H: Hold + Sync>(
     shared: &Shared<'_, H>,
     parcel: Parcel<'p, R>,
 ) -> Parcel<'p, R>
-    ensures { SameStation parcel.entry.station result.station }
+    ensures { WasKept shared.now.text.now parcel.entry.station result.station }
 {
     let rt = parcel.rt;
     let station = keep(rt, shared, parcel.open());
@@ -47,14 +48,15 @@ fn keep_one<'p, R: Threads + Wait + Sync + Copy + Send, H: Hold + Sync>(
 }
 
 #[cycle(crew)]
+#[tactic(auto, using(crate::proofs::Crews::kept_refused))]
 fn beside<'p, R: Threads + Wait + Sync + Copy + Send, H: Hold + Sync>(
     rt: R,
     shared: &Shared<'_, H>,
     parcel: Parcel<'p, R>,
     rest: Vec<Parcel<'p, R>, Heap>,
 ) -> (Parcel<'p, R>, Vec<Parcel<'p, R>, Heap>)
-    ensures one { SameStation parcel.entry.station result.0.station }
-    ensures same { SameStations rest.entry.items result.1.items }
+    ensures one { WasKept shared.now.text.now parcel.entry.station result.0.station }
+    ensures kept { WereKept shared.now.text.now (stations_of rest.entry.items) (stations_of result.1.items) }
     ensures len { vec_len result.1 ≡ vec_len rest.entry }
     ensures room { vec_capacity result.1 ≡ vec_capacity rest.entry }
 {
@@ -62,14 +64,14 @@ fn beside<'p, R: Threads + Wait + Sync + Copy + Send, H: Hold + Sync>(
         thread::scope_env(),
         &rt,
         move |scope| -> (Parcel<'_, R>, Vec<Parcel<'_, R>, Heap>)
-            ensures one { SameStation parcel.entry.station result.0.station }
-            ensures same { SameStations rest.entry.items result.1.items }
+            ensures one { WasKept shared.entry.now.text.now parcel.entry.station result.0.station }
+            ensures kept { WereKept shared.entry.now.text.now (stations_of rest.entry.items) (stations_of result.1.items) }
             ensures len { vec_len result.1 ≡ vec_len rest.entry }
             ensures room { vec_capacity result.1 ≡ vec_capacity rest.entry }
         {
-            let promise = SameAs(Snapshot::of(&parcel.station));
+            let promise = AfterLives(Snapshot::of(&parcel.station), Snapshot::of(&shared.text));
             let whole = move || -> Parcel<'_, R>
-                ensures { SameStation parcel.entry.station result.station }
+                ensures { WasKept shared.entry.now.text.now parcel.entry.station result.station }
             { keep_one(shared, parcel) };
             match scope.spawn_with(promise, whole) {
                 Ok(child) => {

@@ -19,8 +19,8 @@ use std::sync::Wait;
 use std::thread;
 use std::thread::Threads;
 
-/// Plays lives until one doesn't crash, or all are told to leave: the rank has
-/// come to its end either way.
+/// Plays lives until one doesn't crash, the rank meets a fault, or all are told
+/// to leave: the rank has come to its end in each case.
 #[tactic(auto, using(crate::proofs::LifeLemmas::keeper_laws))]
 pub fn keep<'l, R: Threads + Wait + Sync + Copy + Send, H: Hold + Sync>(
     rt: R,
@@ -28,7 +28,7 @@ pub fn keep<'l, R: Threads + Wait + Sync + Copy + Send, H: Hold + Sync>(
     station: Station<'l>,
 ) -> Station<'l>
     ensures ended { result.end ≢ None }
-    ensures lives { Lives station.entry result }
+    ensures lives { Lives shared.now.text.now station.entry result }
     ensures same { SameStation station.entry result }
 {
     let mut station = station;
@@ -40,8 +40,22 @@ pub fn keep<'l, R: Threads + Wait + Sync + Copy + Send, H: Hold + Sync>(
         if station.end.is_some() {
             return station;
         }
+        if station.tally.fault.is_some() {
+            return given_up(station);
+        }
     }
     unreachable!()
+}
+
+// A rank that has a fault lives no more, and keeps it.
+fn given_up<'l>(station: Station<'l>) -> Station<'l>
+    ensures end { result.end ≢ None }
+    ensures counts { result.tally ≡ station.entry.tally }
+    ensures same { SameStation station.entry result }
+{
+    let mut station = station;
+    station.end = Some(End::Unfinished);
+    station
 }
 
 // All were told to leave, so the rank lives no more.
@@ -62,7 +76,7 @@ fn lived<'l, R: Threads + Wait + Sync + Copy + Send, H: Hold + Sync>(
     station: Station<'l>,
 ) -> Station<'l>
     ensures row { result.end ≡ None → result.tally.fault ≡ None → HasRow result }
-    ensures lived { HasLived station.entry result }
+    ensures lived { HasLived shared.now.text.now station.entry result }
     ensures same { SameStation station.entry result }
 {
     let station = one_life(rt, shared, station);
@@ -95,7 +109,7 @@ fn live_one<'l, W: Wait + Drop + Copy, H: Hold>(
     shared: &Shared<'_, H>,
     parcel: Parcel<'l, W>,
 ) -> Parcel<'l, W>
-    ensures lived { HasLived parcel.entry.station result.station }
+    ensures lived { HasLived shared.now.text.now parcel.entry.station result.station }
     ensures same { SameStation parcel.entry.station result.station }
 {
     let rt = parcel.rt;
@@ -123,7 +137,7 @@ fn one_life<'l, R: Threads + Wait + Sync + Copy + Send, H: Hold + Sync>(
     shared: &Shared<'_, H>,
     station: Station<'l>,
 ) -> Station<'l>
-    ensures lived { HasLived station.entry result }
+    ensures lived { HasLived shared.now.text.now station.entry result }
     ensures same { SameStation station.entry result }
 {
     let parcel = Parcel { rt, station };
@@ -131,12 +145,12 @@ fn one_life<'l, R: Threads + Wait + Sync + Copy + Send, H: Hold + Sync>(
         thread::scope_env(),
         &rt,
         move |scope| -> Parcel<'_, R>
-            ensures lived { HasLived parcel.entry.station result.station }
+            ensures lived { HasLived shared.entry.now.text.now parcel.entry.station result.station }
             ensures same { SameStation parcel.entry.station result.station }
         {
-            let promise = AfterLife(Snapshot::of(&parcel.station));
+            let promise = AfterLife(Snapshot::of(&parcel.station), Snapshot::of(&shared.text));
             let whole = move || -> Parcel<'_, R>
-                ensures lived { HasLived parcel.entry.station result.station }
+                ensures lived { HasLived shared.entry.now.text.now parcel.entry.station result.station }
                 ensures same { SameStation parcel.entry.station result.station }
             { live_one(shared, parcel) };
             match scope.spawn_with(promise, whole) {

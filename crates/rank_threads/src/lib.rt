@@ -30,6 +30,7 @@ mod row;
 mod running;
 mod seating;
 mod shared;
+mod stage;
 mod station;
 mod stepping;
 mod taking;
@@ -38,5 +39,8 @@ mod turn;
 mod waiting;
 
 pub use hold::Hold;
+pub use playing::{Played, play};
 pub use report::{Report, RunFault};
+pub use reporting::certify;
 pub use running::{RunLimits, run};
+pub use stage::Stage;

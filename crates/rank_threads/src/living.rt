@@ -14,21 +14,22 @@ use crate::shared::{Shared, Stop};
 use crate::station::Station;
 use crate::turn::{After, begin, finish, settled};
 use crate::waiting::Patience;
+use audit::End;
 use ports::ConsoleState;
 use rank_language::Program;
 use rank_node::NodeFault;
 use std::sync::Wait;
 
 /// Plays a life, until the rank crashes or leaves. The rank reads the program
-/// for itself: all that a crash loses is of this thread alone. Where all were
-/// told to leave, it makes no turn.
-#[tactic(auto, using(crate::proofs::LifeLemmas::has_lived, crate::proofs::LifeLemmas::met_fault))]
+/// for itself: all that a crash loses is of this thread alone. Where it can't
+/// begin, or all were told to leave, it makes no turn.
+#[tactic(auto, using(crate::proofs::LifeLemmas::met_fault))]
 pub fn live<'l, W: Wait, H: Hold>(
     rt: &W,
     shared: &Shared<'_, H>,
     station: Station<'l>,
 ) -> Station<'l>
-    ensures lived { HasLived station.entry result }
+    ensures lived { HasLived shared.now.text.now station.entry result }
     ensures same { SameStation station.entry result }
 {
     // nobody sees this screen: that it stays blank says that no line is for it, which of a screen without lines no clause could say
@@ -40,6 +41,9 @@ pub fn live<'l, W: Wait, H: Hold>(
         return refused(station, shared.stop_all(rt, NodeFault::Memory));
     };
     let life = station.begin(rt, shared, &program);
+    if life.tally.fault.is_some() {
+        return life.leave(Some(End::Unfinished));
+    }
     let (life, ended) = make_turns(rt, shared, &mut blank, life);
     end_life(life, ended)
 }

@@ -1,6 +1,6 @@
 //! A station on its way into a thread or back.
 ghost use Rattle.std.specs.Prelude.{◌≡◌};
-ghost use Rattle.rank_threads.specs.Keeping.{HasLived};
+ghost use Rattle.rank_threads.specs.Keeping.{HasLived, WasKept};
 ghost use Rattle.rank_threads.specs.Stations.{SameStation};
 
 use crate::station::Station;
@@ -32,18 +32,20 @@ impl<W: Wait + Drop> Drop for Parcel<'_, W> {
     }
 }
 
-/// The station that comes back is the one that went in.
+/// The station that comes back is the one that went in, after lives that read this
+/// text.
 #[derive(Drop)]
-pub struct SameAs<'p>(pub Snapshot<Station<'p>>);
+pub struct AfterLives<'p, 't>(pub Snapshot<Station<'p>>, pub Snapshot<&'t [u8]>);
 
-impl<'p, W: Wait + Drop> Promise<Parcel<'p, W>> for SameAs<'p> {
-    ghost kept_by = { λ p r. SameStation p.0.value r.station };
+impl<'p, 't, W: Wait + Drop> Promise<Parcel<'p, W>> for AfterLives<'p, 't> {
+    ghost kept_by = { λ p r. WasKept p.1.value.now p.0.value r.station };
 }
 
-/// The station that comes back is the one that went in, after one life.
+/// The station that comes back is the one that went in, after one life that read
+/// this text.
 #[derive(Drop)]
-pub struct AfterLife<'p>(pub Snapshot<Station<'p>>);
+pub struct AfterLife<'p, 't>(pub Snapshot<Station<'p>>, pub Snapshot<&'t [u8]>);
 
-impl<'p, W: Wait + Drop> Promise<Parcel<'p, W>> for AfterLife<'p> {
-    ghost kept_by = { λ p r. SameStation p.0.value r.station × HasLived p.0.value r.station };
+impl<'p, 't, W: Wait + Drop> Promise<Parcel<'p, W>> for AfterLife<'p, 't> {
+    ghost kept_by = { λ p r. SameStation p.0.value r.station × HasLived p.1.value.now p.0.value r.station };
 }

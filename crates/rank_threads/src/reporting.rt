@@ -1,22 +1,63 @@
 //! What is left of a run as its report, if it can be validated, or why it has
 //! none.
-ghost use Rattle.std.specs.Prelude.{◌≡◌, ◌≤◌, None, IfOk, length, map};
+ghost use Rattle.std.specs.Prelude.{◌≡◌, ◌≤◌, None, IfOk, length, map, vec_len};
 ghost use Rattle.metered.specs.Limits.{most_ranks};
+ghost use Rattle.audit.specs.Reachable.{IsReachable};
+ghost use Rattle.event_logger.specs.Desks.{AreDesks};
 ghost use Rattle.rank_threads.specs.Faults.{crashes_from, fault_of, is_memory, lacked_memory, lowest_from};
+ghost use Rattle.rank_threads.specs.Report.{IsOfDesks, IsOfLives, IsPlayed, IsReport};
 
 use crate::playing::Played;
 use crate::report::{Report, RunFault};
+use crate::running::RunLimits;
 use crate::seating::Account;
 use audit::{End, Outcome};
-use event_logger::Counts;
+use event_logger::{Counts, Desk, Ledger, Logger};
+use final_runs::confirm;
 use metered::Heap;
 use ports::Line;
+use rank_language::Program;
 use rank_node::NodeFault;
+use script_text::Script;
 use std::alloc::AllocError;
+
+/// Closes the logger at whose desks a program was played, and answers the report
+/// of the play, once it is confirmed. The report is of these desks, and of lives
+/// by this script, which clauses alone read.
+#[tactic(auto, using(crate::proofs::ReportLemmas::report_laws))]
+pub fn certify(
+    alloc: Heap,
+    program: &Program,
+    ranks: u8,
+    _script: &Script,
+    limits: RunLimits,
+    played: Played,
+    logger: Logger,
+    desks: Vec<Desk, Heap>,
+) -> Result<Report, RunFault>
+    requires some { 1 ≤ ranks }
+    requires few { ranks ≤ most_ranks }
+    requires ranks { logger.ranks ≡ ranks }
+    requires desks { AreDesks logger.table desks.items }
+    requires a_desk_each { vec_len desks ≡ ranks }
+    requires played { IsPlayed program.now ranks _script.now logger desks.items played }
+    ensures report { IfOk result (λ report. IsReport program.now ranks report) }
+    ensures within { IfOk result (λ report. IsReachable program.now ranks report.outcome limits.steps) }
+    ensures history { IfOk result (λ report. IsOfDesks ranks desks.items report) }
+    ensures lives { IfOk result (λ report. IsOfLives program.now ranks _script.now logger desks.items report) }
+{
+    let ledger = logger.close(alloc, desks)?;
+    if let Some(fault) = fault_of(played.accounts.as_slice()) {
+        return Err(fault);
+    }
+    let report = reported(alloc, played, ledger)?;
+    confirm(alloc, program, ranks, &report.outcome, limits.steps)?;
+    Ok(report)
+}
 
 /// Why the run has no report: refused memory, or else the fault of the lowest
 /// rank that met one.
-pub fn fault_of(accounts: &[Account]) -> Option<RunFault>
+fn fault_of(accounts: &[Account]) -> Option<RunFault>
     requires { length accounts.now ≤ most_ranks }
     ensures { result ≡ fault_of accounts.now }
 {
@@ -73,20 +114,16 @@ fn lowest_fault(accounts: &[Account]) -> Option<RunFault>
 }
 
 /// What is left of a run as its report, where no rank met a fault.
-pub fn reported(alloc: Heap, played: Played) -> Result<Report, AllocError>
+fn reported(alloc: Heap, played: Played, ledger: Ledger) -> Result<Report, AllocError>
     requires { fault_of played.accounts.items ≡ None }
-    ensures rows { IfOk result (λ report. report.outcome.rows ≡ played.ledger.rows) }
+    ensures rows { IfOk result (λ report. report.outcome.rows ≡ ledger.rows) }
     ensures lines { IfOk result (λ report. report.outcome.lines ≡ played.console) }
     ensures ends { IfOk result (λ report. report.outcome.ends ≡ map (λ a. a.end) played.accounts.items) }
-    ensures calls { IfOk result (λ report. report.calls.items ≡ map (λ c. c.calls) played.ledger.counts) }
+    ensures calls { IfOk result (λ report. report.calls.items ≡ map (λ c. c.calls) ledger.counts) }
     ensures crashes { IfOk result (λ report. report.crashes ≡ crashes_from 0 played.accounts.items) }
     ensures unused { IfOk result (λ report. report.unused.items ≡ map (λ a. a.unused) played.accounts.items) }
 {
-    let Played {
-        ledger,
-        console,
-        accounts,
-    } = played;
+    let Played { console, accounts } = played;
     let calls = calls_of(alloc, ledger.counts())?;
     let ends = ends_of(alloc, accounts.as_slice())?;
     let unused = unused_of(alloc, accounts.as_slice())?;

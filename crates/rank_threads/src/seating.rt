@@ -3,8 +3,9 @@ ghost use Rattle.std.specs.Prelude.{◌≡◌, ◌≤◌, [], vec_len, vec_capac
 ghost use Rattle.metered.specs.Limits.{most_ranks};
 ghost use Rattle.lanes.specs.Ends.{to_names, from_names};
 ghost use Rattle.rank_threads.specs.Plans.{plans_below};
-ghost use Rattle.rank_threads.specs.Seating.{AreDesksFrom, ArePartsOf, AreNew, AreSeated, IsRoom};
-ghost use Rattle.rank_threads.specs.Seating.{account_of, stations_accounts, stations_from, stations_plans, stations_to};
+ghost use Rattle.rank_threads.specs.Seating.{AreDesksFrom, ArePartsOf, AreNew, IsRoom};
+ghost use Rattle.rank_threads.specs.Seating.{account_of, accounts_of, desks_of, lanes_from, lanes_to, plans_of};
+ghost use Rattle.rank_threads.specs.Stations.{stations_of};
 
 use crate::parcel::Parcel;
 use crate::plan::Plan;
@@ -45,7 +46,6 @@ pub struct Remains {
 
 /// A station for each rank, the last one's first, with what the script asks of
 /// that rank: the snapshot, which has no bytes, says for clauses which script.
-#[tactic(auto, using(crate::proofs::SeatingLemmas::seated_laws, crate::proofs::StationLemmas::new_laws))]
 pub fn seat_all<'l, W: Wait + Drop + Copy>(
     rt: W,
     alloc: Heap,
@@ -62,11 +62,11 @@ pub fn seat_all<'l, W: Wait + Drop + Copy>(
     requires sizes { ArePartsOf size parts }
     requires plans { parts.plans.items ≡ plans_below size _script.value }
     requires room { size ≤ vec_capacity stations }
-    ensures to { stations_to result.items ≡ to_names parts.ends.to.items }
-    ensures from { stations_from result.items ≡ from_names parts.ends.from.items }
-    ensures desks { AreSeated logger.now 0 result.items }
-    ensures plans { stations_plans result.items ≡ plans_below size _script.value }
-    ensures fresh { AreNew result.items }
+    ensures to { lanes_to (stations_of result.items) ≡ to_names parts.ends.to.items }
+    ensures from { lanes_from (stations_of result.items) ≡ from_names parts.ends.from.items }
+    ensures desks { desks_of (stations_of result.items) ≡ parts.desks.items }
+    ensures plans { plans_of (stations_of result.items) ≡ plans_below size _script.value }
+    ensures fresh { AreNew (stations_of result.items) }
     ensures len { vec_len result ≡ size }
 {
     let Unseated {
@@ -95,19 +95,16 @@ pub fn seat_all<'l, W: Wait + Drop + Copy>(
 }
 
 /// The lanes and desks of the stations, and what each rank came to.
-#[tactic(auto, using(crate::proofs::SeatingLemmas::unseated_laws))]
 pub fn unseat_all<'l, W: Wait + Drop + Copy>(
     stations: Vec<Parcel<'l, W>, Heap>,
     room: Remains,
-    logger: &Logger,
 ) -> Remains
-    requires room { IsRoom (vec_len stations) room }
-    requires desks { AreSeated logger.now 0 stations.items }
-    ensures to { to_names result.ends.to.items ≡ stations_to stations.entry.items }
-    ensures from { from_names result.ends.from.items ≡ stations_from stations.entry.items }
-    ensures desks { AreDesksFrom logger.now 0 result.desks.items }
+    requires { IsRoom (vec_len stations) room }
+    ensures to { to_names result.ends.to.items ≡ lanes_to (stations_of stations.entry.items) }
+    ensures from { from_names result.ends.from.items ≡ lanes_from (stations_of stations.entry.items) }
+    ensures desks { result.desks.items ≡ desks_of (stations_of stations.entry.items) }
     ensures len { vec_len result.desks ≡ vec_len stations.entry }
-    ensures accounts { result.accounts.items ≡ stations_accounts stations.entry.items }
+    ensures accounts { result.accounts.items ≡ accounts_of (stations_of stations.entry.items) }
     ensures as_many { vec_len result.accounts ≡ vec_len stations.entry }
 {
     let Remains {

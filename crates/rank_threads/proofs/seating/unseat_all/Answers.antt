@@ -1,30 +1,29 @@
-use Rattle.std.proofs.Common.{◌≡◌, ◌+◌, ◌++◌, ◌∷◌, [], length, sym, ◌∙◌, ap, arith}
-use Rattle.std.proofs.lemmas.List.{length-append}
-use Rattle.rank_threads.specs.Seating.{account_of, stations_accounts, stations_from, stations_to}
-use Rattle.rank_threads.proofs.SeatingLemmas.{to_unseated, from_unseated, seated_less, desks_more}
-use Rattle.rank_threads.proofs.StationLemmas.{accounts_unseated}
+use Rattle.std.proofs.Common.{map, sym, ◌∙◌, ap, arith}
+use Rattle.ports.specs.Lanes.{lane_from, lane_to}
+use Rattle.lanes.specs.Ends.{to_names, from_names}
+use Rattle.rank_threads.specs.Seating.{account_of, accounts_of, desks_of, lanes_from, lanes_to}
+use Rattle.rank_threads.specs.Stations.{stations_of}
+use Rattle.rank_threads.proofs.SeatingLemmas.{from_snoc, to_snoc, unseated}
 use Rattle.rank_threads.proofs.seating.unseat_all.Goals as goal
 
 pub loop-parcel-preserved : goal.loop-parcel-preserved
 loop-parcel-preserved g c =
     let kept = c.loop-parcel.invariant in
     let stations = c.in-Some.ensures.items in
-    let less = seated_less c.args.logger.now (length c.loop-parcel.desks.items) c.pop.new.self.items c.in-Some.parcel (rw (sym stations) kept.seated) in
-    let to = to_unseated c.loop-parcel.to.items c.parts-desk.result.1 c.pop.new.self.items c.in-Some.parcel (stations_to c.args.stations.items)
-    (rw (sym stations) kept.to) (ap (λ v. v.items) c.parts-desk.ensures.to ∙ ap (λ s. s.to.items) c.open.ensures) in
-    let from = from_unseated c.loop-parcel.from.items c.parts-desk.result.2 c.pop.new.self.items c.in-Some.parcel (stations_from c.args.stations.items)
-    (rw (sym stations) kept.from) (ap (λ v. v.items) c.parts-desk.ensures.from ∙ ap (λ s. s.from.items) c.open.ensures) in
-    let desk = c.parts-desk.ensures.desk ∙ ap (λ s. s.down.desk) c.open.ensures in
-    let desks = desks_more c.args.logger.now 0 c.loop-parcel.desks.items c.parts-desk.result.0 kept.desks
-    (ap (λ d. d.table) desk ∙ less.0) (ap (λ d. d.rank) desk ∙ less.1 ∙ omega arith) in
-    let longer : length (c.loop-parcel.desks.items ++ c.parts-desk.result.0 ∷ []) ≡ length c.loop-parcel.desks.items + 1
-    = length-append c.loop-parcel.desks.items (c.parts-desk.result.0 ∷ []) in
-    let accounts = accounts_unseated c.loop-parcel.accounts.items c.parts-desk.result.3 c.pop.new.self.items c.in-Some.parcel
-    (stations_accounts c.args.stations.items) (rw (sym stations) kept.accounts) (c.parts-desk.ensures.account ∙ ap account_of c.open.ensures) in
+    let all = stations_of c.args.stations.items in
+    let to = unseated (λ s. map lane_to s.to.items) (to_names c.loop-parcel.to.items) (map lane_to c.parts-desk.result.1.items) c.pop.new.self.items
+    c.in-Some.parcel (lanes_to all) (rw (sym stations) kept.to)
+    (ap (λ v. map lane_to v.items) (c.parts-desk.ensures.to ∙ ap (λ s. s.to) c.open.ensures)) in
+    let from = unseated (λ s. map lane_from s.from.items) (from_names c.loop-parcel.from.items) (map lane_from c.parts-desk.result.2.items)
+    c.pop.new.self.items c.in-Some.parcel (lanes_from all) (rw (sym stations) kept.from)
+    (ap (λ v. map lane_from v.items) (c.parts-desk.ensures.from ∙ ap (λ s. s.from) c.open.ensures)) in
+    let desks = unseated (λ s. s.down.desk) c.loop-parcel.desks.items c.parts-desk.result.0 c.pop.new.self.items c.in-Some.parcel (desks_of all)
+    (rw (sym stations) kept.desks) (c.parts-desk.ensures.desk ∙ ap (λ s. s.down.desk) c.open.ensures) in
+    let accounts = unseated account_of c.loop-parcel.accounts.items c.parts-desk.result.3 c.pop.new.self.items c.in-Some.parcel (accounts_of all)
+    (rw (sym stations) kept.accounts) (c.parts-desk.ensures.account ∙ ap account_of c.open.ensures) in
     record {
-      to = rw (c.push_reserved.ensures.items) to;
-      from = rw (c.push_reserved-in-Some.ensures.items) from;
-      seated = rw (c.push_reserved-in-Some-2.ensures.items, longer) less.2;
+      to = rw (c.push_reserved.ensures.items, to_snoc c.loop-parcel.to.items c.parts-desk.result.1) to;
+      from = rw (c.push_reserved-in-Some.ensures.items, from_snoc c.loop-parcel.from.items c.parts-desk.result.2) from;
       desks = rw (c.push_reserved-in-Some-2.ensures.items) desks;
       accounts = rw (c.push_reserved-in-Some-3.ensures.items) accounts;
       room_to = grind (arith, kept.room_to, c.in-Some.ensures.len, c.push_reserved.ensures.len, c.push_reserved.ensures.capacity);

@@ -1,15 +1,15 @@
-use Rattle.std.proofs.Common.{◌≡◌, ◌+◌, ◌≤◌, ◌++◌, length, vec_len, vec_capacity}
+use Rattle.std.proofs.Common.{◌≡◌, ◌+◌, ◌≤◌, ◌++◌, vec_len, vec_capacity}
 use Rattle.lanes.specs.Ends.{to_names, from_names}
-use Rattle.rank_threads.specs.Seating.{AreDesksFrom, AreSeated, stations_accounts, stations_from, stations_to}
+use Rattle.rank_threads.specs.Seating.{accounts_of, desks_of, lanes_from, lanes_to}
+use Rattle.rank_threads.specs.Stations.{stations_of}
 use Rattle.rank_threads.proofs.seating.unseat_all.Given as goal
 
 abbrev pub invariant-loop-parcel : goal.invariant-loop-parcel
 invariant-loop-parcel g l = record {
-  to : to_names l.to.items ++ stations_to l.stations.items ≡ stations_to l.initial.stations.items;
-  from : from_names l.from.items ++ stations_from l.stations.items ≡ stations_from l.initial.stations.items;
-  seated : AreSeated l.logger (length l.desks.items) l.stations.items;
-  desks : AreDesksFrom l.logger 0 l.desks.items;
-  accounts : l.accounts.items ++ stations_accounts l.stations.items ≡ stations_accounts l.initial.stations.items;
+  to : to_names l.to.items ++ lanes_to (stations_of l.stations.items) ≡ lanes_to (stations_of l.initial.stations.items);
+  from : from_names l.from.items ++ lanes_from (stations_of l.stations.items) ≡ lanes_from (stations_of l.initial.stations.items);
+  desks : l.desks.items ++ desks_of (stations_of l.stations.items) ≡ desks_of (stations_of l.initial.stations.items);
+  accounts : l.accounts.items ++ accounts_of (stations_of l.stations.items) ≡ accounts_of (stations_of l.initial.stations.items);
   room_to : vec_len l.stations + vec_len l.to ≤ vec_capacity l.to;
   room_from : vec_len l.stations + vec_len l.from ≤ vec_capacity l.from;
   room_desks : vec_len l.stations + vec_len l.desks ≤ vec_capacity l.desks;

@@ -1,5 +1,5 @@
 use Rattle.std.proofs.Common.{◌≡◌, vec_len}
-use Rattle.rank_threads.proofs.playing.bells.Given as goal
+use Rattle.rank_threads.proofs.stage.bells.Given as goal
 
 -- each rank so far has a bell
 abbrev pub invariant-loop : goal.invariant-loop

@@ -1,5 +1,5 @@
 use Rattle.std.proofs.Common.{◌≡◌, vec_len}
-use Rattle.rank_threads.proofs.playing.marks.Given as goal
+use Rattle.rank_threads.proofs.stage.marks.Given as goal
 
 -- each rank so far has a mark
 abbrev pub invariant-loop : goal.invariant-loop

@@ -1,6 +1,6 @@
 use Rattle.std.proofs.Common.{◌≡◌, vec_len}
 use Rattle.rank_threads.specs.Plans.{plans_below}
-use Rattle.rank_threads.proofs.playing.plans.Given as goal
+use Rattle.rank_threads.proofs.stage.plans.Given as goal
 
 -- each rank so far has the lines of the script that are for it
 abbrev pub invariant-loop-rank : goal.invariant-loop-rank

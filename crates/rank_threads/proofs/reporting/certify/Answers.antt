@@ -1,0 +1,18 @@
+use Rattle.std.proofs.Common.{rules, ◌≡◌, None, sym, arith}
+use Rattle.rank_threads.proofs.ReportLemmas.{of_desks, of_lives}
+use Rattle.rank_threads.specs.Faults.{fault_of}
+use Rattle.rank_threads.proofs.reporting.certify.Goals as goal
+
+-- the ledger is that of these desks
+pub returns-clause-history : goal.returns-clause-history
+returns-clause-history c =
+    of_desks c.args.ranks c.args.logger c.args.desks.items c.in_ok-ledger.ledger _ c.requires.desks
+    (omega (arith, c.args.desks.ok.0, c.requires.a_desk_each)) (rw (sym c.requires.ranks) c.in_ok-ledger.ensures.rows) c.in_ok-ledger.ensures.counts
+    c.in_ok-report.ensures.rows c.in_ok-report.ensures.calls
+
+-- the lives are those of the play
+pub returns-clause-lives : goal.returns-clause-lives
+returns-clause-lives c =
+    let none : fault_of c.args.played.accounts.items ≡ None = search rules in
+    of_lives c.args.program.now c.args.ranks c.args._script.now c.args.logger c.args.desks.items c.args.played _ c.requires.played none
+    c.in_ok-report.ensures.ends c.in_ok-report.ensures.crashes c.in_ok-report.ensures.unused
