@@ -1,0 +1,14 @@
+use Rattle.std.proofs.Common.{◌≡◌, ◌^◌, ◌<◌, length}
+use Rattle.text_lines.specs.Numbers.{decimal_of, value_behind}
+use Rattle.outcome_text.specs.Numbers.{wide_of}
+use Rattle.outcome_text.proofs.number.wide_in.Given as goal
+
+-- what is left of the digits makes the value so far the word's
+abbrev pub invariant-loop-rest : goal.invariant-loop-rest
+invariant-loop-rest l = record {
+  number : wide_of (value_behind l.value l.rest) ≡ wide_of (decimal_of l.word);
+  fits : l.value < 2 ^ 64;
+}
+
+abbrev pub decreases-loop-rest : goal.decreases-loop-rest
+decreases-loop-rest l = length l.rest
