@@ -1,0 +1,3 @@
+pub mod Indenting
+pub mod Naming
+pub mod Whole

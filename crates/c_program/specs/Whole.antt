@@ -1,0 +1,43 @@
+-- The whole C text of a rank program.
+use Rattle.std.specs.Prelude.{◌≡◌, ℕ, List, ◌++◌}
+use Rattle.rank_checker.specs.Faults.{IsText}
+use Rattle.rank_grammar.specs.Forms.{Form}
+use Rattle.statement_lines.specs.Standing.{StandOn}
+use Rattle.c_program.specs.Translation.{c_program}
+use Rattle.c_program.specs.declared.runtime.head.TheConstants.{HEAD}
+use Rattle.c_program.specs.declared.runtime.values.TheConstants.{VALUES}
+use Rattle.c_program.specs.declared.runtime.messages.TheConstants.{MESSAGES}
+use Rattle.c_program.specs.declared.runtime.collectives.TheConstants.{COLLECTIVES}
+use Rattle.c_program.specs.declared.runtime.ending.TheConstants.{ENDING}
+
+-- the fixed part in front of the program's own
+unfoldable pub fixed_head : List ℕ
+fixed_head = HEAD.now
+
+-- the fixed part behind it, about values
+unfoldable pub fixed_values : List ℕ
+fixed_values = VALUES.now
+
+-- about messages
+unfoldable pub fixed_messages : List ℕ
+fixed_messages = MESSAGES.now
+
+-- about collectives
+unfoldable pub fixed_collectives : List ℕ
+fixed_collectives = COLLECTIVES.now
+
+-- about beginnings and ends
+unfoldable pub fixed_ending : List ℕ
+fixed_ending = ENDING.now
+
+-- the C text of statements with the numbers of their lines: the program's own part between the fixed ones
+abbrev pub c_text : List ℕ → List Form → List ℕ
+c_text ns fs = fixed_head ++ c_program ns fs ++ fixed_values ++ fixed_messages ++ fixed_collectives ++ fixed_ending
+
+-- The text is the C text of this rank program: of its statements, with the numbers of the lines on which they stand.
+pub record IsCText (text c : List ℕ) : Type 0 where
+  pub forms : List Form
+  pub numbers : List ℕ
+  pub reads : IsText text forms
+  pub stand : StandOn text forms numbers
+  pub whole : c ≡ c_text numbers forms
