@@ -1,9 +1,9 @@
 //! Writes the part of the text that differs from program to program.
-ghost use Rattle.std.specs.Prelude.{◌≡◌, ◌+◌, ◌<◌, ◌^◌, ◌++◌, IfOk, OnOk, codes};
+ghost use Rattle.std.specs.Prelude.{◌≡◌, ◌+◌, ◌<◌, ◌^◌, ◌++◌, IfOk, OnOk};
 ghost use Rattle.rank_grammar.specs.SeenForms.{form_seen};
 ghost use Rattle.rank_checker.specs.SeenLines.{forms_seen};
 ghost use Rattle.rank_printer.specs.Canonical.{depth_after, depth_of};
-ghost use Rattle.c_program.specs.Translation.{c_comment, c_function, c_indentation, c_lines, c_member, c_members, c_program, c_struct, function_begin, struct_begin};
+ghost use Rattle.c_program.specs.Translation.{c_comment, c_indentation, c_lines, c_member, c_members, c_program, c_struct, function_begin, struct_begin};
 
 use crate::expression::put_number;
 use crate::names::put_name;
