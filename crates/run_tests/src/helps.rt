@@ -4,7 +4,7 @@ mod whole;
 mod worlds;
 
 use crate::helps::runs::{RUN, TRACE};
-use crate::helps::whole::{CHECK, EXPLAIN, EXPLORE, PROGRAM};
+use crate::helps::whole::{C, CHECK, EXPLAIN, EXPLORE, PROGRAM};
 use crate::helps::worlds::{CATCH_UP, WORLD};
 use crate::scenes::answer_of;
 use std::process::Abort;
@@ -13,11 +13,12 @@ use std::test::*;
 use std::thread::Threads;
 
 /// Words, and all that they print.
-const HELPS: [(&str, &str); 12] = [
+const HELPS: [(&str, &str); 13] = [
     ("--version", "ftmpi 0.1.0\n"),
     ("--help", PROGRAM),
     ("help", PROGRAM),
     ("check --help", CHECK),
+    ("c --help", C),
     ("run --help", RUN),
     ("run -h", RUN),
     ("help run", RUN),

@@ -6,6 +6,8 @@
 #![tactic(auto)]
 
 #[cfg(test)]
+mod c_texts;
+#[cfg(test)]
 mod everywhere;
 #[cfg(test)]
 mod explains;

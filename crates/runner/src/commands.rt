@@ -14,6 +14,7 @@ ghost use Rattle.std.specs.Prelude.{◌≡◌, ◌≢◌, ◌≤◌, IfOk, OnOk,
 ghost use Rattle.std.specs.Io.KnownBytes.{Appends};
 ghost use Rattle.runner.specs.Statuses.{status_without_job, help_in, mistake_in};
 
+mod c;
 mod check;
 mod explain;
 mod exploring;
