@@ -3,3 +3,5 @@ pub mod Statuses
 pub mod ReportText
 pub mod Events
 pub mod Worlds
+pub mod Reading
+pub mod Answers

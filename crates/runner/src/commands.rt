@@ -10,8 +10,9 @@
 //! - 3: the words are refused
 //! - 4: there is no memory
 //! - 5: standard output can't be written
-ghost use Rattle.std.specs.Prelude.{◌≡◌, ◌≢◌, ◌≤◌, IfOk, OnOk, string_bytes};
+ghost use Rattle.std.specs.Prelude.{◌≡◌, ◌≢◌, ◌≤◌, ℕ, IfOk, List, OnOk, string_bytes};
 ghost use Rattle.std.specs.Io.KnownBytes.{Appends};
+ghost use Rattle.runner.specs.Answers.{IsJobAnswer};
 ghost use Rattle.runner.specs.Statuses.{status_without_job, help_in, mistake_in};
 
 mod c;
@@ -31,7 +32,7 @@ use crate::commands::job::work;
 pub use crate::commands::refusal::Refusal;
 pub use crate::commands::said::Said;
 use crate::files::Files;
-use command_line::{NoJob, job_of};
+use command_line::{Job, NoJob, job_of};
 use explore::{Unwatched, Watch};
 use metered::Heap;
 use std::alloc::AllocError;
@@ -75,13 +76,42 @@ pub fn command_watched<
 ) -> u8
     ensures { result ≤ 5 }
 {
-    match speak(rt, alloc, words, files, watch) {
-        Ok(said) => tell(&said, out, err),
-        Err(_) => {
-            let _ = write_whole(err, b"out of memory\n");
-            4
-        }
+    match job_of(rt.alloc(), words) {
+        Ok(job) => do_job(rt, alloc, job, files, out, err, watch),
+        Err(no_job) => match refuse(alloc, &no_job) {
+            Ok(said) => tell(&said, out, err),
+            Err(_) => tell_no_memory(err),
+        },
     }
+}
+
+/// Does this job, and answers the exit status. Unless that is 5, an answer to the
+/// job is written to `out`, whole.
+#[tactic(auto, using(crate::proofs::Answers::nothing_written, crate::proofs::Answers::no_memory))]
+pub fn do_job<R: Threads + Wait + Sync + Copy + Send, F: Files, O: Write, E: Write, W: Watch>(
+    rt: &R,
+    alloc: Heap,
+    job: Job<'_>,
+    files: &mut F,
+    out: &mut O,
+    err: &mut E,
+    watch: &mut W,
+) -> u8
+    ensures known { result ≤ 5 }
+    ensures answer { result ≢ 5 → (text : List ℕ) × Appends (O.contents out.old) (O.contents out.new) text
+        × IsJobAnswer (F.holds files.old) job.entry text result }
+{
+    match work(rt, alloc, job, files, watch) {
+        Ok(said) => tell(&said, out, err),
+        Err(_) => tell_no_memory(err),
+    }
+}
+
+fn tell_no_memory<E: Write>(err: &mut E) -> u8
+    ensures { result ≡ 4 }
+{
+    let _ = write_whole(err, b"out of memory\n");
+    4
 }
 
 // What is said is written whole to standard output, or the status is 5.
@@ -106,19 +136,6 @@ fn write_whole<W: Write>(to: &mut W, text: &[u8]) -> std::io::Result<()>
     }
     to.write_all(text)?;
     to.flush()
-}
-
-fn speak<R: Threads + Wait + Sync + Copy + Send + AllocGlobal, F: Files, W: Watch>(
-    rt: &R,
-    alloc: Heap,
-    words: &[String],
-    files: &mut F,
-    watch: &mut W,
-) -> Result<Said, AllocError> {
-    match job_of(rt.alloc(), words) {
-        Ok(job) => work(rt, alloc, job, files, watch),
-        Err(no_job) => refuse(alloc, &no_job),
-    }
 }
 
 // Help goes to standard output with status 0, a mistake in the words to standard error with status 3.

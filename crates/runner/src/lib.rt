@@ -13,7 +13,8 @@ mod progress;
 mod words;
 
 pub use audit::{AuditFault, End, Outcome};
-pub use commands::{Refusal, Said, command, command_watched};
+pub use command_line::Job;
+pub use commands::{Refusal, Said, command, command_watched, do_job};
 pub use explore::Watch;
 pub use files::{FileFault, Files, MachineFiles};
 pub use ports::Line;
