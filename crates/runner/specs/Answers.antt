@@ -11,6 +11,7 @@ use Rattle.rank_threads.specs.declared.report.Report.{Report}
 use Rattle.runner.specs.Reading.{IsProgramIn}
 use Rattle.runner.specs.Refusals.{IsRefusal}
 use Rattle.runner.specs.ReportText.{report_text}
+use Rattle.runner.specs.Searches.{IsExploreAnswer}
 use Rattle.runner.specs.Statuses.{HasStatus}
 use Rattle.runner.specs.Worlds.{IsWorldAnswer}
 use Rattle.runner.specs.declared.commands.world.Wanted.TheVariants as wanted
@@ -53,4 +54,6 @@ IsJobAnswer holds (job.World world) out status =
     IsRefusal out status ⊎ IsWorldAnswer holds world wanted.Replies out status
 IsJobAnswer holds (job.CatchUp world) out status =
     IsRefusal out status ⊎ IsWorldAnswer holds world wanted.WayOn out status
+IsJobAnswer holds (job.Explore search) out status =
+    IsRefusal out status ⊎ IsExploreAnswer (holds search.program.now) search out status
 IsJobAnswer holds other out status = Unit {0}

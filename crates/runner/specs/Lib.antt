@@ -5,3 +5,7 @@ pub mod Events
 pub mod Worlds
 pub mod Reading
 pub mod Answers
+pub mod Partings
+pub mod Meanings
+pub mod OutcomesText
+pub mod Searches

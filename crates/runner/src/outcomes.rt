@@ -1,257 +1,163 @@
 //! What the program prints of all outcomes of a program.
-use crate::output::print_end;
+ghost use Rattle.std.specs.Prelude.{◌≡◌, ◌<◌, ◌+◌, ◌++◌, ◌↔◌, IfOk, IsTrue, OnOk, Some, [], length, slice_get, string_bytes};
+ghost use Rattle.runner.specs.OutcomesText.{AllHalt, AreWritten, Halts, IsExploredText};
+ghost use Rattle.runner.specs.OutcomesText.{count_text, endings_text, lines_text, one_text, outcome_text, values_text};
+
+mod meaning;
+mod parting;
+
+use crate::outcomes::meaning::{print_limits, print_only, print_unhalted};
+use crate::outcomes::parting::{Parted, part, print_choices};
+use crate::output::{print_end, print_line};
 use audit::End;
-use crash_free::Choice;
-use explore::{Explored, Limits, Noted, Outcome};
+use explore::{Explored, Limits, Noted, Outcome, RankEnd};
 use metered::Heap;
 use std::alloc::AllocError;
 use std::fmt::Write;
 
 /// Each outcome with the choices that lead there, and what all of it means. The
 /// statement at position K of the program stands on line `lines[K]` of its text.
+/// An `Err` means out of memory.
 pub fn print_explored(
     alloc: Heap,
     found: &Explored,
     limits: Limits,
     lines: &[usize],
-) -> Result<String<Heap>, AllocError> {
+) -> Result<String<Heap>, AllocError>
+    ensures { IfOk result (λ text. IsExploredText found.now limits.runs (string_bytes text)) }
+{
     let mut text = String::new(alloc);
-    let mut parted = Vec::new(alloc);
-    let mut last: &[Noted] = &[];
-    for (index, outcome) in found.outcomes.iter().enumerate() {
-        let number = index.saturating_add(1);
-        writeln!(text, "outcome {number}")?;
-        print_outcome(&mut text, outcome)?;
-        if index > 0 {
-            part(&mut parted, last, outcome.choices.as_slice())?;
-        }
-        print_choices(&mut text, parted.as_slice(), lines)?;
-        writeln!(text)?;
-        last = outcome.choices.as_slice();
-    }
-    print_meaning(&mut text, found, limits)?;
+    print_outcomes(alloc, &mut text, found, lines)?;
+    print_only(&mut text, found)?;
+    print_unhalted(&mut text, found.outcomes.as_slice())?;
+    print_limits(&mut text, found, limits.runs)?;
     print_count(&mut text, found)?;
     Ok(text)
 }
 
 /// Whether each rank halts in each outcome.
-pub fn all_halt(found: &Explored) -> bool {
-    found.outcomes.iter().all(|outcome| outcome.ranks.iter().all(|rank| rank.end == End::Halted))
-}
-
-fn print_outcome(text: &mut String<Heap>, outcome: &Outcome) -> Result<(), AllocError> {
-    for (rank, ended) in outcome.ranks.iter().enumerate() {
-        for value in ended.lines.iter() {
-            writeln!(text, "{rank}> {value}")?;
+pub fn all_halt(found: &Explored) -> bool
+    ensures { IsTrue result ↔ AllHalt found.now.outcomes }
+{
+    let mut rest = found.outcomes.as_slice();
+    while let [outcome, more @ ..] = rest {
+        if !halts(outcome) {
+            return false;
         }
+        rest = more;
     }
-    for (rank, ended) in outcome.ranks.iter().enumerate() {
-        print_end(text, rank, &ended.end)?;
-    }
-    Ok(())
+    true
 }
 
-// A choice, and what was chosen in its place in a run before.
-#[derive(Clone, Copy)]
-struct Parted {
-    at: usize,
-    chosen: Noted,
-    before: Noted,
+fn halts(outcome: &Outcome) -> bool
+    ensures { IsTrue result ↔ Halts outcome.now }
+{
+    outcome.ranks.iter().all(|seen| seen.end == End::Halted)
 }
 
-// Brings up to date where the runs before part from this one, `last` being the one before it. Runs stand in the order of a search depth
-// first: so no earlier run goes along with this one further than the last does, and up to there what parted from that one parts from this.
-fn part(
-    parted: &mut Vec<Parted, Heap>,
-    last: &[Noted],
-    choices: &[Noted],
-) -> Result<(), AllocError> {
-    let mut at = 0usize;
-    for (index, before) in last.iter().enumerate() {
-        match choices.get(index) {
-            Some(chosen) if *chosen == *before => at = index.saturating_add(1),
-            Some(_) | None => break,
-        }
-    }
-    let mut kept = 0usize;
-    for each in parted.iter() {
-        if each.at >= at {
-            break;
-        }
-        kept = kept.saturating_add(1);
-    }
-    parted.truncate(kept);
-    if let (Some(before), Some(chosen)) = (last.get(at), choices.get(at)) {
-        parted.push(Parted {
-            at,
-            chosen: *chosen,
-            before: *before,
-        })?;
-    }
-    Ok(())
-}
-
-fn print_choices(
-    text: &mut String<Heap>,
-    parted: &[Parted],
-    lines: &[usize],
-) -> Result<(), AllocError> {
-    for each in parted {
-        let chosen = each.chosen;
-        let before = each.before;
-        write!(text, "# ")?;
-        print_place(text, chosen, lines)?;
-        print_chosen(text, chosen)?;
-        if chosen.chosen.rank != before.chosen.rank {
-            write!(text, " before ")?;
-            print_place(text, before, lines)?;
-            print_chosen(text, before)?;
-        } else {
-            print_instead(text, before)?;
-        }
-        writeln!(text)?;
-    }
-    Ok(())
-}
-
-fn print_place(text: &mut String<Heap>, noted: Noted, lines: &[usize]) -> Result<(), AllocError> {
-    let rank = noted.chosen.rank;
-    match lines.get(noted.position) {
-        Some(line) => write!(text, "rank {rank} at line {line} "),
-        None => write!(text, "rank {rank} "),
-    }
-}
-
-fn print_chosen(text: &mut String<Heap>, noted: Noted) -> Result<(), AllocError> {
-    match noted.chosen.choice {
-        Choice::Take { source, index: _ } if noted.probes => write!(
-            text,
-            "finds one from {source}"
-        ),
-        Choice::Take { source, index: _ } => write!(text, "takes from {source}"),
-        Choice::Miss => write!(text, "finds none"),
-        Choice::Next => write!(text, "goes on"),
-    }
-}
-
-// What the same rank chose there before.
-fn print_instead(text: &mut String<Heap>, before: Noted) -> Result<(), AllocError> {
-    match before.chosen.choice {
-        Choice::Take { source, index: _ } if before.probes => {
-            write!(text, ", not one from {source}")
-        }
-        Choice::Take { source, index: _ } => write!(text, " before {source}"),
-        Choice::Miss => write!(text, ", not none"),
-        Choice::Next => Ok(()),
-    }
-}
-
-fn print_meaning(
+// Each outcome with its number, and where the runs part that lead there.
+#[tactic(auto, using(crate::proofs::Written::none_written))]
+fn print_outcomes(
+    alloc: Heap,
     text: &mut String<Heap>,
     found: &Explored,
-    limits: Limits,
-) -> Result<(), AllocError> {
-    if found.complete && found.outcomes.len() == 1 {
-        writeln!(
-            text,
-            "# one outcome: whatever the order, this program prints this"
-        )?;
-    }
-    for (index, outcome) in found.outcomes.iter().enumerate() {
-        print_endings(text, index.saturating_add(1), outcome)?;
-    }
-    if found.complete {
-        return Ok(());
-    }
-    if found.out_of_steps {
-        writeln!(text, "# not all was looked at: allow more steps (--steps)")?;
-    }
-    if found.runs == limits.runs {
-        writeln!(text, "# not all was looked at: allow more runs (--runs)")?;
+    lines: &[usize],
+) -> Result<(), AllocError>
+    requires { string_bytes text.old ≡ [] }
+    ensures { OnOk result (AreWritten found.now.outcomes (length found.now.outcomes) (string_bytes text.new)) }
+{
+    let mut parted = Vec::new(alloc);
+    let mut last: &[Noted] = &[];
+    for index in 0..found.outcomes.len() {
+        let outcome = outcome_at(found, index);
+        if index > 0 {
+            part(&mut parted, last, outcome.choices.as_slice())?;
+        }
+        print_one(text, index + 1, outcome, parted.as_slice(), lines)?;
+        last = outcome.choices.as_slice();
     }
     Ok(())
 }
 
-/// How a rank ends that doesn't halt.
-#[derive(Clone, Copy, PartialEq, Eq)]
-enum Ending {
-    Stalls,
-    Faults,
+fn outcome_at(found: &Explored, index: usize) -> &Outcome
+    requires { index < length found.now.outcomes }
+    ensures { slice_get found.now.outcomes index ≡ Some result.now }
+{
+    &found.outcomes[index]
 }
 
-fn is_of(ending: Ending, end: End) -> bool {
-    match end {
-        End::Stalled => ending == Ending::Stalls,
-        End::Faulted(_) => ending == Ending::Faults,
-        End::Halted | End::Unfinished => false,
-    }
-}
-
-// Which ranks of the outcome with this number don't halt.
-fn print_endings(
+#[tactic(auto, unfolding(crate::specs::OutcomesText::one_text))]
+fn print_one(
     text: &mut String<Heap>,
     number: usize,
     outcome: &Outcome,
-) -> Result<(), AllocError> {
-    let stalled = count_of(outcome, Ending::Stalls);
-    if stalled > 0 {
-        write!(text, "# outcome {number} stalls: ")?;
-        print_ranks(text, outcome, Ending::Stalls, stalled)?;
-        if stalled == 1 {
-            writeln!(text, " waits for a message that doesn't come")?;
-        } else {
-            writeln!(text, " wait for messages that don't come")?;
-        }
-    }
-    let faulted = count_of(outcome, Ending::Faults);
-    if faulted > 0 {
-        write!(text, "# outcome {number} has a fault: ")?;
-        print_ranks(text, outcome, Ending::Faults, faulted)?;
-        writeln!(text)?;
-    }
-    Ok(())
+    parted: &[Parted],
+    lines: &[usize],
+) -> Result<(), AllocError>
+    ensures { OnOk result (string_bytes text.new ≡ string_bytes text.old ++ one_text number outcome.now lines.now parted.now) }
+{
+    print_outcome(text, number, outcome)?;
+    print_choices(text, parted, lines)?;
+    writeln!(text)
 }
 
-fn count_of(outcome: &Outcome, ending: Ending) -> usize {
-    outcome
-        .ranks
-        .iter()
-        .filter(|rank| is_of(ending, rank.end))
-        .count()
-}
-
-// The ranks that end so, which are so many: `rank 1`, `ranks 0 and 1`, `ranks 0, 1 and 3`.
-fn print_ranks(
+fn print_outcome(
     text: &mut String<Heap>,
+    number: usize,
     outcome: &Outcome,
-    ending: Ending,
-    count: usize,
-) -> Result<(), AllocError> {
-    write!(text, "{}", if count == 1 { "rank " } else { "ranks " })?;
-    let mut printed = 0usize;
-    for (rank, ended) in outcome.ranks.iter().enumerate() {
-        if is_of(ending, ended.end) {
-            printed = printed.saturating_add(1);
-            let between = if printed == 1 {
-                ""
-            } else if printed == count {
-                " and "
-            } else {
-                ", "
-            };
-            write!(text, "{between}{rank}")?;
-        }
+) -> Result<(), AllocError>
+    ensures { OnOk result (string_bytes text.new ≡ string_bytes text.old ++ outcome_text number outcome.now) }
+{
+    writeln!(text, "outcome {number}")?;
+    print_values(text, outcome.ranks.as_slice())?;
+    print_rank_ends(text, outcome.ranks.as_slice())
+}
+
+fn print_values(text: &mut String<Heap>, ranks: &[RankEnd]) -> Result<(), AllocError>
+    ensures { OnOk result (string_bytes text.new ≡ string_bytes text.old ++ lines_text 0 ranks.now) }
+{
+    let mut rank = 0usize;
+    let mut rest = ranks;
+    while let [seen, more @ ..] = rest {
+        print_values_of(text, rank, seen.lines.as_slice())?;
+        rank += 1;
+        rest = more;
     }
     Ok(())
 }
 
-fn print_count(text: &mut String<Heap>, found: &Explored) -> Result<(), AllocError> {
+fn print_values_of(text: &mut String<Heap>, rank: usize, values: &[i64]) -> Result<(), AllocError>
+    ensures { OnOk result (string_bytes text.new ≡ string_bytes text.old ++ values_text rank values.now) }
+{
+    let mut rest = values;
+    while let [value, more @ ..] = rest {
+        print_line(text, rank, *value)?;
+        rest = more;
+    }
+    Ok(())
+}
+
+fn print_rank_ends(text: &mut String<Heap>, ranks: &[RankEnd]) -> Result<(), AllocError>
+    ensures { OnOk result (string_bytes text.new ≡ string_bytes text.old ++ endings_text 0 ranks.now) }
+{
+    let mut rank = 0usize;
+    let mut rest = ranks;
+    while let [seen, more @ ..] = rest {
+        print_end(text, rank, &seen.end)?;
+        rank += 1;
+        rest = more;
+    }
+    Ok(())
+}
+
+fn print_count(text: &mut String<Heap>, found: &Explored) -> Result<(), AllocError>
+    ensures { OnOk result (string_bytes text.new ≡ string_bytes text.old ++ count_text found.now) }
+{
     let outcomes = found.outcomes.len();
     let runs = found.runs;
-    let word = if found.complete {
-        "complete"
+    if found.complete {
+        writeln!(text, "outcomes {outcomes}, runs {runs}, complete")
     } else {
-        "stopped"
-    };
-    writeln!(text, "outcomes {outcomes}, runs {runs}, {word}")
+        writeln!(text, "outcomes {outcomes}, runs {runs}, stopped")
+    }
 }

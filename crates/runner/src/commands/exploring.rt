@@ -2,6 +2,8 @@
 ghost use Rattle.std.specs.Prelude.{◌≡◌, ◌+◌, ℕ, IfOk, IfSome, Some, slice_get, string_bytes};
 ghost use Rattle.run_events.specs.Plays.{IsPlayText};
 ghost use Rattle.runner.specs.Events.{PlaysOutcome};
+ghost use Rattle.runner.specs.OutcomesText.{IsExploredText};
+ghost use Rattle.runner.specs.Searches.{HasSearchStatus, IsExploreAnswer, IsFoundBy, IsPrinted, IsSearchAnswer};
 
 use crate::commands::reading::text_in;
 use crate::commands::refusal::Refusal;
@@ -19,35 +21,59 @@ use std::alloc::AllocError;
 
 /// What is found of the job's program, or the events of the outcome that the job
 /// names; with status 0 where all is found and each rank halts.
+#[tactic(auto, using(crate::proofs::Searches::is_explore_answer))]
 pub fn explored_by<'a, F: Files, W: Watch>(
     alloc: Heap,
     job: ExploreJob<'a>,
     files: &mut F,
     watch: &mut W,
-) -> Result<Said, Refusal<'a>> {
+) -> Result<Said, Refusal<'a>>
+    ensures { IfOk result (λ said. IsExploreAnswer (F.holds files.old job.entry.program.now) job.entry said.out.items said.status) }
+{
     let text = text_in(job.program, files)?;
     let program = Program::parse(alloc, text.as_slice())?;
     found_of(alloc, job, text.as_slice(), &program, watch)
 }
 
 // The same, of a program that is parsed.
+#[tactic(auto, using(crate::proofs::Searches::is_search_answer))]
 fn found_of<'a, W: Watch>(
     alloc: Heap,
     job: ExploreJob<'a>,
     text: &[u8],
     program: &Program,
     watch: &mut W,
-) -> Result<Said, Refusal<'a>> {
-    let found = explore(alloc, program, job.ranks, limits_of(job), watch)?;
+) -> Result<Said, Refusal<'a>>
+    ensures { IfOk result (λ said. IsSearchAnswer program.now job.entry said.out.items said.status) }
+{
+    let found = searched(alloc, job, program, watch)?;
     let answer = answer_of(alloc, job, text, program, &found)?;
-    let status = if found.complete && all_halt(&found) {
+    Ok(Said::answer(alloc, status_of(&found), answer.into_bytes()))
+}
+
+#[tactic(auto, using(crate::proofs::Searches::is_found_by))]
+fn searched<W: Watch>(
+    alloc: Heap,
+    job: ExploreJob<'_>,
+    program: &Program,
+    watch: &mut W,
+) -> Result<Explored, AllocError>
+    ensures { IfOk result (λ found. IsFoundBy program.now job.entry found) }
+{
+    explore(alloc, program, job.ranks, limits_of(job), watch)
+}
+
+fn status_of(found: &Explored) -> u8
+    ensures { HasSearchStatus found.now result }
+{
+    if found.complete && all_halt(found) {
         0
     } else {
         1
-    };
-    Ok(Said::answer(alloc, status, answer.into_bytes()))
+    }
 }
 
+#[tactic(auto, using(crate::proofs::Searches::text_printed, crate::proofs::Searches::events_printed))]
 fn answer_of<'a>(
     alloc: Heap,
     job: ExploreJob<'a>,
@@ -55,8 +81,7 @@ fn answer_of<'a>(
     program: &Program,
     found: &Explored,
 ) -> Result<String<Heap>, Refusal<'a>>
-    ensures events { IfOk result (λ answer. IfSome job.entry.events (λ number.
-        PlaysOutcome program.now job.entry.ranks found.now.outcomes number (string_bytes answer))) }
+    ensures { IfOk result (λ answer. IsPrinted program.now job.entry found.now (string_bytes answer)) }
 {
     match job.events {
         Some(number) => events_of(alloc, job, number, program, found),
@@ -72,7 +97,9 @@ fn found_text(
     job: ExploreJob<'_>,
     text: &[u8],
     found: &Explored,
-) -> Result<String<Heap>, AllocError> {
+) -> Result<String<Heap>, AllocError>
+    ensures { IfOk result (λ answer. IsExploredText found.now job.entry.runs (string_bytes answer)) }
+{
     let lines = statement_lines(alloc, text)?;
     print_explored(alloc, found, limits_of(job), lines.as_slice())
 }

@@ -1,0 +1,46 @@
+-- How what is said of a search is an answer.
+use Rattle.std.proofs.Common.{◌≡◌, ◌≤◌, ℕ, true, List, Some, None, subst}
+use Rattle.command_line.specs.declared.exploring.ExploreJob.{ExploreJob}
+use Rattle.explore.specs.Explored.{ExploredValue}
+use Rattle.explore.specs.Outcomes.{AreAll, AreDistinct, IsAmong}
+use Rattle.final_runs.specs.Maximal.{IsPossible, RankOutcome}
+use Rattle.rank_language.specs.Correct.{IsProgramOf}
+use Rattle.rank_language.specs.Program.{ProgramValue}
+use Rattle.runner.specs.Events.{PlaysOutcome}
+use Rattle.runner.specs.OutcomesText.{IsExploredText}
+use Rattle.runner.specs.Searches.{HasSearchStatus, IsExploreAnswer, IsFoundBy, IsPrinted, IsSearchAnswer}
+
+-- what a search found within the job's limits
+pub is_found_by : (program : ProgramValue) (job : ExploreJob) (found : ExploredValue)
+    → ((outcome : List RankOutcome) → IsAmong found.outcomes outcome → IsPossible program job.ranks outcome)
+    → (found.complete ≡ true → AreAll program job.ranks found.outcomes) → AreDistinct found.outcomes → found.runs ≤ job.runs
+    → IsFoundBy program job found
+is_found_by program job found possible complete distinct few_runs =
+    record { possible = possible; complete = complete; distinct = distinct; few_runs = few_runs }
+
+-- the text of what was found is printed if no outcome is named
+pub text_printed : (program : ProgramValue) (job : ExploreJob) (found : ExploredValue) (out : List ℕ)
+    → job.events ≡ None → IsExploredText found job.runs out → IsPrinted program job found out
+text_printed program job found out none text =
+    record { text = λ _. text; events = λ number named. absurd cc }
+
+-- the events of the outcome that is named are printed
+pub events_printed : (program : ProgramValue) (job : ExploreJob) (found : ExploredValue) (out : List ℕ) (number : ℕ)
+    → job.events ≡ Some number → PlaysOutcome program job.ranks found.outcomes number out → IsPrinted program job found out
+events_printed program job found out number named played = record {
+  text = λ none. absurd cc;
+  events = λ other also. let same : number ≡ other = cc in
+      subst (λ (n : ℕ). PlaysOutcome program job.ranks found.outcomes n out) same played;
+}
+
+-- what was found, printed with its status, is an answer
+pub is_search_answer : (program : ProgramValue) (job : ExploreJob) (found : ExploredValue) (out : List ℕ) (status : ℕ)
+    → IsFoundBy program job found → IsPrinted program job found out → HasSearchStatus found status → IsSearchAnswer program job out status
+is_search_answer program job found out status searched printed ended =
+    record { found = found; searched = searched; printed = printed; ended = ended }
+
+-- an answer of the program of a text that the file holds
+pub is_explore_answer : (holds : List ℕ → Type 0) (job : ExploreJob) (text : List ℕ) (program : ProgramValue) (out : List ℕ) (status : ℕ)
+    → holds text → IsProgramOf text program → IsSearchAnswer program job out status → IsExploreAnswer holds job out status
+is_explore_answer holds job text program out status held read answer =
+    record { program = program; read = record { text = text; held = held; read = read }; answer = answer }

@@ -1,0 +1,16 @@
+-- How one outcome after another is written.
+use Rattle.std.proofs.Common.{◌≡◌, ℕ, ◌+◌, List, [], ◌++◌, Some, slice_get, subst, sym}
+use Rattle.final_runs.specs.Maximal.{RankOutcome}
+use Rattle.runner.specs.OutcomesText.{AreWritten, one_text}
+use Rattle.runner.specs.declared.outcomes.parting.Parted.{Parted}
+
+-- in an empty text none is written
+pub none_written : (outcomes : List (List RankOutcome)) (text : List ℕ) → text ≡ [] → AreWritten outcomes 0 text
+none_written outcomes text empty = subst (AreWritten outcomes 0) (sym empty) AreWritten.none
+
+-- behind the first ones the next is written
+pub one_more : (outcomes : List (List RankOutcome)) (count : ℕ) (before after : List ℕ) (outcome : List RankOutcome) (lines : List ℕ) (parted : List Parted)
+    → AreWritten outcomes count before → slice_get outcomes count ≡ Some outcome → after ≡ before ++ one_text (count + 1) outcome lines parted
+    → AreWritten outcomes (count + 1) after
+one_more outcomes count before after outcome lines parted written there appended =
+    subst (AreWritten outcomes (count + 1)) (sym appended) (AreWritten.more outcome lines parted written there)

@@ -1,0 +1,87 @@
+-- The lines that say what the outcomes of a program mean (docs/FORMATS.md, "Standard output of
+-- `explore`").
+use Rattle.std.specs.Prelude.{◌==◌, ◌&&◌, ℕ, ◌+◌, Bool, true, false, if◌then◌else◌, length, List, [], ◌∷◌, ◌++◌, codes}
+use Rattle.std.specs.Fmt.{decimal}
+use Rattle.audit.specs.declared.outcome.End.{End}
+use Rattle.audit.specs.declared.outcome.End.TheVariants as end
+use Rattle.explore.specs.Explored.{ExploredValue}
+use Rattle.final_runs.specs.Maximal.{RankOutcome}
+use Rattle.runner.specs.declared.outcomes.meaning.Ending.{Ending}
+use Rattle.runner.specs.declared.outcomes.meaning.Ending.TheVariants as ending
+
+-- the rank ended so
+abbrev pub is_of : Ending → End → Bool
+is_of ending.Stalls end.Stalled = true
+is_of ending.Stalls (end.Faulted fault) = false
+is_of ending.Stalls end.Halted = false
+is_of ending.Stalls end.Unfinished = false
+is_of ending.Faults end.Stalled = false
+is_of ending.Faults (end.Faulted fault) = true
+is_of ending.Faults end.Halted = false
+is_of ending.Faults end.Unfinished = false
+
+-- the numbers of the ranks that ended so, from this rank on
+abbrev pub ranks_of : Ending → ℕ → List RankOutcome → List ℕ
+ranks_of ending rank [] = []
+ranks_of ending rank (seen ∷ others) =
+    if is_of ending seen.end then rank ∷ ranks_of ending (rank + 1) others else ranks_of ending (rank + 1) others
+
+-- what stands between a number and these many more
+abbrev pub between : ℕ → List ℕ
+between left = if left == 0 then [] else (if left == 1 then codes " and " else codes ", ")
+
+-- an enumeration, as `0, 1 and 3`
+abbrev pub enumeration : List ℕ → List ℕ
+enumeration [] = []
+enumeration (number ∷ numbers) = decimal number ++ between (length numbers) ++ enumeration numbers
+
+-- these ranks, as `rank 1` or `ranks 0 and 1`
+abbrev pub named_ranks : List ℕ → List ℕ
+named_ranks ranks = (if length ranks == 1 then codes "rank " else codes "ranks ") ++ enumeration ranks
+
+-- these ranks, and the end of the line
+abbrev pub ranks_line : List ℕ → List ℕ
+ranks_line ranks = named_ranks ranks ++ codes "\n"
+
+-- the line that says which ranks of the outcome of this number stall, if some do
+abbrev pub stalls_text : ℕ → List ℕ → List ℕ
+stalls_text number ranks = if length ranks == 0 then [] else
+    (codes "# outcome " ++ decimal number ++ codes " stalls: " ++ named_ranks ranks
+    ++ (if length ranks == 1 then codes " waits for a message that doesn't come\n" else codes " wait for messages that don't come\n"))
+
+-- that the outcome of this number has a fault
+unfoldable pub fault_words : ℕ → List ℕ
+fault_words number = codes "# outcome " ++ decimal number ++ codes " has a fault: "
+
+-- the line that says which ranks of the outcome of this number have a fault
+abbrev pub fault_line : ℕ → List ℕ → List ℕ
+fault_line number ranks = fault_words number ++ ranks_line ranks
+
+-- this line, if some have one
+abbrev pub faults_text : ℕ → List ℕ → List ℕ
+faults_text number ranks = if length ranks == 0 then [] else fault_line number ranks
+
+-- which ranks of the outcomes from this number on don't halt
+abbrev pub unhalted_text : ℕ → List (List RankOutcome) → List ℕ
+unhalted_text number [] = []
+unhalted_text number (outcome ∷ outcomes) = stalls_text number (ranks_of ending.Stalls 0 outcome)
+    ++ faults_text number (ranks_of ending.Faults 0 outcome) ++ unhalted_text (number + 1) outcomes
+
+-- the line that says that there is one outcome, if it is certain
+abbrev pub only_text : ExploredValue → List ℕ
+only_text found = if found.complete && (length found.outcomes == 1)
+    then codes "# one outcome: whatever the order, this program prints this\n" else []
+
+-- the line that says that the limit of steps was reached, if it was
+abbrev pub steps_text : ExploredValue → List ℕ
+steps_text found =
+    if found.out_of_steps then codes "# not all was looked at: allow more steps (--steps)\n" else []
+
+-- the line that says that these many runs were too few, if as many were looked at
+abbrev pub runs_text : ExploredValue → ℕ → List ℕ
+runs_text found runs =
+    if found.runs == runs then codes "# not all was looked at: allow more runs (--runs)\n" else []
+
+-- which limits were reached, if these aren't all outcomes
+abbrev pub limits_text : ExploredValue → ℕ → List ℕ
+limits_text found runs = if found.complete then [] else (steps_text found ++ runs_text found runs)

@@ -1,0 +1,63 @@
+-- The text of all outcomes of a program (docs/FORMATS.md, "Standard output of `explore`").
+use Rattle.std.specs.Prelude.{◌≡◌, ℕ, ℤ, ◌+◌, if◌then◌else◌, length, List, [], ◌∷◌, ◌++◌, All, Some, slice_get, codes}
+use Rattle.std.specs.Fmt.{decimal}
+use Rattle.audit.specs.declared.outcome.End.TheVariants as end
+use Rattle.events_text.specs.Output.{line_text}
+use Rattle.explore.specs.Explored.{ExploredValue}
+use Rattle.final_runs.specs.Maximal.{RankOutcome}
+use Rattle.runner.specs.Meanings.{limits_text, only_text, unhalted_text}
+use Rattle.runner.specs.Partings.{choices_text}
+use Rattle.runner.specs.ReportText.{end_text}
+use Rattle.runner.specs.declared.outcomes.parting.Parted.{Parted}
+
+-- the values that a rank printed, a line each
+abbrev pub values_text : ℕ → List ℤ → List ℕ
+values_text rank [] = []
+values_text rank (value ∷ values) = line_text rank value ++ values_text rank values
+
+-- the lines of the ranks from this one on
+abbrev pub lines_text : ℕ → List RankOutcome → List ℕ
+lines_text rank [] = []
+lines_text rank (seen ∷ others) = values_text rank seen.lines ++ lines_text (rank + 1) others
+
+-- how the ranks from this one on ended, a line each
+abbrev pub endings_text : ℕ → List RankOutcome → List ℕ
+endings_text rank [] = []
+endings_text rank (seen ∷ others) = end_text rank seen.end ++ endings_text (rank + 1) others
+
+-- the outcome of this number: the lines of each rank, rank by rank, and how each rank ended
+abbrev pub outcome_text : ℕ → List RankOutcome → List ℕ
+outcome_text number outcome = codes "outcome " ++ decimal number ++ codes "\n" ++ lines_text 0 outcome ++ endings_text 0 outcome
+
+-- an outcome of this number, with some lines that say where runs part that lead there, and an empty
+-- line
+unfoldable pub one_text : ℕ → List RankOutcome → List ℕ → List Parted → List ℕ
+one_text number outcome lines parted = outcome_text number outcome ++ choices_text lines parted ++ codes "\n"
+
+-- Of these outcomes the first so many are written, one after another, each with its number, from 1.
+pub data AreWritten (outcomes : List (List RankOutcome)) : ℕ → List ℕ → Type 0 where
+  none : AreWritten outcomes 0 []
+  more : {count : ℕ} {text : List ℕ} (outcome : List RankOutcome) (lines : List ℕ) (parted : List Parted)
+      → AreWritten outcomes count text → slice_get outcomes count ≡ Some outcome
+      → AreWritten outcomes (count + 1) (text ++ one_text (count + 1) outcome lines parted)
+
+-- the last line: how many outcomes were found in how many runs, and whether these are all
+abbrev pub count_text : ExploredValue → List ℕ
+count_text found = codes "outcomes " ++ decimal (length found.outcomes) ++ codes ", runs " ++ decimal found.runs
+    ++ (if found.complete then codes ", complete" else codes ", stopped") ++ codes "\n"
+
+-- What is printed of what a search found, which looked at no more than so many runs: each outcome,
+-- what that means, and the last line.
+pub record IsExploredText (found : ExploredValue) (runs : ℕ) (text : List ℕ) : Type 0 where
+  pub outcomes : List ℕ
+  pub each : AreWritten found.outcomes (length found.outcomes) outcomes
+  pub whole : text ≡ outcomes ++ (only_text found ++ unhalted_text 1 found.outcomes ++ limits_text found runs ++ count_text found)
+
+-- each rank halts in this outcome
+abbrev pub Halts : List RankOutcome → Type 0
+Halts outcome = All (λ (seen : RankOutcome). seen.end ≡ end.Halted) outcome
+
+-- each rank halts in each outcome
+abbrev pub AllHalt : List (List RankOutcome) → Type 0
+AllHalt [] = Unit {0}
+AllHalt (outcome ∷ outcomes) = Halts outcome × AllHalt outcomes
