@@ -1,3 +1,8 @@
-pub mod Escaped
 pub mod Columns
+pub mod Escaped
 pub mod Marks
+pub mod Noted
+pub mod Posts
+pub mod Rows
+pub mod Shown
+pub mod Times

@@ -46,11 +46,11 @@ fn set_arrow(
     let is_sent = seen.columns.column(sender.time).is_shown();
     let has_end = seen.columns.column(moment.time).is_shown();
     let is_drawn = has_end || (takes && is_sent);
-    if !is_drawn || sender.rank >= scene.rows.len() || moment.rank >= scene.rows.len() {
+    if !is_drawn || sender.rank >= seen.rows.len() || moment.rank >= seen.rows.len() {
         return Ok(());
     }
     let way = if takes { way_of(sent) } else { Way::Shown };
-    let (from, to) = ends_of(scene, seen, &sender, moment);
+    let (from, to) = ends_of(seen, &sender, moment);
     scene.arrows.push(Arrow {
         from,
         to,
@@ -61,9 +61,9 @@ fn set_arrow(
 }
 
 // Where an arrow begins and ends; one from or to an act outside the part is cut off.
-fn ends_of(scene: &Scene, seen: &Seen<'_>, sender: &Moment, taker: &Moment) -> (Place, Place) {
-    let from = point(scene, seen, sender);
-    let to = point(scene, seen, taker);
+fn ends_of(seen: &Seen<'_>, sender: &Moment, taker: &Moment) -> (Place, Place) {
+    let from = point(seen, sender);
+    let to = point(seen, taker);
     let cut_from = if seen.columns.column(sender.time).is_outside() {
         eighths(from.y, to.y, 2)
     } else {
@@ -84,10 +84,10 @@ fn ends_of(scene: &Scene, seen: &Seen<'_>, sender: &Moment, taker: &Moment) -> (
 }
 
 // Where an act stands, or would stand if it were drawn.
-fn point(scene: &Scene, seen: &Seen<'_>, moment: &Moment) -> Place {
+fn point(seen: &Seen<'_>, moment: &Moment) -> Place {
     Place {
         x: seen.columns.column(moment.time).x(),
-        y: scene.y_of(moment.rank),
+        y: seen.y_of(moment.rank),
     }
 }
 
@@ -117,10 +117,10 @@ fn set_untaken(
     passed: &Passed,
     moment: &Moment,
 ) -> Result<(), AllocError> {
-    if !seen.columns.column(moment.time).is_shown() || moment.rank >= scene.rows.len() {
+    if !seen.columns.column(moment.time).is_shown() || moment.rank >= seen.rows.len() {
         return Ok(());
     }
-    let from = point(scene, seen, moment);
+    let from = point(seen, moment);
     let to = Place {
         x: from.x.saturating_add(STUB / 2),
         y: if goes_down(passed, moment) {
@@ -172,11 +172,11 @@ fn set_text_of_taken(
     };
     let is_sent = seen.columns.column(sender.time).is_shown();
     let is_drawn = is_sent || seen.columns.column(moment.time).is_shown();
-    if !is_drawn || sender.rank >= scene.rows.len() || moment.rank >= scene.rows.len() {
+    if !is_drawn || sender.rank >= seen.rows.len() || moment.rank >= seen.rows.len() {
         return Ok(());
     }
     let text = message_text(seen.alloc, sent)?;
-    let (from, to) = ends_of(scene, seen, &sender, moment);
+    let (from, to) = ends_of(seen, &sender, moment);
     for part in TRIED {
         if is_free(room, &text, text_place(from, to, part)) {
             return set_text(scene, room, text, text_place(from, to, part));
@@ -193,11 +193,11 @@ fn set_text_of_untaken(
     passed: &Passed,
     moment: &Moment,
 ) -> Result<(), AllocError> {
-    if !seen.columns.column(moment.time).is_shown() || moment.rank >= scene.rows.len() {
+    if !seen.columns.column(moment.time).is_shown() || moment.rank >= seen.rows.len() {
         return Ok(());
     }
     let text = message_text(seen.alloc, passed)?;
-    let from = point(scene, seen, moment);
+    let from = point(seen, moment);
     let at = Place {
         x: from.x.saturating_add(STUB / 2),
         y: if goes_down(passed, moment) {

@@ -28,8 +28,8 @@ struct Gathering {
 
 /// A band for each collective of which an act is drawn, with its name where there is room.
 pub fn set_bands(scene: &mut Scene, room: &mut Room, seen: &Seen<'_>) -> Result<(), AllocError> {
-    let mut gatherings = drawn_gatherings(scene, seen)?;
-    join_left_out(scene, seen, &mut gatherings)?;
+    let mut gatherings = drawn_gatherings(seen)?;
+    join_left_out(seen, &mut gatherings)?;
     for gathering in gatherings.iter() {
         let told = gathering.collective.name(seen.alloc)?;
         set_name(scene, room, seen, gathering)?;
@@ -42,12 +42,12 @@ pub fn set_bands(scene: &mut Scene, room: &mut Room, seen: &Seen<'_>) -> Result<
 }
 
 // The collectives of which an act is drawn.
-fn drawn_gatherings(scene: &Scene, seen: &Seen<'_>) -> Result<Vec<Gathering, Heap>, AllocError> {
+fn drawn_gatherings(seen: &Seen<'_>) -> Result<Vec<Gathering, Heap>, AllocError> {
     let mut gatherings = Vec::new(seen.alloc);
     for (passed, moment) in seen.request.acts.iter().zip(seen.times.moments.iter()) {
-        if seen.columns.column(moment.time).is_shown() && moment.rank < scene.rows.len() {
+        if seen.columns.column(moment.time).is_shown() && moment.rank < seen.rows.len() {
             if let Some(collective) = collective_at(seen, passed, moment) {
-                let share = share_of(scene, seen, moment);
+                let share = share_of(seen, moment);
                 join_drawn(seen.alloc, &mut gatherings, collective, share)?;
             }
         }
@@ -56,15 +56,11 @@ fn drawn_gatherings(scene: &Scene, seen: &Seen<'_>) -> Result<Vec<Gathering, Hea
 }
 
 // What the ranks do of them at times that are left out.
-fn join_left_out(
-    scene: &Scene,
-    seen: &Seen<'_>,
-    gatherings: &mut Vec<Gathering, Heap>,
-) -> Result<(), AllocError> {
+fn join_left_out(seen: &Seen<'_>, gatherings: &mut Vec<Gathering, Heap>) -> Result<(), AllocError> {
     for (passed, moment) in seen.request.acts.iter().zip(seen.times.moments.iter()) {
-        if !seen.columns.column(moment.time).is_shown() && moment.rank < scene.rows.len() {
+        if !seen.columns.column(moment.time).is_shown() && moment.rank < seen.rows.len() {
             if let Some(collective) = collective_at(seen, passed, moment) {
-                let share = share_of(scene, seen, moment);
+                let share = share_of(seen, moment);
                 for gathering in gatherings.iter_mut() {
                     if gathering.collective == collective {
                         join(&mut gathering.all, share)?;
@@ -87,13 +83,13 @@ fn collective_at(seen: &Seen<'_>, passed: &Passed, moment: &Moment) -> Option<Co
     }
 }
 
-fn share_of(scene: &Scene, seen: &Seen<'_>, moment: &Moment) -> Share {
+fn share_of(seen: &Seen<'_>, moment: &Moment) -> Share {
     let x = seen.columns.column(moment.time).x();
     Share {
         rank: moment.rank,
         left: x,
         right: x,
-        y: scene.y_of(moment.rank),
+        y: seen.y_of(moment.rank),
     }
 }
 

@@ -1,14 +1,18 @@
 //! Where times stand: a column for each, and a gap where a run is too long.
 
-ghost use Rattle.std.specs.Prelude.{◌≡◌};
+mod laid;
+
+ghost use Rattle.std.specs.Prelude.{◌≡◌, ◌↔◌, IfOk, None, max, min};
+ghost use Rattle.run_picture.specs.Columns.{AreColumns};
 
 use crate::layout::measures::{
-    COMFORTABLE, EASE, GAP, GAP_EDGE, LEAST, MARGIN, MOST_STRETCH, MOST_WIDTH, OVERHANG,
+    COMFORTABLE, EASE, GAP, LEAST, MARGIN, MOST_STRETCH, MOST_WIDTH, OVERHANG,
 };
 use crate::layout::times::{Moment, Times};
 use crate::layout::widths::widths_of;
 use crate::request::Span;
 use crash_free::Passed;
+use laid::{Cut, laid_out};
 use metered::Heap;
 use std::alloc::AllocError;
 
@@ -75,35 +79,31 @@ pub struct Columns {
 impl Columns {
     ghost use Rattle.run_picture.specs.Columns.{column_of};
 
+    /// The columns of the times of a span, each behind the one before.
     pub fn of(
         alloc: Heap,
         acts: &[Passed],
         times: &Times,
         span: Span,
-    ) -> Result<Columns, AllocError> {
+    ) -> Result<Columns, AllocError>
+        ensures from { IfOk result (λ columns. columns.from ≡ max span.from 1) }
+        ensures to { IfOk result (λ columns. columns.to ≡ min span.to times.now.last) }
+        ensures each { IfOk result (λ columns. AreColumns columns) }
+    {
         let from = (span.from as usize).max(1);
         let to = (span.to as usize).min(times.last);
-        let mut widths = widths_of(alloc, acts, times, from, to)?;
-        stretch(&mut widths);
-        let total = sum_of(widths.as_slice());
-        let hidden = if total <= MOST_WIDTH {
-            None
-        } else {
-            Some(hidden_of(widths.as_slice()))
-        };
-        let mut columns = Columns {
+        let widths = widths_in(alloc, acts, times, from, to)?;
+        let count = to.saturating_add(1).saturating_sub(from);
+        let laid = laid_out(alloc, widths.as_slice(), count)?;
+        let least = (MARGIN + OVERHANG + LEAST).max(laid.end);
+        Ok(Columns {
             from,
             to,
-            centers: Vec::new(alloc),
-            gap: None,
+            gap: gap_of(laid.gap, times, from),
+            centers: laid.centers,
             left: MARGIN,
-            right: MARGIN.saturating_add(OVERHANG),
-        };
-        columns.set(widths.as_slice(), hidden)?;
-        if let Some(gap) = &mut columns.gap {
-            gap.acts = acts_between(times, gap.from, gap.to);
-        }
-        Ok(columns)
+            right: least.saturating_add(OVERHANG),
+        })
     }
 
     /// Where the time stands; one before or behind the part at the lines' ends.
@@ -118,62 +118,38 @@ impl Columns {
             None => Column::Outside(self.right),
         }
     }
-
-    // Puts the columns side by side, and the gap in the place of those between both numbers.
-    fn set(&mut self, widths: &[usize], hidden: Option<Hidden>) -> Result<(), AllocError> {
-        let least = self.right.saturating_add(LEAST);
-        let mut x = self.right;
-        for (index, width) in widths.iter().enumerate() {
-            match hidden {
-                Some(hidden) if hidden.holds(index) => {
-                    if index == hidden.from {
-                        self.gap = Some(self.gap_at(x, hidden));
-                        x = x.saturating_add(GAP);
-                    }
-                    let left = x.saturating_sub(GAP);
-                    self.centers
-                        .push(Column::LeftOut(hidden.place(index, left)))?;
-                }
-                Some(_) | None => {
-                    self.centers.push(Column::At(x.saturating_add(*width / 2)))?;
-                    x = x.saturating_add(*width);
-                }
-            }
-        }
-        self.right = x.max(least).saturating_add(OVERHANG);
-        Ok(())
-    }
-
-    fn gap_at(&self, left: usize, hidden: Hidden) -> Gap {
-        Gap {
-            left,
-            width: GAP,
-            from: self.from.saturating_add(hidden.from),
-            to: self.from.saturating_add(hidden.to).saturating_sub(1),
-            acts: 0,
-        }
-    }
 }
 
-/// Which of some columns are left out: those from one number up to before another.
-#[derive(Clone, Copy)]
-struct Hidden {
+// The widths of the columns, where there is room with some ease.
+fn widths_in(
+    alloc: Heap,
+    acts: &[Passed],
+    times: &Times,
     from: usize,
     to: usize,
+) -> Result<Vec<usize, Heap>, AllocError> {
+    let mut widths = widths_of(alloc, acts, times, from, to)?;
+    stretch(&mut widths);
+    Ok(widths)
 }
 
-impl Hidden {
-    fn holds(self, index: usize) -> bool {
-        self.from <= index && index < self.to
-    }
-
-    // Where one of them stands behind a gap that begins here: all of them side by side.
-    fn place(self, index: usize, left: usize) -> usize {
-        let part = index.saturating_sub(self.from).saturating_add(1);
-        let parts = self.to.saturating_sub(self.from).saturating_add(1);
-        let far = part.saturating_mul(GAP - 2 * GAP_EDGE).checked_div(parts);
-        left.saturating_add(GAP_EDGE)
-            .saturating_add(far.unwrap_or(0))
+// What stands in the place of the columns that are left out, if some are.
+fn gap_of(cut: Option<Cut>, times: &Times, from: usize) -> Option<Gap>
+    ensures { (result ≡ None) ↔ (cut ≡ None) }
+{
+    match cut {
+        Some(cut) => {
+            let first = from.saturating_add(cut.hidden.from);
+            let last = from.saturating_add(cut.hidden.to).saturating_sub(1);
+            Some(Gap {
+                left: cut.left,
+                width: GAP,
+                from: first,
+                to: last,
+                acts: acts_between(times, first, last),
+            })
+        }
+        None => None,
     }
 }
 
@@ -199,43 +175,6 @@ fn sum_of(widths: &[usize]) -> usize {
     widths
         .iter()
         .fold(0usize, |sum, width| sum.saturating_add(*width))
-}
-
-// As many columns as have room are shown in front, and as many at the end.
-fn hidden_of(widths: &[usize]) -> Hidden {
-    let room = MOST_WIDTH.saturating_sub(GAP) / 2;
-    let from = fitting_in_front(widths, room);
-    let behind = fitting_behind(widths, room);
-    Hidden {
-        from,
-        to: widths.len().saturating_sub(behind),
-    }
-}
-
-fn fitting_in_front(widths: &[usize], room: usize) -> usize {
-    let mut taken = 0usize;
-    let mut count = 0usize;
-    for width in widths {
-        taken = taken.saturating_add(*width);
-        if taken > room {
-            break;
-        }
-        count = count.saturating_add(1);
-    }
-    count
-}
-
-fn fitting_behind(widths: &[usize], room: usize) -> usize {
-    let mut taken = 0usize;
-    let mut count = 0usize;
-    for width in widths.iter().rev() {
-        taken = taken.saturating_add(*width);
-        if taken > room {
-            break;
-        }
-        count = count.saturating_add(1);
-    }
-    count
 }
 
 fn acts_between(times: &Times, from: usize, to: usize) -> usize {

@@ -83,7 +83,7 @@ pub fn place_of(rows: &[Row], columns: &Columns, moment: &Moment) -> Option<Plac
 /// The values that are printed, above their marks, and the room of all marks.
 pub fn set_prints(scene: &mut Scene, room: &mut Room, seen: &Seen<'_>) -> Result<(), AllocError> {
     for (passed, moment) in seen.request.acts.iter().zip(seen.times.moments.iter()) {
-        let Some(at) = place_of(scene.rows.as_slice(), seen.columns, moment) else {
+        let Some(at) = place_of(seen.rows, seen.columns, moment) else {
             continue;
         };
         room.take(Area::of_mark(at.x, at.y))?;

@@ -1,5 +1,7 @@
 //! The lengths of a picture, in pixels.
 
+ghost use Rattle.std.specs.Prelude.{◌≤◌};
+
 /// The width of a letter, about: fonts differ, and this is one of the wider ones.
 pub const LETTER: usize = 7;
 /// The width of a letter of what is printed, which is bold.
@@ -43,7 +45,10 @@ pub fn width_of(letters: usize) -> usize {
 }
 
 /// The distance of two lines, where there are so many.
-pub fn row_distance(ranks: usize) -> usize {
+pub fn row_distance(ranks: usize) -> usize
+    ensures some { 1 ≤ result }
+    ensures most { result ≤ 96 }
+{
     if ranks <= 3 {
         96
     } else if ranks <= 6 {

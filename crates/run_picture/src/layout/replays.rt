@@ -46,10 +46,10 @@ fn set_replay(
     let Some(x) = x_of(seen, crash) else {
         return Ok(());
     };
-    if rank >= scene.rows.len() {
+    if rank >= seen.rows.len() {
         return Ok(());
     }
-    let y = scene.y_of(rank);
+    let y = seen.y_of(rank);
     let below = y
         .saturating_add(BELOW)
         .saturating_add(earlier.min(2).saturating_mul(FURTHER));

@@ -1,16 +1,21 @@
 //! All that is drawn, each with where it stands.
 
+ghost use Rattle.std.specs.Prelude.{IfOk, length, min};
+ghost use Rattle.metered.specs.Limits.{most_ranks};
+ghost use Rattle.run_picture.specs.Shown.{ShowsRun};
+
 use crate::layout::arrows::set_arrows;
 use crate::layout::bands::set_bands;
 use crate::layout::columns::{Columns, Gap};
 use crate::layout::marks::{marks_of, set_prints, set_ticks};
-use crate::layout::measures::{FOOT, HEAD, TIMES};
+use crate::layout::measures::FOOT;
 use crate::layout::replays::set_replays;
 use crate::layout::room::Room;
-use crate::layout::rows::set_rows;
+use crate::layout::rows::{rows_of, take_rows};
 use crate::layout::times::Times;
 use crate::request::Request;
 use metered::Heap;
+use metered::limits::MOST_RANKS;
 use std::alloc::AllocError;
 
 /// A point.
@@ -154,17 +159,37 @@ pub struct Scene {
 }
 
 /// Where everything of the run stands.
-pub fn scene_of(alloc: Heap, request: &Request<'_>) -> Result<Scene, AllocError> {
-    let times = Times::of(alloc, request.acts, request.ends.len())?;
+#[tactic(auto, using(crate::proofs::SceneLemmas::shows_run))]
+pub fn scene_of(alloc: Heap, request: &Request<'_>) -> Result<Scene, AllocError>
+    ensures { IfOk result (λ scene. ShowsRun request.now.acts.now (min (length request.now.ends.now) most_ranks) request.now.span scene) }
+{
+    let ranks = request.ends.len().min(MOST_RANKS);
+    let times = Times::of(alloc, request.acts, ranks)?;
     let columns = Columns::of(alloc, request.acts, &times, request.span)?;
-    let seen = Seen {
+    let rows = rows_of(alloc, request.ends, &times, &columns)?;
+    let marks = marks_of(
+        alloc,
+        rows.as_slice(),
+        &columns,
+        request.acts,
+        times.moments.as_slice(),
+    )?;
+    let mut scene = around(&Seen {
         alloc,
         request,
         times: &times,
         columns: &columns,
-    };
-    let mut scene = nothing_of(&seen);
-    match set_all(&mut scene, &seen) {
+        rows: rows.as_slice(),
+    })?;
+    scene.rows = rows;
+    scene.marks = marks;
+    Ok(scene)
+}
+
+// All but the lines and the marks, which stand already.
+fn around(seen: &Seen<'_>) -> Result<Scene, AllocError> {
+    let mut scene = nothing_of(seen);
+    match set_all(&mut scene, seen) {
         Ok(()) => Ok(scene),
         Err(error) => {
             drop(scene);
@@ -188,34 +213,20 @@ fn nothing_of(seen: &Seen<'_>) -> Scene {
         from: seen.columns.from,
         to: seen.columns.to,
         last: seen.times.last,
-        right: seen.columns.right,
-        bottom: TIMES.saturating_add(HEAD),
+        right: seen.right(),
+        bottom: seen.bottom().saturating_add(FOOT),
     }
 }
 
 // What comes first takes its room first.
 fn set_all(scene: &mut Scene, seen: &Seen<'_>) -> Result<(), AllocError> {
     let mut room = Room::new(seen.alloc);
-    set_rows(scene, &mut room, seen)?;
+    take_rows(&mut room, seen)?;
     set_ticks(scene, seen)?;
-    set_marks(scene, seen)?;
     set_prints(scene, &mut room, seen)?;
     set_replays(scene, &mut room, seen)?;
     set_bands(scene, &mut room, seen)?;
-    set_arrows(scene, &mut room, seen)?;
-    scene.bottom = scene.bottom.saturating_add(FOOT);
-    Ok(())
-}
-
-fn set_marks(scene: &mut Scene, seen: &Seen<'_>) -> Result<(), AllocError> {
-    scene.marks = marks_of(
-        seen.alloc,
-        scene.rows.as_slice(),
-        seen.columns,
-        seen.request.acts,
-        seen.times.moments.as_slice(),
-    )?;
-    Ok(())
+    set_arrows(scene, &mut room, seen)
 }
 
 /// What all parts of a layout look at.
@@ -225,4 +236,5 @@ pub struct Seen<'a> {
     pub request: &'a Request<'a>,
     pub times: &'a Times,
     pub columns: &'a Columns,
+    pub rows: &'a [Row],
 }

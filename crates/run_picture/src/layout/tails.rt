@@ -1,16 +1,24 @@
 //! What is said at the ends of lines.
 
+use crate::layout::columns::Columns;
 use crate::layout::measures::OVERHANG;
-use crate::layout::scene::{Seen, Tail, TailKind};
+use crate::layout::scene::{Tail, TailKind};
+use crate::layout::times::Times;
 use audit::End;
 use metered::Heap;
 use std::alloc::AllocError;
 use std::fmt::Write;
 
 /// How the rank's line ends.
-pub fn tail_of(seen: &Seen<'_>, rank: usize, end: End) -> Result<Tail, AllocError> {
-    let later = acts_behind(seen, rank);
-    let mut text = String::new(seen.alloc);
+pub fn tail_of(
+    alloc: Heap,
+    times: &Times,
+    columns: &Columns,
+    rank: usize,
+    end: End,
+) -> Result<Tail, AllocError> {
+    let later = acts_behind(times, columns, rank);
+    let mut text = String::new(alloc);
     if later > 0 {
         let acts = if later == 1 { "act" } else { "acts" };
         write!(text, "{later} {acts}, then ")?;
@@ -21,9 +29,9 @@ pub fn tail_of(seen: &Seen<'_>, rank: usize, end: End) -> Result<Tail, AllocErro
     } else {
         kind_of(end)
     };
-    let last = seen.columns.column(seen.times.reached_by(rank).time).x();
+    let last = columns.column(times.reached_by(rank).time).x();
     let rests_from = if later > 0 {
-        seen.columns.right.saturating_sub(2 * OVERHANG)
+        columns.right.saturating_sub(2 * OVERHANG)
     } else {
         last
     };
@@ -35,11 +43,11 @@ pub fn tail_of(seen: &Seen<'_>, rank: usize, end: End) -> Result<Tail, AllocErro
 }
 
 // How many acts the rank makes behind the part that is drawn.
-fn acts_behind(seen: &Seen<'_>, rank: usize) -> usize {
-    seen.times
+fn acts_behind(times: &Times, columns: &Columns, rank: usize) -> usize {
+    times
         .moments
         .iter()
-        .filter(|moment| moment.rank == rank && moment.time > seen.columns.to)
+        .filter(|moment| moment.rank == rank && moment.time > columns.to)
         .count()
 }
 

@@ -1,7 +1,11 @@
 //! When each act is made.
 
-ghost use Rattle.std.specs.Prelude.{◌≡◌, ◌++◌, ◌∷◌, [], IfOk, OnOk, map};
+ghost use Rattle.std.specs.Prelude.{◌≡◌, ◌++◌, ◌∷◌, [], IfOk, List, OnOk, length, map, max, slice_set};
+ghost use Rattle.crash_free.specs.Runs.{Passed};
 ghost use Rattle.run_picture.specs.Marks.{made_of, sign_of, told_of};
+ghost use Rattle.run_picture.specs.Noted.{IsNext, IsNoted, next_moment, reached_at, reached_in};
+ghost use Rattle.run_picture.specs.Posts.{noted_by};
+ghost use Rattle.run_picture.specs.Times.{AreClocks, AreTimed, last_of, time_at};
 
 use crate::layout::posted::Posted;
 use crate::layout::scene::MarkKind;
@@ -49,27 +53,40 @@ pub struct Times {
 impl Times {
     /// When the acts of a run on so many ranks are made: a moment for each.
     pub fn of(alloc: Heap, acts: &[Passed], ranks: usize) -> Result<Times, AllocError>
-        ensures { IfOk result (λ times. map told_of times.moments.items ≡ map made_of acts.now) }
+        ensures told { IfOk result (λ times. map told_of times.moments.items ≡ map made_of acts.now) }
+        ensures timed { IfOk result (λ times. AreTimed ranks acts.now times.moments.items) }
+        ensures clocks { IfOk result (λ times. AreClocks ranks acts.now times.moments.items) }
+        ensures last { IfOk result (λ times. times.last ≡ last_of times.moments.items) }
     {
-        let mut reached = Vec::new(alloc);
-        for _ in 0..ranks {
-            reached.push(Reached { clock: 0, time: 0 })?;
-        }
-        let mut times = Times {
-            moments: Vec::new(alloc),
-            reached,
-            last: 0,
-            posted: Posted::new(alloc)?,
-            taken: Vec::new(alloc),
-        };
+        let mut times = Times::new(alloc, ranks)?;
         for passed in acts {
             times.note(passed)?;
         }
         Ok(times)
     }
 
+    // Of no acts.
+    fn new(alloc: Heap, ranks: usize) -> Result<Times, AllocError>
+        ensures told { IfOk result (λ times. times.moments.items ≡ []) }
+        ensures noted { IfOk result (λ times. (acts : List Passed) → IsNoted ranks acts 0 times) }
+    {
+        let mut reached = Vec::new(alloc);
+        for _ in 0..ranks {
+            reached.push(Reached { clock: 0, time: 0 })?;
+        }
+        Ok(Times {
+            moments: Vec::new(alloc),
+            reached,
+            last: 0,
+            posted: Posted::new(alloc)?,
+            taken: Vec::new(alloc),
+        })
+    }
+
     /// How far the rank comes.
-    pub fn reached_by(&self, rank: usize) -> Reached {
+    pub fn reached_by(&self, rank: usize) -> Reached
+        ensures { result ≡ reached_in self.now.reached.items rank }
+    {
         match self.reached.get(rank) {
             Some(reached) => *reached,
             None => Reached { clock: 0, time: 0 },
@@ -86,80 +103,78 @@ impl Times {
 
     // One more act.
     fn note(&mut self, passed: &Passed) -> Result<(), AllocError>
-        ensures { OnOk result (map told_of self.new.moments.items ≡ map told_of self.old.moments.items ++ made_of passed.now ∷ []) }
+        ensures { OnOk result (IsNext self.old passed.now self.new) }
     {
-        let act = self.moments.len();
-        let sender = self.sender_of(passed);
-        self.note_message(act, sender, passed)?;
-        let rank = usize::from(passed.rank);
-        let Reached { clock, time } = self.reach(rank, sender);
-        self.moments.push(Moment {
-            rank,
-            clock,
-            time,
-            sign: sign_of(passed),
-            act,
-            sender,
-        })?;
+        let moment = self.moment_of(passed);
+        self.posted.note(passed, moment.act)?;
+        self.note_taken(moment.sender, passed)?;
+        self.reach(moment);
+        self.moments.push(moment)?;
         Ok(())
     }
 
-    // What this act sends, or takes from that one.
-    fn note_message(
-        &mut self,
-        act: usize,
-        sender: Option<usize>,
-        passed: &Passed,
-    ) -> Result<(), AllocError>
-        ensures { OnOk result (self.new.moments.items ≡ self.old.moments.items) }
+    // When the next act is made, which is this one.
+    fn moment_of(&self, passed: &Passed) -> Moment
+        ensures { result ≡ next_moment self.now passed.now }
     {
-        self.taken.push(false)?;
-        match &passed.act {
-            Act::Sends { dest, .. } => self.posted.post(passed.rank, *dest, act),
-            Act::Takes { .. } => {
-                self.take(sender);
-                Ok(())
-            }
-            Act::Hits { .. } | Act::Misses | Act::Prints(_) => Ok(()),
-        }
-    }
-
-    fn take(&mut self, sender: Option<usize>)
-        ensures { self.new.moments.items ≡ self.old.moments.items }
-    {
-        if let Some(sender) = sender {
-            if let Some(is_taken) = self.taken.get_mut(sender) {
-                *is_taken = true;
-            }
-        }
-    }
-
-    // The rank makes one more act, after this one.
-    fn reach(&mut self, rank: usize, sender: Option<usize>) -> Reached
-        ensures { self.new.moments.items ≡ self.old.moments.items }
-    {
+        let sender = self.posted.sender(passed);
+        let rank = usize::from(passed.rank);
         let before = self.reached_by(rank);
-        let now = Reached {
+        Moment {
+            rank,
             clock: before.clock.saturating_add(1),
             time: before.time.max(self.time_of(sender)).saturating_add(1),
+            sign: sign_of(passed),
+            act: self.moments.len(),
+            sender,
+        }
+    }
+
+    // The message of this sender is taken, if the act takes one.
+    fn note_taken(&mut self, sender: Option<usize>, passed: &Passed) -> Result<(), AllocError>
+        ensures moments { OnOk result (self.new.moments.items ≡ self.old.moments.items) }
+        ensures reached { OnOk result (self.new.reached.items ≡ self.old.reached.items) }
+        ensures posted { OnOk result (self.new.posted ≡ self.old.posted) }
+        ensures last { OnOk result (self.new.last ≡ self.old.last) }
+    {
+        self.taken.push(false)?;
+        match (&passed.act, sender) {
+            (Act::Takes { .. }, Some(act)) if act < self.taken.len() => self.taken[act] = true,
+            (
+                Act::Takes { .. }
+                | Act::Sends { .. }
+                | Act::Hits { .. }
+                | Act::Misses
+                | Act::Prints(_),
+                _,
+            ) => {}
+        }
+        Ok(())
+    }
+
+    // The rank has made the act of this moment.
+    fn reach(&mut self, moment: Moment)
+        ensures moments { self.new.moments.items ≡ self.old.moments.items }
+        ensures reached { self.new.reached.items ≡ slice_set self.old.reached.items moment.rank (reached_at moment) }
+        ensures posted { self.new.posted ≡ self.old.posted }
+        ensures last { self.new.last ≡ max self.old.last moment.time }
+    {
+        if moment.rank < self.reached.len() {
+            self.reached[moment.rank] = Reached {
+                clock: moment.clock,
+                time: moment.time,
+            };
+        }
+        self.last = self.last.max(moment.time);
+    }
+
+    fn time_of(&self, act: Option<usize>) -> usize
+        ensures { result ≡ time_at self.now.moments.items act }
+    {
+        let Some(act) = act else {
+            return 0;
         };
-        if let Some(reached) = self.reached.get_mut(rank) {
-            *reached = now;
-        }
-        self.last = self.last.max(now.time);
-        now
-    }
-
-    fn sender_of(&self, passed: &Passed) -> Option<usize> {
-        match &passed.act {
-            Act::Takes { source, place } => self.posted.sender(*source, passed.rank, *place),
-            Act::Hits { source, place } => self.posted.sender(*source, passed.rank, *place),
-            Act::Sends { .. } | Act::Misses | Act::Prints(_) => None,
-        }
-    }
-
-    fn time_of(&self, act: Option<usize>) -> usize {
-        match act.and_then(|act| self.moments.get(act)) {
+        match self.moments.get(act) {
             Some(moment) => moment.time,
             None => 0,
         }
