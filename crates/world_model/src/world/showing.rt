@@ -29,7 +29,7 @@ impl<'p> World<'p> {
     }
 
     /// The events of a rank that are stored, in order.
-    #[tactic(auto, using(crate::proofs::Showing::has_row))]
+    #[tactic(auto, using(crate::proofs::PlainWorlds::as_many_rows))]
     pub fn row(&self, rank: u8) -> &[Event]
         requires { rank < size self.now }
         ensures { result.now ≡ row self.now.logger.rows rank }
