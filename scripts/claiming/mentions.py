@@ -22,7 +22,7 @@ DOCUMENTS = (
     "docs/GLOSSARY.md",
     "docs/TESTING.md",
 )
-ENDINGS = (".rt", ".antt", ".md", ".rank", ".edit", ".events", ".script", ".py")
+ENDINGS = (".rt", ".antt", ".md", ".rank", ".edit", ".events", ".outcome", ".script", ".py")
 PATH = re.compile(r"(?:\./)?[A-Za-z0-9_.*-]+(?:/[A-Za-z0-9_.*-]+)*/?")
 # a word in capitals stands for any name, unless it is that of a document
 STANDS_FOR_ANY = re.compile(r"(?<![A-Za-z0-9_])[A-Z][A-Z_0-9]*(?![A-Za-z0-9_]|\.md)")

@@ -1,7 +1,7 @@
 //! Runs, checks and worlds of the examples.
 
 /// The words of each run, after the program's name.
-pub const RUNS: [&str; 91] = [
+pub const RUNS: [&str; 103] = [
     "run --ranks 2 examples/answer.rank",
     "run --ranks 4 examples/ring.rank",
     "run --ranks 2 examples/ping_pong.rank",
@@ -59,6 +59,18 @@ pub const RUNS: [&str; 91] = [
     "trace --ranks 2 --events examples/answer.rank",
     "explore --ranks 3 examples/first_come.rank",
     "explore --ranks 3 --events 2 examples/first_come.rank",
+    "judge --ranks 2 examples/answer.rank examples/answer.outcome",
+    "judge --ranks 2 --trace examples/answer.rank examples/answer.outcome",
+    "judge --ranks 3 examples/first_come.rank examples/later_first.outcome",
+    "judge --ranks 2 examples/answer.rank examples/other_line.outcome",
+    "judge --ranks 3 examples/first_come.rank examples/overtaken.outcome",
+    "judge --ranks 2 examples/answer.rank examples/false_stall.outcome",
+    "judge --ranks 2 --steps 2 examples/answer.rank examples/answer.outcome",
+    "judge --ranks 2 examples/answer.rank examples/bad_line.outcome",
+    "judge --ranks 2 examples/answer.rank examples/bad_rank.outcome",
+    "judge --ranks 2 examples/answer.rank examples/after_end.outcome",
+    "judge --ranks 2 examples/answer.rank examples/not_rising.outcome",
+    "judge --ranks 2 examples/answer.rank examples/no_end.outcome",
     "check examples/canonical.rank",
     "check examples/refused.rank",
     "explain examples/refused.rank",

@@ -1,8 +1,10 @@
 //! What help says, whole: no line of it is longer than 80 columns.
+mod outcomes;
 mod runs;
 mod whole;
 mod worlds;
 
+use crate::helps::outcomes::JUDGE;
 use crate::helps::runs::{RUN, TRACE};
 use crate::helps::whole::{C, CHECK, EXPLAIN, EXPLORE, PROGRAM};
 use crate::helps::worlds::{CATCH_UP, WORLD};
@@ -27,6 +29,7 @@ const HELPS: [(&str, &str); 13] = [
     ("catch-up --help", CATCH_UP),
     ("explain --help", EXPLAIN),
     ("explore --help", EXPLORE),
+    ("judge --help", JUDGE),
 ];
 
 // Each of these prints this to standard output, and nothing to standard error.

@@ -18,6 +18,8 @@ mod helps;
 #[cfg(test)]
 mod holding;
 #[cfg(test)]
+mod judgments;
+#[cfg(test)]
 mod kills;
 #[cfg(test)]
 mod limits;

@@ -9,3 +9,4 @@ pub mod Partings
 pub mod Meanings
 pub mod OutcomesText
 pub mod Searches
+pub mod Judgments

@@ -1,12 +1,13 @@
 //! The program: what its words ask for, what it writes, and its exit status.
 //!
 //! - 0: done, also for help; after `explore` all was looked at and each rank
-//!   halts; after `explain` there is no fault
+//!   halts; after `judge` some run has the outcome; after `explain` there is no
+//!   fault
 //! - 1: after a run or a trace a rank isn't halted, or its run ends without a
 //!   report; a run gives no events; after `explore` not all was looked at, or in
-//!   some outcome a rank isn't halted
-//! - 2: the program, the script or the events are refused, by `explain` too, or a
-//!   file can't be read
+//!   some outcome a rank isn't halted; after `judge` no run has the outcome
+//! - 2: the program, the script, the events or the outcome are refused, by
+//!   `explain` too, or a file can't be read
 //! - 3: the words are refused
 //! - 4: there is no memory
 //! - 5: standard output can't be written
@@ -20,6 +21,7 @@ mod check;
 mod explain;
 mod exploring;
 mod job;
+mod judging;
 mod picture;
 mod reading;
 mod refusal;

@@ -1,0 +1,144 @@
+//! Whether some run without crashes has the outcome of a file.
+ghost use Rattle.std.specs.Prelude.{IfOk};
+ghost use Rattle.runner.specs.Judgments.{HasVerdict};
+
+use crate::commands::reading::text_in;
+use crate::commands::refusal::Refusal;
+use crate::commands::said::Said;
+use crate::files::Files;
+use audit::{Outcome, find_run};
+use command_line::JudgeJob;
+use judge::{Asked, Verdict, judge, why_text};
+use metered::Heap;
+use outcome_text::OutcomeText;
+use rank_language::Program;
+use run_trace::{Given, trace_text};
+use statement_lines::statement_lines;
+use std::alloc::AllocError;
+
+// The texts of the job's files.
+#[derive(Drop)]
+struct Texts {
+    program: Vec<u8>,
+    outcome: Vec<u8>,
+}
+
+/// The verdict on the job's outcome, with status 0 for yes and 1 for no. The
+/// program is read and parsed before the outcome is read.
+pub fn judged<'a, F: Files>(
+    alloc: Heap,
+    job: JudgeJob<'a>,
+    files: &mut F,
+) -> Result<Said, Refusal<'a>> {
+    let text = text_in(job.program, files)?;
+    let program = Program::parse(alloc, text.as_slice())?;
+    let said = judged_by(alloc, job, &program, text, files);
+    drop(program);
+    said
+}
+
+// The same, of a program that is parsed.
+fn judged_by<'a, F: Files>(
+    alloc: Heap,
+    job: JudgeJob<'a>,
+    program: &Program,
+    text: Vec<u8>,
+    files: &mut F,
+) -> Result<Said, Refusal<'a>> {
+    let texts = Texts {
+        program: text,
+        outcome: text_in(job.outcome, files)?,
+    };
+    let read = OutcomeText::parse(alloc, texts.outcome.as_slice(), job.ranks)?;
+    match said_of(alloc, job, program, &texts, &read) {
+        Ok(said) => Ok(said),
+        Err(error) => Err(Refusal::from(error)),
+    }
+}
+
+fn said_of(
+    alloc: Heap,
+    job: JudgeJob<'_>,
+    program: &Program,
+    texts: &Texts,
+    read: &OutcomeText,
+) -> Result<Said, AllocError> {
+    let outcome = read.outcome(alloc)?;
+    verdict_on(alloc, job, program, texts, read, &outcome)
+}
+
+// What is said of an outcome: a yes and a no are those of `judge`.
+#[tactic(auto, using(crate::proofs::Judging::has_yes, crate::proofs::Judging::has_no))]
+fn verdict_on(
+    alloc: Heap,
+    job: JudgeJob<'_>,
+    program: &Program,
+    texts: &Texts,
+    read: &OutcomeText,
+    outcome: &Outcome,
+) -> Result<Said, AllocError>
+    ensures { IfOk result (λ said. HasVerdict program.now job.entry.ranks outcome.now job.entry.steps said.status) }
+{
+    match judge(alloc, program, job.ranks, outcome, job.steps)? {
+        Verdict::Yes => {
+            let text = yes_text(alloc, job, program, texts, outcome)?;
+            Ok(Said::answer(alloc, 0, text.into_bytes()))
+        }
+        Verdict::No(why) => {
+            let lines = statement_lines(alloc, texts.program.as_slice())?;
+            let asked = Asked {
+                program,
+                text: texts.program.as_slice(),
+                lines: lines.as_slice(),
+                ranks: job.ranks,
+                steps: job.steps,
+                outcome,
+                read,
+                outcome_text: texts.outcome.as_slice(),
+            };
+            let text = why_text(alloc, &asked, why)?;
+            Ok(Said::answer(alloc, 1, text.into_bytes()))
+        }
+    }
+}
+
+// `yes`, and the run if it is wanted.
+fn yes_text(
+    alloc: Heap,
+    job: JudgeJob<'_>,
+    program: &Program,
+    texts: &Texts,
+    outcome: &Outcome,
+) -> Result<String<Heap>, AllocError> {
+    let mut text = String::from_str(alloc, "yes\n")?;
+    if job.trace {
+        let run = run_text(alloc, job, program, texts, outcome)?;
+        text.push_str(run.as_str())?;
+    }
+    Ok(text)
+}
+
+// A run that has the outcome; within these steps there is one, so it is missed only where memory is short.
+fn run_text(
+    alloc: Heap,
+    job: JudgeJob<'_>,
+    program: &Program,
+    texts: &Texts,
+    outcome: &Outcome,
+) -> Result<String<Heap>, AllocError> {
+    let lines = statement_lines(alloc, texts.program.as_slice())?;
+    let given = Given {
+        text: texts.program.as_slice(),
+        lines: lines.as_slice(),
+        script: &[],
+        orders: &[],
+        unused: &[],
+        outcome,
+        crashes: 0,
+        calls: 0,
+    };
+    match find_run(alloc, program, job.ranks, outcome, job.steps) {
+        Ok(run) => trace_text(alloc, program, job.ranks, &run, given),
+        Err(_) => Err(AllocError),
+    }
+}
