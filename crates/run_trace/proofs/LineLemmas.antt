@@ -4,6 +4,7 @@ use Rattle.std.specs.Prelude.{get_or}
 use Rattle.std.proofs.lemmas.List.{append_assoc, take_all}
 use Rattle.std.proofs.lemmas.Option.{slice_get_within, slice_get-get_or}
 use Rattle.rank_language.specs.Program.{ProgramValue}
+use Rattle.statement_lines.specs.Standing.{IsLinedOf}
 use Rattle.rank_machine.specs.Acts.{Message}
 use Rattle.crash_free.specs.Runs.{Passed}
 use Rattle.run_trace.specs.Deliveries.{as_told, delivered, run_before}
@@ -58,10 +59,12 @@ whole width lines acts places i start said head now past as_many wide first seco
     ∙ ap (λ w. start ++ (order_text ++ (head_text w ++ lines_text w lines (reverse acts) (reverse places)))) wide
 
 -- a text that has the acts first, at places that were found, begins with them whatever follows
-pub begins : (program : ProgramValue) (ranks : ℕ) (lines : List ℕ) (acts : List Passed) (places : List Place) (empty start rest text : List ℕ)
-    → AreFound program ranks acts places → empty ≡ [] → start ≡ empty ++ acts_text lines acts places → text ≡ start ++ rest
-    → BeginsWithActs program ranks lines acts text
-begins program ranks lines acts places empty start rest text found none first second = record {
+pub begins : (source : List ℕ) (program : ProgramValue) (ranks : ℕ) (lines : List ℕ) (acts : List Passed) (places : List Place)
+    (empty start rest text : List ℕ) → IsLinedOf source program lines → AreFound program ranks acts places → empty ≡ []
+    → start ≡ empty ++ acts_text lines acts places → text ≡ start ++ rest → BeginsWithActs source program ranks acts text
+begins source program ranks lines acts places empty start rest text lined found none first second = record {
+  lines = lines;
+  lined = lined;
   places = places;
   found = found;
   rest = rest;

@@ -2,6 +2,7 @@
 -- newest act first, and so have its places.
 use Rattle.std.specs.Prelude.{◌≡◌, ℕ, max, List, [], ◌∷◌, ◌++◌, codes, reverse, slice_index_or, Option}
 use Rattle.rank_language.specs.Program.{ProgramValue}
+use Rattle.statement_lines.specs.Standing.{IsLinedOf}
 use Rattle.rank_machine.specs.Acts.{Message}
 use Rattle.crash_free.specs.Runs.{Passed}
 use Rattle.run_trace.specs.Columns.{digit_count, head_text, right}
@@ -20,7 +21,7 @@ abbrev pub clock_width : List Place → ℕ
 clock_width places = max (digit_count (greatest_of places)) 5
 
 -- three columns: the rank of an act, its clock, and the number that this list has for its
--- statement, which is the statement's line if the statements stand on these lines
+-- statement
 abbrev pub columns_text : ℕ → List ℕ → Passed → Place → List ℕ
 columns_text width lines p place =
     right 4 p.rank ++ codes " " ++ right width place.clock ++ codes "  " ++ right 4 (slice_index_or lines place.position 0) ++ codes "  "
@@ -48,8 +49,11 @@ acts_text lines acts places = order_text
     ++ head_text (clock_width places) ++ lines_text (clock_width places) lines (reverse acts) (reverse places)
 
 -- The text of a run begins with its acts: they have their places from the beginning of the program
--- on, and each act has its line, in their order. What stands behind these lines isn't said.
-pub record BeginsWithActs (program : ProgramValue) (ranks : ℕ) (lines : List ℕ) (acts : List Passed) (text : List ℕ) : Type 0 where
+-- on, and each has its line, in their order, with the number of the line of the program's source on
+-- which its statement stands. What stands behind these lines isn't said.
+pub record BeginsWithActs (source : List ℕ) (program : ProgramValue) (ranks : ℕ) (acts : List Passed) (text : List ℕ) : Type 0 where
+  pub lines : List ℕ
+  pub lined : IsLinedOf source program lines
   pub places : List Place
   pub found : AreFound program ranks acts places
   pub rest : List ℕ

@@ -4,6 +4,7 @@ ghost use Rattle.metered.specs.Limits.{most_ranks};
 ghost use Rattle.run_trace.specs.Deliveries.{AreClocked, AreDelivered};
 ghost use Rattle.run_trace.specs.Lines.{BeginsWithActs};
 ghost use Rattle.run_trace.specs.Places.{AreFound};
+ghost use Rattle.statement_lines.specs.Standing.{IsLinedOf};
 
 use crate::acts::put_acts;
 use crate::circles::put_circles;
@@ -76,7 +77,8 @@ impl Found {
 /// The run in words: its acts, how its ranks ended, what nobody received, which
 /// lines of the script never came to pass, and what crashes and images the
 /// others were. `run` is the one that `audit::find_run` finds for the outcome
-/// that is given. An `Err` means out of memory.
+/// that is given, and its statements stand on the lines that are given, as
+/// `statement_lines::parse` finds them. An `Err` means out of memory.
 pub fn trace_text(
     alloc: Heap,
     program: &Program,
@@ -86,7 +88,8 @@ pub fn trace_text(
 ) -> Result<String<Heap>, AllocError>
     requires some { 1 ≤ ranks }
     requires few { ranks ≤ most_ranks }
-    ensures { IfOk result (λ text. BeginsWithActs program.now ranks given.entry.lines.now (reverse run.now.run) (string_bytes text)) }
+    requires lined { IsLinedOf given.text.now program.now given.lines.now }
+    ensures { IfOk result (λ text. BeginsWithActs given.entry.text.now program.now ranks (reverse run.now.run) (string_bytes text)) }
 {
     let found = Found::of(alloc, program, ranks, run, given)?;
     let told = found.told(run, given);

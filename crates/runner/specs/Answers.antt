@@ -44,7 +44,7 @@ pub record IsCheckAnswer (holds : List ℕ → Type 0) (out : List ℕ) (status 
   pub done : status ≡ 0
 
 -- What is answered to a job, where files hold what they do: a refusal, or what the job's command
--- answers. Of the commands that aren't named here nothing is claimed.
+-- answers. Nothing is claimed of `c`, `trace`, `world --json`, `explain` and `judge`.
 abbrev pub IsJobAnswer : (List ℕ → List ℕ → Type 0) → Job → List ℕ → ℕ → Type 0
 IsJobAnswer holds (job.Check check) out status =
     IsRefusal out status ⊎ IsCheckAnswer (holds check.program.now) out status
@@ -56,4 +56,8 @@ IsJobAnswer holds (job.CatchUp world) out status =
     IsRefusal out status ⊎ IsWorldAnswer holds world wanted.WayOn out status
 IsJobAnswer holds (job.Explore search) out status =
     IsRefusal out status ⊎ IsExploreAnswer (holds search.program.now) search out status
-IsJobAnswer holds other out status = Unit {0}
+IsJobAnswer holds (job.C check) out status = Unit {0}
+IsJobAnswer holds (job.Trace run) out status = Unit {0}
+IsJobAnswer holds (job.WorldJson world) out status = Unit {0}
+IsJobAnswer holds (job.Explain texts) out status = Unit {0}
+IsJobAnswer holds (job.Judge outcome) out status = Unit {0}

@@ -2,6 +2,7 @@ pub mod Refusals
 pub mod Statuses
 pub mod ReportText
 pub mod Events
+pub mod Traces
 pub mod Worlds
 pub mod Reading
 pub mod Answers

@@ -1,8 +1,11 @@
 //! A job's run, told act by act, drawn, or given as events.
-ghost use Rattle.std.specs.Prelude.{◌≡◌, IfOk, string_bytes};
+ghost use Rattle.std.specs.Prelude.{◌≡◌, ◌++◌, IfOk, reverse, string_bytes};
 ghost use Rattle.run_events.specs.Plays.{IsPlayText};
+ghost use Rattle.run_trace.specs.Lines.{BeginsWithActs};
 ghost use Rattle.runner.specs.Events.{PlaysReport};
 ghost use Rattle.runner.specs.Statuses.{HasStatus};
+ghost use Rattle.runner.specs.Traces.{TracesReport};
+ghost use Rattle.statement_lines.specs.Standing.{IsLinedOf};
 
 use crate::commands::job::{Nobody, limits_of};
 use crate::commands::picture::picture_text;
@@ -21,7 +24,7 @@ use run_events::{PlayFault, play_text};
 use run_picture::Span;
 use run_trace::{Given, trace_json, trace_text};
 use script_text::Script;
-use statement_lines::statement_lines;
+use statement_lines::LinedProgram;
 use std::alloc::AllocError;
 use std::sync::Wait;
 use std::thread::Threads;
@@ -42,19 +45,19 @@ pub fn traced<'a, R: Threads + Wait + Sync + Copy + Send, F: Files>(
     files: &mut F,
 ) -> Result<Said, Refusal<'a>> {
     let text = text_in(job.run.program, files)?;
-    let program = Program::parse(alloc, text.as_slice())?;
+    let lined = statement_lines::parse(alloc, text.as_slice())?;
     let asked = match asked_of(alloc, job.run, files) {
         Ok(asked) => asked,
         Err(refusal) => {
-            drop(program);
+            drop(lined);
             return Err(refusal);
         }
     };
-    let said = match told(rt, alloc, job, &program, text.as_slice(), &asked) {
+    let said = match told(rt, alloc, job, text.as_slice(), &lined, &asked) {
         Ok(said) => Ok(said),
         Err(fault) => Err(Refusal::from(fault)),
     };
-    drop(program);
+    drop(lined);
     said
 }
 
@@ -81,33 +84,39 @@ fn told<'a, R: Threads + Wait + Sync + Copy + Send>(
     rt: &R,
     alloc: Heap,
     job: TraceJob<'a>,
-    program: &Program,
     text: &[u8],
+    lined: &LinedProgram,
     asked: &Asked,
-) -> Result<Said, Refusal<'a>> {
+) -> Result<Said, Refusal<'a>>
+    requires { IsLinedOf text.now lined.now.program lined.now.lines.items }
+{
     let limits = limits_of(job.run);
+    let program = &lined.program;
     let script = &asked.script;
     let report = run(rt, alloc, program, job.run.ranks, script, limits, &Nobody)?;
-    told_of(alloc, job, program, text, asked, &report)
+    told_of(alloc, job, text, lined, asked, &report)
 }
 
-#[tactic(auto, using(crate::proofs::Events::plays_report))]
+#[tactic(auto, using(crate::proofs::Events::plays_report, crate::proofs::Traces::traces_report))]
 fn told_of<'a>(
     alloc: Heap,
     job: TraceJob<'a>,
-    program: &Program,
     text: &[u8],
+    lined: &LinedProgram,
     asked: &Asked,
     report: &Report,
 ) -> Result<Said, Refusal<'a>>
+    requires { IsLinedOf text.now lined.now.program lined.now.lines.items }
     ensures status { IfOk result (λ said. HasStatus report.now.outcome said.status) }
+    ensures text { IfOk result (λ said. job.entry.form ≡ TraceForm.Text
+        → TracesReport text.now lined.now.program job.entry.run.ranks report.now.outcome job.entry.run.steps said.out.items) }
     ensures events { IfOk result (λ said. job.entry.form ≡ TraceForm.Events
-        → PlaysReport program.now job.entry.run.ranks report.now.outcome job.entry.run.steps said.out.items) }
+        → PlaysReport lined.now.program job.entry.run.ranks report.now.outcome job.entry.run.steps said.out.items) }
 {
-    let lines = statement_lines(alloc, text)?;
+    let program = &lined.program;
     let given = Given {
         text,
-        lines: lines.as_slice(),
+        lines: lined.lines.as_slice(),
         script: asked.text.as_slice(),
         orders: asked.script.lines(),
         unused: report.unused.as_slice(),
@@ -134,15 +143,15 @@ fn in_form<'a>(
     given: Given<'a>,
     report: &Report,
 ) -> Result<String<Heap>, PlayFault>
-    ensures { IfOk result (λ text. job.entry.form ≡ TraceForm.Events → IsPlayText program.now job.entry.run.ranks found.entry.now.run (string_bytes text)) }
+    requires { IsLinedOf given.text.now program.now given.lines.now }
+    ensures text { IfOk result (λ text. job.entry.form ≡ TraceForm.Text
+        → BeginsWithActs given.entry.text.now program.now job.entry.run.ranks (reverse found.entry.now.run) (string_bytes text)) }
+    ensures events { IfOk result (λ text. job.entry.form ≡ TraceForm.Events
+        → IsPlayText program.now job.entry.run.ranks found.entry.now.run (string_bytes text)) }
 {
     let ranks = job.run.ranks;
     match job.form {
-        TraceForm::Text => {
-            let mut text = trace_text(alloc, program, ranks, found, given)?;
-            print_cost(&mut text, report)?;
-            Ok(text)
-        }
+        TraceForm::Text => Ok(text_of(alloc, job.run, program, found, given, report)?),
         TraceForm::Json => Ok(trace_json(alloc, program, ranks, found, given)?),
         TraceForm::Events => play_text(alloc, program, ranks, found),
         TraceForm::Picture { from, to } => {
@@ -150,4 +159,24 @@ fn in_form<'a>(
             Ok(picture_text(alloc, job.run, found, given, span)?)
         }
     }
+}
+
+// The acts of the run, what stands behind them, and last what the run took.
+#[tactic(auto, using(crate::proofs::Traces::goes_on))]
+fn text_of(
+    alloc: Heap,
+    job: RunJob<'_>,
+    program: &Program,
+    found: &Sim<'_>,
+    given: Given<'_>,
+    report: &Report,
+) -> Result<String<Heap>, AllocError>
+    requires { IsLinedOf given.text.now program.now given.lines.now }
+    ensures { IfOk result (λ text. BeginsWithActs given.entry.text.now program.now job.entry.ranks (reverse found.now.run) (string_bytes text)) }
+{
+    let mut text = trace_text(alloc, program, job.ranks, found, given)?;
+    let mut cost = String::new(alloc);
+    print_cost(&mut cost, report)?;
+    text.push_str(cost.as_str())?;
+    Ok(text)
 }

@@ -14,6 +14,6 @@ returns c =
     ∙ ap (λ a. string_bytes c.new-text.result ++ acts_text c.args.given.lines.now a c.told-told.result.places.now) c.told-told.ensures.acts
     ∙ ap (λ p. string_bytes c.new-text.result ++ acts_text c.args.given.lines.now (reverse c.args.run.now.run) p) c.told-told.ensures.places in
     let text : string_bytes c.push_str.new.self ≡ string_bytes c.put_acts.new.to ++ string_bytes c.in_ok-rest.rest = search rules in
-    begins c.args.program.now c.args.ranks c.args.given.lines.now (reverse c.args.run.now.run) c.in_ok-found.found.places.items
+    begins c.args.given.text.now c.args.program.now c.args.ranks c.args.given.lines.now (reverse c.args.run.now.run) c.in_ok-found.found.places.items
     (string_bytes c.new-text.result) (string_bytes c.put_acts.new.to) (string_bytes c.in_ok-rest.rest) (string_bytes c.push_str.new.self)
-    c.in_ok-found.ensures.places empty start text
+    c.requires.lined c.in_ok-found.ensures.places empty start text
