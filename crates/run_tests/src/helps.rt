@@ -15,7 +15,7 @@ use std::test::*;
 use std::thread::Threads;
 
 /// Words, and all that they print.
-const HELPS: [(&str, &str); 13] = [
+const HELPS: [(&str, &str); 14] = [
     ("--version", "ftmpi 0.1.0\n"),
     ("--help", PROGRAM),
     ("help", PROGRAM),
