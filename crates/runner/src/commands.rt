@@ -28,7 +28,7 @@ mod refusal;
 mod said;
 mod trace;
 mod world;
-mod world_json;
+mod world_objects;
 
 use crate::commands::job::work;
 pub use crate::commands::refusal::Refusal;
