@@ -12,9 +12,9 @@ from typing import NamedTuple
 from .files import text_of, write
 
 HEADING = """\
-# The measured cost of each crate's proofs. The builder wrote this file (docs/MAINTAINING.md says
-# how it gets here). The line `speed` has the milliseconds of a fixed calculation on the machine
-# that was measured. Each other line is of a crate, with these columns:
+# The measured cost of each crate's proofs, in the form in which the builder writes it
+# (docs/MAINTAINING.md says how it gets here). The line `speed` has the milliseconds of a fixed
+# calculation on the machine that was measured. Each other line is of a crate, with these columns:
 #     its name
 #     processor seconds, given the statements of the crates below
 #     those of them in which it had only one process: its beginning and its end
