@@ -1,6 +1,7 @@
 //! Whether some run without crashes has the outcome of a file.
 ghost use Rattle.std.specs.Prelude.{IfOk};
 ghost use Rattle.runner.specs.Judgments.{HasVerdict};
+ghost use Rattle.statement_lines.specs.Standing.{IsLinedOf};
 
 use crate::commands::reading::text_in;
 use crate::commands::refusal::Refusal;
@@ -11,9 +12,8 @@ use command_line::JudgeJob;
 use judge::{Asked, Verdict, judge, why_text};
 use metered::Heap;
 use outcome_text::OutcomeText;
-use rank_language::Program;
 use run_trace::{Given, trace_text};
-use statement_lines::statement_lines;
+use statement_lines::LinedProgram;
 use std::alloc::AllocError;
 
 // The texts of the job's files.
@@ -31,9 +31,9 @@ pub fn judged<'a, F: Files>(
     files: &mut F,
 ) -> Result<Said, Refusal<'a>> {
     let text = text_in(job.program, files)?;
-    let program = Program::parse(alloc, text.as_slice())?;
-    let said = judged_by(alloc, job, &program, text, files);
-    drop(program);
+    let lined = statement_lines::parse(alloc, text.as_slice())?;
+    let said = judged_by(alloc, job, &lined, text, files);
+    drop(lined);
     said
 }
 
@@ -41,16 +41,18 @@ pub fn judged<'a, F: Files>(
 fn judged_by<'a, F: Files>(
     alloc: Heap,
     job: JudgeJob<'a>,
-    program: &Program,
+    lined: &LinedProgram,
     text: Vec<u8>,
     files: &mut F,
-) -> Result<Said, Refusal<'a>> {
+) -> Result<Said, Refusal<'a>>
+    requires { IsLinedOf text.items lined.now.program lined.now.lines.items }
+{
     let texts = Texts {
         program: text,
         outcome: text_in(job.outcome, files)?,
     };
     let read = OutcomeText::parse(alloc, texts.outcome.as_slice(), job.ranks)?;
-    match said_of(alloc, job, program, &texts, &read) {
+    match said_of(alloc, job, lined, &texts, &read) {
         Ok(said) => Ok(said),
         Err(error) => Err(Refusal::from(error)),
     }
@@ -59,12 +61,14 @@ fn judged_by<'a, F: Files>(
 fn said_of(
     alloc: Heap,
     job: JudgeJob<'_>,
-    program: &Program,
+    lined: &LinedProgram,
     texts: &Texts,
     read: &OutcomeText,
-) -> Result<Said, AllocError> {
+) -> Result<Said, AllocError>
+    requires { IsLinedOf texts.now.program.items lined.now.program lined.now.lines.items }
+{
     let outcome = read.outcome(alloc)?;
-    verdict_on(alloc, job, program, texts, read, &outcome)
+    verdict_on(alloc, job, lined, texts, read, &outcome)
 }
 
 // What is said of an outcome: a yes and a no are those of `judge`.
@@ -72,24 +76,24 @@ fn said_of(
 fn verdict_on(
     alloc: Heap,
     job: JudgeJob<'_>,
-    program: &Program,
+    lined: &LinedProgram,
     texts: &Texts,
     read: &OutcomeText,
     outcome: &Outcome,
 ) -> Result<Said, AllocError>
-    ensures { IfOk result (λ said. HasVerdict program.now job.entry.ranks outcome.now job.entry.steps said.status) }
+    requires { IsLinedOf texts.now.program.items lined.now.program lined.now.lines.items }
+    ensures { IfOk result (λ said. HasVerdict lined.now.program job.entry.ranks outcome.now job.entry.steps said.status) }
 {
-    match judge(alloc, program, job.ranks, outcome, job.steps)? {
+    match judge(alloc, &lined.program, job.ranks, outcome, job.steps)? {
         Verdict::Yes => {
-            let text = yes_text(alloc, job, program, texts, outcome)?;
+            let text = yes_text(alloc, job, lined, texts, outcome)?;
             Ok(Said::answer(alloc, 0, text.into_bytes()))
         }
         Verdict::No(why) => {
-            let lines = statement_lines(alloc, texts.program.as_slice())?;
             let asked = Asked {
-                program,
+                program: &lined.program,
                 text: texts.program.as_slice(),
-                lines: lines.as_slice(),
+                lines: lined.lines.as_slice(),
                 ranks: job.ranks,
                 steps: job.steps,
                 outcome,
@@ -106,13 +110,15 @@ fn verdict_on(
 fn yes_text(
     alloc: Heap,
     job: JudgeJob<'_>,
-    program: &Program,
+    lined: &LinedProgram,
     texts: &Texts,
     outcome: &Outcome,
-) -> Result<String<Heap>, AllocError> {
+) -> Result<String<Heap>, AllocError>
+    requires { IsLinedOf texts.now.program.items lined.now.program lined.now.lines.items }
+{
     let mut text = String::from_str(alloc, "yes\n")?;
     if job.trace {
-        let run = run_text(alloc, job, program, texts, outcome)?;
+        let run = run_text(alloc, job, lined, texts, outcome)?;
         text.push_str(run.as_str())?;
     }
     Ok(text)
@@ -122,14 +128,16 @@ fn yes_text(
 fn run_text(
     alloc: Heap,
     job: JudgeJob<'_>,
-    program: &Program,
+    lined: &LinedProgram,
     texts: &Texts,
     outcome: &Outcome,
-) -> Result<String<Heap>, AllocError> {
-    let lines = statement_lines(alloc, texts.program.as_slice())?;
+) -> Result<String<Heap>, AllocError>
+    requires { IsLinedOf texts.now.program.items lined.now.program lined.now.lines.items }
+{
+    let program = &lined.program;
     let given = Given {
         text: texts.program.as_slice(),
-        lines: lines.as_slice(),
+        lines: lined.lines.as_slice(),
         script: &[],
         orders: &[],
         unused: &[],
