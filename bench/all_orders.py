@@ -257,6 +257,11 @@ def parts(r: Rank, on: Rank, s, k: int, size: int, queues, of):
 def outcomes(body, size: int, most_states: int = 50_000) -> set | None:
     """The outcomes, each a tuple of (lines, end) of each rank; None if there are too many
     states."""
+    return search(body, size, most_states)[0]
+
+
+def search(body, size: int, most_states: int) -> tuple[set | None, int]:
+    """The same, and how many states there are, or how many were met until these were too many."""
     begin = (tuple(settled(Rank(tuple(body), (), ()), k, size) for k in range(size)), ((),) * (size * size))
     seen, left, found = {begin}, [begin], set()
     while left:
@@ -269,5 +274,5 @@ def outcomes(body, size: int, most_states: int = 50_000) -> set | None:
                 seen.add(after)
                 left.append(after)
         if len(seen) > most_states:
-            return None
-    return found
+            return None, len(seen)
+    return found, len(seen)

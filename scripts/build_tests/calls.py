@@ -87,7 +87,7 @@ def the_script_builds_another_program_and_refuses_what_is_none(stage: Stage) -> 
     assert stage.call("shown", "--", "x", program=built)[:2] == (0, "x\n")
     for word, why in (("low", "is a library"), ("none", "no crate none"), ("--none", "usage")):
         status, _, errors = stage.call(word, program=built)
-        assert status == 125 and (why in errors or "scripts/built [CRATE]" in errors), (word, status, errors)
+        assert status == 125 and (why in errors or "scripts/built [CRATE ..]" in errors), (word, status, errors)
 
 
 def anew_a_terminal_has_a_line_with_a_bar(stage: Stage) -> None:

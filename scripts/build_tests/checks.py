@@ -13,8 +13,10 @@ from .stage import TOP, Stage, text_of, until, write
 RT = r"""#!/usr/bin/env bash
 [ "$1" = ci ] || exit 0
 rm -rf crates/*/out
-mkdir -p crates/ftmpi/out
-cp "$STAND_IN/program" crates/ftmpi/out/ftmpi
+for it in ftmpi ftmpi_core; do
+  mkdir -p crates/$it/out
+  cp "$STAND_IN/program" crates/$it/out/$it
+done
 source=crates/low/src/lib.rt
 case $(cat "$STAND_IN/ci" 2>/dev/null) in
   "fails") echo "3 passed, 1 failed"; exit 1 ;;

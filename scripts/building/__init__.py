@@ -8,6 +8,7 @@
     schedule    which crate is proved next, and with how many jobs
     weights     what each crate is expected to cost: by what was measured, or by its lines
     costs       what each crate cost: files that an earlier build wrote
+    libraries   the libraries that a build of the core leaves for later ones
     proving     starts the proofs, collects each that has ended, and links the program
     proof       one crate while it is proved, and why a proof doesn't count
     preview     runs the program before it is proved

@@ -25,8 +25,8 @@ def count_as_built(name: str, before: str) -> None:
     with locked(f"{TOP}/crates", name):
         seen = program.seen()
         if state(name) != before:
-            raise NotBuilt("its sources or the toolchain changed during the proofs, so the program doesn't count as built")
+            raise NotBuilt(f"{name}: its sources or the toolchain changed during the proofs, so it doesn't count as built")
         if not os.access(program.path, os.X_OK):
-            raise NotBuilt("`rt ci` left no program")
+            raise NotBuilt(f"{name}: `rt ci` left no program")
         sources, identity = before.partition("-")[0], program.kit.identity()
         program.keep(Record("", "", "", sources, identity, sum_of_file(program.path)), seen)

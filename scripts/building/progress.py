@@ -33,8 +33,9 @@ class Progress:
         print(f"{self.name}: {text}", file=sys.stderr, flush=True)
 
     def begin(self, first: Outlook) -> None:
-        self.first = first
-        self.say(f"not built, or a source changed: first all {first.crates} crates are proved, {in_words(first.seconds)}")
+        self.first, left = first, first.crates - first.done
+        crates = f"all {left}" if not first.done else f"{left} of {first.crates}"
+        self.say(f"not built, or a source changed: first {crates} crates are proved, {in_words(first.seconds)}")
 
     def seconds_left(self, now: Outlook) -> float:
         """The seconds that remain, scaled by how much slower than measured the build is so far. At

@@ -2,6 +2,7 @@
 
 from __future__ import annotations
 
+import os
 import signal
 from collections.abc import Iterator
 from types import ModuleType
@@ -9,6 +10,7 @@ from types import ModuleType
 from .costs import Cost, Costs, calculation_time
 from .ending import NotBuilt
 from .kit import crates_of
+from .libraries import CORE, Libraries
 from .machine import free_megabytes, processors
 from .progress import Outlook, Progress
 from .proof import Proof, link
@@ -29,20 +31,24 @@ class Build:
         group: Group,
         progress: Progress,
         beside: Iterator[int],
-        measured: Costs | None,
+        measured: list[Costs | None],
+        libraries: Libraries,
     ) -> None:
         """`beside` makes a preview. It gets a step at least each second, and yields the megabytes to
-        reserve for it. `measured` has the costs of an earlier build here."""
+        reserve for it. `measured` has the costs of earlier builds here."""
         self.group, self.progress, self.verdict = group, progress, rt.rtlib.VERDICT
         self.crates = crates_of(sources, rt, group)
         below = {name: [it.name for it in crate.below()] for name, crate in self.crates.items()}
-        self.weights = Weights(lines_of(sources), measured)
+        self.weights = Weights(lines_of(sources), *measured)
         self.schedule = Schedule(below, self.weights, processors(), free_megabytes())
         self.proofs, self.beside = dict[str, Proof](), beside
-        self.took = dict[str, Cost]()
+        self.took, self.libraries, self.is_core = dict[str, Cost](), libraries, sources.name == CORE
 
     def run(self) -> str:
-        """Proves all and returns the path of the linked program."""
+        """Proves all that isn't kept, and returns the path of the linked program."""
+        for name in self.libraries.kept:
+            self.libraries.unpack(name, os.path.dirname(self.crates[name].rlib))
+            self.schedule.is_kept(name)
         self.progress.begin(self.outlook())
         while self.schedule.left or self.proofs:
             self.schedule.reserved = next(self.beside, 0)
@@ -81,12 +87,14 @@ class Build:
         if why:
             raise NotBuilt(f"{name}: {why}")
         self.schedule.ends(name)
+        if self.is_core and name != CORE:
+            self.libraries.pack(name, self.crates[name].rlib)
         self.took[name] = proof.cost(self.weights.seconds_alone(name))
         self.progress.proved(name, self.outlook(), *proof.took)
 
     def costs(self) -> Costs:
         """What the proofs took, lowest crate first."""
-        return Costs(calculation_time(), {name: self.took[name] for name in self.crates})
+        return Costs(calculation_time(), {name: self.took[name] for name in self.crates if name in self.took})
 
     def outlook(self) -> Outlook:
         return self.schedule.outlook({name: proof.seconds() for name, proof in self.proofs.items()})

@@ -86,6 +86,11 @@ class Schedule:
         del self.running[name]
         self.done.add(name)
 
+    def is_kept(self, name: str) -> None:
+        """Handles a crate whose library an earlier build left."""
+        self.left.remove(name)
+        self.done.add(name)
+
     def is_killed(self, name: str) -> bool:
         """Handles a crate whose proof was killed. Returns whether it is tried again, alone and with
         one job."""

@@ -31,14 +31,27 @@ class Sources:
             for path in files_of_crate(f"{self.top}/crates/{name}"):
                 yield os.path.relpath(path, self.top)
 
+    def below(self, name: str) -> list[str]:
+        """The crates that a crate's line names."""
+        return [it for it in names_below(self.lines[name]) if it in self.lines]
+
     def sum(self, kit: str) -> str:
         """A checksum of the paths and contents of all files, the crates' lines, HANDLES and the
         toolchain."""
+        return self.sums(kit)[self.name]
+
+    def sums(self, kit: str) -> dict[str, str]:
+        """For each crate, lowest first, a checksum of all that its proof depends on: its files, its
+        line, HANDLES, the toolchain, and the crates below it."""
         handles = text_of(f"{self.top}/HANDLES") if os.path.exists(f"{self.top}/HANDLES") else None
-        total = hashlib.sha256(repr((sorted(self.lines.items()), handles, kit)).encode())
-        for path in self.files():
-            total.update(repr((path, sum_of_file(f"{self.top}/{path}"))).encode())
-        return total.hexdigest()
+        sums = dict[str, str]()
+        for name, line in self.lines.items():
+            below = [sums[it] for it in self.below(name)]
+            total = hashlib.sha256(repr((line, below, handles, kit)).encode())
+            for path in files_of_crate(f"{self.top}/crates/{name}"):
+                total.update(repr((os.path.relpath(path, self.top), sum_of_file(path))).encode())
+            sums[name] = total.hexdigest()
+        return sums
 
     def places(self) -> list[str]:
         """The files and folders, as paths in the repository, in which a change of the sources
@@ -70,10 +83,15 @@ def crate_lines(text: str) -> dict[str, str]:
     return {re.split("[ :]", line)[0]: line for line in lines if line}
 
 
+def names_below(line: str) -> list[str]:
+    """What a line of crates.txt names below its crate."""
+    return line.partition(":")[2].replace(",", " ").split()
+
+
 def with_those_below(name: str, lines: dict[str, str]) -> list[str]:
     """All crates of this repository below the crate, and then the crate itself."""
     found: list[str] = []
-    for below in lines[name].partition(":")[2].replace(",", " ").split():
+    for below in names_below(lines[name]):
         if below in lines:
             found += [it for it in with_those_below(below, lines) if it not in found]
     return [*found, name]

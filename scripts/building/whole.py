@@ -4,6 +4,7 @@ from __future__ import annotations
 
 import contextlib
 import fcntl
+import glob
 import os
 import shutil
 import sys
@@ -13,6 +14,7 @@ from collections.abc import Iterator
 from .costs import Costs
 from .files import sum_of_file
 from .kit import Kit
+from .libraries import CORE, Libraries
 from .preview import Preview, alone, beside
 from .progress import Progress
 from .proving import Build
@@ -54,19 +56,21 @@ class Program:
         return (record.sources, record.kit) == (Sources(TOP, self.name).sum(identity), identity)
 
 
-def build(name: str, words: list[str] | None = None) -> str:
-    """Builds the program if it isn't built, and returns its path. With words, a preview shows
-    meanwhile what the program prints when it is called with them."""
-    program = Program(name)
-    os.makedirs(os.path.dirname(program.path), exist_ok=True)
-    with locked(f"{TOP}/crates", name):
-        # (find runs first, so the next start sees any later change)
-        seen, record = program.seen(), program.record()
-        if record is None or not program.is_same(record):
-            record = build_anew(program, words)
-            # (if a source changed meanwhile, the next start compares checksums)
-            seen = program.seen() if program.is_same(record) else ""
-        program.keep(record, seen)
+def build(names: list[str], words: list[str] | None = None) -> str:
+    """Returns the path of the first of these programs that is built. If none is, builds the last.
+    With words, a preview shows meanwhile what it prints when it is called with them."""
+    programs = [Program(name) for name in names]
+    with locked(f"{TOP}/crates", names[0]):
+        for program in programs:
+            # (find runs first, so the next start sees any later change)
+            seen, record = program.seen(), program.record()
+            if record is not None and program.is_same(record):
+                program.keep(record, seen)
+                return program.path
+        program = programs[-1]
+        record = build_anew(program, words)
+        # (if a source changed meanwhile, the next start compares checksums)
+        program.keep(record, program.seen() if program.is_same(record) else "")
     return program.path
 
 
@@ -81,6 +85,7 @@ def preview(name: str, words: list[str]) -> int:
 def build_anew(program: Program, words: list[str] | None) -> Record:
     """Proves and builds a copy of the sources, installs the program, and returns its record."""
     identity, progress, begin = program.kit.identity(), Progress(program.name), time.monotonic()
+    os.makedirs(os.path.dirname(program.path), exist_ok=True)
     with contextlib.ExitStack() as ending:
         ending.callback(progress.clear)
         folder = ending.enter_context(room())
@@ -88,12 +93,20 @@ def build_anew(program: Program, words: list[str] | None) -> Record:
         copied = program.sources.copy_to(folder)
         sources = copied.sum(identity)
         shown = iter(()) if words is None else beside(copied, lambda: Preview(copied, program.kit, words, group), progress)
-        costs = f"{program.path}.costs"
-        building = Build(copied, program.kit.rt(), group, progress, shown, Costs.read(costs))
+        libraries = Libraries(f"{TOP}/crates/{CORE}/out/libraries", f"{folder}/libraries", copied, identity)
+        building = Build(copied, program.kit.rt(), group, progress, shown, measured(program), libraries)
         put(building.run(), program.path)
-        building.costs().write(costs)
+        building.costs().write(f"{program.path}.costs")
+        if program.name == CORE:
+            libraries.put()
         progress.say(f"proved and built in {(time.monotonic() - begin) / 60:.1f} minutes")
     return Record("", "", "", sources, identity, sum_of_file(program.path))
+
+
+def measured(program: Program) -> list[Costs | None]:
+    """The costs that builds here have measured, those of the program itself first."""
+    own = f"{program.path}.costs"
+    return [Costs.read(it) for it in (own, *sorted(glob.glob(f"{glob.escape(TOP)}/crates/*/out/*.costs")))]
 
 
 def put(built: str, path: str) -> None:

@@ -8,15 +8,28 @@ use crate::syntax::{program, ranks_argument};
 use clap::{Arg, ArgAction, ArgMatches, Command, value_parser};
 use std::alloc::{AllocError, Global};
 
+/// In which form the outcomes are printed.
+#[derive(Clone, Copy, Debug, PartialEq, Eq)]
+pub enum ExploreForm {
+    /// Each outcome, and what all of it means.
+    Text,
+    /// Which receives and probes had several answers, and what the outcomes mean.
+    Summary,
+    /// JSON, one object.
+    Json,
+    /// A run of the outcome of this number, from 1, as events of a world.
+    Events(u32),
+}
+
 /// One program, all outcomes of which are looked for, in so many runs of so many
-/// steps of each rank, or the run of one of them is wanted as events.
+/// steps of each rank, with so many states kept.
 #[derive(Clone, Copy, PartialEq, Eq)]
 pub struct ExploreJob<'a> {
     pub ranks: u8,
     pub runs: u32,
     pub steps: u32,
-    /// The number, from 1, of the outcome whose run is wanted as events of a world.
-    pub events: Option<u32>,
+    pub states: u32,
+    pub form: ExploreForm,
     pub program: &'a str,
     pub ghost some_rank: { 1 ≤ ranks },
     pub ghost few_ranks: { ranks ≤ most_ranks },
@@ -42,7 +55,16 @@ pub fn explore<'a>(alloc: Global) -> Result<Command<'a>, AllocError> {
             "100000",
             "Steps of a rank in a run, 1 to 1000000000",
         ))?
-        .arg(events(alloc))?
+        .arg(limit(
+            alloc,
+            "states",
+            "K",
+            "100000",
+            "States kept to merge runs, 1 to 1000000000",
+        ))?
+        .arg(summary(alloc))?
+        .arg(json(alloc)?)?
+        .arg(events(alloc)?)?
         .arg(program(alloc))
 }
 
@@ -62,21 +84,39 @@ fn limit<'a>(
         .value_parser(value_parser!(u32).range(1..=1000000000))
 }
 
-fn events<'a>(alloc: Global) -> Arg<'a> {
+fn summary<'a>(alloc: Global) -> Arg<'a> {
+    Arg::new(alloc, "summary")
+        .long("summary")
+        .help("Prints which receives raced, and what outcomes mean")
+        .action(ArgAction::SetTrue)
+}
+
+fn json<'a>(alloc: Global) -> Result<Arg<'a>, AllocError> {
+    Arg::new(alloc, "json")
+        .long("json")
+        .help("Prints all of it as JSON, one object")
+        .action(ArgAction::SetTrue)
+        .conflicts_with("summary")
+}
+
+fn events<'a>(alloc: Global) -> Result<Arg<'a>, AllocError> {
     Arg::new(alloc, "events")
         .long("events")
         .value_name("K")
         .help("Prints a run of outcome K as events, for `ftmpi world`")
         .action(ArgAction::Set)
         .value_parser(value_parser!(u32).range(1..=1000000000))
+        .conflicts_with("summary")?
+        .conflicts_with("json")
 }
 
 /// The job that these words name.
 pub fn explore_of<'a>(inner: &ArgMatches<'a>) -> Option<ExploreJob<'a>> {
-    let (Some(ranks), Some(runs), Some(steps), Some(program)) = (
+    let (Some(ranks), Some(runs), Some(steps), Some(states), Some(program)) = (
         ranks_of(inner),
         inner.get_one::<u32>("runs"),
         inner.get_one::<u32>("steps"),
+        inner.get_one::<u32>("states"),
         inner.get_str("program"),
     ) else {
         return None;
@@ -85,7 +125,20 @@ pub fn explore_of<'a>(inner: &ArgMatches<'a>) -> Option<ExploreJob<'a>> {
         ranks,
         runs,
         steps,
-        events: inner.get_one::<u32>("events"),
+        states,
+        form: form_of(inner),
         program,
     })
+}
+
+fn form_of(inner: &ArgMatches<'_>) -> ExploreForm {
+    if let Some(number) = inner.get_one::<u32>("events") {
+        ExploreForm::Events(number)
+    } else if inner.get_flag("json") {
+        ExploreForm::Json
+    } else if inner.get_flag("summary") {
+        ExploreForm::Summary
+    } else {
+        ExploreForm::Text
+    }
 }

@@ -10,12 +10,14 @@ mod help;
 mod job;
 mod judging;
 mod no_job;
+mod soaking;
 mod syntax;
 mod tracing;
 
 pub use explain::ExplainJob;
-pub use exploring::ExploreJob;
+pub use exploring::{ExploreForm, ExploreJob};
 pub use job::{CheckJob, Job, RunJob, WorldJob, job_of};
 pub use judging::JudgeJob;
 pub use no_job::NoJob;
+pub use soaking::SoakJob;
 pub use tracing::{TraceForm, TraceJob};

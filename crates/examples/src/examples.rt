@@ -1,7 +1,7 @@
 //! Runs, checks and worlds of the examples.
 
 /// The words of each run, after the program's name.
-pub const RUNS: [&str; 103] = [
+pub const RUNS: [&str; 106] = [
     "run --ranks 2 examples/answer.rank",
     "run --ranks 4 examples/ring.rank",
     "run --ranks 2 examples/ping_pong.rank",
@@ -58,7 +58,10 @@ pub const RUNS: [&str; 103] = [
     "trace --ranks 2 --picture examples/answer.rank",
     "trace --ranks 2 --events examples/answer.rank",
     "explore --ranks 3 examples/first_come.rank",
+    "explore --ranks 3 --summary examples/first_come.rank",
+    "explore --ranks 3 --json examples/first_come.rank",
     "explore --ranks 3 --events 2 examples/first_come.rank",
+    "soak --ranks 2 --runs 5 --seed 7 examples/answer.rank",
     "judge --ranks 2 examples/answer.rank examples/answer.outcome",
     "judge --ranks 2 --trace examples/answer.rank examples/answer.outcome",
     "judge --ranks 3 examples/first_come.rank examples/later_first.outcome",

@@ -2,7 +2,7 @@
 
 /// The words of each run, after the program's name: the texts of the manual's
 /// pages (LANGUAGE, TROUBLESHOOTING and ERRORS under docs/).
-pub const RUNS: [&str; 93] = [
+pub const RUNS: [&str; 94] = [
     "run --ranks 1 manual/var.rank",
     "run --ranks 1 manual/array.rank",
     "run --ranks 1 manual/let.rank",
@@ -93,6 +93,7 @@ pub const RUNS: [&str; 93] = [
     "trace --ranks 1 --steps 1000 manual/no_end.rank",
     "run --ranks 1 manual/with_end.rank",
     "explore --ranks 3 manual/race.rank",
+    "explore --ranks 3 --summary manual/race.rank",
     "trace --ranks 3 manual/in_order.rank",
     "explore --ranks 2 manual/too_early.rank",
     "trace --ranks 2 manual/in_time.rank",

@@ -5,11 +5,11 @@ ghost use Rattle.crash_free.specs.Sim.{Allows, Simulates};
 ghost use Rattle.crash_free.specs.Wanted.{StandsAtAct};
 
 use crate::moves::{Move, Noted};
+use crate::races::asks_to_probe;
 use crash_free::Sim;
 use metered::Heap;
 use metered::limits::MOST_RANKS;
 use rank_language::Program;
-use rank_machine::Want;
 use std::alloc::AllocError;
 
 /// A run with all that may follow it.
@@ -90,14 +90,6 @@ fn noted(sim: &Sim<'_>, chosen: Move) -> Noted
     Noted {
         chosen,
         position: sim.machine(chosen.rank).position(),
-        probes: match sim.wants(chosen.rank) {
-            Want::Probe(_) | Want::TryProbe(_) => true,
-            Want::Internal
-            | Want::Send { .. }
-            | Want::Receive(_)
-            | Want::Print(_)
-            | Want::Halted
-            | Want::Faulted(_) => false,
-        },
+        probes: asks_to_probe(sim, chosen.rank),
     }
 }

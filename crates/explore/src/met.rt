@@ -1,55 +1,61 @@
 //! Where runs stood that a search met.
-ghost use Rattle.std.specs.Prelude.{◌≡◌, ◌∷◌, ◌++◌, true, false, [], IfOk, Ok, OnOk};
-ghost use Rattle.explore.specs.Met.{AddsAtMost, KeepsAtMost, WasMet};
+ghost use Rattle.std.specs.Prelude.{◌≡◌, ◌⊎◌, ◌∷◌, ◌++◌, true, [], IfOk, Ok, OnOk};
+ghost use Rattle.explore.specs.Met.{AddsAtMost, WasMet};
 ghost use Rattle.explore.specs.Outcomes.{IsAmong};
 
-mod places;
-
-use crate::met::places::Places;
 use crash_free::{Sim, Standing};
 use metered::Heap;
 use std::alloc::AllocError;
+use std::collections::BTreeMap;
 use std::marker::Model;
-use std::mem;
 
-/// How many numbers, of 8 bytes each, `recent` remembers at most.
-const MOST_NUMBERS: usize = 16_777_216;
+/// How many numbers, of 8 bytes each, are kept at most: 256 MiB. Vectors may
+/// hold as much again in reserve.
+const MOST_NUMBERS: usize = 33_554_432;
 
 /// Where the runs of a search stood at which several moves were open, so that
 /// it searches none twice that stands where one stood before.
 ///
-/// It remembers twice so many numbers of them, 256 MiB, and vectors may hold as
-/// much again in reserve. Where no more would fit the older half is forgotten:
-/// memory stays bounded, and what was forgotten is searched again.
+/// It keeps so many states as it may, if they fit in 256 MiB. Behind that it
+/// keeps no more, so that memory stays bounded, and what stands where none of
+/// those stands is searched again.
 #[derive(Drop)]
 pub struct Met {
-    older: Places,
-    recent: Places,
+    // oldest first
+    kept: Vec<Standing, Heap>,
+    // where the last one of each hash is among them, so that no search walks them
+    by_hash: BTreeMap<u64, usize, Heap>,
+    numbers: usize,
+    most_states: u32,
+    kept_all: bool,
 }
 
 impl Model for Met {
-    ghost use Rattle.std.specs.Prelude.{◌++◌, List};
+    ghost use Rattle.std.specs.Prelude.{List};
     ghost use Rattle.crash_free.specs.Standing as standing;
 
     ghost Value = { List standing.Rows };
 
-    ghost view = { λ m. m.older ++ m.recent };
+    ghost view = { λ m. m.kept.items };
 }
 
 impl Met {
-    pub fn new(alloc: Heap) -> Met
+    /// None yet, and at most so many.
+    pub fn new(alloc: Heap, most_states: u32) -> Met
         ensures { result ≡ [] }
     {
         Met {
-            older: Places::new(alloc),
-            recent: Places::new(alloc),
+            kept: Vec::new(alloc),
+            by_hash: BTreeMap::new(alloc),
+            numbers: 0,
+            most_states,
+            kept_all: true,
         }
     }
 
-    /// Whether a run stood where this one does; if not, this is remembered. An
-    /// `Err` means out of memory.
-    #[tactic(auto, using(crate::proofs::Meeting::adds_nothing))]
-    pub fn meets(&mut self, alloc: Heap, sim: &Sim<'_>) -> Result<bool, AllocError>
+    /// Whether a run stood where this one does; if not, this is kept, where
+    /// there is room. An `Err` means out of memory.
+    pub fn meets(&mut self, sim: &Sim<'_>) -> Result<bool, AllocError>
         ensures yes { result ≡ Ok true → WasMet self.new sim.now }
         ensures same { result ≡ Ok true → self.new ≡ self.old }
         ensures adds { IfOk result (λ _. AddsAtMost self.old sim.now self.new) }
@@ -59,13 +65,12 @@ impl Met {
         if self.has(hash, &standing) {
             return Ok(true);
         }
-        self.make_room(alloc, standing.size());
-        self.remember(hash, standing)?;
+        self.keep(hash, standing)?;
         Ok(false)
     }
 
-    /// Whether a run stood where this one does, without remembering this. A no
-    /// may be wrong. An `Err` means out of memory.
+    /// Whether a run stood where this one does, without keeping this. A no may
+    /// be wrong. An `Err` means out of memory.
     pub fn knows(&self, sim: &Sim<'_>) -> Result<bool, AllocError>
         ensures { result ≡ Ok true → WasMet self.now sim.now }
     {
@@ -77,24 +82,47 @@ impl Met {
     fn has(&self, hash: u64, standing: &Standing) -> bool
         ensures { result ≡ true → IsAmong self.now standing.now }
     {
-        self.recent.has(hash, standing) || self.older.has(hash, standing)
+        let Some(place) = self.by_hash.get(&hash) else {
+            return false;
+        };
+        has_at(&self.kept, *place, standing)
     }
 
-    // Where so many numbers more would be too many, the older half is forgotten.
-    #[tactic(auto, using(crate::proofs::Meeting::keeps_recent, crate::proofs::Meeting::keeps_all))]
-    fn make_room(&mut self, alloc: Heap, size: usize)
-        ensures { KeepsAtMost self.old self.new }
+    fn has_room(&self, size: usize) -> bool {
+        self.states() < self.most_states && self.numbers.saturating_add(size) <= MOST_NUMBERS
+    }
+
+    // Keeps this, if there is room.
+    fn keep(&mut self, hash: u64, standing: Standing) -> Result<(), AllocError>
+        ensures { OnOk result ((self.new ≡ self.old) ⊎ (self.new ≡ self.old ++ standing ∷ [])) }
     {
-        if self.recent.has_room(size) {
-            return;
+        if !self.has_room(standing.size()) {
+            self.kept_all = false;
+            return Ok(());
         }
-        self.older = mem::replace(&mut self.recent, Places::new(alloc));
+        self.numbers = self.numbers.saturating_add(standing.size());
+        self.by_hash.insert(hash, self.kept.len())?;
+        self.kept.push(standing)?;
+        Ok(())
     }
 
-    #[tactic(auto, using(crate::proofs::Meeting::behind_both))]
-    fn remember(&mut self, hash: u64, standing: Standing) -> Result<(), AllocError>
-        ensures { OnOk result (self.new ≡ self.old ++ standing ∷ []) }
-    {
-        self.recent.remember(hash, standing)
+    /// How many states are kept.
+    pub fn states(&self) -> u32 {
+        u32::try_from(self.kept.len()).unwrap_or(u32::MAX)
     }
+
+    /// Whether none was left out for which there was no room.
+    pub fn kept_all(&self) -> bool {
+        self.kept_all
+    }
+}
+
+// Whether this stands at the place.
+fn has_at(kept: &[Standing], place: usize, standing: &Standing) -> bool
+    ensures { result ≡ true → IsAmong kept.now standing.now }
+{
+    if place >= kept.len() {
+        return false;
+    }
+    kept[place].is_same(standing)
 }

@@ -1,3 +1,4 @@
+mod CauseLemmas
 mod ClearingLemmas
 mod Crews
 mod DroppingLemmas

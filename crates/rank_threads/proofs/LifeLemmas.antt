@@ -4,7 +4,7 @@ use Rattle.rank_language.specs.Correct.{IsProgramOf}
 use Rattle.rank_language.specs.Program.{ProgramValue}
 use Rattle.rank_node.specs.declared.fault.NodeFault.{NodeFault}
 use Rattle.rank_node.specs.declared.fault.NodeFault.TheVariants as fault
-use Rattle.rank_threads.specs.Endings.{IsKilledAt, crashes_after, crashes_by, end_after}
+use Rattle.rank_threads.specs.Endings.{IsKilledAt, crashes_after, crashes_by, end_after, stood_after}
 use Rattle.rank_threads.specs.Keeping.{HasLived, IsToldToLeave, Lives, told, failed, last, again}
 use Rattle.rank_threads.specs.Lives.{SamePlace}
 use Rattle.rank_threads.specs.Stations.{HasRow}
@@ -27,8 +27,8 @@ pub has_lived : (text : List ℕ) (program : ProgramValue) (old new : Station) (
     → SamePlace begun ended → UsesLines how begun.plan ended.plan → IsKilledAt how ended.node.phase
     → ended.tally.crashes ≡ crashes_after how begun.tally.crashes
     → new.end ≡ end_after how ended.tally.is_spent ended.node.phase
-    → new.plan ≡ ended.plan → new.tally ≡ ended.tally → HasLived text old new
-has_lived text program old new begun ended how reads well begins plan counts same lines killed counted leaves left tally none = record {
+    → new.plan ≡ ended.plan → new.tally ≡ ended.tally → new.stood ≡ stood_after how ended.node.phase → HasLived text old new
+has_lived text program old new begun ended how reads well begins plan counts same lines killed counted leaves left tally stands none = record {
   program = program;
   reads = reads;
   begun = begun;
@@ -42,6 +42,9 @@ has_lived text program old new begun ended how reads well begins plan counts sam
   killed = killed;
   leaves = leaves;
   left = left;
+  stands = stands;
+  steps = ap (λ t. t.steps) tally;
+  spent = ap (λ t. t.is_spent) tally;
   crashes =
       ap (λ t. t.crashes) tally ∙ counted ∙ ap (λ t. crashes_after how t.crashes) (counts well)
       ∙ by_end how ended.tally.is_spent ended.node.phase old.tally.crashes
@@ -58,8 +61,9 @@ has_fault text old new some none = (let gone : false ≡ true = ap is_some (sym 
 
 -- what comes behind a life, counts no crash and uses no line leaves it as it was
 pub lived_on : (text : List ℕ) (old mid new : Station) → HasLived text old mid → (new.tally.fault ≢ Some fault.Memory → new.tally.fault ≡ mid.tally.fault)
-    → new.end ≡ mid.end → new.plan ≡ mid.plan → new.tally.crashes ≡ mid.tally.crashes → HasLived text old new
-lived_on text old mid new lived kept end plan same none =
+    → new.end ≡ mid.end → new.plan ≡ mid.plan → new.stood ≡ mid.stood → new.tally.crashes ≡ mid.tally.crashes → new.tally.steps ≡ mid.tally.steps
+    → new.tally.is_spent ≡ mid.tally.is_spent → HasLived text old new
+lived_on text old mid new lived kept end plan stood same steps spent none =
     let life = lived (sym (kept (λ memory. (let both : None ≡ Some fault.Memory = sym none ∙ memory in absurd cc))) ∙ none) in
     record {
       program = life.program;
@@ -75,6 +79,9 @@ lived_on text old mid new lived kept end plan same none =
       killed = life.killed;
       leaves = end ∙ life.leaves;
       left = plan ∙ life.left;
+      stands = stood ∙ life.stands;
+      steps = steps ∙ life.steps;
+      spent = spent ∙ life.spent;
       crashes = same ∙ life.crashes ∙ ap (λ e. crashes_by e old.tally.crashes) (sym end);
     }
 

@@ -30,6 +30,7 @@ record UsedBy (old new : List ScriptLine) (e : Option End) : Type 0 where
   pub first : old ≡ lines ++ new
   pub counts : (crashes : ℕ) → crashes ≤ most → crashes_by e crashes ≡ min (crashes + kills_in lines) most
 
+-- by the end with which the station came back
 used_by : (how : Ending) (is_spent : Bool) (p : Phase) (old new : List ScriptLine) (e : Option End) → UsesLines how old new → e ≡ end_after how is_spent p
     → UsedBy old new e
 used_by (ending.Crashed killed) is_spent p old new e lines end =
@@ -90,6 +91,7 @@ abbrev plans_from : ℕ → ℕ → List ScriptLine → List (List ScriptLine)
 plans_from rank zero script = []
 plans_from rank (suc k) script = orders_of rank script ∷ plans_from (rank + 1) k script
 
+-- the lines for one rank more, behind those for the others
 plans_more : (rank k : ℕ) (script : List ScriptLine) → plans_from rank k script ++ orders_of (rank + k) script ∷ [] ≡ plans_from rank (suc k) script
 plans_more rank zero script = ap (λ n. orders_of n script ∷ []) (omega arith)
 plans_more rank (suc k) script =
@@ -97,6 +99,7 @@ plans_more rank (suc k) script =
     ap (λ n. orders_of rank script ∷ (plans_from (rank + 1) k script ++ orders_of n script ∷ [])) there
     ∙ ap (λ l. orders_of rank script ∷ l) (plans_more (rank + 1) k script)
 
+-- counted from rank 0 on these are the lines that a run is given
 plans_same : (k : ℕ) (script : List ScriptLine) → plans_below k script ≡ plans_from 0 k script
 plans_same zero script = refl
 plans_same (suc k) script =
@@ -108,6 +111,7 @@ abbrev ArePlanned : ℕ → List ScriptLine → List Station → Type 0
 ArePlanned rank script [] = Unit {0}
 ArePlanned rank script (s ∷ ss) = (s.plan ≡ orders_of rank script) × ArePlanned (rank + 1) script ss
 
+-- so has each station of which the lines are listed so
 planned : (rank k : ℕ) (script : List ScriptLine) (ss : List Station) → plans_of ss ≡ plans_from rank k script → ArePlanned rank script ss
 planned rank k script [] same = tt
 planned rank zero script (s ∷ ss) same = absurd cc
@@ -137,16 +141,19 @@ none_met : (rank : ℕ) (f : Option NodeFault) (later : Option RunFault) → met
 none_met rank None later none = (refl, none)
 none_met rank (Some e) later none = absurd cc
 
+-- if none was met by any, all are well
 lowest_well : (rank : ℕ) (cs : List Account) → lowest_from rank cs ≡ None → AreWell cs
 lowest_well rank [] none = tt
 lowest_well rank (c ∷ cs) none =
     let both = none_met rank c.fault (lowest_from (rank + 1) cs) none in
     (both.0, lowest_well (rank + 1) cs both.1)
 
+-- what is not chosen first comes second
 none_else : (b : Bool) (f : RunFault) (later : Option RunFault) → (if b then Some f else later) ≡ None → later ≡ None
 none_else true f later none = absurd cc
 none_else false f later none = none
 
+-- a run that has no fault has ranks without a fault
 pub none_well : (cs : List Account) → fault_of cs ≡ None → AreWell cs
 none_well cs none = lowest_well 0 cs (none_else (lacked_memory cs) _ (lowest_from 0 cs) none)
 

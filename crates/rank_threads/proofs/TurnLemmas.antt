@@ -61,37 +61,37 @@ answers_told t p q answer result spent blocked own stood says same memory =
 -- ---- what is counted
 
 -- of a rank that a limit stopped nothing
-pub counts_spent : (most : ℕ) (p : Phase) (t : Tally) → t.is_spent ≡ true → Counts most p stepped.Ended t t
-counts_spent most p t spent = ap (λ b. record t { is_spent = b }) (go (is_stopped (turn_in p)))
+pub counts_spent : (most : ℕ) (p q : Phase) (t : Tally) → t.is_spent ≡ true → Counts most p q stepped.Ended t t
+counts_spent most p q t spent = ap (λ b. record t { is_spent = b }) (go (is_stopped (turn_in p)))
   where
     go : (b : Bool) → t.is_spent ≡ (b || t.is_spent)
     go true = spent
     go false = refl
 
 -- of one that is blocked nothing more
-pub counts_blocked : (most : ℕ) (p : Phase) (t : Tally) → t.is_blocked ≡ true → Counts most p stepped.Blocked t t
-counts_blocked most p t blocked = ap (λ b. record t { is_blocked = b }) blocked
+pub counts_blocked : (most : ℕ) (p q : Phase) (t : Tally) → t.is_blocked ≡ true → Counts most p q stepped.Blocked t t
+counts_blocked most p q t blocked = ap (λ b. record t { is_blocked = b }) blocked
 
 -- of a step that the state says what it was
-counts_step : (most : ℕ) (p : Phase) (t : Tally) (answer : Result Turn NodeFault) → (answer ≢ Err fault.Memory → answer ≡ turn_in p)
-    → IfOk (told answer) (λ s. Counts most p s t (counted most answer t))
-counts_step most p t (Ok turn.Moved) says = refl
-counts_step most p t (Ok turn.Blocked) says = refl
-counts_step most p t (Ok turn.Held) says = refl
-counts_step most p t (Ok turn.Ended) says =
+counts_step : (most : ℕ) (p q : Phase) (t : Tally) (answer : Result Turn NodeFault) → (answer ≢ Err fault.Memory → answer ≡ turn_in p)
+    → IfOk (told answer) (λ s. Counts most p q s t (counted most answer t))
+counts_step most p q t (Ok turn.Moved) says = refl
+counts_step most p q t (Ok turn.Blocked) says = refl
+counts_step most p q t (Ok turn.Held) says = refl
+counts_step most p q t (Ok turn.Ended) says =
     let same : Ok turn.Ended ≡ turn_in p = says (λ lacked. absurd cc) in
     ap (λ a. record t { is_spent = is_stopped a || t.is_spent }) same
-counts_step most p t (Err fault.ClockSpent) says =
+counts_step most p q t (Err fault.ClockSpent) says =
     let same : Err fault.ClockSpent ≡ turn_in p = says (λ lacked. absurd cc) in
     ap (λ a. record t { is_spent = is_stopped a || t.is_spent }) same
-counts_step most p t (Err fault.Log) says =
+counts_step most p q t (Err fault.Log) says =
     let same : Err fault.Log ≡ turn_in p = says (λ lacked. absurd cc) in
     ap (λ a. record t { is_spent = is_stopped a || t.is_spent }) same
-counts_step most p t (Err fault.Memory) says = tt
-counts_step most p t (Err fault.NotSettled) says = tt
-counts_step most p t (Err fault.Shelf) says = tt
-counts_step most p t (Err fault.Image) says = tt
-counts_step most p t (Err fault.Replay) says = tt
+counts_step most p q t (Err fault.Memory) says = tt
+counts_step most p q t (Err fault.NotSettled) says = tt
+counts_step most p q t (Err fault.Shelf) says = tt
+counts_step most p q t (Err fault.Image) says = tt
+counts_step most p q t (Err fault.Replay) says = tt
 
 -- where a limit refuses the step it is told that the rank has ended
 pub told_limit : (f : NodeFault) → is_limit f ≡ true → Ok stepped.Ended ≡ told (Err f)
@@ -110,11 +110,11 @@ pub counted_fault : (most : ℕ) (f : NodeFault) (t : Tally) → is_limit f ≡ 
 counted_fault most f t other = rw (other) refl
 
 -- what is counted of a step that wasn't one of the machine's own is what the state before it says
-pub counts_told : (most : ℕ) (p q : Phase) (t s u : Tally) (answer : Result Turn NodeFault) (result : Result Stepped NodeFault)
+pub counts_told : (most : ℕ) (p q r : Phase) (t s u : Tally) (answer : Result Turn NodeFault) (result : Result Stepped NodeFault)
     → q ≡ p → s ≡ t → (answer ≢ Err fault.Memory → answer ≡ turn_in q) → result ≡ told answer → u ≡ counted most answer s
-    → IfOk result (λ x. Counts most p x t u)
-counts_told most p q t s u answer result stood kept says same after =
-    rw (same, after, kept) (counts_step most p t answer (λ lacked. says lacked ∙ ap turn_in stood))
+    → IfOk result (λ x. Counts most p r x t u)
+counts_told most p q r t s u answer result stood kept says same after =
+    rw (same, after, kept) (counts_step most p r t answer (λ lacked. says lacked ∙ ap turn_in stood))
 
 -- ---- how the clock grows
 

@@ -8,8 +8,10 @@ use Rattle.rank_node.specs.Phases.{clock_in}
 use Rattle.rank_threads.specs.Tally.{one_more}
 use Rattle.rank_threads.specs.declared.ending.Ending.{Ending}
 use Rattle.rank_threads.specs.declared.ending.Ending.TheVariants as ending
+use Rattle.rank_threads.specs.declared.ending.Why.{Why}
 use Rattle.rank_threads.specs.declared.ending.Why.TheVariants as why
-use Rattle.rank_threads.specs.Phases.{Phase}
+use Rattle.rank_threads.specs.Phases.{Phase, is_replaying}
+use Rattle.rank_threads.specs.declared.stood.Stood.{Stood}
 use Rattle.rank_threads.specs.declared.turn.After.{After}
 use Rattle.rank_threads.specs.declared.turn.After.TheVariants as after
 
@@ -30,11 +32,15 @@ abbrev pub goes_down : Result After NodeFault → Bool
 goes_down (Ok a) = is_down a
 goes_down (Err f) = false
 
+-- a rank leaves since all are at rest
+abbrev pub is_rest : Why → Bool
+is_rest (why.AtRest rest) = true
+is_rest (why.Told stopped) = false
+
 -- the rank left since all are at rest
 abbrev pub is_at_rest : Ending → Bool
 is_at_rest (ending.Crashed killed) = false
-is_at_rest (ending.Left (why.AtRest rest)) = true
-is_at_rest (ending.Left (why.Told stopped)) = false
+is_at_rest (ending.Left reason) = is_rest reason
 
 -- a rank that is to go down by what a turn came to is at the clock of its kill: it has made no act
 -- since
@@ -57,6 +63,14 @@ crashes_after (ending.Left reason) crashes = crashes
 abbrev pub end_after : Ending → Bool → Phase → Option End
 end_after (ending.Crashed killed) is_spent p = None
 end_after (ending.Left reason) is_spent p = Some (end_of is_spent p)
+
+-- how a rank stands: at which clock, whether it replays, and whether all are at rest
+abbrev pub stood_at : Bool → Phase → Stood
+stood_at rests p = record { clock = clock_in p; is_replaying = is_replaying p; is_at_rest = rests }
+
+-- how it stood at the end of a life that ended so
+abbrev pub stood_after : Ending → Phase → Stood
+stood_after how p = stood_at (is_at_rest how) p
 
 -- how often a rank has crashed, after a life with which its station came back so
 abbrev pub crashes_by : Option End → ℕ → ℕ

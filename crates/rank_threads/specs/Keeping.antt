@@ -7,7 +7,7 @@ use Rattle.std.specs.Prelude.{◌≡◌, ◌≢◌, ℕ, List, [], ◌∷◌, So
 use Rattle.audit.specs.declared.outcome.End.TheVariants as end
 use Rattle.rank_language.specs.Correct.{IsProgramOf}
 use Rattle.rank_language.specs.Program.{ProgramValue}
-use Rattle.rank_threads.specs.Endings.{IsKilledAt, crashes_by, end_after}
+use Rattle.rank_threads.specs.Endings.{IsKilledAt, crashes_by, end_after, stood_after}
 use Rattle.rank_threads.specs.Lives.{SamePlace}
 use Rattle.rank_threads.specs.Phases.{Begins}
 use Rattle.rank_threads.specs.Stations.{HasRow, SameStation}
@@ -19,7 +19,8 @@ use Rattle.rank_threads.specs.declared.station.Station.{Station}
 -- One life of a rank that reads this text, from one station to another. It begins at the first, with
 -- the program of the text, and with the row, the lines of the script and the counts that this station
 -- has. It uses lines that ask for images, and ends by the script's next kill, at that kill's clock, or
--- as the rank leaves. A crash is counted, and nothing else is counted as one.
+-- as the rank leaves. A crash is counted, and nothing else is counted as one. How the rank stood then is
+-- noted, how many steps it had made, and whether a limit had stopped it.
 pub record IsLife (text : List ℕ) (old new : Station) : Type 0 where
   pub program : ProgramValue
   pub reads : IsProgramOf text program
@@ -34,6 +35,9 @@ pub record IsLife (text : List ℕ) (old new : Station) : Type 0 where
   pub killed : IsKilledAt how ended.node.phase
   pub leaves : new.end ≡ end_after how ended.tally.is_spent ended.node.phase
   pub left : new.plan ≡ ended.plan
+  pub stands : new.stood ≡ stood_after how ended.node.phase
+  pub steps : new.tally.steps ≡ ended.tally.steps
+  pub spent : new.tally.is_spent ≡ ended.tally.is_spent
   pub crashes : new.tally.crashes ≡ crashes_by new.end old.tally.crashes
 
 -- A life was lived. Nothing is said if the rank met a fault.

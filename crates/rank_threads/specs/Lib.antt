@@ -14,6 +14,7 @@ pub mod Resting
 pub mod Tally
 pub mod Plans
 pub mod Ends
+pub mod Causes
 pub mod Faults
 pub mod Taking
 pub mod Dropping

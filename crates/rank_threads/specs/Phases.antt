@@ -8,7 +8,7 @@ use Rattle.plain_logger.specs.Event.{EventValue}
 use Rattle.rank_language.specs.Program.{ProgramValue}
 use Rattle.rank_machine.specs.declared.want.Want.{Want}
 use Rattle.rank_machine.specs.declared.want.Wanted.{Wanted}
-use Rattle.rank_machine.specs.Machine.{machine_want, IsWantedBy}
+use Rattle.rank_machine.specs.Machine.{MachineValue, machine_want, IsWantedBy}
 use Rattle.rank_node.specs.Desked.{at_desk}
 use Rattle.rank_node.specs.Image.{BeginsAgain, image_of}
 use Rattle.rank_node.specs.Node.{Node, opening}
@@ -23,6 +23,12 @@ use Rattle.rank_threads.specs.declared.row.Row.{Row}
 -- a rank with a desk at its logger and a shelf in memory
 abbrev pub Phase : Type 0
 Phase = ranks.Phase MemoryShelf DeskValue
+
+-- the rank's machine; none if the rank is down
+abbrev pub machine_in : Phase → Option MachineValue
+machine_in (phase.Running v) = Some v.machine
+machine_in (phase.Replaying r) = Some r.node.machine
+machine_in (phase.Down s) = None
 
 -- what the rank's machine wants; nothing if the rank is down
 abbrev pub want_in : Phase → Option Want
@@ -77,6 +83,12 @@ abbrev pub is_running : Phase → Bool
 is_running (phase.Running v) = true
 is_running (phase.Replaying r) = false
 is_running (phase.Down s) = false
+
+-- the rank replays
+abbrev pub is_replaying : Phase → Bool
+is_replaying (phase.Running v) = false
+is_replaying (phase.Replaying r) = true
+is_replaying (phase.Down s) = false
 
 -- the shelf holds the image of the rank as it stands, which it can only if the rank runs
 abbrev pub HasImage : Phase → Type 0

@@ -39,10 +39,18 @@ abbrev pub ended : Option End → End
 ended None = end.Unfinished
 ended (Some e) = e
 
--- what a rank came to: how it left, how often it crashed, how many lines of the script it left
--- unused, and why it can't go on
+-- what a rank came to: how it left, how often it crashed, how many steps it made, whether a limit
+-- stopped it, how it stood, how many lines of the script it left unused, and why it can't go on
 abbrev pub account_of : Station → Account
-account_of s = record { end = ended s.end; crashes = s.tally.crashes; unused = length s.plan; fault = s.tally.fault }
+account_of s = record {
+  end = ended s.end;
+  crashes = s.tally.crashes;
+  steps = s.tally.steps;
+  is_spent = s.tally.is_spent;
+  stood = s.stood;
+  unused = length s.plan;
+  fault = s.tally.fault;
+}
 
 -- no rank has lived yet
 abbrev pub AreNew : List Station → Type 0

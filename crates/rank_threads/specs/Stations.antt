@@ -16,10 +16,10 @@ use Rattle.rank_threads.specs.Tally.{new_tally}
 abbrev pub SameStation : Station → Station → Type 0
 SameStation a b = (b.rank ≡ a.rank) × SameStable a.down b.down × (b.size ≡ a.size) × SameTxs a.to.items b.to.items × SameRxs a.from.items b.from.items
 
--- the lines of the script that are left, the row that was fetched and how the rank left are the
--- same
+-- the lines of the script that are left, the row that was fetched, how the rank left and how it
+-- stood then are the same
 abbrev pub SameRest : Station → Station → Type 0
-SameRest a b = (b.plan ≡ a.plan) × (b.row ≡ a.row) × (b.end ≡ a.end)
+SameRest a b = (b.plan ≡ a.plan) × (b.row ≡ a.row) × (b.end ≡ a.end) × (b.stood ≡ a.stood)
 
 -- this is a life of that station's rank: it has the same rank, desk and lanes
 abbrev pub IsLifeOf : Station → Life → Type 0

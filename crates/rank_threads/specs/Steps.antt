@@ -5,6 +5,7 @@ use Rattle.event_logger.specs.Desks.{DeskValue}
 use Rattle.plain_logger.specs.Event.{EventValue}
 use Rattle.rank_machine.specs.declared.want.Want.{Want}
 use Rattle.rank_machine.specs.declared.want.Want.TheVariants as want
+use Rattle.rank_machine.specs.Machine.{MachineValue, Strides}
 use Rattle.rank_node.specs.Node.{Node}
 use Rattle.rank_node.specs.Replay.{replay_turn_of}
 use Rattle.rank_node.specs.Steps.{refusal_of, turn_of}
@@ -12,7 +13,7 @@ use Rattle.rank_node.specs.declared.fault.NodeFault.{NodeFault}
 use Rattle.rank_node.specs.declared.fault.NodeFault.TheVariants as fault
 use Rattle.rank_node.specs.declared.turn.Turn.{Turn}
 use Rattle.rank_node.specs.declared.turn.Turn.TheVariants as turn
-use Rattle.rank_threads.specs.Phases.{want_in}
+use Rattle.rank_threads.specs.Phases.{machine_in, want_in}
 use Rattle.rank_threads.specs.Tally.{after_steps}
 use Rattle.rank_threads.specs.Phases.{Phase}
 use Rattle.rank_node.specs.declared.phase.Phase.TheVariants as phase
@@ -129,15 +130,25 @@ counted most (Ok turn.Held) t = t
 counted most (Ok turn.Ended) t = t
 counted most (Err f) t = record t { is_spent = is_limit f || t.is_spent }
 
--- steps of the machine's own are counted, as many as were made
-abbrev pub Strode : ℕ → Tally → Tally → Type 0
-Strode most t u = (made : ℕ) × (made ≢ 0) × (u ≡ after_steps t made most false)
+-- one machine came from another by so many steps of its own; if there is none, none were made
+abbrev pub StridesOf : ℕ → Option MachineValue → Option MachineValue → Type 0
+StridesOf made None n = made ≡ 0
+StridesOf made (Some m) None = ⊥
+StridesOf made (Some m) (Some n) = Strides made m n
 
--- What a turn counts of its step, of a rank that stood so: an act as one, and a limit that stops
--- the rank.
-abbrev pub Counts : ℕ → Phase → Stepped → Tally → Tally → Type 0
-Counts most p stepped.Moved t u = Strode most t u
-Counts most p stepped.Acted t u = u ≡ after_steps t 1 most true
-Counts most p stepped.Blocked t u = u ≡ record t { is_blocked = true }
-Counts most p stepped.Held t u = u ≡ t
-Counts most p stepped.Ended t u = u ≡ record t { is_spent = is_stopped (turn_in p) || t.is_spent }
+-- a rank's machine made so many steps of its own
+abbrev pub StridesIn : ℕ → Phase → Phase → Type 0
+StridesIn made p q = StridesOf made (machine_in p) (machine_in q)
+
+-- steps of the machine's own are counted, as many as were made
+abbrev pub Strode : ℕ → Phase → Phase → Tally → Tally → Type 0
+Strode most p q t u = (made : ℕ) × (made ≢ 0) × StridesIn made p q × (u ≡ after_steps t made most false)
+
+-- What a turn counts of its step, of a rank that stood so before and after it: its own steps, an act
+-- as one, and a limit that stops the rank.
+abbrev pub Counts : ℕ → Phase → Phase → Stepped → Tally → Tally → Type 0
+Counts most p q stepped.Moved t u = Strode most p q t u
+Counts most p q stepped.Acted t u = u ≡ after_steps t 1 most true
+Counts most p q stepped.Blocked t u = u ≡ record t { is_blocked = true }
+Counts most p q stepped.Held t u = u ≡ t
+Counts most p q stepped.Ended t u = u ≡ record t { is_spent = is_stopped (turn_in p) || t.is_spent }

@@ -1,6 +1,6 @@
 //! How a life of a rank (an incarnation) ends.
 ghost use Rattle.std.specs.Prelude.{◌≡◌, is_some, IfSome};
-ghost use Rattle.rank_threads.specs.Endings.{IsKilledAt, end_after};
+ghost use Rattle.rank_threads.specs.Endings.{IsKilledAt, end_after, is_rest, stood_after};
 ghost use Rattle.rank_threads.specs.Ends.{end_at, end_of};
 ghost use Rattle.rank_threads.specs.Orders.{is_kill};
 ghost use Rattle.rank_threads.specs.Stations.{IsLifeOf};
@@ -52,15 +52,25 @@ pub fn kill_of(order: Option<Order>, clock: u32) -> Option<Killed>
 pub fn end_life<'l>(life: Life<'_, 'l>, ended: Ending<'_>) -> Station<'l>
     requires at { IsKilledAt ended life.node.phase }
     ensures end { result.end ≡ end_after ended.entry life.entry.tally.is_spent life.entry.node.phase }
+    ensures stood { result.stood ≡ stood_after ended.entry life.entry.node.phase }
     ensures plan { result.plan ≡ life.entry.plan }
     ensures tally { result.tally ≡ life.entry.tally }
     ensures same { IsLifeOf result life.entry }
 {
-    let end = match ended {
-        Ending::Crashed(Killed { at: _ }) => None,
-        Ending::Left(_) => Some(end_of(&life)),
+    let (end, is_at_rest) = match ended {
+        Ending::Crashed(Killed { at: _ }) => (None, false),
+        Ending::Left(why) => (Some(end_of(&life)), is_rest(&why)),
     };
-    life.leave(end)
+    life.leave(end, is_at_rest)
+}
+
+fn is_rest(why: &Why<'_>) -> bool
+    ensures { result ≡ is_rest why.now }
+{
+    match why {
+        Why::AtRest(_) => true,
+        Why::Told(_) => false,
+    }
 }
 
 // A rank that a limit stopped, or that didn't come to the end of its row, is unfinished.

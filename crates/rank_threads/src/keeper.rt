@@ -91,6 +91,7 @@ fn fetched<'l, W: Wait, H>(rt: &W, shared: &Shared<'_, H>, station: Station<'l>)
     ensures row { result.tally.fault ≡ None → HasRow result }
     ensures plan { result.plan ≡ station.entry.plan }
     ensures end { result.end ≡ station.entry.end }
+    ensures stood { result.stood ≡ station.entry.stood }
     ensures tally { result.tally ≡ record (begun_again station.entry.tally) { taken = result.tally.taken; fault = result.tally.fault } }
     ensures fault { result.tally.fault ≢ Some Memory → result.tally.fault ≡ station.entry.tally.fault }
     ensures same { SameStation station.entry result }

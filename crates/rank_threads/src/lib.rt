@@ -6,6 +6,7 @@
 //! finds a crash-free run that explains it.
 #![tactic(auto)]
 
+mod cause;
 mod clearing;
 mod crew;
 mod dropping;
@@ -33,11 +34,13 @@ mod shared;
 mod stage;
 mod station;
 mod stepping;
+mod stood;
 mod taking;
 mod tally;
 mod turn;
 mod waiting;
 
+pub use cause::Cause;
 pub use hold::Hold;
 pub use playing::{Played, play};
 pub use report::{Report, RunFault};

@@ -42,7 +42,7 @@ pub fn live<'l, W: Wait, H: Hold>(
     };
     let life = station.begin(rt, shared, &program);
     if life.tally.fault.is_some() {
-        return life.leave(Some(End::Unfinished));
+        return life.leave(Some(End::Unfinished), false);
     }
     let (life, ended) = make_turns(rt, shared, &mut blank, life);
     end_life(life, ended)

@@ -4,9 +4,11 @@ ghost use Rattle.std.specs.Prelude.{◌≡◌, ◌≤◌, None, IfOk, length, ma
 ghost use Rattle.metered.specs.Limits.{most_ranks};
 ghost use Rattle.audit.specs.Reachable.{IsReachable};
 ghost use Rattle.event_logger.specs.Desks.{AreDesks};
+ghost use Rattle.rank_threads.specs.Causes.{AreCaused, causes_from, uncaused_from};
 ghost use Rattle.rank_threads.specs.Faults.{crashes_from, fault_of, is_memory, lacked_memory, lowest_from};
 ghost use Rattle.rank_threads.specs.Report.{IsOfDesks, IsOfLives, IsPlayed, IsReport};
 
+use crate::cause::{causes_of, uncaused};
 use crate::playing::Played;
 use crate::report::{Report, RunFault};
 use crate::running::RunLimits;
@@ -24,7 +26,7 @@ use std::alloc::AllocError;
 /// Closes the logger at whose desks a program was played, and answers the report
 /// of the play, once it is confirmed. The report is of these desks, and of lives
 /// by this script, which clauses alone read.
-#[tactic(auto, using(crate::proofs::ReportLemmas::report_laws))]
+#[tactic(auto, using(crate::proofs::ReportLemmas::report_laws, crate::proofs::CauseLemmas::caused_report))]
 pub fn certify(
     alloc: Heap,
     program: &Program,
@@ -44,13 +46,17 @@ pub fn certify(
     ensures report { IfOk result (λ report. IsReport program.now ranks report) }
     ensures within { IfOk result (λ report. IsReachable program.now ranks report.outcome limits.steps) }
     ensures history { IfOk result (λ report. IsOfDesks ranks desks.items report) }
-    ensures lives { IfOk result (λ report. IsOfLives program.now ranks _script.now logger desks.items report) }
+    ensures lives { IfOk result (λ report. IsOfLives program.now ranks _script.now limits.steps logger desks.items report) }
+    ensures unfinished { IfOk result (λ report. AreCaused limits.steps report) }
 {
     let ledger = logger.close(alloc, desks)?;
     if let Some(fault) = fault_of(played.accounts.as_slice()) {
         return Err(fault);
     }
-    let report = reported(alloc, played, ledger)?;
+    if let Some(rank) = uncaused(limits.steps, played.accounts.as_slice(), &ledger) {
+        return Err(RunFault::NoCause(rank));
+    }
+    let report = reported(alloc, limits, played, ledger)?;
     confirm(alloc, program, ranks, &report.outcome, limits.steps)?;
     Ok(report)
 }
@@ -114,8 +120,15 @@ fn lowest_fault(accounts: &[Account]) -> Option<RunFault>
 }
 
 /// What is left of a run as its report, where no rank met a fault.
-fn reported(alloc: Heap, played: Played, ledger: Ledger) -> Result<Report, AllocError>
-    requires { fault_of played.accounts.items ≡ None }
+fn reported(
+    alloc: Heap,
+    limits: RunLimits,
+    played: Played,
+    ledger: Ledger,
+) -> Result<Report, AllocError>
+    requires few { length played.accounts.items ≤ most_ranks }
+    requires well { fault_of played.accounts.items ≡ None }
+    ensures causes { IfOk result (λ report. report.causes.items ≡ causes_from limits.steps ledger.rows 0 played.accounts.items) }
     ensures rows { IfOk result (λ report. report.outcome.rows ≡ ledger.rows) }
     ensures lines { IfOk result (λ report. report.outcome.lines ≡ played.console) }
     ensures ends { IfOk result (λ report. report.outcome.ends ≡ map (λ a. a.end) played.accounts.items) }
@@ -124,6 +137,7 @@ fn reported(alloc: Heap, played: Played, ledger: Ledger) -> Result<Report, Alloc
     ensures unused { IfOk result (λ report. report.unused.items ≡ map (λ a. a.unused) played.accounts.items) }
 {
     let Played { console, accounts } = played;
+    let causes = causes_of(alloc, limits.steps, accounts.as_slice(), &ledger)?;
     let calls = calls_of(alloc, ledger.counts())?;
     let ends = ends_of(alloc, accounts.as_slice())?;
     let unused = unused_of(alloc, accounts.as_slice())?;
@@ -134,6 +148,7 @@ fn reported(alloc: Heap, played: Played, ledger: Ledger) -> Result<Report, Alloc
             lines,
             ends,
         },
+        causes,
         crashes: crashes_of(accounts.as_slice()),
         unused,
         calls,

@@ -10,6 +10,7 @@ ghost use Rattle.rank_threads.specs.Stations.{stations_of};
 use crate::parcel::Parcel;
 use crate::plan::Plan;
 use crate::station::Station;
+use crate::stood::Stood;
 use audit::End;
 use event_logger::{Desk, Logger};
 use lanes::Ends;
@@ -32,6 +33,11 @@ pub struct Unseated {
 pub struct Account {
     pub end: End,
     pub crashes: u64,
+    /// How many steps it made in all its lives.
+    pub steps: u32,
+    /// Whether a limit stopped it.
+    pub is_spent: bool,
+    pub stood: Stood,
     /// How many of the script's lines for the rank weren't used.
     pub unused: usize,
     pub fault: Option<NodeFault>,
@@ -139,6 +145,9 @@ fn parts(station: Station<'_>) -> (Desk, Vec<Tx, Heap>, Vec<Rx, Heap>, Account)
     let account = Account {
         end: station.end.unwrap_or(End::Unfinished),
         crashes: station.tally.crashes,
+        steps: station.tally.steps,
+        is_spent: station.tally.is_spent,
+        stood: station.stood,
         unused: station.plan.unused(),
         fault: station.tally.fault,
     };

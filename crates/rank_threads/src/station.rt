@@ -5,6 +5,7 @@ mod lives;
 
 use crate::plan::Plan;
 use crate::row::Row;
+use crate::stood::Stood;
 use crate::tally::Tally;
 use audit::End;
 use checkpoint::MemoryShelf;
@@ -32,6 +33,8 @@ pub struct Station<'l> {
     pub row: Option<Row>,
     /// How the rank left; none where it is to live on.
     pub end: Option<End>,
+    /// How it stood when its last life ended.
+    pub stood: Stood,
     ghost own: { down.desk.table ≡ logger.now.table },
     ghost ranks: { logger.now.ranks ≡ size },
     ghost sized: { down.size ≡ size },

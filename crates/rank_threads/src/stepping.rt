@@ -43,7 +43,7 @@ pub fn step<W: Wait, H: Hold>(
     life: &mut Life<'_, '_>,
 ) -> Result<Stepped, NodeFault>
     ensures answer { result ≢ Err NodeFault.Memory → result ≡ step_of life.old.tally life.old.node.phase }
-    ensures counts { IfOk result (λ stepped. Counts shared.now.limits.steps life.old.node.phase stepped life.old.tally life.new.tally) }
+    ensures counts { IfOk result (λ stepped. Counts shared.now.limits.steps life.old.node.phase life.new.node.phase stepped life.old.tally life.new.tally) }
     ensures clock { IfOk result (λ stepped. clock_in life.new.node.phase ≡ clock_in life.old.node.phase + acts_of stepped) }
     ensures waits { life.old.tally.is_blocked ≡ true → life.old.tally.is_spent ≡ false → (result ≡ Ok Stepped.Blocked) × (life.new ≡ life.old) }
     ensures plan { SamePlan life.old life.new }
@@ -69,7 +69,7 @@ pub fn step<W: Wait, H: Hold>(
 fn strode<H>(shared: &Shared<'_, H>, life: &mut Life<'_, '_>) -> bool
     ensures own { result ≡ is_own (want_in life.old.node.phase) }
     ensures none { result ≡ false → (life.new.node.phase ≡ life.old.node.phase) × (life.new.tally ≡ life.old.tally) }
-    ensures counts { result ≡ true → Strode shared.now.limits.steps life.old.tally life.new.tally }
+    ensures counts { result ≡ true → Strode shared.now.limits.steps life.old.node.phase life.new.node.phase life.old.tally life.new.tally }
     ensures clock { clock_in life.new.node.phase ≡ clock_in life.old.node.phase }
     ensures plan { SamePlan life.old life.new }
     ensures same { SameLife life.old life.new }

@@ -1,3 +1,4 @@
 mod Finishing
 mod Planning
 mod Played
+mod WithScript

@@ -27,6 +27,20 @@ is_there w C r stands same =
       row = λ events at. stands.rows r events at ∙ ap (events_from 0) same;
     }
 
+-- where each rank of a world made its acts of a run, it is where the run is
+pub all_there : (w : WorldValue) (n : ℕ) (s : SimValue) → StandsFor w w.run → size w ≡ n → length s.machines ≡ n → Simulates s
+    → ((r : ℕ) → r < n → own r (reverse w.run) ≡ own r (reverse s.run)) → (r : ℕ) → r < n → IsThere w s.run r
+all_there w n s stands as_many ranks simulates same r low = is_there w s.run r stands (each r)
+  where
+    in_world : IsRun (world.start_of w) n w.run
+    in_world = subst (λ k. IsRun (world.start_of w) k w.run) as_many stands.is_run
+
+    in_run : IsRun (start_of s.program (length s.machines)) n s.run
+    in_run = subst (λ k. IsRun (start_of s.program (length s.machines)) k s.run) ranks simulates.is_run
+
+    each : (r : ℕ) → history w.run r ≡ history s.run r
+    each = same_runs (world.start_of w) (start_of s.program (length s.machines)) n w.run s.run in_world in_run same
+
 -- where a world did what events say and each rank made its acts of a run, they play the run
 pub goes : (before : WorldValue) (n : ℕ) (s : SimValue) (events : List WorldEvent) (replies : List Reply) (after : WorldValue)
     → FollowsAll before events replies after → NoneRefused replies → StandsFor after after.run → size after ≡ n → length s.machines ≡ n
@@ -38,17 +52,8 @@ goes before n s events replies after follows taken stands as_many ranks simulate
       taken = taken;
       stands = stands;
       as_many = as_many;
-      there = λ r low. is_there after s.run r stands (each r);
+      there = all_there after n s stands as_many ranks simulates same;
     }
-  where
-    in_world : IsRun (world.start_of after) n after.run
-    in_world = subst (λ k. IsRun (world.start_of after) k after.run) as_many stands.is_run
-
-    in_run : IsRun (start_of s.program (length s.machines)) n s.run
-    in_run = subst (λ k. IsRun (start_of s.program (length s.machines)) k s.run) ranks simulates.is_run
-
-    each : (r : ℕ) → history after.run r ≡ history s.run r
-    each = same_runs (world.start_of after) (start_of s.program (length s.machines)) n after.run s.run in_world in_run same
 
 -- so from a new world
 pub played : (program : ProgramValue) (n : ℕ) (C : List Passed) (events : List WorldEvent) (before after : WorldValue) → ArePlain events

@@ -2,3 +2,4 @@ pub mod Planned
 pub mod Finishing
 pub mod Fault
 pub mod Plays
+pub mod Scripted

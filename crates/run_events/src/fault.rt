@@ -22,10 +22,14 @@ pub enum PlayFault {
     /// There was no memory.
     #[error("out of memory")]
     Memory,
+    /// The lines of the script that the run used can't be used in this way along
+    /// the run that was found.
+    #[error("ScriptUnmet")]
+    ScriptUnmet,
 }
 
 impl PlayFault {
-    /// The number that the program's messages name, 1 to 4.
+    /// The number that the program's messages name, 1 to 5.
     pub fn number(self) -> u8
         ensures { result ≡ fault_number self }
     {
@@ -34,6 +38,7 @@ impl PlayFault {
             PlayFault::TooManyEvents => 2,
             PlayFault::RowLimit => 3,
             PlayFault::Memory => 4,
+            PlayFault::ScriptUnmet => 5,
         }
     }
 }

@@ -4,16 +4,23 @@
 
 mod asked;
 mod before;
+mod course;
 mod fault;
 pub mod laws;
+mod lives;
+mod looks;
 mod messages;
 mod order;
 mod plan;
 mod planned;
 mod playing;
+mod reviving;
+mod scripted;
 mod text;
 mod times;
+mod used;
 mod writing;
 
 pub use fault::PlayFault;
+pub use scripted::play_script_text;
 pub use text::play_text;

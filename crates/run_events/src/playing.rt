@@ -98,8 +98,8 @@ fn none_refused(replies: &[Reply]) -> bool
     true
 }
 
-// Whether each rank's acts are the same in the world as in the run.
-fn is_there(world: &World<'_>, ranks: u8, run: &Sim<'_>) -> bool
+/// Whether each rank's acts are the same in the world as in the run.
+pub fn is_there(world: &World<'_>, ranks: u8, run: &Sim<'_>) -> bool
     ensures world_size { result ≡ true → size world.now ≡ ranks }
     ensures run_size { result ≡ true → length run.now.machines ≡ ranks }
     ensures simulates { Simulates run.now }

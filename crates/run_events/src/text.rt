@@ -43,8 +43,8 @@ pub fn play_text(
     }
 }
 
-// The text of the events, where it is read as these.
-fn text_of(alloc: Heap, events: &[WorldEvent]) -> Result<String<Heap>, PlayFault>
+/// The text of the events, where it is read as these.
+pub fn text_of(alloc: Heap, events: &[WorldEvent]) -> Result<String<Heap>, PlayFault>
     ensures written { IfOk result (λ text. string_bytes text ≡ events_text events.now) }
     ensures read { IfOk result (λ text. events_of (string_bytes text) ≡ Ok events.now) }
 {

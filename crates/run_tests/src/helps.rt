@@ -1,11 +1,13 @@
 //! What help says, whole: no line of it is longer than 80 columns.
 mod outcomes;
 mod runs;
+mod soaks;
 mod whole;
 mod worlds;
 
 use crate::helps::outcomes::JUDGE;
 use crate::helps::runs::{RUN, TRACE};
+use crate::helps::soaks::SOAK;
 use crate::helps::whole::{C, CHECK, EXPLAIN, EXPLORE, PROGRAM};
 use crate::helps::worlds::{CATCH_UP, WORLD};
 use crate::scenes::answer_of;
@@ -15,7 +17,7 @@ use std::test::*;
 use std::thread::Threads;
 
 /// Words, and all that they print.
-const HELPS: [(&str, &str); 14] = [
+const HELPS: [(&str, &str); 15] = [
     ("--version", "ftmpi 0.1.0\n"),
     ("--help", PROGRAM),
     ("help", PROGRAM),
@@ -30,6 +32,7 @@ const HELPS: [(&str, &str); 14] = [
     ("explain --help", EXPLAIN),
     ("explore --help", EXPLORE),
     ("judge --help", JUDGE),
+    ("soak --help", SOAK),
 ];
 
 // Each of these prints this to standard output, and nothing to standard error.

@@ -11,8 +11,8 @@ use std::thread::Threads;
 /// How often a rank looks at most whether it may go on.
 const LOOKS: u32 = 10_000_000;
 
-// Returns when the word has come to this.
-fn wait_until(word: &AtomicU64, least: u64) {
+/// Returns when the word has come to this.
+pub fn wait_until(word: &AtomicU64, least: u64) {
     for _ in 0..LOOKS {
         if word.load(Ordering::SeqCst) >= least {
             return;

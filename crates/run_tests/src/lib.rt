@@ -8,6 +8,10 @@
 #[cfg(test)]
 mod c_texts;
 #[cfg(test)]
+mod causes;
+#[cfg(test)]
+mod cores;
+#[cfg(test)]
 mod everywhere;
 #[cfg(test)]
 mod explains;
@@ -41,6 +45,8 @@ mod reports;
 mod scenes;
 #[cfg(test)]
 mod script_lines;
+#[cfg(test)]
+mod soaks;
 #[cfg(test)]
 mod streams;
 #[cfg(test)]

@@ -94,7 +94,7 @@ fn ends_are_told(rt: HostRuntime) -> Result<(), Fail> {
 }
 
 /// What a run prints that has spent its steps, one that leaves a message, and lines of scripts that never came to pass.
-const LEFT: [Traced; 3] = [
+const LEFT: [Traced; 4] = [
     Traced {
         options: "--ranks 1 --steps 1000",
         program: "var x\nwhile 1\n  let x = 1 - x\nend\n",
@@ -105,6 +105,23 @@ const LEFT: [Traced; 3] = [
 rank clock  line  act
 rank 0: unfinished at line 2: while 1; its steps are spent: allow more (--steps), or look for a loop without an end
 crashes 0, logger calls 0
+",
+    },
+    // The steps of the life before count too, and the audit's run, in which nothing crashes, has enough.
+    Traced {
+        options: "--ranks 1 --steps 1300",
+        program: "var i\nwhile i < 400\nlet i = i + 1\nend\nprint 1\nprint 2\n",
+        script: "kill 0 at 2\n",
+        status: 1,
+        out: "\
+# an order of the acts that the audit found, not that of the threads
+rank clock  line  act
+   0     1     5  print 1
+   0     2     6  print 2
+rank 0: unfinished at the end; its steps are spent: allow more (--steps), or look for a loop without an end
+# crashes and images as the runner counted them; no audit certifies them
+rank 0: crash at clock 2, back to clock 0: 2 acts made again, 0 messages asked for again
+crashes 1, logger calls 1
 ",
     },
     Traced {

@@ -8,8 +8,9 @@ use std::process::Abort;
 use std::rt::Env;
 use std::test::Fail;
 
-/// The words of a run, with its ranks, idle turns, steps and program, and of one that is told its form.
-const RUNS: [(&str, &str); 9] = [
+/// The words of a run, with its ranks, idle turns, steps and program, and of one that is told its form; and those of a search, with its
+/// ranks, runs, steps, states, program and form.
+const RUNS: [(&str, &str); 13] = [
     ("ftmpi run --ranks 1 p", "1 1000000 1000000 p"),
     ("ftmpi run --ranks 16 --idle 5 p", "16 5 1000000 p"),
     ("ftmpi run --ranks 2 --steps 7 p", "2 1000000 7 p"),
@@ -34,6 +35,19 @@ const RUNS: [(&str, &str); 9] = [
         "ftmpi trace --events --ranks 2 p",
         "2 1000000 1000000 p Events",
     ),
+    ("ftmpi explore --ranks 3 p", "3 100000 100000 100000 p Text"),
+    (
+        "ftmpi explore --states 7 --ranks 3 --summary p",
+        "3 100000 100000 7 p Summary",
+    ),
+    (
+        "ftmpi explore --json --runs 5 --steps 6 --ranks 2 p",
+        "2 5 6 100000 p Json",
+    ),
+    (
+        "ftmpi explore --ranks 2 --events 4 p",
+        "2 100000 100000 100000 p Events(4)",
+    ),
 ];
 
 // The run that these words ask for.
@@ -47,6 +61,12 @@ fn asked(alloc: Global, words: &[String]) -> Result<String, AllocError> {
             format!(in alloc;
                 "{} {} {} {} {:?}",
                 run.ranks, run.idle, run.steps, run.program, job.form
+            )
+        }
+        Ok(Job::Explore(job)) => {
+            format!(in alloc;
+                "{} {} {} {} {} {:?}",
+                job.ranks, job.runs, job.steps, job.states, job.program, job.form
             )
         }
         _ => String::from_str(alloc, "no run"),

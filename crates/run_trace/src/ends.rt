@@ -1,16 +1,13 @@
 //! How each rank ended, and where.
 
 use crate::acts::message_at;
-use crate::fates::Fate;
 use crate::given::Told;
 use crate::left::unreceived;
 use crate::message::{Message, put_mark};
 use audit::End;
 use matching::{Context, Selector};
 use metered::Heap;
-use metered::limits::{GREATEST_CLOCK, MOST_EVENTS};
 use rank_machine::Want;
-use script_text::Order;
 use statement_lines::line_of_text;
 use std::alloc::AllocError;
 use std::fmt::Write;
@@ -200,32 +197,10 @@ fn put_others(
     Ok(())
 }
 
-fn has_crashed(told: Told<'_, '_>, rank: u8) -> bool {
-    told.orders.iter().any(|order| {
-        order.line.rank == rank && order.fate == Fate::Used && order.line.order == Order::Kill
-    })
-}
-
-/// Which limit a rank came to, as far as can be told, and what helps.
+/// Why a rank is unfinished, and what helps.
 pub fn why_unfinished(told: Told<'_, '_>, rank: u8) -> &'static str {
-    let outcome = told.given.outcome;
-    let events = match outcome.rows.get(usize::from(rank)) {
-        Some(row) => row.len(),
-        None => 0,
-    };
-    let acts = told
-        .acts
-        .iter()
-        .filter(|passed| passed.rank == rank)
-        .count();
-    if events >= MOST_EVENTS {
-        "its 4096 events are spent: receive and probe less, as by whole arrays"
-    } else if acts >= GREATEST_CLOCK as usize {
-        "its 268435455 acts are spent: let it do less"
-    } else if !has_crashed(told, rank) {
-        "its steps are spent: allow more (--steps), or look for a loop without an end"
-    } else {
-        "its steps are spent, those of its replays too: allow more (--steps); or it was still being replayed: \
-look at the ends of the other ranks"
+    match told.given.whys.get(usize::from(rank)) {
+        Some(Some(why)) => why.words(),
+        Some(None) | None => "why isn't known",
     }
 }

@@ -3,6 +3,7 @@
 use crate::deliveries::Delivery;
 use crate::fates::Fated;
 use crate::place::Place;
+use crate::why::Why;
 use audit::Outcome;
 use crash_free::{Passed, Sim};
 use script_text::ScriptLine;
@@ -22,6 +23,8 @@ pub struct Given<'a> {
     /// were, in their order.
     pub unused: &'a [usize],
     pub outcome: &'a Outcome,
+    /// Why each rank is unfinished, where that is known.
+    pub whys: &'a [Option<Why>],
     /// How often ranks crashed.
     pub crashes: u64,
     /// How often they called the event logger.

@@ -18,9 +18,11 @@ mod orders;
 mod place;
 mod places;
 mod trace;
+mod why;
 mod words;
 
 pub use given::Given;
 pub use place::Place;
 pub use places::places_of;
 pub use trace::{trace_json, trace_text};
+pub use why::Why;

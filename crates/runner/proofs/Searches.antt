@@ -1,5 +1,6 @@
 -- How what is said of a search is an answer.
-use Rattle.std.proofs.Common.{◌≡◌, ◌≤◌, ℕ, true, List, Some, None, subst}
+use Rattle.std.proofs.Common.{◌≡◌, ◌≤◌, ℕ, true, List, subst, sym, ◌∙◌}
+use Rattle.command_line.specs.declared.exploring.ExploreForm.TheVariants as form
 use Rattle.command_line.specs.declared.exploring.ExploreJob.{ExploreJob}
 use Rattle.explore.specs.Explored.{ExploredValue}
 use Rattle.explore.specs.Outcomes.{AreAll, AreDistinct, IsAmong}
@@ -7,7 +8,7 @@ use Rattle.final_runs.specs.Maximal.{IsPossible, RankOutcome}
 use Rattle.rank_language.specs.Correct.{IsProgramOf}
 use Rattle.rank_language.specs.Program.{ProgramValue}
 use Rattle.runner.specs.Events.{PlaysOutcome}
-use Rattle.runner.specs.OutcomesText.{IsExploredText}
+use Rattle.runner.specs.OutcomesText.{IsExploredText, IsSummary}
 use Rattle.runner.specs.Searches.{HasSearchStatus, IsExploreAnswer, IsFoundBy, IsPrinted, IsSearchAnswer}
 
 -- what a search found within the job's limits
@@ -18,18 +19,44 @@ pub is_found_by : (program : ProgramValue) (job : ExploreJob) (found : ExploredV
 is_found_by program job found possible complete distinct few_runs =
     record { possible = possible; complete = complete; distinct = distinct; few_runs = few_runs }
 
--- the text of what was found is printed if no outcome is named
+-- the text of what was found is printed where it is asked for
 pub text_printed : (program : ProgramValue) (job : ExploreJob) (found : ExploredValue) (out : List ℕ)
-    → job.events ≡ None → IsExploredText found job.runs out → IsPrinted program job found out
-text_printed program job found out none text =
-    record { text = λ _. text; events = λ number named. absurd cc }
+    → job.form ≡ form.Text → IsExploredText found job.runs out → IsPrinted program job found out
+text_printed program job found out is text =
+    record {
+      text = λ _. text;
+      summary = λ other. (let e : form.Text ≡ form.Summary = sym is ∙ other in absurd cc);
+      events = λ number other. (let e : form.Text ≡ form.Events number = sym is ∙ other in absurd cc);
+    }
+
+-- so is the short one
+pub summary_printed : (program : ProgramValue) (job : ExploreJob) (found : ExploredValue) (out : List ℕ)
+    → job.form ≡ form.Summary → IsSummary found job.runs out → IsPrinted program job found out
+summary_printed program job found out is text =
+    record {
+      text = λ other. (let e : form.Summary ≡ form.Text = sym is ∙ other in absurd cc);
+      summary = λ _. text;
+      events = λ number other. (let e : form.Summary ≡ form.Events number = sym is ∙ other in absurd cc);
+    }
+
+-- whatever is printed as JSON
+pub json_printed : (program : ProgramValue) (job : ExploreJob) (found : ExploredValue) (out : List ℕ)
+    → job.form ≡ form.Json → IsPrinted program job found out
+json_printed program job found out is =
+    record {
+      text = λ other. (let e : form.Json ≡ form.Text = sym is ∙ other in absurd cc);
+      summary = λ other. (let e : form.Json ≡ form.Summary = sym is ∙ other in absurd cc);
+      events = λ number other. (let e : form.Json ≡ form.Events number = sym is ∙ other in absurd cc);
+    }
 
 -- the events of the outcome that is named are printed
 pub events_printed : (program : ProgramValue) (job : ExploreJob) (found : ExploredValue) (out : List ℕ) (number : ℕ)
-    → job.events ≡ Some number → PlaysOutcome program job.ranks found.outcomes number out → IsPrinted program job found out
-events_printed program job found out number named played = record {
-  text = λ none. absurd cc;
-  events = λ other also. let same : number ≡ other = cc in
+    → job.form ≡ form.Events number → PlaysOutcome program job.ranks found.outcomes number out → IsPrinted program job found out
+events_printed program job found out number is played = record {
+  text = λ other. (let e : form.Events number ≡ form.Text = sym is ∙ other in absurd cc);
+  summary = λ other. (let e : form.Events number ≡ form.Summary = sym is ∙ other in absurd cc);
+  events = λ another other. let e : form.Events number ≡ form.Events another = sym is ∙ other in
+      let same : number ≡ another = cc in
       subst (λ (n : ℕ). PlaysOutcome program job.ranks found.outcomes n out) same played;
 }
 

@@ -1,7 +1,9 @@
 -- How one outcome after another is written.
 use Rattle.std.proofs.Common.{◌≡◌, ℕ, ◌+◌, List, [], ◌++◌, Some, slice_get, subst, sym}
+use Rattle.explore.specs.Explored.{ExploredValue}
 use Rattle.final_runs.specs.Maximal.{RankOutcome}
-use Rattle.runner.specs.OutcomesText.{AreWritten, one_text}
+use Rattle.runner.specs.Meanings.{meaning_text}
+use Rattle.runner.specs.OutcomesText.{AreWritten, IsSummary, one_text}
 use Rattle.runner.specs.declared.outcomes.parting.Parted.{Parted}
 
 -- in an empty text none is written
@@ -14,3 +16,7 @@ pub one_more : (outcomes : List (List RankOutcome)) (count : ℕ) (before after 
     → AreWritten outcomes (count + 1) after
 one_more outcomes count before after outcome lines parted written there appended =
     subst (AreWritten outcomes (count + 1)) (sym appended) (AreWritten.more outcome lines parted written there)
+
+-- behind some lines what the outcomes mean
+pub is_summary : (found : ExploredValue) (runs : ℕ) (races text : List ℕ) → text ≡ races ++ meaning_text found runs → IsSummary found runs text
+is_summary found runs races text whole = record { races = races; whole = whole }

@@ -1,13 +1,10 @@
-pub mod Refusals
-pub mod Statuses
-pub mod ReportText
+pub mod ToolRefusals
 pub mod Events
 pub mod Traces
-pub mod Worlds
-pub mod Reading
 pub mod Answers
 pub mod Partings
 pub mod Meanings
 pub mod OutcomesText
 pub mod Searches
 pub mod Judgments
+pub mod SoakText

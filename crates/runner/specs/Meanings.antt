@@ -85,3 +85,17 @@ runs_text found runs =
 -- which limits were reached, if these aren't all outcomes
 abbrev pub limits_text : ExploredValue → ℕ → List ℕ
 limits_text found runs = if found.complete then [] else (steps_text found ++ runs_text found runs)
+
+-- the line that says how many states were kept, if there were more
+abbrev pub states_text : ExploredValue → List ℕ
+states_text found = if found.kept_all then [] else
+    (codes "# states kept: " ++ decimal found.states ++ codes "; behind that no runs were merged: allow more (--states)\n")
+
+-- the last line: how many outcomes were found in how many runs, and whether these are all
+abbrev pub count_text : ExploredValue → List ℕ
+count_text found = codes "outcomes " ++ decimal (length found.outcomes) ++ codes ", runs " ++ decimal found.runs
+    ++ (if found.complete then codes ", complete" else codes ", stopped") ++ codes "\n"
+
+-- what the outcomes mean that were found in no more than so many runs, and the last line
+abbrev pub meaning_text : ExploredValue → ℕ → List ℕ
+meaning_text found runs = only_text found ++ unhalted_text 1 found.outcomes ++ states_text found ++ limits_text found runs ++ count_text found

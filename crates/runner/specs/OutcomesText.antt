@@ -1,13 +1,13 @@
 -- The text of all outcomes of a program (docs/FORMATS.md, "Standard output of `explore`").
-use Rattle.std.specs.Prelude.{◌≡◌, ℕ, ℤ, ◌+◌, if◌then◌else◌, length, List, [], ◌∷◌, ◌++◌, All, Some, slice_get, codes}
+use Rattle.std.specs.Prelude.{◌≡◌, ℕ, ℤ, ◌+◌, length, List, [], ◌∷◌, ◌++◌, All, Some, slice_get, codes}
 use Rattle.std.specs.Fmt.{decimal}
 use Rattle.audit.specs.declared.outcome.End.TheVariants as end
 use Rattle.events_text.specs.Output.{line_text}
 use Rattle.explore.specs.Explored.{ExploredValue}
 use Rattle.final_runs.specs.Maximal.{RankOutcome}
-use Rattle.runner.specs.Meanings.{limits_text, only_text, unhalted_text}
+use Rattle.runner.specs.Meanings.{meaning_text}
 use Rattle.runner.specs.Partings.{choices_text}
-use Rattle.runner.specs.ReportText.{end_text}
+use Rattle.core_runner.specs.ReportText.{end_text}
 use Rattle.runner.specs.declared.outcomes.parting.Parted.{Parted}
 
 -- the values that a rank printed, a line each
@@ -41,17 +41,17 @@ pub data AreWritten (outcomes : List (List RankOutcome)) : ℕ → List ℕ → 
       → AreWritten outcomes count text → slice_get outcomes count ≡ Some outcome
       → AreWritten outcomes (count + 1) (text ++ one_text (count + 1) outcome lines parted)
 
--- the last line: how many outcomes were found in how many runs, and whether these are all
-abbrev pub count_text : ExploredValue → List ℕ
-count_text found = codes "outcomes " ++ decimal (length found.outcomes) ++ codes ", runs " ++ decimal found.runs
-    ++ (if found.complete then codes ", complete" else codes ", stopped") ++ codes "\n"
-
 -- What is printed of what a search found, which looked at no more than so many runs: each outcome,
 -- what that means, and the last line.
 pub record IsExploredText (found : ExploredValue) (runs : ℕ) (text : List ℕ) : Type 0 where
   pub outcomes : List ℕ
   pub each : AreWritten found.outcomes (length found.outcomes) outcomes
-  pub whole : text ≡ outcomes ++ (only_text found ++ unhalted_text 1 found.outcomes ++ limits_text found runs ++ count_text found)
+  pub whole : text ≡ outcomes ++ meaning_text found runs
+
+-- what is printed of it in short: some lines, and behind them what the outcomes mean
+pub record IsSummary (found : ExploredValue) (runs : ℕ) (text : List ℕ) : Type 0 where
+  pub races : List ℕ
+  pub whole : text ≡ races ++ meaning_text found runs
 
 -- each rank halts in this outcome
 abbrev pub Halts : List RankOutcome → Type 0

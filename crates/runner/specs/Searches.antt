@@ -1,14 +1,15 @@
 -- What is answered to a search for all outcomes of a program (docs/FORMATS.md, "Standard output of
 -- `explore`").
-use Rattle.std.specs.Prelude.{◌≡◌, ◌≤◌, ◌↔◌, ℕ, true, List, Some, None}
+use Rattle.std.specs.Prelude.{◌≡◌, ◌≤◌, ◌↔◌, ℕ, true, List}
+use Rattle.command_line.specs.declared.exploring.ExploreForm.TheVariants as form
 use Rattle.command_line.specs.declared.exploring.ExploreJob.{ExploreJob}
 use Rattle.explore.specs.Explored.{ExploredValue}
 use Rattle.explore.specs.Outcomes.{AreAll, AreDistinct, IsAmong}
 use Rattle.final_runs.specs.Maximal.{IsPossible, RankOutcome}
 use Rattle.rank_language.specs.Program.{ProgramValue}
 use Rattle.runner.specs.Events.{PlaysOutcome}
-use Rattle.runner.specs.OutcomesText.{AllHalt, IsExploredText}
-use Rattle.runner.specs.Reading.{IsProgramIn}
+use Rattle.runner.specs.OutcomesText.{AllHalt, IsExploredText, IsSummary}
+use Rattle.core_runner.specs.Reading.{IsProgramIn}
 
 -- What a search found: the program may have each outcome, and has no other if it is complete. None
 -- stands there twice, and no more runs were looked at than the job allows.
@@ -24,11 +25,12 @@ pub record HasSearchStatus (found : ExploredValue) (status : ℕ) : Type 0 where
   pub halts : (status ≡ 0) ↔ ((found.complete ≡ true) × AllHalt found.outcomes)
   pub else_one : status ≤ 1
 
--- Standard output has the text of what was found, or a run of the outcome that the job names, as
--- events.
+-- Standard output has the text of what was found, or the short one, or a run of the outcome that the
+-- job names, as events. Nothing is said of JSON.
 pub record IsPrinted (program : ProgramValue) (job : ExploreJob) (found : ExploredValue) (out : List ℕ) : Type 0 where
-  pub text : job.events ≡ None → IsExploredText found job.runs out
-  pub events : (number : ℕ) → job.events ≡ Some number → PlaysOutcome program job.ranks found.outcomes number out
+  pub text : job.form ≡ form.Text → IsExploredText found job.runs out
+  pub summary : job.form ≡ form.Summary → IsSummary found job.runs out
+  pub events : (number : ℕ) → job.form ≡ form.Events number → PlaysOutcome program job.ranks found.outcomes number out
 
 -- What was found by a search of this program is printed, with its status.
 pub record IsSearchAnswer (program : ProgramValue) (job : ExploreJob) (out : List ℕ) (status : ℕ) : Type 0 where

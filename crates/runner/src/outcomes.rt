@@ -1,15 +1,19 @@
 //! What the program prints of all outcomes of a program.
 ghost use Rattle.std.specs.Prelude.{◌≡◌, ◌<◌, ◌+◌, ◌++◌, ◌↔◌, IfOk, IsTrue, OnOk, Some, [], length, slice_get, string_bytes};
 ghost use Rattle.runner.specs.OutcomesText.{AllHalt, AreWritten, Halts, IsExploredText};
-ghost use Rattle.runner.specs.OutcomesText.{count_text, endings_text, lines_text, one_text, outcome_text, values_text};
+ghost use Rattle.runner.specs.OutcomesText.{endings_text, lines_text, one_text, outcome_text, values_text};
 
+mod json;
 mod meaning;
 mod parting;
+mod racing;
 
-use crate::outcomes::meaning::{print_limits, print_only, print_unhalted};
+pub use crate::outcomes::json::explored_json;
+use crate::outcomes::meaning::print_meaning;
 use crate::outcomes::parting::{Parted, part, print_choices};
-use crate::output::{print_end, print_line};
+pub use crate::outcomes::racing::print_summary;
 use audit::End;
+use core_runner::{print_end, print_line};
 use explore::{Explored, Limits, Noted, Outcome, RankEnd};
 use metered::Heap;
 use std::alloc::AllocError;
@@ -28,10 +32,7 @@ pub fn print_explored(
 {
     let mut text = String::new(alloc);
     print_outcomes(alloc, &mut text, found, lines)?;
-    print_only(&mut text, found)?;
-    print_unhalted(&mut text, found.outcomes.as_slice())?;
-    print_limits(&mut text, found, limits.runs)?;
-    print_count(&mut text, found)?;
+    print_meaning(&mut text, found, limits.runs)?;
     Ok(text)
 }
 
@@ -96,21 +97,22 @@ fn print_one(
 ) -> Result<(), AllocError>
     ensures { OnOk result (string_bytes text.new ≡ string_bytes text.old ++ one_text number outcome.now lines.now parted.now) }
 {
-    print_outcome(text, number, outcome)?;
+    print_outcome(text, number, outcome.ranks.as_slice())?;
     print_choices(text, parted, lines)?;
     writeln!(text)
 }
 
-fn print_outcome(
+/// The outcome of this number: what each rank printed, and how it ended.
+pub fn print_outcome(
     text: &mut String<Heap>,
     number: usize,
-    outcome: &Outcome,
+    ranks: &[RankEnd],
 ) -> Result<(), AllocError>
-    ensures { OnOk result (string_bytes text.new ≡ string_bytes text.old ++ outcome_text number outcome.now) }
+    ensures { OnOk result (string_bytes text.new ≡ string_bytes text.old ++ outcome_text number ranks.now) }
 {
     writeln!(text, "outcome {number}")?;
-    print_values(text, outcome.ranks.as_slice())?;
-    print_rank_ends(text, outcome.ranks.as_slice())
+    print_values(text, ranks)?;
+    print_rank_ends(text, ranks)
 }
 
 fn print_values(text: &mut String<Heap>, ranks: &[RankEnd]) -> Result<(), AllocError>
@@ -148,16 +150,4 @@ fn print_rank_ends(text: &mut String<Heap>, ranks: &[RankEnd]) -> Result<(), All
         rest = more;
     }
     Ok(())
-}
-
-fn print_count(text: &mut String<Heap>, found: &Explored) -> Result<(), AllocError>
-    ensures { OnOk result (string_bytes text.new ≡ string_bytes text.old ++ count_text found.now) }
-{
-    let outcomes = found.outcomes.len();
-    let runs = found.runs;
-    if found.complete {
-        writeln!(text, "outcomes {outcomes}, runs {runs}, complete")
-    } else {
-        writeln!(text, "outcomes {outcomes}, runs {runs}, stopped")
-    }
 }

@@ -2,6 +2,7 @@
 //! and what the event changed.
 #![tactic(auto)]
 
+mod cursors;
 mod determinants;
 mod frames;
 mod head;

@@ -142,7 +142,8 @@ fn log_list(alloc: Heap, standing: &Standing<'_>) -> Result<Vec<Value, Heap>, Al
     for (dest, backlog) in standing.image.log.destinations().iter().enumerate() {
         if backlog.sent() > 0 {
             let held = held_for(standing.waiting.as_slice(), dest);
-            list.push(backlog_object(alloc, dest, backlog, held)?.into_value())?;
+            let next = standing.cursors.get(dest).copied().flatten();
+            list.push(backlog_object(alloc, dest, backlog, held, next)?.into_value())?;
         }
     }
     Ok(list)
@@ -161,17 +162,21 @@ fn held_for(waiting: &[Waiting], rank: usize) -> u32 {
     held
 }
 
-// The image counts what is held as sent.
+// The image counts what is held as sent. Where no packet goes next, all went.
 fn backlog_object(
     alloc: Heap,
     dest: usize,
     backlog: &Backlog,
     held: u32,
+    next: Option<u32>,
 ) -> Result<Object, AllocError> {
+    let sent = backlog.sent().saturating_sub(held);
+    let all = backlog.base().max(sent).saturating_add(1);
     let mut object = Object::new(alloc);
     object.number("destination", dest as u64)?;
     object.number("let_go", u64::from(backlog.base()))?;
-    object.number("sent", u64::from(backlog.sent().saturating_sub(held)))?;
+    object.number("sent", u64::from(sent))?;
+    object.number("cursor", u64::from(next.unwrap_or(all)))?;
     object.number("held", u64::from(held))?;
     Ok(object)
 }

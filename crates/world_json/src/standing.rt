@@ -4,6 +4,7 @@ ghost use Rattle.std.specs.Prelude.{◌≡◌, ◌<◌, ◌≤◌, [], Ok, None,
 ghost use Rattle.metered.specs.Limits.{most_ranks};
 ghost use Rattle.world_json.specs.Standing.{HasAcked, HasPassed, IsRankOf, IsRead, LetsPass};
 
+use crate::cursors::cursors_of;
 use checkpoint::{Image, MemoryShelf, Shelf, decode};
 use metered::Heap;
 use metered::limits::{MOST_EVENTS, MOST_RANKS};
@@ -22,6 +23,8 @@ pub struct Standing<'p> {
     pub stored: usize,
     /// What waits behind these, oldest first.
     pub waiting: Vec<Waiting, Heap>,
+    /// For each rank the number of the packet that goes next to it, if one does.
+    pub cursors: Vec<Option<u32>, Heap>,
 }
 
 /// What a rank of a program has, which stays as it is. An `Err` means out of
@@ -39,6 +42,7 @@ pub fn standing_of<'p>(
     requires own { IsRankOf program.now rank size running.now }
     ensures { IfOk result (λ s. IsRead running.now s.image s.stored s.waiting.items) }
 {
+    let cursors = cursors_of(alloc, running, size)?;
     let Ok(mut copy) = running.copy(alloc, (), MemoryShelf::new(alloc)) else {
         return Err(AllocError);
     };
@@ -54,6 +58,7 @@ pub fn standing_of<'p>(
             image,
             stored,
             waiting,
+            cursors,
         }),
         Err(_) => Err(AllocError),
     }

@@ -115,7 +115,7 @@ pub arrive_nowhere : (w : WorldValue) (s d i : ℕ) → size w ≤ d → Follows
 arrive_nowhere w s d i past = (λ v frames f live wire at. none_live w d v past live, refl)
 
 -- the frames of a wire are these
-wire_is : (w : WorldValue) (s d : ℕ) (frames : List Frame) → HasWire w.wires s d → IsWire w s d frames → frames ≡ wire_of w.wires s d
+pub wire_is : (w : WorldValue) (s d : ℕ) (frames : List Frame) → HasWire w.wires s d → IsWire w s d frames → frames ≡ wire_of w.wires s d
 wire_is w s d frames has wire =
     let of_s : wire.0 ≡ slice_index_or w.wires s [] =
     (let q : Some wire.0 ≡ Some (slice_index_or w.wires s []) = sym wire.1 ∙ slice_get-get_or w.wires s [] has.0 in cc) in

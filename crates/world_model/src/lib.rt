@@ -4,6 +4,7 @@
 
 mod bare_world;
 mod event;
+mod finish;
 mod occupant;
 mod reply;
 mod run;
@@ -17,6 +18,7 @@ mod world;
 pub use audit::{AuditFault, Audited, End, Outcome, audit};
 pub use crash_free::{Act, Choice, NotAllowed, Passed, Sim};
 pub use event::WorldEvent;
+pub use finish::{Finish, FinishEnd};
 pub use reply::Reply;
 pub use view::View;
 pub use world::{Stopped, World};

@@ -1,4 +1,7 @@
 //! What a world answers to an event.
+ghost use Rattle.std.specs.Prelude.{◌≡◌};
+ghost use Rattle.world_model.specs.Driven.{is_refused, index_of};
+ghost use Rattle.world_model.specs.Finished.{leaves_all};
 
 /// The answer to an event.
 #[derive(Clone, Copy, Debug, PartialEq, Eq)]
@@ -39,4 +42,84 @@ pub enum Reply {
     Released(u32),
     /// The event can't happen, and nothing changed.
     Refused,
+}
+
+impl Reply {
+    /// Whether the event was refused.
+    pub(crate) fn is_refused(&self) -> bool
+        ensures { result ≡ is_refused self.now }
+    {
+        match self {
+            Reply::Refused => true,
+            Reply::Moved
+            | Reply::Blocked
+            | Reply::Held
+            | Reply::Ended
+            | Reply::PutData { .. }
+            | Reply::PutAsk { .. }
+            | Reply::PutKept { .. }
+            | Reply::Accepted
+            | Reply::Repeated
+            | Reply::Gap
+            | Reply::Noted
+            | Reply::Stored(_)
+            | Reply::Acked
+            | Reply::Imaged
+            | Reply::Crashed
+            | Reply::Restarted(_)
+            | Reply::Released(_) => false,
+        }
+    }
+
+    /// Whether the event left the world as it was, as this reply shows.
+    pub(crate) fn leaves_all(&self) -> bool
+        ensures { result ≡ leaves_all self.now }
+    {
+        match self {
+            Reply::Refused
+            | Reply::Blocked
+            | Reply::Held
+            | Reply::Ended
+            | Reply::Repeated
+            | Reply::Gap => true,
+            Reply::Moved
+            | Reply::PutData { .. }
+            | Reply::PutAsk { .. }
+            | Reply::PutKept { .. }
+            | Reply::Accepted
+            | Reply::Noted
+            | Reply::Stored(_)
+            | Reply::Acked
+            | Reply::Imaged
+            | Reply::Crashed
+            | Reply::Restarted(_)
+            | Reply::Released(_) => false,
+        }
+    }
+
+    /// The index of a frame that was put on its wire.
+    pub(crate) fn index(&self) -> Option<u64>
+        ensures { result ≡ index_of self.now }
+    {
+        match self {
+            Reply::PutData { index, .. }
+            | Reply::PutAsk { index, .. }
+            | Reply::PutKept { index, .. } => Some(*index),
+            Reply::Refused
+            | Reply::Moved
+            | Reply::Blocked
+            | Reply::Held
+            | Reply::Ended
+            | Reply::Accepted
+            | Reply::Repeated
+            | Reply::Gap
+            | Reply::Noted
+            | Reply::Stored(_)
+            | Reply::Acked
+            | Reply::Imaged
+            | Reply::Crashed
+            | Reply::Restarted(_)
+            | Reply::Released(_) => None,
+        }
+    }
 }

@@ -2,7 +2,7 @@
 //!
 //! An index answers what would else need a walk of the run.
 ghost use Rattle.std.specs.Prelude.{◌≡◌, ℕ, ◌<◌, [], ◌∷◌, length, drop, replicate, reverse, Some, IfSome, IfNone, IfOk, OnOk, OnErr};
-ghost use Rattle.crash_free.specs.Runs.{history};
+ghost use Rattle.crash_free.specs.Runs.{history, sent};
 ghost use Rattle.world_model.specs.RunIndex.{clock_at, none_made, with_misses, IsNext};
 
 mod clocks;
@@ -89,6 +89,15 @@ impl Run {
         ensures { result ≡ length (history self.now.acts rank) }
     {
         self.index[usize::from(rank)].count()
+    }
+
+    /// How many messages the source sent to the destination.
+    pub fn sent(&self, source: u8, dest: u8) -> usize
+        requires source { source < self.now.ranks }
+        requires dest { dest < self.now.ranks }
+        ensures { result ≡ length (sent self.now.acts source dest) }
+    {
+        self.index[usize::from(source)].sent(dest)
     }
 
     /// The place, from 1, of the message with this clock among those that the

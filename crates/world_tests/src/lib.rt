@@ -15,6 +15,8 @@ mod crashes;
 #[cfg(test)]
 mod down;
 #[cfg(test)]
+mod finishes;
+#[cfg(test)]
 mod images;
 #[cfg(test)]
 mod misses;

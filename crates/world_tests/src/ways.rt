@@ -6,7 +6,7 @@ use std::test::*;
 use world_model::{Reply, View, World, WorldEvent};
 
 /// Rank 0 sends three messages of two tags, and rank 1 takes that of the second tag first.
-const TWO_TAGS: &[u8] = b"var x
+pub const TWO_TAGS: &[u8] = b"var x
 if rank == 0
 send 1, 1, 10
 send 1, 2, 20
@@ -36,7 +36,7 @@ print x
 ";
 
 /// Three probes that don't wait.
-const THREE_PROBES: &[u8] = b"var f
+pub const THREE_PROBES: &[u8] = b"var f
 iprobe any, any, f
 iprobe any, any, f
 iprobe any, any, f
@@ -125,10 +125,11 @@ fn drawn(draw: &mut u64) -> u64 {
     *draw >> 33
 }
 
-/// An event of two ranks.
-fn drawn_event(draw: &mut u64) -> WorldEvent {
-    let rank = (drawn(draw) % 2) as u32;
-    let dest = (drawn(draw) % 2) as u32;
+/// An event of so many ranks.
+fn drawn_event(draw: &mut u64, ranks: u8) -> WorldEvent {
+    let ranks = u64::from(ranks.max(1));
+    let rank = (drawn(draw) % ranks) as u32;
+    let dest = (drawn(draw) % ranks) as u32;
     match drawn(draw) % 20 {
         0 | 1 | 2 => WorldEvent::Put { source: rank, dest },
         3 | 4 | 5 => WorldEvent::Arrive {
@@ -146,11 +147,15 @@ fn drawn_event(draw: &mut u64) -> WorldEvent {
     }
 }
 
-/// 200 events, by the draw.
-fn drawn_events(alloc: Heap, draw: &mut u64) -> Result<Vec<WorldEvent, Heap>, AllocError> {
+/// 200 events of so many ranks, by the draw.
+pub fn drawn_events(
+    alloc: Heap,
+    draw: &mut u64,
+    ranks: u8,
+) -> Result<Vec<WorldEvent, Heap>, AllocError> {
     let mut events = Vec::new(alloc);
     for _ in 0..200 {
-        events.push(drawn_event(draw))?;
+        events.push(drawn_event(draw, ranks))?;
     }
     Ok(events)
 }
@@ -162,7 +167,7 @@ fn a_thousand_lists(rt: HostRuntime) -> Result<(), Fail> {
     for program in [TWO_TAGS, SQUARES, THREE_PROBES] {
         let program = Program::parse(alloc, program)?;
         for list in 0..334 {
-            let events = drawn_events(alloc, &mut draw)?;
+            let events = drawn_events(alloc, &mut draw, 2)?;
             let mut world = World::new(alloc, &program, 2)?;
             let good = leads_on_after(alloc, &mut world, events.as_slice());
             world.close();

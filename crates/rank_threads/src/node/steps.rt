@@ -6,7 +6,7 @@ ghost use Rattle.rank_node.specs.Phases.{clock_in};
 ghost use Rattle.rank_node.specs.Steps.{refusal_of, turn_of};
 ghost use Rattle.rank_threads.specs.Lives.{SameNode};
 ghost use Rattle.rank_threads.specs.Phases.{want_in, IsWantedIn};
-ghost use Rattle.rank_threads.specs.Steps.{acts_made, is_print, replay_turn, turn_in, unless_refused};
+ghost use Rattle.rank_threads.specs.Steps.{StridesIn, acts_made, is_print, replay_turn, turn_in, unless_refused};
 
 use super::Node;
 use checkpoint::MemoryShelf;
@@ -33,6 +33,7 @@ impl<'p, 'l> Node<'p, 'l> {
     /// how many it made.
     pub fn stride(&mut self, most: u32) -> u32
         ensures few { result ≤ most }
+        ensures made { StridesIn result self.old.phase self.new.phase }
         ensures some { 0 < most → want_in self.old.phase ≡ Some Internal → result ≢ 0 }
         ensures own { result ≢ 0 → want_in self.old.phase ≡ Some Internal }
         ensures none { result ≡ 0 → self.new.phase ≡ self.old.phase }

@@ -1,7 +1,8 @@
 //! From a station (a process slot) to a life (an incarnation) and back.
 ghost use Rattle.std.specs.Prelude.{◌≡◌, ◌<◌, ◌≤◌, None, IfErr, OnOk, OnErr};
 ghost use Rattle.metered.specs.Limits.{most_ranks};
-ghost use Rattle.rank_threads.specs.Phases.{Begins};
+ghost use Rattle.rank_threads.specs.Endings.{stood_at};
+ghost use Rattle.rank_threads.specs.Phases.{Begins, is_replaying};
 ghost use Rattle.rank_threads.specs.Stations.{SameStation, IsLifeOf, IsNew, HasRow};
 
 use super::Station;
@@ -10,6 +11,7 @@ use crate::node::Node;
 use crate::plan::Plan;
 use crate::row::Row;
 use crate::shared::Shared;
+use crate::stood::Stood;
 use crate::tally::Tally;
 use audit::End;
 use checkpoint::MemoryShelf;
@@ -17,7 +19,7 @@ use event_logger::{Desk, Logger};
 use metered::Heap;
 use ports::{Rx, Tx};
 use rank_language::Program;
-use rank_node::{Down, NodeFault, Stable};
+use rank_node::{Down, NodeFault, Phase, Stable};
 use std::sync::Wait;
 
 impl<'l> Station<'l> {
@@ -56,6 +58,11 @@ impl<'l> Station<'l> {
             tally: Tally::new(),
             row: None,
             end: None,
+            stood: Stood {
+                clock: 0,
+                is_replaying: false,
+                is_at_rest: false,
+            },
         }
     }
 
@@ -84,6 +91,7 @@ impl<'l> Station<'l> {
             mut tally,
             row,
             end: _,
+            stood: _,
         } = self;
         let (node, fault) = Node::begin(shared.alloc, program, logger, down, row, size);
         if let Some(fault) = fault {
@@ -116,6 +124,7 @@ impl<'l> Station<'l> {
             tally: _,
             row: _,
             end: _,
+            stood: _,
         } = self;
         let (desk, _shelf) = down.retire().parts();
         (desk, to, from)
@@ -124,7 +133,7 @@ impl<'l> Station<'l> {
     /// The rank fetches its row, which it replays in its next life.
     pub fn fetch(&mut self, alloc: Heap) -> Result<(), NodeFault>
         ensures row { OnOk result (HasRow self.new) }
-        ensures rest { (self.new.plan ≡ self.old.plan) × (self.new.tally ≡ self.old.tally) × (self.new.end ≡ self.old.end) }
+        ensures rest { (self.new.plan ≡ self.old.plan) × (self.new.tally ≡ self.old.tally) × (self.new.end ≡ self.old.end) × (self.new.stood ≡ self.old.stood) }
         ensures memory { IfErr result (λ e. e ≡ NodeFault.Memory) }
         ensures err { OnErr result ((self.new.down ≡ self.old.down) × (self.new.row ≡ self.old.row)) }
         ensures same { SameStation self.old self.new }
@@ -138,9 +147,10 @@ impl<'l> Station<'l> {
 
 impl<'p, 'l> Life<'p, 'l> {
     /// The life is over. `end` says how the rank left; where it crashed, it
-    /// didn't.
-    pub fn leave(self, end: Option<End>) -> Station<'l>
+    /// didn't. `is_at_rest` says whether it left as all ranks were at rest.
+    pub fn leave(self, end: Option<End>, is_at_rest: bool) -> Station<'l>
         ensures end { result.end ≡ end }
+        ensures stood { result.stood ≡ stood_at is_at_rest self.entry.node.phase }
         ensures plan { result.plan ≡ self.entry.plan }
         ensures tally { result.tally ≡ self.entry.tally }
         ensures row { result.row ≡ None }
@@ -154,6 +164,11 @@ impl<'p, 'l> Life<'p, 'l> {
             plan,
             tally,
         } = self;
+        let stood = Stood {
+            clock: node.clock(),
+            is_replaying: is_replaying(&node),
+            is_at_rest,
+        };
         let (down, logger, size) = node.end();
         Station {
             rank,
@@ -166,6 +181,16 @@ impl<'p, 'l> Life<'p, 'l> {
             tally,
             row: None,
             end,
+            stood,
         }
+    }
+}
+
+fn is_replaying(node: &Node<'_, '_>) -> bool
+    ensures { result ≡ is_replaying node.now.phase }
+{
+    match node.phase() {
+        Phase::Replaying(_) => true,
+        Phase::Running(_) | Phase::Down(_) => false,
     }
 }

@@ -29,14 +29,17 @@ Blank lines, and lines that begin with #, are skipped.
 
 What is printed:
   yes  some run of the program without crashes has the outcome, and each rank
-       that stalled in it can't go on; with --trace that run, as `ftmpi trace`
-       tells it, is printed too
+       that stalled in it can't go on; with --trace such a run follows, in the
+       form of `ftmpi trace`
   no   no such run in which no rank makes more than S steps has it
 Behind `no` stands why: the fault of the audit, or that a stall is false, and
 where:
   rank R outcome line L: ...  what rank R doesn't come to
   rank R program line L: ...  the statement at which it stands
   rank R could have: ...      a line that could stand there instead
+  rank R stands at the end of the program
+                              in place of the second: it has no statement left
+  rank R has made S steps     in place of the third: it may make no more
 
 Faults of the outcome, as `outcome line L: fault K NAME`: the first faulty line,
 and on it the lowest fault. `ftmpi check --help` has the faults of a program.

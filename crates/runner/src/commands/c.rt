@@ -1,9 +1,7 @@
 //! A program as a C program for MPI.
-use crate::commands::reading::text_in;
-use crate::commands::refusal::Refusal;
-use crate::files::Files;
 use c_program::c_text;
 use command_line::CheckJob;
+use core_runner::{Files, Refusal, text_in};
 use metered::Heap;
 
 /// The C text of the program in a file.

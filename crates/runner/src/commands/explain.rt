@@ -1,9 +1,6 @@
 //! The first fault of a job's texts, explained.
-use crate::commands::reading::text_in;
-use crate::commands::refusal::Refusal;
-use crate::commands::said::Said;
-use crate::files::Files;
 use command_line::ExplainJob;
+use core_runner::{Files, Refusal, Said, text_in};
 use events_text::{EventsFault, parse_events};
 use explanations::{explain_events, explain_program, explain_script, first_unmet};
 use metered::Heap;

@@ -2,15 +2,13 @@
 ghost use Rattle.std.specs.Prelude.{◌≡◌, ◌+◌, ℕ, IfOk, IfSome, Some, slice_get, string_bytes};
 ghost use Rattle.run_events.specs.Plays.{IsPlayText};
 ghost use Rattle.runner.specs.Events.{PlaysOutcome};
-ghost use Rattle.runner.specs.OutcomesText.{IsExploredText};
+ghost use Rattle.runner.specs.OutcomesText.{IsExploredText, IsSummary};
 ghost use Rattle.runner.specs.Searches.{HasSearchStatus, IsExploreAnswer, IsFoundBy, IsPrinted, IsSearchAnswer};
 
-use crate::commands::reading::text_in;
-use crate::commands::refusal::Refusal;
-use crate::commands::said::Said;
-use crate::files::Files;
-use crate::outcomes::{all_halt, print_explored};
-use command_line::ExploreJob;
+use crate::commands::tool_refusal::ToolRefusal;
+use crate::outcomes::{all_halt, explored_json, print_explored, print_summary};
+use command_line::{ExploreForm, ExploreJob};
+use core_runner::{Files, Said, text_in};
 use crash_free::Sim;
 use explore::{Explored, Limits, Outcome, Watch, explore, run_of};
 use metered::Heap;
@@ -27,7 +25,7 @@ pub fn explored_by<'a, F: Files, W: Watch>(
     job: ExploreJob<'a>,
     files: &mut F,
     watch: &mut W,
-) -> Result<Said, Refusal<'a>>
+) -> Result<Said, ToolRefusal<'a>>
     ensures { IfOk result (λ said. IsExploreAnswer (F.holds files.old job.entry.program.now) job.entry said.out.items said.status) }
 {
     let text = text_in(job.program, files)?;
@@ -43,7 +41,7 @@ fn found_of<'a, W: Watch>(
     text: &[u8],
     program: &Program,
     watch: &mut W,
-) -> Result<Said, Refusal<'a>>
+) -> Result<Said, ToolRefusal<'a>>
     ensures { IfOk result (λ said. IsSearchAnswer program.now job.entry said.out.items said.status) }
 {
     let found = searched(alloc, job, program, watch)?;
@@ -73,22 +71,21 @@ fn status_of(found: &Explored) -> u8
     }
 }
 
-#[tactic(auto, using(crate::proofs::Searches::text_printed, crate::proofs::Searches::events_printed))]
+#[tactic(auto, using(crate::proofs::Searches::text_printed, crate::proofs::Searches::summary_printed, crate::proofs::Searches::json_printed, crate::proofs::Searches::events_printed))]
 fn answer_of<'a>(
     alloc: Heap,
     job: ExploreJob<'a>,
     text: &[u8],
     program: &Program,
     found: &Explored,
-) -> Result<String<Heap>, Refusal<'a>>
+) -> Result<String<Heap>, ToolRefusal<'a>>
     ensures { IfOk result (λ answer. IsPrinted program.now job.entry found.now (string_bytes answer)) }
 {
-    match job.events {
-        Some(number) => events_of(alloc, job, number, program, found),
-        None => match found_text(alloc, job, text, found) {
-            Ok(answer) => Ok(answer),
-            Err(error) => Err(Refusal::from(error)),
-        },
+    match job.form {
+        ExploreForm::Events(number) => events_of(alloc, job, number, program, found),
+        ExploreForm::Text => Ok(found_text(alloc, job, text, found)?),
+        ExploreForm::Summary => Ok(summary_text(alloc, job, text, found)?),
+        ExploreForm::Json => Ok(json_text(alloc, text, found)?),
     }
 }
 
@@ -104,6 +101,23 @@ fn found_text(
     print_explored(alloc, found, limits_of(job), lines.as_slice())
 }
 
+fn summary_text(
+    alloc: Heap,
+    job: ExploreJob<'_>,
+    text: &[u8],
+    found: &Explored,
+) -> Result<String<Heap>, AllocError>
+    ensures { IfOk result (λ answer. IsSummary found.now job.entry.runs (string_bytes answer)) }
+{
+    let lines = statement_lines(alloc, text)?;
+    print_summary(alloc, found, limits_of(job), lines.as_slice())
+}
+
+fn json_text(alloc: Heap, text: &[u8], found: &Explored) -> Result<String<Heap>, AllocError> {
+    let lines = statement_lines(alloc, text)?;
+    explored_json(alloc, found, lines.as_slice())
+}
+
 // The events of a run that has the outcome of this number, from 1.
 #[tactic(auto, using(crate::proofs::Events::plays_outcome))]
 fn events_of<'a>(
@@ -112,16 +126,16 @@ fn events_of<'a>(
     number: u32,
     program: &Program,
     found: &Explored,
-) -> Result<String<Heap>, Refusal<'a>>
+) -> Result<String<Heap>, ToolRefusal<'a>>
     ensures { IfOk result (λ text. PlaysOutcome program.now job.entry.ranks found.now.outcomes number (string_bytes text)) }
 {
     let Some(outcome) = outcome_at(found, number) else {
-        return Err(Refusal::NoOutcome(number));
+        return Err(ToolRefusal::NoOutcome(number));
     };
     match run_of(alloc, program, job.ranks, limits_of(job), outcome) {
         Ok(Some(run)) => told(alloc, job, program, &run),
-        Ok(None) => Err(Refusal::NoOutcome(number)),
-        Err(error) => Err(Refusal::from(error)),
+        Ok(None) => Err(ToolRefusal::NoOutcome(number)),
+        Err(error) => Err(ToolRefusal::from(error)),
     }
 }
 
@@ -130,12 +144,12 @@ fn told<'a>(
     job: ExploreJob<'a>,
     program: &Program,
     run: &Sim<'_>,
-) -> Result<String<Heap>, Refusal<'a>>
+) -> Result<String<Heap>, ToolRefusal<'a>>
     ensures { IfOk result (λ text. IsPlayText program.now job.entry.ranks run.now.run (string_bytes text)) }
 {
     match play_text(alloc, program, job.ranks, run) {
         Ok(text) => Ok(text),
-        Err(fault) => Err(Refusal::from(fault)),
+        Err(fault) => Err(ToolRefusal::from(fault)),
     }
 }
 
@@ -153,5 +167,6 @@ fn limits_of(job: ExploreJob<'_>) -> Limits
     Limits {
         runs: job.runs,
         steps: job.steps,
+        states: job.states,
     }
 }

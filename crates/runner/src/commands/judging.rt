@@ -3,12 +3,10 @@ ghost use Rattle.std.specs.Prelude.{IfOk};
 ghost use Rattle.runner.specs.Judgments.{HasVerdict};
 ghost use Rattle.statement_lines.specs.Standing.{IsLinedOf};
 
-use crate::commands::reading::text_in;
-use crate::commands::refusal::Refusal;
-use crate::commands::said::Said;
-use crate::files::Files;
+use crate::commands::tool_refusal::ToolRefusal;
 use audit::{Outcome, find_run};
 use command_line::JudgeJob;
+use core_runner::{Files, Said, text_in};
 use judge::{Asked, Verdict, judge, why_text};
 use metered::Heap;
 use outcome_text::OutcomeText;
@@ -29,7 +27,7 @@ pub fn judged<'a, F: Files>(
     alloc: Heap,
     job: JudgeJob<'a>,
     files: &mut F,
-) -> Result<Said, Refusal<'a>> {
+) -> Result<Said, ToolRefusal<'a>> {
     let text = text_in(job.program, files)?;
     let lined = statement_lines::parse(alloc, text.as_slice())?;
     let said = judged_by(alloc, job, &lined, text, files);
@@ -44,7 +42,7 @@ fn judged_by<'a, F: Files>(
     lined: &LinedProgram,
     text: Vec<u8>,
     files: &mut F,
-) -> Result<Said, Refusal<'a>>
+) -> Result<Said, ToolRefusal<'a>>
     requires { IsLinedOf text.items lined.now.program lined.now.lines.items }
 {
     let texts = Texts {
@@ -54,7 +52,7 @@ fn judged_by<'a, F: Files>(
     let read = OutcomeText::parse(alloc, texts.outcome.as_slice(), job.ranks)?;
     match said_of(alloc, job, lined, &texts, &read) {
         Ok(said) => Ok(said),
-        Err(error) => Err(Refusal::from(error)),
+        Err(error) => Err(ToolRefusal::from(error)),
     }
 }
 
@@ -142,6 +140,7 @@ fn run_text(
         orders: &[],
         unused: &[],
         outcome,
+        whys: &[],
         crashes: 0,
         calls: 0,
     };

@@ -1,28 +1,28 @@
 //! A job's run, told act by act, drawn, or given as events.
-ghost use Rattle.std.specs.Prelude.{◌≡◌, ◌++◌, IfOk, reverse, string_bytes};
+ghost use Rattle.std.specs.Prelude.{◌≡◌, ◌≢◌, ◌≤◌, ◌++◌, [], IfOk, reverse, string_bytes};
+ghost use Rattle.metered.specs.Limits.{most_ranks};
 ghost use Rattle.run_events.specs.Plays.{IsPlayText};
+ghost use Rattle.run_events.specs.Scripted.{IsScriptText};
 ghost use Rattle.run_trace.specs.Lines.{BeginsWithActs};
-ghost use Rattle.runner.specs.Events.{PlaysReport};
-ghost use Rattle.runner.specs.Statuses.{HasStatus};
+ghost use Rattle.runner.specs.Events.{PlaysReport, PlaysScriptOf};
+ghost use Rattle.core_runner.specs.Statuses.{HasStatus};
 ghost use Rattle.runner.specs.Traces.{TracesReport};
 ghost use Rattle.statement_lines.specs.Standing.{IsLinedOf};
 
-use crate::commands::job::{Nobody, limits_of};
 use crate::commands::picture::picture_text;
-use crate::commands::reading::text_in;
-use crate::commands::refusal::Refusal;
-use crate::commands::said::Said;
-use crate::files::Files;
-use crate::output::{all_halted, calls_of, print_cost};
+use crate::commands::tool_refusal::ToolRefusal;
 use audit::find_run;
 use command_line::{RunJob, TraceForm, TraceJob};
+use core_runner::{
+    Files, Nobody, Refusal, Said, all_halted, calls_of, limits_of, print_cost, text_in,
+};
 use crash_free::Sim;
 use metered::Heap;
 use rank_language::Program;
-use rank_threads::{Report, RunFault, run};
-use run_events::{PlayFault, play_text};
+use rank_threads::{Cause, Report, RunFault, run};
+use run_events::{PlayFault, play_script_text, play_text};
 use run_picture::Span;
-use run_trace::{Given, trace_json, trace_text};
+use run_trace::{Given, Why, trace_json, trace_text};
 use script_text::Script;
 use statement_lines::LinedProgram;
 use std::alloc::AllocError;
@@ -43,20 +43,17 @@ pub fn traced<'a, R: Threads + Wait + Sync + Copy + Send, F: Files>(
     alloc: Heap,
     job: TraceJob<'a>,
     files: &mut F,
-) -> Result<Said, Refusal<'a>> {
+) -> Result<Said, ToolRefusal<'a>> {
     let text = text_in(job.run.program, files)?;
     let lined = statement_lines::parse(alloc, text.as_slice())?;
     let asked = match asked_of(alloc, job.run, files) {
         Ok(asked) => asked,
         Err(refusal) => {
             drop(lined);
-            return Err(refusal);
+            return Err(ToolRefusal::from(refusal));
         }
     };
-    let said = match told(rt, alloc, job, text.as_slice(), &lined, &asked) {
-        Ok(said) => Ok(said),
-        Err(fault) => Err(Refusal::from(fault)),
-    };
+    let said = told(rt, alloc, job, text.as_slice(), &lined, &asked);
     drop(lined);
     said
 }
@@ -87,7 +84,7 @@ fn told<'a, R: Threads + Wait + Sync + Copy + Send>(
     text: &[u8],
     lined: &LinedProgram,
     asked: &Asked,
-) -> Result<Said, Refusal<'a>>
+) -> Result<Said, ToolRefusal<'a>>
     requires { IsLinedOf text.now lined.now.program lined.now.lines.items }
 {
     let limits = limits_of(job.run);
@@ -97,7 +94,7 @@ fn told<'a, R: Threads + Wait + Sync + Copy + Send>(
     told_of(alloc, job, text, lined, asked, &report)
 }
 
-#[tactic(auto, using(crate::proofs::Events::plays_report, crate::proofs::Traces::traces_report))]
+#[tactic(auto, using(crate::proofs::Events::plays_report, crate::proofs::Events::plays_script, crate::proofs::Traces::traces_report))]
 fn told_of<'a>(
     alloc: Heap,
     job: TraceJob<'a>,
@@ -105,15 +102,18 @@ fn told_of<'a>(
     lined: &LinedProgram,
     asked: &Asked,
     report: &Report,
-) -> Result<Said, Refusal<'a>>
+) -> Result<Said, ToolRefusal<'a>>
     requires { IsLinedOf text.now lined.now.program lined.now.lines.items }
     ensures status { IfOk result (λ said. HasStatus report.now.outcome said.status) }
     ensures text { IfOk result (λ said. job.entry.form ≡ TraceForm.Text
         → TracesReport text.now lined.now.program job.entry.run.ranks report.now.outcome job.entry.run.steps said.out.items) }
-    ensures events { IfOk result (λ said. job.entry.form ≡ TraceForm.Events
+    ensures events { IfOk result (λ said. job.entry.form ≡ TraceForm.Events → asked.now.script ≡ []
         → PlaysReport lined.now.program job.entry.run.ranks report.now.outcome job.entry.run.steps said.out.items) }
+    ensures script { IfOk result (λ said. job.entry.form ≡ TraceForm.Events → asked.now.script ≢ []
+        → PlaysScriptOf lined.now.program job.entry.run.ranks report.now job.entry.run.steps asked.now.script said.out.items) }
 {
     let program = &lined.program;
+    let whys = whys_of(alloc, report.causes.as_slice())?;
     let given = Given {
         text,
         lines: lined.lines.as_slice(),
@@ -121,17 +121,33 @@ fn told_of<'a>(
         orders: asked.script.lines(),
         unused: report.unused.as_slice(),
         outcome: &report.outcome,
+        whys: whys.as_slice(),
         crashes: report.crashes,
         calls: calls_of(report),
     };
     let (ranks, steps) = (job.run.ranks, job.run.steps);
     let found = match find_run(alloc, program, ranks, &report.outcome, steps) {
         Ok(found) => found,
-        Err(fault) => return Err(Refusal::from(RunFault::from(fault))),
+        Err(fault) => return Err(ToolRefusal::from(RunFault::from(fault))),
     };
     let answer = in_form(alloc, job, program, &found, given, report)?;
     let status = if all_halted(&report.outcome) { 0 } else { 1 };
     Ok(Said::answer(alloc, status, answer.into_bytes()))
+}
+
+// Why each rank is unfinished, in the words of a trace.
+fn whys_of(alloc: Heap, causes: &[Option<Cause>]) -> Result<Vec<Option<Why>, Heap>, AllocError> {
+    causes.iter().map(|cause| why_of(*cause)).collect(alloc)
+}
+
+fn why_of(cause: Option<Cause>) -> Option<Why> {
+    match cause {
+        Some(Cause::Steps(_)) => Some(Why::Steps),
+        Some(Cause::Clock(_)) => Some(Why::Clock),
+        Some(Cause::Events) => Some(Why::Events),
+        Some(Cause::Replay(_)) => Some(Why::Replay),
+        None => None,
+    }
 }
 
 // The run that was found, in the form that is asked for.
@@ -146,18 +162,41 @@ fn in_form<'a>(
     requires { IsLinedOf given.text.now program.now given.lines.now }
     ensures text { IfOk result (λ text. job.entry.form ≡ TraceForm.Text
         → BeginsWithActs given.entry.text.now program.now job.entry.run.ranks (reverse found.entry.now.run) (string_bytes text)) }
-    ensures events { IfOk result (λ text. job.entry.form ≡ TraceForm.Events
+    ensures events { IfOk result (λ text. job.entry.form ≡ TraceForm.Events → given.entry.orders.now ≡ []
         → IsPlayText program.now job.entry.run.ranks found.entry.now.run (string_bytes text)) }
+    ensures script { IfOk result (λ text. job.entry.form ≡ TraceForm.Events → given.entry.orders.now ≢ []
+        → IsScriptText program.now job.entry.run.ranks found.entry.now.run given.entry.orders.now given.entry.unused.now (string_bytes text)) }
 {
     let ranks = job.run.ranks;
     match job.form {
         TraceForm::Text => Ok(text_of(alloc, job.run, program, found, given, report)?),
         TraceForm::Json => Ok(trace_json(alloc, program, ranks, found, given)?),
-        TraceForm::Events => play_text(alloc, program, ranks, found),
+        TraceForm::Events => events_of(alloc, ranks, program, found, given),
         TraceForm::Picture { from, to } => {
             let span = Span { from, to };
             Ok(picture_text(alloc, job.run, found, given, span)?)
         }
+    }
+}
+
+// The run as events, with the kills and the images of its script among them.
+fn events_of(
+    alloc: Heap,
+    ranks: u8,
+    program: &Program,
+    found: &Sim<'_>,
+    given: Given<'_>,
+) -> Result<String<Heap>, PlayFault>
+    requires some { 1 ≤ ranks }
+    requires few { ranks ≤ most_ranks }
+    ensures events { IfOk result (λ text. given.entry.orders.now ≡ [] → IsPlayText program.now ranks found.now.run (string_bytes text)) }
+    ensures script { IfOk result (λ text. given.entry.orders.now ≢ []
+        → IsScriptText program.now ranks found.now.run given.entry.orders.now given.entry.unused.now (string_bytes text)) }
+{
+    if given.orders.is_empty() {
+        play_text(alloc, program, ranks, found)
+    } else {
+        play_script_text(alloc, program, ranks, found, given.orders, given.unused)
     }
 }
 

@@ -1,8 +1,6 @@
 //! A world under the events of a file, as JSON.
-use crate::commands::reading::text_in;
-use crate::commands::refusal::Refusal;
-use crate::files::Files;
 use command_line::WorldJob;
+use core_runner::{Files, Refusal, text_in};
 use events_text::parse_events;
 use metered::Heap;
 use rank_language::Program;

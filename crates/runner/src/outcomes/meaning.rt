@@ -2,7 +2,8 @@
 ghost use Rattle.std.specs.Prelude.{◌≡◌, ◌++◌, OnOk, length, string_bytes};
 ghost use Rattle.std.specs.Fmt.{decimal};
 ghost use Rattle.runner.specs.Meanings.{between, enumeration, fault_line, fault_words, faults_text, is_of, limits_text, named_ranks};
-ghost use Rattle.runner.specs.Meanings.{only_text, ranks_line, ranks_of, runs_text, stalls_text, steps_text, unhalted_text};
+ghost use Rattle.runner.specs.Meanings.{count_text, meaning_text, only_text, ranks_line, ranks_of, runs_text, stalls_text};
+ghost use Rattle.runner.specs.Meanings.{states_text, steps_text, unhalted_text};
 
 use audit::End;
 use explore::{Explored, Outcome, RankEnd};
@@ -10,8 +11,20 @@ use metered::Heap;
 use std::alloc::AllocError;
 use std::fmt::Write;
 
-/// That there is one outcome, if this is certain.
-pub fn print_only(text: &mut String<Heap>, found: &Explored) -> Result<(), AllocError>
+/// What the outcomes mean that a search found, which looked at no more than so
+/// many runs, and how many they are.
+pub fn print_meaning(text: &mut String<Heap>, found: &Explored, runs: u32) -> Result<(), AllocError>
+    ensures { OnOk result (string_bytes text.new ≡ string_bytes text.old ++ meaning_text found.now runs) }
+{
+    print_only(text, found)?;
+    print_unhalted(text, found.outcomes.as_slice())?;
+    print_state_limit(text, found)?;
+    print_limits(text, found, runs)?;
+    print_count(text, found)
+}
+
+// That there is one outcome, if this is certain.
+fn print_only(text: &mut String<Heap>, found: &Explored) -> Result<(), AllocError>
     ensures { OnOk result (string_bytes text.new ≡ string_bytes text.old ++ only_text found.now) }
 {
     if found.complete && found.outcomes.len() == 1 {
@@ -23,8 +36,22 @@ pub fn print_only(text: &mut String<Heap>, found: &Explored) -> Result<(), Alloc
     Ok(())
 }
 
-/// Which limits the search reached, if not all was looked at.
-pub fn print_limits(text: &mut String<Heap>, found: &Explored, runs: u32) -> Result<(), AllocError>
+// How many states were kept, if there were more.
+fn print_state_limit(text: &mut String<Heap>, found: &Explored) -> Result<(), AllocError>
+    ensures { OnOk result (string_bytes text.new ≡ string_bytes text.old ++ states_text found.now) }
+{
+    if found.kept_all {
+        return Ok(());
+    }
+    let states = found.states;
+    writeln!(
+        text,
+        "# states kept: {states}; behind that no runs were merged: allow more (--states)"
+    )
+}
+
+// Which limits the search reached, if not all was looked at.
+fn print_limits(text: &mut String<Heap>, found: &Explored, runs: u32) -> Result<(), AllocError>
     ensures { OnOk result (string_bytes text.new ≡ string_bytes text.old ++ limits_text found.now runs) }
 {
     if found.complete {
@@ -69,8 +96,8 @@ fn is_of(ending: Ending, end: End) -> bool
     }
 }
 
-/// Which ranks of the outcomes don't halt.
-pub fn print_unhalted(text: &mut String<Heap>, outcomes: &[Outcome]) -> Result<(), AllocError>
+// Which ranks of the outcomes don't halt.
+fn print_unhalted(text: &mut String<Heap>, outcomes: &[Outcome]) -> Result<(), AllocError>
     ensures { OnOk result (string_bytes text.new ≡ string_bytes text.old ++ unhalted_text 1 outcomes.now) }
 {
     let mut number = 0usize;
@@ -214,5 +241,17 @@ fn print_number(text: &mut String<Heap>, number: usize, left: usize) -> Result<(
         write!(text, "{number} and ")
     } else {
         write!(text, "{number}, ")
+    }
+}
+
+fn print_count(text: &mut String<Heap>, found: &Explored) -> Result<(), AllocError>
+    ensures { OnOk result (string_bytes text.new ≡ string_bytes text.old ++ count_text found.now) }
+{
+    let outcomes = found.outcomes.len();
+    let runs = found.runs;
+    if found.complete {
+        writeln!(text, "outcomes {outcomes}, runs {runs}, complete")
+    } else {
+        writeln!(text, "outcomes {outcomes}, runs {runs}, stopped")
     }
 }

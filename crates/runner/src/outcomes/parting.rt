@@ -99,7 +99,8 @@ fn line_of(lines: &[usize], noted: Noted) -> Option<usize>
     lines.get(noted.position).copied()
 }
 
-fn print_place(text: &mut String<Heap>, rank: u8, line: Option<usize>) -> Result<(), AllocError>
+/// A rank, and the line where it stands, if that is known.
+pub fn print_place(text: &mut String<Heap>, rank: u8, line: Option<usize>) -> Result<(), AllocError>
     ensures { OnOk result (string_bytes text.new ≡ string_bytes text.old ++ place_words rank line) }
 {
     match line {

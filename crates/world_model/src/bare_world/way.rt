@@ -1,7 +1,6 @@
 //! A recovery schedule: the world is driven until every rank has caught up with
 //! the run, and what happened is the list.
 ghost use Rattle.std.specs.Prelude.{◌≡◌, IfOk, OnOk};
-ghost use Rattle.world_model.specs.Driven.{is_refused};
 ghost use Rattle.world_model.specs.World.{WorldValue};
 
 mod flushing;
@@ -52,7 +51,7 @@ impl<'p> BareWorld<'p> {
     {
         events.reserve(1)?;
         let reply = self.apply(event)?;
-        if !is_refused(&reply) {
+        if !reply.is_refused() {
             events.push_reserved(event);
         }
         Ok(reply)
@@ -71,30 +70,5 @@ impl<'p> BareWorld<'p> {
             self.drive(event, events)?;
         }
         Ok(())
-    }
-}
-
-fn is_refused(reply: &Reply) -> bool
-    ensures { result ≡ is_refused reply.now }
-{
-    match reply {
-        Reply::Refused => true,
-        Reply::Moved
-        | Reply::Blocked
-        | Reply::Held
-        | Reply::Ended
-        | Reply::PutData { .. }
-        | Reply::PutAsk { .. }
-        | Reply::PutKept { .. }
-        | Reply::Accepted
-        | Reply::Repeated
-        | Reply::Gap
-        | Reply::Noted
-        | Reply::Stored(_)
-        | Reply::Acked
-        | Reply::Imaged
-        | Reply::Crashed
-        | Reply::Restarted(_)
-        | Reply::Released(_) => false,
     }
 }

@@ -41,6 +41,13 @@ impl Clocks {
         }
     }
 
+    /// How many there are.
+    pub(super) fn len(&self) -> usize
+        ensures { result ≡ length self.now }
+    {
+        self.items.len()
+    }
+
     /// The place of a clock, from 1.
     #[tactic(auto, using(crate::proofs::RunClocks::found_there))]
     pub(super) fn place_of(&self, clock: u64) -> Option<u64>

@@ -54,6 +54,14 @@ impl Made {
         self.count
     }
 
+    /// How many messages it sent to a rank.
+    pub(super) fn sent(&self, dest: u8) -> usize
+        requires { dest < length self.now.clocks }
+        ensures { result ≡ length (slice_index_or self.now.clocks dest []) }
+    {
+        self.clocks[usize::from(dest)].len()
+    }
+
     /// The place of a clock, from 1, among those of what was sent to a rank.
     pub(super) fn place_of(&self, dest: u8, clock: u64) -> Option<u64>
         requires there { dest < length self.now.clocks }

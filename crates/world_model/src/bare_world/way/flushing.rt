@@ -1,11 +1,9 @@
 //! Frames that are put and arrive at once.
-ghost use Rattle.std.specs.Prelude.{◌≡◌, ◌<◌, ℕ, IfOk, OnOk, MatchBool};
+ghost use Rattle.std.specs.Prelude.{◌<◌, ℕ, IfOk, OnOk, MatchBool};
 ghost use Rattle.world_model.specs.World.{size};
-ghost use Rattle.world_model.specs.Driven.{index_of};
 
 use crate::bare_world::BareWorld;
 use crate::event::WorldEvent;
-use crate::reply::Reply;
 use metered::Heap;
 use std::alloc::AllocError;
 
@@ -33,7 +31,7 @@ impl<'p> BareWorld<'p> {
             source: u32::from(source),
             dest: u32::from(dest),
         };
-        let Some(index) = index_of(&self.drive(put, events)?) else {
+        let Some(index) = self.drive(put, events)?.index() else {
             return Ok(false);
         };
         let arrive = WorldEvent::Arrive {
@@ -91,29 +89,5 @@ impl<'p> BareWorld<'p> {
             self.flush_from(source, events)?;
         }
         Ok(())
-    }
-}
-
-fn index_of(reply: &Reply) -> Option<u64>
-    ensures { result ≡ index_of reply.now }
-{
-    match reply {
-        Reply::PutData { index, .. } | Reply::PutAsk { index, .. } | Reply::PutKept { index, .. } =>
-            Some(*index),
-        Reply::Refused
-        | Reply::Moved
-        | Reply::Blocked
-        | Reply::Held
-        | Reply::Ended
-        | Reply::Accepted
-        | Reply::Repeated
-        | Reply::Gap
-        | Reply::Noted
-        | Reply::Stored(_)
-        | Reply::Acked
-        | Reply::Imaged
-        | Reply::Crashed
-        | Reply::Restarted(_)
-        | Reply::Released(_) => None,
     }
 }

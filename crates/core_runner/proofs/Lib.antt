@@ -1,0 +1,3 @@
+mod Worlds
+mod Reading
+mod Answers

@@ -1,0 +1,13 @@
+use Rattle.std.proofs.Common.{◌≡◌, ℕ, Bool, List, Option, Some, length}
+use Rattle.std.specs.Prelude.{IfSome, slice_get}
+use Rattle.final_runs.specs.Maximal.{RankOutcome}
+use Rattle.explore.specs.Shown.{IsMark}
+use Rattle.explore.proofs.marking.marks_of.Given as goal
+
+-- the outcomes so far have their marks
+abbrev pub invariant-loop-at : goal.invariant-loop-at
+invariant-loop-at l = record {
+  as_many : length l.marks.items ≡ l.at;
+  each : (i : ℕ) (o : List RankOutcome) (mark : Option Bool) → slice_get l.outcomes i ≡ Some o → slice_get l.marks.items i ≡ Some mark
+      → IfSome mark (IsMark l.program l.ranks o);
+}

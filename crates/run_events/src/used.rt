@@ -1,0 +1,31 @@
+//! The lines of a script that a run used.
+ghost use Rattle.std.specs.Prelude.{◌≡◌, IfOk};
+ghost use Rattle.run_events.specs.Scripted.{used_lines};
+
+use metered::Heap;
+use script_text::ScriptLine;
+use std::alloc::AllocError;
+
+/// The lines for a rank that were used, in their order: all but the last ones,
+/// so many of which the run left unused. An `Err` means out of memory.
+pub fn used_lines(
+    alloc: Heap,
+    script: &[ScriptLine],
+    unused: &[usize],
+    rank: u8,
+) -> Result<Vec<ScriptLine, Heap>, AllocError>
+    ensures { IfOk result (λ lines. lines.items ≡ used_lines script.now unused.now rank) }
+{
+    let mut lines: Vec<ScriptLine, Heap> = script
+        .iter()
+        .copied()
+        .filter(|line| line.rank == rank)
+        .collect(alloc)?;
+    let left = match unused.get(usize::from(rank)) {
+        Some(left) => *left,
+        None => 0,
+    };
+    let used = lines.len().saturating_sub(left);
+    lines.truncate(used);
+    Ok(lines)
+}

@@ -1,0 +1,110 @@
+//! The core answers as the whole program does, and leaves out what it hasn't.
+use crate::scenes::{Answer, Table, answer_of, words_of};
+use core_runner::core_command;
+use std::alloc::AllocError;
+use std::process::Abort;
+use std::sync::Wait;
+use std::test::Fail;
+use std::thread::Threads;
+
+/// A program, a script for it, and events.
+const FILES: [(&str, &str); 4] = [
+    (
+        "p",
+        "var x\nif rank == 0\n  send 1, 7, 41\nelse\n  recv any, any, x\n  print x + 1\nend\n",
+    ),
+    ("s", "kill 1 at 1\n"),
+    (
+        "e",
+        "step 0\nstep 0\nstep 0\nput 0 1\narrive 0 1 0\ncrash 1\n",
+    ),
+    ("bad", "end\n"),
+];
+
+/// Words to which both answer the same, with the exit status.
+const SAME: [(&str, u8); 19] = [
+    ("check p", 0),
+    ("check bad", 2),
+    ("check none", 2),
+    ("check large", 4),
+    ("run --ranks 2 p", 0),
+    ("run --ranks 2 --script s p", 0),
+    ("run --ranks 2 --steps 1 p", 1),
+    ("run --ranks 2 --script bad p", 2),
+    ("world --ranks 2 p e", 0),
+    ("world --ranks 2 p bad", 2),
+    ("world --ranks 2 p large", 4),
+    ("catch-up --ranks 2 p e", 0),
+    ("catch-up --ranks 2 bad e", 2),
+    ("catch-up --ranks 2 p none", 2),
+    ("--help", 0),
+    ("--version", 0),
+    ("trace --help", 0),
+    ("jump", 3),
+    ("run --ranks 17 p", 3),
+];
+
+/// Words that name a job of a tool.
+const LEFT_OUT: [&str; 6] = [
+    "c p",
+    "trace --ranks 2 p",
+    "world --json --ranks 2 p e",
+    "explain p",
+    "explore --ranks 2 p",
+    "judge --ranks 2 p none",
+];
+
+// Calls the core with these words behind the program's name.
+fn core_answer_of<R: Threads + Wait + Sync + Copy + Send + AllocGlobal>(
+    rt: &R,
+    words: &str,
+) -> Result<Answer, AllocError> {
+    let alloc = rt.alloc();
+    let line = format!(in alloc; "ftmpi {words}")?;
+    let words = words_of(alloc, line.as_str())?;
+    let mut files = Table {
+        alloc,
+        files: FILES.as_slice(),
+    };
+    let mut out = Vec::new(alloc);
+    let mut err = Vec::new(alloc);
+    let status = core_command(rt, alloc, words.as_slice(), &mut files, &mut out, &mut err);
+    Ok(Answer { status, out, err })
+}
+
+fn are_same<R: Threads + Wait + Sync + Copy + Send + AllocGlobal + Abort>(
+    rt: &R,
+    rows: &[(&str, u8)],
+) -> Result<(), Fail> {
+    for row in rows {
+        let (words, status) = *row;
+        let whole = answer_of(rt, words, FILES.as_slice())?;
+        let core = core_answer_of(rt, words)?;
+        let found = (core.status, core.out(), core.err());
+        assert_eq!(rt; found, (status, whole.out(), whole.err()), "at {words}");
+        assert_eq!(rt; whole.status, status, "at {words}");
+    }
+    Ok(())
+}
+
+fn are_left_out<R: Threads + Wait + Sync + Copy + Send + AllocGlobal + Abort>(
+    rt: &R,
+    rows: &[&str],
+) -> Result<(), Fail> {
+    for words in rows {
+        let core = core_answer_of(rt, words)?;
+        let want = "the core has check, run, world without --json, and catch-up alone\n";
+        assert_eq!(rt;
+            (core.status, core.out(), core.err()),
+            (6, "", want),
+            "at {words}"
+        );
+    }
+    Ok(())
+}
+
+#[test]
+fn cores(rt: HostRuntime) -> Result<(), Fail> {
+    are_same(&rt, &SAME)?;
+    are_left_out(&rt, &LEFT_OUT)
+}

@@ -1,0 +1,149 @@
+//! Many runs of a job's program, under scripts that are drawn at random.
+ghost use Rattle.std.specs.Prelude.{◌≡◌};
+
+use crate::commands::tool_refusal::ToolRefusal;
+use crate::soaked::{Soaked, print_soaked};
+use audit::find_run;
+use command_line::SoakJob;
+use core_runner::{Files, Nobody, Refusal, Said, text_in};
+use crash_free::Sim;
+use explore::{Limits, Watch, explore};
+use metered::Heap;
+use rank_language::Program;
+use rank_threads::{RunFault, RunLimits, run};
+use script_text::Script;
+use soak::{Most, draw, text_of};
+use std::alloc::AllocError;
+use std::sync::Wait;
+use std::thread::Threads;
+
+/// How far a search goes that says which outcomes are possible: as far as
+/// `explore` does if it isn't told.
+const SEARCH: Limits = Limits {
+    runs: 100_000,
+    steps: 100_000,
+    states: 100_000,
+};
+
+/// What the job's runs came to. The status is 1 where a rank isn't halted in one
+/// of them, or one has no report.
+pub fn soaked<'a, R: Threads + Wait + Sync + Copy + Send, F: Files, W: Watch>(
+    rt: &R,
+    alloc: Heap,
+    job: SoakJob<'a>,
+    files: &mut F,
+    watch: &mut W,
+) -> Result<Said, ToolRefusal<'a>> {
+    let text = text_in(job.program, files)?;
+    let program = Program::parse(alloc, text.as_slice())?;
+    let soaked = made(rt, alloc, job, &program, watch)?;
+    let text = told(alloc, job, &program, &soaked, watch)?;
+    let status = if soaked.all_halted { 0 } else { 1 };
+    Ok(Said::answer(alloc, status, text.into_bytes()))
+}
+
+// What is printed of the runs, beside what a search finds.
+fn told<W: Watch>(
+    alloc: Heap,
+    job: SoakJob<'_>,
+    program: &Program,
+    soaked: &Soaked,
+    watch: &mut W,
+) -> Result<String<Heap>, AllocError> {
+    let found = explore(alloc, program, job.ranks, SEARCH, watch)?;
+    print_soaked(alloc, soaked, &found, job.runs)
+}
+
+// The runs, from number 1 on.
+fn made<'a, R: Threads + Wait + Sync + Copy + Send, W: Watch>(
+    rt: &R,
+    alloc: Heap,
+    job: SoakJob<'a>,
+    program: &Program,
+    watch: &mut W,
+) -> Result<Soaked, ToolRefusal<'a>> {
+    let acts = acts_of(rt, alloc, job, program)?;
+    let mut soaked = Soaked::new(alloc);
+    for number in 0..job.runs {
+        make(
+            rt,
+            alloc,
+            job,
+            program,
+            acts.as_slice(),
+            number + 1,
+            &mut soaked,
+        )?;
+        watch.looked(number + 1);
+    }
+    Ok(soaked)
+}
+
+// The run of this number: its script follows from that and the job's seed.
+fn make<'a, R: Threads + Wait + Sync + Copy + Send>(
+    rt: &R,
+    alloc: Heap,
+    job: SoakJob<'a>,
+    program: &Program,
+    acts: &[u32],
+    number: u32,
+    soaked: &mut Soaked,
+) -> Result<(), ToolRefusal<'a>> {
+    let most = Most {
+        kills: job.kills,
+        images: job.images,
+    };
+    let (seed, of) = (u64::from(job.seed), u64::from(number));
+    let lines = draw(alloc, seed, of, job.ranks, acts, most)?;
+    let text = text_of(alloc, lines.as_slice())?;
+    let script = match Script::parse(alloc, text.as_bytes(), job.ranks) {
+        Ok(script) => script,
+        Err(fault) => return Err(ToolRefusal::Core(Refusal::from(fault))),
+    };
+    let (ranks, limits) = (job.ranks, limits_of(job));
+    match run(rt, alloc, program, ranks, &script, limits, &Nobody) {
+        Ok(report) => Ok(soaked.note(alloc, &report, &script)?),
+        Err(RunFault::Memory) => Err(ToolRefusal::Core(Refusal::Memory)),
+        Err(fault) => Ok(soaked.fail(number, Refusal::from(fault), text.as_str())?),
+    }
+}
+
+// How many acts each rank makes in a run without a script.
+fn acts_of<'a, R: Threads + Wait + Sync + Copy + Send>(
+    rt: &R,
+    alloc: Heap,
+    job: SoakJob<'a>,
+    program: &Program,
+) -> Result<Vec<u32, Heap>, ToolRefusal<'a>> {
+    let (ranks, limits) = (job.ranks, limits_of(job));
+    let script = Script::new(alloc);
+    let report = run(rt, alloc, program, ranks, &script, limits, &Nobody)?;
+    match find_run(alloc, program, ranks, &report.outcome, job.steps) {
+        Ok(found) => Ok(acts_in(alloc, &found, ranks)?),
+        Err(fault) => Err(ToolRefusal::from(RunFault::from(fault))),
+    }
+}
+
+fn acts_in(alloc: Heap, run: &Sim<'_>, ranks: u8) -> Result<Vec<u32, Heap>, AllocError> {
+    let mut acts = Vec::new(alloc);
+    for rank in 0..ranks {
+        acts.push(acts_by(run, rank))?;
+    }
+    Ok(acts)
+}
+
+// A run has fewer acts than 2^32: each is one of the job's steps.
+fn acts_by(run: &Sim<'_>, rank: u8) -> u32 {
+    let acts = run.acts().iter().filter(|passed| passed.rank == rank);
+    u32::try_from(acts.count()).unwrap_or(u32::MAX)
+}
+
+fn limits_of(job: SoakJob<'_>) -> RunLimits
+    ensures idle { result.idle ≡ job.entry.idle }
+    ensures steps { result.steps ≡ job.entry.steps }
+{
+    RunLimits {
+        idle: job.idle,
+        steps: job.steps,
+    }
+}

@@ -1,0 +1,74 @@
+//! What the runs of a soak came to.
+ghost use Rattle.std.specs.Prelude.{◌≡◌, ◌↔◌, ◌+◌, [], false, true, nat_lt, IsTrue, OnOk, string_bytes};
+ghost use Rattle.final_runs.specs.Final.{seen_of};
+ghost use Rattle.core_runner.specs.Statuses.{AreHalted};
+ghost use Rattle.soak.specs.Histogram.{Notes, up_to};
+
+mod text;
+
+pub use crate::soaked::text::print_soaked;
+use core_runner::{Refusal, all_halted};
+use metered::Heap;
+use rank_threads::Report;
+use script_text::Script;
+use soak::{Histogram, images_used, seen_of};
+use std::alloc::AllocError;
+use std::fmt::Write;
+
+/// What is counted of the runs of a soak.
+#[derive(Drop)]
+pub struct Soaked {
+    pub histogram: Histogram,
+    /// How often ranks crashed in all runs, up to 2^64 - 1.
+    pub crashes: u64,
+    /// How many images ranks took that their scripts asked for.
+    pub images: u64,
+    /// The runs without a report, each with its script.
+    pub failed: String<Heap>,
+    /// Whether each run has a report in which every rank halted.
+    pub all_halted: bool,
+}
+
+impl Soaked {
+    /// Of no runs.
+    pub fn new(alloc: Heap) -> Soaked
+        ensures none { result.histogram ≡ [] }
+        ensures crashes { result.crashes ≡ 0 }
+        ensures halted { result.all_halted ≡ true }
+    {
+        Soaked {
+            histogram: Histogram::new(alloc),
+            crashes: 0,
+            images: 0,
+            failed: String::new(alloc),
+            all_halted: true,
+        }
+    }
+
+    /// A run under this script has this report. An `Err` means out of memory.
+    pub fn note(&mut self, alloc: Heap, report: &Report, script: &Script) -> Result<(), AllocError>
+        ensures counted { OnOk result (Notes self.old.histogram (seen_of report.now.outcome) (nat_lt 0 report.now.crashes) self.new.histogram) }
+        ensures crashes { OnOk result (self.new.crashes ≡ up_to (self.old.crashes + report.now.crashes)) }
+        ensures halted { OnOk result (IsTrue self.new.all_halted ↔ (IsTrue self.old.all_halted × AreHalted report.now.outcome)) }
+    {
+        let images = images_used(alloc, script, report.unused.as_slice())?;
+        let seen = seen_of(alloc, &report.outcome)?;
+        self.histogram.note(seen, report.crashes > 0)?;
+        self.crashes = self.crashes.saturating_add(report.crashes);
+        self.images = self.images.saturating_add(images);
+        self.all_halted = self.all_halted && all_halted(&report.outcome);
+        Ok(())
+    }
+
+    /// The run of this number, under a script of this text, has no report. An
+    /// `Err` means out of memory.
+    pub fn fail(&mut self, number: u32, why: Refusal<'_>, script: &str) -> Result<(), AllocError>
+        ensures counted { self.new.histogram ≡ self.old.histogram }
+        ensures halted { self.new.all_halted ≡ false }
+    {
+        self.all_halted = false;
+        writeln!(self.failed, "run {number} has no report: {why}")?;
+        self.failed.push_str(script)?;
+        Ok(())
+    }
+}

@@ -1,0 +1,4 @@
+pub mod CountLaws
+pub mod LineLaws
+pub mod NoteLaws
+pub mod SeenLaws

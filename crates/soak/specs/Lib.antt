@@ -1,0 +1,4 @@
+pub mod Histogram
+pub mod Lines
+pub mod Seen
+pub mod Text

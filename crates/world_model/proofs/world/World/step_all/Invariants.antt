@@ -1,0 +1,5 @@
+use Rattle.world_model.specs.Finished.{Played, below}
+use Rattle.world_model.proofs.world.World.step_all.Given as goal
+
+abbrev pub invariant-loop-rank : goal.invariant-loop-rank
+invariant-loop-rank l = Played (below l.rank) l.fn.self l.fn.events.items l.self l.events.items

@@ -1,0 +1,167 @@
+-- A world that is played to the end: which events it was led through, and what it has come to.
+use Rattle.std.specs.Prelude.{◌≡◌, ℕ, zero, suc, ◌+◌, ◌<◌, ◌≤◌, ◌⊎◌, ◌==◌, if◌then◌else◌, Bool, true, false, List, [], ◌∷◌, ◌++◌, length, Some, slice_get}
+use Rattle.matching.specs.Inbox.{accepted_from}
+use Rattle.matching.specs.PacketValue as packet
+use Rattle.rank_node.specs.declared.frame.Frame.{Frame}
+use Rattle.rank_node.specs.declared.frame.Frame.TheVariants as frame
+use Rattle.rank_node.specs.declared.fault.NodeFault.{NodeFault}
+use Rattle.rank_node.specs.declared.turn.Turn.{Turn}
+use Rattle.rank_node.specs.declared.turn.Turn.TheVariants as turn
+use Rattle.rank_node.specs.Steps.{turn_of, refusal_of}
+use Rattle.crash_free.specs.Runs.{Passed, history, sent}
+use Rattle.world_model.specs.declared.event.WorldEvent.{WorldEvent}
+use Rattle.world_model.specs.declared.event.WorldEvent.TheVariants.{Step, Put, Arrive, Store, Ack, Image, Crash, Restart, Release}
+use Rattle.world_model.specs.declared.finish.FinishEnd.{FinishEnd}
+use Rattle.world_model.specs.declared.finish.FinishEnd.TheVariants as finish
+use Rattle.world_model.specs.declared.reply.Reply.{Reply}
+use Rattle.world_model.specs.declared.reply.Reply.TheVariants as reply
+use Rattle.world_model.specs.World.{Live, WorldValue, size, IsLive}
+use Rattle.world_model.specs.Memory.{Fetched}
+use Rattle.world_model.specs.ToTheEnd.{Leads, HasEnded}
+
+-- ---- ranks at rest
+
+-- no step of the machine comes next, nor one that the gate holds up: the program has ended, or
+-- stands at a receive or a blocking probe that nothing in the inbox answers
+abbrev pub is_idle : Turn → Bool
+is_idle turn.Moved = false
+is_idle turn.Blocked = true
+is_idle turn.Held = false
+is_idle turn.Ended = true
+
+-- A rank is quiet: it is live, has nothing left to replay, nothing waits at its gate, it has made
+-- exactly its acts of the run, and it is idle.
+pub record IsQuiet (w : WorldValue) (r : ℕ) : Type 0 where
+  pub rank : Live
+  pub live : IsLive w r rank
+  pub left : rank.left ≡ []
+  pub none : rank.rank.pending ≡ []
+  pub made : rank.rank.clock ≡ length (history w.run r)
+  pub idle : is_idle (turn_of rank.rank) ≡ true
+
+-- a rank has accepted all that another sent to it in the run
+abbrev pub HasHeard : WorldValue → ℕ → ℕ → Type 0
+HasHeard w s d = (v : Live) → IsLive w d v → length (sent w.run s d) ≤ accepted_from v.rank.inbox s
+
+-- a rank is at rest: it is quiet, and has accepted all that was sent to it in the run
+abbrev pub RestsAt : WorldValue → ℕ → Type 0
+RestsAt w r = IsQuiet w r × ((s : ℕ) → s < size w → HasHeard w s r)
+
+-- the frame is the packet of this number
+abbrev pub IsPacket : Frame → ℕ → Type 0
+IsPacket x number = (p : packet.PacketValue) × (x ≡ frame.Data p) × (p.number ≡ number)
+
+-- the frame of this index is the packet of this number
+abbrev pub IsPacketAt : List Frame → ℕ → ℕ → Type 0
+IsPacketAt frames i number = (x : Frame) × (slice_get frames i ≡ Some x) × IsPacket x number
+
+-- A rank replays nothing, and its next act is refused by this name: its clock or its events are
+-- used up.
+pub record IsSpent (w : WorldValue) (r : ℕ) (fault : NodeFault) : Type 0 where
+  pub rank : Live
+  pub live : IsLive w r rank
+  pub left : rank.left ≡ []
+  pub refused : refusal_of rank.rank ≡ Some fault
+
+-- ---- the events
+
+-- an event with this reply leaves the world as it was: it is refused, or a step that is blocked or
+-- held or comes after the end, or a packet that was accepted before or comes over a gap
+abbrev pub leaves_all : Reply → Bool
+leaves_all reply.Refused = true
+leaves_all reply.Moved = false
+leaves_all reply.Blocked = true
+leaves_all reply.Held = true
+leaves_all reply.Ended = true
+leaves_all (reply.PutData index number) = false
+leaves_all (reply.PutAsk index from) = false
+leaves_all (reply.PutKept index upto) = false
+leaves_all reply.Accepted = false
+leaves_all reply.Repeated = true
+leaves_all reply.Gap = true
+leaves_all reply.Noted = false
+leaves_all (reply.Stored count) = false
+leaves_all reply.Acked = false
+leaves_all reply.Imaged = false
+leaves_all reply.Crashed = false
+leaves_all (reply.Restarted count) = false
+leaves_all (reply.Released clock) = false
+
+-- one, if the event is a step of this rank
+abbrev pub step_of : ℕ → WorldEvent → ℕ
+step_of r (Step q) = if q == r then 1 else 0
+step_of r (Put s d) = 0
+step_of r (Arrive s d i) = 0
+step_of r (Store q) = 0
+step_of r (Ack q) = 0
+step_of r (Image q) = 0
+step_of r (Crash q) = 0
+step_of r (Restart q) = 0
+step_of r (Release q) = 0
+
+-- how many steps of a rank are among these events
+abbrev pub steps_in : ℕ → List WorldEvent → ℕ
+steps_in r [] = 0
+steps_in r (event ∷ events) = step_of r event + steps_in r events
+
+-- where memory was refused: these events led to a world that is left as it was, except that the
+-- fetch of one restart more may stay in the logger's history
+abbrev pub LeadsAlmost : WorldValue → List WorldEvent → WorldValue → Type 0
+LeadsAlmost w events w' = (mid : WorldValue) × Leads w events mid × ((w' ≡ mid) ⊎ ((r : ℕ) × Fetched mid r w'))
+
+-- these events, none of which is a crash, happened one after another, and led from one world to
+-- another; for want of memory one restart more may have left its fetch in the logger's history
+abbrev pub LeadsTo : WorldValue → List WorldEvent → FinishEnd → WorldValue → Type 0
+LeadsTo w events finish.Ended w' = Leads w events w'
+LeadsTo w events (finish.OutOfRounds r) w' = Leads w events w'
+LeadsTo w events (finish.Spent r fault) w' = Leads w events w'
+LeadsTo w events (finish.Unsettled r) w' = Leads w events w'
+LeadsTo w events finish.OutOfMemory w' = LeadsAlmost w events w'
+
+-- the world is of the same program and as many ranks, and its run goes on from the other's
+pub record IsAfter (w w' : WorldValue) : Type 0 where
+  pub program : w'.program ≡ w.program
+  pub as_many : size w' ≡ size w
+  pub late : List Passed
+  pub later : w'.run ≡ late ++ w.run
+
+-- what the answer says of the world, after so many rounds at most and these events: it has ended;
+-- each round had an event; or the next act of a rank is refused by name
+abbrev pub ComesTo : WorldValue → ℕ → List WorldEvent → FinishEnd → Type 0
+ComesTo w rounds events finish.Ended = HasEnded w
+ComesTo w rounds events (finish.OutOfRounds r) = rounds ≤ length events
+ComesTo w rounds events (finish.Spent r fault) = IsSpent w r fault
+ComesTo w rounds events (finish.Unsettled r) = Unit {0}
+ComesTo w rounds events finish.OutOfMemory = Unit {0}
+
+-- ---- on the way, for the calls that play
+
+-- the longer list has so many more steps of each rank at most
+abbrev pub HasMoreSteps : (ℕ → ℕ) → List WorldEvent → List WorldEvent → Type 0
+HasMoreSteps more events events' = (r : ℕ) → steps_in r events' ≤ steps_in r events + more r
+
+-- The world was played on: there are as many ranks, and what led to the one world leads to the
+-- other by the longer list, which has so many more steps of each rank at most.
+pub record Played (more : ℕ → ℕ) (w : WorldValue) (events : List WorldEvent) (w' : WorldValue) (events' : List WorldEvent) : Type 0 where
+  pub same_size : size w' ≡ size w
+  pub leads : (start : WorldValue) → Leads start events w → Leads start events' w'
+  pub steps : HasMoreSteps more events events'
+  pub longer : length events ≤ length events'
+
+-- The same where memory was refused.
+pub record PlayedAlmost (more : ℕ → ℕ) (w : WorldValue) (events : List WorldEvent) (w' : WorldValue) (events' : List WorldEvent) : Type 0 where
+  pub leads : (start : WorldValue) → Leads start events w → LeadsAlmost start events' w'
+  pub steps : HasMoreSteps more events events'
+
+-- one for each rank below k
+abbrev pub below : ℕ → ℕ → ℕ
+below zero r = 0
+below (suc k) r = (if k == r then 1 else 0) + below k r
+
+-- so many for each rank
+abbrev pub for_all : ℕ → ℕ → ℕ
+for_all k r = k
+
+-- none
+abbrev pub no_steps : ℕ → ℕ
+no_steps r = 0
