@@ -17,6 +17,7 @@ mod outlook;
 mod pending;
 mod phase;
 mod probing;
+mod reading;
 mod releasing;
 mod replay;
 mod replaying;

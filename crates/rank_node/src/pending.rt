@@ -168,6 +168,20 @@ impl Pending {
         }
     }
 
+    /// What waits behind so many others, the oldest first.
+    pub fn get(&self, index: usize) -> Option<Waiting>
+        ensures { result ≡ slice_get self.now.waiting index }
+    {
+        self.waiting.get(index).copied()
+    }
+
+    /// So many of the first are events that are stored.
+    pub fn stored(&self) -> usize
+        ensures { result ≡ self.now.stored }
+    {
+        self.stored
+    }
+
     /// The oldest event that isn't stored, if no effect stands before it.
     pub fn oldest_unstored(&self) -> Option<Event>
         ensures { result ≡ option_and_then event_in (slice_get self.now.waiting self.now.stored) }

@@ -61,17 +61,17 @@ none_chosen true rank later none = absurd cc
 none_chosen false rank later none = (refl, none)
 
 -- if no rank lacks a cause, each has one exactly if it is unfinished
-are_caused : (steps : ℕ) (rows : List (List EventValue)) (rank : ℕ) (accounts : List Account) → uncaused_from steps rows rank accounts ≡ None
-    → HaveCauses steps rows rank (map (λ a. a.end) accounts) (causes_from steps rows rank accounts)
-are_caused steps rows rank [] none = tt
-are_caused steps rows rank (a ∷ accounts) none =
-    let both = none_chosen (lacks a.end (cause_of steps (events_at rows rank) a)) rank (uncaused_from steps rows (rank + 1) accounts) none in (
+are_caused : (steps rank : ℕ) (rows : List (List EventValue)) (accounts : List Account) → uncaused_from steps rank rows accounts ≡ None
+    → HaveCauses steps rank rows (map (λ a. a.end) accounts) (causes_from steps rank rows accounts)
+are_caused steps rank rows [] none = tt
+are_caused steps rank rows (a ∷ accounts) none =
+    let both = none_chosen (lacks a.end (cause_of steps (events_at rows rank) a)) rank (uncaused_from steps (rank + 1) rows accounts) none in (
       has_cause steps (events_at rows rank) a.end (cause_met steps (events_at rows rank) a) (met_cause steps (events_at rows rank) a) both.0,
-      are_caused steps rows (rank + 1) accounts both.1,
+      are_caused steps (rank + 1) rows accounts both.1,
     )
 
 -- so the ranks of a report have causes that were made of what each came to
-pub caused_report : (steps : ℕ) (rows : List (List EventValue)) (accounts : List Account) (report : Report) → uncaused_from steps rows 0 accounts ≡ None
-    → report.outcome.rows ≡ rows → report.outcome.ends ≡ map (λ a. a.end) accounts → report.causes.items ≡ causes_from steps rows 0 accounts
+pub caused_report : (steps : ℕ) (rows : List (List EventValue)) (accounts : List Account) (report : Report) → uncaused_from steps 0 rows accounts ≡ None
+    → report.outcome.rows ≡ rows → report.outcome.ends ≡ map (λ a. a.end) accounts → report.causes.items ≡ causes_from steps 0 rows accounts
     → AreCaused steps report
-caused_report steps rows accounts report none same ends causes = rw (same, ends, causes) (are_caused steps rows 0 accounts none)
+caused_report steps rows accounts report none same ends causes = rw (same, ends, causes) (are_caused steps 0 rows accounts none)

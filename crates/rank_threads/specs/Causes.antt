@@ -1,5 +1,5 @@
--- Why a rank is unfinished: a limit stopped it, which it had met, or it still replayed when all ranks
--- had come to rest.
+-- Why a rank is unfinished: a limit stopped it, which it had met, or it still replayed when it left,
+-- as it had found all ranks at rest.
 use Rattle.std.specs.Prelude.{◌≡◌, ℕ, ◌+◌, ◌≤◌, nat_le, Bool, true, false, ◌&&◌, if◌then◌else◌, List, [], ◌∷◌, Option, Some, None, length, slice_index_or}
 use Rattle.audit.specs.declared.outcome.End.{End}
 use Rattle.audit.specs.declared.outcome.End.TheVariants as end
@@ -15,7 +15,7 @@ abbrev pub events_at : List (List EventValue) → ℕ → ℕ
 events_at rows rank = length (slice_index_or rows rank [])
 
 -- A rank whose row has so many events met the limit, of so many steps, of the greatest clock or of
--- a row; or it replayed.
+-- a row. Of a replay nothing is asked here: `cause_of` says when it is the cause.
 abbrev pub IsMet : ℕ → ℕ → Cause → Type 0
 IsMet steps events (cause.Steps made) = steps ≤ made
 IsMet steps events (cause.Clock clock) = greatest_clock ≤ clock
@@ -30,15 +30,15 @@ HasCause steps events end.Stalled c = c ≡ None
 HasCause steps events end.Unfinished c = (met : Cause) × (c ≡ Some met) × IsMet steps events met
 
 -- so it is with each rank from this one on, of these rows
-abbrev pub HaveCauses : ℕ → List (List EventValue) → ℕ → List End → List (Option Cause) → Type 0
-HaveCauses steps rows rank [] [] = Unit {0}
-HaveCauses steps rows rank [] (c ∷ cs) = ⊥
-HaveCauses steps rows rank (e ∷ es) [] = ⊥
-HaveCauses steps rows rank (e ∷ es) (c ∷ cs) = HasCause steps (events_at rows rank) e c × HaveCauses steps rows (rank + 1) es cs
+abbrev pub HaveCauses : ℕ → ℕ → List (List EventValue) → List End → List (Option Cause) → Type 0
+HaveCauses steps rank rows [] [] = Unit {0}
+HaveCauses steps rank rows [] (c ∷ cs) = ⊥
+HaveCauses steps rank rows (e ∷ es) [] = ⊥
+HaveCauses steps rank rows (e ∷ es) (c ∷ cs) = HasCause steps (events_at rows rank) e c × HaveCauses steps (rank + 1) rows es cs
 
 -- Exactly the unfinished ranks of a report have a cause, and each cause was met.
 abbrev pub AreCaused : ℕ → Report → Type 0
-AreCaused steps report = HaveCauses steps report.outcome.rows 0 report.outcome.ends report.causes.items
+AreCaused steps report = HaveCauses steps 0 report.outcome.rows report.outcome.ends report.causes.items
 
 -- the limit that a rank met which had so many events when it left: steps first, then clock, then
 -- events
@@ -65,9 +65,9 @@ abbrev pub cause_of : ℕ → ℕ → Account → Option Cause
 cause_of steps events a = if_unfinished a.end (cause_met steps events a)
 
 -- why each rank from this one on is unfinished
-abbrev pub causes_from : ℕ → List (List EventValue) → ℕ → List Account → List (Option Cause)
-causes_from steps rows rank [] = []
-causes_from steps rows rank (a ∷ accounts) = cause_of steps (events_at rows rank) a ∷ causes_from steps rows (rank + 1) accounts
+abbrev pub causes_from : ℕ → ℕ → List (List EventValue) → List Account → List (Option Cause)
+causes_from steps rank rows [] = []
+causes_from steps rank rows (a ∷ accounts) = cause_of steps (events_at rows rank) a ∷ causes_from steps (rank + 1) rows accounts
 
 -- a rank that ended so lacks a cause
 abbrev pub lacks : End → Option Cause → Bool
@@ -78,7 +78,7 @@ lacks end.Unfinished None = true
 lacks end.Unfinished (Some c) = false
 
 -- the lowest rank from this one on that lacks a cause
-abbrev pub uncaused_from : ℕ → List (List EventValue) → ℕ → List Account → Option ℕ
-uncaused_from steps rows rank [] = None
-uncaused_from steps rows rank (a ∷ accounts) =
-    if lacks a.end (cause_of steps (events_at rows rank) a) then Some rank else uncaused_from steps rows (rank + 1) accounts
+abbrev pub uncaused_from : ℕ → ℕ → List (List EventValue) → List Account → Option ℕ
+uncaused_from steps rank rows [] = None
+uncaused_from steps rank rows (a ∷ accounts) =
+    if lacks a.end (cause_of steps (events_at rows rank) a) then Some rank else uncaused_from steps (rank + 1) rows accounts

@@ -1,5 +1,5 @@
-//! Why a rank is unfinished: a limit stopped it, or it still replayed when all
-//! ranks had come to rest.
+//! Why a rank is unfinished: a limit stopped it, or it still replayed when it left,
+//! as it had found all ranks at rest.
 ghost use Rattle.std.specs.Prelude.{◌≡◌, ◌≤◌, IfOk, length};
 ghost use Rattle.metered.specs.Limits.{most_ranks};
 ghost use Rattle.rank_threads.specs.Causes.{cause_met, cause_of, causes_from, events_at, lacks, limit_met, uncaused_from};
@@ -20,14 +20,14 @@ pub enum Cause {
     Clock(u32),
     /// Its row has as many events as a row may have.
     Events,
-    /// All ranks had come to rest while it replayed, at this clock.
+    /// It found all ranks at rest, and left, while it replayed, at this clock.
     Replay(u32),
 }
 
 /// The lowest rank that is unfinished without a cause, where `steps` are allowed.
 pub fn uncaused(steps: u32, accounts: &[Account], ledger: &Ledger) -> Option<u8>
     requires { length accounts.now ≤ most_ranks }
-    ensures { result ≡ uncaused_from steps ledger.now.rows 0 accounts.now }
+    ensures { result ≡ uncaused_from steps 0 ledger.now.rows accounts.now }
 {
     let mut rank = 0u8;
     let mut rest = accounts;
@@ -50,7 +50,7 @@ pub fn causes_of(
     ledger: &Ledger,
 ) -> Result<Vec<Option<Cause>, Heap>, AllocError>
     requires { length accounts.now ≤ most_ranks }
-    ensures { IfOk result (λ causes. causes.items ≡ causes_from steps ledger.now.rows 0 accounts.now) }
+    ensures { IfOk result (λ causes. causes.items ≡ causes_from steps 0 ledger.now.rows accounts.now) }
 {
     let mut causes = Vec::new(alloc);
     let mut rank = 0u8;

@@ -128,7 +128,7 @@ fn reported(
 ) -> Result<Report, AllocError>
     requires few { length played.accounts.items ≤ most_ranks }
     requires well { fault_of played.accounts.items ≡ None }
-    ensures causes { IfOk result (λ report. report.causes.items ≡ causes_from limits.steps ledger.rows 0 played.accounts.items) }
+    ensures causes { IfOk result (λ report. report.causes.items ≡ causes_from limits.steps 0 ledger.rows played.accounts.items) }
     ensures rows { IfOk result (λ report. report.outcome.rows ≡ ledger.rows) }
     ensures lines { IfOk result (λ report. report.outcome.lines ≡ played.console) }
     ensures ends { IfOk result (λ report. report.outcome.ends ≡ map (λ a. a.end) played.accounts.items) }

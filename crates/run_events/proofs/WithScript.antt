@@ -29,6 +29,7 @@ no_items : {X : Type 0} (xs : List X) → length xs ≡ 0 → xs ≡ []
 no_items [] none = refl
 no_items (x ∷ xs) none = absurd cc
 
+-- false isn't true
 no_true : false ≡ true → ⊥
 no_true e = cc
 

@@ -1,4 +1,6 @@
 //! Runs as events: given to `world`, these print the lines of the run, and none of them is refused.
+mod kills;
+
 use crate::scenes::{Answer, answer_of, expect_answer};
 use std::process::Abort;
 use std::sync::Wait;
@@ -7,17 +9,17 @@ use std::thread::Threads;
 
 /// A run that is asked for as events: the words that ask for it, the number of ranks, the texts of
 /// the program and of the script, the exit status, and the lines that the run prints.
-struct Played {
-    words: &'static str,
-    ranks: u8,
-    program: &'static str,
-    script: &'static str,
-    status: u8,
-    lines: &'static str,
+pub struct Played {
+    pub words: &'static str,
+    pub ranks: u8,
+    pub program: &'static str,
+    pub script: &'static str,
+    pub status: u8,
+    pub lines: &'static str,
 }
 
 // The events of each of these runs are given to a world, which prints the run's lines.
-fn expect_plays<R: Threads + Wait + Sync + Copy + Send + AllocGlobal + Abort>(
+pub fn expect_plays<R: Threads + Wait + Sync + Copy + Send + AllocGlobal + Abort>(
     rt: &R,
     rows: &[Played],
 ) -> Result<(), Fail> {
@@ -86,15 +88,15 @@ fn lines_in<R: AllocGlobal + Abort>(rt: &R, replies: &str) -> Result<String, Fai
 }
 
 /// Rank 0 sends, rank 1 receives and prints.
-const ANSWER: &str =
+pub const ANSWER: &str =
     "var x\nif rank == 0\nsend 1, 7, 41\nelse\nrecv any, any, x\nprint x + 1\nend\n";
 
 /// Rank 1 takes the second message first.
-const TAGS: &str =
+pub const TAGS: &str =
     "var x\nif rank == 0\nsend 1, 1, 10\nsend 1, 2, 20\nelse\nrecv 0, 2, x\nprint x\nrecv any, any, x\nprint x\nend\n";
 
 /// A miss, a line, a message to itself past another tag's miss, and a miss again.
-const PROBES: &str =
+pub const PROBES: &str =
     "var f\nvar x\niprobe any, any, f\nprint f\nsend 0, 1, 5\niprobe 0, 2, f\nrecv 0, 1, x\nprint x + f\niprobe any, any, f\niprobe any, any, f\nprint f\n";
 
 /// Runs on threads.
@@ -164,142 +166,6 @@ fn runs_are_played(rt: HostRuntime) -> Result<(), Fail> {
 }
 
 /// Runs on threads with kills and images.
-const KILLED: [Played; 6] = [
-    Played {
-        words: "trace --events --ranks 2 --script s p",
-        ranks: 2,
-        program: ANSWER,
-        script: "kill 1 at 1\nkill 0 at 1\n",
-        status: 0,
-        lines: "1> 42\n",
-    },
-    // A line that isn't used is no event.
-    Played {
-        words: "trace --events --ranks 2 --script s p",
-        ranks: 2,
-        program: ANSWER,
-        script: "kill 1 at 3\nkill 1 at 1\nkill 0 at 9\n",
-        status: 0,
-        lines: "1> 42\n",
-    },
-    // The second kill of rank 1 comes while it replays.
-    Played {
-        words: "trace --events --ranks 2 --script s p",
-        ranks: 2,
-        program: TAGS,
-        script: "kill 1 at 3\nkill 1 at 1\nkill 0 at 2\nkill 0 at 9\n",
-        status: 0,
-        lines: "1> 20\n1> 10\n",
-    },
-    // The kill at 9 takes the misses 7 and 8 with it, which the image at 7 then stores.
-    Played {
-        words: "trace --events --ranks 1 --script s p",
-        ranks: 1,
-        program: PROBES,
-        script: "image 0 at 3\nkill 0 at 5\nkill 0 at 9\nimage 0 at 7\n",
-        status: 0,
-        lines: "0> 0\n0> 5\n0> 0\n",
-    },
-    // Of these the image comes at the end of the replay, and the kill of its clock stays next.
-    Played {
-        words: "trace --events --ranks 2 --script s p",
-        ranks: 2,
-        program: TAGS,
-        script: "kill 1 at 4\nimage 1 at 3\nkill 1 at 3\n",
-        status: 0,
-        lines: "1> 20\n1> 10\n",
-    },
-    Played {
-        words: "trace --events --ranks 3 --script s p",
-        ranks: 3,
-        program: "var x\nreduce sum, 2, rank + 1, x\nbcast 2, x\nbarrier\nprint x\n",
-        script: "kill 2 at 2\nkill 0 at 1\nimage 1 at 2\nkill 1 at 4\n",
-        status: 0,
-        lines: "0> 6\n1> 6\n2> 6\n",
-    },
-];
-
-#[test]
-fn kills_are_played(rt: HostRuntime) -> Result<(), Fail> {
-    expect_plays(&rt, &KILLED)
-}
-
-/// Rank 1 crashes with what it received, starts again, asks each rank, and receives it anew.
-const RECEIVED: &str = "\
-step 0
-step 0
-step 0
-put 0 1
-arrive 0 1 0
-step 1
-step 1
-step 1
-crash 1
-restart 1
-put 1 0
-arrive 1 0 0
-put 1 1
-arrive 1 1 0
-put 0 1
-arrive 0 1 1
-step 1
-step 1
-step 1
-store 1
-ack 1
-step 1
-step 0
-step 0
-step 1
-step 1
-";
-
-/// Rank 1 takes an image behind its first reception, crashes at its line, and begins at the image.
-const IMAGED: &str = "\
-step 0
-step 0
-step 0
-step 0
-put 0 1
-arrive 0 1 0
-put 0 1
-arrive 0 1 1
-step 1
-step 1
-step 1
-store 1
-ack 1
-image 1
-put 1 0
-arrive 1 0 0
-step 1
-crash 1
-restart 1
-put 1 0
-arrive 1 0 1
-put 1 1
-arrive 1 1 0
-step 1
-step 1
-store 1
-ack 1
-step 1
-step 0
-step 0
-step 1
-step 1
-";
-
-#[test]
-fn events_with_crashes(rt: HostRuntime) -> Result<(), Fail> {
-    let words = "trace --events --ranks 2 --script s p";
-    let received = [("p", ANSWER), ("s", "kill 1 at 1\n")];
-    expect_answer(&rt, words, &received, (0, RECEIVED, ""))?;
-    let imaged = [("p", TAGS), ("s", "image 1 at 1\nkill 1 at 2\n")];
-    expect_answer(&rt, words, &imaged, (0, IMAGED, ""))
-}
-
-/// Rank 0 takes the first message that comes.
 const FIRST: &str =
     "var x\nif rank == 0\nrecv any, any, x\nprint source\nelse\nsend 0, 0, 0\nend\n";
 

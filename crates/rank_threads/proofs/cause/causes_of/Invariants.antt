@@ -5,7 +5,7 @@ use Rattle.rank_threads.proofs.cause.causes_of.Given as goal
 -- those so far, and then those of the ranks that are left
 abbrev pub invariant-loop-rest : goal.invariant-loop-rest
 invariant-loop-rest l = record {
-  causes : l.causes.items ++ causes_from l.steps l.ledger.rows l.rank l.rest ≡ causes_from l.steps l.ledger.rows 0 l.accounts;
+  causes : l.causes.items ++ causes_from l.steps l.rank l.ledger.rows l.rest ≡ causes_from l.steps 0 l.ledger.rows l.accounts;
   all : l.rank + length l.rest ≡ length l.accounts;
 }
 

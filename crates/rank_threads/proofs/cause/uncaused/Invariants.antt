@@ -5,7 +5,7 @@ use Rattle.rank_threads.proofs.cause.uncaused.Given as goal
 -- the ranks so far have their causes
 abbrev pub invariant-loop-rest : goal.invariant-loop-rest
 invariant-loop-rest l = record {
-  lowest : uncaused_from l.steps l.ledger.rows l.rank l.rest ≡ uncaused_from l.steps l.ledger.rows 0 l.accounts;
+  lowest : uncaused_from l.steps l.rank l.ledger.rows l.rest ≡ uncaused_from l.steps 0 l.ledger.rows l.accounts;
   all : l.rank + length l.rest ≡ length l.accounts;
 }
 

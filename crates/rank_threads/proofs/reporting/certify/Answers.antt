@@ -14,6 +14,5 @@ returns-clause-history c =
 pub returns-clause-lives : goal.returns-clause-lives
 returns-clause-lives c =
     let none : fault_of c.args.played.accounts.items ≡ None = search rules in
-    of_lives c.args.program.now c.args.ranks c.args._script.now c.args.limits.steps c.args.logger c.args.desks.items c.args.played _ c.requires.played none
-    c.in_ok-report.ensures.ends (rw (c.in_ok-report.ensures.rows) c.in_ok-report.ensures.causes) c.in_ok-report.ensures.crashes
-    c.in_ok-report.ensures.unused
+    of_lives c.args.program.now c.args.ranks c.args._script.now c.args.limits.steps c.args.logger c.args.desks.items _ c.args.played _ c.requires.played none
+    c.in_ok-report.ensures.ends c.in_ok-report.ensures.rows c.in_ok-report.ensures.causes c.in_ok-report.ensures.crashes c.in_ok-report.ensures.unused
