@@ -6,12 +6,12 @@ use Rattle.rank_threads.proofs.node.steps.step_on.Goals as goal
 -- it answers as the rank that runs does
 pub returns-clause-answer : goal.returns-clause-answer
 returns-clause-answer c =
-    run_answers (refusal_of c.args.rank.now) (turn_of c.args.rank.now) c.step_wanted.result c.step_wanted.ensures.turn c.step_wanted.ensures.refusal
-    c.step_wanted.ensures.refused
+    run_answers (refusal_of c.args.rank.now) (turn_of c.args.rank.now) c.step_wanted.result c.step_wanted.ensures.step.turn c.step_wanted.ensures.step.refusal
+    c.step_wanted.ensures.step.refused
 
 -- the clock goes by what is answered
 pub returns-clause-clock : goal.returns-clause-clock
-returns-clause-clock c = run_clocks c.args.rank.now c.step_wanted.new.self c.step_wanted.result c.step_wanted.ensures.turn c.step_wanted.ensures.ok
+returns-clause-clock c = run_clocks c.args.rank.now c.step_wanted.new.self c.step_wanted.result c.step_wanted.ensures.step.turn c.step_wanted.ensures.step.ok
 
 -- it shows nothing but a print
 pub returns-clause-quiet : goal.returns-clause-quiet
