@@ -22,14 +22,14 @@ returns-in_default-clause-memory c =
     (replay_refused v (Err c.in_default.field-0)
     (subst (λ z. IfLive z (λ (u : Live). u.left ≢ [])) (sym is) c.requires.replays)
     (subst (λ z. IfLive z IsFitting) (sym is) c.requires.fits)
-    c.in_default.ensures.refused c.in_default.ensures.memory)
+    c.in_default.ensures.step.refused c.in_default.ensures.step.memory)
 
 -- src/seat/stepping.rt
 pub invariant_of-self-2 : goal.invariant_of-self-2
 invariant_of-self-2 c =
     let rank = c.in-Some-Replaying in
     replayed_then c.self.inside.program.now c.self.inside.rank c.self.inside.size c.self.inside.occupant c.put.new.occupant
-    rank.replaying c.step-step.new.self c.self.invariant (rank.is ∙ ap Some rank.field-0-is) c.step-step.ensures.stable c.in-Ok.ensures.machine
+    rank.replaying c.step-step.new.self c.self.invariant (rank.is ∙ ap Some rank.field-0-is) c.step-step.ensures.step.stable c.in-Ok.ensures.step.machine
     (c.put.ensures ∙ ap Some (c.settled-settled.ensures.settled ∙ ap settled_in (sym (same_Some _ _ c.take.ensures.rank))))
 
 -- src/seat/stepping.rt
@@ -45,4 +45,4 @@ returns-clause-ok c =
     subst (λ z. IfLive z (λ v. IsReplayed v c.in-Ok.turn (option_and_then live_of c.put.new.occupant))) is
     (subst (λ y. IsReplayed (record { rank = rank.replaying.node; left = rank.replaying.left }) c.in-Ok.turn y)
     (sym (ap (option_and_then live_of) placed ∙ settled_live (Replaying c.step-step.new.self)))
-    (replayed_is rank.replaying c.step-step.new.self c.in-Ok.turn kept.left c.in-Ok.ensures.turn c.in-Ok.ensures.ok c.in-Ok.ensures.machine))
+    (replayed_is rank.replaying c.step-step.new.self c.in-Ok.turn kept.left c.in-Ok.ensures.step.turn c.in-Ok.ensures.step.ok c.in-Ok.ensures.step.machine))
