@@ -8,7 +8,7 @@ use Rattle.final_runs.specs.Maximal.{IsPossible, RankOutcome}
 use Rattle.rank_language.specs.Correct.{IsProgramOf}
 use Rattle.rank_language.specs.Program.{ProgramValue}
 use Rattle.runner.specs.Events.{PlaysOutcome}
-use Rattle.runner.specs.OutcomesText.{IsExploredText, IsSummary}
+use Rattle.runner.specs.OutcomesText.{IsMarkedSummary, IsMarkedText}
 use Rattle.runner.specs.Searches.{HasSearchStatus, IsExploreAnswer, IsFoundBy, IsPrinted, IsSearchAnswer}
 
 -- what a search found within the job's limits
@@ -21,7 +21,7 @@ is_found_by program job found possible complete distinct few_runs =
 
 -- the text of what was found is printed where it is asked for
 pub text_printed : (program : ProgramValue) (job : ExploreJob) (found : ExploredValue) (out : List ℕ)
-    → job.form ≡ form.Text → IsExploredText found job.runs out → IsPrinted program job found out
+    → job.form ≡ form.Text → IsMarkedText program job.ranks found job.runs out → IsPrinted program job found out
 text_printed program job found out is text =
     record {
       text = λ _. text;
@@ -31,7 +31,7 @@ text_printed program job found out is text =
 
 -- so is the short one
 pub summary_printed : (program : ProgramValue) (job : ExploreJob) (found : ExploredValue) (out : List ℕ)
-    → job.form ≡ form.Summary → IsSummary found job.runs out → IsPrinted program job found out
+    → job.form ≡ form.Summary → IsMarkedSummary program job.ranks found job.runs out → IsPrinted program job found out
 summary_printed program job found out is text =
     record {
       text = λ other. (let e : form.Summary ≡ form.Text = sym is ∙ other in absurd cc);

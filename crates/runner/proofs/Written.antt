@@ -1,9 +1,11 @@
 -- How one outcome after another is written.
-use Rattle.std.proofs.Common.{◌≡◌, ℕ, ◌+◌, List, [], ◌++◌, Some, slice_get, subst, sym}
+use Rattle.std.proofs.Common.{◌≡◌, ℕ, ◌+◌, Bool, List, [], ◌++◌, Option, Some, slice_get, subst, sym}
 use Rattle.explore.specs.Explored.{ExploredValue}
+use Rattle.explore.specs.Shown.{AreMarked}
 use Rattle.final_runs.specs.Maximal.{RankOutcome}
+use Rattle.rank_language.specs.Program.{ProgramValue}
 use Rattle.runner.specs.Meanings.{meaning_text}
-use Rattle.runner.specs.OutcomesText.{AreWritten, IsSummary, one_text}
+use Rattle.runner.specs.OutcomesText.{AreWritten, IsExploredText, IsMarkedSummary, IsMarkedText, IsSummary, one_text}
 use Rattle.runner.specs.declared.outcomes.parting.Parted.{Parted}
 
 -- in an empty text none is written
@@ -18,5 +20,16 @@ one_more outcomes count before after outcome lines parted written there appended
     subst (AreWritten outcomes (count + 1)) (sym appended) (AreWritten.more outcome lines parted written there)
 
 -- behind some lines what the outcomes mean
-pub is_summary : (found : ExploredValue) (runs : ℕ) (races text : List ℕ) → text ≡ races ++ meaning_text found runs → IsSummary found runs text
-is_summary found runs races text whole = record { races = races; whole = whole }
+pub is_summary : (found : ExploredValue) (marks : List (Option Bool)) (runs : ℕ) (races text : List ℕ)
+    → text ≡ races ++ meaning_text found marks runs → IsSummary found marks runs text
+is_summary found marks runs races text whole = record { races = races; whole = whole }
+
+-- the outcomes, with their own marks
+pub is_marked : (program : ProgramValue) (ranks : ℕ) (found : ExploredValue) (marks : List (Option Bool)) (runs : ℕ) (text : List ℕ)
+    → AreMarked program ranks found.outcomes marks → IsExploredText found marks runs text → IsMarkedText program ranks found runs text
+is_marked program ranks found marks runs text marked printed = record { marks = marks; marked = marked; printed = printed }
+
+-- in short too
+pub is_marked_summary : (program : ProgramValue) (ranks : ℕ) (found : ExploredValue) (marks : List (Option Bool)) (runs : ℕ) (text : List ℕ)
+    → AreMarked program ranks found.outcomes marks → IsSummary found marks runs text → IsMarkedSummary program ranks found runs text
+is_marked_summary program ranks found marks runs text marked printed = record { marks = marks; marked = marked; printed = printed }

@@ -1,6 +1,6 @@
 -- The lines that say what the outcomes of a program mean (docs/FORMATS.md, "Standard output of
 -- `explore`").
-use Rattle.std.specs.Prelude.{◌==◌, ◌&&◌, ℕ, ◌+◌, Bool, true, false, if◌then◌else◌, length, List, [], ◌∷◌, ◌++◌, codes}
+use Rattle.std.specs.Prelude.{◌==◌, ◌&&◌, ℕ, ◌+◌, Bool, true, false, if◌then◌else◌, length, List, [], ◌∷◌, ◌++◌, Option, Some, None, codes}
 use Rattle.std.specs.Fmt.{decimal}
 use Rattle.audit.specs.declared.outcome.End.{End}
 use Rattle.audit.specs.declared.outcome.End.TheVariants as end
@@ -67,6 +67,19 @@ unhalted_text number [] = []
 unhalted_text number (outcome ∷ outcomes) = stalls_text number (ranks_of ending.Stalls 0 outcome)
     ++ faults_text number (ranks_of ending.Faults 0 outcome) ++ unhalted_text (number + 1) outcomes
 
+-- That the run that was found with the outcome of this number is one that no execution gives. Nothing
+-- is said where it isn't, nor where the run wasn't found again.
+abbrev pub mark_text : ℕ → Option Bool → List ℕ
+mark_text number None = []
+mark_text number (Some false) = []
+mark_text number (Some true) = codes "# outcome " ++ decimal number
+    ++ codes ": in the run that was found a probe misses a message that its rank was shown; no execution does\n"
+
+-- this of the outcomes from this number on
+abbrev pub marks_text : ℕ → List (Option Bool) → List ℕ
+marks_text number [] = []
+marks_text number (mark ∷ marks) = mark_text number mark ++ marks_text (number + 1) marks
+
 -- the line that says that there is one outcome, if it is certain
 abbrev pub only_text : ExploredValue → List ℕ
 only_text found = if found.complete && (length found.outcomes == 1)
@@ -96,6 +109,8 @@ abbrev pub count_text : ExploredValue → List ℕ
 count_text found = codes "outcomes " ++ decimal (length found.outcomes) ++ codes ", runs " ++ decimal found.runs
     ++ (if found.complete then codes ", complete" else codes ", stopped") ++ codes "\n"
 
--- what the outcomes mean that were found in no more than so many runs, and the last line
-abbrev pub meaning_text : ExploredValue → ℕ → List ℕ
-meaning_text found runs = only_text found ++ unhalted_text 1 found.outcomes ++ states_text found ++ limits_text found runs ++ count_text found
+-- what the outcomes mean, with these marks, that were found in no more than so many runs, and the
+-- last line
+abbrev pub meaning_text : ExploredValue → List (Option Bool) → ℕ → List ℕ
+meaning_text found marks runs =
+    only_text found ++ unhalted_text 1 found.outcomes ++ marks_text 1 marks ++ states_text found ++ limits_text found runs ++ count_text found

@@ -1,10 +1,12 @@
 -- The text of all outcomes of a program (docs/FORMATS.md, "Standard output of `explore`").
-use Rattle.std.specs.Prelude.{◌≡◌, ℕ, ℤ, ◌+◌, length, List, [], ◌∷◌, ◌++◌, All, Some, slice_get, codes}
+use Rattle.std.specs.Prelude.{◌≡◌, ℕ, ℤ, ◌+◌, Bool, length, List, [], ◌∷◌, ◌++◌, All, Option, Some, slice_get, codes}
 use Rattle.std.specs.Fmt.{decimal}
 use Rattle.audit.specs.declared.outcome.End.TheVariants as end
 use Rattle.events_text.specs.Output.{line_text}
 use Rattle.explore.specs.Explored.{ExploredValue}
+use Rattle.explore.specs.Shown.{AreMarked}
 use Rattle.final_runs.specs.Maximal.{RankOutcome}
+use Rattle.rank_language.specs.Program.{ProgramValue}
 use Rattle.runner.specs.Meanings.{meaning_text}
 use Rattle.runner.specs.Partings.{choices_text}
 use Rattle.core_runner.specs.ReportText.{end_text}
@@ -41,17 +43,29 @@ pub data AreWritten (outcomes : List (List RankOutcome)) : ℕ → List ℕ → 
       → AreWritten outcomes count text → slice_get outcomes count ≡ Some outcome
       → AreWritten outcomes (count + 1) (text ++ one_text (count + 1) outcome lines parted)
 
--- What is printed of what a search found, which looked at no more than so many runs: each outcome,
--- what that means, and the last line.
-pub record IsExploredText (found : ExploredValue) (runs : ℕ) (text : List ℕ) : Type 0 where
+-- What is printed of what a search found, with the marks of its outcomes, which looked at no more
+-- than so many runs: each outcome, what that means, and the last line.
+pub record IsExploredText (found : ExploredValue) (marks : List (Option Bool)) (runs : ℕ) (text : List ℕ) : Type 0 where
   pub outcomes : List ℕ
   pub each : AreWritten found.outcomes (length found.outcomes) outcomes
-  pub whole : text ≡ outcomes ++ meaning_text found runs
+  pub whole : text ≡ outcomes ++ meaning_text found marks runs
 
 -- what is printed of it in short: some lines, and behind them what the outcomes mean
-pub record IsSummary (found : ExploredValue) (runs : ℕ) (text : List ℕ) : Type 0 where
+pub record IsSummary (found : ExploredValue) (marks : List (Option Bool)) (runs : ℕ) (text : List ℕ) : Type 0 where
   pub races : List ℕ
-  pub whole : text ≡ races ++ meaning_text found runs
+  pub whole : text ≡ races ++ meaning_text found marks runs
+
+-- The outcomes of the program on so many ranks are printed with marks of their own.
+pub record IsMarkedText (program : ProgramValue) (ranks : ℕ) (found : ExploredValue) (runs : ℕ) (text : List ℕ) : Type 0 where
+  pub marks : List (Option Bool)
+  pub marked : AreMarked program ranks found.outcomes marks
+  pub printed : IsExploredText found marks runs text
+
+-- so they are in short
+pub record IsMarkedSummary (program : ProgramValue) (ranks : ℕ) (found : ExploredValue) (runs : ℕ) (text : List ℕ) : Type 0 where
+  pub marks : List (Option Bool)
+  pub marked : AreMarked program ranks found.outcomes marks
+  pub printed : IsSummary found marks runs text
 
 -- each rank halts in this outcome
 abbrev pub Halts : List RankOutcome → Type 0

@@ -8,7 +8,7 @@ use Rattle.explore.specs.Outcomes.{AreAll, AreDistinct, IsAmong}
 use Rattle.final_runs.specs.Maximal.{IsPossible, RankOutcome}
 use Rattle.rank_language.specs.Program.{ProgramValue}
 use Rattle.runner.specs.Events.{PlaysOutcome}
-use Rattle.runner.specs.OutcomesText.{AllHalt, IsExploredText, IsSummary}
+use Rattle.runner.specs.OutcomesText.{AllHalt, IsMarkedSummary, IsMarkedText}
 use Rattle.core_runner.specs.Reading.{IsProgramIn}
 
 -- What a search found: the program may have each outcome, and has no other if it is complete. None
@@ -28,8 +28,8 @@ pub record HasSearchStatus (found : ExploredValue) (status : ℕ) : Type 0 where
 -- Standard output has the text of what was found, or the short one, or a run of the outcome that the
 -- job names, as events. Nothing is said of JSON.
 pub record IsPrinted (program : ProgramValue) (job : ExploreJob) (found : ExploredValue) (out : List ℕ) : Type 0 where
-  pub text : job.form ≡ form.Text → IsExploredText found job.runs out
-  pub summary : job.form ≡ form.Summary → IsSummary found job.runs out
+  pub text : job.form ≡ form.Text → IsMarkedText program job.ranks found job.runs out
+  pub summary : job.form ≡ form.Summary → IsMarkedSummary program job.ranks found job.runs out
   pub events : (number : ℕ) → job.form ≡ form.Events number → PlaysOutcome program job.ranks found.outcomes number out
 
 -- What was found by a search of this program is printed, with its status.

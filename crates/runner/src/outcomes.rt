@@ -19,20 +19,21 @@ use metered::Heap;
 use std::alloc::AllocError;
 use std::fmt::Write;
 
-/// Each outcome with the choices that lead there, and what all of it means. The
-/// statement at position K of the program stands on line `lines[K]` of its text.
+/// Each outcome with the choices that lead there, and what all of it means, with
+/// the marks that `marks_of` of `explore` gives. The statement at position K of the program stands on line `lines[K]` of its text.
 /// An `Err` means out of memory.
 pub fn print_explored(
     alloc: Heap,
     found: &Explored,
+    marks: &[Option<bool>],
     limits: Limits,
     lines: &[usize],
 ) -> Result<String<Heap>, AllocError>
-    ensures { IfOk result (λ text. IsExploredText found.now limits.runs (string_bytes text)) }
+    ensures { IfOk result (λ text. IsExploredText found.now marks.now limits.runs (string_bytes text)) }
 {
     let mut text = String::new(alloc);
     print_outcomes(alloc, &mut text, found, lines)?;
-    print_meaning(&mut text, found, limits.runs)?;
+    print_meaning(&mut text, found, marks, limits.runs)?;
     Ok(text)
 }
 

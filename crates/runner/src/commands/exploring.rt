@@ -2,7 +2,8 @@
 ghost use Rattle.std.specs.Prelude.{◌≡◌, ◌+◌, ℕ, IfOk, IfSome, Some, slice_get, string_bytes};
 ghost use Rattle.run_events.specs.Plays.{IsPlayText};
 ghost use Rattle.runner.specs.Events.{PlaysOutcome};
-ghost use Rattle.runner.specs.OutcomesText.{IsExploredText, IsSummary};
+ghost use Rattle.explore.specs.Shown.{AreMarked};
+ghost use Rattle.runner.specs.OutcomesText.{IsMarkedSummary, IsMarkedText};
 ghost use Rattle.runner.specs.Searches.{HasSearchStatus, IsExploreAnswer, IsFoundBy, IsPrinted, IsSearchAnswer};
 
 use crate::commands::tool_refusal::ToolRefusal;
@@ -10,7 +11,7 @@ use crate::outcomes::{all_halt, explored_json, print_explored, print_summary};
 use command_line::{ExploreForm, ExploreJob};
 use core_runner::{Files, Said, text_in};
 use crash_free::Sim;
-use explore::{Explored, Limits, Outcome, Watch, explore, run_of};
+use explore::{Explored, Limits, Outcome, Watch, explore, marks_of, run_of};
 use metered::Heap;
 use rank_language::Program;
 use run_events::play_text;
@@ -83,39 +84,82 @@ fn answer_of<'a>(
 {
     match job.form {
         ExploreForm::Events(number) => events_of(alloc, job, number, program, found),
-        ExploreForm::Text => Ok(found_text(alloc, job, text, found)?),
-        ExploreForm::Summary => Ok(summary_text(alloc, job, text, found)?),
-        ExploreForm::Json => Ok(json_text(alloc, text, found)?),
+        ExploreForm::Text => Ok(found_text(alloc, job, text, program, found)?),
+        ExploreForm::Summary => Ok(summary_text(alloc, job, text, program, found)?),
+        ExploreForm::Json => Ok(json_text(alloc, job, text, program, found)?),
     }
 }
 
+#[tactic(auto, using(crate::proofs::Written::is_marked))]
 fn found_text(
     alloc: Heap,
     job: ExploreJob<'_>,
     text: &[u8],
+    program: &Program,
     found: &Explored,
 ) -> Result<String<Heap>, AllocError>
-    ensures { IfOk result (λ answer. IsExploredText found.now job.entry.runs (string_bytes answer)) }
+    ensures { IfOk result (λ answer. IsMarkedText program.now job.entry.ranks found.now job.entry.runs (string_bytes answer)) }
 {
     let lines = statement_lines(alloc, text)?;
-    print_explored(alloc, found, limits_of(job), lines.as_slice())
+    let marks = marks_in(alloc, job, program, found)?;
+    print_explored(
+        alloc,
+        found,
+        marks.as_slice(),
+        limits_of(job),
+        lines.as_slice(),
+    )
 }
 
+#[tactic(auto, using(crate::proofs::Written::is_marked_summary))]
 fn summary_text(
     alloc: Heap,
     job: ExploreJob<'_>,
     text: &[u8],
+    program: &Program,
     found: &Explored,
 ) -> Result<String<Heap>, AllocError>
-    ensures { IfOk result (λ answer. IsSummary found.now job.entry.runs (string_bytes answer)) }
+    ensures { IfOk result (λ answer. IsMarkedSummary program.now job.entry.ranks found.now job.entry.runs (string_bytes answer)) }
 {
     let lines = statement_lines(alloc, text)?;
-    print_summary(alloc, found, limits_of(job), lines.as_slice())
+    let marks = marks_in(alloc, job, program, found)?;
+    print_summary(
+        alloc,
+        found,
+        marks.as_slice(),
+        limits_of(job),
+        lines.as_slice(),
+    )
 }
 
-fn json_text(alloc: Heap, text: &[u8], found: &Explored) -> Result<String<Heap>, AllocError> {
+fn json_text(
+    alloc: Heap,
+    job: ExploreJob<'_>,
+    text: &[u8],
+    program: &Program,
+    found: &Explored,
+) -> Result<String<Heap>, AllocError> {
     let lines = statement_lines(alloc, text)?;
-    explored_json(alloc, found, lines.as_slice())
+    let marks = marks_in(alloc, job, program, found)?;
+    explored_json(alloc, found, marks.as_slice(), lines.as_slice())
+}
+
+// The mark of each outcome that was found.
+fn marks_in(
+    alloc: Heap,
+    job: ExploreJob<'_>,
+    program: &Program,
+    found: &Explored,
+) -> Result<Vec<Option<bool>, Heap>, AllocError>
+    ensures { IfOk result (λ marks. AreMarked program.now job.entry.ranks found.now.outcomes marks.items) }
+{
+    marks_of(
+        alloc,
+        program,
+        job.ranks,
+        limits_of(job),
+        found.outcomes.as_slice(),
+    )
 }
 
 // The events of a run that has the outcome of this number, from 1.

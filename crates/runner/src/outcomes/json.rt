@@ -13,10 +13,11 @@ use std::alloc::AllocError;
 pub fn explored_json(
     alloc: Heap,
     found: &Explored,
+    marks: &[Option<bool>],
     lines: &[usize],
 ) -> Result<String<Heap>, AllocError> {
     let mut all = Map::new(alloc);
-    let outcomes = outcomes_of(alloc, found.outcomes.as_slice(), lines)?;
+    let outcomes = outcomes_of(alloc, found.outcomes.as_slice(), marks, lines)?;
     put(&mut all, alloc, "outcomes", Value::Array(outcomes))?;
     let races = races_of(alloc, found.races.as_slice(), lines)?;
     put(&mut all, alloc, "races", Value::Array(races))?;
@@ -48,6 +49,7 @@ pub fn explored_json(
 fn outcomes_of(
     alloc: Heap,
     outcomes: &[Outcome],
+    marks: &[Option<bool>],
     lines: &[usize],
 ) -> Result<Vec<Value, Heap>, AllocError> {
     let mut list = Vec::new(alloc);
@@ -59,9 +61,20 @@ fn outcomes_of(
         put(&mut one, alloc, "ranks", Value::Array(ranks))?;
         let choices = choices_of(alloc, outcome.choices.as_slice(), lines)?;
         put(&mut one, alloc, "choices", Value::Array(choices))?;
+        let shown = mark_of(marks.get(index).copied().flatten());
+        put(&mut one, alloc, "misses_shown", shown)?;
         list.push(Value::Object(one))?;
     }
     Ok(list)
+}
+
+// Whether a probe of the run misses a message that its rank was shown; null where
+// the run wasn't found again.
+fn mark_of(mark: Option<bool>) -> Value {
+    match mark {
+        Some(yes) => Value::from(yes),
+        None => Value::Null,
+    }
 }
 
 // What each rank printed, and how it ended.

@@ -2,7 +2,7 @@
 ghost use Rattle.std.specs.Prelude.{◌≡◌, ◌++◌, OnOk, length, string_bytes};
 ghost use Rattle.std.specs.Fmt.{decimal};
 ghost use Rattle.runner.specs.Meanings.{between, enumeration, fault_line, fault_words, faults_text, is_of, limits_text, named_ranks};
-ghost use Rattle.runner.specs.Meanings.{count_text, meaning_text, only_text, ranks_line, ranks_of, runs_text, stalls_text};
+ghost use Rattle.runner.specs.Meanings.{count_text, mark_text, marks_text, meaning_text, only_text, ranks_line, ranks_of, runs_text, stalls_text};
 ghost use Rattle.runner.specs.Meanings.{states_text, steps_text, unhalted_text};
 
 use audit::End;
@@ -12,12 +12,18 @@ use std::alloc::AllocError;
 use std::fmt::Write;
 
 /// What the outcomes mean that a search found, which looked at no more than so
-/// many runs, and how many they are.
-pub fn print_meaning(text: &mut String<Heap>, found: &Explored, runs: u32) -> Result<(), AllocError>
-    ensures { OnOk result (string_bytes text.new ≡ string_bytes text.old ++ meaning_text found.now runs) }
+/// many runs, which of them have a mark, and how many they are.
+pub fn print_meaning(
+    text: &mut String<Heap>,
+    found: &Explored,
+    marks: &[Option<bool>],
+    runs: u32,
+) -> Result<(), AllocError>
+    ensures { OnOk result (string_bytes text.new ≡ string_bytes text.old ++ meaning_text found.now marks.now runs) }
 {
     print_only(text, found)?;
     print_unhalted(text, found.outcomes.as_slice())?;
+    print_marks(text, marks)?;
     print_state_limit(text, found)?;
     print_limits(text, found, runs)?;
     print_count(text, found)
@@ -34,6 +40,32 @@ fn print_only(text: &mut String<Heap>, found: &Explored) -> Result<(), AllocErro
         );
     }
     Ok(())
+}
+
+// Which outcomes were found by runs that no execution gives.
+fn print_marks(text: &mut String<Heap>, marks: &[Option<bool>]) -> Result<(), AllocError>
+    ensures { OnOk result (string_bytes text.new ≡ string_bytes text.old ++ marks_text 1 marks.now) }
+{
+    let mut number = 0usize;
+    let mut rest = marks;
+    while let [mark, more @ ..] = rest {
+        number += 1;
+        print_mark(text, number, *mark)?;
+        rest = more;
+    }
+    Ok(())
+}
+
+fn print_mark(text: &mut String<Heap>, number: usize, mark: Option<bool>) -> Result<(), AllocError>
+    ensures { OnOk result (string_bytes text.new ≡ string_bytes text.old ++ mark_text number mark) }
+{
+    match mark {
+        Some(true) => writeln!(
+            text,
+            "# outcome {number}: in the run that was found a probe misses a message that its rank was shown; no execution does"
+        ),
+        Some(false) | None => Ok(()),
+    }
 }
 
 // How many states were kept, if there were more.

@@ -16,16 +16,17 @@ use std::fmt::Write;
 pub fn print_summary(
     alloc: Heap,
     found: &Explored,
+    marks: &[Option<bool>],
     limits: Limits,
     lines: &[usize],
 ) -> Result<String<Heap>, AllocError>
-    ensures { IfOk result (λ text. IsSummary found.now limits.runs (string_bytes text)) }
+    ensures { IfOk result (λ text. IsSummary found.now marks.now limits.runs (string_bytes text)) }
 {
     let mut text = String::new(alloc);
     for race in found.races.iter() {
         print_race(&mut text, race, lines)?;
     }
-    print_meaning(&mut text, found, limits.runs)?;
+    print_meaning(&mut text, found, marks, limits.runs)?;
     Ok(text)
 }
 
