@@ -137,5 +137,3 @@ fn events_with_crashes(rt: HostRuntime) -> Result<(), Fail> {
     let imaged = [("p", TAGS), ("s", "image 1 at 1\nkill 1 at 2\n")];
     expect_answer(&rt, words, &imaged, (0, IMAGED, ""))
 }
-
-/// Rank 0 takes the first message that comes.
