@@ -4,6 +4,7 @@
 //! which limits it runs.
 #![tactic(auto)]
 
+mod catching_up;
 mod explain;
 mod exploring;
 mod help;
@@ -14,6 +15,7 @@ mod soaking;
 mod syntax;
 mod tracing;
 
+pub use catching_up::FinishJob;
 pub use explain::ExplainJob;
 pub use exploring::{ExploreForm, ExploreJob};
 pub use job::{CheckJob, Job, RunJob, WorldJob, job_of};

@@ -1,3 +1,4 @@
+mod FinishText
 mod Worlds
 mod Reading
 mod Answers

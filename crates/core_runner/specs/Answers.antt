@@ -58,6 +58,8 @@ IsCoreAnswer holds (job.World world) out status =
     IsRefusal out status ⊎ IsWorldAnswer holds world wanted.Replies out status
 IsCoreAnswer holds (job.CatchUp world) out status =
     IsRefusal out status ⊎ IsWorldAnswer holds world wanted.WayOn out status
+IsCoreAnswer holds (job.Finish finish) out status =
+    IsRefusal out status ⊎ IsWorldAnswer holds finish.world (wanted.TheEnd finish.steps) out status
 IsCoreAnswer holds (job.C check) out status = IsLeftOut out status
 IsCoreAnswer holds (job.Trace run) out status = IsLeftOut out status
 IsCoreAnswer holds (job.WorldJson world) out status = IsLeftOut out status

@@ -3,8 +3,8 @@ use Rattle.std.specs.Prelude.{◌≡◌, ℕ, List, []}
 use Rattle.core_runner.specs.declared.commands.refusal.Refusal.{Refusal}
 use Rattle.core_runner.specs.declared.commands.refusal.Refusal.TheVariants as refusal
 
--- 2 if a text is refused or a file can't be read, 1 if a run ends without a report, 4 if there is no
--- memory
+-- 2 if a text is refused or a file can't be read, 1 if a run ends without a report or a world isn't
+-- led to its end, 4 if there is no memory
 abbrev pub status_of : Refusal → ℕ
 status_of (refusal.CannotRead name) = 2
 status_of (refusal.Program fault) = 2
@@ -14,6 +14,8 @@ status_of (refusal.Audit fault) = 1
 status_of (refusal.FalseStall rank) = 1
 status_of (refusal.NoCause rank) = 1
 status_of (refusal.Node rank fault) = 1
+status_of (refusal.OutOfSteps rank steps) = 1
+status_of (refusal.NoEnd rank) = 1
 status_of refusal.Memory = 4
 
 -- Nothing goes to standard output, and the exit status is that of a refusal.

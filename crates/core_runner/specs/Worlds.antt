@@ -1,21 +1,24 @@
 -- What is printed of a world: the replies to the events of a file, or a recovery schedule from
--- where they lead.
+-- where they lead, or events that lead from there to the end.
 use Rattle.std.specs.Prelude.{◌≡◌, ℕ, List}
 use Rattle.command_line.specs.declared.job.WorldJob.{WorldJob}
 use Rattle.events_text.specs.Output.{IsRunText}
 use Rattle.events_text.specs.Written.{IsWayText}
 use Rattle.rank_language.specs.Program.{ProgramValue}
+use Rattle.core_runner.specs.FinishText.{IsFinishText}
 use Rattle.core_runner.specs.Reading.{AreEventsIn, IsProgramIn}
 use Rattle.core_runner.specs.declared.commands.world.Wanted.{Wanted}
-use Rattle.core_runner.specs.declared.commands.world.Wanted.TheVariants.{Replies, WayOn}
+use Rattle.core_runner.specs.declared.commands.world.Wanted.TheVariants.{Replies, WayOn, TheEnd}
 use Rattle.world_model.specs.Headline.{IsFresh}
 use Rattle.world_model.specs.World.{WorldValue}
 use Rattle.world_model.specs.declared.event.WorldEvent.{WorldEvent}
 
--- what is wanted of a world, under these events that lead it to another, is this text
+-- what is wanted of a world, under these events that lead it to another, is this text; the other is
+-- the one at the end, where that is wanted
 abbrev pub IsTextOf : Wanted → WorldValue → List WorldEvent → WorldValue → List ℕ → Type 0
 IsTextOf Replies before events after text = IsRunText before events after text
 IsTextOf WayOn before events after text = IsWayText before events after text
+IsTextOf (TheEnd steps) before events after text = IsFinishText steps before events after text
 
 -- What is wanted of a new world of this program and so many ranks, under these events, is this
 -- text.

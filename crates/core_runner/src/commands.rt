@@ -1,7 +1,8 @@
 //! The core of the program: what its words ask for, what it writes, and its exit status.
 //!
 //! - 0: done, also for help
-//! - 1: after a run a rank isn't halted, or its run ends without a report
+//! - 1: after a run a rank isn't halted, or its run ends without a report; a world
+//!   isn't led to its end
 //! - 2: the program, the script or the events are refused, or a file can't be read
 //! - 3: the words are refused
 //! - 4: there is no memory
@@ -12,6 +13,7 @@ ghost use Rattle.std.specs.Io.KnownBytes.{Appends};
 ghost use Rattle.core_runner.specs.Answers.{IsCoreAnswer};
 
 mod check;
+mod finishing;
 mod reading;
 mod refusal;
 mod run;
@@ -73,6 +75,12 @@ pub fn do_core_job<R: Threads + Wait + Sync + Copy + Send, F: Files, O: Write, E
         Job::Run(job) => ran(rt, alloc, job, files),
         Job::World(job) => world_said(alloc, job, Wanted::Replies, files),
         Job::CatchUp(job) => world_said(alloc, job, Wanted::WayOn, files),
+        Job::Finish(job) => world_said(
+            alloc,
+            job.world,
+            Wanted::TheEnd { steps: job.steps },
+            files,
+        ),
         Job::C(_)
         | Job::Trace(_)
         | Job::WorldJson(_)

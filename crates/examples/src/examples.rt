@@ -1,7 +1,7 @@
 //! Runs, checks and worlds of the examples.
 
 /// The words of each run, after the program's name.
-pub const RUNS: [&str; 106] = [
+pub const RUNS: [&str; 110] = [
     "run --ranks 2 examples/answer.rank",
     "run --ranks 4 examples/ring.rank",
     "run --ranks 2 examples/ping_pong.rank",
@@ -102,6 +102,10 @@ pub const RUNS: [&str; 106] = [
     "world --ranks 2 examples/answer.rank examples/cannot.events",
     "catch-up --ranks 2 examples/answer.rank examples/all_down.events",
     "world --ranks 2 examples/answer.rank examples/led_on.events",
+    "catch-up --to-the-end --ranks 2 examples/answer.rank examples/all_down.events",
+    "world --ranks 2 examples/answer.rank examples/to_the_end.events",
+    "catch-up --to-the-end --ranks 1 --steps 9 examples/forever.rank examples/down.events",
+    "catch-up --to-the-end --ranks 2 examples/many_events.rank examples/down.events",
     "catch-up --ranks 2 examples/answer.rank examples/none.events",
     "catch-up --ranks 2 examples/answer.rank examples/bad_line.events",
     "catch-up --ranks 2 examples/refused.rank examples/none.events",

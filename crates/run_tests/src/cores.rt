@@ -22,7 +22,7 @@ const FILES: [(&str, &str); 4] = [
 ];
 
 /// Words to which both answer the same, with the exit status.
-const SAME: [(&str, u8); 19] = [
+const SAME: [(&str, u8); 21] = [
     ("check p", 0),
     ("check bad", 2),
     ("check none", 2),
@@ -35,6 +35,8 @@ const SAME: [(&str, u8); 19] = [
     ("world --ranks 2 p bad", 2),
     ("world --ranks 2 p large", 4),
     ("catch-up --ranks 2 p e", 0),
+    ("catch-up --to-the-end --ranks 2 p e", 0),
+    ("catch-up --to-the-end --steps 1 --ranks 2 p e", 1),
     ("catch-up --ranks 2 bad e", 2),
     ("catch-up --ranks 2 p none", 2),
     ("--help", 0),

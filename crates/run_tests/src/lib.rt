@@ -18,6 +18,8 @@ mod explains;
 #[cfg(test)]
 mod faults;
 #[cfg(test)]
+mod finishes;
+#[cfg(test)]
 mod helps;
 #[cfg(test)]
 mod holding;

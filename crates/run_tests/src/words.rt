@@ -8,9 +8,9 @@ use std::process::Abort;
 use std::rt::Env;
 use std::test::Fail;
 
-/// The words of a run, with its ranks, idle turns, steps and program, and of one that is told its form; and those of a search, with its
-/// ranks, runs, steps, states, program and form.
-const RUNS: [(&str, &str); 13] = [
+/// The words of a run, with its ranks, idle turns, steps and program, and of one that is told its form; those of a search, with its
+/// ranks, runs, steps, states, program and form; and those of a world that is led to its end, with its ranks, steps, program and events.
+const RUNS: [(&str, &str); 15] = [
     ("ftmpi run --ranks 1 p", "1 1000000 1000000 p"),
     ("ftmpi run --ranks 16 --idle 5 p", "16 5 1000000 p"),
     ("ftmpi run --ranks 2 --steps 7 p", "2 1000000 7 p"),
@@ -48,6 +48,11 @@ const RUNS: [(&str, &str); 13] = [
         "ftmpi explore --ranks 2 --events 4 p",
         "2 100000 100000 100000 p Events(4)",
     ),
+    ("ftmpi catch-up --to-the-end --ranks 2 p e", "2 100000 p e"),
+    (
+        "ftmpi catch-up --steps 7 --ranks 16 --to-the-end p e",
+        "16 7 p e",
+    ),
 ];
 
 // The run that these words ask for.
@@ -67,6 +72,13 @@ fn asked(alloc: Global, words: &[String]) -> Result<String, AllocError> {
             format!(in alloc;
                 "{} {} {} {} {} {:?}",
                 job.ranks, job.runs, job.steps, job.states, job.program, job.form
+            )
+        }
+        Ok(Job::Finish(job)) => {
+            let world = job.world;
+            format!(in alloc;
+                "{} {} {} {}",
+                world.ranks, job.steps, world.program, world.events
             )
         }
         _ => String::from_str(alloc, "no run"),

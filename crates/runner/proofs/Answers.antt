@@ -14,6 +14,7 @@ no_memory holds (job.Check check) = inl (record { silent = refl; refusal = refus
 no_memory holds (job.Run run) = inl (record { silent = refl; refusal = refusal.Memory; code = refl })
 no_memory holds (job.World world) = inl (record { silent = refl; refusal = refusal.Memory; code = refl })
 no_memory holds (job.CatchUp world) = inl (record { silent = refl; refusal = refusal.Memory; code = refl })
+no_memory holds (job.Finish finish) = inl (record { silent = refl; refusal = refusal.Memory; code = refl })
 no_memory holds (job.Explore search) = inl (record { silent = refl; refusal = tool.Core refusal.Memory; code = refl })
 no_memory holds other = tt
 

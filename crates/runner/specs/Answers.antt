@@ -14,6 +14,7 @@ IsJobAnswer holds (job.Check check) out status = IsCoreAnswer holds (job.Check c
 IsJobAnswer holds (job.Run run) out status = IsCoreAnswer holds (job.Run run) out status
 IsJobAnswer holds (job.World world) out status = IsCoreAnswer holds (job.World world) out status
 IsJobAnswer holds (job.CatchUp world) out status = IsCoreAnswer holds (job.CatchUp world) out status
+IsJobAnswer holds (job.Finish finish) out status = IsCoreAnswer holds (job.Finish finish) out status
 IsJobAnswer holds (job.Explore search) out status =
     IsToolRefusal out status ⊎ IsExploreAnswer (holds search.program.now) search out status
 IsJobAnswer holds (job.C check) out status = Unit {0}

@@ -5,8 +5,9 @@
 //!   fault
 //! - 1: after a run or a trace a rank isn't halted, or its run ends without a
 //!   report, and after `soak` one of the runs is such a run; a run gives no
-//!   events; after `explore` not all was looked at, or in some outcome a rank
-//!   isn't halted; after `judge` no run has the outcome
+//!   events; a world isn't led to its end; after `explore` not all was looked
+//!   at, or in some outcome a rank isn't halted; after `judge` no run has the
+//!   outcome
 //! - 2: the program, the script, the events or the outcome are refused, by
 //!   `explain` too, or a file can't be read
 //! - 3: the words are refused

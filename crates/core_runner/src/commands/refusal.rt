@@ -34,9 +34,17 @@ pub enum Refusal<'a> {
     /// This rank is unfinished, but met no limit and didn't replay at the end.
     #[error("rank {0}: unfinished without a cause")]
     NoCause(u8),
-    /// A rank of a run couldn't go on.
+    /// A rank of a run, or of a world that is led to its end, couldn't go on.
     #[error("rank {rank}: node fault {}", .fault.number())]
     Node { rank: u8, fault: NodeFault },
+    /// After as many rounds as were allowed a world isn't at its end: this rank
+    /// isn't.
+    #[error("rank {rank}: no end within {steps} steps")]
+    OutOfSteps { rank: u8, steps: u32 },
+    /// A world in which nothing is left to do isn't found at its end: this rank
+    /// isn't.
+    #[error("rank {0}: no end found")]
+    NoEnd(u8),
     /// There was no memory.
     #[error("out of memory")]
     Memory,
@@ -65,7 +73,7 @@ impl<'a> Refusal<'a> {
         Ok(Said::refusal(alloc, self.status(), text))
     }
 
-    /// 1 behind a run, 4 where there is no memory, and else 2.
+    /// 1 behind a run or a world without an end, 4 where there is no memory, and else 2.
     pub fn status(self) -> u8
         ensures { result ≡ status_of self.entry }
     {
@@ -76,6 +84,7 @@ impl<'a> Refusal<'a> {
             | Refusal::Events { line: _, kind: _ } => 2,
             Refusal::Audit(_) | Refusal::FalseStall(_) | Refusal::Node { rank: _, fault: _ } => 1,
             Refusal::NoCause(_) => 1,
+            Refusal::OutOfSteps { rank: _, steps: _ } | Refusal::NoEnd(_) => 1,
             Refusal::Memory => 4,
         }
     }

@@ -1,10 +1,12 @@
-//! A world under the events of a file, and a recovery schedule from there.
+//! A world under the events of a file, and from there a recovery schedule, or
+//! events up to the end.
 ghost use Rattle.std.specs.Prelude.{◌≤◌, ◌⊎◌, IfOk, List, string_bytes};
 ghost use Rattle.metered.specs.Limits.{most_ranks};
 ghost use Rattle.core_runner.specs.Reading.{AreEventsIn};
 ghost use Rattle.core_runner.specs.Refusals.{IsRefusal};
 ghost use Rattle.core_runner.specs.Worlds.{IsAnswer, IsTextOf, IsWorldAnswer, IsWorldText};
 
+use crate::commands::finishing::finish_text;
 use crate::commands::reading::{events_in, program_in};
 use crate::commands::refusal::Refusal;
 use crate::commands::said::Said;
@@ -23,6 +25,8 @@ pub enum Wanted {
     Replies,
     /// A recovery schedule from where the events lead.
     WayOn,
+    /// Events from there to the end, with so many steps of a rank at most.
+    TheEnd { steps: u32 },
 }
 
 /// What is wanted of the job's world, or why there is none.
@@ -67,21 +71,20 @@ fn text_of<'a, F: Files>(
         × IsAnswer program.entry.now job.entry.ranks wanted events (string_bytes text)) }
 {
     let events = events_in(alloc, job.events, files)?;
-    match answered(alloc, program, job.ranks, wanted, events.as_slice()) {
-        Ok(text) => Ok(text),
-        Err(error) => Err(Refusal::from(error)),
-    }
+    let text = answered(alloc, program, job.ranks, wanted, events.as_slice());
+    drop(events);
+    text
 }
 
 // What is wanted of a new world of so many ranks, under these events.
 #[tactic(auto, using(crate::proofs::Worlds::is_answer))]
-fn answered(
+fn answered<'a>(
     alloc: Heap,
     program: &Program,
     ranks: u8,
     wanted: Wanted,
     events: &[WorldEvent],
-) -> Result<String<Heap>, AllocError>
+) -> Result<String<Heap>, Refusal<'a>>
     requires { ranks ≤ most_ranks }
     ensures { IfOk result (λ text. IsAnswer program.entry.now ranks wanted events.now (string_bytes text)) }
 {
@@ -91,16 +94,17 @@ fn answered(
     text
 }
 
-fn played(
+fn played<'a>(
     alloc: Heap,
     world: &mut World<'_>,
     wanted: Wanted,
     events: &[WorldEvent],
-) -> Result<String<Heap>, AllocError>
+) -> Result<String<Heap>, Refusal<'a>>
     ensures { IfOk result (λ text. IsTextOf wanted world.old events.now world.new (string_bytes text)) }
 {
     match wanted {
-        Wanted::Replies => run_text(alloc, world, events),
-        Wanted::WayOn => way_text(alloc, world, events),
+        Wanted::Replies => Ok(run_text(alloc, world, events)?),
+        Wanted::WayOn => Ok(way_text(alloc, world, events)?),
+        Wanted::TheEnd { steps } => finish_text(alloc, world, events, steps),
     }
 }

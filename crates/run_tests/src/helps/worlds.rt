@@ -74,15 +74,17 @@ docs/WORLDS.md is a guide to worlds, event by event.
 pub const CATCH_UP: &str = "\
 Prints events that bring a world's ranks back to where they were
 
-Usage: ftmpi catch-up --ranks <N> <PROGRAM> <EVENTS>
+Usage: ftmpi catch-up [OPTIONS] --ranks <N> <PROGRAM> <EVENTS>
 
 Arguments:
   <PROGRAM>  The file of the rank program
   <EVENTS>   The file of events (below)
 
 Options:
-      --ranks <N>  The number of ranks, 1 to 16
-  -h, --help       Print help
+      --ranks <N>   The number of ranks, 1 to 16
+      --to-the-end  Prints events that bring the world to its end (below)
+      --steps <S>   Steps of a rank in them, 1 to 1000000000 [default: 100000]
+  -h, --help        Print help
 
 The events are given to the ranks as by `ftmpi world`, and no reply is printed.
 What is printed is a recovery schedule from there: events, one a line, after
@@ -90,6 +92,17 @@ which every rank is up, has nothing left to replay, and has made each act of its
 own that had passed. None of them is a crash. Of the frames that were on the
 wires, only asks for packets arrive; each packet that arrives is put first. If
 nothing is to be done, nothing is printed.
+
+With --to-the-end the events go on to the end of the program: after them no rank
+can make another act, each is up, and nothing is left to replay, to store or to
+release. None of them is a crash. They come in S rounds at most, in each of
+which a rank makes one step at most; frames that were on the wires may arrive.
+If no such events are found, standard error says why:
+  rank R: no end within S steps  after S rounds R isn't at its end
+  rank R: node fault 5           the clock of R is used up
+  rank R: node fault 6           R has 4096 events, and its act would be one
+  rank R: no end found           a round has nothing to do, but R isn't at its
+                                 end
 
 The lines can be put behind those of EVENTS and given to `ftmpi world`, as long
 as both together have at most 100000 lines.
@@ -100,11 +113,14 @@ and on it the lowest fault. `ftmpi check --help` has the faults of a program,
   1 BadLine  the line has none of the forms of an event
   2 Limit    there are more than 100000 lines
 
-Exit status: 0 if the schedule is printed, 2 if the program or the events are
-refused or can't be read; `ftmpi --help` has the others.
+Exit status: 0 if the events are printed, also none, 1 if none lead to the end,
+2 if the program or the events are refused or can't be read; `ftmpi --help` has
+the others.
 
-Example, at the top of the repository:
+Examples, at the top of the repository:
   ./ftmpi catch-up --ranks 2 examples/answer.rank examples/all_down.events
+  ./ftmpi catch-up --to-the-end --ranks 2 examples/answer.rank \\
+      examples/all_down.events
 
 docs/WORLDS.md is a guide to worlds, and shows a recovery schedule.
 ";
