@@ -1,5 +1,6 @@
 //! Worlds that are played to their ends, whatever happened to them before.
-ghost use Rattle.std.specs.Prelude.{◌<◌};
+ghost use Rattle.std.specs.Prelude.{◌<◌, ◌≤◌};
+ghost use Rattle.metered.specs.Limits.{most_ranks};
 ghost use Rattle.world_model.specs.World.{size};
 
 use crate::scenes::{CHAIN, ONE_MESSAGE, PROBES, RING, THREE_MESSAGES};
@@ -142,34 +143,50 @@ fn ends_well(
     )
 }
 
+/// The same of a new world.
+pub fn ends_after(
+    alloc: Heap,
+    program: &Program,
+    ranks: u8,
+    events: &[WorldEvent],
+    found: &Explored,
+) -> Result<bool, AllocError>
+    requires { ranks ≤ most_ranks }
+{
+    let mut world = World::new(alloc, program, ranks)?;
+    let Ok(mut other) = World::new(alloc, program, ranks) else {
+        world.close();
+        return Err(AllocError);
+    };
+    let good = ends_well(alloc, (&mut world, &mut other), events, found);
+    world.close();
+    other.close();
+    good
+}
+
+/// Within what outcomes are looked for.
+pub const LIMITS: Limits = Limits {
+    runs: 10_000,
+    steps: 1_000,
+    states: 10_000,
+};
+
 #[test]
 fn a_thousand_worlds(rt: HostRuntime) -> Result<(), Fail> {
     let alloc = rt.alloc();
     let mut draw = 35;
-    let limits = Limits {
-        runs: 10_000,
-        steps: 1_000,
-        states: 10_000,
-    };
     for (text, ranks) in PROGRAMS {
         assert!(rt;
             1 <= ranks && ranks <= MOST_RANKS as u8,
             "a number of ranks"
         );
         let program = Program::parse(alloc, text)?;
-        let found = explore(alloc, &program, ranks, limits, &mut Unwatched)?;
+        let found = explore(alloc, &program, ranks, LIMITS, &mut Unwatched)?;
         assert!(rt; found.complete, "a search");
         for list in 0..100 {
             let events = drawn_events(alloc, &mut draw, ranks)?;
-            let mut world = World::new(alloc, &program, ranks)?;
-            let Ok(mut other) = World::new(alloc, &program, ranks) else {
-                world.close();
-                return Err(AllocError.into());
-            };
-            let good = ends_well(alloc, (&mut world, &mut other), events.as_slice(), &found);
-            world.close();
-            other.close();
-            assert!(rt; good?, "list {list}");
+            let good = ends_after(alloc, &program, ranks, events.as_slice(), &found)?;
+            assert!(rt; good, "list {list}");
         }
     }
     Ok(())

@@ -19,6 +19,8 @@ mod finishes;
 #[cfg(test)]
 mod images;
 #[cfg(test)]
+mod kills;
+#[cfg(test)]
 mod misses;
 #[cfg(test)]
 mod scenes;
