@@ -1,5 +1,5 @@
 -- Whatever course events take, the worlds that they come to are alike; so what they lead to on one course they lead to on each.
-use Rattle.std.proofs.Common.{◌≡◌, ℕ, ◌<◌, List, [], ◌∷◌, length, Option, Some, None, refl, sym, ap, subst, ◌∙◌, arith}
+use Rattle.std.proofs.Common.{ℕ, List, [], ◌∷◌, length, Option, Some, None, sym, ap, subst, ◌∙◌, arith}
 use Rattle.rank_language.specs.Program.{ProgramValue}
 use Rattle.rank_machine.specs.States as states
 use Rattle.rank_machine.specs.Acts.{Act}
@@ -9,12 +9,13 @@ use Rattle.world_model.specs.declared.event.WorldEvent.{WorldEvent}
 use Rattle.world_model.specs.World.{Live, WorldValue, size, start_of}
 use Rattle.world_model.specs.Driven.{shelved, IsAlike, AreAlike, Alike}
 use Rattle.world_model.specs.Onward.{IsWorld}
-use Rattle.world_model.specs.ToTheEnd.{Leads, OnEachCourse, IsSettled, HasEnded, StandsAs, EndsAs}
+use Rattle.world_model.specs.ToTheEnd.{OnEachCourse, IsSettled, HasEnded, StandsAs, EndsAs}
 use Rattle.world_model.proofs.Headline.{stands_for}
 use Rattle.world_model.proofs.Likeness.{alike_size, alike_live}
 use Rattle.world_model.proofs.LikenessEvents.{any_alike, may_alike}
 use Rattle.world_model.proofs.AlikeWorlds.{alike_world}
 use Rattle.world_model.proofs.WayFound.{alike_self}
+use Rattle.world_model.proofs.EndOwn.{LeadsFrom, needs_alike}
 
 -- ---- worlds that are alike
 
@@ -76,23 +77,25 @@ ended_alike a b k i h =
 -- ---- on each course
 
 -- what leads the one of two worlds that are alike to a world leads the other to worlds like that, on whatever course
-on_each : (Holds : WorldValue → Type 0) (a b : WorldValue) (events : List WorldEvent) (b' : WorldValue) → Alike a b → Leads b events b'
-    → ((x : WorldValue) → Alike x b' → Holds x) → OnEachCourse Holds a events
-on_each Holds a b [] b' k l h = h a (subst (λ z. Alike a z) (sym l) k)
-on_each Holds a b (event ∷ events) b' k l h = (
-  l.0,
+on_each : (start : WorldValue) (Holds : WorldValue → Type 0) (a b : WorldValue) (events : List WorldEvent) (b' : WorldValue) → Alike a b
+    → LeadsFrom start b events b' → ((x : WorldValue) → Alike x b' → Holds x) → OnEachCourse start Holds a events
+on_each start Holds a b [] b' k l h = h a (subst (λ z. Alike a z) (sym l) k)
+on_each start Holds a b (event ∷ events) b' k l h = (
+  needs_alike start a b event k l.0,
   may_alike a b event l.2.0 l.2.1 k l.1 l.2.2,
-  λ answer mid f. on_each Holds mid l.2.1 events b' (any_alike a b event answer l.2.0 mid l.2.1 k f l.2.2) l.2.3 h,
+  λ answer mid f. on_each start Holds mid l.2.1 events b' (any_alike a b event answer l.2.0 mid l.2.1 k f l.2.2) l.2.3 h,
 )
 
 -- a world that they come to stands for its run
-pub always_stands : (w : WorldValue) (events : List WorldEvent) (w' : WorldValue) → Leads w events w' → IsWorld w' → OnEachCourse (StandsAs w') w events
+pub always_stands : (w : WorldValue) (events : List WorldEvent) (w' : WorldValue) → LeadsFrom w w events w' → IsWorld w'
+    → OnEachCourse w (StandsAs w') w events
 always_stands w events w' leads i =
-    on_each (StandsAs w') w w events w' (alike_self w) leads (λ x k. (turned x w' k, stands_for x (alike_world w' x (turned x w' k) i).stands))
+    on_each w (StandsAs w') w w events w' (alike_self w) leads
+    (λ x k. (turned x w' k, stands_for x (alike_world w' x (turned x w' k) i).stands))
 
 -- or has ended
-pub always_ends : (w : WorldValue) (events : List WorldEvent) (w' : WorldValue) → Leads w events w' → IsWorld w' → HasEnded w'
-    → OnEachCourse (EndsAs w') w events
+pub always_ends : (w : WorldValue) (events : List WorldEvent) (w' : WorldValue) → LeadsFrom w w events w' → IsWorld w' → HasEnded w'
+    → OnEachCourse w (EndsAs w') w events
 always_ends w events w' leads i ended =
-    on_each (EndsAs w') w w events w' (alike_self w) leads
+    on_each w (EndsAs w') w w events w' (alike_self w) leads
     (λ x k. (turned x w' k, ended_alike x w' k (alike_world w' x (turned x w' k) i) ended))

@@ -44,6 +44,11 @@ below_one (suc k) r = go (k == r) refl (below_one k r)
 
 -- ---- what happened is on the list
 
+-- lists that lead on one after the other
+leads_append : (a b c : WorldValue) (x y : List WorldEvent) → Leads a x b → Leads b y c → Leads a (x ++ y) c
+leads_append a b c [] y e g = subst (λ z. Leads z y c) e g
+leads_append a b c (event ∷ x) y f g = (f.0, f.1, (f.2.0, f.2.1, f.2.2, leads_append f.2.1 b c x y f.2.3 g))
+
 -- an event that changed something goes last
 pub played_one : (w : WorldValue) (events : List WorldEvent) (event : WorldEvent) (answer : Reply) (w' : WorldValue) (events' : List WorldEvent)
     → IsWorld w → IsNoCrash event → leaves_all answer ≡ false → Follows w event answer w' → events' ≡ events ++ event ∷ []

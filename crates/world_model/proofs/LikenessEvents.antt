@@ -1,5 +1,5 @@
 -- Each event leaves worlds alike that are alike, and what may happen in the one of them may happen in the other.
-use Rattle.std.proofs.Common.{◌≡◌, inl, inr, sym, ap, ◌∙◌}
+use Rattle.std.proofs.Common.{sym, ap, ◌∙◌}
 use Rattle.rank_node.specs.Releasing.{next_effect}
 use Rattle.rank_node.specs.Storing.{next_unstored}
 use Rattle.world_model.specs.declared.event.WorldEvent.{WorldEvent}

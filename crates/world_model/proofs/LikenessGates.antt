@@ -1,6 +1,6 @@
 -- A store, an acknowledgment, an image, a crash and a release leave worlds alike that are alike, and what happens in the one of them may happen
 -- in the other: no gate asks for a shelf, and an image asks for one that holds it.
-use Rattle.std.proofs.Common.{◌≡◌, ℕ, List, [], ◌∷◌, ◌++◌, length, Option, Some, None, refl, sym, ap, subst, ◌∙◌, slice_get, slice_set}
+use Rattle.std.proofs.Common.{◌≡◌, ℕ, [], ◌∷◌, ◌++◌, Option, Some, None, refl, sym, ap, subst, ◌∙◌, slice_set}
 use Rattle.checkpoint.specs.Shelf.{image_bytes}
 use Rattle.checkpoint.specs.declared.memory_shelf.MemoryShelf.{MemoryShelf}
 use Rattle.plain_logger.specs.Event.{EventValue}

@@ -28,7 +28,7 @@ kept_asks n due = go (nat_lt 0 n)
     go false = refl
 
 -- of each rank
-kepts_ask : (ns : List ℕ) (dues : List Due) (s : ℕ) → (slice_index_or (kepts_due ns dues) s no_due).ask ≡ (slice_index_or dues s no_due).ask
+pub kepts_ask : (ns : List ℕ) (dues : List Due) (s : ℕ) → (slice_index_or (kepts_due ns dues) s no_due).ask ≡ (slice_index_or dues s no_due).ask
 kepts_ask [] dues s = refl
 kepts_ask (n ∷ ns) [] s = refl
 kepts_ask (n ∷ ns) (x ∷ dues) zero = kept_asks n x

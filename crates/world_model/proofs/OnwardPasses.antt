@@ -45,7 +45,7 @@ use Rattle.world_model.proofs.OnwardFrames.{above_set}
 -- ---- a restart
 
 -- a rank that starts again asks each rank for the message after the last that it accepted
-asks_all : (ns : List ℕ) (s : ℕ) → s < length ns → (slice_index_or (map ask_after ns) s no_due).ask ≡ Some (slice_index ns s + 1)
+pub asks_all : (ns : List ℕ) (s : ℕ) → s < length ns → (slice_index_or (map ask_after ns) s no_due).ask ≡ Some (slice_index ns s + 1)
 asks_all [] s l = absurd (omega arith)
 asks_all (n ∷ ns) zero l = refl
 asks_all (n ∷ ns) (suc s) l = asks_all ns s (omega (arith, l))
@@ -63,7 +63,7 @@ above_image (b ∷ log) all zero = (let e = all 0 b refl in omega (arith, e))
 above_image (b ∷ log) all (suc d) = above_image log (λ k. all (suc k)) d
 
 -- a rank that starts again, where it replays these events above its image
-abbrev begun : ℕ → ℕ → MemoryShelf → ImageValue → List EventValue → Live
+abbrev pub begun : ℕ → ℕ → MemoryShelf → ImageValue → List EventValue → Live
 begun n r shelf i events = record { rank = restarted (stable_of n r shelf) i (length events); left = left_of i events }
 
 -- a restart: the rank may be behind then, but nothing waits, and it asks each rank

@@ -39,10 +39,10 @@ use Rattle.world_model.proofs.OnwardPasses.{others_passed, passed_count}
 -- ---- what a step leaves
 
 -- A step makes one act at most; it accepts nothing, asks for nothing, and lets nothing go.
-record Turned (v y : Rank) : Type 0 where
+pub record Turned (v y : Rank) : Type 0 where
   clock : (y.clock ≡ v.clock) ⊎ (y.clock ≡ v.clock + 1)
-  accepted : y.inbox.accepted ≡ v.inbox.accepted
-  dues : y.dues ≡ v.dues
+  pub accepted : y.inbox.accepted ≡ v.inbox.accepted
+  pub dues : y.dues ≡ v.dues
   above : AreAbove v.log → AreAbove y.log
 
 -- where nothing changes
@@ -100,7 +100,7 @@ turned_tried v m o kind.Misses = turned_print v m
 turned_tried v m o kind.Reception = turned_not v
 
 -- each replayed step
-turned_replayed : (v : Rank) (e : EventValue) (x : Want) (m : MachineValue) → Turned v (replayed_at v e x m)
+pub turned_replayed : (v : Rank) (e : EventValue) (x : Want) (m : MachineValue) → Turned v (replayed_at v e x m)
 turned_replayed v e want.Internal m = turned_inside v m
 turned_replayed v e (want.Send d c t) m = turned_send v m d c t
 turned_replayed v e (want.Receive s) m = turned_taken v m (named v e)
@@ -125,8 +125,8 @@ replayed_passes v e (want.Faulted k) m t a is = absurd cc
 -- ---- a step that isn't replayed
 
 -- Its clock stays within its limit, and an act that passes has the next clock.
-record Stepped (v y : Rank) (x : Want) (t : Turn) : Type 0 where
-  turned : Turned v y
+pub record Stepped (v y : Rank) (x : Want) (t : Turn) : Type 0 where
+  pub turned : Turned v y
   unspent : (y.clock ≡ v.clock) ⊎ (v.clock ≢ greatest_clock)
   passes : (a : Act) → effect_at v x t ≡ Some a → y.clock ≡ v.clock + 1
 
@@ -237,7 +237,7 @@ stepped_try v s m e = at (found s v.inbox.packets)
         (unspent_try v (position (matches s) v.inbox.packets) e)
 
 -- each step
-stepped_all : (v : Rank) (x : Want) (m : MachineValue) → refusal_at v x ≡ None → Stepped v (step_at v x m) x (turn_at v x)
+pub stepped_all : (v : Rank) (x : Want) (m : MachineValue) → refusal_at v x ≡ None → Stepped v (step_at v x m) x (turn_at v x)
 stepped_all v want.Internal m e = record { turned = turned_inside v m; unspent = inl refl; passes = λ a h. absurd cc }
 stepped_all v (want.Send d c t) m e = stepped_send v d c t m e
 stepped_all v (want.Print z) m e = stepped_print v z m e
