@@ -14,7 +14,7 @@ use Rattle.world_model.specs.ToTheEnd.{IsNoCrash, Leads}
 use Rattle.world_model.specs.Finished.{leaves_all, step_of, steps_in, LeadsAlmost, IsAfter, Played, PlayedAlmost, RestsAt, HasHeard, below, for_all, no_steps}
 use Rattle.world_model.proofs.HeadlineKept.{happens_can}
 use Rattle.world_model.proofs.Driving.{happened}
-use Rattle.world_model.proofs.EndLed.{leads_append, later_after, program_after, size_same}
+use Rattle.world_model.proofs.EndLed.{later_after, program_after, size_same}
 use Rattle.world_model.proofs.Leaving.{leaves}
 
 -- ---- steps on the list
