@@ -1,53 +1,31 @@
--- What is read of a rank that runs. Its parts can't be asked for one by one: a copy of it lets all
--- pass that waits, and takes an image (a checkpoint: Elnozahy, Alvisi, Wang and Johnson 2002,
--- section 2).
-use Rattle.std.specs.Prelude.{◌≡◌, ℕ, ◌+◌, List, ◌∷◌, drop}
-use Rattle.checkpoint.specs.Image.{ImageValue}
+-- What is read of a rank at work, by its own calls: its machine, its inbox and its payload log, and
+-- what waits at its gate (sender-based message logging: Johnson and Zwaenepoel 1987; output commit:
+-- Elnozahy, Alvisi, Wang and Johnson 2002).
+use Rattle.std.specs.Prelude.{◌≡◌, ℕ, List, [], Option, None, IsSomeAnd}
 use Rattle.checkpoint.specs.declared.memory_shelf.MemoryShelf.{MemoryShelf}
-use Rattle.rank_language.specs.Program.{ProgramValue}
 use Rattle.rank_node.specs.Node.{Node}
+use Rattle.rank_node.specs.declared.phase.Phase.{Phase}
+use Rattle.rank_node.specs.declared.phase.Phase.TheVariants as phase
 use Rattle.rank_node.specs.declared.waiting.Waiting.{Waiting}
+use Rattle.world_json.specs.declared.standing.Standing.{Standing}
 
 -- a rank with a shelf in memory, and no desk
 abbrev pub Rank : Type 0
 Rank = Node MemoryShelf (Unit {0})
 
--- the rank is this one of so many, and its machine runs this program
-pub record IsRankOf (program : ProgramValue) (r n : ℕ) (v : Rank) : Type 0 where
-  pub program_same : v.machine.program ≡ program
-  pub rank : v.stable.rank ≡ r
-  pub size : v.stable.size ≡ n
+-- What is read is the rank's own machine, clock, inbox and payload log. This waits at its gate, and
+-- so many of the first are stored.
+pub record IsRead (v : Rank) (pending : List Waiting) (events : ℕ) (s : Standing) : Type 0 where
+  pub machine : s.machine.now ≡ v.machine
+  pub clock : s.clock ≡ v.clock
+  pub inbox : s.inbox.now ≡ v.inbox
+  pub log : s.log.now ≡ v.log
+  pub waiting : s.waiting.items ≡ pending
+  pub stored : s.stored ≡ events
 
--- two ranks have the same machine, clock, inbox and stable storage
-pub record IsLike (v w : Rank) : Type 0 where
-  pub machine : w.machine ≡ v.machine
-  pub clock : w.clock ≡ v.clock
-  pub inbox : w.inbox ≡ v.inbox
-  pub stable : w.stable ≡ v.stable
-
--- So many events, which were stored, were acknowledged: they were the first of what waits.
-pub record HasAcked (v : Rank) (count : ℕ) (w : Rank) : Type 0 where
-  pub like : IsLike v w
-  pub events : w.stored + count ≡ v.stored
-  pub behind : w.pending ≡ drop count v.pending
-
--- one thing, the oldest, waits no more, and nothing that waits is stored
-pub record LetsPass (v : Rank) (oldest : Waiting) (w : Rank) : Type 0 where
-  pub like : IsLike v w
-  pub waited : v.pending ≡ oldest ∷ w.pending
-  pub stored : w.stored ≡ 0
-
--- All that waited waits no more: first so many events that were stored, and behind them this.
-pub record HasPassed (v : Rank) (stored : ℕ) (waiting : List Waiting) (w : Rank) : Type 0 where
-  pub like : IsLike v w
-  pub events : stored ≡ v.stored
-  pub behind : waiting ≡ drop v.stored v.pending
-
--- What was read is the rank's own machine, clock and inbox, how many of the events that wait at its
--- gate are stored, and what waits behind these.
-pub record IsRead (v : Rank) (image : ImageValue) (stored : ℕ) (waiting : List Waiting) : Type 0 where
-  pub machine : image.machine ≡ v.machine
-  pub clock : image.clock ≡ v.clock
-  pub inbox : image.inbox ≡ v.inbox
-  pub events : stored ≡ v.stored
-  pub behind : waiting ≡ drop v.stored v.pending
+-- what is read of a rank, whatever it does: of one that runs what waits at its gate too, of one that
+-- replays that nothing waits, and nothing of one that is down
+abbrev pub IsReadOf : Phase MemoryShelf (Unit {0}) → Option Standing → Type 0
+IsReadOf (phase.Running v) read = IsSomeAnd read (IsRead v v.pending v.stored)
+IsReadOf (phase.Replaying r) read = IsSomeAnd read (IsRead r.node [] 0)
+IsReadOf (phase.Down s) read = read ≡ None

@@ -2,10 +2,10 @@
 //! and what the event changed.
 #![tactic(auto)]
 
-mod cursors;
 mod determinants;
 mod frames;
 mod head;
+mod logs;
 mod names;
 mod object;
 mod playing;

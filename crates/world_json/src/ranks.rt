@@ -5,17 +5,16 @@ ghost use Rattle.world_model.specs.World.{size};
 
 use crate::determinants::waiting_object;
 use crate::frames::{next_object, packet_object};
+use crate::logs::log_list;
 use crate::names::Names;
 use crate::object::Object;
-use crate::standing::{Standing, standing_of};
+use crate::standing::Standing;
 use crate::wants::want_object;
 use checkpoint::{Image, MemoryShelf, Shelf, decode};
 use metered::Heap;
-use payload_log::Backlog;
-use plain_logger::Event;
 use rank_language::Program;
 use rank_machine::Machine;
-use rank_node::{Phase, Running, Waiting};
+use rank_node::Phase;
 use serde_json::Value;
 use std::alloc::AllocError;
 use world_model::World;
@@ -42,19 +41,11 @@ pub fn rank_object(
     object.number("rank", u64::from(rank))?;
     object.text("phase", phase_name(phase))?;
     object.number("passed", world.view(rank).acts as u64)?;
-    match phase {
-        Phase::Running(running) => {
-            object.number("clock", u64::from(running.clock()))?;
-            object.object("wants", want_object(alloc, running.wants())?)?;
-            let standing = standing_of(alloc, world.program(), rank, world.ranks(), running)?;
-            put_standing(alloc, &mut object, known, &standing, world.row(rank))?;
-        }
-        Phase::Replaying(replaying) => {
-            object.number("clock", u64::from(replaying.clock()))?;
-            object.object("wants", want_object(alloc, replaying.wants())?)?;
-            object.number("left", u64::from(replaying.left()))?;
-        }
-        Phase::Down(_) => {}
+    if let Some(standing) = Standing::of(alloc, phase)? {
+        put_standing(alloc, &mut object, known, &standing)?;
+    }
+    if let Phase::Replaying(replaying) = phase {
+        object.number("left", u64::from(replaying.left()))?;
     }
     put_next(alloc, &mut object, world, rank)?;
     put_image(alloc, &mut object, world, rank)?;
@@ -69,24 +60,24 @@ fn phase_name(phase: &Phase<'_, MemoryShelf, ()>) -> &'static str {
     }
 }
 
-// What of a running rank its machine, its inbox, its gate and its payload log have.
+// What a rank at work has: its machine, its inbox, its gate and its payload log.
 fn put_standing(
     alloc: Heap,
     object: &mut Object,
     known: Known<'_, '_>,
-    standing: &Standing<'_>,
-    row: &[Event],
+    standing: &Standing<'_, '_>,
 ) -> Result<(), AllocError> {
-    let image = &standing.image;
-    put_machine(alloc, object, known, &image.machine)?;
+    object.number("clock", u64::from(standing.clock))?;
+    object.object("wants", want_object(alloc, standing.machine.wants())?)?;
+    put_machine(alloc, object, known, standing.machine)?;
     let mut inbox = Vec::new(alloc);
-    for packet in image.inbox.packets() {
+    for packet in standing.inbox.packets() {
         inbox.push(packet_object(alloc, packet)?.into_value())?;
     }
     object.list("inbox", inbox)?;
-    let waiting = waiting_list(alloc, standing, row)?;
+    let waiting = waiting_list(alloc, standing)?;
     object.list("waiting", waiting)?;
-    let log = log_list(alloc, standing)?;
+    let log = log_list(alloc, standing.log)?;
     object.list("log", log)
 }
 
@@ -118,67 +109,14 @@ fn put_machine(
     object.object("status", words)
 }
 
-// The events that are stored are the last ones of the row.
-fn waiting_list(
-    alloc: Heap,
-    standing: &Standing<'_>,
-    row: &[Event],
-) -> Result<Vec<Value, Heap>, AllocError> {
+// What waits, oldest first. The first of these, so many, are stored.
+fn waiting_list(alloc: Heap, standing: &Standing<'_, '_>) -> Result<Vec<Value, Heap>, AllocError> {
     let mut list = Vec::new(alloc);
-    let acknowledged = row.len().saturating_sub(standing.stored);
-    for event in row.iter().skip(acknowledged) {
-        let event = Waiting::Event(*event);
-        list.push(waiting_object(alloc, event, true)?.into_value())?;
-    }
-    for waiting in standing.waiting.iter() {
-        list.push(waiting_object(alloc, *waiting, false)?.into_value())?;
+    for (index, waiting) in standing.waiting.iter().enumerate() {
+        let is_stored = index < standing.stored;
+        list.push(waiting_object(alloc, *waiting, is_stored)?.into_value())?;
     }
     Ok(list)
-}
-
-// For each rank to which something was sent: which of its packets are let go, sent and held.
-fn log_list(alloc: Heap, standing: &Standing<'_>) -> Result<Vec<Value, Heap>, AllocError> {
-    let mut list = Vec::new(alloc);
-    for (dest, backlog) in standing.image.log.destinations().iter().enumerate() {
-        if backlog.sent() > 0 {
-            let held = held_for(standing.waiting.as_slice(), dest);
-            let next = standing.cursors.get(dest).copied().flatten();
-            list.push(backlog_object(alloc, dest, backlog, held, next)?.into_value())?;
-        }
-    }
-    Ok(list)
-}
-
-// How many sends to a rank wait.
-fn held_for(waiting: &[Waiting], rank: usize) -> u32 {
-    let mut held = 0u32;
-    for waiting in waiting {
-        if let Waiting::Send { dest, .. } = waiting
-            && usize::from(*dest) == rank
-        {
-            held = held.saturating_add(1);
-        }
-    }
-    held
-}
-
-// The image counts what is held as sent. Where no packet goes next, all went.
-fn backlog_object(
-    alloc: Heap,
-    dest: usize,
-    backlog: &Backlog,
-    held: u32,
-    next: Option<u32>,
-) -> Result<Object, AllocError> {
-    let sent = backlog.sent().saturating_sub(held);
-    let all = backlog.base().max(sent).saturating_add(1);
-    let mut object = Object::new(alloc);
-    object.number("destination", dest as u64)?;
-    object.number("let_go", u64::from(backlog.base()))?;
-    object.number("sent", u64::from(sent))?;
-    object.number("cursor", u64::from(next.unwrap_or(all)))?;
-    object.number("held", u64::from(held))?;
-    Ok(object)
 }
 
 // What goes next to each rank to which something goes.
