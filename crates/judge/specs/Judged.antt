@@ -1,5 +1,5 @@
 -- What it means that a verdict on an outcome is right.
-use Rattle.std.specs.Prelude.{◌≡◌, ℕ, List, Some, slice_get}
+use Rattle.std.specs.Prelude.{◌≡◌, ◌++◌, ℕ, List, Some, codes, slice_get}
 use Rattle.rank_language.specs.Program.{ProgramValue}
 use Rattle.crash_free.specs.Runs.{Passed}
 use Rattle.crash_free.specs.Sim.{start_of}
@@ -23,3 +23,8 @@ IsNoneWithin program n o steps =
 abbrev pub IsRight : ProgramValue → ℕ → OutcomeValue → ℕ → Verdict → Type 0
 IsRight program n o steps Yes = IsFinal program n o × IsReachable program n o steps
 IsRight program n o steps (No why) = IsNoneWithin program n o steps
+
+-- The text of a no: its first line is `no`. What stands behind that line isn't said.
+pub record IsNoText (text : List ℕ) : Type 0 where
+  pub why : List ℕ
+  pub whole : text ≡ codes "no\n" ++ why

@@ -1,5 +1,6 @@
 //! Why an outcome is that of no run, and where.
-ghost use Rattle.std.specs.Prelude.{◌≤◌};
+ghost use Rattle.std.specs.Prelude.{◌≤◌, IfOk, string_bytes};
+ghost use Rattle.judge.specs.Judged.{IsNoText};
 ghost use Rattle.metered.specs.Limits.{most_ranks};
 
 use crate::could::put_could;
@@ -49,12 +50,23 @@ enum Missed {
 /// which it stands, and the lines that could stand there instead.
 ///
 /// Where a rank may only wait for another, each such rank is shown.
-pub fn why_text(
+#[tactic(auto, using(crate::proofs::Telling::is_no_text))]
+pub fn why_text(alloc: Heap, asked: &Asked<'_>, why: FinalFault) -> Result<String<Heap>, AllocError>
+    ensures { IfOk result (λ text. IsNoText (string_bytes text)) }
+{
+    let reason = reason_text(alloc, asked, why)?;
+    let mut text = String::from_str(alloc, "no\n")?;
+    text.push_str(reason.as_str())?;
+    Ok(text)
+}
+
+// What stands behind the `no`. It is a text of its own, so that whatever it is, the first line stays as it is.
+fn reason_text(
     alloc: Heap,
     asked: &Asked<'_>,
     why: FinalFault,
 ) -> Result<String<Heap>, AllocError> {
-    let mut text = String::from_str(alloc, "no\n")?;
+    let mut text = String::new(alloc);
     put_reason(&mut text, why)?;
     let follower = Follower::new(
         alloc,
