@@ -2,9 +2,11 @@
 use Rattle.std.specs.Prelude.{◌≡◌, ◌⊎◌, ℕ, List, []}
 use Rattle.command_line.specs.declared.job.Job.{Job}
 use Rattle.command_line.specs.declared.job.Job.TheVariants as job
+use Rattle.command_line.specs.declared.job.RunJob.{RunJob}
 use Rattle.core_runner.specs.Reading.{IsProgramIn}
 use Rattle.core_runner.specs.Refusals.{IsRefusal}
 use Rattle.core_runner.specs.ReportText.{report_text}
+use Rattle.core_runner.specs.Reports.{IsReportOf}
 use Rattle.core_runner.specs.Statuses.{HasStatus, status_left_out}
 use Rattle.core_runner.specs.Worlds.{IsWorldAnswer}
 use Rattle.core_runner.specs.declared.commands.world.Wanted.TheVariants as wanted
@@ -12,25 +14,17 @@ use Rattle.rank_language.specs.Correct.{IsProgramOf}
 use Rattle.rank_language.specs.Named.{forms_of}
 use Rattle.rank_language.specs.Program.{ProgramValue}
 use Rattle.rank_printer.specs.Canonical.{program_text}
-use Rattle.rank_threads.specs.Report.{IsReport}
 use Rattle.rank_threads.specs.declared.report.Report.{Report}
-
--- This is a report, which was validated, of a run of the program that the file holds, on so many
--- ranks.
-pub record IsReportOf (holds : List ℕ → Type 0) (ranks : ℕ) (report : Report) : Type 0 where
-  pub program : ProgramValue
-  pub read : IsProgramIn holds program
-  pub is_report : IsReport program ranks report
 
 -- Standard output is the text of this report, and the exit status says whether every rank halted.
 pub record IsReportText (report : Report) (out : List ℕ) (status : ℕ) : Type 0 where
   pub text : out ≡ report_text report
   pub ended : HasStatus report.outcome status
 
--- What `run` answers: the text and the status of such a report.
-pub record IsRunAnswer (holds : List ℕ → Type 0) (ranks : ℕ) (out : List ℕ) (status : ℕ) : Type 0 where
+-- What `run` answers: the text and the status of a report of the job's run.
+pub record IsRunAnswer (holds : List ℕ → List ℕ → Type 0) (job : RunJob) (out : List ℕ) (status : ℕ) : Type 0 where
   pub report : Report
-  pub of_run : IsReportOf holds ranks report
+  pub of_run : IsReportOf holds job report
   pub printed : IsReportText report out status
 
 -- What `check` answers: the canonical text of the program that the file holds, which is again a text
@@ -53,7 +47,7 @@ abbrev pub IsCoreAnswer : (List ℕ → List ℕ → Type 0) → Job → List �
 IsCoreAnswer holds (job.Check check) out status =
     IsRefusal out status ⊎ IsCheckAnswer (holds check.program.now) out status
 IsCoreAnswer holds (job.Run run) out status =
-    IsRefusal out status ⊎ IsRunAnswer (holds run.program.now) run.ranks out status
+    IsRefusal out status ⊎ IsRunAnswer holds run out status
 IsCoreAnswer holds (job.World world) out status =
     IsRefusal out status ⊎ IsWorldAnswer holds world wanted.Replies out status
 IsCoreAnswer holds (job.CatchUp world) out status =

@@ -4,4 +4,5 @@ pub mod ReportText
 pub mod FinishText
 pub mod Worlds
 pub mod Reading
+pub mod Reports
 pub mod Answers

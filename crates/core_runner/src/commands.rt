@@ -24,7 +24,7 @@ mod world;
 pub use crate::commands::check::checked;
 pub use crate::commands::reading::text_in;
 pub use crate::commands::refusal::Refusal;
-pub use crate::commands::run::{Nobody, limits_of, ran};
+pub use crate::commands::run::{Nobody, limits_of, ran, report_under};
 pub use crate::commands::said::Said;
 use crate::commands::telling::tell_left_out;
 pub use crate::commands::telling::{tell, tell_no_job, tell_no_memory};

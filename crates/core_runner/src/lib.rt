@@ -11,8 +11,8 @@ mod output;
 mod words;
 
 pub use commands::{
-    Nobody, Refusal, Said, Wanted, checked, core_command, do_core_job, limits_of, ran, tell,
-    tell_no_job, tell_no_memory, text_in, world_said,
+    Nobody, Refusal, Said, Wanted, checked, core_command, do_core_job, limits_of, ran,
+    report_under, tell, tell_no_job, tell_no_memory, text_in, world_said,
 };
 pub use files::{FileFault, Files, MachineFiles};
 pub use output::{all_halted, calls_of, print_cost, print_end, print_line};

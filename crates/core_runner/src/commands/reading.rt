@@ -1,6 +1,6 @@
 //! Files that the program's words name, read and parsed.
 ghost use Rattle.std.specs.Prelude.{ℕ, List, IfOk};
-ghost use Rattle.core_runner.specs.Reading.{AreEventsIn, IsProgramIn};
+ghost use Rattle.core_runner.specs.Reading.{AreEventsIn, IsProgramIn, IsScriptBy, IsScriptIn};
 
 use crate::commands::refusal::Refusal;
 use crate::files::Files;
@@ -37,13 +37,31 @@ pub fn program_in<'a, F: Files>(
     }
 }
 
-/// The script of the file with this name, for so many ranks.
-pub fn script_in<'a, F: Files>(
+/// The script of the file with this name, for so many ranks. Without a name it
+/// asks for nothing.
+pub fn script_by<'a, F: Files>(
+    alloc: Heap,
+    name: Option<&'a str>,
+    ranks: u8,
+    files: &mut F,
+) -> Result<Script, Refusal<'a>>
+    ensures { IfOk result (λ script. IsScriptBy (F.holds files.old) ranks name.entry script) }
+{
+    match name {
+        Some(name) => script_in(alloc, name, ranks, files),
+        None => Ok(Script::new(alloc)),
+    }
+}
+
+#[tactic(auto, using(crate::proofs::Reading::is_script_in))]
+fn script_in<'a, F: Files>(
     alloc: Heap,
     name: &'a str,
     ranks: u8,
     files: &mut F,
-) -> Result<Script, Refusal<'a>> {
+) -> Result<Script, Refusal<'a>>
+    ensures { IfOk result (λ script. IsScriptIn (F.holds files.old name.entry.now) ranks script) }
+{
     match files.read(name) {
         Ok(text) => Ok(Script::parse(alloc, text.as_slice(), ranks)?),
         Err(fault) => Err(Refusal::of_file(name, fault)),

@@ -1,16 +1,19 @@
 //! A job's run, and its report.
-ghost use Rattle.std.specs.Prelude.{◌≡◌, ◌⊎◌, IfOk};
-ghost use Rattle.core_runner.specs.Answers.{IsReportOf, IsReportText, IsRunAnswer};
+ghost use Rattle.std.specs.Prelude.{◌≡◌, ◌≤◌, ◌⊎◌, IfOk};
+ghost use Rattle.metered.specs.Limits.{most_ranks};
+ghost use Rattle.core_runner.specs.Answers.{IsReportText, IsRunAnswer};
 ghost use Rattle.core_runner.specs.Refusals.{IsRefusal};
+ghost use Rattle.core_runner.specs.Reports.{IsReportOf, IsReportUnder};
 
-use crate::commands::reading::{program_in, script_in};
+use crate::commands::reading::{program_in, script_by};
 use crate::commands::refusal::Refusal;
 use crate::commands::said::Said;
 use crate::files::Files;
 use crate::output::{all_halted, print_report};
 use command_line::RunJob;
 use metered::Heap;
-use rank_threads::{Hold, Report, RunLimits, run};
+use rank_language::Program;
+use rank_threads::{Hold, Report, RunFault, RunLimits, run};
 use script_text::Script;
 use std::alloc::AllocError;
 use std::sync::Wait;
@@ -34,7 +37,7 @@ pub fn ran<R: Threads + Wait + Sync + Copy + Send, F: Files>(
     files: &mut F,
 ) -> Result<Said, AllocError>
     ensures { IfOk result (λ said. IsRefusal said.out.items said.status
-        ⊎ IsRunAnswer (F.holds files.old job.entry.program.now) job.entry.ranks said.out.items said.status) }
+        ⊎ IsRunAnswer (F.holds files.old) job.entry said.out.items said.status) }
 {
     match report_of(rt, alloc, job, files) {
         Ok(report) => answer(alloc, &report),
@@ -43,24 +46,39 @@ pub fn ran<R: Threads + Wait + Sync + Copy + Send, F: Files>(
 }
 
 // The program is read and parsed before the script is read.
+#[tactic(auto, using(crate::proofs::Answers::is_report_of))]
 fn report_of<'a, R: Threads + Wait + Sync + Copy + Send, F: Files>(
     rt: &R,
     alloc: Heap,
     job: RunJob<'a>,
     files: &mut F,
 ) -> Result<Report, Refusal<'a>>
-    ensures { IfOk result (λ report. IsReportOf (F.holds files.old job.entry.program.now) job.entry.ranks report) }
+    ensures { IfOk result (λ report. IsReportOf (F.holds files.old) job.entry report) }
 {
     let program = program_in(alloc, job.program, files)?;
-    let script = match job.script {
-        Some(name) => script_in(alloc, name, job.ranks, files)?,
-        None => Script::new(alloc),
-    };
-    let limits = limits_of(job);
-    match run(rt, alloc, &program, job.ranks, &script, limits, &Nobody) {
+    let script = script_by(alloc, job.script, job.ranks, files)?;
+    match report_under(rt, alloc, &program, job.ranks, &script, limits_of(job)) {
         Ok(report) => Ok(report),
         Err(fault) => Err(Refusal::from(fault)),
     }
+}
+
+/// The report of a run of the program under this script, in which nobody waits for
+/// an act.
+#[tactic(auto, using(crate::proofs::Answers::is_report_under))]
+pub fn report_under<R: Threads + Wait + Sync + Copy + Send>(
+    rt: &R,
+    alloc: Heap,
+    program: &Program,
+    ranks: u8,
+    script: &Script,
+    limits: RunLimits,
+) -> Result<Report, RunFault>
+    requires some { 1 ≤ ranks }
+    requires few { ranks ≤ most_ranks }
+    ensures { IfOk result (λ report. IsReportUnder program.now ranks script.now limits.steps report) }
+{
+    run(rt, alloc, program, ranks, script, limits, &Nobody)
 }
 
 /// The limits of the job's run.
