@@ -16,7 +16,12 @@ no_memory holds (job.World world) = inl (record { silent = refl; refusal = refus
 no_memory holds (job.CatchUp world) = inl (record { silent = refl; refusal = refusal.Memory; code = refl })
 no_memory holds (job.Finish finish) = inl (record { silent = refl; refusal = refusal.Memory; code = refl })
 no_memory holds (job.Explore search) = inl (record { silent = refl; refusal = tool.Core refusal.Memory; code = refl })
-no_memory holds other = tt
+no_memory holds (job.C check) = inl (record { silent = refl; refusal = refusal.Memory; code = refl })
+no_memory holds (job.Trace run) = inl (record { silent = refl; refusal = tool.Core refusal.Memory; code = refl })
+no_memory holds (job.WorldJson world) = inl (record { silent = refl; refusal = refusal.Memory; code = refl })
+no_memory holds (job.Explain texts) = inl (record { silent = refl; refusal = refusal.Memory; code = refl })
+no_memory holds (job.Judge outcome) = inl (record { silent = refl; refusal = tool.Core refusal.Memory; code = refl })
+no_memory holds (job.Soak runs) = inl (record { silent = refl; refusal = tool.Core refusal.Memory; code = refl })
 
 -- a stream that isn't written to grows by nothing
 pub nothing_written : (held : Option (List ℕ)) → Appends held held []

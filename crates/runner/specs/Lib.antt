@@ -8,3 +8,7 @@ pub mod OutcomesText
 pub mod Searches
 pub mod Judgments
 pub mod SoakText
+pub mod Soaks
+pub mod Translations
+pub mod Objects
+pub mod Explanations

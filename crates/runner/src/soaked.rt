@@ -64,6 +64,7 @@ impl Soaked {
     /// `Err` means out of memory.
     pub fn fail(&mut self, number: u32, why: Refusal<'_>, script: &str) -> Result<(), AllocError>
         ensures counted { self.new.histogram ≡ self.old.histogram }
+        ensures crashes { self.new.crashes ≡ self.old.crashes }
         ensures halted { self.new.all_halted ≡ false }
     {
         self.all_halted = false;

@@ -1,6 +1,8 @@
 //! Whether some run without crashes has the outcome of a file.
-ghost use Rattle.std.specs.Prelude.{IfOk};
-ghost use Rattle.runner.specs.Judgments.{HasVerdict};
+ghost use Rattle.std.specs.Prelude.{IfOk, string_bytes};
+ghost use Rattle.outcome_text.specs.Outcomes.{outcome_of};
+ghost use Rattle.runner.specs.Judgments.{IsJudgeAnswer, IsYesText, TellsVerdict, TellsVerdictOf};
+ghost use Rattle.runner.specs.Traces.{TracesReport};
 ghost use Rattle.statement_lines.specs.Standing.{IsLinedOf};
 
 use crate::commands::tool_refusal::ToolRefusal;
@@ -23,11 +25,14 @@ struct Texts {
 
 /// The verdict on the job's outcome, with status 0 for yes and 1 for no. The
 /// program is read and parsed before the outcome is read.
+#[tactic(auto, using(crate::proofs::Judging::is_judge_answer))]
 pub fn judged<'a, F: Files>(
     alloc: Heap,
     job: JudgeJob<'a>,
     files: &mut F,
-) -> Result<Said, ToolRefusal<'a>> {
+) -> Result<Said, ToolRefusal<'a>>
+    ensures { IfOk result (λ said. IsJudgeAnswer (F.holds files.old) job.entry said.out.items said.status) }
+{
     let text = text_in(job.program, files)?;
     let lined = statement_lines::parse(alloc, text.as_slice())?;
     let said = judged_by(alloc, job, &lined, text, files);
@@ -36,6 +41,7 @@ pub fn judged<'a, F: Files>(
 }
 
 // The same, of a program that is parsed.
+#[tactic(auto, using(crate::proofs::Judging::tells_verdict_of))]
 fn judged_by<'a, F: Files>(
     alloc: Heap,
     job: JudgeJob<'a>,
@@ -44,6 +50,8 @@ fn judged_by<'a, F: Files>(
     files: &mut F,
 ) -> Result<Said, ToolRefusal<'a>>
     requires { IsLinedOf text.items lined.now.program lined.now.lines.items }
+    ensures { IfOk result (λ said. TellsVerdictOf (F.holds files.old job.entry.outcome.now) text.items lined.now.program job.entry
+        said.out.items said.status) }
 {
     let texts = Texts {
         program: text,
@@ -64,13 +72,15 @@ fn said_of(
     read: &OutcomeText,
 ) -> Result<Said, AllocError>
     requires { IsLinedOf texts.now.program.items lined.now.program lined.now.lines.items }
+    ensures { IfOk result (λ said. TellsVerdict texts.now.program.items lined.now.program job.entry (outcome_of read.now)
+        said.out.items said.status) }
 {
     let outcome = read.outcome(alloc)?;
     verdict_on(alloc, job, lined, texts, read, &outcome)
 }
 
 // What is said of an outcome: a yes and a no are those of `judge`.
-#[tactic(auto, using(crate::proofs::Judging::has_yes, crate::proofs::Judging::has_no))]
+#[tactic(auto, using(crate::proofs::Judging::tells_yes, crate::proofs::Judging::tells_no))]
 fn verdict_on(
     alloc: Heap,
     job: JudgeJob<'_>,
@@ -80,7 +90,7 @@ fn verdict_on(
     outcome: &Outcome,
 ) -> Result<Said, AllocError>
     requires { IsLinedOf texts.now.program.items lined.now.program lined.now.lines.items }
-    ensures { IfOk result (λ said. HasVerdict lined.now.program job.entry.ranks outcome.now job.entry.steps said.status) }
+    ensures { IfOk result (λ said. TellsVerdict texts.now.program.items lined.now.program job.entry outcome.now said.out.items said.status) }
 {
     match judge(alloc, &lined.program, job.ranks, outcome, job.steps)? {
         Verdict::Yes => {
@@ -105,6 +115,7 @@ fn verdict_on(
 }
 
 // `yes`, and the run if it is wanted.
+#[tactic(auto, using(crate::proofs::Judging::yes_alone, crate::proofs::Judging::yes_traced))]
 fn yes_text(
     alloc: Heap,
     job: JudgeJob<'_>,
@@ -113,6 +124,7 @@ fn yes_text(
     outcome: &Outcome,
 ) -> Result<String<Heap>, AllocError>
     requires { IsLinedOf texts.now.program.items lined.now.program lined.now.lines.items }
+    ensures { IfOk result (λ text. IsYesText texts.now.program.items lined.now.program job.entry outcome.now (string_bytes text)) }
 {
     let mut text = String::from_str(alloc, "yes\n")?;
     if job.trace {
@@ -123,6 +135,7 @@ fn yes_text(
 }
 
 // A run that has the outcome; within these steps there is one, so it is missed only where memory is short.
+#[tactic(auto, using(crate::proofs::Traces::traces_report))]
 fn run_text(
     alloc: Heap,
     job: JudgeJob<'_>,
@@ -131,6 +144,8 @@ fn run_text(
     outcome: &Outcome,
 ) -> Result<String<Heap>, AllocError>
     requires { IsLinedOf texts.now.program.items lined.now.program lined.now.lines.items }
+    ensures { IfOk result (λ text. TracesReport texts.now.program.items lined.now.program job.entry.ranks outcome.now job.entry.steps
+        (string_bytes text)) }
 {
     let program = &lined.program;
     let given = Given {

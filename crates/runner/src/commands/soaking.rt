@@ -1,16 +1,18 @@
 //! Many runs of a job's program, under scripts that are drawn at random.
-ghost use Rattle.std.specs.Prelude.{◌≡◌};
+ghost use Rattle.std.specs.Prelude.{◌≡◌, IfOk, OnOk, string_bytes};
+ghost use Rattle.runner.specs.SoakText.{IsSoakText};
+ghost use Rattle.runner.specs.Soaks.{AreSoaked, HasSoakStatus, IsDrawn, IsOneMore, IsSoakAnswer};
 
 use crate::commands::tool_refusal::ToolRefusal;
 use crate::soaked::{Soaked, print_soaked};
 use audit::find_run;
 use command_line::SoakJob;
-use core_runner::{Files, Nobody, Refusal, Said, text_in};
+use core_runner::{Files, Refusal, Said, report_under, text_in};
 use crash_free::Sim;
 use explore::{Limits, Watch, explore};
 use metered::Heap;
 use rank_language::Program;
-use rank_threads::{RunFault, RunLimits, run};
+use rank_threads::{RunFault, RunLimits};
 use script_text::Script;
 use soak::{Most, draw, text_of};
 use std::alloc::AllocError;
@@ -25,21 +27,36 @@ const SEARCH: Limits = Limits {
     states: 100_000,
 };
 
+// The script of a run, and its text.
+#[derive(Drop)]
+struct Drawn {
+    text: String<Heap>,
+    script: Script,
+}
+
 /// What the job's runs came to. The status is 1 where a rank isn't halted in one
 /// of them, or one has no report.
+#[tactic(auto, using(crate::proofs::Soaks::is_soak_answer))]
 pub fn soaked<'a, R: Threads + Wait + Sync + Copy + Send, F: Files, W: Watch>(
     rt: &R,
     alloc: Heap,
     job: SoakJob<'a>,
     files: &mut F,
     watch: &mut W,
-) -> Result<Said, ToolRefusal<'a>> {
+) -> Result<Said, ToolRefusal<'a>>
+    ensures { IfOk result (λ said. IsSoakAnswer (F.holds files.old job.entry.program.now) job.entry said.out.items said.status) }
+{
     let text = text_in(job.program, files)?;
     let program = Program::parse(alloc, text.as_slice())?;
     let soaked = made(rt, alloc, job, &program, watch)?;
     let text = told(alloc, job, &program, &soaked, watch)?;
-    let status = if soaked.all_halted { 0 } else { 1 };
-    Ok(Said::answer(alloc, status, text.into_bytes()))
+    Ok(Said::answer(alloc, status_of(&soaked), text.into_bytes()))
+}
+
+fn status_of(soaked: &Soaked) -> u8
+    ensures { HasSoakStatus soaked.now result }
+{
+    if soaked.all_halted { 0 } else { 1 }
 }
 
 // What is printed of the runs, beside what a search finds.
@@ -49,19 +66,24 @@ fn told<W: Watch>(
     program: &Program,
     soaked: &Soaked,
     watch: &mut W,
-) -> Result<String<Heap>, AllocError> {
+) -> Result<String<Heap>, AllocError>
+    ensures { IfOk result (λ text. IsSoakText soaked.now job.entry.runs (string_bytes text)) }
+{
     let found = explore(alloc, program, job.ranks, SEARCH, watch)?;
     print_soaked(alloc, soaked, &found, job.runs)
 }
 
 // The runs, from number 1 on.
+#[tactic(auto, using(crate::proofs::Soaks::of_none))]
 fn made<'a, R: Threads + Wait + Sync + Copy + Send, W: Watch>(
     rt: &R,
     alloc: Heap,
     job: SoakJob<'a>,
     program: &Program,
     watch: &mut W,
-) -> Result<Soaked, ToolRefusal<'a>> {
+) -> Result<Soaked, ToolRefusal<'a>>
+    ensures { IfOk result (λ soaked. AreSoaked program.now job.entry job.entry.runs soaked) }
+{
     let acts = acts_of(rt, alloc, job, program)?;
     let mut soaked = Soaked::new(alloc);
     for number in 0..job.runs {
@@ -80,6 +102,7 @@ fn made<'a, R: Threads + Wait + Sync + Copy + Send, W: Watch>(
 }
 
 // The run of this number: its script follows from that and the job's seed.
+#[tactic(auto, using(crate::proofs::Soaks::is_failed))]
 fn make<'a, R: Threads + Wait + Sync + Copy + Send>(
     rt: &R,
     alloc: Heap,
@@ -88,7 +111,27 @@ fn make<'a, R: Threads + Wait + Sync + Copy + Send>(
     acts: &[u32],
     number: u32,
     soaked: &mut Soaked,
-) -> Result<(), ToolRefusal<'a>> {
+) -> Result<(), ToolRefusal<'a>>
+    ensures { OnOk result (IsOneMore program.now job.entry soaked.old soaked.new) }
+{
+    let drawn = drawn_for(alloc, job, acts, number)?;
+    let (ranks, script) = (job.ranks, &drawn.script);
+    match report_under(rt, alloc, program, ranks, script, limits_of(job)) {
+        Ok(report) => Ok(soaked.note(alloc, &report, script)?),
+        Err(RunFault::Memory) => Err(ToolRefusal::Core(Refusal::Memory)),
+        Err(fault) => Ok(soaked.fail(number, Refusal::from(fault), drawn.text.as_str())?),
+    }
+}
+
+#[tactic(auto, using(crate::proofs::Soaks::is_drawn))]
+fn drawn_for<'a>(
+    alloc: Heap,
+    job: SoakJob<'a>,
+    acts: &[u32],
+    number: u32,
+) -> Result<Drawn, ToolRefusal<'a>>
+    ensures { IfOk result (λ drawn. IsDrawn job.entry drawn.script) }
+{
     let most = Most {
         kills: job.kills,
         images: job.images,
@@ -96,15 +139,9 @@ fn make<'a, R: Threads + Wait + Sync + Copy + Send>(
     let (seed, of) = (u64::from(job.seed), u64::from(number));
     let lines = draw(alloc, seed, of, job.ranks, acts, most)?;
     let text = text_of(alloc, lines.as_slice())?;
-    let script = match Script::parse(alloc, text.as_bytes(), job.ranks) {
-        Ok(script) => script,
-        Err(fault) => return Err(ToolRefusal::Core(Refusal::from(fault))),
-    };
-    let (ranks, limits) = (job.ranks, limits_of(job));
-    match run(rt, alloc, program, ranks, &script, limits, &Nobody) {
-        Ok(report) => Ok(soaked.note(alloc, &report, &script)?),
-        Err(RunFault::Memory) => Err(ToolRefusal::Core(Refusal::Memory)),
-        Err(fault) => Ok(soaked.fail(number, Refusal::from(fault), text.as_str())?),
+    match Script::parse(alloc, text.as_bytes(), job.ranks) {
+        Ok(script) => Ok(Drawn { text, script }),
+        Err(fault) => Err(ToolRefusal::Core(Refusal::from(fault))),
     }
 }
 
@@ -117,7 +154,7 @@ fn acts_of<'a, R: Threads + Wait + Sync + Copy + Send>(
 ) -> Result<Vec<u32, Heap>, ToolRefusal<'a>> {
     let (ranks, limits) = (job.ranks, limits_of(job));
     let script = Script::new(alloc);
-    let report = run(rt, alloc, program, ranks, &script, limits, &Nobody)?;
+    let report = report_under(rt, alloc, program, ranks, &script, limits)?;
     match find_run(alloc, program, ranks, &report.outcome, job.steps) {
         Ok(found) => Ok(acts_in(alloc, &found, ranks)?),
         Err(fault) => Err(ToolRefusal::from(RunFault::from(fault))),

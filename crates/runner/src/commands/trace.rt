@@ -4,9 +4,10 @@ ghost use Rattle.metered.specs.Limits.{most_ranks};
 ghost use Rattle.run_events.specs.Plays.{IsPlayText};
 ghost use Rattle.run_events.specs.Scripted.{IsScriptText};
 ghost use Rattle.run_trace.specs.Lines.{BeginsWithActs};
-ghost use Rattle.runner.specs.Events.{PlaysReport, PlaysScriptOf};
+ghost use Rattle.core_runner.specs.Reading.{IsScriptBy, IsScriptIn};
 ghost use Rattle.core_runner.specs.Statuses.{HasStatus};
-ghost use Rattle.runner.specs.Traces.{TracesReport};
+ghost use Rattle.runner.specs.Events.{PlaysReport, PlaysScriptOf};
+ghost use Rattle.runner.specs.Traces.{IsTold, IsTraceAnswer, TracesReport};
 ghost use Rattle.statement_lines.specs.Standing.{IsLinedOf};
 
 use crate::commands::picture::picture_text;
@@ -14,12 +15,12 @@ use crate::commands::tool_refusal::ToolRefusal;
 use audit::find_run;
 use command_line::{RunJob, TraceForm, TraceJob};
 use core_runner::{
-    Files, Nobody, Refusal, Said, all_halted, calls_of, limits_of, print_cost, text_in,
+    Files, Refusal, Said, all_halted, calls_of, limits_of, print_cost, report_under, text_in,
 };
 use crash_free::Sim;
 use metered::Heap;
 use rank_language::Program;
-use rank_threads::{Cause, Report, RunFault, run};
+use rank_threads::{Cause, Report, RunFault};
 use run_events::{PlayFault, play_script_text, play_text};
 use run_picture::Span;
 use run_trace::{Given, Why, trace_json, trace_text};
@@ -38,12 +39,15 @@ struct Asked {
 
 /// The run without crashes behind the job's report. The status is 1 where a rank
 /// isn't halted.
+#[tactic(auto, using(crate::proofs::Traces::is_trace_answer))]
 pub fn traced<'a, R: Threads + Wait + Sync + Copy + Send, F: Files>(
     rt: &R,
     alloc: Heap,
     job: TraceJob<'a>,
     files: &mut F,
-) -> Result<Said, ToolRefusal<'a>> {
+) -> Result<Said, ToolRefusal<'a>>
+    ensures { IfOk result (λ said. IsTraceAnswer (F.holds files.old) job.entry said.out.items said.status) }
+{
     let text = text_in(job.run.program, files)?;
     let lined = statement_lines::parse(alloc, text.as_slice())?;
     let asked = match asked_of(alloc, job.run, files) {
@@ -58,22 +62,30 @@ pub fn traced<'a, R: Threads + Wait + Sync + Copy + Send, F: Files>(
     said
 }
 
-fn asked_of<'a, F: Files>(
-    alloc: Heap,
-    job: RunJob<'a>,
-    files: &mut F,
-) -> Result<Asked, Refusal<'a>> {
+fn asked_of<'a, F: Files>(alloc: Heap, job: RunJob<'a>, files: &mut F) -> Result<Asked, Refusal<'a>>
+    ensures { IfOk result (λ asked. IsScriptBy (F.holds files.old) job.entry.ranks job.entry.script asked.script) }
+{
     match job.script {
-        Some(name) => {
-            let text = text_in(name, files)?;
-            let script = Script::parse(alloc, text.as_slice(), job.ranks)?;
-            Ok(Asked { text, script })
-        }
+        Some(name) => asked_in(alloc, name, job.ranks, files),
         None => Ok(Asked {
             text: Vec::new(alloc),
             script: Script::new(alloc),
         }),
     }
+}
+
+#[tactic(auto, using(crate::proofs::Traces::is_script_in))]
+fn asked_in<'a, F: Files>(
+    alloc: Heap,
+    name: &'a str,
+    ranks: u8,
+    files: &mut F,
+) -> Result<Asked, Refusal<'a>>
+    ensures { IfOk result (λ asked. IsScriptIn (F.holds files.old name.entry.now) ranks asked.script) }
+{
+    let text = text_in(name, files)?;
+    let script = Script::parse(alloc, text.as_slice(), ranks)?;
+    Ok(Asked { text, script })
 }
 
 // The run is made, found without crashes, and told.
@@ -86,12 +98,16 @@ fn told<'a, R: Threads + Wait + Sync + Copy + Send>(
     asked: &Asked,
 ) -> Result<Said, ToolRefusal<'a>>
     requires { IsLinedOf text.now lined.now.program lined.now.lines.items }
+    ensures { IfOk result (λ said. IsTold text.now lined.now.program job.entry asked.now.script said.out.items said.status) }
 {
     let limits = limits_of(job.run);
     let program = &lined.program;
     let script = &asked.script;
-    let report = run(rt, alloc, program, job.run.ranks, script, limits, &Nobody)?;
-    told_of(alloc, job, text, lined, asked, &report)
+    let report = report_under(rt, alloc, program, job.run.ranks, script, limits)?;
+    match told_of(alloc, job, text, lined, asked, &report) {
+        Ok(said) => Ok(said),
+        Err(refusal) => Err(refusal),
+    }
 }
 
 #[tactic(auto, using(crate::proofs::Events::plays_report, crate::proofs::Events::plays_script, crate::proofs::Traces::traces_report))]
