@@ -20,6 +20,19 @@ send 0, 0, 1
 end
 ";
 
+// The second probe may miss the message that the first one found, in a run but in no execution.
+const TWICE: &str = "\
+var f
+if rank == 0
+probe 1, 0
+iprobe 1, 0, f
+print f
+recv 1, 0, f
+else
+send 0, 0, 1
+end
+";
+
 // Rank 1 has a race, and behind it rank 0.
 const TWO: &str = "\
 var x
@@ -56,7 +69,7 @@ end
 ";
 
 /// Which receives and probes had several answers, and what the outcomes mean.
-const SHORT: [Run; 5] = [
+const SHORT: [Run; 6] = [
     (
         "--ranks 4 --summary",
         RACE,
@@ -74,6 +87,16 @@ outcomes 3, runs 3, complete
 rank 0 at line 3 finds one from 1, or none
 # outcome 1 stalls: rank 0 waits for a message that doesn't come
 # outcome 2 has a fault: rank 0
+outcomes 2, runs 2, complete
+",
+    ),
+    (
+        "--ranks 2 --summary",
+        TWICE,
+        0,
+        "\
+rank 0 at line 4 finds one from 1, or none
+# outcome 2: in the run that was found a probe misses a message that its rank was shown; no execution does
 outcomes 2, runs 2, complete
 ",
     ),
@@ -123,11 +146,11 @@ const JSON: [Run; 2] = [
         RACE,
         0,
         "{\"all_states_kept\":true,\"complete\":true,\"out_of_steps\":false,\"outcomes\":[\
-         {\"choices\":[{\"act\":\"reception\",\"line\":3,\"rank\":0,\"source\":1}],\"outcome\":1,\"ranks\":[\
+         {\"choices\":[{\"act\":\"reception\",\"line\":3,\"rank\":0,\"source\":1}],\"misses_shown\":false,\"outcome\":1,\"ranks\":[\
          {\"end\":\"halted\",\"lines\":[1],\"rank\":0},\
          {\"end\":\"halted\",\"lines\":[],\"rank\":1},\
          {\"end\":\"halted\",\"lines\":[],\"rank\":2}]},\
-         {\"choices\":[{\"act\":\"reception\",\"line\":3,\"rank\":0,\"source\":2}],\"outcome\":2,\"ranks\":[\
+         {\"choices\":[{\"act\":\"reception\",\"line\":3,\"rank\":0,\"source\":2}],\"misses_shown\":false,\"outcome\":2,\"ranks\":[\
          {\"end\":\"halted\",\"lines\":[2],\"rank\":0},\
          {\"end\":\"halted\",\"lines\":[],\"rank\":1},\
          {\"end\":\"halted\",\"lines\":[],\"rank\":2}]}],\"races\":[\
@@ -138,10 +161,10 @@ const JSON: [Run; 2] = [
         POLL,
         1,
         "{\"all_states_kept\":true,\"complete\":true,\"out_of_steps\":false,\"outcomes\":[\
-         {\"choices\":[{\"act\":\"hit\",\"line\":3,\"rank\":0,\"source\":1}],\"outcome\":1,\"ranks\":[\
+         {\"choices\":[{\"act\":\"hit\",\"line\":3,\"rank\":0,\"source\":1}],\"misses_shown\":false,\"outcome\":1,\"ranks\":[\
          {\"end\":\"stalled\",\"lines\":[],\"rank\":0},\
          {\"end\":\"halted\",\"lines\":[],\"rank\":1}]},\
-         {\"choices\":[{\"act\":\"miss\",\"line\":3,\"rank\":0}],\"outcome\":2,\"ranks\":[\
+         {\"choices\":[{\"act\":\"miss\",\"line\":3,\"rank\":0}],\"misses_shown\":false,\"outcome\":2,\"ranks\":[\
          {\"end\":\"fault\",\"fault\":2,\"lines\":[],\"name\":\"ZeroDivide\",\"rank\":0},\
          {\"end\":\"halted\",\"lines\":[],\"rank\":1}]}],\"races\":[\
          {\"line\":3,\"miss\":true,\"probe\":true,\"rank\":0,\"sources\":[1]}],\"runs\":2,\"states\":1}\n",
