@@ -44,7 +44,10 @@ fn text_of_end<'a>(
     ensures refused { IfErr result (λ refusal. refusal ≡ refusal_of_end steps end) }
 {
     match end {
-        FinishEnd::Ended => Ok(events_text(alloc, events)?),
+        FinishEnd::Ended => match events_text(alloc, events) {
+            Ok(text) => Ok(text),
+            Err(_) => Err(Refusal::Memory),
+        },
         FinishEnd::OutOfRounds { rank } => Err(Refusal::OutOfSteps { rank, steps }),
         FinishEnd::Spent { rank, fault } => Err(Refusal::Node { rank, fault }),
         FinishEnd::Unsettled { rank } => Err(Refusal::NoEnd(rank)),
