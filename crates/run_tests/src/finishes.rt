@@ -279,7 +279,7 @@ fn are_unfinished<R: Threads + Wait + Sync + Copy + Send + AllocGlobal + Abort>(
 }
 
 #[test]
-fn finished(rt: HostRuntime) -> Result<(), Fail> {
+fn worlds_are_led_to_their_end(rt: HostRuntime) -> Result<(), Fail> {
     are_finished(&rt, &FINISHED)?;
     are_unfinished(&rt, &UNFINISHED)
 }
