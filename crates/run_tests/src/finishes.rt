@@ -207,6 +207,17 @@ moved
     },
 ];
 
+// With these words, program and events this is printed, and the exit status is 0.
+fn expect_output<'a, R: Threads + Wait + Sync + Copy + Send + AllocGlobal + Abort>(
+    rt: &R,
+    words: &'a str,
+    program: &'a str,
+    events: &'a str,
+    out: &'a str,
+) -> Result<(), Fail> {
+    expect_answer(rt, words, &[("p", program), ("e", events)], (0, out, ""))
+}
+
 // This is printed to lead a world to its end, and is played behind its events; then nothing is left to do.
 fn is_finished<R: Threads + Wait + Sync + Copy + Send + AllocGlobal + Abort>(
     rt: &R,
@@ -214,13 +225,11 @@ fn is_finished<R: Threads + Wait + Sync + Copy + Send + AllocGlobal + Abort>(
 ) -> Result<(), Fail> {
     let alloc = rt.alloc();
     let finish = format!(in alloc; "catch-up {} --ranks {} p e", row.options, row.ranks)?;
-    let files = [("p", row.program), ("e", row.events)];
-    expect_answer(rt, finish.as_str(), &files, (0, row.more, ""))?;
+    expect_output(rt, finish.as_str(), row.program, row.events, row.more)?;
     let all = format!(in alloc; "{}{}", row.events, row.more)?;
-    let files = [("p", row.program), ("e", all.as_str())];
     let world = format!(in alloc; "world --ranks {} p e", row.ranks)?;
-    expect_answer(rt, world.as_str(), &files, (0, row.out, ""))?;
-    expect_answer(rt, finish.as_str(), &files, (0, "", ""))
+    expect_output(rt, world.as_str(), row.program, all.as_str(), row.out)?;
+    expect_output(rt, finish.as_str(), row.program, all.as_str(), "")
 }
 
 // So it is with each of these.
