@@ -3,11 +3,14 @@
 from __future__ import annotations
 
 import os
+import queue
 import subprocess
+import threading
 from unittest import mock
 
 from building import machine, schedule
 from building.costs import Cost, Costs, calculation_time
+from building.proof import children_of
 from building.weights import MEASURED, Weights
 
 from .stage import Stage, text_of
@@ -81,6 +84,26 @@ def with_little_memory_there_are_fewer_jobs_and_crates(stage: Stage) -> None:
 def a_build_measures_each_crate(stage: Stage) -> None:
     costs = Costs.read(f"{stage.out}/ftmpi.costs")
     assert costs and costs.speed > 0 and [*costs.of] == ["low", "middle", "side", "ftmpi"], costs
+
+
+def anew_a_process_that_another_thread_started_is_a_child(stage: Stage) -> None:
+    started, seen = queue.Queue[subprocess.Popen[bytes]](), threading.Event()
+
+    def start() -> None:
+        # (a thread that ends leaves its children to another one)
+        started.put(subprocess.Popen(["sleep", "60"]))
+        seen.wait()
+
+    thread = threading.Thread(target=start)
+    thread.start()
+    child = started.get()
+    try:
+        assert child.pid in children_of(os.getpid())
+    finally:
+        child.kill()
+        child.wait()
+        seen.set()
+        thread.join()
 
 
 def what_a_build_measured_counts_first(stage: Stage) -> None:

@@ -4,6 +4,7 @@ from __future__ import annotations
 
 import contextlib
 import errno
+import glob
 import os
 import re
 import shutil
@@ -129,6 +130,9 @@ def resident_of(pid: int) -> int:
 
 
 def children_of(pid: int) -> list[int]:
-    with contextlib.suppress(OSError):
-        return [int(it) for it in text_of(f"/proc/{pid}/task/{pid}/children").split()]
-    return []
+    """The processes that a process has started. Each of its threads has a list of its own."""
+    children = list[int]()
+    for file in glob.glob(f"/proc/{pid}/task/*/children"):
+        with contextlib.suppress(OSError):
+            children += map(int, text_of(file).split())
+    return children
