@@ -1,8 +1,12 @@
 //! Images of ranks within collectives: their bytes, and which of what is done and gathered they may say.
 use crate::images::damaged::is_damaged;
 use crate::images::{Change, fails_each, reads};
+use crate::same::same;
 use checkpoint::{ImageFault, decode};
+use metered::Heap;
 use rank_language::Program;
+use rank_machine::Machine;
+use std::process::Abort;
 use std::test::*;
 
 /// The root is an item of an array, which stands behind what is done and gathered.
@@ -61,24 +65,47 @@ const OF_MET: [Change; 4] = [
     (13, 16, ImageFault::Field),
 ];
 
+/// How many parts are done, how many collectives are finished, and what is gathered.
+type Within = (u16, u32, &'static [i64]);
+
+/// The image of rank 0 of three is read, says this, and has the fault of each change.
+fn is_within(
+    rt: &impl Abort,
+    alloc: Heap,
+    program: &Program,
+    image: &[u8],
+    says: Within,
+    changes: &[Change],
+) -> Result<(), Fail> {
+    reads(rt, alloc, program, 3, image)?;
+    fails_each(rt, alloc, program, 3, image, changes)?;
+    match decode(alloc, program, 0, 3, image) {
+        Ok(image) => {
+            machine_says(rt, &image.machine, says);
+            Ok(())
+        }
+        Err(fault) => Err(Fail::from(fault)),
+    }
+}
+
+/// What a machine within a collective says.
+fn machine_says(rt: &impl Abort, machine: &Machine<'_>, says: Within) {
+    let (done, finished, gathered) = says;
+    let found = (machine.done(), machine.finished(), machine.gathered());
+    same(rt, "what it says", &found, &(done, finished, gathered));
+}
+
 #[test]
 fn an_image_within_a_reduce(rt: HostRuntime) -> Result<(), Fail> {
     let alloc = rt.alloc();
     let program = Program::parse(alloc, REDUCING)?;
-    reads(&rt, alloc, &program, 3, &GATHERED)?;
-    let image = decode(alloc, &program, 0, 3, &GATHERED)?;
-    assert_eq!(rt; (image.machine.done(), image.machine.finished()), (1, 0));
-    assert_eq!(rt; image.machine.gathered(), [2].as_slice());
-    fails_each(&rt, alloc, &program, 3, &GATHERED, &OF_GATHERED)?;
-    is_damaged(&rt, alloc, &program, 3, &GATHERED)
+    is_within(&rt, alloc, &program, &GATHERED, (1, 0, &[2]), &OF_GATHERED)?;
+    Ok(is_damaged(&rt, alloc, &program, 3, &GATHERED)?)
 }
 
 #[test]
 fn an_image_within_a_barrier(rt: HostRuntime) -> Result<(), Fail> {
     let alloc = rt.alloc();
     let program = Program::parse(alloc, MEETING)?;
-    reads(&rt, alloc, &program, 3, &MET)?;
-    let image = decode(alloc, &program, 0, 3, &MET)?;
-    assert_eq!(rt; (image.machine.done(), image.machine.finished()), (3, 0));
-    fails_each(&rt, alloc, &program, 3, &MET, &OF_MET)
+    is_within(&rt, alloc, &program, &MET, (3, 0, &[]), &OF_MET)
 }

@@ -2,6 +2,7 @@
 //! all stand in their order.
 ghost use Rattle.std.specs.Prelude.{◌≤◌};
 
+use crate::same::same;
 use metered::Heap;
 use ports::{Console, ConsoleState, Line};
 use rank_node::{Screen, Shown};
@@ -18,16 +19,18 @@ fn shows(
     (rank, clock, value): (u8, u32, i64),
     want: Shown,
 ) {
-    assert_eq!(rt;
-        console.show(rank, clock, value),
-        Ok(want),
-        "{rank}> {value} at {clock}"
+    let shown = console.show(rank, clock, value);
+    same(
+        rt,
+        format_args!("{rank}> {value} at {clock}"),
+        &shown,
+        &Ok(want),
     );
 }
 
 /// Compares the lines, whole.
 fn has(rt: &impl Abort, console: &ConsoleState, want: &[Line]) {
-    assert_eq!(rt; console.lines(), want);
+    same(rt, "lines", &console.lines(), &want);
 }
 
 /// A line, and what becomes of it: rank, clock and value.
@@ -156,11 +159,16 @@ fn has_300_of(rt: &impl Abort, console: &ConsoleState, rank: u8) {
     let mut clock = 0u32;
     for line in console.lines() {
         if line.rank == rank {
-            assert_eq!(rt; (line.clock, line.value), (clock, value_at(clock)));
+            same(
+                rt,
+                "a line",
+                &(line.clock, line.value),
+                &(clock, value_at(clock)),
+            );
             clock = clock.saturating_add(1);
         }
     }
-    assert_eq!(rt; clock, 300);
+    same(rt, "how many lines", &clock, &300);
 }
 
 #[test]
@@ -172,7 +180,7 @@ fn two_ranks_show_their_lines_at_once(rt: HostRuntime) -> Result<(), Fail> {
         || shows_300_of(&rt, &console, 1),
     );
     let console = console.into_state();
-    assert_eq!(rt; console.lines().len(), 600);
+    same(&rt, "how many lines", &console.lines().len(), &600);
     has_300_of(&rt, &console, 0);
     has_300_of(&rt, &console, 1);
     Ok(())

@@ -2,6 +2,7 @@
 ghost use Rattle.std.specs.Prelude.{◌≡◌, ◌<◌, length};
 
 use crate::payload_logs::{Step, next_item, take_step};
+use crate::same::same;
 use metered::Heap;
 use payload_log::PayloadLog;
 use std::process::Abort;
@@ -75,7 +76,12 @@ fn takes_steps(rt: &impl Abort, alloc: Heap, log: &mut PayloadLog, rows: &[Row])
         let (dest, step, now) = *row;
         assert!(rt; dest < 16);
         take_step(rt, alloc, log, dest, step)?;
-        assert_eq!(rt; stands(log, dest), now, "after {step:?} for {dest}");
+        same(
+            rt,
+            format_args!("after {step:?} for {dest}"),
+            &stands(log, dest),
+            &now,
+        );
     }
     Ok(())
 }
@@ -85,7 +91,12 @@ fn two_destinations_hold_in_turn(rt: HostRuntime) -> Result<(), Fail> {
     let mut log = PayloadLog::new(rt.alloc(), 16)?;
     takes_steps(&rt, rt.alloc(), &mut log, &STEPS)?;
     for dest in 2..15usize {
-        assert_eq!(rt; stands(&log, dest), (0, 0, None, 0, None), "for {dest}");
+        same(
+            &rt,
+            format_args!("for {dest}"),
+            &stands(&log, dest),
+            &(0, 0, None, 0, None),
+        );
     }
     Ok(())
 }
@@ -110,10 +121,10 @@ fn frees_each(rt: &impl Abort, alloc: Heap, log: &mut PayloadLog, dest: usize) -
 {
     for number in 1..66i64 {
         let item = Some((1000 * dest as i64).saturating_add(number));
-        assert_eq!(rt; next_item(log, dest), None);
-        assert_eq!(rt; oldest_item(log, dest), item);
+        same(rt, "next while held", &next_item(log, dest), &None);
+        same(rt, "the oldest held", &oldest_item(log, dest), &item);
         take_step(rt, alloc, log, dest, Step::Free)?;
-        assert_eq!(rt; next_item(log, dest), item);
+        same(rt, "next once free", &next_item(log, dest), &item);
         take_step(rt, alloc, log, dest, Step::Transmit)?;
     }
     Ok(())
@@ -123,12 +134,22 @@ fn frees_each(rt: &impl Abort, alloc: Heap, log: &mut PayloadLog, dest: usize) -
 fn sixty_five_held_packets_each(rt: HostRuntime) -> Result<(), Fail> {
     let mut log = PayloadLog::new(rt.alloc(), 16)?;
     holds_in_turn(&rt, rt.alloc(), &mut log)?;
-    assert_eq!(rt; stands(&log, 0), (0, 0, None, 65, Some(1)));
+    same(&rt, "0, held", &stands(&log, 0), &(0, 0, None, 65, Some(1)));
     frees_each(&rt, rt.alloc(), &mut log, 0)?;
-    assert_eq!(rt; stands(&log, 0), (65, 0, None, 0, None));
-    assert_eq!(rt; stands(&log, 5), (0, 0, None, 65, Some(5001)));
+    same(&rt, "0, freed", &stands(&log, 0), &(65, 0, None, 0, None));
+    same(
+        &rt,
+        "5, held",
+        &stands(&log, 5),
+        &(0, 0, None, 65, Some(5001)),
+    );
     frees_each(&rt, rt.alloc(), &mut log, 5)?;
     take_step(&rt, rt.alloc(), &mut log, 5, Step::Save)?;
-    assert_eq!(rt; stands(&log, 5), (66, 0, Some(5066), 0, None));
+    same(
+        &rt,
+        "5, saved",
+        &stands(&log, 5),
+        &(66, 0, Some(5066), 0, None),
+    );
     Ok(())
 }

@@ -1,13 +1,16 @@
 //! Images: their bytes, and the fault of each field.
 ghost use Rattle.std.specs.Prelude.{◌<◌, ◌≤◌};
 ghost use Rattle.metered.specs.Limits.{most_ranks};
-ghost use Rattle.checkpoint.specs.Savable.{IsSavable};
 
 pub mod damaged;
 
+use crate::same::same;
 use checkpoint::{Image, ImageFault, decode, encode};
 use metered::Heap;
+use metered::limits::MOST_RANKS;
 use rank_language::Program;
+use rank_machine::Machine;
+use std::alloc::AllocError;
 use std::process::Abort;
 use std::test::*;
 
@@ -152,26 +155,61 @@ const OF_BUSY: [Change; 48] = [
 ];
 
 /// The same image in format 1: it says nothing of event words.
-fn in_format_1(alloc: Heap, image: &[u8]) -> Result<Vec<u8, Heap>, Fail> {
-    let mut bytes = Vec::new(alloc);
-    bytes.push(1)?;
-    if let [_, _, rest @ ..] = image {
-        bytes.extend_from_slice(rest)?;
+fn in_format_1(alloc: Heap, image: &[u8]) -> Result<Vec<u8, Heap>, AllocError> {
+    let mut bytes = Vec::from_slice(alloc, image)?;
+    if bytes.len() > 1 {
+        bytes.remove(0);
+        bytes[0] = 1;
     }
     Ok(bytes)
 }
 
-/// The image that is read is written as these bytes, or is these bytes in format 1 where they begin so.
-fn is_written(rt: &impl Abort, alloc: Heap, image: &Image<'_>, bytes: &[u8]) -> Result<(), Fail>
-    requires { IsSavable image.now }
+/// What the image of rank 0 is written as that these bytes are, or their fault.
+pub fn rewritten(
+    alloc: Heap,
+    program: &Program,
+    size: u8,
+    bytes: &[u8],
+) -> Result<Result<Vec<u8, Heap>, ImageFault>, AllocError>
+    requires least { 0 < size }
+    requires most { size ≤ most_ranks }
 {
-    let written = encode(alloc, image)?;
-    if bytes.first() == Some(&1) {
-        let before = in_format_1(alloc, &written)?;
-        assert_eq!(rt; before.as_slice(), bytes);
-    } else {
-        assert_eq!(rt; written.as_slice(), bytes);
+    match decode(alloc, program, 0, size, bytes) {
+        Ok(image) => encode(alloc, &image).map(Ok),
+        Err(fault) => Ok(Err(fault)),
     }
+}
+
+/// The image that was read of these bytes is written as them, or is these bytes in format 1 where they begin so.
+fn is_written(
+    rt: &impl Abort,
+    alloc: Heap,
+    written: &[u8],
+    bytes: &[u8],
+) -> Result<(), AllocError> {
+    if bytes.first() == Some(&1) {
+        let before = in_format_1(alloc, written)?;
+        same(rt, "written in format 1", &before.as_slice(), &bytes);
+    } else {
+        same(rt, "written", &written, &bytes);
+    }
+    Ok(())
+}
+
+/// The image of rank 0 that these bytes are is written as those.
+fn is_same(
+    rt: &impl Abort,
+    alloc: Heap,
+    program: &Program,
+    size: u8,
+    bytes: &[u8],
+    want: &[u8],
+) -> Result<(), Fail>
+    requires least { 0 < size }
+    requires most { size ≤ most_ranks }
+{
+    let written = rewritten(alloc, program, size, bytes)??;
+    same(rt, "written as it was read", &written.as_slice(), &want);
     Ok(())
 }
 
@@ -186,52 +224,86 @@ pub fn reads(
     requires least { 0 < size }
     requires most { size ≤ most_ranks }
 {
-    let image = decode(alloc, program, 0, size, bytes)?;
-    assert_eq!(rt; encode(alloc, &image)?.as_slice(), bytes);
+    is_same(rt, alloc, program, size, bytes, bytes)?;
     let before = in_format_1(alloc, bytes)?;
-    let same = decode(alloc, program, 0, size, &before)?;
-    assert_eq!(rt; encode(alloc, &same)?.as_slice(), bytes);
-    Ok(())
+    is_same(rt, alloc, program, size, &before, bytes)
+}
+
+/// A program, on how many ranks it runs, and an image of its rank 0.
+pub type Imaged = (&'static [u8], u8, &'static [u8]);
+
+const OF_PRINTING: Imaged = (PRINTING, 1, &PRINTED);
+
+const OF_A_BUSY_RANK: Imaged = (BUSY_PROGRAM, 2, &BUSY);
+
+const IMAGES: [Imaged; 3] = [OF_PRINTING, OF_A_BUSY_RANK, (BUSY_PROGRAM, 2, &KEEPING)];
+
+/// Such an image is read and written.
+fn is_read(rt: &impl Abort, alloc: Heap, imaged: Imaged) -> Result<(), Fail> {
+    let (text, size, image) = imaged;
+    assert!(rt; 0 < size && usize::from(size) <= MOST_RANKS);
+    let program = Program::parse(alloc, text)?;
+    reads(rt, alloc, &program, size, image)
 }
 
 #[test]
 fn an_image_is_read_and_written(rt: HostRuntime) -> Result<(), Fail> {
     let alloc = rt.alloc();
-    let printing = Program::parse(alloc, PRINTING)?;
-    reads(&rt, alloc, &printing, 1, &PRINTED)?;
+    for imaged in &IMAGES {
+        is_read(&rt, alloc, *imaged)?;
+    }
     let before = in_format_1(alloc, &PRINTED)?;
-    assert_eq!(rt; before.as_slice(), PRINTED_BEFORE.as_slice());
-    let busy = Program::parse(alloc, BUSY_PROGRAM)?;
-    reads(&rt, alloc, &busy, 2, &BUSY)?;
-    reads(&rt, alloc, &busy, 2, &KEEPING)
+    same(
+        &rt,
+        "in format 1",
+        &before.as_slice(),
+        &PRINTED_BEFORE.as_slice(),
+    );
+    Ok(())
 }
 
 #[test]
 fn an_image_says_what_its_bytes_say(rt: HostRuntime) -> Result<(), Fail> {
     let alloc = rt.alloc();
     let busy = Program::parse(alloc, BUSY_PROGRAM)?;
-    let image = decode(alloc, &busy, 0, 2, &BUSY)?;
-    assert_eq!(rt; image.clock, 5);
-    let machine = &image.machine;
-    assert_eq!(rt;
-        (machine.rank(), machine.size(), machine.position()),
-        (0, 2, 3)
-    );
-    let status = machine.status();
-    assert_eq!(rt; (status.source, status.tag, status.count), (1, 7, 1));
-    assert_eq!(rt; machine.variables(), [-1].as_slice());
-    for array in machine.arrays() {
-        assert_eq!(rt; array.as_slice(), [0, 5].as_slice());
+    match decode(alloc, &busy, 0, 2, &BUSY) {
+        Ok(image) => {
+            says_busy(&rt, &image);
+            Ok(())
+        }
+        Err(fault) => Err(Fail::from(fault)),
     }
-    assert_eq!(rt; machine.arrays().len(), 1);
-    assert_eq!(rt; image.inbox.counts(), [0, 3].as_slice());
+}
+
+/// What the bytes of the busy rank say.
+fn says_busy(rt: &impl Abort, image: &Image<'_>) {
+    same(rt, "clock", &image.clock, &5);
+    machine_says_busy(rt, &image.machine);
+    same(rt, "accepted", &image.inbox.counts(), &[0, 3].as_slice());
     let clocks = [9u32, 10];
     for (packet, clock) in image.inbox.packets().zip(&clocks) {
-        assert_eq!(rt; (packet.source, packet.clock), (1, *clock));
+        same(rt, "a packet", &(packet.source, packet.clock), &(1, *clock));
     }
-    assert_eq!(rt; image.inbox.len(), 2);
-    assert_eq!(rt; image.log.destinations().len(), 2);
-    Ok(())
+    same(rt, "packets in the inbox", &image.inbox.len(), &2);
+    same(rt, "destinations", &image.log.destinations().len(), &2);
+}
+
+/// What they say of its machine.
+fn machine_says_busy(rt: &impl Abort, machine: &Machine<'_>) {
+    let stands = (machine.rank(), machine.size(), machine.position());
+    same(rt, "where it stands", &stands, &(0, 2, 3));
+    let status = machine.status();
+    same(
+        rt,
+        "status",
+        &(status.source, status.tag, status.count),
+        &(1, 7, 1),
+    );
+    same(rt, "variables", &machine.variables(), &[-1].as_slice());
+    for array in machine.arrays() {
+        same(rt, "an array", &array.as_slice(), &[0, 5].as_slice());
+    }
+    same(rt, "arrays", &machine.arrays().len(), &1);
 }
 
 /// The fault that these bytes make with another byte at this place.
@@ -241,7 +313,7 @@ fn fault_with(
     size: u8,
     image: &[u8],
     change: (usize, u8),
-) -> Result<Option<ImageFault>, Fail>
+) -> Result<Option<ImageFault>, AllocError>
     requires least { 0 < size }
     requires most { size ≤ most_ranks }
 {
@@ -250,7 +322,31 @@ fn fault_with(
     if let Some(byte) = bytes.get_mut(place) {
         *byte = value;
     }
-    Ok(decode(alloc, program, 0, size, &bytes).err())
+    Ok(rewritten(alloc, program, size, &bytes)?.err())
+}
+
+/// Makes a change in the image, of which the message says this.
+fn fails(
+    rt: &impl Abort,
+    alloc: Heap,
+    program: &Program,
+    size: u8,
+    image: &[u8],
+    change: Change,
+    says: &str,
+) -> Result<(), AllocError>
+    requires least { 0 < size }
+    requires most { size ≤ most_ranks }
+{
+    let (place, value, want) = change;
+    let answer = fault_with(alloc, program, size, image, (place, value))?;
+    same(
+        rt,
+        format_args!("{value} at {place}{says}"),
+        &answer,
+        &Some(want),
+    );
+    Ok(())
 }
 
 /// Makes each change by itself, in both formats.
@@ -261,33 +357,41 @@ pub fn fails_each(
     size: u8,
     image: &[u8],
     changes: &[Change],
-) -> Result<(), Fail>
+) -> Result<(), AllocError>
     requires least { 0 < size }
     requires most { size ≤ most_ranks }
 {
     let before = in_format_1(alloc, image)?;
     for change in changes {
+        fails(rt, alloc, program, size, image, *change, "")?;
         let (place, value, want) = *change;
-        let answer = fault_with(alloc, program, size, image, (place, value))?;
-        assert_eq!(rt; answer, Some(want), "{value} at {place}");
-        let place = place.saturating_sub(1);
-        let answer = fault_with(alloc, program, size, &before, (place, value))?;
-        assert_eq!(rt; answer, Some(want), "{value} at {place} in format 1");
+        let change = (place.saturating_sub(1), value, want);
+        fails(rt, alloc, program, size, &before, change, " in format 1")?;
     }
     Ok(())
 }
 
+/// Each change of such an image has its fault.
+fn has_faults(
+    rt: &impl Abort,
+    alloc: Heap,
+    imaged: Imaged,
+    changes: &[Change],
+) -> Result<(), Fail> {
+    let (text, size, image) = imaged;
+    assert!(rt; 0 < size && usize::from(size) <= MOST_RANKS);
+    let program = Program::parse(alloc, text)?;
+    Ok(fails_each(rt, alloc, &program, size, image, changes)?)
+}
+
 #[test]
 fn each_field_has_its_fault(rt: HostRuntime) -> Result<(), Fail> {
-    let alloc = rt.alloc();
-    let printing = Program::parse(alloc, PRINTING)?;
-    fails_each(&rt, alloc, &printing, 1, &PRINTED, &OF_PRINTED)?;
-    let busy = Program::parse(alloc, BUSY_PROGRAM)?;
-    fails_each(&rt, alloc, &busy, 2, &BUSY, &OF_BUSY)
+    has_faults(&rt, rt.alloc(), OF_PRINTING, &OF_PRINTED)?;
+    has_faults(&rt, rt.alloc(), OF_A_BUSY_RANK, &OF_BUSY)
 }
 
 /// `print 5` on so many ranks, rank 0 after its print.
-fn printed_among(alloc: Heap, size: u8) -> Result<Vec<u8, Heap>, Fail> {
+fn printed_among(alloc: Heap, size: u8) -> Result<Vec<u8, Heap>, AllocError> {
     let mut bytes = Vec::from_slice(alloc, &[2, 2, 0, size])?;
     bytes.extend_from_slice(&PRINTED[4..26])?;
     // nothing was accepted of any rank; no packet lies there, and nothing was sent
@@ -295,22 +399,30 @@ fn printed_among(alloc: Heap, size: u8) -> Result<Vec<u8, Heap>, Fail> {
     Ok(bytes)
 }
 
+/// It is read in format 2 among so many ranks, and in format 1 among up to eight.
+fn is_read_among(rt: &impl Abort, alloc: Heap, program: &Program, size: u8) -> Result<(), Fail>
+    requires least { 0 < size }
+    requires most { size ≤ most_ranks }
+{
+    let bytes = printed_among(alloc, size)?;
+    is_same(rt, alloc, program, size, &bytes, &bytes)?;
+    let before = in_format_1(alloc, &bytes)?;
+    let answer = rewritten(alloc, program, size, &before)?.err();
+    let want = if size <= 8 {
+        None
+    } else {
+        Some(ImageFault::WrongProgram)
+    };
+    same(rt, format_args!("{size} ranks in format 1"), &answer, &want);
+    Ok(())
+}
+
 #[test]
 fn images_of_each_number_of_ranks(rt: HostRuntime) -> Result<(), Fail> {
     let alloc = rt.alloc();
     let printing = Program::parse(alloc, PRINTING)?;
     for size in 1..=16u8 {
-        let bytes = printed_among(alloc, size)?;
-        let image = decode(alloc, &printing, 0, size, &bytes)?;
-        assert_eq!(rt; encode(alloc, &image)?.as_slice(), bytes.as_slice());
-        let before = in_format_1(alloc, &bytes)?;
-        let answer = decode(alloc, &printing, 0, size, &before).err();
-        let want = if size <= 8 {
-            None
-        } else {
-            Some(ImageFault::WrongProgram)
-        };
-        assert_eq!(rt; answer, want, "{size} ranks in format 1");
+        is_read_among(&rt, alloc, &printing, size)?;
     }
     Ok(())
 }

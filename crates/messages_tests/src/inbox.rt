@@ -2,6 +2,7 @@
 ghost use Rattle.std.specs.Prelude.{◌≡◌, ◌<◌, length};
 
 use crate::fixtures::packet;
+use crate::same::same;
 use matching::{Accept, Context, Inbox, Packet, Selector};
 use metered::Heap;
 use std::process::Abort;
@@ -29,12 +30,18 @@ fn arrives(rt: &impl Abort, inbox: &mut Inbox, arrival: Packet, want: Accept) ->
     ensures { length inbox.new.accepted ≡ length inbox.old.accepted }
 {
     let (source, number) = (arrival.source, arrival.number);
-    assert_eq!(rt;
-        inbox.accept(arrival)?,
-        want,
-        "number {number} of source {source}"
-    );
-    Ok(())
+    match inbox.accept(arrival) {
+        Ok(answer) => {
+            same(
+                rt,
+                format_args!("number {number} of source {source}"),
+                &answer,
+                &want,
+            );
+            Ok(())
+        }
+        Err(back) => Err(Fail::from(back)),
+    }
 }
 
 /// Lets each of these arrive.
@@ -51,11 +58,8 @@ fn arrive_all(
         assert!(rt; source < 16 && 0 < number && number < 10);
         let arrival = packet(alloc, source, number, Context::PointToPoint, 0, &[7])?;
         arrives(rt, inbox, arrival, want)?;
-        assert_eq!(rt;
-            inbox.accepted(source),
-            accepted,
-            "after number {number} of source {source}"
-        );
+        let case = format_args!("after number {number} of source {source}");
+        same(rt, case, &inbox.accepted(source), &accepted);
     }
     Ok(())
 }
@@ -113,13 +117,15 @@ fn the_first_match_of_its_context(rt: HostRuntime) -> Result<(), Fail> {
 fn finds(rt: &impl Abort, inbox: &Inbox) {
     for (source, tag, want) in NAMED {
         let named = selector(Context::PointToPoint, source, tag);
-        assert_eq!(rt; inbox.find(&named), want, "{named:?}");
+        same(rt, format_args!("{named:?}"), &inbox.find(&named), &want);
     }
     for (source, clock, want) in SENT_AT {
-        assert_eq!(rt;
-            inbox.find_named(source, clock),
-            want,
-            "source {source} at clock {clock}"
+        let found = inbox.find_named(source, clock);
+        same(
+            rt,
+            format_args!("source {source} at clock {clock}"),
+            &found,
+            &want,
         );
     }
 }
@@ -127,13 +133,34 @@ fn finds(rt: &impl Abort, inbox: &Inbox) {
 #[test]
 fn three_hundred_packets_of_one_source(rt: HostRuntime) -> Result<(), Fail> {
     let mut inbox = Inbox::new(rt.alloc(), 16)?;
-    three_hundred_arrive(&rt, rt.alloc(), &mut inbox)?;
-    one_of_each_other_source(&rt, rt.alloc(), &mut inbox)?;
-    assert_eq!(rt; inbox.accepted(15), 300);
-    assert_eq!(rt; inbox.find_named(15, 3000), Some(299));
-    let last = inbox.first_named(15, 3000).ok_or("nothing is shown")?;
-    assert_eq!(rt; (last.source, last.number), (15, 300));
-    takes_them_all(&rt, &mut inbox)
+    fills_and_empties(&rt, rt.alloc(), &mut inbox)
+}
+
+/// The packets arrive, stand there, and are taken.
+fn fills_and_empties(rt: &impl Abort, alloc: Heap, inbox: &mut Inbox) -> Result<(), Fail>
+    requires { length inbox.old.accepted ≡ 16 }
+{
+    three_hundred_arrive(rt, alloc, inbox)?;
+    one_of_each_other_source(rt, alloc, inbox)?;
+    same(rt, "accepted", &inbox.accepted(15), &300);
+    same(
+        rt,
+        "where the last stands",
+        &inbox.find_named(15, 3000),
+        &Some(299),
+    );
+    let last = numbered(inbox.first_named(15, 3000));
+    same(rt, "the last", &last, &Some((15, 300)));
+    takes_them_all(rt, inbox);
+    Ok(())
+}
+
+/// The source and the number of a packet.
+fn numbered(packet: Option<&Packet>) -> Option<(u8, u32)> {
+    match packet {
+        Some(packet) => Some((packet.source, packet.number)),
+        None => None,
+    }
 }
 
 /// Packets of rank 15: odd numbers have tag 1, and even ones tag 0.
@@ -163,46 +190,47 @@ fn one_of_each_other_source(rt: &impl Abort, alloc: Heap, inbox: &mut Inbox) -> 
 
 /// Takes the even numbers, then the odd ones, and last those of the
 /// collective.
-fn takes_them_all(rt: &impl Abort, inbox: &mut Inbox) -> Result<(), Fail> {
+fn takes_them_all(rt: &impl Abort, inbox: &mut Inbox) {
     let even = selector(Context::PointToPoint, Some(15), Some(0));
     for k in 0..150u32 {
         // the odd ones before it are still there
-        take(rt, inbox, &even, (k as usize + 1, 15, 2 * k + 2))?;
+        take(rt, inbox, &even, (k as usize + 1, 15, 2 * k + 2));
     }
-    assert_eq!(rt; inbox.find(&even), None);
+    same(rt, "even ones left", &inbox.find(&even), &None);
     let any = selector(Context::PointToPoint, None, None);
     for k in 0..150u32 {
-        take(rt, inbox, &any, (0, 15, 2 * k + 1))?;
+        take(rt, inbox, &any, (0, 15, 2 * k + 1));
     }
-    assert_eq!(rt; inbox.find(&any), None);
+    same(rt, "any left", &inbox.find(&any), &None);
     let collective = selector(Context::Collective, None, None);
     for source in 0..15u8 {
-        take(rt, inbox, &collective, (0, source, 1))?;
+        take(rt, inbox, &collective, (0, source, 1));
     }
-    assert_eq!(rt; inbox.find(&collective), None);
-    Ok(())
+    same(
+        rt,
+        "of the collective left",
+        &inbox.find(&collective),
+        &None,
+    );
 }
 
 /// Takes what the selector finds: it is to stand at this index, and to be this
 /// source's packet of this number.
-fn take(
-    rt: &impl Abort,
-    inbox: &mut Inbox,
-    named: &Selector,
-    want: (usize, u8, u32),
-) -> Result<(), Fail> {
-    let index = inbox.find(named).ok_or("nothing matches")?;
-    let shown = inbox.first(named).ok_or("nothing is shown")?;
-    assert_eq!(rt;
-        (index, shown.source, shown.number),
-        want,
-        "found by {named:?}"
+fn take(rt: &impl Abort, inbox: &mut Inbox, named: &Selector, want: (usize, u8, u32)) {
+    let (index, source, number) = want;
+    let packet = Some((source, number));
+    let found = (inbox.find(named), numbered(inbox.first(named)));
+    same(
+        rt,
+        format_args!("found by {named:?}"),
+        &found,
+        &(Some(index), packet),
     );
-    let taken = inbox.take_first(named).ok_or("nothing is taken")?;
-    assert_eq!(rt;
-        (index, taken.source, taken.number),
-        want,
-        "taken by {named:?}"
+    let taken = inbox.take_first(named);
+    same(
+        rt,
+        format_args!("taken by {named:?}"),
+        &numbered(taken.as_ref()),
+        &packet,
     );
-    Ok(())
 }

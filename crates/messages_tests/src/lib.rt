@@ -23,6 +23,8 @@ mod payload_logs;
 #[cfg(test)]
 mod run_lanes;
 #[cfg(test)]
+mod same;
+#[cfg(test)]
 mod shelf;
 #[cfg(test)]
 mod wide_images;

@@ -4,6 +4,7 @@
 ghost use Rattle.std.specs.Prelude.{◌≡◌, ◌≤◌};
 ghost use Rattle.ports.specs.Lanes.{lane_to, lane_from};
 
+use crate::same::same;
 use ports::{Carried, Rx, Tx, close, lane};
 use rank_node::{AskFrom, Frame};
 use std::process::Abort;
@@ -55,11 +56,11 @@ fn makes(rt: &impl Abort, tx: &mut Tx, rx: &mut Rx, call: Call)
         }
         Call::ComesBack(number) => {
             let back = tx.put(ask(rt, number)).err().and_then(number_of);
-            assert_eq!(rt; back, Some(number), "what came back");
+            same(rt, "what came back", &back, &Some(number));
         }
         Call::Takes(number) => {
             let taken = rx.take().and_then(number_of);
-            assert_eq!(rt; taken, Some(number), "what was taken");
+            same(rt, "what was taken", &taken, &Some(number));
         }
         Call::FindsNone => assert!(rt; rx.take().is_none(), "nothing is there"),
     }
@@ -98,10 +99,12 @@ fn a_full_lane_hands_back(rt: HostRuntime) -> Result<(), Fail> {
     for (count, put, taken) in CARRIED {
         let (mut tx, mut rx) = lane(rt.alloc(), 2)?;
         makes_all(&rt, &mut tx, &mut rx, count);
-        assert_eq!(rt;
-            close(tx, rx),
-            Carried { put, taken },
-            "after {count} calls"
+        let carried = Carried { put, taken };
+        same(
+            &rt,
+            format_args!("after {count} calls"),
+            &close(tx, rx),
+            &carried,
         );
     }
     Ok(())
@@ -129,7 +132,13 @@ fn a_lane_has_the_room_that_was_asked_for(rt: HostRuntime) -> Result<(), Fail> {
         let (mut tx, mut rx) = lane(rt.alloc(), room as usize)?;
         fills(&rt, &mut tx, &mut rx, room);
         let put = u64::from(room) + 1;
-        assert_eq!(rt; close(tx, rx), Carried { put, taken: 1 }, "room for {room}");
+        let carried = Carried { put, taken: 1 };
+        same(
+            &rt,
+            format_args!("room for {room}"),
+            &close(tx, rx),
+            &carried,
+        );
     }
     Ok(())
 }
@@ -179,7 +188,12 @@ fn takes_all(rt: &(impl Wait + Abort), rx: Rx) -> Rx
 {
     let mut rx = rx;
     for number in 1..=FRAMES {
-        assert_eq!(rt; number_of(takes(rt, &mut rx)), Some(number));
+        same(
+            rt,
+            "in order",
+            &number_of(takes(rt, &mut rx)),
+            &Some(number),
+        );
     }
     rx
 }
@@ -198,13 +212,15 @@ fn frames_go_from_thread_to_thread_in_order(rt: HostRuntime) -> Result<(), Fail>
                 ensures { lane_from result ≡ lane_from rx }
             { takes_all(&rt, rx) },
         );
-        assert_eq!(rt;
-            close(tx, rx),
-            Carried {
-                put: 100_000,
-                taken: 100_000
-            },
-            "room for {room}"
+        let carried = Carried {
+            put: 100_000,
+            taken: 100_000,
+        };
+        same(
+            &rt,
+            format_args!("room for {room}"),
+            &close(tx, rx),
+            &carried,
         );
     }
     Ok(())

@@ -2,6 +2,7 @@
 ghost use Rattle.std.specs.Prelude.{◌≡◌, ◌<◌, length};
 
 use crate::fixtures::packet;
+use crate::same::same;
 use matching::Context;
 use metered::Heap;
 use payload_log::PayloadLog;
@@ -124,8 +125,13 @@ fn takes_steps(rt: &impl Abort, alloc: Heap, log: &mut PayloadLog, rows: &[Row])
         let (dest, step, at_1, at_15) = *row;
         assert!(rt; dest < 16);
         take_step(rt, alloc, log, dest, step)?;
-        assert_eq!(rt; stands(log, 1), at_1, "1 after {step:?} for {dest}");
-        assert_eq!(rt; stands(log, 15), at_15, "15 after {step:?} for {dest}");
+        let found = (stands(log, 1), stands(log, 15));
+        same(
+            rt,
+            format_args!("1 and 15 after {step:?} for {dest}"),
+            &found,
+            &(at_1, at_15),
+        );
     }
     Ok(())
 }
@@ -168,7 +174,12 @@ fn two_destinations_in_turn(rt: HostRuntime) -> Result<(), Fail> {
     let mut log = PayloadLog::new(rt.alloc(), 16)?;
     takes_steps(&rt, rt.alloc(), &mut log, &STEPS)?;
     for dest in 2..15usize {
-        assert_eq!(rt; stands(&log, dest), (0, 0, None), "for {dest}");
+        same(
+            &rt,
+            format_args!("for {dest}"),
+            &stands(&log, dest),
+            &(0, 0, None),
+        );
     }
     Ok(())
 }
@@ -193,10 +204,8 @@ fn transmits_from(rt: &impl Abort, log: &mut PayloadLog, dest: usize, from: i64)
     ensures { length log.new ≡ length log.old }
 {
     for number in from..301 {
-        assert_eq!(rt;
-            next_item(log, dest),
-            Some((1000 * dest as i64).saturating_add(number))
-        );
+        let item = (1000 * dest as i64).saturating_add(number);
+        same(rt, "next to transmit", &next_item(log, dest), &Some(item));
         transmit(rt, log, dest);
     }
     assert!(rt; log.next(dest).is_none(), "for {dest}");

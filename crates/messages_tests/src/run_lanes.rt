@@ -5,6 +5,7 @@ ghost use Rattle.lanes.specs.Ends.{AreCrossed};
 ghost use Rattle.ports.specs.Lanes.{lane_from};
 
 use crate::one_lane::{ask, number_of};
+use crate::same::same;
 use lanes::{Ends, close_all, open_all};
 use metered::Heap;
 use ports::{Carried, Rx};
@@ -83,8 +84,14 @@ fn all_take(rt: &impl Abort, ends: &mut Ends, ranks: u8)
     for source in 0..ranks {
         for destination in 0..ranks {
             let taken = takes(rt, ends, source, destination);
-            assert_eq!(rt; taken, Some(pair(source, destination)), "from {source}");
-            assert_eq!(rt; takes(rt, ends, source, destination), None, "from {source}");
+            same(
+                rt,
+                format_args!("from {source}"),
+                &taken,
+                &Some(pair(source, destination)),
+            );
+            let taken = takes(rt, ends, source, destination);
+            same(rt, format_args!("from {source}"), &taken, &None);
         }
     }
 }
@@ -100,7 +107,12 @@ fn each_pair_has_a_lane_of_its_own(rt: HostRuntime) -> Result<(), Fail> {
             put: lanes,
             taken: lanes,
         };
-        assert_eq!(rt; close_all(ends), carried, "of {ranks} ranks");
+        same(
+            &rt,
+            format_args!("of {ranks} ranks"),
+            &close_all(ends),
+            &carried,
+        );
     }
     Ok(())
 }
@@ -127,7 +139,12 @@ fn all_fill(rt: &impl Abort, ends: &mut Ends, ranks: u8)
     for source in 0..ranks {
         for destination in 0..ranks {
             let count = fills(rt, ends, source, destination);
-            assert_eq!(rt; count, ROOM, "from {source} to {destination}");
+            same(
+                rt,
+                format_args!("from {source} to {destination}"),
+                &count,
+                &ROOM,
+            );
         }
     }
 }
@@ -137,10 +154,12 @@ fn each_lane_has_room_for_64_frames(rt: HostRuntime) -> Result<(), Fail> {
     for (ranks, put) in [(0, 0), (1, 64), (2, 256), (8, 4096)] {
         let mut ends = open_all(rt.alloc(), ranks)?;
         all_fill(&rt, &mut ends, ranks);
-        assert_eq!(rt;
-            close_all(ends),
-            Carried { put, taken: 0 },
-            "of {ranks} ranks"
+        let carried = Carried { put, taken: 0 };
+        same(
+            &rt,
+            format_args!("of {ranks} ranks"),
+            &close_all(ends),
+            &carried,
         );
     }
     Ok(())
@@ -154,10 +173,12 @@ fn closing_counts_what_each_lane_carried(rt: HostRuntime) -> Result<(), Fail> {
         assert!(rt; puts(&rt, &mut ends, source, destination));
         assert!(rt; puts(&rt, &mut ends, source, destination));
         assert!(rt; takes(&rt, &mut ends, source, destination).is_some());
-        assert_eq!(rt;
-            close_all(ends),
-            Carried { put: 2, taken: 1 },
-            "{source} to {destination}"
+        let carried = Carried { put: 2, taken: 1 };
+        same(
+            &rt,
+            format_args!("{source} to {destination}"),
+            &close_all(ends),
+            &carried,
         );
     }
     Ok(())

@@ -1,8 +1,10 @@
 //! Shelves: the last image is given, whole and each time.
 
 use crate::fixtures::bytes;
+use crate::same::same;
 use checkpoint::{MemoryShelf, Shelf};
 use metered::Heap;
+use std::alloc::AllocError;
 use std::process::Abort;
 use std::test::*;
 
@@ -16,19 +18,26 @@ fn keeps(
     shelf: &mut MemoryShelf,
     count: u16,
     first: u8,
-) -> Result<(), Fail> {
+) -> Result<(), AllocError> {
     let image = bytes(alloc, count, first)?;
     assert!(rt; image.len() == usize::from(count));
-    assert!(rt;
-        shelf.put(bytes(alloc, count, first)?) == Ok(()),
-        "{count} bytes"
-    );
-    for _ in 0..2 {
-        let found = shelf.get().expect(rt, "no device fails");
-        let found = found.expect(rt, "an image was put");
-        assert_eq!(rt; found.as_slice(), image.as_slice(), "{count} bytes");
-    }
+    let put = shelf.put(bytes(alloc, count, first)?);
+    same(rt, "what comes of a put", &put, &Ok(()));
+    gives(rt, shelf, image.as_slice());
+    gives(rt, shelf, image.as_slice());
     Ok(())
+}
+
+/// Gives this image.
+fn gives(rt: &impl Abort, shelf: &mut MemoryShelf, image: &[u8]) {
+    let found = shelf.get().expect(rt, "no device fails");
+    let found = found.expect(rt, "an image was put");
+    same(
+        rt,
+        format_args!("{} bytes", image.len()),
+        &found.as_slice(),
+        &image,
+    );
 }
 
 /// Puts these, one after another.
@@ -37,7 +46,7 @@ fn keeps_each(
     alloc: Heap,
     shelf: &mut MemoryShelf,
     rows: &[(u16, u8)],
-) -> Result<(), Fail> {
+) -> Result<(), AllocError> {
     for row in rows {
         let (count, first) = *row;
         keeps(rt, alloc, shelf, count, first)?;

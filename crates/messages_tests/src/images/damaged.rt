@@ -2,11 +2,13 @@
 ghost use Rattle.std.specs.Prelude.{◌<◌, ◌≤◌};
 ghost use Rattle.metered.specs.Limits.{most_ranks};
 
-use super::{BUSY, BUSY_PROGRAM, KEEPING, PRINTED, PRINTING, in_format_1, is_written};
-use checkpoint::{ImageFault, decode};
+use super::{IMAGES, Imaged, PRINTING, in_format_1, is_written, rewritten};
+use crate::same::same;
+use checkpoint::ImageFault;
 use metered::Heap;
 use metered::limits::MOST_RANKS;
 use rank_language::Program;
+use std::alloc::AllocError;
 use std::process::Abort;
 use std::test::*;
 
@@ -40,11 +42,29 @@ const BEGINNINGS: [(u8, &[u8], ImageFault); 22] = [
 fn each_beginning_has_its_fault(rt: HostRuntime) -> Result<(), Fail> {
     let alloc = rt.alloc();
     let printing = Program::parse(alloc, PRINTING)?;
-    for (size, bytes, want) in BEGINNINGS {
-        assert!(rt; 0 < size && usize::from(size) <= MOST_RANKS);
-        let answer = decode(alloc, &printing, 0, size, bytes).err();
-        assert_eq!(rt; answer, Some(want), "{bytes:?} of {size} ranks");
+    for (size, bytes, want) in &BEGINNINGS {
+        begins(&rt, alloc, &printing, *size, bytes, *want)?;
     }
+    Ok(())
+}
+
+/// A beginning has this fault.
+fn begins(
+    rt: &impl Abort,
+    alloc: Heap,
+    program: &Program,
+    size: u8,
+    bytes: &[u8],
+    want: ImageFault,
+) -> Result<(), AllocError> {
+    assert!(rt; 0 < size && usize::from(size) <= MOST_RANKS);
+    let answer = rewritten(alloc, program, size, bytes)?.err();
+    same(
+        rt,
+        format_args!("{bytes:?} of {size} ranks"),
+        &answer,
+        &Some(want),
+    );
     Ok(())
 }
 
@@ -55,19 +75,42 @@ fn beginnings_are_short(
     program: &Program,
     size: u8,
     image: &[u8],
-) -> Result<(), Fail>
+) -> Result<(), AllocError>
     requires least { 0 < size }
     requires most { size ≤ most_ranks }
 {
     for length in 0..image.len() {
-        let answer = decode(alloc, program, 0, size, &image[..length]).err();
-        assert_eq!(rt; answer, Some(ImageFault::Short), "{length} bytes");
+        let answer = rewritten(alloc, program, size, &image[..length])?.err();
+        same(
+            rt,
+            format_args!("{length} bytes"),
+            &answer,
+            &Some(ImageFault::Short),
+        );
     }
     let mut more = Vec::from_slice(alloc, image)?;
     more.push(0)?;
-    let answer = decode(alloc, program, 0, size, &more).err();
-    assert_eq!(rt; answer, Some(ImageFault::Long));
+    let answer = rewritten(alloc, program, size, &more)?.err();
+    same(rt, "a byte more", &answer, &Some(ImageFault::Long));
     Ok(())
+}
+
+/// Whether these bytes are read. They are the spelling of what is read then.
+fn is_read(
+    rt: &impl Abort,
+    alloc: Heap,
+    program: &Program,
+    size: u8,
+    bytes: &[u8],
+) -> Result<bool, AllocError>
+    requires least { 0 < size }
+    requires most { size ≤ most_ranks }
+{
+    let Ok(written) = rewritten(alloc, program, size, bytes)? else {
+        return Ok(false);
+    };
+    is_written(rt, alloc, &written, bytes)?;
+    Ok(true)
 }
 
 /// Where a byte is another, the bytes are refused, or are the spelling of what is read. Answers how many are read.
@@ -77,19 +120,18 @@ fn changed(
     program: &Program,
     size: u8,
     image: &[u8],
-) -> Result<usize, Fail>
+) -> Result<usize, AllocError>
     requires least { 0 < size }
     requires most { size ≤ most_ranks }
 {
     let mut read = 0usize;
     for place in 0..image.len() {
+        let mut bytes = Vec::from_slice(alloc, image)?;
         for value in 0..=255u8 {
-            let mut bytes = Vec::from_slice(alloc, image)?;
             if let Some(byte) = bytes.get_mut(place) {
                 *byte = value;
             }
-            if let Ok(other) = decode(alloc, program, 0, size, &bytes) {
-                is_written(rt, alloc, &other, &bytes)?;
+            if is_read(rt, alloc, program, size, &bytes)? {
                 read = read.saturating_add(1);
             }
         }
@@ -105,24 +147,44 @@ pub fn is_damaged(
     program: &Program,
     size: u8,
     image: &[u8],
-) -> Result<(), Fail>
+) -> Result<(), AllocError>
     requires least { 0 < size }
     requires most { size ≤ most_ranks }
 {
+    is_damaged_in_one(rt, alloc, program, size, image)?;
     let before = in_format_1(alloc, image)?;
+    is_damaged_in_one(rt, alloc, program, size, &before)
+}
+
+/// Each damage of these bytes.
+fn is_damaged_in_one(
+    rt: &impl Abort,
+    alloc: Heap,
+    program: &Program,
+    size: u8,
+    image: &[u8],
+) -> Result<(), AllocError>
+    requires least { 0 < size }
+    requires most { size ≤ most_ranks }
+{
     beginnings_are_short(rt, alloc, program, size, image)?;
-    beginnings_are_short(rt, alloc, program, size, &before)?;
-    assert!(rt; changed(rt, alloc, program, size, image)? > image.len());
-    assert!(rt; changed(rt, alloc, program, size, &before)? > before.len());
+    let read = changed(rt, alloc, program, size, image)?;
+    assert!(rt; read > image.len());
     Ok(())
+}
+
+/// Each damage of such an image.
+fn has_damages(rt: &impl Abort, alloc: Heap, imaged: Imaged) -> Result<(), Fail> {
+    let (text, size, image) = imaged;
+    assert!(rt; 0 < size && usize::from(size) <= MOST_RANKS);
+    let program = Program::parse(alloc, text)?;
+    Ok(is_damaged(rt, alloc, &program, size, image)?)
 }
 
 #[test]
 fn each_beginning_is_short_and_each_change_is_refused_or_read(rt: HostRuntime) -> Result<(), Fail> {
-    let alloc = rt.alloc();
-    let printing = Program::parse(alloc, PRINTING)?;
-    is_damaged(&rt, alloc, &printing, 1, &PRINTED)?;
-    let busy = Program::parse(alloc, BUSY_PROGRAM)?;
-    is_damaged(&rt, alloc, &busy, 2, &BUSY)?;
-    is_damaged(&rt, alloc, &busy, 2, &KEEPING)
+    for imaged in &IMAGES {
+        has_damages(&rt, rt.alloc(), *imaged)?;
+    }
+    Ok(())
 }
