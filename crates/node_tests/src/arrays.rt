@@ -1,6 +1,7 @@
 //! Arrays and messages of each length that is a limit, or next to one.
 
-use crate::machines::{outcome, packet, same};
+use crate::machines::{outcome, packet};
+use crate::same::same_text;
 use matching::Packet;
 use metered::Heap;
 use std::alloc::AllocError;
@@ -51,7 +52,7 @@ fn take_whole_messages(rt: &impl Abort, alloc: Heap, lengths: &[i64]) -> Result<
         let text = text_of(alloc, *length)?;
         let want = shown(alloc, *length)?;
         let got = outcome(alloc, text.as_str(), packet_of(alloc, *length)?)?;
-        same(rt, text.as_str(), got.as_str(), want.as_str());
+        same_text(rt, text.as_str(), got.as_str(), want.as_str());
     }
     Ok(())
 }

@@ -2,6 +2,7 @@
 ghost use Rattle.std.specs.Prelude.{◌≡◌, ◌<◌, true, IfOk, IfSome};
 ghost use Rattle.matching.specs.Matching.{matches};
 
+use crate::same::same_text;
 use matching::{Context, Packet, PacketItems, Selector};
 use metered::Heap;
 use metered::limits::MOST_COLLECTIVE_ITEMS;
@@ -201,7 +202,7 @@ const DISAGREEING: [Play; 14] = [
 fn compare(rt: &impl Abort, alloc: Heap, plays: &[Play]) -> Result<(), Fail> {
     for play in plays {
         let found = played(alloc, play.text, play.seat, play.coming)?;
-        assert_eq!(rt; found.as_str(), play.does, "at {:?}", play.text);
+        same_text(rt, play.text, found.as_str(), play.does);
     }
     Ok(())
 }
@@ -209,12 +210,21 @@ fn compare(rt: &impl Abort, alloc: Heap, plays: &[Play]) -> Result<(), Fail> {
 /// What a machine does, at most 64 steps and acts, and where it stands.
 fn played(alloc: Heap, text: &str, seat: Seat, coming: &[Coming]) -> Result<String<Heap>, Fail> {
     let (rank, size) = seat;
-    let mut shown = String::new(alloc);
     if rank >= size {
-        return Ok(shown);
+        return Ok(String::new(alloc));
     }
     let program = Program::parse(alloc, text.as_bytes())?;
     let mut machine = Machine::new(alloc, &program, rank, size)?;
+    Ok(done_by(alloc, &mut machine, coming)?)
+}
+
+/// The same of this machine.
+fn done_by(
+    alloc: Heap,
+    machine: &mut Machine,
+    coming: &[Coming],
+) -> Result<String<Heap>, AllocError> {
+    let mut shown = String::new(alloc);
     let mut coming = coming.iter();
     for _ in 0..64u32 {
         match machine.wants() {
@@ -232,7 +242,7 @@ fn played(alloc: Heap, text: &str, seat: Seat, coming: &[Coming]) -> Result<Stri
                 write!(shown, "send {dest} {items:?}, ")?;
             }
             Want::Receive(selector) => {
-                let Some(packet) = next_packet(alloc, &machine, &selector, coming.next())? else {
+                let Some(packet) = next_packet(alloc, machine, &selector, coming.next())? else {
                     break;
                 };
                 write!(shown, "take {}, ", packet.source)?;

@@ -2,6 +2,7 @@
 ghost use Rattle.std.specs.Prelude.{◌≡◌};
 ghost use Rattle.event_logger.specs.Desks.{IsSameDesk};
 
+use crate::same::same;
 use checkpoint::MemoryShelf;
 use event_logger::{Desk, Logger};
 use metered::Heap;
@@ -59,7 +60,7 @@ fn a_rank_that_replays_reads_its_own_row(rt: HostRuntime) -> Result<(), Fail> {
     let (desk, found) = counts(alloc, &program, &logger, desk);
     desks.push_reserved(desk);
     let _ledger = logger.close(alloc, desks)?;
-    assert_eq!(&rt; stored, Ok(1));
-    assert_eq!(&rt; found, (1, 1, 1));
+    same(&rt, "stored", &stored, &Ok(1));
+    same(&rt, "fetched, left and read", &found, &(1, 1, 1));
     Ok(())
 }

@@ -4,6 +4,7 @@ ghost use Rattle.std.specs.Bool.{OnTrue};
 ghost use Rattle.metered.specs.Limits.{most_events};
 ghost use Rattle.checkpoint.specs.Shelf.{Grew, image_bytes};
 
+use crate::same::same;
 use crate::scenes::LastLine;
 use checkpoint::{Shelf, ShelfFault};
 use metered::Heap;
@@ -299,17 +300,14 @@ fn a_device_that_fails_leaves_the_last_image(rt: HostRuntime) -> Result<(), Fail
     let mut fails_at = 0u32;
     for want in OUTCOMES {
         let found = play(&rt, rt.alloc(), fails_at, 0)?;
-        assert_eq!(&rt; found, want, "call {fails_at}");
+        same(&rt, format_args!("call {fails_at}"), &found, &want);
         let full = Outcome {
             faults: u64::MAX,
             ..want
         };
         let found = play(&rt, rt.alloc(), fails_at, u64::MAX)?;
-        assert_eq!(&rt;
-            found,
-            full,
-            "call {fails_at}, with as many failures as can be counted"
-        );
+        let case = format_args!("call {fails_at}, with as many failures as can be counted");
+        same(&rt, case, &found, &full);
         fails_at = fails_at.saturating_add(1);
     }
     Ok(())

@@ -35,6 +35,8 @@ mod replays;
 #[cfg(test)]
 mod retiring;
 #[cfg(test)]
+mod same;
+#[cfg(test)]
 mod scenes;
 #[cfg(test)]
 mod sizes;

@@ -3,6 +3,7 @@ ghost use Rattle.std.specs.Prelude.{◌≡◌, ◌<◌, ◌≤◌, true, length}
 ghost use Rattle.metered.specs.Limits.{most_items};
 ghost use Rattle.matching.specs.Matching.{matches};
 
+use crate::same::same_text;
 use matching::{Context, Packet, PacketItems, Selector};
 use metered::Heap;
 use rank_language::Program;
@@ -19,7 +20,7 @@ pub fn shows(rt: &impl Abort, alloc: Heap, rows: &[Row]) -> Result<(), Fail> {
     for row in rows {
         let (count, text, want) = *row;
         let got = outcome(alloc, text, packet_of(alloc, count)?)?;
-        same(rt, text, got.as_str(), want);
+        same_text(rt, text, got.as_str(), want);
     }
     Ok(())
 }
@@ -32,11 +33,6 @@ fn packet_of(alloc: Heap, count: u8) -> Result<Option<Packet>, Fail> {
         2 => packet(alloc, &[4, 5]),
         _ => packet(alloc, &[1, 2, 3]),
     }
-}
-
-/// What is found is what is wanted, in this case.
-pub fn same(rt: &impl Abort, case: &str, found: &str, wanted: &str) {
-    assert_eq!(rt; found, wanted, "at {case:?}");
 }
 
 /// What rank 1 of 3 prints and sends, what it wants that is no step of its own, no print, no send, no receive of the packet

@@ -2,6 +2,7 @@
 ghost use Rattle.std.specs.Prelude.{◌≡◌, ◌≤◌, length, IfOk};
 ghost use Rattle.metered.specs.Limits.{most_events};
 
+use crate::same::same;
 use crate::scenes::{LastLine, Rank, packet};
 use checkpoint::{MemoryShelf, Shelf};
 use metered::Heap;
@@ -118,6 +119,38 @@ fn second(alloc: Heap) -> Result<Frame, Fail> {
     Ok(Frame::Data(packet(alloc, 0, 2)?))
 }
 
+/// A step has this outcome.
+fn step(rt: &impl Abort, rank: &mut Rank, screen: &mut LastLine, want: Turn)
+    ensures { rank.new.stable ≡ rank.old.stable }
+{
+    let clock = rank.clock();
+    same(
+        rt,
+        format_args!("a step at clock {clock}"),
+        &rank.step(screen),
+        &Ok(want),
+    );
+}
+
+/// The line of this clock and this value stands on the screen.
+fn shows(rt: &impl Abort, screen: &LastLine, clock: u32, value: i64) {
+    same(rt, "line", &screen.line, &Some((1, clock, value)));
+}
+
+/// The second packet comes, and this becomes of it.
+fn comes(rt: &impl Abort, alloc: Heap, rank: &mut Rank, want: Arrived) -> Result<(), Fail>
+    requires { rank.old.stable.size ≡ 2 }
+    ensures { rank.new.stable ≡ rank.old.stable }
+{
+    match rank.arrive(0, second(alloc)?) {
+        Ok(came) => {
+            same(rt, "the second packet", &came, &want);
+            Ok(())
+        }
+        Err((_, fault)) => Err(Fail::from(fault)),
+    }
+}
+
 /// Runs on from the image to the end of the program.
 fn runs_on(
     rt: &impl Abort,
@@ -130,35 +163,61 @@ fn runs_on(
     requires size { rank.old.stable.size ≡ 2 }
     requires number { rank.old.stable.rank ≡ 1 }
 {
-    assert_eq!(rt; rank.clock(), old.clock);
+    same(rt, "clock", &rank.clock(), &old.clock);
     if old.assigns {
-        assert_eq!(rt; rank.step(screen), Ok(Turn::Moved));
+        step(rt, rank, screen, Turn::Moved);
     }
-    assert_eq!(rt; rank.step(screen), Ok(Turn::Moved));
-    assert_eq!(rt; screen.line, Some((1, old.clock.saturating_add(1), 10)));
-    match rank.arrive(0, second(alloc)?) {
-        Ok(came) => assert_eq!(rt; came, old.second),
-        Err((_, fault)) => return Err(Fail::from(fault)),
-    }
-    assert_eq!(rt; rank.step(screen), Ok(Turn::Moved));
+    step(rt, rank, screen, Turn::Moved);
+    shows(rt, screen, old.clock.saturating_add(1), 10);
+    comes(rt, alloc, rank, old.second)?;
+    step(rt, rank, screen, Turn::Moved);
+    stores(rt, rank, logger);
+    prints_last(rt, rank, screen, old);
+    Ok(())
+}
+
+/// The second reception is stored as the second event, and acknowledged.
+fn stores(rt: &impl Abort, rank: &mut Rank, logger: &mut LoggerState)
+    requires { rank.old.stable.rank ≡ 1 }
+{
     assert!(rt; logger.ranks() == 2);
-    assert_eq!(rt; rank.store_state(logger), Ok(Some(2)));
+    same(rt, "stored", &rank.store_state(logger), &Ok(Some(2)));
     assert!(rt; rank.ack());
-    prints_last(rt, rank, screen, old)
 }
 
 /// The last print, and the end.
-fn prints_last(
-    rt: &impl Abort,
-    rank: &mut Rank,
-    screen: &mut LastLine,
-    old: Old,
-) -> Result<(), Fail> {
-    assert_eq!(rt; rank.step(screen), Ok(Turn::Moved));
-    let line = Some((1, old.clock.saturating_add(3), old.last));
-    assert_eq!(rt; screen.line, line);
-    assert_eq!(rt; rank.step(screen), Ok(Turn::Ended));
-    Ok(())
+fn prints_last(rt: &impl Abort, rank: &mut Rank, screen: &mut LastLine, old: Old) {
+    step(rt, rank, screen, Turn::Moved);
+    shows(rt, screen, old.clock.saturating_add(3), old.last);
+    step(rt, rank, screen, Turn::Ended);
+}
+
+/// A step of a rank that replays has this outcome.
+fn replay(rt: &impl Abort, rank: &mut Again, screen: &mut LastLine, want: Turn)
+    ensures { rank.new.node.stable ≡ rank.old.node.stable }
+{
+    assert!(rt; rank.left() != 0);
+    let clock = rank.clock();
+    same(
+        rt,
+        format_args!("a replay at clock {clock}"),
+        &rank.step(screen),
+        &Ok(want),
+    );
+}
+
+/// The second packet comes to a rank that replays, and this becomes of it.
+fn comes_again(rt: &impl Abort, alloc: Heap, rank: &mut Again, want: Arrived) -> Result<(), Fail>
+    requires { rank.old.node.stable.size ≡ 2 }
+    ensures { rank.new.node.stable ≡ rank.old.node.stable }
+{
+    match rank.arrive(0, second(alloc)?) {
+        Ok(came) => {
+            same(rt, "the second packet", &came, &want);
+            Ok(())
+        }
+        Err((_, fault)) => Err(Fail::from(fault)),
+    }
 }
 
 /// Replays the one event above the image.
@@ -171,25 +230,23 @@ fn replays(
 ) -> Result<(), Fail>
     requires size { rank.old.node.stable.size ≡ 2 }
 {
-    assert_eq!(rt; (rank.left(), rank.clock()), (1, old.clock));
+    same(
+        rt,
+        "left and clock",
+        &(rank.left(), rank.clock()),
+        &(1, old.clock),
+    );
     if old.assigns {
-        assert!(rt; rank.left() != 0);
-        assert_eq!(rt; rank.step(screen), Ok(Turn::Moved));
+        replay(rt, rank, screen, Turn::Moved);
     }
-    assert!(rt; rank.left() != 0);
-    assert_eq!(rt; rank.step(screen), Ok(Turn::Moved));
-    assert_eq!(rt; screen.line, Some((1, old.clock.saturating_add(1), 10)));
+    replay(rt, rank, screen, Turn::Moved);
+    shows(rt, screen, old.clock.saturating_add(1), 10);
     if old.second == Arrived::Accepted {
-        assert!(rt; rank.left() != 0);
-        assert_eq!(rt; rank.step(screen), Ok(Turn::Blocked));
+        replay(rt, rank, screen, Turn::Blocked);
     }
-    match rank.arrive(0, second(alloc)?) {
-        Ok(came) => assert_eq!(rt; came, old.second),
-        Err((_, fault)) => return Err(Fail::from(fault)),
-    }
-    assert!(rt; rank.left() != 0);
-    assert_eq!(rt; rank.step(screen), Ok(Turn::Moved));
-    assert_eq!(rt; rank.left(), 0);
+    comes_again(rt, alloc, rank, old.second)?;
+    replay(rt, rank, screen, Turn::Moved);
+    same(rt, "left", &rank.left(), &0);
     Ok(())
 }
 
@@ -258,9 +315,9 @@ fn lives_again(
     }
     match again.settle() {
         Ok(mut rank) => {
-            let outcome = prints_last(rt, &mut rank, screen, old);
+            prints_last(rt, &mut rank, screen, old);
             let _ = rank.retire().parts();
-            outcome
+            Ok(())
         }
         Err(again) => {
             let _ = again.retire().parts();

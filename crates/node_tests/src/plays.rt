@@ -4,6 +4,7 @@ ghost use Rattle.std.specs.Prelude.{◌≡◌, ◌<◌};
 mod frames;
 
 use crate::outgoing::Outgoing;
+use crate::same::same;
 use crate::scenes::{LastLine, Rank, long_packet, start};
 use frames::{arrive, arrive_many, arrive_one, ask, give_back, keep, next, pass, silent};
 use metered::Heap;
@@ -110,7 +111,7 @@ pub fn play_all(rt: &impl Abort, alloc: Heap, plays: &[Play]) -> Result<(), Fail
     for one in plays {
         let scene = perform(rt, alloc, *one)?;
         let found = left(alloc, scene)?;
-        assert_eq!(rt; found.as_str(), one.left);
+        same(rt, "what is left", &found.as_str(), &one.left);
     }
     Ok(())
 }
@@ -180,7 +181,7 @@ fn make_all(
     for row in calls {
         let (call, want) = *row;
         let found = make(rt, alloc, rank, scene, call)?;
-        assert_eq!(rt; found, want, "call {place}");
+        same(rt, format_args!("call {place}"), &found, &want);
         place = place.saturating_add(1);
     }
     Ok(())

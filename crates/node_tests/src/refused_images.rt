@@ -3,6 +3,7 @@ ghost use Rattle.std.specs.Prelude.{◌<◌};
 ghost use Rattle.checkpoint.specs.Shelf.{image_bytes};
 
 use crate::images::MISSES;
+use crate::same::same;
 use checkpoint::{MemoryShelf, Shelf, ShelfFault};
 use metered::Heap;
 use metered::limits::MOST_EVENTS;
@@ -52,15 +53,22 @@ fn begins_at(
 fn bytes_that_are_no_image_are_refused(rt: HostRuntime) -> Result<(), Fail> {
     let alloc = rt.alloc();
     let unread = Err(NodeFault::Image);
-    let five = b"print 5\n";
-    let two = b"print 5\nprint 6\n";
-    assert_eq!(&rt; begins_at(&rt, alloc, five, &PRINTED, None)?, Ok(1));
-    assert_eq!(&rt; begins_at(&rt, alloc, two, &PRINTED, None)?, unread);
-    assert_eq!(&rt; begins_at(&rt, alloc, five, &PRINTED[..41], None)?, unread);
-    assert_eq!(&rt; begins_at(&rt, alloc, five, &[], None)?, unread);
+    let five = b"print 5\n".as_slice();
+    let two = b"print 5\nprint 6\n".as_slice();
+    let printed = PRINTED.as_slice();
     let mut more = Vec::from_slice(alloc, &PRINTED)?;
     more.push(0)?;
-    assert_eq!(&rt; begins_at(&rt, alloc, five, &more, None)?, unread);
+    let cases = [
+        (five, printed, Ok(1)),
+        (two, printed, unread),
+        (five, &PRINTED[..41], unread),
+        (five, &PRINTED[..0], unread),
+        (five, more.as_slice(), unread),
+    ];
+    for (text, bytes, want) in cases {
+        let found = begins_at(&rt, alloc, text, bytes, None)?;
+        same(&rt, format_args!("{} bytes", bytes.len()), &found, &want);
+    }
     Ok(())
 }
 
@@ -78,7 +86,12 @@ fn an_image_cuts_no_run(rt: HostRuntime) -> Result<(), Fail> {
     ];
     for (count, clock, want) in cases {
         let found = begins_at(&rt, alloc, b"print 5\n", &PRINTED, Some((count, clock)))?;
-        assert_eq!(&rt; found, want, "{count} misses up to {clock}");
+        same(
+            &rt,
+            format_args!("{count} misses up to {clock}"),
+            &found,
+            &want,
+        );
     }
     Ok(())
 }
@@ -128,10 +141,13 @@ fn a_shelf_without_memory_is_want_of_memory(rt: HostRuntime) -> Result<(), Fail>
         Err((down, fault)) => (Some(fault), down.retire()),
     };
     let (_, shelf) = down.parts();
-    assert_eq!(&rt;
-        (imaged, started),
-        (Err(NodeFault::Memory), Some(NodeFault::Memory))
+    same(&rt, "image", &imaged, &Err(NodeFault::Memory));
+    same(&rt, "restart", &started, &Some(NodeFault::Memory));
+    same(
+        &rt,
+        "the image",
+        &shelf.image.as_deref(),
+        &Some(PRINTED.as_slice()),
     );
-    assert_eq!(&rt; shelf.image.as_deref(), Some(PRINTED.as_slice()));
     Ok(())
 }

@@ -3,6 +3,7 @@ ghost use Rattle.std.specs.Prelude.{◌≡◌, IfOk};
 
 mod lives;
 
+use crate::same::same;
 use crate::scenes::{LastLine, packet, start};
 use checkpoint::MemoryShelf;
 use lives::{
@@ -166,7 +167,7 @@ fn make_all(
     for row in life.calls {
         let (call, want) = *row;
         let found = make(rt, alloc, rank, screen, call)?;
-        assert_eq!(rt; found, want, "call {place}");
+        same(rt, format_args!("call {place}"), &found, &want);
         place = place.saturating_add(1);
     }
     Ok(())
@@ -196,8 +197,8 @@ fn live(rt: &impl Abort, alloc: Heap, life: Life) -> Result<(), Fail> {
     let outcome = make_all(rt, alloc, &mut rank, &mut screen, life);
     let settles = settles(rank);
     outcome?;
-    assert_eq!(rt; screen.line, life.line);
-    assert_eq!(rt; settles, life.settles);
+    same(rt, "line", &screen.line, &life.line);
+    same(rt, "settles", &settles, &life.settles);
     Ok(())
 }
 

@@ -1,5 +1,6 @@
 //! What a rank gives back that retires.
 
+use crate::same::same;
 use checkpoint::{MemoryShelf, Shelf};
 use rank_language::Program;
 use rank_node::{Running, Stable};
@@ -14,9 +15,9 @@ fn a_rank_that_retires_gives_desk_and_shelf(rt: HostRuntime) -> Result<(), Fail>
     match Running::start(alloc, &program, Stable::new(7u8, shelf, 1, 2)) {
         Ok(rank) => {
             let (desk, mut shelf) = rank.retire().parts();
-            assert_eq!(&rt; desk, 7);
+            same(&rt, "desk", &desk, &7);
             let image = shelf.get()?.ok_or("no image")?;
-            assert_eq!(&rt; image.as_slice(), [1, 2, 3].as_slice());
+            same(&rt, "image", &image.as_slice(), &[1, 2, 3].as_slice());
         }
         Err((stable, fault)) => {
             let _ = stable.parts();

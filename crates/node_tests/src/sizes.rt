@@ -1,6 +1,7 @@
 //! Each rank of each size, as a machine and at work.
 
-use crate::machines::{same, standing};
+use crate::machines::standing;
+use crate::same::{same, same_text};
 use crate::scenes::{LastLine, Rank, start};
 use metered::Heap;
 use metered::limits::MOST_RANKS;
@@ -22,8 +23,13 @@ fn begin_machine(
     let machine = Machine::new(alloc, program, rank, size)?;
     let stands = standing(alloc, &machine)?;
     let want = format!(in alloc; "Print({}) at 0", 10 * u32::from(rank) + u32::from(size))?;
-    assert_eq!(rt; (machine.rank(), machine.size()), (rank, size));
-    same(rt, "its beginning", stands.as_str(), want.as_str());
+    same(
+        rt,
+        "rank and size",
+        &(machine.rank(), machine.size()),
+        &(rank, size),
+    );
+    same_text(rt, "its beginning", stands.as_str(), want.as_str());
     Ok(())
 }
 
@@ -38,8 +44,9 @@ fn begin_rank(
     assert!(rt; rank < size && usize::from(size) <= MOST_RANKS);
     let (turn, clock, line) = first_act(start(alloc, program, rank, size)?);
     let value = 10 * i64::from(rank) + i64::from(size);
-    assert_eq!(rt; (turn, clock), (Ok(Turn::Moved), 1));
-    assert_eq!(rt; line, Some((rank, 1, value)), "rank {rank} of {size}");
+    same(rt, "its first step", &(turn, clock), &(Ok(Turn::Moved), 1));
+    let case = format_args!("rank {rank} of {size}");
+    same(rt, case, &line, &Some((rank, 1, value)));
     Ok(())
 }
 

@@ -1,6 +1,7 @@
 //! A loop that counts, cut into strides.
 
-use crate::machines::{same, standing};
+use crate::machines::standing;
+use crate::same::{same, same_text};
 use metered::Heap;
 use rank_language::Program;
 use rank_machine::{Machine, Want};
@@ -45,7 +46,7 @@ fn stride_by_stride(
     } else {
         "Print(1000) at 4"
     };
-    same(rt, "at last", stands.as_str(), want);
+    same_text(rt, "at last", stands.as_str(), want);
     Ok(made)
 }
 
@@ -88,7 +89,12 @@ fn machine_strides(
     for row in rows {
         let (most, strides, steps) = *row;
         let got = stride_by_stride(rt, alloc, program, most)?;
-        assert_eq!(rt; got, (strides, steps), "strides of {most}");
+        same(
+            rt,
+            format_args!("strides of {most}"),
+            &got,
+            &(strides, steps),
+        );
     }
     Ok(())
 }
