@@ -7,4 +7,6 @@ mod events;
 #[cfg(test)]
 mod plain;
 #[cfg(test)]
+mod same;
+#[cfg(test)]
 mod shared;

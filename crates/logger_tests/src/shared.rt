@@ -2,6 +2,7 @@
 ghost use Rattle.std.specs.Prelude.{◌≡◌, ◌<◌, length};
 ghost use Rattle.event_logger.specs.Desks.{AreDesks, IsSameDesk};
 
+use crate::same::same;
 use event_logger::{Counts, Desk, Ledger, Logger};
 use metered::Heap;
 use plain_logger::{Event, Kind, LogFault};
@@ -34,16 +35,21 @@ fn fill(rt: &impl Abort, logger: &Logger, desk: &mut Desk)
 {
     for clock in 1..=4096u32 {
         let length = logger.append(desk, reception(rt, clock));
-        assert_eq!(rt; length, Ok(clock), "at {clock}");
+        same(rt, format_args!("at {clock}"), &length, &Ok(clock));
     }
 }
 
 // The clocks of the events are these ones up to 4096.
 fn assert_last(rt: &impl Abort, events: &[Event], count: usize) {
-    assert_eq!(rt; events.len(), count);
+    same(rt, "how many events", &events.len(), &count);
     let mut clock = 4097 - count.min(4096) as u32;
     for event in events {
-        assert_eq!(rt; event.receiver_clock(), clock);
+        same(
+            rt,
+            "the clocks of the last",
+            &event.receiver_clock(),
+            &clock,
+        );
         clock = clock.saturating_add(1);
     }
 }
@@ -52,7 +58,7 @@ fn assert_last(rt: &impl Abort, events: &[Event], count: usize) {
 fn assert_begins(rt: &impl Abort, later: &[Event], earlier: &[Event]) {
     assert!(rt; earlier.len() <= later.len());
     for (before, after) in earlier.iter().zip(later) {
-        assert_eq!(rt; before, after);
+        same(rt, "an event read again", before, after);
     }
 }
 
@@ -69,7 +75,7 @@ fn live(rt: &impl Abort, alloc: Heap, logger: &Logger, desk: &mut Desk)
         .expect(rt, "there is memory");
     assert_last(rt, last.as_slice(), 2);
     let full = logger.append(desk, reception(rt, 4097));
-    assert_eq!(rt; full, Err(LogFault::Full));
+    same(rt, "one event more", &full, &Err(LogFault::Full));
     let of = next(logger, desk.rank());
     let once = logger
         .read(alloc, desk, of, 0)
@@ -130,17 +136,17 @@ fn all_read<R: Threads + Abort + Sync>(rt: &R, alloc: Heap, logger: &Logger, des
 
 // The ledger has this many full rows, and as many calls of each rank.
 fn assert_full(rt: &impl Abort, ledger: &Ledger, ranks: usize) {
-    assert_eq!(rt; ledger.ranks(), ranks);
+    same(rt, "ranks", &ledger.ranks(), &ranks);
     for rank in 0..ledger.ranks() {
         assert_last(rt, ledger.row(rank), 4096);
     }
-    assert_eq!(rt; ledger.counts().len(), ranks);
+    same(rt, "ranks with counts", &ledger.counts().len(), &ranks);
     for counts in ledger.counts() {
         let want = Counts {
             calls: 4098,
             reads: 3,
         };
-        assert_eq!(rt; *counts, want);
+        same(rt, "counts", counts, &want);
     }
 }
 
@@ -176,7 +182,7 @@ fn append_all(rt: &impl Abort, logger: &Logger, desk: &mut Desk, rows: &[Append]
     for row in rows {
         let (clock, want) = *row;
         let length = logger.append(desk, reception(rt, clock));
-        assert_eq!(rt; length, want, "at {clock}");
+        same(rt, format_args!("at {clock}"), &length, &want);
     }
 }
 
@@ -188,9 +194,10 @@ fn refuses_out_of_order(rt: HostRuntime) -> Result<(), Fail> {
         unreachable!()
     };
     append_all(&rt, &logger, &mut desk, &APPENDS);
-    assert_eq!(rt; (desk.rank(), desk.calls(), desk.reads()), (0, 6, 0));
+    let found = (desk.rank(), desk.calls(), desk.reads());
+    same(&rt, "rank, calls and reads", &found, &(0, 6, 0));
     desks.push_reserved(desk);
     let ledger = logger.close(alloc, desks)?;
-    assert_eq!(rt; ledger.into_rows().len(), 1);
+    same(&rt, "rows", &ledger.into_rows().len(), &1);
     Ok(())
 }
