@@ -6,7 +6,7 @@ use Rattle.event_logger.specs.Desks.{DeskValue}
 use Rattle.matching.specs.Inbox.{after_arrival}
 use Rattle.rank_node.specs.Frames.{after_frame, after_passed, outgoing_of, sent_off, with_inbox}
 use Rattle.rank_node.specs.Node.{Node}
-use Rattle.rank_node.specs.Phases.{arrived_in, passed_in}
+use Rattle.rank_node.specs.Phases.{arrived_in, clock_in, passed_in}
 use Rattle.rank_node.specs.declared.frame.Frame.{Frame}
 use Rattle.rank_node.specs.declared.phase.Phase.TheVariants as phase
 use Rattle.rank_threads.specs.Phases.{gate_in, gate_of, HasImage, SameShelf, TookImage}
@@ -30,12 +30,12 @@ arrived_waits (phase.Replaying r) from f = refl
 arrived_waits (phase.Down s) from f = refl
 
 -- an image that was taken stays taken as long as the shelf is as it was
-pub took_image : (stood p : Phase) → HasImage stood → SameShelf stood p → TookImage p
-took_image stood p image same = (stood, image, same)
+pub took_image : (clock : ℕ) (stood p : Phase) → HasImage stood → clock_in stood ≡ clock → SameShelf stood p → TookImage clock p
+took_image clock stood p image at same = (stood, image, at, same)
 
 -- and after a change that leaves the shelf too
-pub took_still : (p q : Phase) → TookImage p → SameShelf p q → TookImage q
-took_still p q took same = (took.0, took.1, same ∙ took.2)
+pub took_still : (clock : ℕ) (p q : Phase) → TookImage clock p → SameShelf p q → TookImage clock q
+took_still clock p q took same = (took.0, took.1, took.2, same ∙ took.3)
 
 -- what has gone leaves it
 sent_waits : (v : Node MemoryShelf DeskValue) (dest : ℕ) (f : Option Frame) → gate_of (sent_off v dest f) ≡ gate_of v

@@ -5,7 +5,7 @@ use Rattle.rank_node.specs.declared.waiting.Waiting.{Waiting}
 use Rattle.rank_node.specs.declared.waiting.Waiting.TheVariants as waits
 use Rattle.rank_node.specs.Waiting.{event_in, effect_clock}
 use Rattle.rank_node.specs.Storing.{next_unstored}
-use Rattle.rank_node.specs.Releasing.{effect_of, next_effect}
+use Rattle.rank_node.specs.Releasing.{effect_of, next_effect, released}
 use Rattle.checkpoint.specs.declared.memory_shelf.MemoryShelf.{MemoryShelf}
 use Rattle.event_logger.specs.Desks.{DeskValue}
 use Rattle.rank_node.specs.Node.{Node}
@@ -32,3 +32,8 @@ clock_of (Some (waits.Line clock value)) = refl
 -- so a release that passes an effect answers a clock
 pub has_clock : (v : Node MemoryShelf DeskValue) → is_some (option_and_then effect_clock (next_effect v)) ≡ is_some (next_effect v)
 has_clock v = clock_of (slice_get v.pending 0)
+
+-- a release leaves the clock
+pub released_clock : (v w : Node MemoryShelf DeskValue) (x : Option Waiting) → w ≡ released v x → w.clock ≡ v.clock
+released_clock v w None same = ap (λ u. u.clock) same
+released_clock v w (Some x) same = ap (λ u. u.clock) same

@@ -1,5 +1,8 @@
--- When a script's order is done: once the rank has made the act of that clock.
-use Rattle.std.specs.Prelude.{Bool, true, false, List, Option, Some, None}
+-- When a script's order is done: once the rank has made the act of that clock. When a rank takes an
+-- image: if its script asks for one, or after each so many acts (periodic checkpoints).
+use Rattle.std.specs.Prelude.{ℕ, ◌%◌, ◌==◌, Bool, true, false, ◌||◌, List, Option, Some, None}
+use Rattle.std.specs.NonZero.{non_zero_u32_get}
+use Rattle.std.specs.declared.num.NonZeroU32.{NonZeroU32}
 use Rattle.script_text.specs.declared.line.Order.{Order}
 use Rattle.script_text.specs.declared.line.Order.TheVariants.{Kill, Image}
 use Rattle.script_text.specs.declared.line.ScriptLine.{ScriptLine}
@@ -28,3 +31,21 @@ abbrev pub is_image : Option Order → Bool
 is_image None = false
 is_image (Some Kill) = false
 is_image (Some Image) = true
+
+-- an image is due at this clock: the rank takes one after each so many acts, and the clock is a
+-- multiple of that number
+abbrev pub is_due : Option NonZeroU32 → ℕ → Bool
+is_due None clock = false
+is_due (Some every) clock = clock % non_zero_u32_get every == 0
+
+-- an image is due after this step, which only an act can be
+abbrev pub is_due_after : Stepped → Option NonZeroU32 → Phase → Bool
+is_due_after stepped.Acted every p = is_due every (clock_in p)
+is_due_after stepped.Moved every p = false
+is_due_after stepped.Blocked every p = false
+is_due_after stepped.Held every p = false
+is_due_after stepped.Ended every p = false
+
+-- an image is to be taken after this step: the script's next line asks for it, or it is due
+abbrev pub images_after : Stepped → Option NonZeroU32 → List ScriptLine → Phase → Bool
+images_after stepped every plan p = is_image (order_after stepped plan p) || is_due_after stepped every p

@@ -15,7 +15,7 @@ use Rattle.rank_node.specs.Node.{Node, opening}
 use Rattle.rank_node.specs.Replay.{Replay}
 use Rattle.rank_node.specs.Stored.{Stored}
 use Rattle.rank_node.specs.Waiting.{Gate, misses_only}
-use Rattle.rank_node.specs.Phases.{stable_in, settled_in}
+use Rattle.rank_node.specs.Phases.{clock_in, stable_in, settled_in}
 use Rattle.rank_node.specs.declared.phase.Phase as ranks
 use Rattle.rank_node.specs.declared.phase.Phase.TheVariants as phase
 use Rattle.rank_threads.specs.declared.row.Row.{Row}
@@ -96,10 +96,10 @@ HasImage (phase.Running v) = last_image v.stable.shelf ≡ Some (spelling (image
 HasImage (phase.Replaying r) = ⊥
 HasImage (phase.Down s) = ⊥
 
--- The shelf holds the image of a rank that runs, though frames may have come and gone since. That
--- it is this rank, as it stood when it was taken, isn't said.
-abbrev pub TookImage : Phase → Type 0
-TookImage p = (stood : Phase) × HasImage stood × SameShelf stood p
+-- The shelf holds the image of a rank that runs, at this clock, though frames may have come and gone
+-- since. That it is this rank, as it stood when it was taken, isn't said.
+abbrev pub TookImage : ℕ → Phase → Type 0
+TookImage clock p = (stood : Phase) × HasImage stood × (clock_in stood ≡ clock) × SameShelf stood p
 
 -- These events were read of that rank's row, above that clock, and the rank is at its desk as it
 -- was; a rank that is down reads none.

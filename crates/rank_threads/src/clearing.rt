@@ -1,8 +1,9 @@
 //! Part 4 of a turn: what waits at the gate (output commit), and an image.
 ghost use Rattle.std.specs.Prelude.{◌≡◌, true, false, Ok, drop};
+ghost use Rattle.rank_node.specs.Phases.{clock_in};
 ghost use Rattle.rank_threads.specs.Clearing.{has_stepped, leaves_misses};
 ghost use Rattle.rank_threads.specs.Lives.{SameLife};
-ghost use Rattle.rank_threads.specs.Phases.{is_running, HasImage, NoneWaits};
+ghost use Rattle.rank_threads.specs.Phases.{is_running, HasImage, NoneWaits, SameShelf};
 ghost use Rattle.rank_threads.specs.Used.{MayUseOne};
 
 use crate::life::Life;
@@ -12,10 +13,10 @@ use ports::ConsoleState;
 use rank_node::NodeFault;
 use std::sync::Wait;
 
-/// Lets what waits pass, and takes the image that was noted. Just one miss or
-/// run of misses is left as it is, so that a rank that polls goes on with one
-/// event, unless the rank made no step, is to take an image, or was stopped by
-/// a limit.
+/// Lets what waits pass, and takes the image that was noted; if the script asked
+/// for it, its line is used. Just one miss or run of misses is left as it is, so
+/// that a rank that polls goes on with one event, unless the rank made no step,
+/// is to take an image, or was stopped by a limit.
 #[tactic(auto, using(crate::proofs::ClearingLemmas::left_unimaged))]
 pub fn clear_gate<W: Wait, H>(
     rt: &W,
@@ -24,17 +25,21 @@ pub fn clear_gate<W: Wait, H>(
     life: &mut Life<'_, '_>,
     stepped: Stepped,
     is_imaged: bool,
+    is_asked: bool,
 ) -> Result<(), NodeFault>
     ensures settled { leaves_misses stepped is_imaged life.old.tally.is_spent life.old.node.phase ≡ false → result ≡ Ok tt
         → life.new.tally.is_refused ≡ false → NoneWaits life.new.node.phase }
     ensures left { leaves_misses stepped is_imaged life.old.tally.is_spent life.old.node.phase ≡ true → life.new ≡ life.old }
     ensures image { result ≡ Ok tt → is_imaged ≡ true → life.new.tally.is_refused ≡ false
         → is_running life.new.node.phase ≡ true → HasImage life.new.node.phase }
-    ensures used { result ≡ Ok tt → is_imaged ≡ true → life.new.tally.is_refused ≡ false
+    ensures clock { clock_in life.new.node.phase ≡ clock_in life.old.node.phase }
+    ensures unimaged { is_imaged ≡ false → SameShelf life.old.node.phase life.new.node.phase }
+    ensures replays { is_running life.new.node.phase ≡ false → SameShelf life.old.node.phase life.new.node.phase }
+    ensures used { result ≡ Ok tt → is_imaged ≡ true → is_asked ≡ true → life.new.tally.is_refused ≡ false
         → is_running life.new.node.phase ≡ true → life.new.plan ≡ drop 1 life.old.plan }
     ensures kept { is_running life.new.node.phase ≡ false → life.new.plan ≡ life.old.plan }
-    ensures unasked { is_imaged ≡ false → life.new.plan ≡ life.old.plan }
-    ensures lines { MayUseOne is_imaged life.old.plan life.new.plan }
+    ensures unasked { is_asked ≡ false → life.new.plan ≡ life.old.plan }
+    ensures lines { MayUseOne is_asked life.old.plan life.new.plan }
     ensures owing { life.old.tally.may_owe ≡ true → life.new.tally.may_owe ≡ true }
     ensures runs { is_running life.new.node.phase ≡ is_running life.old.node.phase }
     ensures blank { blank.new ≡ blank.old }
@@ -43,7 +48,7 @@ pub fn clear_gate<W: Wait, H>(
     if leaves_misses(life, stepped, is_imaged) {
         return Ok(());
     }
-    pass_all(rt, shared, blank, life, is_imaged)
+    pass_all(rt, shared, blank, life, is_imaged, is_asked)
 }
 
 // Whether misses may go on waiting.
@@ -63,8 +68,8 @@ fn has_stepped(stepped: Stepped) -> bool
 }
 
 // Stores and acknowledges every event of the rank, lets what waits pass, and
-// takes the image that was noted. A rank that replays takes none: its line
-// stays next.
+// takes the image that was noted. A rank that replays takes none: a line that
+// asks for it stays next, and one that is due isn't made up for later.
 //
 // A rank whose event the logger refuses is spent, and steps no more.
 fn pass_all<W: Wait, H>(
@@ -73,15 +78,19 @@ fn pass_all<W: Wait, H>(
     blank: &mut ConsoleState,
     life: &mut Life<'_, '_>,
     is_imaged: bool,
+    is_asked: bool,
 ) -> Result<(), NodeFault>
     ensures settled { result ≡ Ok tt → life.new.tally.is_refused ≡ false → NoneWaits life.new.node.phase }
     ensures image { result ≡ Ok tt → is_imaged ≡ true → life.new.tally.is_refused ≡ false
         → is_running life.new.node.phase ≡ true → HasImage life.new.node.phase }
-    ensures used { result ≡ Ok tt → is_imaged ≡ true → life.new.tally.is_refused ≡ false
+    ensures clock { clock_in life.new.node.phase ≡ clock_in life.old.node.phase }
+    ensures unimaged { is_imaged ≡ false → SameShelf life.old.node.phase life.new.node.phase }
+    ensures replays { is_running life.new.node.phase ≡ false → SameShelf life.old.node.phase life.new.node.phase }
+    ensures used { result ≡ Ok tt → is_imaged ≡ true → is_asked ≡ true → life.new.tally.is_refused ≡ false
         → is_running life.new.node.phase ≡ true → life.new.plan ≡ drop 1 life.old.plan }
     ensures kept { is_running life.new.node.phase ≡ false → life.new.plan ≡ life.old.plan }
-    ensures unasked { is_imaged ≡ false → life.new.plan ≡ life.old.plan }
-    ensures lines { MayUseOne is_imaged life.old.plan life.new.plan }
+    ensures unasked { is_asked ≡ false → life.new.plan ≡ life.old.plan }
+    ensures lines { MayUseOne is_asked life.old.plan life.new.plan }
     ensures owing { life.old.tally.may_owe ≡ true → life.new.tally.may_owe ≡ true }
     ensures runs { is_running life.new.node.phase ≡ is_running life.old.node.phase }
     ensures blank { blank.new ≡ blank.old }
@@ -95,7 +104,9 @@ fn pass_all<W: Wait, H>(
         return Ok(());
     }
     if is_imaged && life.node.image()? {
-        life.plan.use_one();
+        if is_asked {
+            life.plan.use_one();
+        }
         // each rank of which it accepted something is due a word
         life.tally.set_owing(true);
     }

@@ -22,6 +22,8 @@ pub fn release_all<W: Wait>(
 ) -> Result<bool, AllocError>
     requires { rank.old.stable.desk.table ≡ logger.now.table }
     ensures settled { IfOk result (λ all. all ≡ true → rank.new.pending ≡ []) }
+    ensures shelf { rank.new.stable.shelf ≡ rank.old.stable.shelf }
+    ensures clock { rank.new.clock ≡ rank.old.clock }
     ensures blank { blank.new ≡ blank.old }
     ensures same { SameStable rank.old.stable rank.new.stable }
 {
@@ -51,7 +53,7 @@ pub fn release_all<W: Wait>(
 // The oldest of what waits passes, if it is a send or a line. Answers whether
 // it did. The console's lock is taken for a line alone, and no line is for the
 // blank screen.
-#[tactic(auto, using(crate::proofs::ReleasingLemmas::has_clock))]
+#[tactic(auto, using(crate::proofs::ReleasingLemmas::has_clock, crate::proofs::ReleasingLemmas::released_clock))]
 fn release<W: Wait>(
     rt: &W,
     console: &Console,
@@ -60,6 +62,7 @@ fn release<W: Wait>(
 ) -> Result<bool, AllocError>
     ensures passed { IfOk result (λ passed. passed ≡ is_some (next_effect rank.old)) }
     ensures ok { OnOk result (rank.new ≡ released rank.old (next_effect rank.old)) }
+    ensures clock { rank.new.clock ≡ rank.old.clock }
     ensures blank { blank.new ≡ blank.old }
     ensures stable { rank.new.stable ≡ rank.old.stable }
 {

@@ -1,13 +1,14 @@
 //! One turn of a rank, in six parts: what the lanes bring (`taking`), a stride or
-//! a step (`stepping`), what the script asks for (`orders`), what waits at the
-//! gate (`clearing`), what goes out (`putting`), and the rank's mark (`leaving`).
+//! a step (`stepping`), what the script asks for and whether an image is due
+//! (`orders`), what waits at the gate (`clearing`), what goes out (`putting`), and
+//! the rank's mark (`leaving`).
 ghost use Rattle.std.specs.Prelude.{◌≡◌, true, false, Some, None, IfOk, OnOk, OnErr, drop};
-ghost use Rattle.rank_node.specs.Phases.{settled_in};
+ghost use Rattle.rank_node.specs.Phases.{clock_in, settled_in};
 ghost use Rattle.rank_threads.specs.Clearing.{leaves_misses};
 ghost use Rattle.rank_threads.specs.Endings.{GoesDownAt, goes_down, is_down, is_leave};
 ghost use Rattle.rank_threads.specs.Lives.{SameLife, SamePlan};
-ghost use Rattle.rank_threads.specs.Orders.{order_after, is_kill, is_image};
-ghost use Rattle.rank_threads.specs.Phases.{NoneWaits, TookImage, gate_in, is_running, misses_only_in};
+ghost use Rattle.rank_threads.specs.Orders.{images_after, order_after, is_kill};
+ghost use Rattle.rank_threads.specs.Phases.{NoneWaits, SameShelf, TookImage, gate_in, is_running, misses_only_in};
 ghost use Rattle.rank_threads.specs.Putting.{NothingBelow};
 ghost use Rattle.rank_threads.specs.Turns.{IsBegun, kills_after};
 ghost use Rattle.rank_threads.specs.Used.{MayUseImage, MayUseOne, UsesLine};
@@ -17,7 +18,7 @@ use crate::ending::{Killed, Why, kill_of};
 use crate::hold::Hold;
 use crate::leaving::rest;
 use crate::life::Life;
-use crate::orders::{is_image, order_after};
+use crate::orders::{images_after, is_image, order_after};
 use crate::putting::put_out;
 use crate::shared::Shared;
 use crate::stepping::{Stepped, step};
@@ -105,12 +106,15 @@ fn end<'s, W: Wait, H: Hold>(
     ensures err_lines { OnErr result (MayUseImage life.old.plan life.new.plan) }
     ensures used { goes_down result ≡ true → life.new.plan ≡ drop 1 life.old.plan }
     ensures unasked { order_after begun.stepped life.old.plan life.old.node.phase ≡ None → life.new.plan ≡ life.old.plan }
-    ensures image { is_image (order_after begun.stepped life.old.plan life.old.node.phase) ≡ true → is_running life.old.node.phase ≡ true
-        → life.new.tally.is_refused ≡ false → IfOk result (λ after. is_down after ≡ false → TookImage life.new.node.phase) }
-    ensures settled { leaves_misses begun.stepped (is_image (order_after begun.stepped life.old.plan life.old.node.phase))
+    ensures image { images_after begun.stepped shared.now.limits.images_every life.old.plan life.old.node.phase ≡ true → is_running life.old.node.phase ≡ true
+        → life.new.tally.is_refused ≡ false → IfOk result (λ after. is_down after ≡ false → TookImage (clock_in life.old.node.phase) life.new.node.phase) }
+    ensures unimaged { images_after begun.stepped shared.now.limits.images_every life.old.plan life.old.node.phase ≡ false → SameShelf life.old.node.phase life.new.node.phase }
+    ensures replays { is_running life.old.node.phase ≡ false → SameShelf life.old.node.phase life.new.node.phase }
+    ensures crashed { goes_down result ≡ true → SameShelf life.old.node.phase life.new.node.phase }
+    ensures settled { leaves_misses begun.stepped (images_after begun.stepped shared.now.limits.images_every life.old.plan life.old.node.phase)
         life.old.tally.is_spent life.old.node.phase ≡ false
         → IfOk result (λ after. is_down after ≡ false → life.new.tally.is_refused ≡ false → NoneWaits life.new.node.phase) }
-    ensures kept { leaves_misses begun.stepped (is_image (order_after begun.stepped life.old.plan life.old.node.phase))
+    ensures kept { leaves_misses begun.stepped (images_after begun.stepped shared.now.limits.images_every life.old.plan life.old.node.phase)
         life.old.tally.is_spent life.old.node.phase ≡ true
         → IfOk result (λ after. is_down after ≡ false → gate_in life.new.node.phase ≡ gate_in life.old.node.phase) }
     ensures left { IfOk result (λ after. is_leave after ≡ true → life.new.tally.is_refused ≡ false → NoneWaits life.new.node.phase) }
@@ -122,7 +126,9 @@ fn end<'s, W: Wait, H: Hold>(
         life.plan.use_one();
         return Ok(After::Crash(killed));
     }
-    let put = let_out(rt, shared, blank, life, begun.stepped, is_image(order))?;
+    let is_imaged = images_after(begun.stepped, shared.limits.images_every, life);
+    let is_asked = is_image(order);
+    let put = let_out(rt, shared, blank, life, begun.stepped, is_imaged, is_asked)?;
     let is_busy = match begun.stepped {
         Stepped::Moved | Stepped::Acted | Stepped::Held => true,
         Stepped::Blocked | Stepped::Ended => put || is_frames(begun.brought),
@@ -147,6 +153,7 @@ fn let_out<W: Wait, H>(
     life: &mut Life<'_, '_>,
     stepped: Stepped,
     is_imaged: bool,
+    is_asked: bool,
 ) -> Result<bool, NodeFault>
     ensures nothing { OnOk result (life.old.tally.may_owe ≡ true → life.new.tally.may_owe ≡ false → NothingBelow life.new.node.size life.new.node.phase) }
     ensures settled { leaves_misses stepped is_imaged life.old.tally.is_spent life.old.node.phase ≡ false
@@ -154,13 +161,15 @@ fn let_out<W: Wait, H>(
     ensures kept { leaves_misses stepped is_imaged life.old.tally.is_spent life.old.node.phase ≡ true
         → OnOk result (gate_in life.new.node.phase ≡ gate_in life.old.node.phase) }
     ensures image { is_imaged ≡ true → is_running life.old.node.phase ≡ true
-        → life.new.tally.is_refused ≡ false → OnOk result (TookImage life.new.node.phase) }
-    ensures unasked { is_imaged ≡ false → life.new.plan ≡ life.old.plan }
-    ensures lines { MayUseOne is_imaged life.old.plan life.new.plan }
+        → life.new.tally.is_refused ≡ false → OnOk result (TookImage (clock_in life.old.node.phase) life.new.node.phase) }
+    ensures unimaged { is_imaged ≡ false → SameShelf life.old.node.phase life.new.node.phase }
+    ensures replays { is_running life.old.node.phase ≡ false → SameShelf life.old.node.phase life.new.node.phase }
+    ensures unasked { is_asked ≡ false → life.new.plan ≡ life.old.plan }
+    ensures lines { MayUseOne is_asked life.old.plan life.new.plan }
     ensures blank { blank.new ≡ blank.old }
     ensures same { SameLife life.old life.new }
 {
-    clear_gate(rt, shared, blank, life, stepped, is_imaged)?;
+    clear_gate(rt, shared, blank, life, stepped, is_imaged, is_asked)?;
     Ok(put_out(shared, life)?)
 }
 

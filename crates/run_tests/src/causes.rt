@@ -120,6 +120,7 @@ fn expect<R: Threads + Wait + Sync + Copy + Send + AllocGlobal + Abort, H: Hold 
     let limits = RunLimits {
         idle: 1000,
         steps: row.steps,
+        images_every: None,
     };
     let report = run(rt, alloc, &program, row.ranks, &script, limits, hold)?;
     let got = causes_text(alloc, &report)?;

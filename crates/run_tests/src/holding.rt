@@ -32,6 +32,7 @@ fn held_run<R: Threads + Wait + Sync + Copy + Send + AllocGlobal + Abort, H: Hol
     let limits = RunLimits {
         idle: 1000,
         steps: 1000,
+        images_every: None,
     };
     let script = Script::new(alloc);
     Ok(run(rt, alloc, &program, 2, &script, limits, hold)?)

@@ -46,6 +46,7 @@ fn expect_meeting<R: Threads + Wait + Sync + Copy + Send + AllocGlobal + Abort>(
     let limits = RunLimits {
         idle: 1000,
         steps: 1000,
+        images_every: None,
     };
     let script = Script::new(alloc);
     let report = run(rt, alloc, &program, 2, &script, limits, &meet)?;

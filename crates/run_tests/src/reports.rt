@@ -26,6 +26,7 @@ fn expect<R: Threads + Wait + Sync + Copy + Send + AllocGlobal + Abort>(
     let limits = RunLimits {
         idle: row.idle,
         steps: 10000,
+        images_every: None,
     };
     let report = run(rt, alloc, &program, row.ranks, &script, limits, &told)?;
     let got = described(alloc, &told, &report)?;

@@ -89,6 +89,7 @@ pub fn limits_of(job: RunJob<'_>) -> RunLimits
     RunLimits {
         idle: job.idle,
         steps: job.steps,
+        images_every: None,
     }
 }
 

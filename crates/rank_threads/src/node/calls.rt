@@ -78,6 +78,7 @@ impl<'p, 'l> Node<'p, 'l> {
         ensures image { IfOk result (λ took. took ≡ true → HasImage self.new.phase) }
         ensures refused { IfErr result MayRefuseImage }
         ensures stays { IfOk result (λ took. took ≡ false → self.new.phase ≡ self.old.phase) }
+        ensures replays { is_running self.old.phase ≡ false → self.new.phase ≡ self.old.phase }
         ensures clock { clock_in self.new.phase ≡ clock_in self.old.phase }
         ensures runs { is_running self.new.phase ≡ is_running self.old.phase }
         ensures gate { gate_in self.new.phase ≡ gate_in self.old.phase }
@@ -101,6 +102,8 @@ impl<'p, 'l> Node<'p, 'l> {
         blank: &mut ConsoleState,
     ) -> Result<bool, AllocError>
         ensures settled { IfOk result (λ all. all ≡ true → NoneWaits self.new.phase) }
+        ensures shelf { SameShelf self.old.phase self.new.phase }
+        ensures clock { clock_in self.new.phase ≡ clock_in self.old.phase }
         ensures runs { is_running self.new.phase ≡ is_running self.old.phase }
         ensures blank { blank.new ≡ blank.old }
         ensures same { SameNode self.old self.new }

@@ -182,5 +182,6 @@ fn limits_of(job: SoakJob<'_>) -> RunLimits
     RunLimits {
         idle: job.idle,
         steps: job.steps,
+        images_every: None,
     }
 }

@@ -3,7 +3,10 @@ use Rattle.rank_threads.specs.Phases.{SameStable}
 use Rattle.rank_threads.proofs.releasing.release_all.Given as goal
 
 abbrev pub invariant-loop : goal.invariant-loop
-invariant-loop g l = l.rank.stable ≡ l.fn.rank.stable
+invariant-loop g l = record {
+  stable : l.rank.stable ≡ l.fn.rank.stable;
+  clock : l.rank.clock ≡ l.fn.rank.clock;
+}
 
 abbrev pub decreases-loop : goal.decreases-loop
 decreases-loop g l = l.rank.stored
@@ -11,6 +14,8 @@ decreases-loop g l = l.rank.stored
 abbrev pub invariant-loop-rank : goal.invariant-loop-rank
 invariant-loop-rank g l = record {
   stored : l.rank.stored ≡ 0;
+  shelf : l.rank.stable.shelf ≡ l.fn.rank.stable.shelf;
+  clock : l.rank.clock ≡ l.fn.rank.clock;
   blank : l.blank ≡ l.fn.blank;
   same : SameStable l.fn.rank.stable l.rank.stable;
 }
