@@ -2,8 +2,10 @@
 use Rattle.std.proofs.Common.{◌≡◌, ℕ, ◌+◌, List, [], ◌∷◌, ◌++◌, refl, sym, ◌∙◌, ap, subst}
 use Rattle.std.proofs.Math.Numerals.{add-one}
 use Rattle.rank_node.specs.declared.frame.Frame.{Frame}
+use Rattle.rank_threads.specs.Costs.{all_dropped, one_dropped}
 use Rattle.rank_threads.specs.Dropping.{DroppedBelow, DroppedFrom, all_lost, lost}
 use Rattle.rank_threads.specs.Taking.{Takes}
+use Rattle.rank_threads.specs.declared.meter.Meter.{Meter}
 use Rattle.rank_threads.specs.declared.station.Station.{Station}
 use Rattle.rank_threads.specs.declared.tally.Tally.{Tally}
 use Rattle.rank_threads.proofs.TakingLemmas.{takes_none, takes_then}
@@ -13,19 +15,24 @@ lost_then : (t : Tally) (frames more : List Frame) → all_lost t (frames ++ mor
 lost_then t [] more = refl
 lost_then t (frame ∷ frames) more = lost_then (lost t) frames more
 
+-- frames are counted as a cost, and then more frames
+dropped_then : (m : Meter) (frames more : List Frame) → all_dropped m (frames ++ more) ≡ all_dropped (all_dropped m frames) more
+dropped_then m [] more = refl
+dropped_then m (frame ∷ frames) more = dropped_then (one_dropped m) frames more
+
 -- at first nothing is dropped
 pub dropped_nothing : (source : ℕ) (station : Station) → DroppedFrom source station station
-dropped_nothing source station = record { frames = []; lanes = takes_none source station.from.items; tally = refl }
+dropped_nothing source station = record { frames = []; lanes = takes_none source station.from.items; tally = refl; meter = refl }
 
 -- one frame is dropped
 pub dropped_one : (source : ℕ) (old new : Station) (frame : Frame) → Takes source (frame ∷ []) old.from.items new.from.items
-    → new.tally ≡ lost old.tally → DroppedFrom source old new
-dropped_one source old new frame takes counted = record { frames = frame ∷ []; lanes = takes; tally = counted }
+    → new.tally ≡ lost old.tally → new.meter ≡ one_dropped old.meter → DroppedFrom source old new
+dropped_one source old new frame takes counted metered = record { frames = frame ∷ []; lanes = takes; tally = counted; meter = metered }
 
 -- none was there
 pub dropped_none : (source : ℕ) (old new : Station) → Takes source [] old.from.items new.from.items → new.tally ≡ old.tally
-    → DroppedFrom source old new
-dropped_none source old new takes counted = record { frames = []; lanes = takes; tally = counted }
+    → new.meter ≡ old.meter → DroppedFrom source old new
+dropped_none source old new takes counted metered = record { frames = []; lanes = takes; tally = counted; meter = metered }
 
 -- some more are dropped, behind those before
 pub dropped_more : (source : ℕ) (old mid new : Station) → DroppedFrom source old mid → DroppedFrom source mid new → DroppedFrom source old new
@@ -33,6 +40,7 @@ dropped_more source old mid new before here = record {
   frames = before.frames ++ here.frames;
   lanes = takes_then source before.frames here.frames old.from.items mid.from.items new.from.items before.lanes here.lanes;
   tally = here.tally ∙ ap (λ t. all_lost t here.frames) before.tally ∙ sym (lost_then old.tally before.frames here.frames);
+  meter = here.meter ∙ ap (λ m. all_dropped m here.frames) before.meter ∙ sym (dropped_then old.meter before.frames here.frames);
 }
 
 -- one lane more

@@ -1,5 +1,6 @@
 mod CauseLemmas
 mod ClearingLemmas
+mod CostLemmas
 mod Crews
 mod DroppingLemmas
 mod GateLemmas

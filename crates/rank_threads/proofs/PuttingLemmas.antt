@@ -1,10 +1,16 @@
 -- Into which of a rank's lanes a frame goes.
-use Rattle.std.proofs.Common.{◌≡◌, ◌≢◌, ℕ, zero, suc, ◌+◌, ◌<◌, ◌≤◌, List, [], ◌∷◌, length, slice_index_or, slice_set, refl, subst, ap, arith, ◌⊎◌, inl, inr}
+use Rattle.std.proofs.Common.{◌≡◌, ◌≢◌, ℕ, zero, suc, ◌+◌, ◌<◌, ◌≤◌, List, [], ◌∷◌, ◌++◌, Option, Some, None, length, slice_index_or, slice_set}
+use Rattle.std.proofs.Common.{refl, sym, subst, ap, ◌∙◌, append_assoc, append-nil, arith, ◌⊎◌, inl, inr}
 use Rattle.std.proofs.lemmas.Bool.{cases_lt}
 use Rattle.ports.specs.Lanes.{TxValue, put_of}
-use Rattle.rank_threads.specs.Putting.{HasNothing, NothingBelow, Puts, PutsInto, Stays}
+use Rattle.rank_threads.specs.Costs.{after_put, all_put, kind_of}
+use Rattle.rank_threads.specs.Putting.{HasNothing, NothingBelow, PutAll, Puts, PutsInto, Stays}
+use Rattle.rank_node.specs.Phases.{outgoing_in}
 use Rattle.rank_node.specs.declared.frame.Frame.{Frame}
 use Rattle.rank_threads.specs.Phases.{Phase}
+use Rattle.rank_threads.specs.declared.costs.FrameKind.{FrameKind}
+use Rattle.rank_threads.specs.declared.life.Life.{Life}
+use Rattle.rank_threads.specs.declared.meter.Meter.{Meter}
 use Rattle.rank_threads.specs.declared.node.frames.Went.{Went}
 use Rattle.rank_threads.specs.declared.node.frames.Went.TheVariants as went
 
@@ -30,7 +36,7 @@ set_elsewhere (x ∷ xs) (suc i) (suc k) y d apart = set_elsewhere xs i k y d (�
 
 -- what a frame does to the rank by itself
 stays : (went : Went) (p q : Phase) (dest : ℕ) (put put' : List Frame) → Puts went p dest put q put' → Stays went p dest q
-stays went.Gone p q dest put put' puts = tt
+stays (went.Gone kind) p q dest put put' puts = record { frame = puts.frame; outgoing = puts.outgoing; is_kind = puts.is_kind }
 stays went.Full p q dest put put' puts = puts.0
 stays went.Nothing p q dest put put' puts = (puts.0, puts.2)
 
@@ -54,3 +60,64 @@ nothing_next k p below here dest low = go (cases_lt dest k)
 -- where nothing went, all lanes are as they were
 pub no_lane : (p : Phase) (dest : ℕ) (lanes : List TxValue) → PutsInto went.Full p dest lanes p lanes
 no_lane p dest lanes = record { lane = λ d. (refl, refl); others = λ k d apart. refl; rank = refl }
+
+-- the frame, if there is one
+abbrev frame_or : Frame → Option Frame → Frame
+frame_or d None = d
+frame_or d (Some frame) = frame
+
+-- only one frame is outgoing
+same_frame : (p : Phase) (dest : ℕ) (a b : Frame) → outgoing_in p dest ≡ Some a → outgoing_in p dest ≡ Some b → a ≡ b
+same_frame p dest a b one other = ap (frame_or a) (sym one ∙ other)
+
+-- frames are counted, and then one more
+put_then : (m : Meter) (dest : ℕ) (frames : List Frame) (frame : Frame)
+    → all_put m dest (frames ++ frame ∷ []) ≡ after_put (all_put m dest frames) dest (kind_of frame)
+put_then m dest [] frame = refl
+put_then m dest (first ∷ frames) frame = put_then (after_put m dest (kind_of first)) dest frames frame
+
+-- at first nothing went
+pub put_nothing : (dest : ℕ) (life : Life) → PutAll dest life life
+put_nothing dest life =
+    record { frames = []; lane = λ d. sym (append-nil (put_of (slice_index_or life.to.items dest d))); meter = refl }
+
+-- one frame more went, behind those before
+pub put_more : (dest : ℕ) (old mid new : Life) (kind : FrameKind) (p q : Phase) → PutAll dest old mid
+    → PutsInto (went.Gone kind) p dest mid.to.items q new.to.items → new.meter ≡ after_put mid.meter dest kind → PutAll dest old new
+put_more dest old mid new kind p q before here counted =
+    let frame = here.rank.frame in
+    record {
+      frames = before.frames ++ frame ∷ [];
+      lane = λ d.
+          let one = here.lane d in
+          one.last
+          ∙ ap (λ f. put_of (slice_index_or mid.to.items dest d) ++ f ∷ []) (same_frame p dest one.frame frame one.outgoing here.rank.outgoing)
+          ∙ ap (λ put. put ++ frame ∷ []) (before.lane d)
+          ∙ append_assoc (put_of (slice_index_or old.to.items dest d)) before.frames (frame ∷ []);
+      meter =
+          counted ∙ ap (after_put mid.meter dest) here.rank.is_kind ∙ ap (λ m. after_put m dest (kind_of frame)) before.meter
+          ∙ sym (put_then old.meter dest before.frames frame);
+    }
+
+-- the lane was full
+pub put_full : (dest : ℕ) (old mid new : Life) (p q : Phase) → PutAll dest old mid → PutsInto went.Full p dest mid.to.items q new.to.items
+    → new.meter ≡ mid.meter → PutAll dest old new
+put_full dest old mid new p q before here same =
+    record { frames = before.frames; lane = λ d. (here.lane d).1 ∙ before.lane d; meter = same ∙ before.meter }
+
+-- nothing was outgoing any more
+pub put_no_more : (dest : ℕ) (old mid new : Life) (p q : Phase) → PutAll dest old mid → PutsInto went.Nothing p dest mid.to.items q new.to.items
+    → new.meter ≡ mid.meter → PutAll dest old new
+put_no_more dest old mid new p q before here same =
+    record { frames = before.frames; lane = λ d. (here.lane d).1 ∙ before.lane d; meter = same ∙ before.meter }
+
+-- what touches no lane and counts nothing leaves it so
+pub put_kept : (dest : ℕ) (old mid new : Life) → PutAll dest old mid → new.to ≡ mid.to → new.meter ≡ mid.meter → PutAll dest old new
+put_kept dest old mid new before to same = record {
+  frames = before.frames;
+  lane = λ d. ap (λ lanes. put_of (slice_index_or lanes.items dest d)) to ∙ before.lane d;
+  meter = same ∙ before.meter;
+}
+
+-- what one frame more leaves
+pub ruleset put_laws = (put_nothing, put_more, put_full, put_no_more, put_kept)

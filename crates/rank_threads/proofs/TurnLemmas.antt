@@ -8,6 +8,7 @@ use Rattle.rank_node.specs.declared.fault.NodeFault.TheVariants as fault
 use Rattle.rank_node.specs.declared.turn.Turn.{Turn}
 use Rattle.rank_node.specs.declared.turn.Turn.TheVariants as turn
 use Rattle.rank_node.specs.Phases.{clock_in}
+use Rattle.rank_threads.specs.Costs.{after_step}
 use Rattle.rank_threads.specs.Phases.{want_in}
 use Rattle.rank_threads.specs.Steps.{acts_made, acts_of, counted, is_limit, is_own, is_stopped, step_of, told, turn_in, Counts}
 use Rattle.rank_threads.specs.Turns.{Brings, IsBegun}
@@ -150,8 +151,10 @@ clock_told p q r answer result stood same own grows stays =
 
 -- the rank took what its lanes brought, and made the step that its state said then
 pub is_begun : (old mid new : Life) (begun : Begun) → Brings begun.brought old mid
-    → (Ok begun.stepped ≢ Err fault.Memory → Ok begun.stepped ≡ step_of mid.tally mid.node.phase) → IsBegun old new begun
-is_begun old mid new begun brings steps = record { mid = mid; brought = brings; stepped = steps (λ lacked. absurd cc) }
+    → (Ok begun.stepped ≢ Err fault.Memory → Ok begun.stepped ≡ step_of mid.tally mid.node.phase)
+    → new.meter ≡ after_step mid.meter begun.stepped (clock_in new.node.phase) → IsBegun old new begun
+is_begun old mid new begun brings steps acts =
+    record { mid = mid; brought = brings; stepped = steps (λ lacked. absurd cc); acts = acts }
 
 pub ruleset stride_laws = (none_made)
 

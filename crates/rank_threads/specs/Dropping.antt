@@ -2,6 +2,7 @@
 -- termination detection doesn't wait for them.
 use Rattle.std.specs.Prelude.{◌≡◌, ℕ, zero, suc, true, false, List, [], ◌∷◌}
 use Rattle.rank_node.specs.declared.frame.Frame.{Frame}
+use Rattle.rank_threads.specs.Costs.{all_dropped}
 use Rattle.rank_threads.specs.Taking.{Takes}
 use Rattle.rank_threads.specs.Tally.{one_more}
 use Rattle.rank_threads.specs.declared.station.Station.{Station}
@@ -16,11 +17,12 @@ abbrev pub all_lost : Tally → List Frame → Tally
 all_lost t [] = t
 all_lost t (frame ∷ frames) = all_lost (lost t) frames
 
--- What the lane from a rank brought was dropped, and each frame was counted.
+-- What the lane from a rank brought was dropped, and each frame was counted: as taken, and as a cost.
 pub record DroppedFrom (source : ℕ) (old new : Station) : Type 0 where
   pub frames : List Frame
   pub lanes : Takes source frames old.from.items new.from.items
   pub tally : new.tally ≡ all_lost old.tally frames
+  pub meter : new.meter ≡ all_dropped old.meter frames
 
 -- What the lanes from the ranks below this number brought was dropped, from rank 0 on.
 abbrev pub DroppedBelow : ℕ → Station → Station → Type 0

@@ -15,6 +15,7 @@ pub mod Tally
 pub mod Plans
 pub mod Ends
 pub mod Causes
+pub mod Costs
 pub mod Faults
 pub mod Taking
 pub mod Dropping

@@ -4,14 +4,18 @@ use Rattle.std.specs.Prelude.{◌≡◌, ◌≢◌, ℕ, ◌<◌, List, [], ◌�
 use Rattle.rank_node.specs.Phases.{outgoing_in, passed_in}
 use Rattle.rank_node.specs.declared.frame.Frame.{Frame}
 use Rattle.ports.specs.Lanes.{TxValue, put_of}
+use Rattle.rank_threads.specs.Costs.{all_put, kind_of}
 use Rattle.rank_threads.specs.Phases.{Phase}
+use Rattle.rank_threads.specs.declared.costs.FrameKind.{FrameKind}
+use Rattle.rank_threads.specs.declared.life.Life.{Life}
 use Rattle.rank_threads.specs.declared.node.frames.Went.{Went}
 use Rattle.rank_threads.specs.declared.node.frames.Went.TheVariants as went
 
--- One frame goes to a rank: it was outgoing, has gone, and was put behind all others.
-pub record PutsOne (p : Phase) (dest : ℕ) (put : List Frame) (q : Phase) (put' : List Frame) : Type 0 where
+-- One frame of a kind goes to a rank: it was outgoing, has gone, and was put behind all others.
+pub record PutsOne (kind : FrameKind) (p : Phase) (dest : ℕ) (put : List Frame) (q : Phase) (put' : List Frame) : Type 0 where
   pub frame : Frame
   pub outgoing : outgoing_in p dest ≡ Some frame
+  pub is_kind : kind ≡ kind_of frame
   pub gone : q ≡ passed_in p dest
   pub last : put' ≡ put ++ frame ∷ []
 
@@ -26,13 +30,20 @@ NothingBelow count p = (dest : ℕ) → dest < count → HasNothing p dest
 -- What is outgoing to a rank next goes into a lane, finds it full, or isn't there. If nothing went,
 -- all is as it was.
 abbrev pub Puts : Went → Phase → ℕ → List Frame → Phase → List Frame → Type 0
-Puts went.Gone p dest put q put' = PutsOne p dest put q put'
+Puts (went.Gone kind) p dest put q put' = PutsOne kind p dest put q put'
 Puts went.Full p dest put q put' = (q ≡ p) × (put' ≡ put)
 Puts went.Nothing p dest put q put' = (q ≡ p) × (put' ≡ put) × HasNothing p dest
 
--- if nothing went the rank is as it was, and if the lane had room nothing is outgoing to that rank
+-- a frame of this kind is outgoing to a rank
+pub record IsOutgoing (kind : FrameKind) (p : Phase) (dest : ℕ) : Type 0 where
+  pub frame : Frame
+  pub outgoing : outgoing_in p dest ≡ Some frame
+  pub is_kind : kind ≡ kind_of frame
+
+-- if nothing went the rank is as it was, and if the lane had room nothing is outgoing to that rank;
+-- if a frame went it was outgoing
 abbrev pub Stays : Went → Phase → ℕ → Phase → Type 0
-Stays went.Gone p dest q = Unit {0}
+Stays (went.Gone kind) p dest q = IsOutgoing kind p dest
 Stays went.Full p dest q = q ≡ p
 Stays went.Nothing p dest q = (q ≡ p) × HasNothing p dest
 
@@ -42,3 +53,9 @@ pub record PutsInto (went : Went) (p : Phase) (dest : ℕ) (lanes : List TxValue
   pub lane : (d : TxValue) → Puts went p dest (put_of (slice_index_or lanes dest d)) q (put_of (slice_index_or lanes' dest d))
   pub others : (k : ℕ) (d : TxValue) → k ≢ dest → slice_index_or lanes' k d ≡ slice_index_or lanes k d
   pub rank : Stays went p dest q
+
+-- These frames went into the lane to a rank, one behind another, and each was counted by its kind.
+pub record PutAll (dest : ℕ) (old new : Life) : Type 0 where
+  pub frames : List Frame
+  pub lane : (d : TxValue) → put_of (slice_index_or new.to.items dest d) ≡ put_of (slice_index_or old.to.items dest d) ++ frames
+  pub meter : new.meter ≡ all_put old.meter dest frames

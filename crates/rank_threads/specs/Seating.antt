@@ -40,7 +40,8 @@ ended None = end.Unfinished
 ended (Some e) = e
 
 -- what a rank came to: how it left, how often it crashed, how many steps it made, whether a limit
--- stopped it, how it stood, how many lines of the script it left unused, and why it can't go on
+-- stopped it, how it stood, how many lines of the script it left unused, what its recoveries cost, and
+-- why it can't go on
 abbrev pub account_of : Station → Account
 account_of s = record {
   end = ended s.end;
@@ -49,6 +50,7 @@ account_of s = record {
   is_spent = s.tally.is_spent;
   stood = s.stood;
   unused = length s.plan;
+  costs = s.meter.costs;
   fault = s.tally.fault;
 }
 

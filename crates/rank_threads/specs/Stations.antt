@@ -10,6 +10,7 @@ use Rattle.rank_threads.specs.declared.parcel.Parcel.{Parcel}
 use Rattle.rank_threads.specs.declared.row.Row.{Row}
 use Rattle.rank_threads.specs.declared.life.Life.{Life}
 use Rattle.rank_threads.specs.declared.station.Station.{Station}
+use Rattle.rank_threads.specs.Costs.{new_meter}
 use Rattle.rank_threads.specs.Tally.{new_tally}
 
 -- the rank, its desk and its lanes are the same
@@ -35,6 +36,7 @@ pub record HasRow (s : Station) : Type 0 where
 -- The rank hasn't lived yet: nothing is counted of it, it has fetched no row, and it hasn't left.
 pub record IsNew (s : Station) : Type 0 where
   pub tally : s.tally ≡ new_tally
+  pub meter : s.meter ≡ new_meter
   pub row : s.row ≡ None
   pub end : s.end ≡ None
 

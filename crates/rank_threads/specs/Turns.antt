@@ -1,7 +1,9 @@
 -- What the beginning of a turn comes to.
 use Rattle.std.specs.Prelude.{◌≡◌, Bool, true, false, List, Result, Ok, Err}
+use Rattle.rank_node.specs.Phases.{clock_in}
 use Rattle.rank_node.specs.declared.fault.NodeFault.{NodeFault}
 use Rattle.script_text.specs.declared.line.ScriptLine.{ScriptLine}
+use Rattle.rank_threads.specs.Costs.{after_step}
 use Rattle.rank_threads.specs.Orders.{is_kill, order_after}
 use Rattle.rank_threads.specs.Steps.{step_of}
 use Rattle.rank_threads.specs.Taking.{TookBelow}
@@ -23,11 +25,13 @@ Brings brought.Frames old new = TookBelow old.node.size old new true
 Brings (brought.Nothing none) old new = TookBelow old.node.size old new false
 Brings (brought.Unrung unrung) old new = new ≡ old
 
--- A turn began: the rank took what its lanes brought, and then made the step that its state said.
+-- A turn began: the rank took what its lanes brought, and then made the step that its state said. If
+-- that was an act it was counted, by its clock.
 pub record IsBegun (old new : Life) (begun : Begun) : Type 0 where
   pub mid : Life
   pub brought : Brings begun.brought old mid
   pub stepped : Ok begun.stepped ≡ step_of mid.tally mid.node.phase
+  pub acts : new.meter ≡ after_step mid.meter begun.stepped (clock_in new.node.phase)
 
 -- the script kills the rank after this beginning of a turn
 abbrev pub kills_after : Result Begun NodeFault → List ScriptLine → Phase → Bool

@@ -2,6 +2,7 @@
 ghost use Rattle.std.specs.Prelude.{◌≡◌, true, false, Ok, drop};
 ghost use Rattle.rank_node.specs.Phases.{clock_in};
 ghost use Rattle.rank_threads.specs.Clearing.{has_stepped, leaves_misses};
+ghost use Rattle.rank_threads.specs.Costs.{after_image, image_size_in};
 ghost use Rattle.rank_threads.specs.Lives.{SameLife};
 ghost use Rattle.rank_threads.specs.Phases.{is_running, HasImage, NoneWaits, SameShelf};
 ghost use Rattle.rank_threads.specs.Used.{MayUseOne};
@@ -88,6 +89,9 @@ fn pass_all<W: Wait, H>(
     ensures replays { is_running life.new.node.phase ≡ false → SameShelf life.old.node.phase life.new.node.phase }
     ensures used { result ≡ Ok tt → is_imaged ≡ true → is_asked ≡ true → life.new.tally.is_refused ≡ false
         → is_running life.new.node.phase ≡ true → life.new.plan ≡ drop 1 life.old.plan }
+    ensures counted { result ≡ Ok tt → is_imaged ≡ true → life.new.tally.is_refused ≡ false
+        → is_running life.new.node.phase ≡ true → life.new.meter ≡ after_image life.old.meter (image_size_in life.new.node.phase) }
+    ensures uncounted { is_imaged ≡ false → life.new.meter ≡ life.old.meter }
     ensures kept { is_running life.new.node.phase ≡ false → life.new.plan ≡ life.old.plan }
     ensures unasked { is_asked ≡ false → life.new.plan ≡ life.old.plan }
     ensures lines { MayUseOne is_asked life.old.plan life.new.plan }
@@ -104,6 +108,8 @@ fn pass_all<W: Wait, H>(
         return Ok(());
     }
     if is_imaged && life.node.image()? {
+        let bytes = life.node.image_bytes(shared.alloc)?;
+        life.meter.count_image(bytes);
         if is_asked {
             life.plan.use_one();
         }

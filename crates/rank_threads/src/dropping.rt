@@ -60,5 +60,6 @@ fn drop_one(station: &mut Station<'_>, source: u8, looked: &mut Looked) -> bool
         return false;
     };
     station.tally.count_taken();
+    station.meter.count_dropped();
     true
 }

@@ -8,6 +8,7 @@
 
 mod cause;
 mod clearing;
+mod costs;
 mod crew;
 mod dropping;
 mod ending;
@@ -18,6 +19,7 @@ mod leaving;
 mod life;
 mod living;
 mod marks;
+mod meter;
 mod node;
 mod orders;
 mod parcel;
@@ -41,6 +43,7 @@ mod turn;
 mod waiting;
 
 pub use cause::Cause;
+pub use costs::{Costs, LogSize};
 pub use hold::Hold;
 pub use playing::{Played, play};
 pub use report::{Report, RunFault};

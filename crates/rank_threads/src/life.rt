@@ -1,4 +1,5 @@
 //! A rank in one life: an incarnation, on a thread of its own.
+use crate::meter::Meter;
 use crate::node::Node;
 use crate::plan::Plan;
 use crate::tally::Tally;
@@ -15,4 +16,5 @@ pub struct Life<'p, 'l> {
     pub from: Vec<Rx, Heap>,
     pub plan: Plan,
     pub tally: Tally,
+    pub meter: Meter,
 }

@@ -5,6 +5,7 @@ ghost use Rattle.rank_node.specs.Phases.{stable_in};
 mod calls;
 mod frames;
 mod lives;
+mod sizes;
 mod steps;
 
 use checkpoint::MemoryShelf;

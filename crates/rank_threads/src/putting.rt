@@ -1,7 +1,7 @@
 //! Part 5 of a turn: what goes out.
 ghost use Rattle.std.specs.Prelude.{◌≡◌, ◌<◌, true, false, OnOk};
 ghost use Rattle.rank_threads.specs.Lives.{SameLife, SamePlan, SameGate};
-ghost use Rattle.rank_threads.specs.Putting.{HasNothing, NothingBelow};
+ghost use Rattle.rank_threads.specs.Putting.{HasNothing, NothingBelow, PutAll};
 
 use crate::lanes_of::put_to;
 use crate::life::Life;
@@ -32,7 +32,9 @@ pub fn put_out<H>(shared: &Shared<'_, H>, life: &mut Life<'_, '_>) -> Result<boo
     Ok(put)
 }
 
+// Each frame is counted by its kind.
 // What may be left, after a full lane or as many frames as a turn puts, is looked for in the next turn.
+#[tactic(auto, using(crate::proofs::PuttingLemmas::put_laws))]
 fn put_all_to<H>(
     shared: &Shared<'_, H>,
     life: &mut Life<'_, '_>,
@@ -42,6 +44,7 @@ fn put_all_to<H>(
     ensures nothing { OnOk result (life.new.tally.may_owe ≡ false → HasNothing life.new.node.phase dest) }
     ensures untouched { OnOk result (life.new.tally.may_owe ≡ false → life.new.node.phase ≡ life.old.node.phase) }
     ensures owing { OnOk result (life.old.tally.may_owe ≡ true → life.new.tally.may_owe ≡ true) }
+    ensures counted { OnOk result (PutAll dest life.old life.new) }
     ensures plan { SamePlan life.old life.new }
     ensures gate { SameGate life.old life.new }
     ensures same { SameLife life.old life.new }
@@ -50,8 +53,9 @@ fn put_all_to<H>(
     let mut is_done = false;
     for _ in 0..MOST_FRAMES {
         match put_to(&mut life.to, dest, &mut life.node)? {
-            Went::Gone => {
+            Went::Gone(kind) => {
                 life.tally.count_put();
+                life.meter.count_put(dest, kind);
                 put = true;
             }
             Went::Full => break,

@@ -9,6 +9,7 @@ ghost use Rattle.rank_threads.specs.Faults.{crashes_from, fault_of, is_memory, l
 ghost use Rattle.rank_threads.specs.Report.{IsOfDesks, IsOfLives, IsPlayed, IsReport};
 
 use crate::cause::{causes_of, uncaused};
+use crate::costs::Costs;
 use crate::playing::Played;
 use crate::report::{Report, RunFault};
 use crate::running::RunLimits;
@@ -135,12 +136,14 @@ fn reported(
     ensures calls { IfOk result (λ report. report.calls.items ≡ map (λ c. c.calls) ledger.counts) }
     ensures crashes { IfOk result (λ report. report.crashes ≡ crashes_from 0 played.accounts.items) }
     ensures unused { IfOk result (λ report. report.unused.items ≡ map (λ a. a.unused) played.accounts.items) }
+    ensures costs { IfOk result (λ report. report.costs.items ≡ map (λ a. a.costs) played.accounts.items) }
 {
     let Played { console, accounts } = played;
     let causes = causes_of(alloc, limits.steps, accounts.as_slice(), &ledger)?;
     let calls = calls_of(alloc, ledger.counts())?;
     let ends = ends_of(alloc, accounts.as_slice())?;
     let unused = unused_of(alloc, accounts.as_slice())?;
+    let costs = costs_of(alloc, accounts.as_slice())?;
     let lines = copied(alloc, console.lines())?;
     Ok(Report {
         outcome: Outcome {
@@ -152,6 +155,7 @@ fn reported(
         crashes: crashes_of(accounts.as_slice()),
         unused,
         calls,
+        costs,
     })
 }
 
@@ -177,6 +181,12 @@ fn unused_of(alloc: Heap, accounts: &[Account]) -> Result<Vec<usize, Heap>, Allo
     ensures { IfOk result (λ unused. unused.items ≡ map (λ a. a.unused) accounts.now) }
 {
     accounts.iter().map(|one| one.unused).collect(alloc)
+}
+
+fn costs_of(alloc: Heap, accounts: &[Account]) -> Result<Vec<Costs, Heap>, AllocError>
+    ensures { IfOk result (λ costs. costs.items ≡ map (λ a. a.costs) accounts.now) }
+{
+    accounts.iter().map(|one| one.costs).collect(alloc)
 }
 
 fn calls_of(alloc: Heap, counts: &[Counts]) -> Result<Vec<u64, Heap>, AllocError>

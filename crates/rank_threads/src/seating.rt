@@ -7,6 +7,7 @@ ghost use Rattle.rank_threads.specs.Seating.{AreDesksFrom, ArePartsOf, AreNew, I
 ghost use Rattle.rank_threads.specs.Seating.{account_of, accounts_of, desks_of, lanes_from, lanes_to, plans_of};
 ghost use Rattle.rank_threads.specs.Stations.{stations_of};
 
+use crate::costs::Costs;
 use crate::parcel::Parcel;
 use crate::plan::Plan;
 use crate::station::Station;
@@ -40,6 +41,7 @@ pub struct Account {
     pub stood: Stood,
     /// How many of the script's lines for the rank weren't used.
     pub unused: usize,
+    pub costs: Costs,
     pub fault: Option<NodeFault>,
 }
 
@@ -149,6 +151,7 @@ fn parts(station: Station<'_>) -> (Desk, Vec<Tx, Heap>, Vec<Rx, Heap>, Account)
         is_spent: station.tally.is_spent,
         stood: station.stood,
         unused: station.plan.unused(),
+        costs: station.meter.costs,
         fault: station.tally.fault,
     };
     let (desk, to, from) = station.close();

@@ -3,6 +3,7 @@ ghost use Rattle.std.specs.Prelude.{◌≡◌};
 
 mod lives;
 
+use crate::meter::Meter;
 use crate::plan::Plan;
 use crate::row::Row;
 use crate::stood::Stood;
@@ -29,6 +30,7 @@ pub struct Station<'l> {
     pub from: Vec<Rx, Heap>,
     pub plan: Plan,
     pub tally: Tally,
+    pub meter: Meter,
     /// What the rank replays in its next life; none before its first one.
     pub row: Option<Row>,
     /// How the rank left; none where it is to live on.

@@ -47,6 +47,7 @@ pub fn step<W: Wait, H: Hold>(
     ensures clock { IfOk result (λ stepped. clock_in life.new.node.phase ≡ clock_in life.old.node.phase + acts_of stepped) }
     ensures waits { life.old.tally.is_blocked ≡ true → life.old.tally.is_spent ≡ false → (result ≡ Ok Stepped.Blocked) × (life.new ≡ life.old) }
     ensures plan { SamePlan life.old life.new }
+    ensures meter { life.new.meter ≡ life.old.meter }
     ensures blank { blank.new ≡ blank.old }
     ensures same { SameLife life.old life.new }
 {
@@ -72,6 +73,7 @@ fn strode<H>(shared: &Shared<'_, H>, life: &mut Life<'_, '_>) -> bool
     ensures counts { result ≡ true → Strode shared.now.limits.steps life.old.node.phase life.new.node.phase life.old.tally life.new.tally }
     ensures clock { clock_in life.new.node.phase ≡ clock_in life.old.node.phase }
     ensures plan { SamePlan life.old life.new }
+    ensures meter { life.new.meter ≡ life.old.meter }
     ensures same { SameLife life.old life.new }
 {
     let left = shared.limits.steps.saturating_sub(life.tally.steps);

@@ -1,11 +1,13 @@
 //! Part 1 of a turn: what the lanes bring.
 ghost use Rattle.std.specs.Prelude.{◌≡◌, ◌≢◌, ◌+◌, ◌<◌, IfOk, IfSome};
 ghost use Rattle.std.specs.Option.{is_none};
+ghost use Rattle.rank_threads.specs.Costs.{before_kind, log_size_in};
 ghost use Rattle.rank_threads.specs.Lives.{SameLife, SamePlan, SameGate};
 ghost use Rattle.rank_threads.specs.Taking.{TookFrom, TookBelow};
 ghost use Rattle.rank_threads.specs.Turns.{Brings, is_frames};
 ghost use Rattle.rank_threads.specs.Tally.{woken};
 
+use crate::costs::{FrameKind, kind_of};
 use crate::lanes_of::{Looked, take_from};
 use crate::life::Life;
 use crate::shared::{NotRung, Shared};
@@ -140,6 +142,7 @@ fn take_one<H>(
         return Ok(false);
     };
     wake(shared, life);
+    measure(life, kind_of(&frame));
     life.node.arrive(source, frame)?;
     Ok(true)
 }
@@ -152,4 +155,19 @@ fn wake<H>(shared: &Shared<'_, H>, life: &mut Life<'_, '_>)
         life.tally.unmark(shared.take_mark_back(life.rank));
     }
     life.tally.count_taken();
+}
+
+// What a frame of this kind may let go is measured before it arrives. The bytes
+// are summed up only where the log keeps more messages than ever.
+fn measure(life: &mut Life<'_, '_>, kind: FrameKind)
+    ensures { life.new ≡ record life.old { meter = before_kind life.old.meter kind (log_size_in life.old.node.phase) } }
+{
+    match kind {
+        FrameKind::Notice => {
+            if life.node.kept_messages() > life.meter.costs.kept_most.messages {
+                life.meter.note_most(life.node.log_size());
+            }
+        }
+        FrameKind::Message { .. } | FrameKind::Ask => {}
+    }
 }

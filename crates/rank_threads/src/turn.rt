@@ -5,6 +5,7 @@
 ghost use Rattle.std.specs.Prelude.{◌≡◌, true, false, Some, None, IfOk, OnOk, OnErr, drop};
 ghost use Rattle.rank_node.specs.Phases.{clock_in, settled_in};
 ghost use Rattle.rank_threads.specs.Clearing.{leaves_misses};
+ghost use Rattle.rank_threads.specs.Costs.{after_step};
 ghost use Rattle.rank_threads.specs.Endings.{GoesDownAt, goes_down, is_down, is_leave};
 ghost use Rattle.rank_threads.specs.Lives.{SameLife, SamePlan};
 ghost use Rattle.rank_threads.specs.Orders.{images_after, order_after, is_kill};
@@ -56,7 +57,18 @@ pub fn begin<W: Wait, H: Hold>(
 {
     let brought = taken(shared, life)?;
     let stepped = step(rt, shared, blank, life)?;
+    count_act(life, stepped);
     Ok(Begun { brought, stepped })
+}
+
+// An act is counted by its clock.
+fn count_act(life: &mut Life<'_, '_>, stepped: Stepped)
+    ensures { life.new ≡ record life.old { meter = after_step life.old.meter stepped (clock_in life.old.node.phase) } }
+{
+    match stepped {
+        Stepped::Acted => life.meter.count_act(life.node.clock()),
+        Stepped::Moved | Stepped::Blocked | Stepped::Held | Stepped::Ended => {}
+    }
 }
 
 /// The rest of a turn that began so: the script's next line, what waits at the
@@ -186,6 +198,7 @@ pub fn settled<'p, 'l>(life: Life<'p, 'l>) -> Life<'p, 'l>
         from,
         plan,
         tally,
+        meter,
     } = life;
     Life {
         rank,
@@ -194,6 +207,7 @@ pub fn settled<'p, 'l>(life: Life<'p, 'l>) -> Life<'p, 'l>
         from,
         plan,
         tally,
+        meter,
     }
 }
 

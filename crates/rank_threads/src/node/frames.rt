@@ -8,6 +8,7 @@ ghost use Rattle.rank_threads.specs.Phases.{gate_in, SameShelf};
 ghost use Rattle.rank_threads.specs.Putting.{Puts};
 
 use super::Node;
+use crate::costs::{FrameKind, kind_of};
 use ports::Tx;
 use rank_node::Frame;
 use std::alloc::AllocError;
@@ -16,7 +17,7 @@ use std::alloc::AllocError;
 #[derive(Clone, Copy, Debug, PartialEq, Eq)]
 pub enum Went {
     /// It is in the lane.
-    Gone,
+    Gone(FrameKind),
     /// The lane is full; it is still outgoing.
     Full,
     /// Nothing was outgoing.
@@ -61,10 +62,11 @@ impl<'p, 'l> Node<'p, 'l> {
         let Some(frame) = frame else {
             return Ok(Went::Nothing);
         };
+        let kind = kind_of(&frame);
         if lane.put(frame).is_err() {
             return Ok(Went::Full);
         }
         self.phase.passed(dest);
-        Ok(Went::Gone)
+        Ok(Went::Gone(kind))
     }
 }

@@ -1,12 +1,14 @@
 //! From a station (a process slot) to a life (an incarnation) and back.
 ghost use Rattle.std.specs.Prelude.{◌≡◌, ◌<◌, ◌≤◌, None, IfErr, OnOk, OnErr};
 ghost use Rattle.metered.specs.Limits.{most_ranks};
+ghost use Rattle.rank_threads.specs.Costs.{after_log, log_size_in};
 ghost use Rattle.rank_threads.specs.Endings.{stood_at};
 ghost use Rattle.rank_threads.specs.Phases.{Begins, is_replaying};
 ghost use Rattle.rank_threads.specs.Stations.{SameStation, IsLifeOf, IsNew, HasRow};
 
 use super::Station;
 use crate::life::Life;
+use crate::meter::Meter;
 use crate::node::Node;
 use crate::plan::Plan;
 use crate::row::Row;
@@ -56,6 +58,7 @@ impl<'l> Station<'l> {
             from,
             plan,
             tally: Tally::new(),
+            meter: Meter::new(),
             row: None,
             end: None,
             stood: Stood {
@@ -78,6 +81,7 @@ impl<'l> Station<'l> {
         ensures plan { result.plan ≡ self.entry.plan }
         ensures tally { result.tally ≡ record self.entry.tally { fault = result.tally.fault } }
         ensures well { result.tally.fault ≡ None → result.tally ≡ self.entry.tally }
+        ensures meter { result.meter ≡ self.entry.meter }
         ensures same { IsLifeOf self.entry result }
     {
         let Station {
@@ -89,6 +93,7 @@ impl<'l> Station<'l> {
             from,
             plan,
             mut tally,
+            meter,
             row,
             end: _,
             stood: _,
@@ -104,6 +109,7 @@ impl<'l> Station<'l> {
             from,
             plan,
             tally,
+            meter,
         }
     }
 
@@ -122,6 +128,7 @@ impl<'l> Station<'l> {
             from,
             plan: _,
             tally: _,
+            meter: _,
             row: _,
             end: _,
             stood: _,
@@ -133,6 +140,7 @@ impl<'l> Station<'l> {
     /// The rank fetches its row, which it replays in its next life.
     pub fn fetch(&mut self, alloc: Heap) -> Result<(), NodeFault>
         ensures row { OnOk result (HasRow self.new) }
+        ensures meter { self.new.meter ≡ self.old.meter }
         ensures rest { (self.new.plan ≡ self.old.plan) × (self.new.tally ≡ self.old.tally) × (self.new.end ≡ self.old.end) × (self.new.stood ≡ self.old.stood) }
         ensures memory { IfErr result (λ e. e ≡ NodeFault.Memory) }
         ensures err { OnErr result ((self.new.down ≡ self.old.down) × (self.new.row ≡ self.old.row)) }
@@ -153,6 +161,7 @@ impl<'p, 'l> Life<'p, 'l> {
         ensures stood { result.stood ≡ stood_at is_at_rest self.entry.node.phase }
         ensures plan { result.plan ≡ self.entry.plan }
         ensures tally { result.tally ≡ self.entry.tally }
+        ensures meter { result.meter ≡ after_log self.entry.meter (log_size_in self.entry.node.phase) }
         ensures row { result.row ≡ None }
         ensures same { IsLifeOf result self.entry }
     {
@@ -163,7 +172,9 @@ impl<'p, 'l> Life<'p, 'l> {
             from,
             plan,
             tally,
+            mut meter,
         } = self;
+        meter.note_log(node.log_size());
         let stood = Stood {
             clock: node.clock(),
             is_replaying: is_replaying(&node),
@@ -179,6 +190,7 @@ impl<'p, 'l> Life<'p, 'l> {
             from,
             plan,
             tally,
+            meter,
             row: None,
             end,
             stood,

@@ -16,3 +16,4 @@ returns-clause-lives c =
     let none : fault_of c.args.played.accounts.items ≡ None = search rules in
     of_lives c.args.program.now c.args.ranks c.args._script.now c.args.limits.steps c.args.logger c.args.desks.items _ c.args.played _ c.requires.played none
     c.in_ok-report.ensures.ends c.in_ok-report.ensures.rows c.in_ok-report.ensures.causes c.in_ok-report.ensures.crashes c.in_ok-report.ensures.unused
+    c.in_ok-report.ensures.costs
