@@ -2,9 +2,9 @@
 ghost use Rattle.std.specs.Prelude.{◌≤◌};
 
 use crate::help;
-use crate::job::{Job, WorldJob, world_of};
+use crate::job::WorldJob;
 use crate::syntax::{events, program, ranks_argument};
-use clap::{Arg, ArgAction, ArgMatches, Command, value_parser};
+use clap::{Arg, ArgAction, Command, value_parser};
 use std::alloc::{AllocError, Global};
 
 /// One world that is wanted at its end, where no rank makes more than so many
@@ -44,14 +44,4 @@ fn steps<'a>(alloc: Global) -> Result<Arg<'a>, AllocError> {
         .default_value("100000")
         .value_parser(value_parser!(u32).range(1..=1000000000))
         .requires_arg("to-the-end")
-}
-
-/// The job that these words name.
-pub fn catch_up_of<'a>(inner: &ArgMatches<'a>) -> Option<Job<'a>> {
-    let world = world_of(inner)?;
-    if !inner.get_flag("to-the-end") {
-        return Some(Job::CatchUp(world));
-    }
-    let steps = inner.get_one::<u32>("steps").filter(|steps| *steps >= 1)?;
-    Some(Job::Finish(FinishJob { world, steps }))
 }

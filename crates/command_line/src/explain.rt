@@ -3,10 +3,8 @@ ghost use Rattle.std.specs.Prelude.{◌≤◌};
 ghost use Rattle.metered.specs.Limits.{most_ranks};
 
 use crate::help;
-use crate::job::ranks_of;
 use crate::syntax::{program, ranks_argument};
-use clap::{Arg, ArgAction, ArgMatches, Command};
-use metered::limits::MOST_RANKS;
+use clap::{Arg, ArgAction, Command};
 use std::alloc::{AllocError, Global};
 
 /// The texts whose first fault is to be explained. The script is one for so many
@@ -46,14 +44,4 @@ fn events<'a>(alloc: Global) -> Arg<'a> {
         .value_name("FILE")
         .help("The events of a world")
         .action(ArgAction::Set)
-}
-
-/// The job that these words name. Without a number of ranks there is no script.
-pub fn explain_of<'a>(inner: &ArgMatches<'a>) -> Option<ExplainJob<'a>> {
-    Some(ExplainJob {
-        ranks: ranks_of(inner).unwrap_or(MOST_RANKS as u8),
-        program: inner.get_str("program")?,
-        script: inner.get_str("script"),
-        events: inner.get_str("events"),
-    })
 }

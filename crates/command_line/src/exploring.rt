@@ -3,9 +3,8 @@ ghost use Rattle.std.specs.Prelude.{◌≤◌};
 ghost use Rattle.metered.specs.Limits.{most_ranks};
 
 use crate::help;
-use crate::job::ranks_of;
 use crate::syntax::{program, ranks_argument};
-use clap::{Arg, ArgAction, ArgMatches, Command, value_parser};
+use clap::{Arg, ArgAction, Command, value_parser};
 use std::alloc::{AllocError, Global};
 
 /// In which form the outcomes are printed.
@@ -108,37 +107,4 @@ fn events<'a>(alloc: Global) -> Result<Arg<'a>, AllocError> {
         .value_parser(value_parser!(u32).range(1..=1000000000))
         .conflicts_with("summary")?
         .conflicts_with("json")
-}
-
-/// The job that these words name.
-pub fn explore_of<'a>(inner: &ArgMatches<'a>) -> Option<ExploreJob<'a>> {
-    let (Some(ranks), Some(runs), Some(steps), Some(states), Some(program)) = (
-        ranks_of(inner),
-        inner.get_one::<u32>("runs"),
-        inner.get_one::<u32>("steps"),
-        inner.get_one::<u32>("states"),
-        inner.get_str("program"),
-    ) else {
-        return None;
-    };
-    Some(ExploreJob {
-        ranks,
-        runs,
-        steps,
-        states,
-        form: form_of(inner),
-        program,
-    })
-}
-
-fn form_of(inner: &ArgMatches<'_>) -> ExploreForm {
-    if let Some(number) = inner.get_one::<u32>("events") {
-        ExploreForm::Events(number)
-    } else if inner.get_flag("json") {
-        ExploreForm::Json
-    } else if inner.get_flag("summary") {
-        ExploreForm::Summary
-    } else {
-        ExploreForm::Text
-    }
 }

@@ -3,9 +3,8 @@ ghost use Rattle.std.specs.Prelude.{◌≤◌};
 ghost use Rattle.metered.specs.Limits.{most_ranks};
 
 use crate::help;
-use crate::job::ranks_of;
 use crate::syntax::{program, ranks_argument};
-use clap::{Arg, ArgAction, ArgMatches, Command, value_parser};
+use clap::{Arg, ArgAction, Command, value_parser};
 use std::alloc::{AllocError, Global};
 
 /// One outcome that is judged: whether some run of the program without crashes
@@ -57,23 +56,4 @@ fn outcome<'a>(alloc: Global) -> Arg<'a> {
         .help("The file of the outcome (below)")
         .required(true)
         .action(ArgAction::Set)
-}
-
-/// The job that these words name.
-pub fn judge_of<'a>(inner: &ArgMatches<'a>) -> Option<JudgeJob<'a>> {
-    let (Some(ranks), Some(steps), Some(program), Some(outcome)) = (
-        ranks_of(inner),
-        inner.get_one::<u32>("steps"),
-        inner.get_str("program"),
-        inner.get_str("outcome"),
-    ) else {
-        return None;
-    };
-    Some(JudgeJob {
-        ranks,
-        steps,
-        trace: inner.get_flag("trace"),
-        program,
-        outcome,
-    })
 }

@@ -3,9 +3,8 @@ ghost use Rattle.std.specs.Prelude.{◌+◌, ◌≤◌};
 ghost use Rattle.metered.specs.Limits.{most_ranks, most_script_lines};
 
 use crate::help;
-use crate::job::ranks_of;
 use crate::syntax::{limit, program, ranks_argument};
-use clap::{Arg, ArgAction, ArgMatches, Command, value_parser};
+use clap::{Arg, ArgAction, Command, value_parser};
 use metered::limits::MOST_SCRIPT_LINES;
 use std::alloc::{AllocError, Global};
 
@@ -88,35 +87,4 @@ fn at_most<'a>(alloc: Global, id: &'a str, help: &'a str) -> Arg<'a> {
         .action(ArgAction::Set)
         .default_value("2")
         .value_parser(value_parser!(u8).range(0..=MOST_SCRIPT_LINES as i64 / 2))
-}
-
-/// The job that these words name.
-pub fn soak_of<'a>(inner: &ArgMatches<'a>) -> Option<SoakJob<'a>> {
-    let (kills, images) = (
-        inner.get_one::<u8>("kills")?,
-        inner.get_one::<u8>("images")?,
-    );
-    if usize::from(kills) + usize::from(images) > MOST_SCRIPT_LINES {
-        return None;
-    }
-    let (Some(ranks), Some(idle), Some(steps), Some(runs), Some(seed), Some(program)) = (
-        ranks_of(inner),
-        inner.get_one::<u32>("idle").filter(|idle| *idle >= 1),
-        inner.get_one::<u32>("steps").filter(|steps| *steps >= 1),
-        inner.get_one::<u32>("runs"),
-        inner.get_one::<u32>("seed"),
-        inner.get_str("program"),
-    ) else {
-        return None;
-    };
-    Some(SoakJob {
-        ranks,
-        runs,
-        seed,
-        kills,
-        images,
-        idle,
-        steps,
-        program,
-    })
 }

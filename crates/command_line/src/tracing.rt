@@ -1,8 +1,8 @@
 //! What the words of `trace` ask for.
 use crate::help;
-use crate::job::{RunJob, run_of};
+use crate::job::RunJob;
 use crate::syntax::of_a_run;
-use clap::{Arg, ArgAction, ArgMatches, Command, value_parser};
+use clap::{Arg, ArgAction, Command, value_parser};
 use std::alloc::{AllocError, Global};
 
 /// In which form a run is traced.
@@ -73,28 +73,4 @@ fn time<'a>(alloc: Global, id: &'a str, help: &'a str) -> Result<Arg<'a>, AllocE
         // What an argument requires isn't missed where it conflicts with one that is there, as `--picture` does with these.
         .conflicts_with("json")?
         .conflicts_with("events")
-}
-
-/// The job that the words ask for.
-pub fn trace_of<'a>(inner: &ArgMatches<'a>) -> Option<TraceJob<'a>> {
-    Some(TraceJob {
-        run: run_of(inner)?,
-        form: form_of(inner),
-    })
-}
-
-// Without `--from` and `--to` the whole run is drawn.
-fn form_of(inner: &ArgMatches<'_>) -> TraceForm {
-    if inner.get_flag("json") {
-        TraceForm::Json
-    } else if inner.get_flag("events") {
-        TraceForm::Events
-    } else if inner.get_flag("picture") {
-        TraceForm::Picture {
-            from: inner.get_one::<u32>("from").unwrap_or(1),
-            to: inner.get_one::<u32>("to").unwrap_or(u32::MAX),
-        }
-    } else {
-        TraceForm::Text
-    }
 }

@@ -1,0 +1,31 @@
+-- What options are given, and files in order.
+use Rattle.std.proofs.Common.{◌≡◌, ◌⊎◌, ℕ, List, [], ◌∷◌, Option, Some, None, inl, inr, refl, subst}
+use Rattle.std.specs.Prelude.{IfSome, IsSomeAnd, slice_get}
+use Rattle.command_line.specs.Words.{IsSpelledOr, Spells}
+
+-- what follows for an option of what holds of its value
+pub given : (o : Option (List ℕ)) (text : List ℕ) (number : ℕ) → Some text ≡ o → Spells text number
+    → IsSomeAnd o (λ t. Spells t number)
+given o text number e it = subst (λ (p : Option (List ℕ)). IsSomeAnd p (λ t. Spells t number)) e it
+
+-- the number that a text spells, where an option is given this text
+pub spelled : (default : ℕ) (o : Option (List ℕ)) (text : List ℕ) (number : Option ℕ) → Some text ≡ o
+    → IfSome number (λ n. Spells text n) → IfSome number (λ n. IsSpelledOr default o n)
+spelled default o text None e it = it
+spelled default o text (Some n) e it = subst (λ (p : Option (List ℕ)). IsSpelledOr default p n) e it
+
+-- a list has no first item, or a second one, or a first one alone. The first part is trivially true: it gives `grind` the term to match
+pub one_alone : (xs : List (List ℕ)) → (slice_get xs 1 ≡ slice_get xs 1)
+    × ((slice_get xs 0 ≡ None) ⊎ (((y : List ℕ) × (slice_get xs 1 ≡ Some y)) ⊎ ((x : List ℕ) × (slice_get xs 0 ≡ Some x) × (xs ≡ x ∷ []))))
+one_alone [] = (refl, inl refl)
+one_alone (x ∷ []) = (refl, inr (inr (x, refl, refl)))
+one_alone (x ∷ y ∷ rest) = (refl, inr (inl (y, refl)))
+
+-- it has no second item, or a third one, or two alone
+pub two_alone : (xs : List (List ℕ)) → (slice_get xs 2 ≡ slice_get xs 2)
+    × ((slice_get xs 1 ≡ None) ⊎ (((z : List ℕ) × (slice_get xs 2 ≡ Some z))
+    ⊎ ((x : List ℕ) × (y : List ℕ) × (slice_get xs 0 ≡ Some x) × (slice_get xs 1 ≡ Some y) × (xs ≡ x ∷ y ∷ []))))
+two_alone [] = (refl, inl refl)
+two_alone (x ∷ []) = (refl, inl refl)
+two_alone (x ∷ y ∷ []) = (refl, inr (inr (x, y, refl, refl, refl)))
+two_alone (x ∷ y ∷ z ∷ rest) = (refl, inr (inl (z, refl)))

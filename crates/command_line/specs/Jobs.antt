@@ -1,0 +1,134 @@
+-- Which job the words of a command line name (docs/FORMATS.md, "Command"). `clap` refuses other forms, as an
+-- option that is given twice, and it writes the helps.
+use Rattle.std.specs.Prelude.{◌≡◌, ℕ, true, false, List, [], ◌∷◌, codes, None, IsSomeAnd, option_map}
+use Rattle.metered.specs.Limits.{most_ranks}
+use Rattle.command_line.specs.Words.{IsSpelledOr, Spells, files_of, is_given, value_of}
+use Rattle.command_line.specs.declared.catching_up.FinishJob.{FinishJob}
+use Rattle.command_line.specs.declared.explain.ExplainJob.{ExplainJob}
+use Rattle.command_line.specs.declared.exploring.ExploreForm.{ExploreForm}
+use Rattle.command_line.specs.declared.exploring.ExploreForm.TheVariants as explore_form
+use Rattle.command_line.specs.declared.exploring.ExploreJob.{ExploreJob}
+use Rattle.command_line.specs.declared.job.CheckJob.{CheckJob}
+use Rattle.command_line.specs.declared.job.Job.{Job}
+use Rattle.command_line.specs.declared.job.Job.TheVariants as job
+use Rattle.command_line.specs.declared.job.RunJob.{RunJob}
+use Rattle.command_line.specs.declared.job.WorldJob.{WorldJob}
+use Rattle.command_line.specs.declared.judging.JudgeJob.{JudgeJob}
+use Rattle.command_line.specs.declared.soaking.SoakJob.{SoakJob}
+use Rattle.command_line.specs.declared.tracing.TraceForm.{TraceForm}
+use Rattle.command_line.specs.declared.tracing.TraceForm.TheVariants as trace_form
+use Rattle.command_line.specs.declared.tracing.TraceJob.{TraceJob}
+
+-- The only file holds the program.
+pub record IsCheckOf (command : List ℕ) (arguments : List (List ℕ)) (check : CheckJob) : Type 0 where
+  pub files : files_of command arguments ≡ check.program.now ∷ []
+
+-- The run has as many ranks as `--ranks` says, under the script in the file that `--script` names, and
+-- within the limits that `--idle` and `--steps` give. The only file holds the program.
+pub record IsRunOf (command : List ℕ) (arguments : List (List ℕ)) (run : RunJob) : Type 0 where
+  pub ranks : IsSomeAnd (value_of (codes "ranks") arguments) (λ text. Spells text run.ranks)
+  pub script : option_map (λ name. name.now) run.script ≡ value_of (codes "script") arguments
+  pub idle : IsSpelledOr 1000000 (value_of (codes "idle") arguments) run.idle
+  pub steps : IsSpelledOr 1000000 (value_of (codes "steps") arguments) run.steps
+  pub files : files_of command arguments ≡ run.program.now ∷ []
+
+-- A run is traced in the form whose option is there, and else as lines. A picture is from `--from` to
+-- `--to`, or of the whole run.
+abbrev pub IsTraceFormOf : List (List ℕ) → TraceForm → Type 0
+IsTraceFormOf arguments trace_form.Text = (is_given (codes "json") arguments ≡ false)
+    × (is_given (codes "events") arguments ≡ false) × (is_given (codes "picture") arguments ≡ false)
+IsTraceFormOf arguments trace_form.Json = is_given (codes "json") arguments ≡ true
+IsTraceFormOf arguments trace_form.Events = is_given (codes "events") arguments ≡ true
+IsTraceFormOf arguments (trace_form.Picture from to) = (is_given (codes "picture") arguments ≡ true)
+    × IsSpelledOr 1 (value_of (codes "from") arguments) from
+    × IsSpelledOr 4294967295 (value_of (codes "to") arguments) to
+
+-- The run that is traced, and the form.
+pub record IsTraceOf (command : List ℕ) (arguments : List (List ℕ)) (trace : TraceJob) : Type 0 where
+  pub run : IsRunOf command arguments trace.run
+  pub form : IsTraceFormOf arguments trace.form
+
+-- The world has as many ranks as `--ranks` says. The first file holds the program, and the other one the
+-- events.
+pub record IsWorldOf (command : List ℕ) (arguments : List (List ℕ)) (world : WorldJob) : Type 0 where
+  pub ranks : IsSomeAnd (value_of (codes "ranks") arguments) (λ text. Spells text world.ranks)
+  pub files : files_of command arguments ≡ world.program.now ∷ world.events.now ∷ []
+
+-- The world that is led to its end, with as many steps of a rank as `--steps` gives.
+pub record IsFinishOf (command : List ℕ) (arguments : List (List ℕ)) (finish : FinishJob) : Type 0 where
+  pub world : IsWorldOf command arguments finish.world
+  pub steps : IsSpelledOr 100000 (value_of (codes "steps") arguments) finish.steps
+
+-- The texts are those that `--script` and `--events` name, and the only file is the program. The script is
+-- one for as many ranks as `--ranks` says, or for as many as there may be.
+pub record IsExplainOf (command : List ℕ) (arguments : List (List ℕ)) (texts : ExplainJob) : Type 0 where
+  pub ranks : IsSpelledOr most_ranks (value_of (codes "ranks") arguments) texts.ranks
+  pub script : option_map (λ name. name.now) texts.script ≡ value_of (codes "script") arguments
+  pub events : option_map (λ name. name.now) texts.events ≡ value_of (codes "events") arguments
+  pub files : files_of command arguments ≡ texts.program.now ∷ []
+
+-- What a search found is printed in the form whose option is there, and else as a text.
+abbrev pub IsExploreFormOf : List (List ℕ) → ExploreForm → Type 0
+IsExploreFormOf arguments explore_form.Text = (is_given (codes "json") arguments ≡ false)
+    × (is_given (codes "summary") arguments ≡ false) × (value_of (codes "events") arguments ≡ None)
+IsExploreFormOf arguments explore_form.Summary = is_given (codes "summary") arguments ≡ true
+IsExploreFormOf arguments explore_form.Json = is_given (codes "json") arguments ≡ true
+IsExploreFormOf arguments (explore_form.Events outcome) =
+    IsSomeAnd (value_of (codes "events") arguments) (λ text. Spells text outcome)
+
+-- The search is on as many ranks as `--ranks` says, and within the limits that `--runs`, `--steps` and
+-- `--states` give. The only file holds the program.
+pub record IsExploreOf (command : List ℕ) (arguments : List (List ℕ)) (search : ExploreJob) : Type 0 where
+  pub ranks : IsSomeAnd (value_of (codes "ranks") arguments) (λ text. Spells text search.ranks)
+  pub runs : IsSpelledOr 100000 (value_of (codes "runs") arguments) search.runs
+  pub steps : IsSpelledOr 100000 (value_of (codes "steps") arguments) search.steps
+  pub states : IsSpelledOr 100000 (value_of (codes "states") arguments) search.states
+  pub form : IsExploreFormOf arguments search.form
+  pub files : files_of command arguments ≡ search.program.now ∷ []
+
+-- The outcome is judged for as many ranks as `--ranks` says, within the steps that `--steps` gives, and a
+-- run is told if `--trace` is there. The first file holds the program, and the other one the outcome.
+pub record IsJudgeOf (command : List ℕ) (arguments : List (List ℕ)) (outcome : JudgeJob) : Type 0 where
+  pub ranks : IsSomeAnd (value_of (codes "ranks") arguments) (λ text. Spells text outcome.ranks)
+  pub steps : IsSpelledOr 1000000 (value_of (codes "steps") arguments) outcome.steps
+  pub trace : outcome.trace ≡ is_given (codes "trace") arguments
+  pub files : files_of command arguments ≡ outcome.program.now ∷ outcome.outcome.now ∷ []
+
+-- There are as many runs as `--runs` says, on as many ranks as `--ranks` says, with scripts that are drawn
+-- from what `--seed` gives, with no more kills and images than `--kills` and `--images` allow, and within
+-- the limits that `--idle` and `--steps` give. The only file holds the program.
+pub record IsSoakOf (command : List ℕ) (arguments : List (List ℕ)) (runs : SoakJob) : Type 0 where
+  pub ranks : IsSomeAnd (value_of (codes "ranks") arguments) (λ text. Spells text runs.ranks)
+  pub runs_made : IsSpelledOr 100 (value_of (codes "runs") arguments) runs.runs
+  pub seed : IsSpelledOr 1 (value_of (codes "seed") arguments) runs.seed
+  pub kills : IsSpelledOr 2 (value_of (codes "kills") arguments) runs.kills
+  pub images : IsSpelledOr 2 (value_of (codes "images") arguments) runs.images
+  pub idle : IsSpelledOr 1000000 (value_of (codes "idle") arguments) runs.idle
+  pub steps : IsSpelledOr 1000000 (value_of (codes "steps") arguments) runs.steps
+  pub files : files_of command arguments ≡ runs.program.now ∷ []
+
+-- the job that a command has with these arguments
+abbrev pub IsJobBy : List ℕ → List (List ℕ) → Job → Type 0
+IsJobBy command arguments (job.Check check) = (command ≡ codes "check") × IsCheckOf command arguments check
+IsJobBy command arguments (job.C check) = (command ≡ codes "c") × IsCheckOf command arguments check
+IsJobBy command arguments (job.Run run) = (command ≡ codes "run") × IsRunOf command arguments run
+IsJobBy command arguments (job.Trace trace) = (command ≡ codes "trace") × IsTraceOf command arguments trace
+IsJobBy command arguments (job.World world) =
+    (command ≡ codes "world") × (is_given (codes "json") arguments ≡ false) × IsWorldOf command arguments world
+IsJobBy command arguments (job.WorldJson world) =
+    (command ≡ codes "world") × (is_given (codes "json") arguments ≡ true) × IsWorldOf command arguments world
+IsJobBy command arguments (job.CatchUp world) =
+    (command ≡ codes "catch-up") × (is_given (codes "to-the-end") arguments ≡ false) × IsWorldOf command arguments world
+IsJobBy command arguments (job.Finish finish) =
+    (command ≡ codes "catch-up") × (is_given (codes "to-the-end") arguments ≡ true) × IsFinishOf command arguments finish
+IsJobBy command arguments (job.Explain texts) = (command ≡ codes "explain") × IsExplainOf command arguments texts
+IsJobBy command arguments (job.Explore search) = (command ≡ codes "explore") × IsExploreOf command arguments search
+IsJobBy command arguments (job.Judge outcome) = (command ≡ codes "judge") × IsJudgeOf command arguments outcome
+IsJobBy command arguments (job.Soak runs) = (command ≡ codes "soak") × IsSoakOf command arguments runs
+
+-- The words name this job: the first word is the program's own name, the second one the command, and the
+-- others are its arguments.
+abbrev pub IsJobOf : List (List ℕ) → Job → Type 0
+IsJobOf [] named = ⊥
+IsJobOf (program ∷ []) named = ⊥
+IsJobOf (program ∷ command ∷ arguments) named = IsJobBy command arguments named

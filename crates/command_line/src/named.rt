@@ -1,0 +1,104 @@
+//! The job that words name.
+ghost use Rattle.std.specs.Prelude.{IfOk, IfSome};
+ghost use Rattle.command_line.specs.Jobs.{IsJobBy, IsJobOf};
+ghost use Rattle.command_line.specs.Words.{texts};
+
+mod checks;
+mod runs;
+mod searches;
+mod soaks;
+mod worlds;
+
+use crate::job::Job;
+use crate::named::checks::{check_of, explain_of};
+use crate::named::runs::{run_of, trace_of};
+use crate::named::searches::{explore_of, judge_of};
+use crate::named::soaks::soak_of;
+use crate::named::worlds::{finish_of, world_of};
+use crate::no_job::NoJob;
+use crate::syntax::syntax;
+use crate::words::{is_given, next_word};
+use clap::error::ErrorKind;
+use clap::{Command, Error};
+use std::alloc::Global;
+
+/// The job that the words name; the first word is the program's name.
+///
+/// Whether they are of the program's forms is what `clap` says, and it has the
+/// texts of helps and mistakes.
+pub fn job_of<'a>(alloc: Global, words: &'a [String]) -> Result<Job<'a>, NoJob>
+    ensures { IfOk result (λ job. IsJobOf (texts words.entry.now) job) }
+{
+    match parsed(alloc, words) {
+        Ok(job) => Ok(job),
+        Err(error) => Err(NoJob::of(alloc, &error)),
+    }
+}
+
+fn parsed<'a>(alloc: Global, words: &'a [String]) -> Result<Job<'a>, Error>
+    ensures { IfOk result (λ job. IsJobOf (texts words.entry.now) job) }
+{
+    let mut command = syntax(alloc)?;
+    let job = job_by(&mut command, words);
+    // written out, the drop is one call and not the whole drop of a command
+    drop(command);
+    job
+}
+
+// The job that the words name, if they are of this syntax.
+fn job_by<'a>(command: &mut Command<'a>, words: &'a [String]) -> Result<Job<'a>, Error>
+    ensures { IfOk result (λ job. IsJobOf (texts words.entry.now) job) }
+{
+    let matches = command.try_get_matches_from_mut(words)?;
+    drop(matches);
+    match named(words) {
+        Some(job) => Ok(job),
+        None => Err(command.error(ErrorKind::MissingSubcommand, "no command was given")?),
+    }
+}
+
+// The job that the words name.
+fn named<'a>(words: &'a [String]) -> Option<Job<'a>>
+    ensures { IfSome result (λ job. IsJobOf (texts words.entry.now) job) }
+{
+    let (_, called) = next_word(words)?;
+    let (command, arguments) = next_word(called)?;
+    chosen(command, arguments)
+}
+
+fn chosen<'a>(command: &str, arguments: &'a [String]) -> Option<Job<'a>>
+    ensures { IfSome result (λ job. IsJobBy command.now (texts arguments.entry.now) job) }
+{
+    if command == "check" {
+        Some(Job::Check(check_of(command, arguments)?))
+    } else if command == "c" {
+        Some(Job::C(check_of(command, arguments)?))
+    } else if command == "run" {
+        Some(Job::Run(run_of(command, arguments)?))
+    } else if command == "trace" {
+        Some(Job::Trace(trace_of(command, arguments)?))
+    } else if command == "world" {
+        let world = world_of(command, arguments)?;
+        if is_given("json", arguments) {
+            Some(Job::WorldJson(world))
+        } else {
+            Some(Job::World(world))
+        }
+    } else if command == "catch-up" {
+        if is_given("to-the-end", arguments) {
+            Some(Job::Finish(finish_of(command, arguments)?))
+        } else {
+            Some(Job::CatchUp(world_of(command, arguments)?))
+        }
+    } else if command == "explain" {
+        Some(Job::Explain(explain_of(command, arguments)?))
+    } else if command == "explore" {
+        Some(Job::Explore(explore_of(command, arguments)?))
+    } else if command == "judge" {
+        Some(Job::Judge(judge_of(command, arguments)?))
+    } else if command == "soak" {
+        Some(Job::Soak(soak_of(command, arguments)?))
+    } else {
+        None
+    }
+}

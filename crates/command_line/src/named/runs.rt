@@ -1,0 +1,50 @@
+//! A run that arguments name, and how it is traced.
+ghost use Rattle.std.specs.Prelude.{IfSome};
+ghost use Rattle.command_line.specs.Jobs.{IsRunOf, IsTraceFormOf, IsTraceOf};
+ghost use Rattle.command_line.specs.Words.{texts};
+
+use crate::job::RunJob;
+use crate::tracing::{TraceForm, TraceJob};
+use crate::words::{is_given, limit_or, number_or, one_file, ranks_of, value_of};
+
+/// The run that the arguments ask for.
+pub fn run_of<'a>(command: &str, arguments: &'a [String]) -> Option<RunJob<'a>>
+    ensures { IfSome result (λ run. IsRunOf command.now (texts arguments.entry.now) run) }
+{
+    Some(RunJob {
+        ranks: ranks_of(arguments)?,
+        script: value_of("script", arguments),
+        idle: limit_or(1000000, "idle", arguments)?,
+        steps: limit_or(1000000, "steps", arguments)?,
+        program: one_file(command, arguments)?,
+    })
+}
+
+/// The run that is to be traced, and the form.
+pub fn trace_of<'a>(command: &str, arguments: &'a [String]) -> Option<TraceJob<'a>>
+    ensures { IfSome result (λ trace. IsTraceOf command.now (texts arguments.entry.now) trace) }
+{
+    Some(TraceJob {
+        run: run_of(command, arguments)?,
+        form: form_of(arguments)?,
+    })
+}
+
+// Without `--from` and `--to` the whole run is drawn.
+fn form_of(arguments: &[String]) -> Option<TraceForm>
+    ensures { IfSome result (λ form. IsTraceFormOf (texts arguments.now) form) }
+{
+    if is_given("json", arguments) {
+        return Some(TraceForm::Json);
+    }
+    if is_given("events", arguments) {
+        return Some(TraceForm::Events);
+    }
+    if is_given("picture", arguments) {
+        return Some(TraceForm::Picture {
+            from: number_or(1, "from", arguments)?,
+            to: number_or(u32::MAX, "to", arguments)?,
+        });
+    }
+    Some(TraceForm::Text)
+}

@@ -1,0 +1,30 @@
+//! A world that arguments name.
+ghost use Rattle.std.specs.Prelude.{IfSome};
+ghost use Rattle.command_line.specs.Jobs.{IsFinishOf, IsWorldOf};
+ghost use Rattle.command_line.specs.Words.{texts};
+
+use crate::catching_up::FinishJob;
+use crate::job::WorldJob;
+use crate::words::{limit_or, ranks_of, two_files};
+
+/// The world that the arguments ask for.
+pub fn world_of<'a>(command: &str, arguments: &'a [String]) -> Option<WorldJob<'a>>
+    ensures { IfSome result (λ world. IsWorldOf command.now (texts arguments.entry.now) world) }
+{
+    let (program, events) = two_files(command, arguments)?;
+    Some(WorldJob {
+        ranks: ranks_of(arguments)?,
+        program,
+        events,
+    })
+}
+
+/// The world that is wanted at its end.
+pub fn finish_of<'a>(command: &str, arguments: &'a [String]) -> Option<FinishJob<'a>>
+    ensures { IfSome result (λ finish. IsFinishOf command.now (texts arguments.entry.now) finish) }
+{
+    Some(FinishJob {
+        world: world_of(command, arguments)?,
+        steps: limit_or(100000, "steps", arguments)?,
+    })
+}

@@ -1,0 +1,283 @@
+//! Words, read as options, what these are given, and files.
+//!
+//! `clap` takes no word for a value that begins with two hyphens, unless it stands
+//! behind an equals sign or behind `--`. So each word before `--` that begins so is
+//! an option.
+ghost use Rattle.std.specs.Prelude.{◌≡◌, ◌≤◌, ◌<◌, [], ◌∷◌, IfSome, IsSomeAnd, codes, length, option_map, slice_get};
+ghost use Rattle.metered.specs.Limits.{most_ranks};
+ghost use Rattle.command_line.specs.Words.{IsSpelledOr, Spells, behind_hyphen, cut_of, files_behind, files_of, first_of, given_by};
+ghost use Rattle.command_line.specs.Words.{is_end, is_flag, is_given, is_option, name_and_value, option_in, own_value, takes_next, texts, value_of};
+
+use metered::limits::MOST_RANKS;
+
+/// The first word, and the words behind it.
+pub fn next_word(words: &[String]) -> Option<(&str, &[String])>
+    ensures cut { cut_of result ≡ texts words.now }
+    ensures shorter { IfSome result (λ cut. length cut.1.now < length words.now) }
+{
+    let (word, rest) = words.split_first()?;
+    Some((word.as_str(), rest))
+}
+
+fn is_end(word: &str) -> bool
+    ensures { result ≡ is_end word.now }
+{
+    word == "--"
+}
+
+fn behind_hyphen(word: &str) -> Option<&str>
+    ensures { option_map (λ rest. rest.now) result ≡ behind_hyphen word.now }
+{
+    word.strip_prefix('-')
+}
+
+fn name_and_value(text: &str) -> (&str, Option<&str>)
+    ensures { (result.0.now, option_map (λ value. value.now) result.1) ≡ name_and_value text.now }
+{
+    match text.split_once('=') {
+        Some((name, value)) => (name, Some(value)),
+        None => (text, None),
+    }
+}
+
+// The name of the option that the word is, and the value behind an equals sign.
+fn option_in(word: &str) -> Option<(&str, Option<&str>)>
+    ensures { option_map (λ option. (option.0.now, option_map (λ value. value.now) option.1)) result ≡ option_in word.now }
+{
+    let named = behind_hyphen(behind_hyphen(word)?)?;
+    Some(name_and_value(named))
+}
+
+fn is_option(name: &str, word: &str) -> bool
+    ensures { result ≡ is_option name.now word.now }
+{
+    match option_in(word) {
+        Some((found, _)) => found == name,
+        None => false,
+    }
+}
+
+fn own_value(word: &str) -> Option<&str>
+    ensures { option_map (λ value. value.now) result ≡ own_value word.now }
+{
+    let (_, value) = option_in(word)?;
+    value
+}
+
+fn first_of(words: &[String]) -> Option<&str>
+    ensures { option_map (λ word. word.now) result ≡ first_of (texts words.now) }
+{
+    let (word, _) = next_word(words)?;
+    Some(word)
+}
+
+// What the option that the word is has been given.
+fn given_by<'a>(word: &'a str, rest: &'a [String]) -> Option<&'a str>
+    ensures { option_map (λ value. value.now) result ≡ given_by word.entry.now (texts rest.entry.now) }
+{
+    match own_value(word) {
+        Some(value) => Some(value),
+        None => first_of(rest),
+    }
+}
+
+/// What the option of this name is given.
+pub fn value_of<'a>(name: &str, arguments: &'a [String]) -> Option<&'a str>
+    ensures { option_map (λ value. value.now) result ≡ value_of name.now (texts arguments.entry.now) }
+{
+    let mut rest = arguments;
+    while let Some((word, more)) = next_word(rest) {
+        if is_end(word) {
+            return None;
+        }
+        if is_option(name, word) {
+            return given_by(word, more);
+        }
+        rest = more;
+    }
+    None
+}
+
+/// Whether the option of this name is there.
+pub fn is_given(name: &str, arguments: &[String]) -> bool
+    ensures { result ≡ is_given name.now (texts arguments.now) }
+{
+    let mut rest = arguments;
+    while let Some((word, more)) = next_word(rest) {
+        if is_end(word) {
+            return false;
+        }
+        if is_option(name, word) {
+            return true;
+        }
+        rest = more;
+    }
+    false
+}
+
+// A new option without a value has its line here.
+fn is_flag(command: &str, name: &str) -> bool
+    ensures { result ≡ is_flag command.now name.now }
+{
+    name == "json"
+        || name == "picture"
+        || name == "summary"
+        || name == "to-the-end"
+        || name == "trace"
+        || (name == "events" && command == "trace")
+}
+
+fn takes_next(command: &str, name: &str, value: Option<&str>) -> bool
+    ensures { result ≡ takes_next command.now (name.now, option_map (λ own. own.now) value.entry) }
+{
+    value.is_none() && !is_flag(command, name)
+}
+
+// The file of this number, from 0.
+fn file_at<'a>(command: &str, place: usize, arguments: &'a [String]) -> Option<&'a str>
+    ensures { option_map (λ file. file.now) result ≡ slice_get (files_of command.now (texts arguments.entry.now)) place }
+{
+    let mut rest = arguments;
+    let mut left = place;
+    let mut is_value = false;
+    while let Some((word, more)) = next_word(rest) {
+        rest = more;
+        if is_value {
+            is_value = false;
+            continue;
+        }
+        if is_end(word) {
+            return word_at(left, more);
+        }
+        if let Some((name, value)) = option_in(word) {
+            is_value = takes_next(command, name, value);
+            continue;
+        }
+        if left == 0 {
+            return Some(word);
+        }
+        left -= 1;
+    }
+    None
+}
+
+// The word of this number, from 0.
+fn word_at(place: usize, words: &[String]) -> Option<&str>
+    ensures { option_map (λ word. word.now) result ≡ slice_get (texts words.now) place }
+{
+    let mut rest = words;
+    let mut left = place;
+    while let Some((word, more)) = next_word(rest) {
+        if left == 0 {
+            return Some(word);
+        }
+        left -= 1;
+        rest = more;
+    }
+    None
+}
+
+/// The file that stands alone.
+#[tactic(auto, using(crate::proofs::WordLemmas::one_alone))]
+pub fn one_file<'a>(command: &str, arguments: &'a [String]) -> Option<&'a str>
+    ensures { IfSome result (λ file. files_of command.now (texts arguments.entry.now) ≡ file.now ∷ []) }
+{
+    let file = file_at(command, 0, arguments)?;
+    match file_at(command, 1, arguments) {
+        Some(_) => None,
+        None => Some(file),
+    }
+}
+
+/// The two files, in order.
+#[tactic(auto, using(crate::proofs::WordLemmas::two_alone))]
+pub fn two_files<'a>(command: &str, arguments: &'a [String]) -> Option<(&'a str, &'a str)>
+    ensures { IfSome result (λ files. files_of command.now (texts arguments.entry.now) ≡ files.0.now ∷ files.1.now ∷ []) }
+{
+    let first = file_at(command, 0, arguments)?;
+    let second = file_at(command, 1, arguments)?;
+    match file_at(command, 2, arguments) {
+        Some(_) => None,
+        None => Some((first, second)),
+    }
+}
+
+/// The number that this option is given, or the default.
+#[tactic(auto, using(crate::proofs::WordLemmas::spelled))]
+pub fn number_or(default: u32, name: &str, arguments: &[String]) -> Option<u32>
+    ensures { IfSome result (λ number. IsSpelledOr default (value_of name.now (texts arguments.now)) number) }
+{
+    match value_of(name, arguments) {
+        Some(text) => number_in(text),
+        None => Some(default),
+    }
+}
+
+/// The same, if it isn't 0.
+pub fn limit_or(default: u32, name: &str, arguments: &[String]) -> Option<u32>
+    ensures spelled { IfSome result (λ number. IsSpelledOr default (value_of name.now (texts arguments.now)) number) }
+    ensures some { IfSome result (λ number. 1 ≤ number) }
+{
+    let number = number_or(default, name, arguments)?;
+    if number == 0 {
+        return None;
+    }
+    Some(number)
+}
+
+/// The number that the text spells, if it is of 32 bits.
+pub fn number_in(text: &str) -> Option<u32>
+    ensures { IfSome result (λ number. Spells text.now number) }
+{
+    match text.parse::<i64>() {
+        Ok(number) => u32::try_from(number).ok(),
+        Err(_) => None,
+    }
+}
+
+/// The number of 8 bits that this option is given, or the default.
+#[tactic(auto, using(crate::proofs::WordLemmas::spelled))]
+pub fn small_or(default: u8, name: &str, arguments: &[String]) -> Option<u8>
+    ensures { IfSome result (λ number. IsSpelledOr default (value_of name.now (texts arguments.now)) number) }
+{
+    match value_of(name, arguments) {
+        Some(text) => small_in(text),
+        None => Some(default),
+    }
+}
+
+fn small_in(text: &str) -> Option<u8>
+    ensures { IfSome result (λ number. Spells text.now number) }
+{
+    match text.parse::<i64>() {
+        Ok(number) => u8::try_from(number).ok(),
+        Err(_) => None,
+    }
+}
+
+/// The number of ranks that `--ranks` gives. The syntax has its range too.
+#[tactic(auto, using(crate::proofs::WordLemmas::given))]
+pub fn ranks_of(arguments: &[String]) -> Option<u8>
+    ensures given { IfSome result (λ ranks. IsSomeAnd (value_of (codes "ranks") (texts arguments.now)) (λ text. Spells text ranks)) }
+    ensures some { IfSome result (λ ranks. 1 ≤ ranks) }
+    ensures few { IfSome result (λ ranks. ranks ≤ most_ranks) }
+{
+    let text = value_of("ranks", arguments)?;
+    let ranks = small_in(text)?;
+    if ranks == 0 || usize::from(ranks) > MOST_RANKS {
+        return None;
+    }
+    Some(ranks)
+}
+
+/// The same, or the most that there may be without `--ranks`.
+pub fn ranks_or_most(arguments: &[String]) -> Option<u8>
+    ensures spelled { IfSome result (λ ranks. IsSpelledOr most_ranks (value_of (codes "ranks") (texts arguments.now)) ranks) }
+    ensures few { IfSome result (λ ranks. ranks ≤ most_ranks) }
+{
+    let ranks = small_or(MOST_RANKS as u8, "ranks", arguments)?;
+    if usize::from(ranks) > MOST_RANKS {
+        return None;
+    }
+    Some(ranks)
+}
