@@ -2,3 +2,4 @@ mod FinishText
 mod Worlds
 mod Reading
 mod Answers
+mod CommandAnswers

@@ -6,3 +6,4 @@ pub mod Worlds
 pub mod Reading
 pub mod Reports
 pub mod Answers
+pub mod Commands

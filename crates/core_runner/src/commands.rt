@@ -10,7 +10,9 @@
 //! - 6: the words name a job of a tool
 ghost use Rattle.std.specs.Prelude.{◌≢◌, ◌≤◌, List, ℕ};
 ghost use Rattle.std.specs.Io.KnownBytes.{Appends};
+ghost use Rattle.command_line.specs.Words.{texts};
 ghost use Rattle.core_runner.specs.Answers.{IsCoreAnswer};
+ghost use Rattle.core_runner.specs.Commands.{IsCommandAnswer};
 
 mod check;
 mod finishing;
@@ -37,7 +39,9 @@ use std::sync::Wait;
 use std::thread::Threads;
 
 /// Does what the words say, if that is a job of the core, and answers the exit
-/// status. The first word is the program's name.
+/// status. The first word is the program's name. Unless the status is 5, an answer
+/// to the job that the words name is written to `out`, whole, or what is said
+/// instead of a job.
 ///
 /// What goes to `out` is made whole before any of it is written. A write to
 /// `err` that fails changes no status.
@@ -47,7 +51,9 @@ pub fn core_command<
     O: Write,
     E: Write,
 >(rt: &R, alloc: Heap, words: &[String], files: &mut F, out: &mut O, err: &mut E) -> u8
-    ensures { result ≤ 6 }
+    ensures known { result ≤ 6 }
+    ensures answer { result ≢ 5 → (text : List ℕ) × Appends (O.contents out.old) (O.contents out.new) text
+        × IsCommandAnswer (IsCoreAnswer (F.holds files.old)) (texts words.now) text result }
 {
     match job_of(rt.alloc(), words) {
         Ok(job) => do_core_job(rt, alloc, job, files, out, err),

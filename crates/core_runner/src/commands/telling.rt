@@ -1,6 +1,7 @@
 //! What is said, written to the program's streams.
-ghost use Rattle.std.specs.Prelude.{◌≡◌, ◌≢◌, ◌≤◌, IfOk, OnOk, string_bytes};
+ghost use Rattle.std.specs.Prelude.{◌≡◌, ◌≢◌, ◌≤◌, ℕ, List, IfOk, OnOk, string_bytes};
 ghost use Rattle.std.specs.Io.KnownBytes.{Appends};
+ghost use Rattle.core_runner.specs.Commands.{IsWithoutJob};
 ghost use Rattle.core_runner.specs.Statuses.{status_left_out, status_without_job, help_in, mistake_in};
 
 use crate::commands::said::Said;
@@ -43,8 +44,10 @@ pub fn tell_left_out<E: Write>(err: &mut E) -> u8
 
 /// Writes the help that the words ask for, or what is wrong with them, and answers
 /// the exit status.
+#[tactic(auto, using(crate::proofs::Answers::nothing_written, crate::proofs::CommandAnswers::is_without_job, crate::proofs::CommandAnswers::without_memory))]
 pub fn tell_no_job<O: Write, E: Write>(alloc: Heap, no_job: &NoJob, out: &mut O, err: &mut E) -> u8
-    ensures { result ≤ 5 }
+    ensures known { result ≤ 5 }
+    ensures answer { result ≢ 5 → (text : List ℕ) × Appends (O.contents out.old) (O.contents out.new) text × IsWithoutJob text result }
 {
     match refuse(alloc, no_job) {
         Ok(said) => tell(&said, out, err),
