@@ -1,7 +1,9 @@
 -- What options are given, and files in order.
 use Rattle.std.proofs.Common.{◌≡◌, ◌⊎◌, ℕ, List, [], ◌∷◌, Option, Some, None, inl, inr, refl, subst}
 use Rattle.std.specs.Prelude.{IfSome, IsSomeAnd, slice_get}
-use Rattle.command_line.specs.Words.{IsSpelledOr, Spells}
+use Rattle.std.specs.NonZero.{non_zero_u32_get}
+use Rattle.std.specs.declared.num.NonZeroU32.{NonZeroU32}
+use Rattle.command_line.specs.Words.{IsSpelledIf, IsSpelledOr, Spells}
 
 -- what follows for an option of what holds of its value
 pub given : (o : Option (List ℕ)) (text : List ℕ) (number : ℕ) → Some text ≡ o → Spells text number
@@ -13,6 +15,12 @@ pub spelled : (default : ℕ) (o : Option (List ℕ)) (text : List ℕ) (number 
     → IfSome number (λ n. Spells text n) → IfSome number (λ n. IsSpelledOr default o n)
 spelled default o text None e it = it
 spelled default o text (Some n) e it = subst (λ (p : Option (List ℕ)). IsSpelledOr default p n) e it
+
+-- the number above 0 that a text spells, where an option is given this text
+pub counted : (o : Option (List ℕ)) (text : List ℕ) (count : Option NonZeroU32) → Some text ≡ o
+    → IfSome count (λ n. Spells text (non_zero_u32_get n)) → IfSome count (λ n. IsSpelledIf o (Some n))
+counted o text None e it = it
+counted o text (Some n) e it = subst (λ (p : Option (List ℕ)). IsSpelledIf p (Some n)) e it
 
 -- a list has no first item, or a second one, or a first one alone. The first part is trivially true: it gives `grind` the term to match
 pub one_alone : (xs : List (List ℕ)) → (slice_get xs 1 ≡ slice_get xs 1)

@@ -2,8 +2,10 @@
 -- option that is given twice, and it writes the helps.
 use Rattle.std.specs.Prelude.{◌≡◌, ℕ, true, false, List, [], ◌∷◌, codes, None, IsSomeAnd, option_map}
 use Rattle.metered.specs.Limits.{most_ranks}
-use Rattle.command_line.specs.Words.{IsSpelledOr, Spells, files_of, is_given, value_of}
+use Rattle.command_line.specs.Words.{IsSpelledIf, IsSpelledOr, Spells, files_of, is_given, value_of}
 use Rattle.command_line.specs.declared.catching_up.FinishJob.{FinishJob}
+use Rattle.command_line.specs.declared.costing.CostForm.{CostForm}
+use Rattle.command_line.specs.declared.costing.CostForm.TheVariants as cost_form
 use Rattle.command_line.specs.declared.explain.ExplainJob.{ExplainJob}
 use Rattle.command_line.specs.declared.exploring.ExploreForm.{ExploreForm}
 use Rattle.command_line.specs.declared.exploring.ExploreForm.TheVariants as explore_form
@@ -23,14 +25,24 @@ use Rattle.command_line.specs.declared.tracing.TraceJob.{TraceJob}
 pub record IsCheckOf (command : List ℕ) (arguments : List (List ℕ)) (check : CheckJob) : Type 0 where
   pub files : files_of command arguments ≡ check.program.now ∷ []
 
--- The run has as many ranks as `--ranks` says, under the script in the file that `--script` names, and
--- within the limits that `--idle` and `--steps` give. The only file holds the program.
+-- The run has as many ranks as `--ranks` says, under the script in the file that `--script` names, with
+-- an image after so many acts as `--images-every` gives, and within the limits that `--idle` and `--steps`
+-- give. The only file holds the program.
 pub record IsRunOf (command : List ℕ) (arguments : List (List ℕ)) (run : RunJob) : Type 0 where
   pub ranks : IsSomeAnd (value_of (codes "ranks") arguments) (λ text. Spells text run.ranks)
   pub script : option_map (λ name. name.now) run.script ≡ value_of (codes "script") arguments
+  pub images_every : IsSpelledIf (value_of (codes "images-every") arguments) run.images_every
   pub idle : IsSpelledOr 1000000 (value_of (codes "idle") arguments) run.idle
   pub steps : IsSpelledOr 1000000 (value_of (codes "steps") arguments) run.steps
   pub files : files_of command arguments ≡ run.program.now ∷ []
+
+-- What a run cost is printed if `--costs` is there, as JSON if `--json` is there too.
+abbrev pub IsCostFormOf : List (List ℕ) → CostForm → Type 0
+IsCostFormOf arguments cost_form.Unasked = is_given (codes "costs") arguments ≡ false
+IsCostFormOf arguments cost_form.Table = (is_given (codes "costs") arguments ≡ true)
+    × (is_given (codes "json") arguments ≡ false)
+IsCostFormOf arguments cost_form.Json = (is_given (codes "costs") arguments ≡ true)
+    × (is_given (codes "json") arguments ≡ true)
 
 -- A run is traced in the form whose option is there, and else as lines. A picture is from `--from` to
 -- `--to`, or of the whole run.
@@ -43,9 +55,10 @@ IsTraceFormOf arguments (trace_form.Picture from to) = (is_given (codes "picture
     × IsSpelledOr 1 (value_of (codes "from") arguments) from
     × IsSpelledOr 4294967295 (value_of (codes "to") arguments) to
 
--- The run that is traced, and the form.
+-- The run that is traced, without its costs, and the form.
 pub record IsTraceOf (command : List ℕ) (arguments : List (List ℕ)) (trace : TraceJob) : Type 0 where
   pub run : IsRunOf command arguments trace.run
+  pub costs : trace.run.costs ≡ cost_form.Unasked
   pub form : IsTraceFormOf arguments trace.form
 
 -- The world has as many ranks as `--ranks` says. The first file holds the program, and the other one the
@@ -95,14 +108,16 @@ pub record IsJudgeOf (command : List ℕ) (arguments : List (List ℕ)) (outcome
   pub files : files_of command arguments ≡ outcome.program.now ∷ outcome.outcome.now ∷ []
 
 -- There are as many runs as `--runs` says, on as many ranks as `--ranks` says, with scripts that are drawn
--- from what `--seed` gives, with no more kills and images than `--kills` and `--images` allow, and within
--- the limits that `--idle` and `--steps` give. The only file holds the program.
+-- from what `--seed` gives, with no more kills and images than `--kills` and `--images` allow, with an
+-- image after so many acts as `--images-every` gives, and within the limits that `--idle` and `--steps`
+-- give. The only file holds the program.
 pub record IsSoakOf (command : List ℕ) (arguments : List (List ℕ)) (runs : SoakJob) : Type 0 where
   pub ranks : IsSomeAnd (value_of (codes "ranks") arguments) (λ text. Spells text runs.ranks)
   pub runs_made : IsSpelledOr 100 (value_of (codes "runs") arguments) runs.runs
   pub seed : IsSpelledOr 1 (value_of (codes "seed") arguments) runs.seed
   pub kills : IsSpelledOr 2 (value_of (codes "kills") arguments) runs.kills
   pub images : IsSpelledOr 2 (value_of (codes "images") arguments) runs.images
+  pub images_every : IsSpelledIf (value_of (codes "images-every") arguments) runs.images_every
   pub idle : IsSpelledOr 1000000 (value_of (codes "idle") arguments) runs.idle
   pub steps : IsSpelledOr 1000000 (value_of (codes "steps") arguments) runs.steps
   pub files : files_of command arguments ≡ runs.program.now ∷ []
@@ -111,7 +126,8 @@ pub record IsSoakOf (command : List ℕ) (arguments : List (List ℕ)) (runs : S
 abbrev pub IsJobBy : List ℕ → List (List ℕ) → Job → Type 0
 IsJobBy command arguments (job.Check check) = (command ≡ codes "check") × IsCheckOf command arguments check
 IsJobBy command arguments (job.C check) = (command ≡ codes "c") × IsCheckOf command arguments check
-IsJobBy command arguments (job.Run run) = (command ≡ codes "run") × IsRunOf command arguments run
+IsJobBy command arguments (job.Run run) =
+    (command ≡ codes "run") × IsRunOf command arguments run × IsCostFormOf arguments run.costs
 IsJobBy command arguments (job.Trace trace) = (command ≡ codes "trace") × IsTraceOf command arguments trace
 IsJobBy command arguments (job.World world) =
     (command ≡ codes "world") × (is_given (codes "json") arguments ≡ false) × IsWorldOf command arguments world

@@ -1,7 +1,9 @@
 -- What the words of a command line are: options, what these are given, and files (docs/FORMATS.md, "Command").
 use Rattle.std.specs.Prelude.{◌≡◌, ◌==◌, ◌&&◌, ◌||◌, ℕ, Bool, true, false, not, List, [], ◌∷◌, map, codes, if◌then◌else◌}
-use Rattle.std.specs.Prelude.{Option, Some, None, is_some, pos, option_map, option_and_then, String, string_bytes}
+use Rattle.std.specs.Prelude.{Option, Some, None, is_some, IsSomeAnd, pos, option_map, option_and_then, String, string_bytes}
 use Rattle.std.specs.Borrow.{Bor}
+use Rattle.std.specs.NonZero.{non_zero_u32_get}
+use Rattle.std.specs.declared.num.NonZeroU32.{NonZeroU32}
 use Rattle.std.specs.List.{after_first, before_first, list_any}
 use Rattle.std.specs.Str.{bytes_eq}
 use Rattle.std.specs.Str.Parse.{signed_digits_value, without_leading_sign, IsNumeral}
@@ -66,7 +68,8 @@ is_given name (word ∷ rest) = not (is_end word) && (is_option name word || is_
 -- The option stands alone: no value belongs to it. `--events` stands alone for `trace`, and is given a
 -- file or a number for other commands.
 abbrev pub is_flag : List ℕ → List ℕ → Bool
-is_flag command name = bytes_eq name (codes "json")
+is_flag command name = bytes_eq name (codes "costs")
+    || bytes_eq name (codes "json")
     || bytes_eq name (codes "picture")
     || bytes_eq name (codes "summary")
     || bytes_eq name (codes "to-the-end")
@@ -99,3 +102,8 @@ Spells text number = IsNumeral 10 (without_leading_sign text) × (signed_digits_
 abbrev pub IsSpelledOr : ℕ → Option (List ℕ) → ℕ → Type 0
 IsSpelledOr default None number = number ≡ default
 IsSpelledOr default (Some text) number = Spells text number
+
+-- the number above 0 that the text spells; without a text there is none
+abbrev pub IsSpelledIf : Option (List ℕ) → Option NonZeroU32 → Type 0
+IsSpelledIf None count = count ≡ None
+IsSpelledIf (Some text) count = IsSomeAnd count (λ number. Spells text (non_zero_u32_get number))

@@ -5,6 +5,7 @@
 #![tactic(auto)]
 
 mod catching_up;
+mod costing;
 mod explain;
 mod exploring;
 mod help;
@@ -18,6 +19,7 @@ mod tracing;
 mod words;
 
 pub use catching_up::FinishJob;
+pub use costing::CostForm;
 pub use explain::ExplainJob;
 pub use exploring::{ExploreForm, ExploreJob};
 pub use job::{CheckJob, Job, RunJob, WorldJob};

@@ -11,7 +11,7 @@ mod worlds;
 
 use crate::job::Job;
 use crate::named::checks::{check_of, explain_of};
-use crate::named::runs::{run_of, trace_of};
+use crate::named::runs::{cost_form_of, run_of, trace_of};
 use crate::named::searches::{explore_of, judge_of};
 use crate::named::soaks::soak_of;
 use crate::named::worlds::{finish_of, world_of};
@@ -74,7 +74,8 @@ fn chosen<'a>(command: &str, arguments: &'a [String]) -> Option<Job<'a>>
     } else if command == "c" {
         Some(Job::C(check_of(command, arguments)?))
     } else if command == "run" {
-        Some(Job::Run(run_of(command, arguments)?))
+        let costs = cost_form_of(arguments);
+        Some(Job::Run(run_of(command, arguments, costs)?))
     } else if command == "trace" {
         Some(Job::Trace(trace_of(command, arguments)?))
     } else if command == "world" {

@@ -3,13 +3,14 @@ ghost use Rattle.std.specs.Prelude.{◌+◌, ◌≤◌};
 ghost use Rattle.metered.specs.Limits.{most_ranks, most_script_lines};
 
 use crate::help;
-use crate::syntax::{limit, program, ranks_argument};
+use crate::syntax::{images_every, limit, program, ranks_argument};
 use clap::{Arg, ArgAction, Command, value_parser};
 use metered::limits::MOST_SCRIPT_LINES;
 use std::alloc::{AllocError, Global};
+use std::num::NonZeroU32;
 
 /// Many runs of one program, each under a script that is drawn at random.
-/// `runs`, `idle` and `steps` are at most 1000000000.
+/// `runs`, `images_every`, `idle` and `steps` are at most 1000000000.
 #[derive(Clone, Copy, PartialEq, Eq)]
 pub struct SoakJob<'a> {
     pub ranks: u8,
@@ -20,6 +21,8 @@ pub struct SoakJob<'a> {
     pub kills: u8,
     /// How many images a script has at most.
     pub images: u8,
+    /// After how many acts each rank takes an image, beside those of its script.
+    pub images_every: Option<NonZeroU32>,
     pub idle: u32,
     pub steps: u32,
     pub program: &'a str,
@@ -38,23 +41,11 @@ pub fn soak<'a>(alloc: Global) -> Result<Command<'a>, AllocError> {
         .arg(ranks_argument(alloc))?
         .arg(runs(alloc))?
         .arg(seed(alloc))?
-        .arg(at_most(
-            alloc,
-            "kills",
-            "Kills in a run, 0 to M, which is at most 128",
-        ))?
-        .arg(at_most(
-            alloc,
-            "images",
-            "Images in a run, 0 to M, which is at most 128",
-        ))?
+        .arg(at_most(alloc, "kills", "Kills in a run, 0 to M, at most 128"))?
+        .arg(at_most(alloc, "images", "Images in a run, 0 to M, at most 128"))?
+        .arg(images_every(alloc))?
         .arg(limit(alloc, "idle", "T", "Idle turns (below), 1 to 1000000000"))?
-        .arg(limit(
-            alloc,
-            "steps",
-            "S",
-            "Steps a rank may make, 1 to 1000000000",
-        ))?
+        .arg(limit(alloc, "steps", "S", "Steps of a rank, 1 to 1000000000"))?
         .arg(program(alloc))
 }
 
@@ -72,7 +63,7 @@ fn seed<'a>(alloc: Global) -> Arg<'a> {
     Arg::new(alloc, "seed")
         .long("seed")
         .value_name("S")
-        .help("What scripts are drawn from, 0 to 1000000000")
+        .help("Seed of the scripts, 0 to 1000000000")
         .action(ArgAction::Set)
         .default_value("1")
         .value_parser(value_parser!(u32).range(0..=1000000000))

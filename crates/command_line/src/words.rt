@@ -4,11 +4,13 @@
 //! behind an equals sign or behind `--`. So each word before `--` that begins so is
 //! an option.
 ghost use Rattle.std.specs.Prelude.{◌≡◌, ◌≤◌, ◌<◌, [], ◌∷◌, IfSome, IsSomeAnd, codes, length, option_map, slice_get};
+ghost use Rattle.std.specs.NonZero.{non_zero_u32_get};
 ghost use Rattle.metered.specs.Limits.{most_ranks};
-ghost use Rattle.command_line.specs.Words.{IsSpelledOr, Spells, behind_hyphen, cut_of, files_behind, files_of, first_of, given_by};
+ghost use Rattle.command_line.specs.Words.{IsSpelledIf, IsSpelledOr, Spells, behind_hyphen, cut_of, files_behind, files_of, first_of, given_by};
 ghost use Rattle.command_line.specs.Words.{is_end, is_flag, is_given, is_option, name_and_value, option_in, own_value, takes_next, texts, value_of};
 
 use metered::limits::MOST_RANKS;
+use std::num::NonZeroU32;
 
 /// The first word, and the words behind it.
 pub fn next_word(words: &[String]) -> Option<(&str, &[String])>
@@ -119,7 +121,8 @@ pub fn is_given(name: &str, arguments: &[String]) -> bool
 fn is_flag(command: &str, name: &str) -> bool
     ensures { result ≡ is_flag command.now name.now }
 {
-    name == "json"
+    name == "costs"
+        || name == "json"
         || name == "picture"
         || name == "summary"
         || name == "to-the-end"
@@ -223,6 +226,24 @@ pub fn limit_or(default: u32, name: &str, arguments: &[String]) -> Option<u32>
         return None;
     }
     Some(number)
+}
+
+/// The number that this option is given, if it is there; None for a number that
+/// is 0.
+#[tactic(auto, using(crate::proofs::WordLemmas::counted))]
+pub fn count_if(name: &str, arguments: &[String]) -> Option<Option<NonZeroU32>>
+    ensures { IfSome result (λ count. IsSpelledIf (value_of name.now (texts arguments.now)) count) }
+{
+    match value_of(name, arguments) {
+        Some(text) => Some(Some(count_in(text)?)),
+        None => Some(None),
+    }
+}
+
+fn count_in(text: &str) -> Option<NonZeroU32>
+    ensures { IfSome result (λ count. Spells text.now (non_zero_u32_get count)) }
+{
+    NonZeroU32::new(number_in(text)?)
 }
 
 /// The number that the text spells, if it is of 32 bits.

@@ -49,7 +49,7 @@ is_report_of holds held job program script steps report read kept given is under
 
 -- the text of a report of the job's run is an answer of `run`
 pub is_run_answer : (holds : List ℕ → List ℕ → Type 0) (job : RunJob) (report : Report) (out : List ℕ) (status : ℕ)
-    → IsReportOf holds job report → IsReportText report out status → IsRunAnswer holds job out status
+    → IsReportOf holds job report → IsReportText job.costs report out status → IsRunAnswer holds job out status
 is_run_answer holds job report out status of_run printed =
     record { report = report; of_run = of_run; printed = printed }
 

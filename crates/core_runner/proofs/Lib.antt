@@ -1,3 +1,4 @@
+mod CostLemmas
 mod FinishText
 mod Worlds
 mod Reading

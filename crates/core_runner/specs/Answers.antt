@@ -1,8 +1,10 @@
 -- What the core answers to a job: standard output and the exit status (docs/FORMATS.md, "Command").
-use Rattle.std.specs.Prelude.{◌≡◌, ◌⊎◌, ℕ, List, []}
+use Rattle.std.specs.Prelude.{◌≡◌, ◌⊎◌, ℕ, List, [], ◌++◌}
+use Rattle.command_line.specs.declared.costing.CostForm.{CostForm}
 use Rattle.command_line.specs.declared.job.Job.{Job}
 use Rattle.command_line.specs.declared.job.Job.TheVariants as job
 use Rattle.command_line.specs.declared.job.RunJob.{RunJob}
+use Rattle.core_runner.specs.CostsText.{costs_text}
 use Rattle.core_runner.specs.Reading.{IsProgramIn}
 use Rattle.core_runner.specs.Refusals.{IsRefusal}
 use Rattle.core_runner.specs.ReportText.{report_text}
@@ -16,16 +18,18 @@ use Rattle.rank_language.specs.Program.{ProgramValue}
 use Rattle.rank_printer.specs.Canonical.{program_text}
 use Rattle.rank_threads.specs.declared.report.Report.{Report}
 
--- Standard output is the text of this report, and the exit status says whether every rank halted.
-pub record IsReportText (report : Report) (out : List ℕ) (status : ℕ) : Type 0 where
-  pub text : out ≡ report_text report
+-- Standard output is the text of this report, with what its run cost behind it in the form that is
+-- asked for, and the exit status says whether every rank halted.
+pub record IsReportText (form : CostForm) (report : Report) (out : List ℕ) (status : ℕ) : Type 0 where
+  pub text : out ≡ report_text report ++ costs_text form report
   pub ended : HasStatus report.outcome status
 
--- What `run` answers: the text and the status of a report of the job's run.
+-- What `run` answers: the text and the status of a report of the job's run, and its costs if the job
+-- asks for them.
 pub record IsRunAnswer (holds : List ℕ → List ℕ → Type 0) (job : RunJob) (out : List ℕ) (status : ℕ) : Type 0 where
   pub report : Report
   pub of_run : IsReportOf holds job report
-  pub printed : IsReportText report out status
+  pub printed : IsReportText job.costs report out status
 
 -- What `check` answers: the canonical text of the program that the file holds, which is again a text
 -- of that program, and status 0.

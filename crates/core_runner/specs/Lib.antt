@@ -1,6 +1,7 @@
 pub mod Refusals
 pub mod Statuses
 pub mod ReportText
+pub mod CostsText
 pub mod FinishText
 pub mod Worlds
 pub mod Reading

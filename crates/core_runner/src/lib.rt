@@ -6,6 +6,7 @@
 #![tactic(auto)]
 
 mod commands;
+mod costs;
 mod files;
 mod output;
 mod words;

@@ -2,7 +2,7 @@
 
 /// The words of each run, after the program's name. A script named for a number
 /// of ranks has each of them crash once, after its first act.
-pub const RUNS: [&str; 37] = [
+pub const RUNS: [&str; 42] = [
     "run --ranks 2 --script examples/answer.script examples/answer.rank",
     "run --ranks 2 --script examples/kills_of_2.script examples/answer.rank",
     "run --ranks 4 --script examples/kills_of_4.script examples/ring.rank",
@@ -11,6 +11,8 @@ pub const RUNS: [&str; 37] = [
     "run --ranks 3 --script examples/kills_of_3.script examples/token.rank",
     "run --ranks 2 --script examples/kills_of_2.script examples/overtaking.rank",
     "run --ranks 2 --script examples/image.script examples/overtaking.rank",
+    "run --costs --ranks 2 --script examples/answer.script examples/answer.rank",
+    "run --costs --ranks 2 --script examples/image.script examples/ping_pong.rank",
     "run --ranks 1 --script examples/kills_of_1.script examples/status.rank",
     "run --ranks 2 --script examples/kills_of_2.script examples/division.rank",
     "run --ranks 1 --script examples/kills_of_1.script examples/overflow.rank",
@@ -34,6 +36,9 @@ pub const RUNS: [&str; 37] = [
     "run --ranks 3 --script examples/kills_of_3.script examples/pipeline.rank",
     "run --ranks 4 --script examples/kills_of_4.script examples/odd_even_sort.rank",
     "run --ranks 3 --script examples/kills_of_3.script examples/workers.rank",
+    "run --ranks 4 --images-every 1 --script examples/kills_of_4.script examples/ring.rank",
+    "run --ranks 2 --script examples/periodic.script examples/ping_pong.rank",
+    "trace --ranks 2 --images-every 2 --script examples/periodic.script examples/ping_pong.rank",
     "trace --ranks 2 --script examples/answer.script examples/answer.rank",
     "trace --ranks 3 --script examples/kills_of_3.script examples/pipeline.rank",
     "trace --ranks 2 --json --script examples/answer.script examples/answer.rank",

@@ -50,7 +50,7 @@ print x
 pub const COLLECTIVES: &str = "var x\nreduce sum, 2, rank + 1, x\nbcast 2, x\nbarrier\nprint x\n";
 
 /// A loop of 400 rounds, and two lines.
-const ROUNDS: &str = "var i\nwhile i < 400\n  let i = i + 1\nend\nprint 1\nprint 2\n";
+pub const ROUNDS: &str = "var i\nwhile i < 400\n  let i = i + 1\nend\nprint 1\nprint 2\n";
 
 /// As many messages of its own as a rank may have events, and a line.
 const FULL_ROW: &str = "var i
@@ -64,7 +64,7 @@ print x
 ";
 
 /// Five probes that miss, and a line.
-const FIVE_MISSES: &str = "var f
+pub const FIVE_MISSES: &str = "var f
 iprobe any, any, f
 iprobe any, any, f
 iprobe any, any, f

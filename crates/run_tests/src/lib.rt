@@ -12,6 +12,8 @@ mod causes;
 #[cfg(test)]
 mod cores;
 #[cfg(test)]
+mod costs;
+#[cfg(test)]
 mod everywhere;
 #[cfg(test)]
 mod explains;
@@ -35,6 +37,8 @@ mod lines;
 mod meeting;
 #[cfg(test)]
 mod outcomes;
+#[cfg(test)]
+mod periodic;
 #[cfg(test)]
 mod pictures;
 #[cfg(test)]

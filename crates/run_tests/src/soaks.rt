@@ -20,7 +20,7 @@ fn expect_soaks<R: Threads + Wait + Sync + Copy + Send + AllocGlobal + Abort>(
 }
 
 /// Programs whose outcome doesn't depend on time.
-const SOAKS: [Run; 5] = [
+const SOAKS: [Run; 6] = [
     // kill 2, kill 3; image 1; kill 4, kill 3; image 1, kill 3; kill 1; kill 3, kill 1
     (
         "--ranks 1 --runs 6",
@@ -37,6 +37,24 @@ runs 6, crashed 5
 
 # explore is complete: outcomes 1
 runs 6, crashes 8, images 2, outcomes 1
+",
+    ),
+    // The same scripts: behind an image of clock 2 the last one's kill 1 isn't used.
+    (
+        "--ranks 1 --runs 6 --images-every 2",
+        "print 1\nprint 2\nprint 3\nprint 4\n",
+        0,
+        "\
+outcome 1
+0> 1
+0> 2
+0> 3
+0> 4
+rank 0: halted
+runs 6, crashed 5
+
+# explore is complete: outcomes 1
+runs 6, crashes 7, images 2, outcomes 1
 ",
     ),
     // of rank 1: kill 1; kill 2; kill 1, image 2, and image 1 of rank 0; image 2, and kill 1 of rank 0; image 1 of

@@ -4,19 +4,25 @@ use command_line::{Job, job_of};
 use runner::words_given;
 use std::alloc::{AllocError, Global};
 use std::env::FillError;
+use std::num::NonZeroU32;
 use std::process::Abort;
 use std::rt::Env;
 use std::test::Fail;
 
-/// The words of a run, with its ranks, idle turns, steps and program, and of one that is told its form; those of a search, with its
+/// The words of a run, with its ranks, idle turns, steps, program and the form of its costs, and of one that is told its form; those of a search, with its
 /// ranks, runs, steps, states, program and form; and those of a world that is led to its end, with its ranks, steps, program and events.
-const RUNS: [(&str, &str); 15] = [
-    ("ftmpi run --ranks 1 p", "1 1000000 1000000 p"),
-    ("ftmpi run --ranks 16 --idle 5 p", "16 5 1000000 p"),
-    ("ftmpi run --ranks 2 --steps 7 p", "2 1000000 7 p"),
+const RUNS: [(&str, &str); 24] = [
+    ("ftmpi run --ranks 1 p", "1 1000000 1000000 p Unasked"),
+    ("ftmpi run --ranks 16 --idle 5 p", "16 5 1000000 p Unasked"),
+    ("ftmpi run --ranks 2 --steps 7 p", "2 1000000 7 p Unasked"),
     (
         "ftmpi run --steps 1000000000 --ranks 2 --idle 1000000000 p",
-        "2 1000000000 1000000000 p",
+        "2 1000000000 1000000000 p Unasked",
+    ),
+    ("ftmpi run --costs --ranks 2 p", "2 1000000 1000000 p Table"),
+    (
+        "ftmpi run --json --ranks 1 --costs p",
+        "1 1000000 1000000 p Json",
     ),
     ("ftmpi trace --ranks 3 --steps 7 p", "3 1000000 7 p Text"),
     (
@@ -53,13 +59,35 @@ const RUNS: [(&str, &str); 15] = [
         "ftmpi catch-up --steps 7 --ranks 16 --to-the-end p e",
         "16 7 p e",
     ),
+    ("ftmpi run p --steps=7 --ranks=2", "2 1000000 7 p Unasked"),
+    ("ftmpi run --idle 5 p --ranks +2", "2 5 1000000 p Unasked"),
+    (
+        "ftmpi run --ranks 2 -- --steps",
+        "2 1000000 1000000 --steps Unasked",
+    ),
+    (
+        "ftmpi trace --events p --ranks 02",
+        "2 1000000 1000000 p Events",
+    ),
+    (
+        "ftmpi explore --events=4 --ranks 2 -- --json",
+        "2 100000 100000 100000 --json Events(4)",
+    ),
+    ("ftmpi catch-up p --to-the-end --ranks 2 -", "2 100000 p -"),
+    (
+        "ftmpi catch-up --ranks 2 --steps=3 --to-the-end -- -- --",
+        "2 3 -- --",
+    ),
 ];
 
 // The run that these words ask for.
 fn asked(alloc: Global, words: &[String]) -> Result<String, AllocError> {
     match job_of(alloc, words) {
         Ok(Job::Run(job)) => {
-            format!(in alloc; "{} {} {} {}", job.ranks, job.idle, job.steps, job.program)
+            format!(in alloc;
+                "{} {} {} {} {:?}",
+                job.ranks, job.idle, job.steps, job.program, job.costs
+            )
         }
         Ok(Job::Trace(job)) => {
             let run = job.run;
@@ -99,6 +127,51 @@ fn ask_for(rt: &impl Abort, alloc: Global, rows: &[(&str, &str)]) -> Result<(), 
 #[test]
 fn defaults(rt: HostRuntime) -> Result<(), Fail> {
     ask_for(&rt, rt.alloc(), &RUNS)
+}
+
+/// Words, and after how many acts they ask for an image.
+const EVERY: [(&str, Option<u32>); 5] = [
+    ("ftmpi run --ranks 1 p", None),
+    ("ftmpi run --images-every 1 --ranks 1 p", Some(1)),
+    (
+        "ftmpi trace --json --images-every 1000000000 --ranks 1 p",
+        Some(1000000000),
+    ),
+    ("ftmpi soak --ranks 2 p", None),
+    (
+        "ftmpi soak --ranks 2 --images 1 --images-every 3 p",
+        Some(3),
+    ),
+];
+
+// After how many acts these words ask for an image.
+fn every_asked(alloc: Global, words: &[String]) -> Option<u32> {
+    let every = match job_of(alloc, words) {
+        Ok(Job::Run(job)) => job.images_every,
+        Ok(Job::Trace(job)) => job.run.images_every,
+        Ok(Job::Soak(job)) => job.images_every,
+        _ => None,
+    };
+    every.map(NonZeroU32::get)
+}
+
+fn ask_for_images(
+    rt: &impl Abort,
+    alloc: Global,
+    rows: &[(&str, Option<u32>)],
+) -> Result<(), Fail> {
+    for row in rows {
+        let (line, want) = *row;
+        let words = words_of(alloc, line)?;
+        let found = every_asked(alloc, words.as_slice());
+        assert_eq!(rt; found, want, "at {line}");
+    }
+    Ok(())
+}
+
+#[test]
+fn images_every(rt: HostRuntime) -> Result<(), Fail> {
+    ask_for_images(&rt, rt.alloc(), &EVERY)
 }
 
 /// A machine that calls the program with these arguments.

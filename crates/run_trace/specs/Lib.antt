@@ -1,6 +1,7 @@
 pub mod Clocks
 pub mod Columns
 pub mod Deliveries
+pub mod Due
 pub mod Lines
 pub mod Pairs
 pub mod Places

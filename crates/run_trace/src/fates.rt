@@ -1,11 +1,13 @@
 //! What became of the lines of a script.
 
+use crate::due::last_due;
 use crate::given::Given;
 use crash_free::Passed;
 use metered::Heap;
 use metered::limits::{MOST_RANKS, MOST_SCRIPT_LINES};
 use script_text::{Order, ScriptLine};
 use std::alloc::AllocError;
+use std::num::NonZeroU32;
 use text_lines::{is_skipped, next_line};
 
 /// What became of a line of a script.
@@ -75,7 +77,7 @@ pub fn fates_of(
         }
         if let Some(seen) = seen.get_mut(usize::from(line.rank)) {
             let made = acts.iter().filter(|act| act.rank == line.rank).count();
-            fates.push(fate_of(number, *line, made, seen))?;
+            fates.push(fate_of(number, *line, made, given.images_every, seen))?;
         }
     }
     Ok(fates)
@@ -91,8 +93,17 @@ fn used_of(given: Given<'_>, rank: usize) -> usize {
     lines.saturating_sub(given.unused.get(rank).copied().unwrap_or(0))
 }
 
-// What became of the rank's next line, where the rank made so many acts.
-fn fate_of(number: usize, line: ScriptLine, made: usize, seen: &mut Seen) -> Fated {
+// What became of the rank's next line, where the rank made so many acts and took an image after each so many.
+fn fate_of(
+    number: usize,
+    line: ScriptLine,
+    made: usize,
+    every: Option<NonZeroU32>,
+    seen: &mut Seen,
+) -> Fated {
+    if seen.used > 0 && line.order == Order::Kill {
+        seen.image = seen.image.max(last_due(every, line.clock));
+    }
     let image = seen.image;
     let fate = if seen.used > 0 {
         seen.used -= 1;

@@ -7,6 +7,7 @@ use crate::why::Why;
 use audit::Outcome;
 use crash_free::{Passed, Sim};
 use script_text::ScriptLine;
+use std::num::NonZeroU32;
 
 /// A run's program, script and outcome.
 #[derive(Clone, Copy)]
@@ -22,6 +23,8 @@ pub struct Given<'a> {
     /// How many of the script's lines for each rank weren't used; the others
     /// were, in their order.
     pub unused: &'a [usize],
+    /// After how many acts each rank took an image, beside those of the script.
+    pub images_every: Option<NonZeroU32>,
     pub outcome: &'a Outcome,
     /// Why each rank is unfinished, where that is known.
     pub whys: &'a [Option<Why>],

@@ -8,6 +8,7 @@ mod acts;
 mod circles;
 mod columns;
 mod deliveries;
+mod due;
 mod ends;
 mod fates;
 mod given;
@@ -21,6 +22,7 @@ mod trace;
 mod why;
 mod words;
 
+pub use due::last_due;
 pub use given::Given;
 pub use place::Place;
 pub use places::places_of;

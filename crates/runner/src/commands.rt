@@ -15,6 +15,8 @@
 //! - 5: standard output can't be written
 ghost use Rattle.std.specs.Prelude.{◌≢◌, ◌≤◌, ℕ, List};
 ghost use Rattle.std.specs.Io.KnownBytes.{Appends};
+ghost use Rattle.command_line.specs.Words.{texts};
+ghost use Rattle.core_runner.specs.Commands.{IsCommandAnswer};
 ghost use Rattle.runner.specs.Answers.{IsJobAnswer};
 
 mod c;
@@ -39,7 +41,8 @@ use std::sync::Wait;
 use std::thread::Threads;
 
 /// Does what the words say, and answers the exit status. The first word is the
-/// program's name.
+/// program's name. Unless the status is 5, an answer to the job that the words name
+/// is written to `out`, whole, or what is said instead of a job.
 ///
 /// What goes to `out` is made whole before any of it is written. A write to
 /// `err` that fails changes no status.
@@ -51,7 +54,9 @@ pub fn command<R: Threads + Wait + Sync + Copy + Send + AllocGlobal, F: Files, O
     out: &mut O,
     err: &mut E,
 ) -> u8
-    ensures { result ≤ 5 }
+    ensures known { result ≤ 5 }
+    ensures answer { result ≢ 5 → (text : List ℕ) × Appends (O.contents out.old) (O.contents out.new) text
+        × IsCommandAnswer (IsJobAnswer (F.holds files.old)) (texts words.now) text result }
 {
     command_watched(rt, alloc, words, files, out, err, &mut Unwatched)
 }
@@ -72,7 +77,9 @@ pub fn command_watched<
     err: &mut E,
     watch: &mut W,
 ) -> u8
-    ensures { result ≤ 5 }
+    ensures known { result ≤ 5 }
+    ensures answer { result ≢ 5 → (text : List ℕ) × Appends (O.contents out.old) (O.contents out.new) text
+        × IsCommandAnswer (IsJobAnswer (F.holds files.old)) (texts words.now) text result }
 {
     match job_of(rt.alloc(), words) {
         Ok(job) => do_job(rt, alloc, job, files, out, err, watch),

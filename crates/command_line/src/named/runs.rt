@@ -1,23 +1,40 @@
 //! A run that arguments name, and how it is traced.
-ghost use Rattle.std.specs.Prelude.{IfSome};
-ghost use Rattle.command_line.specs.Jobs.{IsRunOf, IsTraceFormOf, IsTraceOf};
+ghost use Rattle.std.specs.Prelude.{◌≡◌, IfSome};
+ghost use Rattle.command_line.specs.Jobs.{IsCostFormOf, IsRunOf, IsTraceFormOf, IsTraceOf};
 ghost use Rattle.command_line.specs.Words.{texts};
 
+use crate::costing::CostForm;
 use crate::job::RunJob;
 use crate::tracing::{TraceForm, TraceJob};
-use crate::words::{is_given, limit_or, number_or, one_file, ranks_of, value_of};
+use crate::words::{count_if, is_given, limit_or, number_or, one_file, ranks_of, value_of};
 
-/// The run that the arguments ask for.
-pub fn run_of<'a>(command: &str, arguments: &'a [String]) -> Option<RunJob<'a>>
-    ensures { IfSome result (λ run. IsRunOf command.now (texts arguments.entry.now) run) }
+/// The run that the arguments ask for, with its costs in this form.
+pub fn run_of<'a>(command: &str, arguments: &'a [String], costs: CostForm) -> Option<RunJob<'a>>
+    ensures run { IfSome result (λ run. IsRunOf command.now (texts arguments.entry.now) run) }
+    ensures costs { IfSome result (λ run. run.costs ≡ costs) }
 {
     Some(RunJob {
         ranks: ranks_of(arguments)?,
         script: value_of("script", arguments),
+        images_every: count_if("images-every", arguments)?,
         idle: limit_or(1000000, "idle", arguments)?,
         steps: limit_or(1000000, "steps", arguments)?,
+        costs,
         program: one_file(command, arguments)?,
     })
+}
+
+/// In which form the costs of a run are printed.
+pub fn cost_form_of(arguments: &[String]) -> CostForm
+    ensures { IsCostFormOf (texts arguments.now) result }
+{
+    if !is_given("costs", arguments) {
+        CostForm::Unasked
+    } else if is_given("json", arguments) {
+        CostForm::Json
+    } else {
+        CostForm::Table
+    }
 }
 
 /// The run that is to be traced, and the form.
@@ -25,7 +42,7 @@ pub fn trace_of<'a>(command: &str, arguments: &'a [String]) -> Option<TraceJob<'
     ensures { IfSome result (λ trace. IsTraceOf command.now (texts arguments.entry.now) trace) }
 {
     Some(TraceJob {
-        run: run_of(command, arguments)?,
+        run: run_of(command, arguments, CostForm::Unasked)?,
         form: form_of(arguments)?,
     })
 }

@@ -4,7 +4,7 @@ ghost use Rattle.command_line.specs.Jobs.{IsSoakOf};
 ghost use Rattle.command_line.specs.Words.{texts};
 
 use crate::soaking::SoakJob;
-use crate::words::{limit_or, number_or, one_file, ranks_of, small_or};
+use crate::words::{count_if, limit_or, number_or, one_file, ranks_of, small_or};
 use metered::limits::MOST_SCRIPT_LINES;
 
 /// The runs that the arguments ask for.
@@ -22,6 +22,7 @@ pub fn soak_of<'a>(command: &str, arguments: &'a [String]) -> Option<SoakJob<'a>
         seed: number_or(1, "seed", arguments)?,
         kills,
         images,
+        images_every: count_if("images-every", arguments)?,
         idle: limit_or(1000000, "idle", arguments)?,
         steps: limit_or(1000000, "steps", arguments)?,
         program: one_file(command, arguments)?,

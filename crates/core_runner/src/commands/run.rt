@@ -8,9 +8,10 @@ ghost use Rattle.core_runner.specs.Reports.{IsReportOf, IsReportUnder};
 use crate::commands::reading::{program_in, script_by};
 use crate::commands::refusal::Refusal;
 use crate::commands::said::Said;
+use crate::costs::print_costs;
 use crate::files::Files;
 use crate::output::{all_halted, print_report};
-use command_line::RunJob;
+use command_line::{CostForm, RunJob};
 use metered::Heap;
 use rank_language::Program;
 use rank_threads::{Hold, Report, RunFault, RunLimits, run};
@@ -40,7 +41,7 @@ pub fn ran<R: Threads + Wait + Sync + Copy + Send, F: Files>(
         ⊎ IsRunAnswer (F.holds files.old) job.entry said.out.items said.status) }
 {
     match report_of(rt, alloc, job, files) {
-        Ok(report) => answer(alloc, &report),
+        Ok(report) => answer(alloc, job.costs, &report),
         Err(refusal) => refusal.said(alloc),
     }
 }
@@ -85,18 +86,20 @@ pub fn report_under<R: Threads + Wait + Sync + Copy + Send>(
 pub fn limits_of(job: RunJob<'_>) -> RunLimits
     ensures idle { result.idle ≡ job.entry.idle }
     ensures steps { result.steps ≡ job.entry.steps }
+    ensures images { result.images_every ≡ job.entry.images_every }
 {
     RunLimits {
         idle: job.idle,
         steps: job.steps,
-        images_every: None,
+        images_every: job.images_every,
     }
 }
 
-fn answer(alloc: Heap, report: &Report) -> Result<Said, AllocError>
-    ensures { IfOk result (λ said. IsReportText report.now said.out.items said.status) }
+fn answer(alloc: Heap, form: CostForm, report: &Report) -> Result<Said, AllocError>
+    ensures { IfOk result (λ said. IsReportText form report.now said.out.items said.status) }
 {
-    let text = print_report(alloc, report)?;
+    let mut text = print_report(alloc, report)?;
+    print_costs(&mut text, form, report)?;
     let status = if all_halted(&report.outcome) { 0 } else { 1 };
     Ok(Said::answer(alloc, status, text.into_bytes()))
 }

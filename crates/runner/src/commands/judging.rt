@@ -154,6 +154,7 @@ fn run_text(
         script: &[],
         orders: &[],
         unused: &[],
+        images_every: None,
         outcome,
         whys: &[],
         crashes: 0,

@@ -3,7 +3,7 @@ use command_line::RunJob;
 use crash_free::Sim;
 use metered::Heap;
 use run_picture::{Crash, Request, Span, draw};
-use run_trace::Given;
+use run_trace::{Given, last_due};
 use script_text::{Order, ScriptLine};
 use std::alloc::AllocError;
 
@@ -46,7 +46,7 @@ fn crashes_of(alloc: Heap, given: Given<'_>) -> Result<Vec<Crash, Heap>, AllocEr
             crashes.push(Crash {
                 rank: line.rank,
                 clock: line.clock,
-                reaches: image_before(given.orders, index, line.rank),
+                reaches: image_before(given, index, *line),
             })?;
         }
     }
@@ -67,13 +67,21 @@ fn lines_for(orders: &[ScriptLine], rank: u8) -> usize {
     orders.iter().filter(|line| line.rank == rank).count()
 }
 
-// The clock of the rank's last image before this line, which came to pass; 0 where it has none.
-fn image_before(orders: &[ScriptLine], index: usize, rank: u8) -> u32 {
-    let mut clock = 0;
-    for line in orders.iter().take(index) {
-        if line.rank == rank && line.order == Order::Image {
-            clock = line.clock;
+// The clock of the rank's last image before this kill, which came to pass; 0 where it has none.
+fn image_before(given: Given<'_>, index: usize, kill: ScriptLine) -> u32 {
+    let mut clock = last_due(given.images_every, kill.clock);
+    for line in given.orders.iter().take(index) {
+        if line.rank == kill.rank {
+            clock = clock.max(image_by(given, *line));
         }
     }
     clock
+}
+
+// The clock of the last image that its rank has once this line came to pass.
+fn image_by(given: Given<'_>, line: ScriptLine) -> u32 {
+    match line.order {
+        Order::Image => line.clock,
+        Order::Kill => last_due(given.images_every, line.clock),
+    }
 }

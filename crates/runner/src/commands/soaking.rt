@@ -178,10 +178,11 @@ fn acts_by(run: &Sim<'_>, rank: u8) -> u32 {
 fn limits_of(job: SoakJob<'_>) -> RunLimits
     ensures idle { result.idle ≡ job.entry.idle }
     ensures steps { result.steps ≡ job.entry.steps }
+    ensures images { result.images_every ≡ job.entry.images_every }
 {
     RunLimits {
         idle: job.idle,
         steps: job.steps,
-        images_every: None,
+        images_every: job.images_every,
     }
 }

@@ -136,6 +136,7 @@ fn told_of<'a>(
         script: asked.text.as_slice(),
         orders: asked.script.lines(),
         unused: report.unused.as_slice(),
+        images_every: job.run.images_every,
         outcome: &report.outcome,
         whys: whys.as_slice(),
         crashes: report.crashes,
