@@ -37,7 +37,6 @@ abbrev pub refusal_of_end : ℕ → FinishEnd → Refusal
 refusal_of_end steps finish.Ended = refusal.Memory
 refusal_of_end steps (finish.OutOfRounds rank) = refusal.OutOfSteps rank steps
 refusal_of_end steps (finish.Spent rank fault) = refusal.Node rank fault
-refusal_of_end steps (finish.Unsettled rank) = refusal.NoEnd rank
 refusal_of_end steps finish.OutOfMemory = refusal.Memory
 
 -- Why a world isn't led to its end: it was played by these events, after which it has come to

@@ -15,7 +15,6 @@ status_of (refusal.FalseStall rank) = 1
 status_of (refusal.NoCause rank) = 1
 status_of (refusal.Node rank fault) = 1
 status_of (refusal.OutOfSteps rank steps) = 1
-status_of (refusal.NoEnd rank) = 1
 status_of refusal.Memory = 4
 
 -- Nothing goes to standard output, and the exit status is that of a refusal.

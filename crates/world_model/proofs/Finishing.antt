@@ -141,23 +141,36 @@ quiet_last c u v w x y z f g = played_more c no_steps c u v w x y z (λ r. omega
 pub quiet_then : (c : ℕ → ℕ) (u v w : WorldValue) (x y z : List WorldEvent) → Played c u x v y → PlayedAlmost no_steps v y w z → PlayedAlmost c u x w z
 quiet_then c u v w x y z f g = played_then c no_steps c u v w x y z (λ r. omega arith) f g
 
--- an event that is no step
-pub as_quiet : (e f : WorldEvent) (u v : WorldValue) (x y : List WorldEvent) → e ≡ f → ((r : ℕ) → step_of r f ≡ 0) → Played (λ r. step_of r e) u x v y
-    → Played no_steps u x v y
-as_quiet e f u v x y same none p =
-    record {
-      same_size = p.same_size;
-      leads = p.leads;
-      steps = λ r. (let a = p.steps r in let b = ap (λ z. step_of r z) same in let c = none r in omega (arith, a, b, c));
-      longer = p.longer;
-    }
+-- ---- at a gate
+
+-- three events that are no steps
+pub gate_played : (t u v w : WorldValue) (p x y z : List WorldEvent) → Played no_steps t p u x → Played no_steps u x v y → Played no_steps v y w z
+    → Played no_steps t p w z
+gate_played t u v w p x y z a b c = quiet_last no_steps t v w p y z (quiet_last no_steps t u v p x y a b) c
+
+-- the same where memory is refused at the last
+pub gate_almost : (t u v w : WorldValue) (p x y z : List WorldEvent) → Played no_steps t p u x → Played no_steps u x v y → PlayedAlmost no_steps v y w z
+    → PlayedAlmost no_steps t p w z
+gate_almost t u v w p x y z a b c = quiet_then no_steps t v w p y z (quiet_last no_steps t u v p x y a b) c
 
 -- ---- a step of each rank
 
--- a restart adds none
-pub one_restart : (k : ℕ) (e : WorldEvent) (t u v : WorldValue) (p x y : List WorldEvent) → e ≡ Restart k → Played (below k) t p u x
-    → Played (λ r. step_of r e) u x v y → Played (below k) t p v y
-one_restart k e t u v p x y restarts a b = quiet_last (below k) t u v p x y a (as_quiet e (Restart k) u v x y restarts (λ r. refl) b)
+-- what comes before it is none
+pub step_played : (k q : ℕ) (u v w : WorldValue) (x y z : List WorldEvent) → q ≡ k → Played no_steps u x v y → Played (λ r. step_of r (Step q)) v y w z
+    → Played (λ r. step_of r (Step k)) u x w z
+step_played k q u v w x y z same a b =
+    subst (λ n. Played (λ r. step_of r (Step n)) u x w z) same
+    (played_more no_steps (λ r. step_of r (Step q)) (λ r. step_of r (Step q)) u v w x y z (λ r. omega arith) a b)
+
+-- of one rank more
+pub one_step : (k : ℕ) (t u v : WorldValue) (p x y : List WorldEvent) → Played (below k) t p u x → Played (λ r. step_of r (Step k)) u x v y
+    → Played (below (k + 1)) t p v y
+one_step k t u v p x y a b = played_more (below k) (λ r. step_of r (Step k)) (below (k + 1)) t u v p x y few a b
+  where
+    few : (r : ℕ) → below k r + step_of r (Step k) ≤ below (k + 1) r
+    few r =
+        let q : below (k + 1) r ≡ below (suc k) r = ap (λ z. below z r) (let n : k + 1 ≡ suc k = omega arith in n) in
+        omega (arith, q)
 
 -- so of each rank at most one
 pub one_each : (k : ℕ) (u v : WorldValue) (x y : List WorldEvent) → Played (below k) u x v y → Played (for_all 1) u x v y

@@ -271,7 +271,7 @@ stays_of turn.Held e = tt
 stays_of turn.Ended e = tt
 
 -- what is put changes a wire
-put_not : (n : ℕ) (x : Frame) → leaves_all (put_as n x) ≡ true → ⊥
+pub put_not : (n : ℕ) (x : Frame) → leaves_all (put_as n x) ≡ true → ⊥
 put_not n (frame.Data p) e = cc
 put_not n (frame.Ask k) e = cc
 put_not n (frame.Kept k) e = cc

@@ -16,8 +16,10 @@ use Rattle.world_model.specs.declared.finish.FinishEnd.TheVariants as finish
 use Rattle.world_model.specs.declared.reply.Reply.{Reply}
 use Rattle.world_model.specs.declared.reply.Reply.TheVariants as reply
 use Rattle.world_model.specs.World.{Live, WorldValue, size, IsLive}
+use Rattle.world_model.specs.Follows.{Follows}
 use Rattle.world_model.specs.Memory.{Fetched}
 use Rattle.world_model.specs.ToTheEnd.{Leads, HasEnded}
+use Rattle.world_model.specs.Wires.{wire_of}
 
 -- ---- ranks at rest
 
@@ -62,6 +64,10 @@ pub record IsSpent (w : WorldValue) (r : ℕ) (fault : NodeFault) : Type 0 where
   pub live : IsLive w r rank
   pub left : rank.left ≡ []
   pub refused : refusal_of rank.rank ≡ Some fault
+
+-- no rank is spent
+abbrev pub IsNowhereSpent : WorldValue → Type 0
+IsNowhereSpent w = (r : ℕ) → r < size w → (fault : NodeFault) → IsSpent w r fault → ⊥
 
 -- ---- the events
 
@@ -115,7 +121,6 @@ abbrev pub LeadsTo : WorldValue → List WorldEvent → FinishEnd → WorldValue
 LeadsTo w events finish.Ended w' = Leads w events w'
 LeadsTo w events (finish.OutOfRounds r) w' = Leads w events w'
 LeadsTo w events (finish.Spent r fault) w' = Leads w events w'
-LeadsTo w events (finish.Unsettled r) w' = Leads w events w'
 LeadsTo w events finish.OutOfMemory w' = LeadsAlmost w events w'
 
 -- the world is of the same program and as many ranks, and its run goes on from the other's
@@ -131,8 +136,52 @@ abbrev pub ComesTo : WorldValue → ℕ → List WorldEvent → FinishEnd → Ty
 ComesTo w rounds events finish.Ended = HasEnded w
 ComesTo w rounds events (finish.OutOfRounds r) = rounds ≤ length events
 ComesTo w rounds events (finish.Spent r fault) = IsSpent w r fault
-ComesTo w rounds events (finish.Unsettled r) = Unit {0}
 ComesTo w rounds events finish.OutOfMemory = Unit {0}
+
+-- ---- a round that has nothing to do
+
+-- the event was tried in vain: by its reply it left the world as it is
+abbrev pub IsInVain : WorldValue → WorldEvent → Type 0
+IsInVain w event = (answer : Reply) × (leaves_all answer ≡ true) × Follows w event answer w
+
+-- a rank starts again in vain, and makes a step in vain
+abbrev pub StepsInVain : ℕ → WorldValue → Type 0
+StepsInVain r w = IsInVain w (Restart r) × IsInVain w (Step r)
+
+-- at a rank's gate a store, an acknowledgment and a release are tried in vain
+abbrev pub OpensInVain : ℕ → WorldValue → Type 0
+OpensInVain r w = IsInVain w (Store r) × IsInVain w (Ack r) × IsInVain w (Release r)
+
+-- what goes next from a rank to another is put in vain
+abbrev pub PutsInVain : ℕ → ℕ → WorldValue → Type 0
+PutsInVain s d w = IsInVain w (Put s d)
+
+-- the frame of this index on the wire from a rank to another, if it is a packet, arrives in vain
+abbrev pub ArrivesInVain : ℕ → ℕ → ℕ → WorldValue → Type 0
+ArrivesInVain s d i w = (p : packet.PacketValue) → slice_get (wire_of w.wires s d) i ≡ Some (frame.Data p) → IsInVain w (Arrive s d i)
+
+-- so for each number below k
+abbrev pub EachBelow : ℕ → (ℕ → WorldValue → Type 0) → WorldValue → Type 0
+EachBelow k Holds w = (r : ℕ) → r < k → Holds r w
+
+-- so for each rank
+abbrev pub ForEach : (ℕ → WorldValue → Type 0) → WorldValue → Type 0
+ForEach Holds w = EachBelow (size w) Holds w
+
+-- so for each rank with each, be they one
+abbrev pub ForEachTwo : (ℕ → ℕ → WorldValue → Type 0) → WorldValue → Type 0
+ForEachTwo Holds w = ForEach (λ s. ForEach (Holds s)) w
+
+-- every packet on the wire from a rank to another arrives in vain
+abbrev pub FindsInVain : ℕ → ℕ → WorldValue → Type 0
+FindsInVain s d w = EachBelow (length (wire_of w.wires s d)) (ArrivesInVain s d) w
+
+-- The world is still: whatever a round tries, it tries in vain.
+pub record IsStill (w : WorldValue) : Type 0 where
+  pub steps : ForEach StepsInVain w
+  pub gates : ForEach OpensInVain w
+  pub puts : ForEachTwo PutsInVain w
+  pub packets : ForEachTwo FindsInVain w
 
 -- ---- on the way, for the calls that play
 
@@ -152,6 +201,11 @@ pub record Played (more : ℕ → ℕ) (w : WorldValue) (events : List WorldEven
 pub record PlayedAlmost (more : ℕ → ℕ) (w : WorldValue) (events : List WorldEvent) (w' : WorldValue) (events' : List WorldEvent) : Type 0 where
   pub leads : (start : WorldValue) → Leads start events w → LeadsAlmost start events' w'
   pub steps : HasMoreSteps more events events'
+
+-- Where the list got no longer nothing happened: the world is as it was, and this holds of it.
+pub record Tried (Holds : WorldValue → Type 0) (w : WorldValue) (events : List WorldEvent) (w' : WorldValue) (events' : List WorldEvent) : Type 0 where
+  pub longer : length events ≤ length events'
+  pub quiet : length events' ≤ length events → (w' ≡ w) × Holds w'
 
 -- one for each rank below k
 abbrev pub below : ℕ → ℕ → ℕ

@@ -14,8 +14,6 @@ pub enum FinishEnd {
     /// The next act of this rank is refused by name: its clock or its events
     /// are used up.
     Spent { rank: u8, fault: NodeFault },
-    /// A round found nothing to do, though this rank isn't found at rest.
-    Unsettled { rank: u8 },
     /// Memory was refused.
     OutOfMemory,
 }

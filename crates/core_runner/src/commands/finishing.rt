@@ -50,7 +50,6 @@ fn text_of_end<'a>(
         },
         FinishEnd::OutOfRounds { rank } => Err(Refusal::OutOfSteps { rank, steps }),
         FinishEnd::Spent { rank, fault } => Err(Refusal::Node { rank, fault }),
-        FinishEnd::Unsettled { rank } => Err(Refusal::NoEnd(rank)),
         FinishEnd::OutOfMemory => Err(Refusal::Memory),
     }
 }

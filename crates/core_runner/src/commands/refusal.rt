@@ -41,10 +41,6 @@ pub enum Refusal<'a> {
     /// isn't.
     #[error("rank {rank}: no end within {steps} steps")]
     OutOfSteps { rank: u8, steps: u32 },
-    /// A world in which nothing is left to do isn't found at its end: this rank
-    /// isn't.
-    #[error("rank {0}: no end found")]
-    NoEnd(u8),
     /// There was no memory.
     #[error("out of memory")]
     Memory,
@@ -84,7 +80,7 @@ impl<'a> Refusal<'a> {
             | Refusal::Events { line: _, kind: _ } => 2,
             Refusal::Audit(_) | Refusal::FalseStall(_) | Refusal::Node { rank: _, fault: _ } => 1,
             Refusal::NoCause(_) => 1,
-            Refusal::OutOfSteps { rank: _, steps: _ } | Refusal::NoEnd(_) => 1,
+            Refusal::OutOfSteps { rank: _, steps: _ } => 1,
             Refusal::Memory => 4,
         }
     }

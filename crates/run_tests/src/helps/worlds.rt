@@ -101,8 +101,6 @@ If no such events are found, standard error says why:
   rank R: no end within S steps  after S rounds R isn't at its end
   rank R: node fault 5           the clock of R is used up
   rank R: node fault 6           R has 4096 events, and its act would be one
-  rank R: no end found           a round has nothing to do, but R isn't at its
-                                 end
 
 The lines can be put behind those of EVENTS and given to `ftmpi world`, as long
 as both together have at most 100000 lines.

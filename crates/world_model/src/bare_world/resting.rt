@@ -1,7 +1,8 @@
 //! Ranks that have nothing left to do by themselves.
-ghost use Rattle.std.specs.Prelude.{◌≡◌, ◌<◌, length, IfSome};
+ghost use Rattle.std.specs.Prelude.{◌≡◌, ◌<◌, length, IfSome, IfNone};
 ghost use Rattle.std.specs.Bool.{OnTrue};
 ghost use Rattle.crash_free.specs.Runs.{sent};
+ghost use Rattle.rank_node.specs.declared.fault.NodeFault.{NodeFault};
 ghost use Rattle.world_model.specs.World.{size};
 ghost use Rattle.world_model.specs.Finished.{is_idle, IsPacket, IsPacketAt};
 ghost use Rattle.world_model.specs.Wires.{HasWire, wire_of};
@@ -31,10 +32,11 @@ impl<'p> BareWorld<'p> {
     }
 
     /// By which name the next act of a rank is refused, if it is.
-    #[tactic(auto, using(crate::proofs::Resting::spent_is))]
+    #[tactic(auto, using(crate::proofs::Resting::spent_is, crate::proofs::Resting::at_rest_unspent, crate::proofs::Resting::allowed_unspent))]
     pub fn refusal(&self, rank: u8) -> Option<NodeFault>
         requires { rank < size self.now }
-        ensures { IfSome result (λ fault. IsSpent self.now rank fault) }
+        ensures some { IfSome result (λ fault. IsSpent self.now rank fault) }
+        ensures none { IfNone result ((fault : NodeFault) → IsSpent self.now rank fault → ⊥) }
     {
         let Some(running) = self.seats.running(rank) else {
             return None;

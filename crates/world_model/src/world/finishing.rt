@@ -1,13 +1,15 @@
 //! A world that is played to the end: round robin over the ranks, until none has
 //! anything left to do.
 //!
-//! Nothing that the driver chooses is in a contract: what it played is, and at
-//! the end the world is looked at.
+//! Which events the driver chooses is in no contract of the whole. What it played
+//! is, and so is what it has come to: where a round has nothing to do, the world
+//! has ended or a rank is spent.
 ghost use Rattle.std.specs.Prelude.{◌≡◌, ◌≢◌, ◌<◌, ◌≤◌, ℕ, length, IfOk, OnOk, OnErr, MatchBool};
-ghost use Rattle.world_model.specs.declared.event.WorldEvent.TheVariants.{Arrive, Restart, Step};
+ghost use Rattle.world_model.specs.declared.event.WorldEvent.TheVariants.{Arrive, Step};
 ghost use Rattle.world_model.specs.World.{size};
 ghost use Rattle.world_model.specs.Finished.{Played, PlayedAlmost, step_of, for_all, no_steps};
-ghost use Rattle.world_model.specs.Finished.{LeadsTo, IsAfter, ComesTo, steps_in};
+ghost use Rattle.world_model.specs.Finished.{LeadsTo, IsAfter, ComesTo, steps_in, Tried, IsInVain, IsStill, ForEach, ForEachTwo};
+ghost use Rattle.world_model.specs.Finished.{StepsInVain, OpensInVain, PutsInVain, ArrivesInVain, FindsInVain};
 ghost use Rattle.world_model.specs.Follows.{Follows};
 ghost use Rattle.world_model.specs.ToTheEnd.{IsNoCrash};
 
@@ -69,7 +71,7 @@ impl<'p> World<'p> {
     ) -> Result<bool, AllocError>
         ensures ok { OnOk result (Played (for_all rounds) self.old events.old.items self.new events.new.items) }
         ensures err { OnErr result (PlayedAlmost (for_all rounds) self.old events.old.items self.new events.new.items) }
-        ensures rounds { IfOk result (λ quiet. MatchBool quiet (Unit {0}) (rounds ≤ length events.new.items)) }
+        ensures rounds { IfOk result (λ quiet. MatchBool quiet (IsStill self.new) (rounds ≤ length events.new.items)) }
     {
         for _ in 0..rounds {
             let before = events.len();
@@ -87,6 +89,7 @@ impl<'p> World<'p> {
     fn play_round(&mut self, events: &mut Vec<WorldEvent, Heap>) -> Result<(), AllocError>
         ensures ok { OnOk result (Played (for_all 1) self.old events.old.items self.new events.new.items) }
         ensures err { OnErr result (PlayedAlmost (for_all 1) self.old events.old.items self.new events.new.items) }
+        ensures tried { OnOk result (Tried IsStill self.old events.old.items self.new events.new.items) }
     {
         let before = events.len();
         self.step_all(events)?;
@@ -103,26 +106,51 @@ impl<'p> World<'p> {
     fn step_all(&mut self, events: &mut Vec<WorldEvent, Heap>) -> Result<(), AllocError>
         ensures ok { OnOk result (Played (for_all 1) self.old events.old.items self.new events.new.items) }
         ensures err { OnErr result (PlayedAlmost (for_all 1) self.old events.old.items self.new events.new.items) }
+        ensures tried { OnOk result (Tried (ForEach StepsInVain) self.old events.old.items self.new events.new.items) }
     {
         for rank in 0..self.ranks() {
-            self.play(restart(rank), events)?;
-            self.play(step(rank), events)?;
+            self.step_rank(rank, events)?;
         }
         Ok(())
     }
 
-    /// At each gate the oldest event is stored and acknowledged, and the oldest
-    /// send or line released, where it may be.
+    /// A rank makes a step; if it is down it starts again first.
+    #[tactic(auto, using(crate::proofs::Finishing::step_played, crate::proofs::Finishing::quiet_then))]
+    fn step_rank(&mut self, rank: u8, events: &mut Vec<WorldEvent, Heap>) -> Result<(), AllocError>
+        ensures ok { OnOk result (Played (λ r. step_of r (Step rank)) self.old events.old.items self.new events.new.items) }
+        ensures err { OnErr result (PlayedAlmost no_steps self.old events.old.items self.new events.new.items) }
+        ensures tried { OnOk result (Tried (StepsInVain rank) self.old events.old.items self.new events.new.items) }
+    {
+        let rank = u32::from(rank);
+        self.play(WorldEvent::Restart { rank }, events)?;
+        self.play(WorldEvent::Step { rank }, events)?;
+        Ok(())
+    }
+
+    /// What waits first at each gate passes.
     fn open_gates(&mut self, events: &mut Vec<WorldEvent, Heap>) -> Result<(), AllocError>
         ensures ok { OnOk result (Played no_steps self.old events.old.items self.new events.new.items) }
         ensures err { OnErr result (PlayedAlmost no_steps self.old events.old.items self.new events.new.items) }
+        ensures tried { OnOk result (Tried (ForEach OpensInVain) self.old events.old.items self.new events.new.items) }
     {
         for rank in 0..self.ranks() {
-            let rank = u32::from(rank);
-            self.play(WorldEvent::Store { rank }, events)?;
-            self.play(WorldEvent::Ack { rank }, events)?;
-            self.play(WorldEvent::Release { rank }, events)?;
+            self.open_gate(rank, events)?;
         }
+        Ok(())
+    }
+
+    /// At the gate of a rank the oldest event is stored and acknowledged, and
+    /// the oldest send or line released, where it may be.
+    #[tactic(auto, using(crate::proofs::Finishing::gate_played, crate::proofs::Finishing::gate_almost, crate::proofs::Trying::gate_tried))]
+    fn open_gate(&mut self, rank: u8, events: &mut Vec<WorldEvent, Heap>) -> Result<(), AllocError>
+        ensures ok { OnOk result (Played no_steps self.old events.old.items self.new events.new.items) }
+        ensures err { OnErr result (PlayedAlmost no_steps self.old events.old.items self.new events.new.items) }
+        ensures tried { OnOk result (Tried (OpensInVain rank) self.old events.old.items self.new events.new.items) }
+    {
+        let rank = u32::from(rank);
+        self.play(WorldEvent::Store { rank }, events)?;
+        self.play(WorldEvent::Ack { rank }, events)?;
+        self.play(WorldEvent::Release { rank }, events)?;
         Ok(())
     }
 
@@ -130,6 +158,7 @@ impl<'p> World<'p> {
     fn pass_all(&mut self, events: &mut Vec<WorldEvent, Heap>) -> Result<(), AllocError>
         ensures ok { OnOk result (Played no_steps self.old events.old.items self.new events.new.items) }
         ensures err { OnErr result (PlayedAlmost no_steps self.old events.old.items self.new events.new.items) }
+        ensures tried { OnOk result (Tried (ForEachTwo PutsInVain) self.old events.old.items self.new events.new.items) }
     {
         for source in 0..self.ranks() {
             for dest in 0..self.ranks() {
@@ -148,6 +177,7 @@ impl<'p> World<'p> {
     ) -> Result<(), AllocError>
         ensures ok { OnOk result (Played no_steps self.old events.old.items self.new events.new.items) }
         ensures err { OnErr result (PlayedAlmost no_steps self.old events.old.items self.new events.new.items) }
+        ensures tried { OnOk result (Tried (PutsInVain source dest) self.old events.old.items self.new events.new.items) }
     {
         let put = WorldEvent::Put {
             source: u32::from(source),
@@ -167,6 +197,7 @@ impl<'p> World<'p> {
     fn find_lost(&mut self, events: &mut Vec<WorldEvent, Heap>) -> Result<(), AllocError>
         ensures ok { OnOk result (Played no_steps self.old events.old.items self.new events.new.items) }
         ensures err { OnErr result (PlayedAlmost no_steps self.old events.old.items self.new events.new.items) }
+        ensures tried { OnOk result (Tried (ForEachTwo FindsInVain) self.old events.old.items self.new events.new.items) }
     {
         for source in 0..self.ranks() {
             for dest in 0..self.ranks() {
@@ -187,6 +218,7 @@ impl<'p> World<'p> {
         requires dest { dest < size self.old }
         ensures ok { OnOk result (Played no_steps self.old events.old.items self.new events.new.items) }
         ensures err { OnErr result (PlayedAlmost no_steps self.old events.old.items self.new events.new.items) }
+        ensures tried { OnOk result (Tried (FindsInVain source dest) self.old events.old.items self.new events.new.items) }
     {
         for index in 0..self.frames(source, dest).len() {
             self.find_at(source, dest, index, events)?;
@@ -207,6 +239,7 @@ impl<'p> World<'p> {
         requires dest { dest < size self.old }
         ensures ok { OnOk result (Played no_steps self.old events.old.items self.new events.new.items) }
         ensures err { OnErr result (PlayedAlmost no_steps self.old events.old.items self.new events.new.items) }
+        ensures tried { OnOk result (Tried (ArrivesInVain source dest index) self.old events.old.items self.new events.new.items) }
     {
         let Some(Frame::Data(_)) = self.frames(source, dest).get(index) else {
             return Ok(());
@@ -217,7 +250,7 @@ impl<'p> World<'p> {
 
     /// An event, which goes last on the list if it changed something. There is
     /// room for it on the list before it happens.
-    #[tactic(auto, using(crate::proofs::Finishing::played_one, crate::proofs::Finishing::played_none, crate::proofs::Finishing::played_failed, crate::proofs::Finishing::played_nothing))]
+    #[tactic(auto, using(crate::proofs::Finishing::played_one, crate::proofs::Finishing::played_none, crate::proofs::Finishing::played_failed, crate::proofs::Finishing::played_nothing, crate::proofs::Trying::tried_one, crate::proofs::Trying::tried_none))]
     fn play(
         &mut self,
         event: WorldEvent,
@@ -226,6 +259,7 @@ impl<'p> World<'p> {
         requires { IsNoCrash event }
         ensures ok { OnOk result (Played (λ r. step_of r event) self.old events.old.items self.new events.new.items) }
         ensures err { OnErr result (PlayedAlmost no_steps self.old events.old.items self.new events.new.items) }
+        ensures tried { OnOk result (Tried (λ w. IsInVain w event) self.old events.old.items self.new events.new.items) }
         ensures follows { IfOk result (λ reply. Follows self.old event reply self.new) }
     {
         let _bare = &self.bare;
@@ -246,21 +280,5 @@ fn arrive(source: u8, dest: u8, index: u64) -> WorldEvent
         source: u32::from(source),
         dest: u32::from(dest),
         index,
-    }
-}
-
-fn step(rank: u8) -> WorldEvent
-    ensures { result ≡ Step rank }
-{
-    WorldEvent::Step {
-        rank: u32::from(rank),
-    }
-}
-
-fn restart(rank: u8) -> WorldEvent
-    ensures { result ≡ Restart rank }
-{
-    WorldEvent::Restart {
-        rank: u32::from(rank),
     }
 }

@@ -1,8 +1,10 @@
 //! What a world that was played on has come to.
-ghost use Rattle.std.specs.Prelude.{◌≡◌, ◌≢◌, ◌<◌, ◌≤◌, ℕ, length, IfOk, OnOk, OnErr, MatchBool, IfSome, IfNone};
+ghost use Rattle.std.specs.Prelude.{◌≡◌, ◌≢◌, ◌<◌, ◌≤◌, ℕ, length, IfOk, OnOk, OnErr, MatchBool, List, IfSome, IfNone};
 ghost use Rattle.std.specs.Bool.{OnTrue};
 ghost use Rattle.world_model.specs.World.{size};
 ghost use Rattle.world_model.specs.Finished.{Played, PlayedAlmost, no_steps, ComesTo, IsSpent, RestsAt, HasHeard};
+ghost use Rattle.world_model.specs.Finished.{IsStill, IsNowhereSpent};
+ghost use Rattle.world_model.specs.declared.event.WorldEvent.{WorldEvent};
 ghost use Rattle.world_model.specs.ToTheEnd.{HasEnded};
 
 use crate::event::WorldEvent;
@@ -24,20 +26,32 @@ impl<'p> World<'p> {
     ) -> Result<FinishEnd, AllocError>
         ensures ok { OnOk result (Played no_steps self.old events.old.items self.new events.new.items) }
         ensures err { OnErr result (PlayedAlmost no_steps self.old events.old.items self.new events.new.items) }
-        ensures end { IfOk result (λ end. (rounds : ℕ) → MatchBool quiet (Unit {0}) (rounds ≤ length events.old.items) →
+        ensures end { IfOk result (λ end. (rounds : ℕ) → MatchBool quiet (IsStill self.old) (rounds ≤ length events.old.items) →
             ComesTo self.new rounds events.new.items end) }
         ensures memory { IfOk result (λ end. end ≢ FinishEnd.OutOfMemory) }
     {
+        if quiet {
+            return Ok(self.stopped());
+        }
         let Some(rank) = self.restless(events)? else {
             self.law_rests();
             return Ok(FinishEnd::Ended);
         };
-        if !quiet {
-            return Ok(FinishEnd::OutOfRounds { rank });
-        }
+        Ok(FinishEnd::OutOfRounds { rank })
+    }
+
+    /// What a world has come to of which a round has nothing to do: a rank is
+    /// spent, or the world has ended.
+    fn stopped(&self) -> FinishEnd
+        ensures end { IsStill self.now → (rounds : ℕ) → (events : List WorldEvent) → ComesTo self.now rounds events result }
+        ensures memory { result ≢ FinishEnd.OutOfMemory }
+    {
         match self.spent() {
-            Some((rank, fault)) => Ok(FinishEnd::Spent { rank, fault }),
-            None => Ok(FinishEnd::Unsettled { rank }),
+            Some((rank, fault)) => FinishEnd::Spent { rank, fault },
+            None => {
+                self.law_still();
+                FinishEnd::Ended
+            }
         }
     }
 
@@ -107,9 +121,18 @@ impl<'p> World<'p> {
         let _bare = &self.bare;
     }
 
+    /// A law, for proofs alone: a still world of which no rank is spent has ended.
+    #[tactic(auto, using(crate::proofs::EndStill::still_ends))]
+    fn law_still(&self)
+        ensures { IsStill self.now → IsNowhereSpent self.now → HasEnded self.now }
+    {
+        let _bare = &self.bare;
+    }
+
     /// The first rank whose next act is refused by name, with the name.
     fn spent(&self) -> Option<(u8, NodeFault)>
-        ensures { IfSome result (λ found. IsSpent self.now found.0 found.1) }
+        ensures some { IfSome result (λ found. IsSpent self.now found.0 found.1) }
+        ensures none { IfNone result (IsNowhereSpent self.now) }
     {
         for rank in 0..self.ranks() {
             if let Some(fault) = self.bare.refusal(rank) {

@@ -1,0 +1,6 @@
+use Rattle.world_model.proofs.WayAdvancingLoops.{where_true}
+use Rattle.world_model.proofs.world.World.come_to.Goals as goal
+
+-- src/world/finishing/resting.rt
+pub returns-then-quiet-clause-end : goal.returns-then-quiet-clause-end
+returns-then-quiet-clause-end c = λ rounds still. c.stopped.ensures.end (where_true _ _ _ c.if-quiet.true still) rounds _
