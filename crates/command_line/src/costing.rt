@@ -1,9 +1,8 @@
 //! In which form the words of `run` ask for what its recoveries cost.
-use clap::{Arg, ArgAction, Command};
-use std::alloc::{AllocError, Global};
+use crate::argument::Argument;
 
 /// In which form the costs of a run are printed, behind its report.
-#[derive(Clone, Copy, Debug, PartialEq, Eq)]
+#[derive(Clone, Copy, Debug)]
 pub enum CostForm {
     /// They aren't printed.
     Unasked,
@@ -13,22 +12,13 @@ pub enum CostForm {
     Json,
 }
 
-/// The command with the words that ask for costs.
-pub fn with_costs<'a>(alloc: Global, command: Command<'a>) -> Result<Command<'a>, AllocError> {
-    command.arg(costs(alloc))?.arg(json(alloc)?)
+/// Whether costs are asked for.
+pub fn costs() -> Argument {
+    let help = "Prints what recoveries cost, behind the report (below)";
+    Argument::flag("costs", help)
 }
 
-fn costs<'a>(alloc: Global) -> Arg<'a> {
-    Arg::new(alloc, "costs")
-        .long("costs")
-        .help("Prints what recoveries cost, behind the report (below)")
-        .action(ArgAction::SetTrue)
-}
-
-fn json<'a>(alloc: Global) -> Result<Arg<'a>, AllocError> {
-    Arg::new(alloc, "json")
-        .long("json")
-        .help("Prints the costs as JSON, an object a line")
-        .action(ArgAction::SetTrue)
-        .requires_arg("costs")
+/// Whether they are asked for as JSON.
+pub fn costs_as_json() -> Argument {
+    Argument::flag("json", "Prints the costs as JSON, an object a line").with("costs")
 }

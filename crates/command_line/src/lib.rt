@@ -4,6 +4,7 @@
 //! which limits it runs.
 #![tactic(auto)]
 
+mod argument;
 mod catching_up;
 mod costing;
 mod explain;

@@ -1,9 +1,10 @@
 //! The job that words name.
-ghost use Rattle.std.specs.Prelude.{IfOk, IfSome};
+ghost use Rattle.std.specs.Prelude.{◌≡◌, IfOk, IfSome, codes};
 ghost use Rattle.command_line.specs.Jobs.{IsJobBy, IsJobOf};
 ghost use Rattle.command_line.specs.Words.{texts};
 
 mod checks;
+mod commands;
 mod runs;
 mod searches;
 mod soaks;
@@ -11,6 +12,7 @@ mod worlds;
 
 use crate::job::Job;
 use crate::named::checks::{check_of, explain_of};
+use crate::named::commands::{CommandName, command_called};
 use crate::named::runs::{cost_form_of, run_of, trace_of};
 use crate::named::searches::{explore_of, judge_of};
 use crate::named::soaks::soak_of;
@@ -69,37 +71,38 @@ fn named<'a>(words: &'a [String]) -> Option<Job<'a>>
 fn chosen<'a>(command: &str, arguments: &'a [String]) -> Option<Job<'a>>
     ensures { IfSome result (λ job. IsJobBy command.now (texts arguments.entry.now) job) }
 {
-    if command == "check" {
-        Some(Job::Check(check_of(command, arguments)?))
-    } else if command == "c" {
-        Some(Job::C(check_of(command, arguments)?))
-    } else if command == "run" {
-        let costs = cost_form_of(arguments);
-        Some(Job::Run(run_of(command, arguments, costs)?))
-    } else if command == "trace" {
-        Some(Job::Trace(trace_of(command, arguments)?))
-    } else if command == "world" {
-        let world = world_of(command, arguments)?;
-        if is_given("json", arguments) {
-            Some(Job::WorldJson(world))
-        } else {
-            Some(Job::World(world))
-        }
-    } else if command == "catch-up" {
-        if is_given("to-the-end", arguments) {
-            Some(Job::Finish(finish_of(command, arguments)?))
-        } else {
-            Some(Job::CatchUp(world_of(command, arguments)?))
-        }
-    } else if command == "explain" {
-        Some(Job::Explain(explain_of(command, arguments)?))
-    } else if command == "explore" {
-        Some(Job::Explore(explore_of(command, arguments)?))
-    } else if command == "judge" {
-        Some(Job::Judge(judge_of(command, arguments)?))
-    } else if command == "soak" {
-        Some(Job::Soak(soak_of(command, arguments)?))
+    match command_called(command)? {
+        CommandName::Check => check_of(command, arguments).map(Job::Check),
+        CommandName::C => check_of(command, arguments).map(Job::C),
+        CommandName::Run => run_of(command, arguments, cost_form_of(arguments)).map(Job::Run),
+        CommandName::Trace => trace_of(command, arguments).map(Job::Trace),
+        CommandName::World => world_job(command, arguments),
+        CommandName::CatchUp => catch_up_job(command, arguments),
+        CommandName::Explain => explain_of(command, arguments).map(Job::Explain),
+        CommandName::Explore => explore_of(command, arguments).map(Job::Explore),
+        CommandName::Judge => judge_of(command, arguments).map(Job::Judge),
+        CommandName::Soak => soak_of(command, arguments).map(Job::Soak),
+    }
+}
+
+fn world_job<'a>(command: &str, arguments: &'a [String]) -> Option<Job<'a>>
+    requires { command.now ≡ codes "world" }
+    ensures { IfSome result (λ job. IsJobBy command.now (texts arguments.entry.now) job) }
+{
+    if is_given("json", arguments) {
+        world_of(command, arguments).map(Job::WorldJson)
     } else {
-        None
+        world_of(command, arguments).map(Job::World)
+    }
+}
+
+fn catch_up_job<'a>(command: &str, arguments: &'a [String]) -> Option<Job<'a>>
+    requires { command.now ≡ codes "catch-up" }
+    ensures { IfSome result (λ job. IsJobBy command.now (texts arguments.entry.now) job) }
+{
+    if is_given("to-the-end", arguments) {
+        finish_of(command, arguments).map(Job::Finish)
+    } else {
+        world_of(command, arguments).map(Job::CatchUp)
     }
 }

@@ -11,20 +11,39 @@ use metered::limits::MOST_SCRIPT_LINES;
 pub fn soak_of<'a>(command: &str, arguments: &'a [String]) -> Option<SoakJob<'a>>
     ensures { IfSome result (λ runs. IsSoakOf command.now (texts arguments.entry.now) runs) }
 {
-    let kills = small_or(2, "kills", arguments)?;
-    let images = small_or(2, "images", arguments)?;
+    let (Some(kills), Some(images)) = (
+        small_or(2, "kills", arguments),
+        small_or(2, "images", arguments),
+    ) else {
+        return None;
+    };
     if usize::from(kills) + usize::from(images) > MOST_SCRIPT_LINES {
         return None;
     }
+    let (Some(ranks), Some(runs), Some(seed)) = (
+        ranks_of(arguments),
+        number_or(100, "runs", arguments),
+        number_or(1, "seed", arguments),
+    ) else {
+        return None;
+    };
+    let (Some(images_every), Some(idle), Some(steps), Some(program)) = (
+        count_if("images-every", arguments),
+        limit_or(1000000, "idle", arguments),
+        limit_or(1000000, "steps", arguments),
+        one_file(command, arguments),
+    ) else {
+        return None;
+    };
     Some(SoakJob {
-        ranks: ranks_of(arguments)?,
-        runs: number_or(100, "runs", arguments)?,
-        seed: number_or(1, "seed", arguments)?,
+        ranks,
+        runs,
+        seed,
         kills,
         images,
-        images_every: count_if("images-every", arguments)?,
-        idle: limit_or(1000000, "idle", arguments)?,
-        steps: limit_or(1000000, "steps", arguments)?,
-        program: one_file(command, arguments)?,
+        images_every,
+        idle,
+        steps,
+        program,
     })
 }
