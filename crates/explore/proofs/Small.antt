@@ -13,12 +13,12 @@ use Rattle.crash_free.specs.Sim.{SimValue, choice_of, start_of}
 use Rattle.crash_free.specs.Parts.{IsPartOf}
 use Rattle.crash_free.proofs.Lists.{history-other}
 use Rattle.crash_free.proofs.Reorder.{history_grows}
-use Rattle.explore.specs.declared.branch.Branch.{Branch}
 use Rattle.final_runs.specs.Maximal.{MayFollow, IsMaximal}
 use Rattle.explore.specs.Exploring.{and_then, IsFixed}
 use Rattle.explore.specs.Moves.{move_of}
 use Rattle.explore.specs.Outcomes.{IsAmong, AreDistinct}
 use Rattle.explore.specs.Searching.{IsAlike}
+use Rattle.explore.specs.Stems.{Stem, IsRunOf}
 use Rattle.explore.specs.Small.{AreEnough, at_once, tree, EnoughFor, EnoughForAll, KeepsEnough}
 use Rattle.explore.proofs.Among.{among_none}
 use Rattle.explore.proofs.Fixed.{same_act}
@@ -149,42 +149,41 @@ enough_by s s' k P alike x =
     subst (λ n. AreEnough (start_of s.program n) n k P) alike.ranks
     (subst (λ p. AreEnough (start_of p (length s'.machines)) (length s'.machines) k P) alike.program x)
 
-pub all_by : (s s' : SimValue) (k : ℕ) (bs : List Branch) → IsAlike s s' → EnoughForAll s'.program (length s'.machines) k bs
-    → EnoughForAll s.program (length s.machines) k bs
-all_by s s' k bs alike x =
-    subst (λ n. EnoughForAll s.program n k bs) alike.ranks (subst (λ p. EnoughForAll p (length s'.machines) k bs) alike.program x)
+pub all_by : (s s' : SimValue) (k : ℕ) (xs : List Stem) → IsAlike s s' → EnoughForAll s'.program (length s'.machines) k xs
+    → EnoughForAll s.program (length s.machines) k xs
+all_by s s' k xs alike x =
+    subst (λ n. EnoughForAll s.program n k xs) alike.ranks (subst (λ p. EnoughForAll p (length s'.machines) k xs) alike.program x)
 
--- Branches
+-- What is left
 
 -- more are enough for all too
-pub all_more : (program : ProgramValue) (n j k : ℕ) (bs : List Branch) → j ≤ k → EnoughForAll program n j bs → EnoughForAll program n k bs
+pub all_more : (program : ProgramValue) (n j k : ℕ) (xs : List Stem) → j ≤ k → EnoughForAll program n j xs → EnoughForAll program n k xs
 all_more program n j k [] low e = tt
-all_more program n j k (b ∷ bs) low e = (e.0, e.1, e.2, e.3, (let few = e.4 in omega (arith, low, few)))
+all_more program n j k (x ∷ xs) low e = (e.0, e.1, e.2, e.3, e.4, (let few = e.5 in omega (arith, low, few)))
 
--- with one more branch
-pub all_push : (program : ProgramValue) (n j k : ℕ) (bs : List Branch) (b : Branch) → EnoughForAll program n j bs
-    → AreEnough (start_of program n) n k b.sim.run → EnoughForAll program n (j + k) (bs ++ b ∷ [])
-all_push program n j k [] b e one = (k, zero, one, tt, omega arith)
-all_push program n j k (x ∷ bs) b e one = (e.0, e.1 + k, e.2, all_push program n e.1 k bs b e.3 one, (let few = e.4 in omega (arith, few)))
+-- with one more stem
+pub all_push : (program : ProgramValue) (n j k : ℕ) (xs : List Stem) (y : Stem) → EnoughForAll program n j xs → 0 < k
+    → ((P : List Passed) → IsRunOf program n y P → AreEnough (start_of program n) n k P) → EnoughForAll program n (j + k) (xs ++ y ∷ [])
+all_push program n j k [] y e some one = (k, zero, some, one, tt, omega arith)
+all_push program n j k (x ∷ xs) y e some one =
+    (e.0, e.1 + k, e.2, e.3, all_push program n e.1 k xs y e.4 some one, (let few = e.5 in omega (arith, few)))
 
 -- and without the last one
-pub all_pop : (program : ProgramValue) (n k : ℕ) (bs : List Branch) (b : Branch) → EnoughForAll program n k (bs ++ b ∷ [])
-    → (i : ℕ) × (l : ℕ) × EnoughForAll program n i bs × AreEnough (start_of program n) n l b.sim.run × (i + l ≤ k)
-all_pop program n k [] b e = (zero, e.0, tt, e.2, (let few = e.4 in omega (arith, few)))
-all_pop program n k (x ∷ bs) b e =
-    let rest = all_pop program n e.1 bs b e.3 in
-    let few = e.4 in
-    let less = rest.4 in
-    (e.0 + rest.0, rest.1, (e.0, rest.0, e.2, rest.2, omega arith), rest.3, omega (arith, few, less))
+pub all_pop : (program : ProgramValue) (n k : ℕ) (xs : List Stem) (y : Stem) → EnoughForAll program n k (xs ++ y ∷ [])
+    → (i : ℕ) × (l : ℕ) × EnoughForAll program n i xs × (0 < l) × ((P : List Passed) → IsRunOf program n y P → AreEnough (start_of program n) n l P)
+    × (i + l ≤ k)
+all_pop program n k [] y e = (zero, e.0, tt, e.2, e.3, (let few = e.5 in omega (arith, few)))
+all_pop program n k (x ∷ xs) y e =
+    let rest = all_pop program n e.1 xs y e.4 in
+    let few = e.5 in
+    let less = rest.5 in
+    (e.0 + rest.0, rest.1, (e.0, rest.0, e.2, e.3, rest.2, omega arith), rest.3, rest.4, omega (arith, few, less))
 
--- no run is enough for no branch alone
-pub all_none : (program : ProgramValue) (n : ℕ) (bs : List Branch) → EnoughForAll program n 0 bs → bs ≡ []
+-- no run is enough for nothing alone
+pub all_none : (program : ProgramValue) (n : ℕ) (xs : List Stem) → EnoughForAll program n 0 xs → xs ≡ []
 all_none program n [] e = refl
-all_none program n (b ∷ bs) e =
-    let some = one_enough (start_of program n) n e.0 b.sim.run e.2 in
-    let few = e.4 in
-    absurd (omega (arith, some, few))
+all_none program n (x ∷ xs) e = absurd (let some = e.2 in let few = e.5 in omega (arith, some, few))
 
 -- before the first step
-pub keeps_nothing : (s : SimValue) (pending : List Branch) → KeepsEnough s pending s pending
+pub keeps_nothing : (s : SimValue) (pending : List Stem) → KeepsEnough s pending s pending
 keeps_nothing s pending j k before here = (j, k, before, here, omega arith)

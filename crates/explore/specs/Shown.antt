@@ -2,7 +2,7 @@
 -- source don't overtake one another, so a rank that took or hit a message has all before it too, and
 -- they stay until they are taken: a probe that matches one of them finds it (MPI 1.1, sections 3.5
 -- and 3.8). A run of `IsRun` may miss there, as of a miss it asks nothing.
-use Rattle.std.specs.Prelude.{◌≡◌, ◌⊎◌, ℕ, suc, ◌+◌, ◌==◌, ◌&&◌, nat_lt, Bool, true, false, List, [], ◌∷◌, Option, IfSome, Some, length, slice_get}
+use Rattle.std.specs.Prelude.{◌≡◌, ◌⊎◌, ℕ, suc, ◌==◌, ◌&&◌, nat_lt, Bool, true, false, List, [], ◌∷◌, Option, IfSome, Some, length, slice_get}
 use Rattle.std.specs.List.{list_any}
 use Rattle.matching.specs.declared.selector.Selector.{Selector}
 use Rattle.rank_language.specs.Program.{ProgramValue}

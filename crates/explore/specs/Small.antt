@@ -5,13 +5,13 @@ use Rattle.rank_machine.specs.States.{State}
 use Rattle.rank_machine.specs.Acts.{Act}
 use Rattle.crash_free.specs.Runs.{Passed}
 use Rattle.crash_free.specs.Sim.{SimValue, choice_of, start_of}
-use Rattle.explore.specs.declared.branch.Branch.{Branch}
 use Rattle.explore.specs.declared.moves.Move.{Move}
 use Rattle.final_runs.specs.Maximal.{MayFollow}
 use Rattle.explore.specs.Exploring.{and_then, IsFixed}
 use Rattle.explore.specs.Counting.{GoesBeyond}
 use Rattle.explore.specs.Moves.{move_of}
 use Rattle.explore.specs.Outcomes.{IsAmong}
+use Rattle.explore.specs.Stems.{Stem, IsRunOf}
 
 -- So many runs are enough to search all that may follow this one: an act is fixed, and as many are
 -- enough after it; or each act that may be made is among some moves, after each as many are enough
@@ -33,21 +33,22 @@ pub record IsSmall (program : ProgramValue) (n runs steps : ℕ) : Type 0 where
 abbrev pub EnoughFor : SimValue → ℕ → List Passed → Type 0
 EnoughFor s k P = AreEnough (start_of s.program (length s.machines)) (length s.machines) k P
 
--- so many runs are enough for these branches of the program together
-abbrev pub EnoughForAll : ProgramValue → ℕ → ℕ → List Branch → Type 0
+-- so many runs are enough for these stems of the program together, and one at least for each
+abbrev pub EnoughForAll : ProgramValue → ℕ → ℕ → List Stem → Type 0
 EnoughForAll program n k [] = Unit {0}
-EnoughForAll program n k (b ∷ bs) =
-    (here : ℕ) × (rest : ℕ) × AreEnough (start_of program n) n here b.sim.run × EnoughForAll program n rest bs × (here + rest ≤ k)
+EnoughForAll program n k (x ∷ xs) =
+    (here : ℕ) × (rest : ℕ) × (0 < here) × ((P : List Passed) → IsRunOf program n x P → AreEnough (start_of program n) n here P)
+    × EnoughForAll program n rest xs × (here + rest ≤ k)
 
--- if so many runs are enough for a branch and those before, fewer are for those after
-abbrev pub Spares : SimValue → List Branch → List Branch → Type 0
+-- if so many runs are enough for a run and for what was left before, fewer are for what is left after
+abbrev pub Spares : SimValue → List Stem → List Stem → Type 0
 Spares s old new =
     (j k : ℕ) → EnoughForAll s.program (length s.machines) j old → EnoughFor s k s.run
     → (i : ℕ) × EnoughForAll s.program (length s.machines) i new × (i < j + k)
 
--- if so many are enough for a branch that goes on from the first simulation and those before, as
--- many are once it is at the second
-abbrev pub KeepsEnough : SimValue → List Branch → SimValue → List Branch → Type 0
+-- if so many are enough for a run that goes on from the first simulation and for what was left
+-- before, as many are once it is at the second
+abbrev pub KeepsEnough : SimValue → List Stem → SimValue → List Stem → Type 0
 KeepsEnough s old s' new =
     (j k : ℕ) → EnoughForAll s.program (length s.machines) j old → EnoughFor s k s.run
     → (i : ℕ) × (l : ℕ) × EnoughForAll s.program (length s.machines) i new × EnoughFor s l s'.run × (i + l ≤ j + k)

@@ -8,6 +8,8 @@ mod hashing;
 
 use crate::explored::{Outcome, are_same};
 use crate::found::hashing::hash_of;
+use crate::moves::Noted;
+use final_runs::RankEnd;
 use metered::Heap;
 use std::alloc::AllocError;
 use std::collections::BTreeMap;
@@ -44,30 +46,32 @@ impl Found {
         }
     }
 
-    /// Notes an outcome, unless it is there already. An `Err` means out of memory.
-    pub fn note(&mut self, outcome: Outcome) -> Result<(), AllocError>
-        ensures { OnOk result (Notes self.old outcome self.new) }
+    /// Notes an outcome with the choices that lead to it, unless it is there
+    /// already. An `Err` means out of memory.
+    pub fn note(&mut self, ranks: Vec<RankEnd, Heap>, choices: &[Noted]) -> Result<(), AllocError>
+        ensures { OnOk result (Notes self.old ranks.items self.new) }
     {
-        let hash = hash_of(&outcome.ranks);
-        if self.has(hash, &outcome) {
+        let hash = hash_of(&ranks);
+        if self.has(hash, &ranks) {
             return Ok(());
         }
+        let choices = choices.to_vec(*ranks.allocator())?;
         self.by_hash.insert(hash, self.outcomes.len())?;
-        self.outcomes.push(outcome)?;
+        self.outcomes.push(Outcome { ranks, choices })?;
         Ok(())
     }
 
     // Whether the outcome with this hash is among them.
-    fn has(&self, hash: u64, outcome: &Outcome) -> bool
-        requires { hash ≡ hash_of outcome.now }
-        ensures yes { result ≡ true → IsAmong self.now outcome.now }
-        ensures no { result ≡ false → IsAmong self.now outcome.now → ⊥ }
+    fn has(&self, hash: u64, ranks: &[RankEnd]) -> bool
+        requires { hash ≡ hash_of ranks.now }
+        ensures yes { result ≡ true → IsAmong self.now ranks.now }
+        ensures no { result ≡ false → IsAmong self.now ranks.now → ⊥ }
     {
         let Some(place) = self.by_hash.get(&hash) else {
             return false;
         };
         // two outcomes may have one hash, so a no of the one there isn't enough
-        has_at(&self.outcomes, *place, outcome) || has(&self.outcomes, outcome)
+        has_at(&self.outcomes, *place, ranks) || has(&self.outcomes, ranks)
     }
 
     /// The outcomes.
@@ -83,23 +87,23 @@ impl Found {
 }
 
 // Whether it stands at the place.
-fn has_at(outcomes: &[Outcome], place: usize, outcome: &Outcome) -> bool
-    ensures { result ≡ true → IsAmong outcomes.now outcome.now }
+fn has_at(outcomes: &[Outcome], place: usize, ranks: &[RankEnd]) -> bool
+    ensures { result ≡ true → IsAmong outcomes.now ranks.now }
 {
     if place >= outcomes.len() {
         return false;
     }
     let other = &outcomes[place];
-    are_same(&other.ranks, &outcome.ranks)
+    are_same(&other.ranks, ranks)
 }
 
 // Whether the outcome is among these.
-fn has(outcomes: &[Outcome], outcome: &Outcome) -> bool
-    ensures yes { result ≡ true → IsAmong outcomes.now outcome.now }
-    ensures no { result ≡ false → IsAmong outcomes.now outcome.now → ⊥ }
+fn has(outcomes: &[Outcome], ranks: &[RankEnd]) -> bool
+    ensures yes { result ≡ true → IsAmong outcomes.now ranks.now }
+    ensures no { result ≡ false → IsAmong outcomes.now ranks.now → ⊥ }
 {
     for other in outcomes {
-        if are_same(&other.ranks, &outcome.ranks) {
+        if are_same(&other.ranks, ranks) {
             return true;
         }
     }

@@ -11,6 +11,7 @@ ghost use Rattle.explore.specs.Exploring.{and_then};
 ghost use Rattle.explore.specs.Searching.{IsAlike};
 ghost use Rattle.explore.specs.Shown.{AreMarked, IsMark, IsPast, MayMissShown, MissesShown, shows_to, was_shown};
 
+use crate::again::{act_at, make};
 use crate::explored::Outcome;
 use crate::limits::Limits;
 use crate::replay::run_of;
@@ -98,13 +99,6 @@ fn misses_shown(
     Ok(Some(false))
 }
 
-fn act_at(acts: &[Passed], at: usize) -> &Passed
-    requires { at < length acts.now }
-    ensures { slice_get acts.now at ≡ Some result.now }
-{
-    &acts[at]
-}
-
 // Makes the act, and answers whether it misses a message that its rank was shown.
 #[tactic(auto, using(crate::proofs::Shown::may_inside, crate::proofs::Shown::miss_before, crate::proofs::Shown::miss_behind))]
 fn follow(sim: &mut Sim<'_>, passed: &Passed, steps: u32) -> Result<Option<bool>, AllocError>
@@ -125,23 +119,6 @@ fn follow(sim: &mut Sim<'_>, passed: &Passed, steps: u32) -> Result<Option<bool>
     let past = misses_past(sim, rank, &passed.act);
     make(sim, rank, &passed.act)?;
     Ok(Some(past))
-}
-
-// Makes this act of the rank.
-#[tactic(auto, using(crate::proofs::Shown::made_it, crate::proofs::Shown::made_alike))]
-fn make(sim: &mut Sim<'_>, rank: u8, act: &Act) -> Result<(), AllocError>
-    requires stands { Simulates sim.old }
-    requires at { StandsAtAct sim.old.machines rank }
-    requires may { MayFollow (start_of sim.old.program (length sim.old.machines)) (length sim.old.machines) sim.old.run rank (act_of act.now) }
-    ensures alike { OnOk result (IsAlike sim.old sim.new) }
-    ensures stands { Simulates sim.new }
-    ensures run { OnOk result (sim.new.run ≡ and_then sim.old.run rank (act_of act.now)) }
-{
-    // the act may follow, so there was no memory
-    if sim.act(rank, act.choice()).is_err() {
-        return Err(AllocError);
-    }
-    Ok(())
 }
 
 // Whether the act, which the rank may make now, misses a message that the rank was shown.

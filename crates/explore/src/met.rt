@@ -69,15 +69,6 @@ impl Met {
         Ok(false)
     }
 
-    /// Whether a run stood where this one does, without keeping this. A no may
-    /// be wrong. An `Err` means out of memory.
-    pub fn knows(&self, sim: &Sim<'_>) -> Result<bool, AllocError>
-        ensures { result ≡ Ok true → WasMet self.now sim.now }
-    {
-        let standing = sim.standing()?;
-        Ok(self.has(standing.hash(), &standing))
-    }
-
     // A yes is exact; a no may be wrong, if two have one hash.
     fn has(&self, hash: u64, standing: &Standing) -> bool
         ensures { result ≡ true → IsAmong self.now standing.now }

@@ -1,4 +1,4 @@
-use Rattle.std.proofs.Common.{Some, sym, ap, subst, ◌∙◌}
+use Rattle.std.proofs.Common.{Some, ap, subst, ◌∙◌}
 use Rattle.crash_free.specs.Sim.{start_of}
 use Rattle.explore.specs.Shown.{MissesShown}
 use Rattle.explore.proofs.Shown.{made_more, may_on, miss_by, miss_of, misses_none, misses_whole}

@@ -4,8 +4,8 @@ use Rattle.explore.specs.Searching.{IsAlike}
 use Rattle.explore.proofs.replay.replay.Given as goal
 
 -- so far the ranks are those of the beginning
-abbrev pub invariant-loop-branch : goal.invariant-loop-branch
-invariant-loop-branch l = IsAlike l.initial.branch.sim l.branch.sim × Simulates l.branch.sim
+abbrev pub invariant-loop-found : goal.invariant-loop-found
+invariant-loop-found l = IsAlike l.initial.path.sim l.path.sim × Simulates l.path.sim
 
-abbrev pub decreases-loop-branch : goal.decreases-loop-branch
-decreases-loop-branch l = sum l.branch.left
+abbrev pub decreases-loop-found : goal.decreases-loop-found
+decreases-loop-found l = sum l.path.left

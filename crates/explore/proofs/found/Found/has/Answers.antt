@@ -6,5 +6,5 @@ use Rattle.explore.proofs.found.Found.has.Goals as goal
 pub returns-in_default-clause-no : goal.returns-in_default-clause-no
 returns-in_default-clause-no c = λ e a.
     (let none = rw c.in_default.is at c.get.ensures.value in
-    none_there c.self.inside.outcomes.items c.self.inside.by_hash c.args.hash c.args.outcome.now c.self.invariant c.requires (sym none)
-    (subst (λ xs. IsAmong xs c.args.outcome.now) (sym c.self.view_is) a))
+    none_there c.self.inside.outcomes.items c.self.inside.by_hash c.args.hash c.args.ranks.now c.self.invariant c.requires (sym none)
+    (subst (λ xs. IsAmong xs c.args.ranks.now) (sym c.self.view_is) a))

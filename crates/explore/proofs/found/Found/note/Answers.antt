@@ -1,5 +1,5 @@
-use Rattle.std.proofs.Common.{◌≡◌, [], ◌∷◌, ◌++◌, sym, subst}
-use Rattle.explore.specs.Found.{hash_of, HaveEntries}
+use Rattle.std.proofs.Common.{[], ◌∷◌, ◌++◌, sym, subst}
+use Rattle.explore.specs.Found.{HaveEntries}
 use Rattle.explore.specs.Outcomes.{IsAmong}
 use Rattle.explore.specs.Searching.{Notes}
 use Rattle.explore.proofs.Among.{noted_new}
@@ -22,13 +22,13 @@ invariant_of-self-2 c =
     entries_kept c.self.inside.outcomes.items c.self.inside.by_hash c.insert.new.self c.hash_of-hash.result c.len.result c.self.invariant
     c.in_ok-insert.ensures.updates.0 in
     subst (λ xs. HaveEntries xs c.insert.new.self) (sym c.in_ok-push.ensures.items)
-    (entries_more c.self.inside.outcomes.items c.args.outcome c.insert.new.self c.hash_of-hash.result c.len.result kept
-    (subst (λ o. c.hash_of-hash.result ≡ hash_of o) c.outcome.view_is (rw c.deref.ensures.value at c.hash_of-hash.ensures))
+    (entries_more c.self.inside.outcomes.items c.args.ranks.items c.insert.new.self c.hash_of-hash.result c.len.result kept
+    (rw c.deref.ensures.value at c.hash_of-hash.ensures)
     c.in_ok-insert.ensures.updates.1)
 
 pub returns : goal.returns
 returns c =
-    subst (λ xs. Notes c.args.self.now c.args.outcome xs) (sym c.in_ok-push.ensures.items)
-    (subst (λ xs. Notes xs c.args.outcome (c.self.inside.outcomes.items ++ c.args.outcome ∷ [])) c.self.view_is
-    (noted_new c.self.inside.outcomes.items c.args.outcome
-    (λ a. c.has.ensures.no c.if-has.false (subst (λ xs. IsAmong xs c.args.outcome) c.self.view_is a))))
+    subst (λ xs. Notes c.args.self.now c.args.ranks.items xs) (sym c.in_ok-push.ensures.items)
+    (subst (λ xs. Notes xs c.args.ranks.items (c.self.inside.outcomes.items ++ c.args.ranks.items ∷ [])) c.self.view_is
+    (noted_new c.self.inside.outcomes.items c.args.ranks.items
+    (λ a. c.has.ensures.no c.if-has.false (rw c.deref-2.ensures.value (subst (λ xs. IsAmong xs c.args.ranks.items) c.self.view_is a)))))

@@ -1,7 +1,7 @@
 use Rattle.std.proofs.Common.{◌≡◌, ◌-◌, ◌∙◌, slice_set, slice_index_or, refl, sym, ap}
 use Rattle.explore.proofs.Counting.{counts_chosen, on_value}
-use Rattle.explore.proofs.branch.Branch.choose.Goals.{then-others+in_ok-push, else-others}
-use Rattle.explore.proofs.branch.Branch.choose.Goals as goal
+use Rattle.explore.proofs.path.Path.choose.Goals.{then-others+in_ok-push, else-others}
+use Rattle.explore.proofs.path.Path.choose.Goals as goal
 
 pub returns-clause-counts : goal.returns-clause-counts
 returns-clause-counts c =

@@ -1,6 +1,6 @@
 use Rattle.metered.specs.Limits.{most_ranks}
 use Rattle.explore.proofs.Counting.{counts_begin}
-use Rattle.explore.proofs.branch.Branch.new.Goals as goal
+use Rattle.explore.proofs.path.Path.new.Goals as goal
 
 pub returns-clause-counts : goal.returns-clause-counts
 returns-clause-counts c =

@@ -1,0 +1,134 @@
+-- A search that takes up its last branch, and looks at its run.
+use Rattle.std.proofs.Common.{◌≡◌, ℕ, ◌≤◌, Bool, true, false, List, [], ◌∷◌, ◌++◌, Option, None, length, refl, sym, ap, subst, ◌∙◌}
+use Rattle.rank_language.specs.Program.{ProgramValue}
+use Rattle.crash_free.specs.Runs.{Passed}
+use Rattle.crash_free.specs.Standing.{Rows}
+use Rattle.crash_free.specs.Sim.{SimValue}
+use Rattle.explore.specs.declared.branch.Branch.{Branch}
+use Rattle.explore.specs.declared.moves.Move.{Move}
+use Rattle.final_runs.specs.Maximal.{RankOutcome}
+use Rattle.explore.specs.Counting.{GoesBeyond}
+use Rattle.explore.specs.Searching.{IsAlike, IsOn, Looks, NeedsFewer, Searches}
+use Rattle.explore.specs.Small.{EnoughForAll, Spares}
+use Rattle.explore.specs.Stems.{first_acts, GoOff, IsAfter, IsRunOf, Stem, stem_of, stems_of, whole}
+use Rattle.explore.proofs.Beyond.{beyond_alike}
+use Rattle.explore.proofs.Looking.{searches_all, searches_cut, searches_on}
+use Rattle.explore.proofs.Playing.{off_by, off_of}
+use Rattle.explore.proofs.Sparing.{enough_on, enough_without}
+use Rattle.explore.proofs.Stems.{off_none, off_push, off_taken, stems_push, stems_taken}
+
+-- At the beginning
+
+-- the whole of a program is its only stem
+pub whole_only : (s : SimValue) (b : Branch) → s.run ≡ [] → b.shared ≡ 0 → b.chosen ≡ None → stems_of s.run (b ∷ []) ≡ whole ∷ []
+whole_only s b none shared chosen =
+    ap (λ (C : List Passed). stems_of C (b ∷ [])) none ∙ ap (λ (k : ℕ). by k b.chosen ∷ []) shared ∙ ap (λ (o : Option Move). by 0 o ∷ []) chosen
+  where
+    by : ℕ → Option Move → Stem
+    by k o = record { before = first_acts k []; chosen = o }
+
+pub on_begins : (program : ProgramValue) (n : ℕ) (s : SimValue) (b : Branch) → s.program ≡ program → length s.machines ≡ n → s.run ≡ [] → b.shared ≡ 0
+    → b.chosen ≡ None → IsOn program n s (b ∷ []) [] [] false
+on_begins program n s b same ranks none shared chosen =
+    record {
+      program_same = same;
+      ranks = ranks;
+      off =
+          off_push program n s.run [] b (shared ∙ sym (ap length none))
+          (s.run, subst (λ o. IsAfter program n s.run o s.run) (sym chosen) refl) (off_none program n s.run);
+      search = subst (λ (z : List Stem). Searches program n [] z [] false) (sym (whole_only s b none shared chosen)) (searches_all program n);
+    }
+
+-- The same program and number of ranks
+
+pub on_own : (program : ProgramValue) (n : ℕ) (s : SimValue) (pending : List Branch) (outcomes : List (List RankOutcome)) (met : List Rows) (cut : Bool)
+    → IsOn program n s pending outcomes met cut → IsOn s.program (length s.machines) s pending outcomes met cut
+on_own program n s pending outcomes met cut on =
+    subst (λ k. IsOn s.program k s pending outcomes met cut) (sym on.ranks)
+    (subst (λ p. IsOn p n s pending outcomes met cut) (sym on.program_same) on)
+
+pub on_back : (program : ProgramValue) (n : ℕ) (s s' : SimValue) (pending : List Branch) (outcomes : List (List RankOutcome)) (met : List Rows)
+    (cut : Bool) → s.program ≡ program → length s.machines ≡ n → IsOn s.program (length s.machines) s' pending outcomes met cut
+    → IsOn program n s' pending outcomes met cut
+on_back program n s s' pending outcomes met cut same ranks on =
+    subst (λ k. IsOn program k s' pending outcomes met cut) ranks (subst (λ p. IsOn p (length s.machines) s' pending outcomes met cut) same on)
+
+pub fewer_back : (program : ProgramValue) (n : ℕ) (s : SimValue) (C C' : List Passed) (old new : List Branch) → s.program ≡ program
+    → length s.machines ≡ n → NeedsFewer s.program (length s.machines) C old C' new → NeedsFewer program n C old C' new
+fewer_back program n s C C' old new same ranks fewer =
+    subst (λ k. NeedsFewer program k C old C' new) ranks (subst (λ p. NeedsFewer p (length s.machines) C old C' new) same fewer)
+
+pub beyond_own : (program : ProgramValue) (n : ℕ) (s : SimValue) (steps : ℕ) → s.program ≡ program → length s.machines ≡ n
+    → GoesBeyond program n steps → GoesBeyond s.program (length s.machines) steps
+beyond_own program n s steps same ranks beyond =
+    subst (λ k. GoesBeyond s.program k steps) (sym ranks) (subst (λ p. GoesBeyond p n steps) (sym same) beyond)
+
+-- what goes beyond after a step, if what did so before did, does by the program and the number that are the same
+pub beyond_on : (program : ProgramValue) (n : ℕ) (s : SimValue) (steps : ℕ) (cut cut' : Bool) → s.program ≡ program → length s.machines ≡ n
+    → (cut ≡ true → GoesBeyond program n steps)
+    → ((cut ≡ true → GoesBeyond s.program (length s.machines) steps) → cut' ≡ true → GoesBeyond s.program (length s.machines) steps)
+    → cut' ≡ true → GoesBeyond program n steps
+beyond_on program n s steps cut cut' same ranks before on e =
+    beyond_alike program n s steps same ranks (on (λ was. beyond_own program n s steps same ranks (before was)) e)
+
+-- One branch
+
+module _ (s t : SimValue) (pending : List Branch) (b : Branch) (outcomes : List (List RankOutcome)) (met : List Rows) (cut : Bool)
+    (on : IsOn s.program (length s.machines) s (pending ++ b ∷ []) outcomes met cut) (alike : IsAlike s t)
+    (shares : (k : ℕ) → k ≤ b.shared → first_acts k t.run ≡ first_acts k s.run) (long : b.shared ≤ length t.run) where
+  -- the branches before the last one go off its run, once that is made
+  off_then : GoOff s.program (length s.machines) t.run pending
+  off_then = off_taken s.program (length s.machines) s.run pending b on.off t.run shares long
+
+  pub off_now : GoOff t.program (length t.machines) t.run pending
+  off_now = off_of s t t.run pending alike off_then
+
+  -- with the stems that they had
+  stems_then : stems_of s.run (pending ++ b ∷ []) ≡ stems_of t.run pending ++ stem_of s.run b ∷ []
+  stems_then =
+      stems_push s.run pending b
+      ∙ ap (λ (z : List Stem). z ++ stem_of s.run b ∷ [])
+      (sym (stems_taken s.program (length s.machines) s.run pending b on.off t.run shares long))
+
+  search_then : Searches s.program (length s.machines) outcomes (stems_of t.run pending ++ stem_of s.run b ∷ []) met cut
+  search_then = subst (λ (z : List Stem). Searches s.program (length s.machines) outcomes z met cut) stems_then on.search
+
+  enough_then : (k : ℕ) → EnoughForAll s.program (length s.machines) k (stems_of s.run (pending ++ b ∷ []))
+      → EnoughForAll s.program (length s.machines) k (stems_of t.run pending ++ stem_of s.run b ∷ [])
+  enough_then k e = subst (λ (z : List Stem). EnoughForAll s.program (length s.machines) k z) stems_then e
+
+  -- where its run couldn't be made again, for want of steps
+  pub on_cut : IsOn s.program (length s.machines) t pending outcomes met true
+  on_cut =
+      record {
+        program_same = alike.program;
+        ranks = alike.ranks;
+        off = off_then;
+        search =
+            searches_cut s.program (length s.machines) outcomes (stems_of t.run pending ++ stem_of s.run b ∷ []) (stems_of t.run pending) met cut search_then;
+      }
+
+  pub fewer_cut : NeedsFewer s.program (length s.machines) s.run (pending ++ b ∷ []) t.run pending
+  fewer_cut k e = enough_without s.program (length s.machines) k (stems_of t.run pending) (stem_of s.run b) (enough_then k e)
+
+  -- where it was looked at
+  module _ (only : (P : List Passed) → IsRunOf s.program (length s.machines) (stem_of s.run b) P → P ≡ t.run) (t' : SimValue) (new : List Branch)
+      (alike' : IsAlike t t') (off : GoOff t.program (length t.machines) t'.run new) where
+    pub on_looked : (outcomes' : List (List RankOutcome)) (met' : List Rows) (cut' ended : Bool)
+        → Looks t ended (stems_of t.run pending) (stems_of t'.run new) outcomes outcomes' met met' → (cut' ≡ false → (cut ≡ false) × (ended ≡ true))
+        → IsOn s.program (length s.machines) t' new outcomes' met' cut'
+    on_looked outcomes' met' cut' ended looks uncut =
+        record {
+          program_same = alike'.program ∙ alike.program;
+          ranks = alike'.ranks ∙ alike.ranks;
+          off = off_by s t t'.run new alike off;
+          search =
+              searches_on s.program (length s.machines) outcomes outcomes' (stems_of t.run pending) (stems_of t'.run new) met met' cut cut' ended
+              (stem_of s.run b) t alike.program alike.ranks only search_then looks uncut;
+        }
+
+    pub fewer_looked : IsRunOf s.program (length s.machines) (stem_of s.run b) t.run → Spares t (stems_of t.run pending) (stems_of t'.run new)
+        → NeedsFewer s.program (length s.machines) s.run (pending ++ b ∷ []) t'.run new
+    fewer_looked made spares k e =
+        enough_on s.program (length s.machines) k (stems_of t.run pending) (stems_of t'.run new) (stem_of s.run b) t alike.program alike.ranks made spares
+        (enough_then k e)

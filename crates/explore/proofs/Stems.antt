@@ -1,0 +1,228 @@
+-- Branches that go off a run: what they share stays where the run goes on behind it.
+use Rattle.std.proofs.Common.{◌≡◌, ℕ, zero, suc, ◌≤◌, ◌-◌, ◌+◌, List, [], ◌∷◌, ◌++◌, Some, length, slice_get, ◌⊎◌, inl, inr, refl, sym, ap, subst, ◌∙◌, arith}
+use Rattle.std.specs.Prelude.{drop, reverse, take}
+use Rattle.std.proofs.lemmas.List.{append_assoc, length-append, length-reverse, length-take-le, reverse-append, reverse-reverse, take-append-drop}
+use Rattle.std.proofs.lemmas.Option.{slice_get_within}
+use Rattle.rank_language.specs.Program.{ProgramValue}
+use Rattle.crash_free.specs.Runs.{Passed}
+use Rattle.crash_free.proofs.Lists.{slice_get-append, push_cases}
+use Rattle.explore.specs.declared.branch.Branch.{Branch}
+use Rattle.explore.specs.Outcomes.{IsAmong}
+use Rattle.explore.specs.Stems.{first_acts, GoesBehind, Stem, stem_of, stems_of, IsAfter, IsRunOf, IsLeftTo, GoOff}
+use Rattle.explore.proofs.Among.{among_first, among_last, among_push}
+
+-- Beginnings of a run
+
+-- one run behind another
+pub behind_further : (A B C : List Passed) → GoesBehind A B → GoesBehind B C → GoesBehind A C
+behind_further A B C a b = (b.0 ++ a.0, b.1 ∙ ap (λ X. b.0 ++ X) a.1 ∙ sym (append_assoc b.0 a.0 A))
+
+-- is as long or longer
+pub behind_longer : (C C' : List Passed) → GoesBehind C C' → length C ≤ length C'
+behind_longer C C' b =
+    let size = ap length b.1 in
+    let sum = length-append b.0 C in
+    omega (arith, size, sum)
+
+-- the first acts of a run are those of one behind it
+first_later : (k : ℕ) (later C : List Passed) → k ≤ length C → first_acts k (later ++ C) ≡ first_acts k C
+first_later k [] C low = refl
+first_later k (p ∷ later) C low =
+    let sum : length (later ++ C) ≡ length later + length C = length-append later C in
+    let size : length (p ∷ (later ++ C)) ≡ suc (length (later ++ C)) = refl in
+    let one : length (p ∷ (later ++ C)) - k ≡ suc (length (later ++ C) - k) = omega (arith, sum, size, low) in
+    ap (λ j. drop j (p ∷ (later ++ C))) one ∙ first_later k later C low
+
+pub first_behind : (k : ℕ) (C C' : List Passed) → GoesBehind C C' → k ≤ length C → first_acts k C' ≡ first_acts k C
+first_behind k C C' b low = ap (first_acts k) b.1 ∙ first_later k b.0 C low
+
+-- all of them are the run
+pub first_all : (C : List Passed) → first_acts (length C) C ≡ C
+first_all C =
+    let none : length C - length C ≡ 0 = omega arith in
+    ap (λ k. drop k C) none
+
+-- so many acts in their order, turned around, are the first
+pub first_taken : (k : ℕ) (C acts : List Passed) → acts ≡ reverse C → k ≤ length acts → reverse (take k acts) ≡ first_acts k C
+first_taken k C acts same low =
+    sym (first_all (reverse (take k acts))) ∙ ap (λ j. first_acts j (reverse (take k acts))) size
+    ∙ sym (first_behind k (reverse (take k acts)) C parts (omega (arith, size)))
+  where
+    size : length (reverse (take k acts)) ≡ k
+    size =
+        let one = length-reverse (take k acts) in
+        let two = length-take-le k acts low in
+        one ∙ two
+
+    parts : GoesBehind (reverse (take k acts)) C
+    parts = (
+      reverse (drop k acts),
+      sym (reverse-reverse C) ∙ ap reverse (sym same) ∙ ap reverse (sym (take-append-drop k acts)) ∙ reverse-append (take k acts) (drop k acts),
+    )
+
+-- a run goes on behind what it begins with
+pub first_before : (k : ℕ) (C : List Passed) → GoesBehind (first_acts k C) C
+first_before k C = (take (length C - k) C, sym (take-append-drop (length C - k) C))
+
+-- which has so many acts
+pub first_long : (k : ℕ) (C : List Passed) → k ≤ length C → length (first_acts k C) ≡ k
+first_long k C low = go C low
+  where
+    size : (j : ℕ) (xs : List Passed) → j ≤ length xs → length (drop j xs) + j ≡ length xs
+    size zero xs l = omega arith
+    size (suc j) [] l = absurd (omega (arith, l))
+    size (suc j) (x ∷ xs) l = (let rest = size j xs (omega (arith, l)) in omega (arith, rest))
+
+    go : (xs : List Passed) → k ≤ length xs → length (first_acts k xs) ≡ k
+    go xs l = (let rest = size (length xs - k) xs (omega arith) in omega (arith, rest, l))
+
+-- what a beginning begins with the run does
+pub first_of_first : (j k : ℕ) (C : List Passed) → j ≤ k → k ≤ length C → first_acts j (first_acts k C) ≡ first_acts j C
+first_of_first j k C low within =
+    let size = first_long k C within in
+    sym (first_behind j (first_acts k C) C (first_before k C) (omega (arith, size, low)))
+
+-- Stems
+
+-- branches that share the same of two runs have the same stems
+pub stems_same : (C C' : List Passed) (pending : List Branch) → ((b : Branch) → IsAmong pending b → first_acts b.shared C' ≡ first_acts b.shared C)
+    → stems_of C' pending ≡ stems_of C pending
+stems_same C C' [] each = refl
+stems_same C C' (b ∷ bs) each =
+    let here : stem_of C' b ≡ stem_of C b = ap (λ (z : List Passed). stem_with z b) (each b (zero, refl)) in
+    let rest : stems_of C' bs ≡ stems_of C bs = stems_same C C' bs (λ x a. each x (suc a.0, a.1)) in
+    ap (λ (z : Stem). z ∷ stems_of C' bs) here ∙ ap (λ (z : List Stem). stem_of C b ∷ z) rest
+  where
+    stem_with : List Passed → Branch → Stem
+    stem_with z x = record { before = z; chosen = x.chosen }
+
+-- so it is where the run goes on
+pub stems_behind : (program : ProgramValue) (n : ℕ) (C C' : List Passed) (pending : List Branch) → GoOff program n C pending → GoesBehind C C'
+    → stems_of C' pending ≡ stems_of C pending
+stems_behind program n C C' pending off behind = stems_same C C' pending (λ b a. first_behind b.shared C C' behind (off.within b a))
+
+-- one stem more
+pub stems_push : (C : List Passed) (pending : List Branch) (b : Branch) → stems_of C (pending ++ b ∷ []) ≡ stems_of C pending ++ stem_of C b ∷ []
+stems_push C [] b = refl
+stems_push C (x ∷ xs) b = ap (λ (z : List Stem). stem_of C x ∷ z) (stems_push C xs b)
+
+-- where no stem is left there is no branch
+pub no_stems : (C : List Passed) (pending : List Branch) → stems_of C pending ≡ [] → pending ≡ []
+no_stems C [] e = refl
+no_stems C (x ∷ xs) e = absurd cc
+
+-- that of a branch where the run ends now
+pub stem_here : (C : List Passed) (b : Branch) → b.shared ≡ length C → stem_of C b ≡ record { before = C; chosen = b.chosen }
+stem_here C b all = ap (λ (z : List Passed). stem_with z) (ap (λ k. first_acts k C) all ∙ first_all C)
+  where
+    stem_with : List Passed → Stem
+    stem_with z = record { before = z; chosen = b.chosen }
+
+-- a stem left to some is left to more
+pub left_more : (program : ProgramValue) (n : ℕ) (old new : List Stem) → ((x : Stem) → IsAmong old x → IsAmong new x) → (P : List Passed)
+    → IsLeftTo program n old P → IsLeftTo program n new P
+left_more program n old new kept P l = (l.0, kept l.0 l.1, l.2)
+
+-- what is left to some and one more is left to them, or to that one
+pub left_push : (program : ProgramValue) (n : ℕ) (pending : List Stem) (x : Stem) (P : List Passed) → IsLeftTo program n (pending ++ x ∷ []) P
+    → IsLeftTo program n pending P ⊎ IsRunOf program n x P
+left_push program n pending x P l = go (among_push pending x l.0 l.1)
+  where
+    go : IsAmong pending l.0 ⊎ (l.0 ≡ x) → IsLeftTo program n pending P ⊎ IsRunOf program n x P
+    go (inl before) = inl (l.0, before, l.2)
+    go (inr e) = inr (subst (λ (y : Stem). IsRunOf program n y P) e l.2)
+
+-- Branches
+
+-- branches of one run go off another that begins with what they share
+off_same : (program : ProgramValue) (n : ℕ) (C C' : List Passed) (pending : List Branch)
+    → ((b : Branch) → IsAmong pending b → first_acts b.shared C' ≡ first_acts b.shared C) → ((b : Branch) → IsAmong pending b → b.shared ≤ length C')
+    → GoOff program n C pending → GoOff program n C' pending
+off_same program n C C' pending each within off =
+    record {
+      within = within;
+      rising = off.rising;
+      some_run = λ b a. subst (λ (z : List Passed). (P : List Passed) × IsAfter program n z b.chosen P) (sym (each b a)) (off.some_run b a);
+    }
+
+-- where the run goes on they still go off it
+pub off_behind : (program : ProgramValue) (n : ℕ) (C C' : List Passed) (pending : List Branch) → GoesBehind C C' → GoOff program n C pending
+    → GoOff program n C' pending
+off_behind program n C C' pending behind off =
+    off_same program n C C' pending (λ b a. first_behind b.shared C C' behind (off.within b a))
+    (λ b a. (let long = behind_longer C C' behind in omega (arith, long, off.within b a))) off
+
+-- no branch goes off any run
+pub off_none : (program : ProgramValue) (n : ℕ) (C : List Passed) → GoOff program n C []
+off_none program n C =
+    record {
+      within = λ b a. absurd (let e = a.1 in cc);
+      rising = λ i j b c low e f. absurd (cc);
+      some_run = λ b a. absurd (let e = a.1 in cc);
+    }
+
+-- one more, where the run ends now
+pub off_push : (program : ProgramValue) (n : ℕ) (C : List Passed) (pending : List Branch) (b : Branch) → b.shared ≡ length C
+    → (P : List Passed) × IsAfter program n C b.chosen P → GoOff program n C pending → GoOff program n C (pending ++ b ∷ [])
+off_push program n C pending b all run off =
+    record {
+      within = λ x a. within x (among_push pending b x a);
+      rising = λ i j x y low e f. rising i j x y low (push_cases pending b i x e) (push_cases pending b j y f);
+      some_run = λ x a. opens x (among_push pending b x a);
+    }
+  where
+    within : (x : Branch) → IsAmong pending x ⊎ (x ≡ b) → x.shared ≤ length C
+    within x (inl before) = off.within x before
+    within x (inr e) = (let same : x.shared ≡ b.shared = ap (λ (z : Branch). z.shared) e in omega (arith, same, all))
+
+    rising : (i j : ℕ) (x y : Branch) → i ≤ j → (slice_get pending i ≡ Some x) ⊎ ((i ≡ length pending) × (x ≡ b))
+        → (slice_get pending j ≡ Some y) ⊎ ((j ≡ length pending) × (y ≡ b)) → x.shared ≤ y.shared
+    rising i j x y low (inl e) (inl f) = off.rising i j x y low e f
+    rising i j x y low (inl e) (inr f) =
+        (let same : y.shared ≡ b.shared = ap (λ (z : Branch). z.shared) f.1 in omega (arith, off.within x (i, e), same, all))
+    rising i j x y low (inr e) (inl f) = absurd (let less = slice_get_within pending j y f in omega (arith, less, low, e.0))
+    rising i j x y low (inr e) (inr f) =
+        let one : x.shared ≡ b.shared = ap (λ (z : Branch). z.shared) e.1 in
+        let two : y.shared ≡ b.shared = ap (λ (z : Branch). z.shared) f.1 in
+        omega (arith, one, two)
+
+    opens : (x : Branch) → IsAmong pending x ⊎ (x ≡ b) → (P : List Passed) × IsRunOf program n (stem_of C x) P
+    opens x (inl before) = off.some_run x before
+    opens x (inr e) =
+        subst (λ (y : Branch). (P : List Passed) × IsRunOf program n (stem_of C y) P) (sym e)
+        (subst (λ (z : Stem). (P : List Passed) × IsRunOf program n z P) (sym (stem_here C b all)) run)
+
+-- The last branch, and those before it, which share no more
+module _ (program : ProgramValue) (n : ℕ) (C : List Passed) (pending : List Branch) (b : Branch) (off : GoOff program n C (pending ++ b ∷ [])) where
+  pub last_within : b.shared ≤ length C
+  last_within = off.within b (among_last pending b)
+
+  pub last_run : (P : List Passed) × IsRunOf program n (stem_of C b) P
+  last_run = off.some_run b (among_last pending b)
+
+  share_less : (x : Branch) → IsAmong pending x → x.shared ≤ b.shared
+  share_less x a =
+      let last = at_end pending in
+      let low = slice_get_within pending a.0 x a.1 in
+      off.rising a.0 (length pending) x b (omega (arith, low)) (slice_get-append pending (b ∷ []) a.0 x a.1) last
+    where
+      at_end : (xs : List Branch) → slice_get (xs ++ b ∷ []) (length xs) ≡ Some b
+      at_end [] = refl
+      at_end (y ∷ ys) = at_end ys
+
+  front : GoOff program n C pending
+  front =
+      record {
+        within = λ x a. off.within x (among_first pending (b ∷ []) x a);
+        rising = λ i j x y low e f. off.rising i j x y low (slice_get-append pending (b ∷ []) i x e) (slice_get-append pending (b ∷ []) j y f);
+        some_run = λ x a. off.some_run x (among_first pending (b ∷ []) x a);
+      }
+
+  -- once the last one is taken up the others go off its run, with the stems that they had
+  module _ (C' : List Passed) (shares : (k : ℕ) → k ≤ b.shared → first_acts k C' ≡ first_acts k C) (long : b.shared ≤ length C') where
+    pub off_taken : GoOff program n C' pending
+    off_taken =
+        off_same program n C C' pending (λ x a. shares x.shared (share_less x a)) (λ x a. (let less = share_less x a in omega (arith, less, long))) front
+
+    pub stems_taken : stems_of C' pending ≡ stems_of C pending
+    stems_taken = stems_same C C' pending (λ x a. shares x.shared (share_less x a))

@@ -1,0 +1,171 @@
+-- A branch that is taken up: its run is made again, and it is the only one.
+use Rattle.std.proofs.Common.{◌≡◌, ℕ, ◌≤◌, List, [], ◌∷◌, Option, Some, None, length, sym, ap, subst, ◌∙◌, arith}
+use Rattle.std.specs.Prelude.{Err, IfOk, Ok, OnOk, Result, reverse, slice_index, take}
+use Rattle.std.proofs.lemmas.List.{length-reverse, reverse-reverse}
+use Rattle.rank_language.specs.Program.{ProgramValue}
+use Rattle.rank_machine.specs.Acts.{Act}
+use Rattle.crash_free.specs.Runs.{Passed, IsRun}
+use Rattle.crash_free.specs.Sim.{SimValue, Simulates, Allows, choice_of, start_of}
+use Rattle.crash_free.specs.Wanted.{StandsAtAct}
+use Rattle.explore.specs.declared.branch.Branch.{Branch}
+use Rattle.explore.specs.declared.moves.Move.{Move}
+use Rattle.final_runs.specs.Maximal.{MayFollow}
+use Rattle.explore.specs.Exploring.{and_then}
+use Rattle.explore.specs.Counting.{GoesBeyond}
+use Rattle.explore.specs.Counts.{Counts, KeepsCount}
+use Rattle.explore.specs.Searching.{IsAlike}
+use Rattle.explore.specs.Stems.{first_acts, GoesBehind, stem_of, StandsFor, IsAfter, IsRunOf}
+use Rattle.explore.proofs.Beyond.{beyond_act, beyond_alike}
+use Rattle.explore.proofs.Choosing.{IsChosen, act_of_choice, goes_by, goes_there}
+use Rattle.explore.proofs.Stems.{behind_longer, first_behind, first_long, first_of_first, first_taken}
+
+-- The same ranks and the same run
+
+-- what may follow by the ranks of one simulation may by those of another, after the same run
+pub may_there : (s t : SimValue) (r : ℕ) (act : Act) → IsAlike s t → t.run ≡ s.run
+    → MayFollow (start_of s.program (length s.machines)) (length s.machines) s.run r act
+    → MayFollow (start_of t.program (length t.machines)) (length t.machines) t.run r act
+may_there s t r act alike same may =
+    subst (λ C. MayFollow (start_of t.program (length t.machines)) (length t.machines) C r act) (sym same)
+    (subst (λ n. MayFollow (start_of t.program n) n s.run r act) (sym alike.ranks)
+    (subst (λ p. MayFollow (start_of p (length s.machines)) (length s.machines) s.run r act) (sym alike.program) may))
+
+-- and back
+may_back : (s t : SimValue) (r : ℕ) (act : Act) → IsAlike s t → t.run ≡ s.run
+    → MayFollow (start_of t.program (length t.machines)) (length t.machines) t.run r act
+    → MayFollow (start_of s.program (length s.machines)) (length s.machines) s.run r act
+may_back s t r act alike same may =
+    subst (λ p. MayFollow (start_of p (length s.machines)) (length s.machines) s.run r act) alike.program
+    (subst (λ n. MayFollow (start_of t.program n) n s.run r act) alike.ranks
+    (subst (λ C. MayFollow (start_of t.program (length t.machines)) (length t.machines) C r act) same may))
+
+-- what is after a move by the ranks of one is by those of the other
+after_there : (s t : SimValue) (C : List Passed) (o : Option Move) (P : List Passed) → IsAlike s t → IsAfter s.program (length s.machines) C o P
+    → IsAfter t.program (length t.machines) C o P
+after_there s t C o P alike x =
+    subst (λ n. IsAfter t.program n C o P) (sym alike.ranks) (subst (λ p. IsAfter p (length s.machines) C o P) (sym alike.program) x)
+
+after_back : (s t : SimValue) (C : List Passed) (o : Option Move) (P : List Passed) → IsAlike s t → IsAfter t.program (length t.machines) C o P
+    → IsAfter s.program (length s.machines) C o P
+after_back s t C o P alike x =
+    subst (λ n. IsAfter s.program n C o P) alike.ranks (subst (λ p. IsAfter p (length t.machines) C o P) alike.program x)
+
+-- The acts of a run, in their order, are those of a run of other ranks of the same program.
+pub run_again : (s t : SimValue) (acts : List Passed) → Simulates s → acts ≡ reverse s.run → IsAlike s t
+    → IsRun (start_of t.program (length t.machines)) (length t.machines) (reverse acts)
+run_again s t acts stands same alike =
+    subst (λ C. IsRun (start_of t.program (length t.machines)) (length t.machines) C) (sym (ap reverse same ∙ reverse-reverse s.run))
+    (subst (λ n. IsRun (start_of t.program n) n s.run) (sym alike.ranks)
+    (subst (λ p. IsRun (start_of p (length s.machines)) (length s.machines) s.run) (sym alike.program) stands.is_run))
+
+-- A rank that has no steps left for an act that may follow goes beyond.
+pub beyond_there : (s t : SimValue) (left left' : List ℕ) (r : ℕ) (act : Act) → IsAlike s t → t.run ≡ s.run → Simulates t
+    → MayFollow (start_of s.program (length s.machines)) (length s.machines) s.run r act → slice_index left' r ≡ 0 → KeepsCount s left t left'
+    → (steps : ℕ) → Counts steps s left → GoesBeyond s.program (length s.machines) steps
+beyond_there s t left left' r act alike same stands may none keeps steps counts =
+    beyond_alike s.program (length s.machines) t steps alike.program alike.ranks
+    (beyond_act t left' steps r act stands (may_there s t r act alike same may) none (keeps steps counts))
+
+-- and where it does by the ranks of one simulation it does by those of the other
+pub beyond_back : (s t : SimValue) (steps : ℕ) → IsAlike s t → GoesBeyond t.program (length t.machines) steps
+    → GoesBeyond s.program (length s.machines) steps
+beyond_back s t steps alike beyond = beyond_alike s.program (length s.machines) t steps alike.program alike.ranks beyond
+
+-- A move, behind steps of its rank's own
+module _ (s t s' : SimValue) (m : Move) (alike : IsAlike s t) (same : t.run ≡ s.run) (now : Simulates t) (then : Simulates s')
+    (at : StandsAtAct t.machines m.rank) (allows : Allows t m.rank m.choice s') where
+  step : IsChosen t m.rank m.choice s'
+  step = act_of_choice t s' m.rank m.choice now then at allows
+
+  pub alike_moved : IsAlike s s'
+  alike_moved =
+      let it = goes_by t s' m.rank m.choice now then at allows in
+      record { program = it.program ∙ alike.program; ranks = it.ranks ∙ alike.ranks }
+
+  pub behind_moved : GoesBehind s.run s'.run
+  behind_moved = (record { rank = m.rank; act = step.act } ∷ [], step.run ∙ ap (λ (C : List Passed). and_then C m.rank step.act) same)
+
+  pub after_moved : IsAfter s.program (length s.machines) s.run (Some m) s'.run
+  after_moved = (
+    step.act,
+    (may_back s t m.rank step.act alike same step.may, step.same),
+    step.run ∙ ap (λ (C : List Passed). and_then C m.rank step.act) same,
+  )
+
+  -- there is no other run after it
+  pub moved_once : (P : List Passed) → IsAfter s.program (length s.machines) s.run (Some m) P → P ≡ s'.run
+  moved_once P x =
+      let may = may_there s t m.rank x.0 alike same x.1.0 in
+      let allowed : Allows t m.rank (choice_of x.0) s' = subst (λ c. Allows t m.rank c s') (sym x.1.1) allows in
+      x.2 ∙ ap (λ (C : List Passed). and_then C m.rank x.0) (sym same) ∙ sym (goes_there t s' m.rank x.0 now at may allowed)
+
+-- the ranks of a program from its beginning on are those of a run of it
+pub alike_begun : (s begun t : SimValue) (program : ProgramValue) (n : ℕ) → s.program ≡ program → n ≡ length s.machines → begun.program ≡ program
+    → length begun.machines ≡ n → IsAlike begun t → IsAlike s t
+alike_begun s begun t program n same ranks begins as_many alike =
+    record { program = alike.program ∙ begins ∙ sym same; ranks = alike.ranks ∙ as_many ∙ ranks }
+
+-- the acts that were made again are the first
+pub first_made : (s t : SimValue) (b : Branch) (acts : List Passed) → acts ≡ reverse s.run → t.run ≡ reverse (take b.shared acts) → b.shared ≤ length s.run
+    → t.run ≡ first_acts b.shared s.run
+first_made s t b acts same made within =
+    let size : length acts ≡ length s.run = ap length same ∙ length-reverse s.run in
+    made ∙ first_taken b.shared s.run acts same (omega (arith, within, size))
+
+-- what follows from what holds on a value holds on it
+pub if_value : {T E P Q : Type 0} (o : Result T E) → OnOk o P → (P → Q) → IfOk o (λ x. Q)
+if_value (Ok x) p f = f p
+if_value (Err y) p f = tt
+
+-- The first acts of a run that were made again, and then the move of a branch
+module _ (s t : SimValue) (b : Branch) (alike : IsAlike s t) (first : t.run ≡ first_acts b.shared s.run) (within : b.shared ≤ length s.run) where
+  -- a branch with no move is there
+  pub there_whole : b.chosen ≡ None → IsRunOf s.program (length s.machines) (stem_of s.run b) t.run
+  there_whole none =
+      subst (λ o. IsAfter s.program (length s.machines) (first_acts b.shared s.run) o t.run) (sym none) first
+
+  pub only_whole : b.chosen ≡ None → (P : List Passed) → IsRunOf s.program (length s.machines) (stem_of s.run b) P → P ≡ t.run
+  only_whole none P x =
+      let e : P ≡ first_acts b.shared s.run = subst (λ o. IsAfter s.program (length s.machines) (first_acts b.shared s.run) o P) none x in
+      e ∙ sym first
+
+  -- what its stem is after
+  to_stem : (m : Move) (P : List Passed) → b.chosen ≡ Some m → IsRunOf s.program (length s.machines) (stem_of s.run b) P
+      → IsAfter t.program (length t.machines) t.run (Some m) P
+  to_stem m P is x =
+      after_there s t t.run (Some m) P alike
+      (subst (λ C. IsAfter s.program (length s.machines) C (Some m) P) (sym first)
+      (subst (λ o. IsAfter s.program (length s.machines) (first_acts b.shared s.run) o P) is x))
+
+  from_stem : (m : Move) (P : List Passed) → b.chosen ≡ Some m → IsAfter t.program (length t.machines) t.run (Some m) P
+      → IsRunOf s.program (length s.machines) (stem_of s.run b) P
+  from_stem m P is x =
+      subst (λ o. IsAfter s.program (length s.machines) (first_acts b.shared s.run) o P) (sym is)
+      (subst (λ C. IsAfter s.program (length s.machines) C (Some m) P) first (after_back s t t.run (Some m) P alike x))
+
+  -- its move may be made
+  pub move_stands : (m : Move) → b.chosen ≡ Some m → (P : List Passed) × IsRunOf s.program (length s.machines) (stem_of s.run b) P
+      → (act : Act) × StandsFor t.program (length t.machines) t.run m act
+  move_stands m is run = (let x = to_stem m run.0 is run.1 in (x.0, x.1))
+
+  -- and leads to its run
+  pub there_moved : (m : Move) (R : List Passed) → b.chosen ≡ Some m → IsAfter t.program (length t.machines) t.run (Some m) R
+      → IsRunOf s.program (length s.machines) (stem_of s.run b) R
+  there_moved m R is x = from_stem m R is x
+
+  pub only_moved : (m : Move) (R : List Passed) → b.chosen ≡ Some m
+      → ((P : List Passed) → IsAfter t.program (length t.machines) t.run (Some m) P → P ≡ R)
+      → (P : List Passed) → IsRunOf s.program (length s.machines) (stem_of s.run b) P → P ≡ R
+  only_moved m R is once P x = once P (to_stem m P is x)
+
+  -- what goes on behind them begins as the run did
+  pub shares_on : (R : List Passed) → GoesBehind t.run R → (k : ℕ) → k ≤ b.shared → first_acts k R ≡ first_acts k s.run
+  shares_on R behind k low =
+      let size : length t.run ≡ b.shared = ap length first ∙ first_long b.shared s.run within in
+      first_behind k t.run R behind (omega (arith, low, size)) ∙ ap (first_acts k) first ∙ first_of_first k b.shared s.run low within
+
+  pub long_on : (R : List Passed) → GoesBehind t.run R → b.shared ≤ length R
+  long_on R behind =
+      let size : length t.run ≡ b.shared = ap length first ∙ first_long b.shared s.run within in
+      let more = behind_longer t.run R behind in
+      omega (arith, size, more)

@@ -1,0 +1,55 @@
+use Rattle.std.proofs.Common.{◌++◌, ◌∷◌, [], List, length, subst, ◌∙◌, arith}
+use Rattle.explore.specs.declared.branch.Branch.{Branch}
+use Rattle.explore.specs.Searching.{IsOn}
+use Rattle.explore.specs.Small.{EnoughForAll}
+use Rattle.explore.specs.Stems.{stems_of}
+use Rattle.explore.proofs.Among.{popped_some}
+use Rattle.explore.proofs.Going.{beyond_on, fewer_back, on_back, on_own}
+use Rattle.explore.proofs.ongoing.Search.look_on.Goals as goal
+
+pub loop-branch-init : goal.loop-branch-init
+loop-branch-init c = record { on = c.requires.on; enough = λ k e. (k, e, omega arith); beyond = λ before now. before now }
+
+pub look-requires-clause-some : goal.look-requires-clause-some
+look-requires-clause-some c = (let on = c.loop-branch.invariant.on in omega (arith, c.requires.some, on.ranks))
+
+pub look-requires-clause-few : goal.look-requires-clause-few
+look-requires-clause-few c = (let on = c.loop-branch.invariant.on in omega (arith, c.requires.few, on.ranks))
+
+pub look-requires-clause-program : goal.look-requires-clause-program
+look-requires-clause-program c = (let on = c.loop-branch.invariant.on in on.program_same ∙ c.requires.program)
+
+pub look-requires-clause-on : goal.look-requires-clause-on
+look-requires-clause-on c =
+    let on = c.loop-branch.invariant.on in
+    let last = popped_some c.loop-branch.self.pending.items c.pop.new.self.items c.pop.result c.in-Some.branch c.pop.ensures.items c.in-Some.is in
+    on_own c.args.self.now.path.sim.program (length c.args.self.now.path.sim.machines) c.loop-branch.self.path.sim
+    (c.pop.new.self.items ++ c.in-Some.branch ∷ []) c.loop-branch.self.found c.loop-branch.self.met c.loop-branch.self.out_of_steps
+    (subst (λ (z : List Branch). IsOn c.args.self.now.path.sim.program (length c.args.self.now.path.sim.machines) c.loop-branch.self.path.sim z
+    c.loop-branch.self.found c.loop-branch.self.met c.loop-branch.self.out_of_steps) last on)
+
+pub loop-branch-preserved : goal.loop-branch-preserved
+loop-branch-preserved c =
+    let s = c.loop-branch.self.path.sim in
+    let on = c.loop-branch.invariant.on in
+    let last = popped_some c.loop-branch.self.pending.items c.pop.new.self.items c.pop.result c.in-Some.branch c.pop.ensures.items c.in-Some.is in
+    record {
+      on =
+          on_back c.args.self.now.path.sim.program (length c.args.self.now.path.sim.machines) s c.look.new.self.path.sim c.look.new.self.pending.items
+          c.look.new.self.found c.look.new.self.met c.look.new.self.out_of_steps on.program_same on.ranks c.in_ok-look.ensures.on;
+      enough =
+          λ k e.
+          (let x = c.loop-branch.invariant.enough k e in
+          let before = x.2 in
+          let fewer =
+          fewer_back c.args.self.now.path.sim.program (length c.args.self.now.path.sim.machines) s s.run c.look.new.self.path.sim.run
+          (c.pop.new.self.items ++ c.in-Some.branch ∷ []) c.look.new.self.pending.items on.program_same on.ranks c.in_ok-look.ensures.enough x.0
+          (subst (λ (z : List Branch). EnoughForAll c.args.self.now.path.sim.program (length c.args.self.now.path.sim.machines) x.0 (stems_of s.run z))
+          last x.1) in
+          let less = fewer.2 in
+          (fewer.0, fewer.1, omega (arith, before, less)));
+      beyond =
+          λ start.
+          beyond_on c.args.self.now.path.sim.program (length c.args.self.now.path.sim.machines) s c.args.steps c.loop-branch.self.out_of_steps
+          c.look.new.self.out_of_steps on.program_same on.ranks (c.loop-branch.invariant.beyond start) c.in_ok-look.ensures.beyond;
+    }

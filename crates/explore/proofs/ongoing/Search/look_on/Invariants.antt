@@ -1,0 +1,22 @@
+use Rattle.std.proofs.Common.{◌≡◌, ◌≤◌, ℕ, true, length}
+use Rattle.explore.specs.Counting.{GoesBeyond}
+use Rattle.explore.specs.Searching.{IsOn}
+use Rattle.explore.specs.Small.{EnoughForAll}
+use Rattle.explore.specs.Stems.{stems_of}
+use Rattle.explore.proofs.ongoing.Search.look_on.Given as goal
+
+-- how far it has come, with fewer branches left
+abbrev pub invariant-loop-branch : goal.invariant-loop-branch
+invariant-loop-branch l = record {
+  on : IsOn l.initial.self.path.sim.program (length l.initial.self.path.sim.machines) l.self.path.sim l.self.pending.items l.self.found l.self.met
+      l.self.out_of_steps;
+  enough : (k : ℕ) → EnoughForAll l.initial.self.path.sim.program (length l.initial.self.path.sim.machines) k
+      (stems_of l.initial.self.path.sim.run l.initial.self.pending.items)
+      → (i : ℕ) × EnoughForAll l.initial.self.path.sim.program (length l.initial.self.path.sim.machines) i (stems_of l.self.path.sim.run l.self.pending.items)
+      × (i ≤ k);
+  beyond : (l.initial.self.out_of_steps ≡ true → GoesBeyond l.initial.self.path.sim.program (length l.initial.self.path.sim.machines) l.steps)
+      → l.self.out_of_steps ≡ true → GoesBeyond l.initial.self.path.sim.program (length l.initial.self.path.sim.machines) l.steps;
+}
+
+abbrev pub decreases-loop-branch : goal.decreases-loop-branch
+decreases-loop-branch l = length l.self.pending.items

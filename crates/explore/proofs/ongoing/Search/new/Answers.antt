@@ -1,0 +1,9 @@
+use Rattle.std.proofs.Common.{refl}
+use Rattle.explore.proofs.Going.{on_begins}
+use Rattle.explore.proofs.ongoing.Search.new.Goals as goal
+
+pub returns-clause-on : goal.returns-clause-on
+returns-clause-on c =
+    rw (c.in_ok-push.ensures.items, c.new-pending.ensures.items, c.new-2.ensures, c.new-3.ensures)
+    (on_begins c.args.program.now c.args.ranks c.in_ok-path.path.sim _ c.in_ok-path.ensures.begins.program_same c.in_ok-path.ensures.begins.ranks
+    c.in_ok-path.ensures.begins.run refl refl)

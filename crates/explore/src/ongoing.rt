@@ -1,0 +1,180 @@
+//! How far a search has come.
+ghost use Rattle.std.specs.Prelude.{◌≡◌, ◌≤◌, ◌<◌, ◌++◌, ◌∷◌, ℕ, true, false, [], IfOk, Ok, length};
+ghost use Rattle.metered.specs.Limits.{most_ranks};
+ghost use Rattle.explore.specs.Counting.{GoesBeyond};
+ghost use Rattle.explore.specs.Searching.{IsOn, NeedsFewer};
+ghost use Rattle.explore.specs.Stems.{stems_of, whole};
+
+use crate::branch::Branch;
+use crate::explored::Explored;
+use crate::found::Found;
+use crate::met::Met;
+use crate::path::Path;
+use crate::play::{Played, play};
+use crate::races::Races;
+use crate::taking::take_up;
+use final_runs::outcome_of;
+use metered::Heap;
+use rank_language::Program;
+use std::alloc::AllocError;
+
+/// What a search found, and what is left of it.
+#[derive(Drop)]
+pub struct Search<'p> {
+    /// The run that was played last, off which all branches go.
+    path: Path<'p>,
+    /// The last one is next.
+    pending: Vec<Branch, Heap>,
+    found: Found,
+    met: Met,
+    races: Races,
+    /// Whether a run was cut off where a rank came to its limit of steps.
+    out_of_steps: bool,
+}
+
+impl<'p> Search<'p> {
+    /// Nothing is found, and all is left.
+    pub fn new(
+        alloc: Heap,
+        program: &'p Program,
+        ranks: u8,
+        steps: u32,
+        states: u32,
+    ) -> Result<Search<'p>, AllocError>
+        requires some { 1 ≤ ranks }
+        requires few { ranks ≤ most_ranks }
+        ensures on { IfOk result (λ s. IsOn program.entry.now ranks s.path.sim s.pending.items s.found s.met s.out_of_steps) }
+        ensures all { IfOk result (λ s. stems_of s.path.sim.run s.pending.items ≡ whole ∷ []) }
+        ensures uncut { IfOk result (λ s. s.out_of_steps ≡ false) }
+    {
+        let path = Path::new(alloc, program, ranks, steps)?;
+        let mut pending = Vec::new(alloc);
+        pending.push(Branch {
+            shared: 0,
+            chosen: None,
+            choices: 0,
+        })?;
+        Ok(Search {
+            path,
+            pending,
+            found: Found::new(alloc),
+            met: Met::new(alloc, states),
+            races: Races::new(alloc),
+            out_of_steps: false,
+        })
+    }
+
+    /// Takes up branches, the last one first, until one comes to where no run
+    /// stood, and looks at its run. Answers whether there was one. An `Err` means
+    /// out of memory.
+    pub fn look_on(
+        &mut self,
+        alloc: Heap,
+        program: &'p Program,
+        steps: u32,
+    ) -> Result<bool, AllocError>
+        requires some { 1 ≤ length self.old.path.sim.machines }
+        requires few { length self.old.path.sim.machines ≤ most_ranks }
+        requires program { self.old.path.sim.program ≡ program.now }
+        requires on { IsOn self.old.path.sim.program (length self.old.path.sim.machines) self.old.path.sim self.old.pending.items
+            self.old.found self.old.met self.old.out_of_steps }
+        ensures on { IfOk result (λ _. IsOn self.old.path.sim.program (length self.old.path.sim.machines) self.new.path.sim self.new.pending.items
+            self.new.found self.new.met self.new.out_of_steps) }
+        ensures none { result ≡ Ok false → self.new.pending.items ≡ [] }
+        ensures enough { result ≡ Ok true → NeedsFewer self.old.path.sim.program (length self.old.path.sim.machines) self.old.path.sim.run
+            self.old.pending.items self.new.path.sim.run self.new.pending.items }
+        ensures beyond { IfOk result (λ _. (self.old.out_of_steps ≡ true → GoesBeyond self.old.path.sim.program (length self.old.path.sim.machines) steps)
+            → self.new.out_of_steps ≡ true → GoesBeyond self.old.path.sim.program (length self.old.path.sim.machines) steps) }
+    {
+        while let Some(branch) = self.pending.pop() {
+            if self.look(alloc, program, steps, branch)? {
+                return Ok(true);
+            }
+        }
+        Ok(false)
+    }
+
+    // Takes up one branch, goes on with its run to its end, or to where a run stood before, and notes
+    // the outcome that it has at its end. Answers false if no move was open before that but one at a
+    // time: then it was looked at before.
+    fn look(
+        &mut self,
+        alloc: Heap,
+        program: &'p Program,
+        steps: u32,
+        branch: Branch,
+    ) -> Result<bool, AllocError>
+        requires some { 1 ≤ length self.old.path.sim.machines }
+        requires few { length self.old.path.sim.machines ≤ most_ranks }
+        requires program { self.old.path.sim.program ≡ program.now }
+        requires on { IsOn self.old.path.sim.program (length self.old.path.sim.machines) self.old.path.sim (self.old.pending.items ++ branch ∷ [])
+            self.old.found self.old.met self.old.out_of_steps }
+        ensures on { IfOk result (λ _. IsOn self.old.path.sim.program (length self.old.path.sim.machines) self.new.path.sim self.new.pending.items
+            self.new.found self.new.met self.new.out_of_steps) }
+        ensures fewer { result ≡ Ok false → length self.new.pending.items ≤ length self.old.pending.items }
+        ensures enough { IfOk result (λ _. NeedsFewer self.old.path.sim.program (length self.old.path.sim.machines) self.old.path.sim.run
+            (self.old.pending.items ++ branch ∷ []) self.new.path.sim.run self.new.pending.items) }
+        ensures beyond { IfOk result (λ _. (self.old.out_of_steps ≡ true → GoesBeyond self.old.path.sim.program (length self.old.path.sim.machines) steps)
+            → self.new.out_of_steps ≡ true → GoesBeyond self.old.path.sim.program (length self.old.path.sim.machines) steps) }
+    {
+        if !take_up(alloc, program, steps, &mut self.path, branch)? {
+            self.out_of_steps = true;
+            return Ok(true);
+        }
+        let others = self.pending.len();
+        match play(
+            alloc,
+            &mut self.path,
+            &mut self.pending,
+            &mut self.met,
+            &mut self.races,
+        )? {
+            Played::Still => {
+                let ranks = outcome_of(alloc, &self.path.sim)?;
+                self.found.note(ranks, self.path.choices.as_slice())?;
+                Ok(true)
+            }
+            Played::Met => Ok(self.pending.len() > others),
+            Played::Spent => {
+                self.out_of_steps = true;
+                Ok(true)
+            }
+        }
+    }
+
+    /// What it found, by so many runs.
+    pub fn into_explored(self, runs: u32) -> Explored
+        ensures found { result.outcomes ≡ self.entry.found }
+        ensures runs { result.runs ≡ runs }
+        ensures steps { result.out_of_steps ≡ self.entry.out_of_steps }
+        ensures yes { result.complete ≡ true → (self.entry.pending.items ≡ []) × (self.entry.out_of_steps ≡ false) }
+        ensures no { result.complete ≡ false → self.entry.pending.items ≡ [] → self.entry.out_of_steps ≡ true }
+    {
+        let complete = self.is_complete();
+        let Search {
+            path: _,
+            pending: _,
+            found,
+            met,
+            races,
+            out_of_steps,
+        } = self;
+        Explored {
+            outcomes: found.into_outcomes(),
+            races: races.into_found(),
+            runs,
+            states: met.states(),
+            kept_all: met.kept_all(),
+            complete,
+            out_of_steps,
+        }
+    }
+
+    // Whether all was searched.
+    fn is_complete(&self) -> bool
+        ensures yes { result ≡ true → (self.now.pending.items ≡ []) × (self.now.out_of_steps ≡ false) }
+        ensures no { result ≡ false → self.now.pending.items ≡ [] → self.now.out_of_steps ≡ true }
+    {
+        self.pending.is_empty() && !self.out_of_steps
+    }
+}
