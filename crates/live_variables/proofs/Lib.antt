@@ -1,0 +1,10 @@
+pub mod Where
+pub mod Valuing
+pub mod Wanting
+pub mod Ways
+pub mod Stepping
+pub mod Acting
+pub mod Giving
+pub mod GivingActs
+pub mod Sound
+pub mod Begun
