@@ -1,13 +1,13 @@
 -- Runs that stand alike have the same outcomes, end alike, and are searched alike: so a search may leave a run out where one was searched that
 -- it stands alike with.
-use Rattle.std.proofs.Common.{ℕ, ◌<◌, List, sym, subst, ◌∙◌}
+use Rattle.std.proofs.Common.{ℕ, ◌<◌, List, sym, ap, subst, ◌∙◌}
 use Rattle.std.proofs.lemmas.Option.{slice_get_within}
 use Rattle.rank_machine.specs.States.{State}
-use Rattle.rank_machine.specs.Wants.{wants}
+use Rattle.live_variables.proofs.Wanting.{wants_same}
 use Rattle.crash_free.specs.Runs.{Passed, history, IsRun}
 use Rattle.crash_free.specs.Alike.{StandsAlike, StandAlike}
 use Rattle.crash_free.proofs.Alike.{comes_too, alike_back, each_follows_too}
-use Rattle.final_runs.specs.Maximal.{IsMaximal, RankOutcome, IsRankOutcome, IsOutcomeOf}
+use Rattle.final_runs.specs.Maximal.{IsMaximal, RankOutcome, end_of, IsRankOutcome, IsOutcomeOf}
 use Rattle.explore.specs.Exploring.{and_then, HasOneAnswer, IsExplored, ends, fixed, branch}
 use Rattle.explore.specs.Exploring.{AlwaysEndsIn, at_end, goes_on}
 use Rattle.explore.specs.Onward.{GoesOnTo, there, further, MayEndSo}
@@ -24,8 +24,17 @@ maximal_too start n P Q run run' alike maximal r act may =
 rank_too : (start : State) (n : ℕ) (P Q : List Passed) (r : ℕ) (x : RankOutcome) → StandsAlike start n P Q r → IsRankOutcome start (history P r) x
     → IsRankOutcome start (history Q r) x
 rank_too start n P Q r x a o =
-    let too = comes_too start (history P r) (history Q r) a.state o.stands a.comes a.comes_too o.after o.reached o.inner (no_step o.stands x.end o.ended) in
-    record { lines = o.lines ∙ a.lines; after = too.0; stands = o.stands; reached = too.1; inner = too.2; ended = o.ended }
+    let too =
+    comes_too start (history P r) (history Q r) a.state a.other o.stands a.agrees a.comes a.comes_too o.after o.reached o.inner
+    (no_step o.stands x.end o.ended) in
+    record {
+      lines = o.lines ∙ a.lines;
+      after = too.after;
+      stands = too.stands;
+      reached = too.runs;
+      inner = too.inners;
+      ended = ap end_of (sym (wants_same o.stands too.stands too.agrees)) ∙ o.ended;
+    }
 
 -- so the outcome of the one is that of the other
 pub outcome_too : (start : ℕ → State) (n : ℕ) (P Q : List Passed) (o : List RankOutcome) → IsRun start n Q → StandAlike start n P Q → IsOutcomeOf start n P o
@@ -83,7 +92,7 @@ explored_too start n found P Q run run' alike (ends o is_its is_found) = ends o 
 explored_too start n found P Q run run' alike (fixed r act fix explored) =
     let f = each_follows_too start n P Q run run' alike r act fix.low fix.may in
     fixed r f.other
-    (record { low = fix.low; may = f.may; one = subst (λ a. HasOneAnswer (wants a)) (sym f.stands_same) fix.one })
+    (record { low = fix.low; may = f.may; one = subst HasOneAnswer (sym f.wants_same) fix.one })
     (explored_too start n found (and_then P r act) (and_then Q r f.other) (run, fix.low, fix.may) (run', fix.low, f.may) f.alike explored)
 explored_too start n found P Q run run' alike (branch r act may explored) =
     let f = each_follows_too start n P Q run run' alike r act may.0 may.1 in

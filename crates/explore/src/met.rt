@@ -1,9 +1,11 @@
 //! Where runs stood that a search met.
 ghost use Rattle.std.specs.Prelude.{◌≡◌, ◌⊎◌, ◌∷◌, ◌++◌, true, [], IfOk, Ok, OnOk};
+ghost use Rattle.live_variables.specs.Live.{IsTableOf};
 ghost use Rattle.explore.specs.Met.{AddsAtMost, WasMet};
 ghost use Rattle.explore.specs.Outcomes.{IsAmong};
 
 use crash_free::{Sim, Standing};
+use live_variables::Live;
 use metered::Heap;
 use std::alloc::AllocError;
 use std::collections::BTreeMap;
@@ -53,14 +55,16 @@ impl Met {
         }
     }
 
-    /// Whether a run stood where this one does; if not, this is kept, where
-    /// there is room. An `Err` means out of memory.
-    pub fn meets(&mut self, sim: &Sim<'_>) -> Result<bool, AllocError>
+    /// Whether a run stood where this one does, by the program's table of what
+    /// is unread; if not, this is kept, where there is room. An `Err` means out
+    /// of memory.
+    pub fn meets(&mut self, sim: &Sim<'_>, live: &Live) -> Result<bool, AllocError>
+        requires { IsTableOf sim.now.program live.now }
         ensures yes { result ≡ Ok true → WasMet self.new sim.now }
         ensures same { result ≡ Ok true → self.new ≡ self.old }
         ensures adds { IfOk result (λ _. AddsAtMost self.old sim.now self.new) }
     {
-        let standing = sim.standing()?;
+        let standing = sim.standing(live)?;
         let hash = standing.hash();
         if self.has(hash, &standing) {
             return Ok(true);

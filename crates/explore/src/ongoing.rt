@@ -1,6 +1,7 @@
 //! How far a search has come.
 ghost use Rattle.std.specs.Prelude.{◌≡◌, ◌≤◌, ◌<◌, ◌++◌, ◌∷◌, ℕ, true, false, [], IfOk, Ok, length};
 ghost use Rattle.metered.specs.Limits.{most_ranks};
+ghost use Rattle.live_variables.specs.Live.{IsTableOf};
 ghost use Rattle.explore.specs.Counting.{GoesBeyond};
 ghost use Rattle.explore.specs.Searching.{IsOn, NeedsFewer};
 ghost use Rattle.explore.specs.Stems.{stems_of, whole};
@@ -14,6 +15,7 @@ use crate::play::{Played, play};
 use crate::races::Races;
 use crate::taking::take_up;
 use final_runs::outcome_of;
+use live_variables::Live;
 use metered::Heap;
 use rank_language::Program;
 use std::alloc::AllocError;
@@ -71,11 +73,13 @@ impl<'p> Search<'p> {
         &mut self,
         alloc: Heap,
         program: &'p Program,
+        live: &Live,
         steps: u32,
     ) -> Result<bool, AllocError>
         requires some { 1 ≤ length self.old.path.sim.machines }
         requires few { length self.old.path.sim.machines ≤ most_ranks }
         requires program { self.old.path.sim.program ≡ program.now }
+        requires table { IsTableOf program.now live.now }
         requires on { IsOn self.old.path.sim.program (length self.old.path.sim.machines) self.old.path.sim self.old.pending.items
             self.old.found self.old.met self.old.out_of_steps }
         ensures on { IfOk result (λ _. IsOn self.old.path.sim.program (length self.old.path.sim.machines) self.new.path.sim self.new.pending.items
@@ -87,7 +91,7 @@ impl<'p> Search<'p> {
             → self.new.out_of_steps ≡ true → GoesBeyond self.old.path.sim.program (length self.old.path.sim.machines) steps) }
     {
         while let Some(branch) = self.pending.pop() {
-            if self.look(alloc, program, steps, branch)? {
+            if self.look(alloc, program, live, steps, branch)? {
                 return Ok(true);
             }
         }
@@ -101,12 +105,14 @@ impl<'p> Search<'p> {
         &mut self,
         alloc: Heap,
         program: &'p Program,
+        live: &Live,
         steps: u32,
         branch: Branch,
     ) -> Result<bool, AllocError>
         requires some { 1 ≤ length self.old.path.sim.machines }
         requires few { length self.old.path.sim.machines ≤ most_ranks }
         requires program { self.old.path.sim.program ≡ program.now }
+        requires table { IsTableOf program.now live.now }
         requires on { IsOn self.old.path.sim.program (length self.old.path.sim.machines) self.old.path.sim (self.old.pending.items ++ branch ∷ [])
             self.old.found self.old.met self.old.out_of_steps }
         ensures on { IfOk result (λ _. IsOn self.old.path.sim.program (length self.old.path.sim.machines) self.new.path.sim self.new.pending.items
@@ -126,6 +132,7 @@ impl<'p> Search<'p> {
             alloc,
             &mut self.path,
             &mut self.pending,
+            live,
             &mut self.met,
             &mut self.races,
         )? {

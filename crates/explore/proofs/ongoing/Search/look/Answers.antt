@@ -1,4 +1,5 @@
-use Rattle.std.proofs.Common.{◌≡◌, true, false, length, refl, arith}
+use Rattle.std.proofs.Common.{◌≡◌, true, false, length, refl, sym, subst, ◌∙◌, arith}
+use Rattle.live_variables.specs.Live.{IsTableOf}
 use Rattle.std.specs.Prelude.{Ok}
 use Rattle.explore.specs.Stems.{stems_of}
 use Rattle.explore.proofs.Going.{fewer_cut, fewer_looked, off_now, on_cut, on_looked}
@@ -14,6 +15,11 @@ take_up-requires-clause-some_run c = last_run c.args.self.now.path.sim.program (
 
 pub play-requires-clause-few : goal.play-requires-clause-few
 play-requires-clause-few c = (let alike = c.in_ok-take_up.ensures.alike in omega (arith, c.requires.few, alike.ranks))
+
+pub play-requires-clause-table : goal.play-requires-clause-table
+play-requires-clause-table c =
+    (let alike = c.in_ok-take_up.ensures.alike in
+    subst (λ p. IsTableOf p c.args.live.now) (sym (alike.program ∙ c.requires.program)) c.requires.table)
 
 pub play-requires-clause-off : goal.play-requires-clause-off
 play-requires-clause-off c =
