@@ -27,6 +27,7 @@ whole_only s b none shared chosen =
     by : ℕ → Option Move → Stem
     by k o = record { before = first_acts k []; chosen = o }
 
+-- so nothing is found yet, and all is to be searched
 pub on_begins : (program : ProgramValue) (n : ℕ) (s : SimValue) (b : Branch) → s.program ≡ program → length s.machines ≡ n → s.run ≡ [] → b.shared ≡ 0
     → b.chosen ≡ None → IsOn program n s (b ∷ []) [] [] false
 on_begins program n s b same ranks none shared chosen =
@@ -41,23 +42,27 @@ on_begins program n s b same ranks none shared chosen =
 
 -- The same program and number of ranks
 
+-- how far a search has come, by the program and the number of ranks of a simulation
 pub on_own : (program : ProgramValue) (n : ℕ) (s : SimValue) (pending : List Branch) (outcomes : List (List RankOutcome)) (met : List Rows) (cut : Bool)
     → IsOn program n s pending outcomes met cut → IsOn s.program (length s.machines) s pending outcomes met cut
 on_own program n s pending outcomes met cut on =
     subst (λ k. IsOn s.program k s pending outcomes met cut) (sym on.ranks)
     (subst (λ p. IsOn p n s pending outcomes met cut) (sym on.program_same) on)
 
+-- and back
 pub on_back : (program : ProgramValue) (n : ℕ) (s s' : SimValue) (pending : List Branch) (outcomes : List (List RankOutcome)) (met : List Rows)
     (cut : Bool) → s.program ≡ program → length s.machines ≡ n → IsOn s.program (length s.machines) s' pending outcomes met cut
     → IsOn program n s' pending outcomes met cut
 on_back program n s s' pending outcomes met cut same ranks on =
     subst (λ k. IsOn program k s' pending outcomes met cut) ranks (subst (λ p. IsOn p (length s.machines) s' pending outcomes met cut) same on)
 
+-- that fewer are enough, back
 pub fewer_back : (program : ProgramValue) (n : ℕ) (s : SimValue) (C C' : List Passed) (old new : List Branch) → s.program ≡ program
     → length s.machines ≡ n → NeedsFewer s.program (length s.machines) C old C' new → NeedsFewer program n C old C' new
 fewer_back program n s C C' old new same ranks fewer =
     subst (λ k. NeedsFewer program k C old C' new) ranks (subst (λ p. NeedsFewer p (length s.machines) C old C' new) same fewer)
 
+-- and that a rank goes beyond
 pub beyond_own : (program : ProgramValue) (n : ℕ) (s : SimValue) (steps : ℕ) → s.program ≡ program → length s.machines ≡ n
     → GoesBeyond program n steps → GoesBeyond s.program (length s.machines) steps
 beyond_own program n s steps same ranks beyond =

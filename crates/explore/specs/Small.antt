@@ -40,7 +40,8 @@ EnoughForAll program n k (x ∷ xs) =
     (here : ℕ) × (rest : ℕ) × (0 < here) × ((P : List Passed) → IsRunOf program n x P → AreEnough (start_of program n) n here P)
     × EnoughForAll program n rest xs × (here + rest ≤ k)
 
--- if so many runs are enough for a run and for what was left before, fewer are for what is left after
+-- if so many runs are enough for a run and for what was left before, fewer are for what is left
+-- after
 abbrev pub Spares : SimValue → List Stem → List Stem → Type 0
 Spares s old new =
     (j k : ℕ) → EnoughForAll s.program (length s.machines) j old → EnoughFor s k s.run

@@ -98,9 +98,9 @@ impl<'p> Search<'p> {
         Ok(false)
     }
 
-    // Takes up one branch, goes on with its run to its end, or to where a run stood before, and notes
-    // the outcome that it has at its end. Answers false if no move was open before that but one at a
-    // time: then it was looked at before.
+    // Takes up one branch, goes on with its run to its end, or to where a run stood before, and
+    // notes the outcome that it has at its end. Answers false if a run stood there before it left a
+    // branch itself: then what may follow was looked at before.
     fn look(
         &mut self,
         alloc: Heap,

@@ -140,8 +140,8 @@ fn comes_to_act(sim: &mut Sim<'_>, left: &mut [u32; MOST_RANKS], rank: u8) -> bo
     inside < most
 }
 
-// Makes the move of a branch, and before it the steps of its rank's own. Answers whether the rank had
-// as many steps left.
+// Makes the move of a branch, and before it the steps of its rank's own. Answers whether the rank
+// had as many steps left.
 fn go_off(path: &mut Path<'_>, chosen: Move) -> Result<bool, AllocError>
     requires few { length path.old.sim.machines ≤ most_ranks }
     requires stands { Simulates path.old.sim }

@@ -8,10 +8,12 @@ use Rattle.explore.proofs.Stems.{last_run, last_within}
 use Rattle.explore.proofs.ongoing.Search.look.Goals as goal
 
 pub take_up-requires-clause-within : goal.take_up-requires-clause-within
-take_up-requires-clause-within c = last_within c.args.self.now.path.sim.program (length c.args.self.now.path.sim.machines) c.args.self.now.path.sim.run c.args.self.now.pending.items c.args.branch c.requires.on.off
+take_up-requires-clause-within c = last_within c.args.self.now.path.sim.program (length c.args.self.now.path.sim.machines)
+    c.args.self.now.path.sim.run c.args.self.now.pending.items c.args.branch c.requires.on.off
 
 pub take_up-requires-clause-some_run : goal.take_up-requires-clause-some_run
-take_up-requires-clause-some_run c = last_run c.args.self.now.path.sim.program (length c.args.self.now.path.sim.machines) c.args.self.now.path.sim.run c.args.self.now.pending.items c.args.branch c.requires.on.off
+take_up-requires-clause-some_run c = last_run c.args.self.now.path.sim.program (length c.args.self.now.path.sim.machines)
+    c.args.self.now.path.sim.run c.args.self.now.pending.items c.args.branch c.requires.on.off
 
 pub play-requires-clause-few : goal.play-requires-clause-few
 play-requires-clause-few c = (let alike = c.in_ok-take_up.ensures.alike in omega (arith, c.requires.few, alike.ranks))
@@ -23,27 +25,33 @@ play-requires-clause-table c =
 
 pub play-requires-clause-off : goal.play-requires-clause-off
 play-requires-clause-off c =
-    off_now c.args.self.now.path.sim c.take_up.new.path.sim c.args.self.now.pending.items c.args.branch c.args.self.now.found c.args.self.now.met c.args.self.now.out_of_steps c.requires.on
+    off_now c.args.self.now.path.sim c.take_up.new.path.sim c.args.self.now.pending.items c.args.branch c.args.self.now.found c.args.self.now.met
+    c.args.self.now.out_of_steps c.requires.on
     c.in_ok-take_up.ensures.alike c.in_ok-take_up.ensures.shares c.in_ok-take_up.ensures.long
 
 pub returns-then-not-branch-clause-on : goal.returns-then-not-branch-clause-on
 returns-then-not-branch-clause-on c =
-    on_cut c.args.self.now.path.sim c.take_up.new.path.sim c.args.self.now.pending.items c.args.branch c.args.self.now.found c.args.self.now.met c.args.self.now.out_of_steps c.requires.on
+    on_cut c.args.self.now.path.sim c.take_up.new.path.sim c.args.self.now.pending.items c.args.branch c.args.self.now.found c.args.self.now.met
+    c.args.self.now.out_of_steps c.requires.on
     c.in_ok-take_up.ensures.alike c.in_ok-take_up.ensures.shares c.in_ok-take_up.ensures.long
 
 pub returns-then-not-branch-clause-enough : goal.returns-then-not-branch-clause-enough
 returns-then-not-branch-clause-enough c =
-    fewer_cut c.args.self.now.path.sim c.take_up.new.path.sim c.args.self.now.pending.items c.args.branch c.args.self.now.found c.args.self.now.met c.args.self.now.out_of_steps c.requires.on
+    fewer_cut c.args.self.now.path.sim c.take_up.new.path.sim c.args.self.now.pending.items c.args.branch c.args.self.now.found c.args.self.now.met
+    c.args.self.now.out_of_steps c.requires.on
     c.in_ok-take_up.ensures.alike c.in_ok-take_up.ensures.shares c.in_ok-take_up.ensures.long
 
 pub returns-in_ok-note-in-Still-clause-on : goal.returns-in_ok-note-in-Still-clause-on
 returns-in_ok-note-in-Still-clause-on c =
     let yes : c.take_up.result ≡ Ok true = (let one = c.in_ok-take_up.was in let two = c.if-not-branch.false in cc) in
-    on_looked c.args.self.now.path.sim c.take_up.new.path.sim c.args.self.now.pending.items c.args.branch c.args.self.now.found c.args.self.now.met c.args.self.now.out_of_steps c.requires.on
-    c.in_ok-take_up.ensures.alike c.in_ok-take_up.ensures.shares c.in_ok-take_up.ensures.long (c.take_up.ensures.only yes) c.play.new.path.sim c.play.new.pending.items
+    on_looked c.args.self.now.path.sim c.take_up.new.path.sim c.args.self.now.pending.items c.args.branch c.args.self.now.found c.args.self.now.met
+    c.args.self.now.out_of_steps c.requires.on
+    c.in_ok-take_up.ensures.alike c.in_ok-take_up.ensures.shares c.in_ok-take_up.ensures.long (c.take_up.ensures.only yes) c.play.new.path.sim
+    c.play.new.pending.items
     c.in_ok-play.ensures.plays.alike c.in_ok-play.ensures.off
     c.note.new.self c.play.new.met c.args.self.now.out_of_steps true
-    (looks_ended c.take_up.new.path.sim c.play.new.path.sim (stems_of c.take_up.new.path.sim.run c.args.self.now.pending.items) (stems_of c.play.new.path.sim.run c.play.new.pending.items) c.args.self.now.found c.note.new.self
+    (looks_ended c.take_up.new.path.sim c.play.new.path.sim (stems_of c.take_up.new.path.sim.run c.args.self.now.pending.items) (stems_of
+    c.play.new.path.sim.run c.play.new.pending.items) c.args.self.now.found c.note.new.self
     c.args.self.now.met c.play.new.met c.in_ok-ranks-in-Still.ranks.items c.in_ok-play.ensures.plays c.in_ok-play.ensures.remembers
     c.in_ok-ranks-in-Still.ensures c.in_ok-note-in-Still.ensures)
     (λ e. (e, refl))
@@ -51,45 +59,57 @@ returns-in_ok-note-in-Still-clause-on c =
 pub returns-in-Met-clause-on : goal.returns-in-Met-clause-on
 returns-in-Met-clause-on c =
     let yes : c.take_up.result ≡ Ok true = (let one = c.in_ok-take_up.was in let two = c.if-not-branch.false in cc) in
-    on_looked c.args.self.now.path.sim c.take_up.new.path.sim c.args.self.now.pending.items c.args.branch c.args.self.now.found c.args.self.now.met c.args.self.now.out_of_steps c.requires.on
-    c.in_ok-take_up.ensures.alike c.in_ok-take_up.ensures.shares c.in_ok-take_up.ensures.long (c.take_up.ensures.only yes) c.play.new.path.sim c.play.new.pending.items
+    on_looked c.args.self.now.path.sim c.take_up.new.path.sim c.args.self.now.pending.items c.args.branch c.args.self.now.found c.args.self.now.met
+    c.args.self.now.out_of_steps c.requires.on
+    c.in_ok-take_up.ensures.alike c.in_ok-take_up.ensures.shares c.in_ok-take_up.ensures.long (c.take_up.ensures.only yes) c.play.new.path.sim
+    c.play.new.pending.items
     c.in_ok-play.ensures.plays.alike c.in_ok-play.ensures.off
     c.args.self.now.found c.play.new.met c.args.self.now.out_of_steps true
-    (looks_met c.take_up.new.path.sim c.play.new.path.sim (stems_of c.take_up.new.path.sim.run c.args.self.now.pending.items) (stems_of c.play.new.path.sim.run c.play.new.pending.items) c.args.self.now.found
+    (looks_met c.take_up.new.path.sim c.play.new.path.sim (stems_of c.take_up.new.path.sim.run c.args.self.now.pending.items) (stems_of
+    c.play.new.path.sim.run c.play.new.pending.items) c.args.self.now.found
     c.args.self.now.met c.play.new.met c.in_ok-play.ensures.plays c.in_ok-play.ensures.remembers (c.in_ok-play.ensures.met c.in-Met.is))
     (λ e. (e, refl))
 
 pub returns-in_ok-note-in-Still-clause-enough : goal.returns-in_ok-note-in-Still-clause-enough
 returns-in_ok-note-in-Still-clause-enough c =
     let yes : c.take_up.result ≡ Ok true = (let one = c.in_ok-take_up.was in let two = c.if-not-branch.false in cc) in
-    fewer_looked c.args.self.now.path.sim c.take_up.new.path.sim c.args.self.now.pending.items c.args.branch c.args.self.now.found c.args.self.now.met c.args.self.now.out_of_steps c.requires.on
-    c.in_ok-take_up.ensures.alike c.in_ok-take_up.ensures.shares c.in_ok-take_up.ensures.long (c.take_up.ensures.only yes) c.play.new.path.sim c.play.new.pending.items
+    fewer_looked c.args.self.now.path.sim c.take_up.new.path.sim c.args.self.now.pending.items c.args.branch c.args.self.now.found
+    c.args.self.now.met c.args.self.now.out_of_steps c.requires.on
+    c.in_ok-take_up.ensures.alike c.in_ok-take_up.ensures.shares c.in_ok-take_up.ensures.long (c.take_up.ensures.only yes) c.play.new.path.sim
+    c.play.new.pending.items
     c.in_ok-play.ensures.plays.alike c.in_ok-play.ensures.off
     (c.take_up.ensures.made yes) c.in_ok-play.ensures.enough
 
 pub returns-in-Met-clause-enough : goal.returns-in-Met-clause-enough
 returns-in-Met-clause-enough c =
     let yes : c.take_up.result ≡ Ok true = (let one = c.in_ok-take_up.was in let two = c.if-not-branch.false in cc) in
-    fewer_looked c.args.self.now.path.sim c.take_up.new.path.sim c.args.self.now.pending.items c.args.branch c.args.self.now.found c.args.self.now.met c.args.self.now.out_of_steps c.requires.on
-    c.in_ok-take_up.ensures.alike c.in_ok-take_up.ensures.shares c.in_ok-take_up.ensures.long (c.take_up.ensures.only yes) c.play.new.path.sim c.play.new.pending.items
+    fewer_looked c.args.self.now.path.sim c.take_up.new.path.sim c.args.self.now.pending.items c.args.branch c.args.self.now.found
+    c.args.self.now.met c.args.self.now.out_of_steps c.requires.on
+    c.in_ok-take_up.ensures.alike c.in_ok-take_up.ensures.shares c.in_ok-take_up.ensures.long (c.take_up.ensures.only yes) c.play.new.path.sim
+    c.play.new.pending.items
     c.in_ok-play.ensures.plays.alike c.in_ok-play.ensures.off
     (c.take_up.ensures.made yes) c.in_ok-play.ensures.enough
 
 pub returns-in-Spent-clause-enough : goal.returns-in-Spent-clause-enough
 returns-in-Spent-clause-enough c =
     let yes : c.take_up.result ≡ Ok true = (let one = c.in_ok-take_up.was in let two = c.if-not-branch.false in cc) in
-    fewer_looked c.args.self.now.path.sim c.take_up.new.path.sim c.args.self.now.pending.items c.args.branch c.args.self.now.found c.args.self.now.met c.args.self.now.out_of_steps c.requires.on
-    c.in_ok-take_up.ensures.alike c.in_ok-take_up.ensures.shares c.in_ok-take_up.ensures.long (c.take_up.ensures.only yes) c.play.new.path.sim c.play.new.pending.items
+    fewer_looked c.args.self.now.path.sim c.take_up.new.path.sim c.args.self.now.pending.items c.args.branch c.args.self.now.found
+    c.args.self.now.met c.args.self.now.out_of_steps c.requires.on
+    c.in_ok-take_up.ensures.alike c.in_ok-take_up.ensures.shares c.in_ok-take_up.ensures.long (c.take_up.ensures.only yes) c.play.new.path.sim
+    c.play.new.pending.items
     c.in_ok-play.ensures.plays.alike c.in_ok-play.ensures.off
     (c.take_up.ensures.made yes) c.in_ok-play.ensures.enough
 
 pub returns-in-Spent-clause-on : goal.returns-in-Spent-clause-on
 returns-in-Spent-clause-on c =
     let yes : c.take_up.result ≡ Ok true = (let one = c.in_ok-take_up.was in let two = c.if-not-branch.false in cc) in
-    on_looked c.args.self.now.path.sim c.take_up.new.path.sim c.args.self.now.pending.items c.args.branch c.args.self.now.found c.args.self.now.met c.args.self.now.out_of_steps c.requires.on
-    c.in_ok-take_up.ensures.alike c.in_ok-take_up.ensures.shares c.in_ok-take_up.ensures.long (c.take_up.ensures.only yes) c.play.new.path.sim c.play.new.pending.items
+    on_looked c.args.self.now.path.sim c.take_up.new.path.sim c.args.self.now.pending.items c.args.branch c.args.self.now.found c.args.self.now.met
+    c.args.self.now.out_of_steps c.requires.on
+    c.in_ok-take_up.ensures.alike c.in_ok-take_up.ensures.shares c.in_ok-take_up.ensures.long (c.take_up.ensures.only yes) c.play.new.path.sim
+    c.play.new.pending.items
     c.in_ok-play.ensures.plays.alike c.in_ok-play.ensures.off
     c.args.self.now.found c.play.new.met true false
-    (looks_cut c.take_up.new.path.sim c.play.new.path.sim (stems_of c.take_up.new.path.sim.run c.args.self.now.pending.items) (stems_of c.play.new.path.sim.run c.play.new.pending.items) c.args.self.now.found
+    (looks_cut c.take_up.new.path.sim c.play.new.path.sim (stems_of c.take_up.new.path.sim.run c.args.self.now.pending.items) (stems_of
+    c.play.new.path.sim.run c.play.new.pending.items) c.args.self.now.found
     c.args.self.now.met c.play.new.met c.in_ok-play.ensures.plays c.in_ok-play.ensures.remembers)
     (λ e. absurd (let z : true ≡ false = e in cc))
