@@ -8,10 +8,9 @@ use Rattle.audit.specs.declared.outcome.End.TheVariants as end
 use Rattle.metered.specs.Limits.{greatest_clock, most_events}
 use Rattle.plain_logger.specs.Event.{EventValue}
 use Rattle.rank_threads.specs.Causes.{AreCaused, HasCause, HaveCauses, IsMet, cause_met, cause_of, causes_from, events_at, if_unfinished, lacks, limit_met, uncaused_from}
-use Rattle.rank_threads.specs.declared.cause.Cause.{Cause}
-use Rattle.rank_threads.specs.declared.cause.Cause.TheVariants as cause
+use Rattle.rank_threads.specs.declared.report.cause.Cause.{Cause}
 use Rattle.rank_threads.specs.declared.report.Report.{Report}
-use Rattle.rank_threads.specs.declared.seating.Account.{Account}
+use Rattle.rank_threads.specs.declared.life.seating.Account.{Account}
 
 -- one rank more
 pub cause_more : (cs : List (Option Cause)) (c : Option Cause) (later all : List (Option Cause)) → cs ++ c ∷ later ≡ all

@@ -3,8 +3,8 @@ use Rattle.std.proofs.Common.{◌≡◌, Bool, true, false, refl}
 use Rattle.rank_threads.specs.Phases.{gate_in, misses_only_in}
 use Rattle.rank_threads.specs.Clearing.{has_stepped, leaves_misses}
 use Rattle.rank_threads.specs.Phases.{Phase}
-use Rattle.rank_threads.specs.declared.stepping.Stepped.{Stepped}
-use Rattle.rank_threads.specs.declared.stepping.Stepped.TheVariants as stepped
+use Rattle.rank_threads.specs.declared.turn.stepping.Stepped.{Stepped}
+use Rattle.rank_threads.specs.declared.turn.stepping.Stepped.TheVariants as stepped
 
 -- it made a step
 pub left_stepped : (s : Stepped) (is_imaged is_spent : Bool) (p : Phase) → leaves_misses s is_imaged is_spent p ≡ true → has_stepped s ≡ true

@@ -4,8 +4,8 @@ use Rattle.rank_node.specs.declared.fault.NodeFault.TheVariants as fault
 use Rattle.rank_threads.proofs.SeatingLemmas.{stations_snoc}
 use Rattle.rank_threads.specs.Keeping.{WasKept, WereKept, failed}
 use Rattle.rank_threads.specs.Stations.{SameStation, stations_of}
-use Rattle.rank_threads.specs.declared.parcel.Parcel.{Parcel}
-use Rattle.rank_threads.specs.declared.station.Station.{Station}
+use Rattle.rank_threads.specs.declared.life.parcel.Parcel.{Parcel}
+use Rattle.rank_threads.specs.declared.life.station.Station.{Station}
 
 module _ {W : Type 0} where
   -- one station more

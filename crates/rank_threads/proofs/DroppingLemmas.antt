@@ -6,7 +6,7 @@ use Rattle.rank_threads.specs.Costs.{all_dropped, one_dropped}
 use Rattle.rank_threads.specs.Dropping.{DroppedBelow, DroppedFrom, all_lost, lost}
 use Rattle.rank_threads.specs.Taking.{Takes}
 use Rattle.rank_threads.specs.declared.meter.Meter.{Meter}
-use Rattle.rank_threads.specs.declared.station.Station.{Station}
+use Rattle.rank_threads.specs.declared.life.station.Station.{Station}
 use Rattle.rank_threads.specs.declared.tally.Tally.{Tally}
 use Rattle.rank_threads.proofs.TakingLemmas.{takes_none, takes_then}
 

@@ -9,11 +9,11 @@ use Rattle.rank_threads.specs.Keeping.{HasLived, IsToldToLeave, Lives, told, fai
 use Rattle.rank_threads.specs.Lives.{SamePlace}
 use Rattle.rank_threads.specs.Stations.{HasRow}
 use Rattle.rank_threads.specs.Used.{UsesLines}
-use Rattle.rank_threads.specs.declared.ending.Ending.{Ending}
-use Rattle.rank_threads.specs.declared.ending.Ending.TheVariants as ending
+use Rattle.rank_threads.specs.declared.life.ending.Ending.{Ending}
+use Rattle.rank_threads.specs.declared.life.ending.Ending.TheVariants as ending
 use Rattle.rank_threads.specs.declared.life.Life.{Life}
 use Rattle.rank_threads.specs.Phases.{Begins, Phase}
-use Rattle.rank_threads.specs.declared.station.Station.{Station}
+use Rattle.rank_threads.specs.declared.life.station.Station.{Station}
 
 -- the end tells whether the rank crashed
 by_end : (o : Ending) (is_spent : Bool) (p : Phase) (crashes : ℕ) → crashes_after o crashes ≡ crashes_by (end_after o is_spent p) crashes

@@ -14,11 +14,11 @@ use Rattle.rank_threads.specs.Phases.{Phase}
 use Rattle.rank_threads.specs.Plans.{plans_below}
 use Rattle.rank_threads.specs.Seating.{AreNew, accounts_of, plans_of}
 use Rattle.rank_threads.specs.Used.{UsesLines}
-use Rattle.rank_threads.specs.declared.ending.Ending.{Ending}
-use Rattle.rank_threads.specs.declared.ending.Ending.TheVariants as ending
+use Rattle.rank_threads.specs.declared.life.ending.Ending.{Ending}
+use Rattle.rank_threads.specs.declared.life.ending.Ending.TheVariants as ending
 use Rattle.rank_threads.specs.declared.report.RunFault.{RunFault}
-use Rattle.rank_threads.specs.declared.seating.Account.{Account}
-use Rattle.rank_threads.specs.declared.station.Station.{Station}
+use Rattle.rank_threads.specs.declared.life.seating.Account.{Account}
+use Rattle.rank_threads.specs.declared.life.station.Station.{Station}
 
 -- the greatest number to which crashes are counted
 abbrev most : ℕ

@@ -11,8 +11,8 @@ use Rattle.rank_threads.specs.Phases.{Phase}
 use Rattle.rank_threads.specs.declared.costs.FrameKind.{FrameKind}
 use Rattle.rank_threads.specs.declared.life.Life.{Life}
 use Rattle.rank_threads.specs.declared.meter.Meter.{Meter}
-use Rattle.rank_threads.specs.declared.node.frames.Went.{Went}
-use Rattle.rank_threads.specs.declared.node.frames.Went.TheVariants as went
+use Rattle.rank_threads.specs.declared.node.frames.PutResult.{PutResult}
+use Rattle.rank_threads.specs.declared.node.frames.PutResult.TheVariants as put_result
 
 -- what was set at a place stands there
 pub set_here : {A : Type 0} (xs : List A) (i : ℕ) (y d : A) → i < length xs → slice_index_or (slice_set xs i y) i d ≡ y
@@ -35,13 +35,13 @@ set_elsewhere (x ∷ xs) (suc i) zero y d apart = refl
 set_elsewhere (x ∷ xs) (suc i) (suc k) y d apart = set_elsewhere xs i k y d (λ same. apart (ap suc same))
 
 -- what a frame does to the rank by itself
-stays : (went : Went) (p q : Phase) (dest : ℕ) (put put' : List Frame) → Puts went p dest put q put' → Stays went p dest q
-stays (went.Gone kind) p q dest put put' puts = record { frame = puts.frame; outgoing = puts.outgoing; is_kind = puts.is_kind }
-stays went.Full p q dest put put' puts = puts.0
-stays went.Nothing p q dest put put' puts = (puts.0, puts.2)
+stays : (went : PutResult) (p q : Phase) (dest : ℕ) (put put' : List Frame) → Puts went p dest put q put' → Stays went p dest q
+stays (put_result.Gone kind) p q dest put put' puts = record { frame = puts.frame; outgoing = puts.outgoing; is_kind = puts.is_kind }
+stays put_result.Full p q dest put put' puts = puts.0
+stays put_result.Nothing p q dest put put' puts = (puts.0, puts.2)
 
 -- what goes into the lane at a place goes into no other
-pub puts_into : (went : Went) (p q : Phase) (dest : ℕ) (lanes : List TxValue) (d y : TxValue) → dest < length lanes
+pub puts_into : (went : PutResult) (p q : Phase) (dest : ℕ) (lanes : List TxValue) (d y : TxValue) → dest < length lanes
     → Puts went p dest (put_of (slice_index_or lanes dest d)) q (put_of y) → PutsInto went p dest lanes q (slice_set lanes dest y)
 puts_into went p q dest lanes d y within puts = record {
   lane = λ e. rw (set_here lanes dest y e within, same_there lanes dest e d within) puts;
@@ -58,7 +58,7 @@ nothing_next k p below here dest low = go (cases_lt dest k)
     go (inr more) = (let same : k ≡ dest = omega (arith, low, more) in subst (HasNothing p) same here)
 
 -- where nothing went, all lanes are as they were
-pub no_lane : (p : Phase) (dest : ℕ) (lanes : List TxValue) → PutsInto went.Full p dest lanes p lanes
+pub no_lane : (p : Phase) (dest : ℕ) (lanes : List TxValue) → PutsInto put_result.Full p dest lanes p lanes
 no_lane p dest lanes = record { lane = λ d. (refl, refl); others = λ k d apart. refl; rank = refl }
 
 -- the frame, if there is one
@@ -83,7 +83,7 @@ put_nothing dest life =
 
 -- one frame more went, behind those before
 pub put_more : (dest : ℕ) (old mid new : Life) (kind : FrameKind) (p q : Phase) → PutAll dest old mid
-    → PutsInto (went.Gone kind) p dest mid.to.items q new.to.items → new.meter ≡ after_put mid.meter dest kind → PutAll dest old new
+    → PutsInto (put_result.Gone kind) p dest mid.to.items q new.to.items → new.meter ≡ after_put mid.meter dest kind → PutAll dest old new
 put_more dest old mid new kind p q before here counted =
     let frame = here.rank.frame in
     record {
@@ -100,13 +100,13 @@ put_more dest old mid new kind p q before here counted =
     }
 
 -- the lane was full
-pub put_full : (dest : ℕ) (old mid new : Life) (p q : Phase) → PutAll dest old mid → PutsInto went.Full p dest mid.to.items q new.to.items
+pub put_full : (dest : ℕ) (old mid new : Life) (p q : Phase) → PutAll dest old mid → PutsInto put_result.Full p dest mid.to.items q new.to.items
     → new.meter ≡ mid.meter → PutAll dest old new
 put_full dest old mid new p q before here same =
     record { frames = before.frames; lane = λ d. (here.lane d).1 ∙ before.lane d; meter = same ∙ before.meter }
 
 -- nothing was outgoing any more
-pub put_no_more : (dest : ℕ) (old mid new : Life) (p q : Phase) → PutAll dest old mid → PutsInto went.Nothing p dest mid.to.items q new.to.items
+pub put_no_more : (dest : ℕ) (old mid new : Life) (p q : Phase) → PutAll dest old mid → PutsInto put_result.Nothing p dest mid.to.items q new.to.items
     → new.meter ≡ mid.meter → PutAll dest old new
 put_no_more dest old mid new p q before here same =
     record { frames = before.frames; lane = λ d. (here.lane d).1 ∙ before.lane d; meter = same ∙ before.meter }

@@ -2,8 +2,8 @@
 use Rattle.std.proofs.Common.{◌≡◌, ℕ, Bool, true, false, inl, inr, refl, sym, ap, subst, ◌∙◌}
 use Rattle.rank_threads.specs.Resting.{ComesToRest, Rests, RestsUnless, WaitsOn}
 use Rattle.rank_threads.specs.Tally.{after_idle, is_last_idle}
-use Rattle.rank_threads.specs.declared.stepping.Stepped.{Stepped}
-use Rattle.rank_threads.specs.declared.stepping.Stepped.TheVariants as stepped
+use Rattle.rank_threads.specs.declared.turn.stepping.Stepped.{Stepped}
+use Rattle.rank_threads.specs.declared.turn.stepping.Stepped.TheVariants as stepped
 use Rattle.rank_threads.specs.declared.tally.Tally.{Tally}
 
 -- a rank that owes nothing goes by its step

@@ -6,8 +6,8 @@ use Rattle.plain_logger.specs.declared.call.Call.TheVariants.{Fetch}
 use Rattle.event_logger.specs.declared.view.DeskCall.{DeskCall}
 use Rattle.event_logger.specs.Desks.{DeskValue, answered, found, own_row, stored, stored_by, with_call}
 use Rattle.rank_threads.specs.Stations.{HasRow}
-use Rattle.rank_threads.specs.declared.row.Row.{Row}
-use Rattle.rank_threads.specs.declared.station.Station.{Station}
+use Rattle.rank_threads.specs.declared.life.row.Row.{Row}
+use Rattle.rank_threads.specs.declared.life.station.Station.{Station}
 
 -- a call that stores nothing leaves what calls have stored
 stored_more : (calls : List DeskCall) (c : DeskCall) → stored c.call c.answer ≡ [] → stored_by (calls ++ c ∷ []) ≡ stored_by calls

@@ -7,8 +7,8 @@ use Rattle.event_logger.specs.Desks.{DeskValue, LoggerValue, AreDesks}
 use Rattle.rank_threads.specs.Keeping.{WereKept}
 use Rattle.rank_threads.specs.Seating.{AreDesksFrom, AreNew, desks_of, lanes_from, lanes_to}
 use Rattle.rank_threads.specs.Stations.{IsNew, stations_of}
-use Rattle.rank_threads.specs.declared.parcel.Parcel.{Parcel}
-use Rattle.rank_threads.specs.declared.station.Station.{Station}
+use Rattle.rank_threads.specs.declared.life.parcel.Parcel.{Parcel}
+use Rattle.rank_threads.specs.declared.life.station.Station.{Station}
 
 module _ {W : Type 0} where
   -- the last parcel has the lowest rank

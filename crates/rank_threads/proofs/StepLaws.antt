@@ -1,7 +1,7 @@
 -- What a step answers, and how the clock grows by it.
 use Rattle.std.proofs.Common.{◌≡◌, ◌≢◌, ℕ, ◌+◌, ◌<◌, ℤ, Bool, true, false, List, [], ◌∷◌}
 use Rattle.std.proofs.Common.{get_or, Option, Some, None, Result, Ok, Err, refl, sym, ap, ◌∙◌, arith}
-use Rattle.std.specs.Prelude.{IfOk, IfErr, OnOk, OnErr, if◌then◌else◌, is_some, option_and_then, position, slice_get}
+use Rattle.std.specs.Prelude.{IfOk, IfErr, OnOk, if◌then◌else◌, is_some, option_and_then, position, slice_get}
 use Rattle.std.proofs.lemmas.List.Quantifiers.{position-Some}
 use Rattle.std.proofs.lemmas.Option.{slice_get-get_or}
 use Rattle.checkpoint.specs.declared.memory_shelf.MemoryShelf.{MemoryShelf}
@@ -19,15 +19,15 @@ use Rattle.rank_machine.specs.declared.want.Want.TheVariants as want
 use Rattle.rank_node.specs.Node.{Node}
 use Rattle.rank_node.specs.Replay.{Replay, after_replay, left_after, is_before, is_now, named}
 use Rattle.rank_node.specs.Replay.{named_turn, probe_turn, receive_turn, replay_turn_at, replay_turn_of, replayed_at, shown_named}
-use Rattle.rank_node.specs.Replay.{taken_named, tried_named, try_turn, ShowsReplay, ShowsReplayAt}
+use Rattle.rank_node.specs.Replay.{taken_named, tried_named, try_turn}
 use Rattle.rank_node.specs.Steps.{after_hold, after_print, after_send, after_step, after_wait, at_index}
-use Rattle.rank_node.specs.Steps.{found, probed, received, step_at, tried, turn_at, turn_of, with_machine, ShowsAt, ShowsStep}
+use Rattle.rank_node.specs.Steps.{found, probed, received, step_at, tried, turn_at, turn_of, with_machine}
 use Rattle.rank_node.specs.Waiting.{has_room, is_settled}
 use Rattle.rank_node.specs.declared.fault.NodeFault.{NodeFault}
 use Rattle.rank_node.specs.declared.fault.NodeFault.TheVariants as fault
 use Rattle.rank_node.specs.declared.turn.Turn.{Turn}
 use Rattle.rank_node.specs.declared.turn.Turn.TheVariants as turn
-use Rattle.rank_threads.specs.Steps.{acts_made, is_print, moves, replay_turn, unless_refused}
+use Rattle.rank_threads.specs.Steps.{acts_made, moves, replay_turn, unless_refused}
 
 -- ---- what is answered
 
@@ -229,44 +229,6 @@ unmoved (Some (want.TryProbe s)) t none = none
 unmoved (Some (want.Print value)) t none = none
 unmoved (Some want.Halted) t none = none
 unmoved (Some (want.Faulted k)) t none = none
-
--- ---- what is shown
-
--- a step shows nothing but a print
-shows_none : {C : Type 0} (shows : C → ℕ → ℕ → ℤ → C → Type 0) (v : Node MemoryShelf DeskValue) (w : Want) (old new : C) → ShowsAt shows v w old new
-    → is_print (Some w) ≡ false → new ≡ old
-shows_none shows v want.Internal old new shown other = shown
-shows_none shows v (want.Send dest context tag) old new shown other = shown
-shows_none shows v (want.Receive s) old new shown other = shown
-shows_none shows v (want.Probe s) old new shown other = shown
-shows_none shows v (want.TryProbe s) old new shown other = shown
-shows_none shows v (want.Print value) old new shown other = absurd cc
-shows_none shows v want.Halted old new shown other = shown
-shows_none shows v (want.Faulted k) old new shown other = shown
-
--- nor does one that is replayed
-again_none : {C : Type 0} (shows : C → ℕ → ℕ → ℤ → C → Type 0) (v : Node MemoryShelf DeskValue) (w : Want) (old new : C) → ShowsReplayAt shows v w old new
-    → is_print (Some w) ≡ false → new ≡ old
-again_none shows v want.Internal old new shown other = shown
-again_none shows v (want.Send dest context tag) old new shown other = shown
-again_none shows v (want.Receive s) old new shown other = shown
-again_none shows v (want.Probe s) old new shown other = shown
-again_none shows v (want.TryProbe s) old new shown other = shown
-again_none shows v (want.Print value) old new shown other = absurd cc
-again_none shows v want.Halted old new shown other = shown
-again_none shows v (want.Faulted k) old new shown other = shown
-
--- one that is refused shows nothing either
-pub run_quiet : {C : Type 0} (shows : C → ℕ → ℕ → ℤ → C → Type 0) (v : Node MemoryShelf DeskValue) (answer : Result Turn NodeFault) (old new : C)
-    → OnOk answer (ShowsStep shows v old new) → OnErr answer (new ≡ old) → is_print (Some (machine_want v.machine)) ≡ false → new ≡ old
-run_quiet shows v (Ok t) old new shown stays other = shows_none shows v (machine_want v.machine) old new shown other
-run_quiet shows v (Err f) old new shown stays other = stays
-
--- nor does a replay that is refused
-pub again_quiet : {C : Type 0} (shows : C → ℕ → ℕ → ℤ → C → Type 0) (v : Node MemoryShelf DeskValue) (answer : Result Turn NodeFault) (old new : C)
-    → OnOk answer (ShowsReplay shows v old new) → OnErr answer (new ≡ old) → is_print (Some (machine_want v.machine)) ≡ false → new ≡ old
-again_quiet shows v (Ok t) old new shown stays other = again_none shows v (machine_want v.machine) old new shown other
-again_quiet shows v (Err f) old new shown stays other = stays
 
 -- a machine that made steps of its own wanted one at first
 pub own_stride : (n : ℕ) (a b : MachineValue) → Strides n a b → n ≢ 0 → machine_want a ≡ want.Internal

@@ -14,10 +14,10 @@ use Rattle.rank_threads.specs.Steps.{acts_made, acts_of, counted, is_limit, is_o
 use Rattle.rank_threads.specs.Turns.{Brings, IsBegun}
 use Rattle.rank_threads.specs.Phases.{Phase}
 use Rattle.rank_threads.specs.declared.life.Life.{Life}
-use Rattle.rank_threads.specs.declared.stepping.Stepped.{Stepped}
-use Rattle.rank_threads.specs.declared.stepping.Stepped.TheVariants as stepped
+use Rattle.rank_threads.specs.declared.turn.stepping.Stepped.{Stepped}
+use Rattle.rank_threads.specs.declared.turn.stepping.Stepped.TheVariants as stepped
 use Rattle.rank_threads.specs.declared.tally.Tally.{Tally}
-use Rattle.rank_threads.specs.declared.turn.Begun.{Begun}
+use Rattle.rank_threads.specs.declared.turn.TurnStart.{TurnStart}
 use Rattle.rank_threads.proofs.StepLaws.{moved_is_act, unmoved}
 
 -- ---- strides
@@ -150,7 +150,7 @@ clock_told p q r answer result stood same own grows stays =
 -- ---- how a turn begins
 
 -- the rank took what its lanes brought, and made the step that its state said then
-pub is_begun : (old mid new : Life) (begun : Begun) → Brings begun.brought old mid
+pub is_begun : (old mid new : Life) (begun : TurnStart) → Brings begun.brought old mid
     → (Ok begun.stepped ≢ Err fault.Memory → Ok begun.stepped ≡ step_of mid.tally mid.node.phase)
     → new.meter ≡ after_step mid.meter begun.stepped (clock_in new.node.phase) → IsBegun old new begun
 is_begun old mid new begun brings steps acts =

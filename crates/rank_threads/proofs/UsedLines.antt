@@ -9,10 +9,10 @@ use Rattle.rank_threads.specs.Orders.{order_after, is_kill, is_image}
 use Rattle.rank_threads.specs.Plans.{order_at}
 use Rattle.rank_threads.specs.Phases.{Phase}
 use Rattle.rank_threads.specs.Used.{UsesKill, MayUseImage, MayUseOne, UsesImages, unused, used, UsesLines}
-use Rattle.rank_threads.specs.declared.ending.Ending.TheVariants as ending
-use Rattle.rank_threads.specs.declared.ending.Killed.{Killed}
-use Rattle.rank_threads.specs.declared.stepping.Stepped.{Stepped}
-use Rattle.rank_threads.specs.declared.stepping.Stepped.TheVariants as stepped
+use Rattle.rank_threads.specs.declared.life.ending.Ending.TheVariants as ending
+use Rattle.rank_threads.specs.declared.life.ending.KillToken.{KillToken}
+use Rattle.rank_threads.specs.declared.turn.stepping.Stepped.{Stepped}
+use Rattle.rank_threads.specs.declared.turn.stepping.Stepped.TheVariants as stepped
 
 -- The next line asks for this, at this clock.
 record Next (plan : List ScriptLine) (clock : ℕ) (o : Order) : Type 0 where
@@ -76,7 +76,7 @@ images_on first old new before (inl same) = subst (λ z. UsesImages first z) (sy
 images_on first old new before (inr one) = used before one
 
 -- the turn by which a rank crashes
-pub kill_last : (first old new : List ScriptLine) (killed : Killed) → UsesImages first old → UsesKill old new killed.at
+pub kill_last : (first old new : List ScriptLine) (killed : KillToken) → UsesImages first old → UsesKill old new killed.at
     → UsesLines (ending.Crashed killed) first new
 kill_last first old new killed before kill = (old, before, kill)
 

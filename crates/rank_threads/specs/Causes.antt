@@ -1,14 +1,14 @@
--- Why a rank is unfinished: a limit stopped it, which it had met, or it still replayed when it left,
--- as it had found all ranks at rest.
+-- Why a rank is unfinished: a limit stopped it, which it had met, or it still replayed when it
+-- left, as it had found all ranks at rest.
 use Rattle.std.specs.Prelude.{◌≡◌, ℕ, ◌+◌, ◌≤◌, nat_le, Bool, true, false, ◌&&◌, if◌then◌else◌, List, [], ◌∷◌, Option, Some, None, length, slice_index_or}
 use Rattle.audit.specs.declared.outcome.End.{End}
 use Rattle.audit.specs.declared.outcome.End.TheVariants as end
 use Rattle.metered.specs.Limits.{greatest_clock, most_events}
 use Rattle.plain_logger.specs.Event.{EventValue}
-use Rattle.rank_threads.specs.declared.cause.Cause.{Cause}
-use Rattle.rank_threads.specs.declared.cause.Cause.TheVariants as cause
+use Rattle.rank_threads.specs.declared.report.cause.Cause.{Cause}
+use Rattle.rank_threads.specs.declared.report.cause.Cause.TheVariants as cause
 use Rattle.rank_threads.specs.declared.report.Report.{Report}
-use Rattle.rank_threads.specs.declared.seating.Account.{Account}
+use Rattle.rank_threads.specs.declared.life.seating.Account.{Account}
 
 -- how many events the row of a rank has
 abbrev pub events_at : List (List EventValue) → ℕ → ℕ

@@ -1,7 +1,7 @@
 -- What recovery, and being ready for it, costs a rank over all its lives: lost work (acts made
 -- again), retransmissions, checkpoints, the payload log and its garbage collection.
--- Source: the measures of rollback recovery in Elnozahy, Alvisi, Wang and Johnson 2002, "A Survey of
--- Rollback-Recovery Protocols in Message-Passing Systems".
+-- Source: the measures of rollback recovery in Elnozahy, Alvisi, Wang and Johnson 2002, "A Survey
+-- of Rollback-Recovery Protocols in Message-Passing Systems".
 use Rattle.std.specs.Prelude.{ℕ, ◌+◌, ◌-◌, ◌*◌, ◌^◌, min, nat_lt, if◌then◌else◌, Option, Some, None, List, [], ◌∷◌, length, replicate, slice_index_or, slice_set}
 use Rattle.metered.specs.Limits.{most_ranks}
 use Rattle.matching.specs.PacketValue.{PacketValue}
@@ -17,8 +17,8 @@ use Rattle.rank_threads.specs.declared.costs.FrameKind.{FrameKind}
 use Rattle.rank_threads.specs.declared.costs.FrameKind.TheVariants as kind
 use Rattle.rank_threads.specs.declared.costs.LogSize.{LogSize}
 use Rattle.rank_threads.specs.declared.meter.Meter.{Meter}
-use Rattle.rank_threads.specs.declared.stepping.Stepped.{Stepped}
-use Rattle.rank_threads.specs.declared.stepping.Stepped.TheVariants as stepped
+use Rattle.rank_threads.specs.declared.turn.stepping.Stepped.{Stepped}
+use Rattle.rank_threads.specs.declared.turn.stepping.Stepped.TheVariants as stepped
 
 -- a payload log that keeps nothing
 abbrev pub no_log : LogSize

@@ -3,9 +3,10 @@
 use Rattle.std.specs.Prelude.{◌≡◌, ℕ, zero, suc, true, false, List, [], ◌∷◌}
 use Rattle.rank_node.specs.declared.frame.Frame.{Frame}
 use Rattle.rank_threads.specs.Costs.{all_dropped}
+use Rattle.rank_threads.specs.Stations.{SameRest, SameStation}
 use Rattle.rank_threads.specs.Taking.{Takes}
 use Rattle.rank_threads.specs.Tally.{one_more}
-use Rattle.rank_threads.specs.declared.station.Station.{Station}
+use Rattle.rank_threads.specs.declared.life.station.Station.{Station}
 use Rattle.rank_threads.specs.declared.tally.Tally.{Tally}
 
 -- after a frame that is dropped: it is counted, and may have been an answer
@@ -17,7 +18,8 @@ abbrev pub all_lost : Tally → List Frame → Tally
 all_lost t [] = t
 all_lost t (frame ∷ frames) = all_lost (lost t) frames
 
--- What the lane from a rank brought was dropped, and each frame was counted: as taken, and as a cost.
+-- What the lane from a rank brought was dropped, and each frame was counted: as taken, and as a
+-- cost.
 pub record DroppedFrom (source : ℕ) (old new : Station) : Type 0 where
   pub frames : List Frame
   pub lanes : Takes source frames old.from.items new.from.items
@@ -28,3 +30,12 @@ pub record DroppedFrom (source : ℕ) (old new : Station) : Type 0 where
 abbrev pub DroppedBelow : ℕ → Station → Station → Type 0
 DroppedBelow zero old new = new ≡ old
 DroppedBelow (suc k) old new = (mid : Station) × DroppedBelow k old mid × DroppedFrom k mid new
+
+-- Only frames on their way to the rank were dropped: its desk and shelf, the lines of its script,
+-- its row and how it stood are as they were, and of its counts all but what a frame that is dropped
+-- changes.
+pub record OnlyDrops (old new : Station) : Type 0 where
+  pub down : new.down ≡ old.down
+  pub rest : SameRest old new
+  pub counted : new.tally ≡ record old.tally { taken = new.tally.taken; may_owe = new.tally.may_owe; is_blocked = new.tally.is_blocked }
+  pub same : SameStation old new

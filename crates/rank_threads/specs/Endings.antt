@@ -6,12 +6,12 @@ use Rattle.rank_node.specs.declared.fault.NodeFault.{NodeFault}
 use Rattle.rank_threads.specs.Ends.{end_of}
 use Rattle.rank_node.specs.Phases.{clock_in}
 use Rattle.rank_threads.specs.Tally.{one_more}
-use Rattle.rank_threads.specs.declared.ending.Ending.{Ending}
-use Rattle.rank_threads.specs.declared.ending.Ending.TheVariants as ending
-use Rattle.rank_threads.specs.declared.ending.Why.{Why}
-use Rattle.rank_threads.specs.declared.ending.Why.TheVariants as why
+use Rattle.rank_threads.specs.declared.life.ending.Ending.{Ending}
+use Rattle.rank_threads.specs.declared.life.ending.Ending.TheVariants as ending
+use Rattle.rank_threads.specs.declared.life.ending.Why.{Why}
+use Rattle.rank_threads.specs.declared.life.ending.Why.TheVariants as why
 use Rattle.rank_threads.specs.Phases.{Phase, is_replaying}
-use Rattle.rank_threads.specs.declared.stood.Stood.{Stood}
+use Rattle.rank_threads.specs.declared.life.stood.Stood.{Stood}
 use Rattle.rank_threads.specs.declared.turn.After.{After}
 use Rattle.rank_threads.specs.declared.turn.After.TheVariants as after
 

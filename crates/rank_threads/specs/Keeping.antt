@@ -12,15 +12,15 @@ use Rattle.rank_threads.specs.Lives.{SamePlace}
 use Rattle.rank_threads.specs.Phases.{Begins}
 use Rattle.rank_threads.specs.Stations.{HasRow, SameStation}
 use Rattle.rank_threads.specs.Used.{UsesLines}
-use Rattle.rank_threads.specs.declared.ending.Ending.{Ending}
+use Rattle.rank_threads.specs.declared.life.ending.Ending.{Ending}
 use Rattle.rank_threads.specs.declared.life.Life.{Life}
-use Rattle.rank_threads.specs.declared.station.Station.{Station}
+use Rattle.rank_threads.specs.declared.life.station.Station.{Station}
 
--- One life of a rank that reads this text, from one station to another. It begins at the first, with
--- the program of the text, and with the row, the lines of the script and the counts that this station
--- has. It uses lines that ask for images, and ends by the script's next kill, at that kill's clock, or
--- as the rank leaves. A crash is counted, and nothing else is counted as one. How the rank stood then is
--- noted, how many steps it had made, and whether a limit had stopped it.
+-- One life of a rank that reads this text, from one station to another. It begins at the first,
+-- with the program of the text, and with the row, the lines of the script and the counts that this
+-- station has. It uses lines that ask for images, and ends by the script's next kill, at that
+-- kill's clock, or as the rank leaves. A crash is counted, and nothing else is counted as one. How
+-- the rank stood then is noted, how many steps it had made, and whether a limit had stopped it.
 pub record IsLife (text : List ℕ) (old new : Station) : Type 0 where
   pub program : ProgramValue
   pub reads : IsProgramOf text program
@@ -51,9 +51,9 @@ pub record IsToldToLeave (old new : Station) : Type 0 where
   pub counts : new.tally ≡ old.tally
 
 -- The lives of a rank that reads this text, one after another: it was told to leave; or it has a
--- fault, with which its lives end, and which is still there; or it lived without one, and left; or it
--- lived without one and crashed, and its next lives begin at the station that this left, with the row
--- that was fetched.
+-- fault, with which its lives end, and which is still there; or it lived without one, and left; or
+-- it lived without one and crashed, and its next lives begin at the station that this left, with
+-- the row that was fetched.
 pub data Lives (text : List ℕ) : Station → Station → Type 0 where
   told : {old new : Station} → IsToldToLeave old new → Lives text old new
   failed : {old new : Station} → new.tally.fault ≢ None → Lives text old new

@@ -1,6 +1,8 @@
 pub mod Phases
 pub mod Lanes
 pub mod Lives
+pub mod NodeSteps
+pub mod Releasing
 pub mod Keeping
 pub mod Used
 pub mod Clearing
@@ -23,4 +25,5 @@ pub mod Orders
 pub mod Steps
 pub mod Endings
 pub mod Turns
+pub mod TurnEnds
 pub mod Waits

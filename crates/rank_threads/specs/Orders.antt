@@ -9,8 +9,8 @@ use Rattle.script_text.specs.declared.line.ScriptLine.{ScriptLine}
 use Rattle.rank_node.specs.Phases.{clock_in}
 use Rattle.rank_threads.specs.Plans.{order_at}
 use Rattle.rank_threads.specs.Phases.{Phase}
-use Rattle.rank_threads.specs.declared.stepping.Stepped.{Stepped}
-use Rattle.rank_threads.specs.declared.stepping.Stepped.TheVariants as stepped
+use Rattle.rank_threads.specs.declared.turn.stepping.Stepped.{Stepped}
+use Rattle.rank_threads.specs.declared.turn.stepping.Stepped.TheVariants as stepped
 
 -- what the rank is to do after this step; only an act can be what a line waits for
 abbrev pub order_after : Stepped → List ScriptLine → Phase → Option Order

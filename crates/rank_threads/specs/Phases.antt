@@ -18,7 +18,7 @@ use Rattle.rank_node.specs.Waiting.{Gate, misses_only}
 use Rattle.rank_node.specs.Phases.{clock_in, stable_in, settled_in}
 use Rattle.rank_node.specs.declared.phase.Phase as ranks
 use Rattle.rank_node.specs.declared.phase.Phase.TheVariants as phase
-use Rattle.rank_threads.specs.declared.row.Row.{Row}
+use Rattle.rank_threads.specs.declared.life.row.Row.{Row}
 
 -- a rank with a desk at its logger and a shelf in memory
 abbrev pub Phase : Type 0
@@ -96,8 +96,8 @@ HasImage (phase.Running v) = last_image v.stable.shelf ≡ Some (spelling (image
 HasImage (phase.Replaying r) = ⊥
 HasImage (phase.Down s) = ⊥
 
--- The shelf holds the image of a rank that runs, at this clock, though frames may have come and gone
--- since. That it is this rank, as it stood when it was taken, isn't said.
+-- The shelf holds the image of a rank that runs, at this clock, though frames may have come and
+-- gone since. That it is this rank, as it stood when it was taken, isn't said.
 abbrev pub TookImage : ℕ → Phase → Type 0
 TookImage clock p = (stood : Phase) × HasImage stood × (clock_in stood ≡ clock) × SameShelf stood p
 

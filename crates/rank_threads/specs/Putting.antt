@@ -8,8 +8,8 @@ use Rattle.rank_threads.specs.Costs.{all_put, kind_of}
 use Rattle.rank_threads.specs.Phases.{Phase}
 use Rattle.rank_threads.specs.declared.costs.FrameKind.{FrameKind}
 use Rattle.rank_threads.specs.declared.life.Life.{Life}
-use Rattle.rank_threads.specs.declared.node.frames.Went.{Went}
-use Rattle.rank_threads.specs.declared.node.frames.Went.TheVariants as went
+use Rattle.rank_threads.specs.declared.node.frames.PutResult.{PutResult}
+use Rattle.rank_threads.specs.declared.node.frames.PutResult.TheVariants as put_result
 
 -- One frame of a kind goes to a rank: it was outgoing, has gone, and was put behind all others.
 pub record PutsOne (kind : FrameKind) (p : Phase) (dest : ℕ) (put : List Frame) (q : Phase) (put' : List Frame) : Type 0 where
@@ -29,10 +29,10 @@ NothingBelow count p = (dest : ℕ) → dest < count → HasNothing p dest
 
 -- What is outgoing to a rank next goes into a lane, finds it full, or isn't there. If nothing went,
 -- all is as it was.
-abbrev pub Puts : Went → Phase → ℕ → List Frame → Phase → List Frame → Type 0
-Puts (went.Gone kind) p dest put q put' = PutsOne kind p dest put q put'
-Puts went.Full p dest put q put' = (q ≡ p) × (put' ≡ put)
-Puts went.Nothing p dest put q put' = (q ≡ p) × (put' ≡ put) × HasNothing p dest
+abbrev pub Puts : PutResult → Phase → ℕ → List Frame → Phase → List Frame → Type 0
+Puts (put_result.Gone kind) p dest put q put' = PutsOne kind p dest put q put'
+Puts put_result.Full p dest put q put' = (q ≡ p) × (put' ≡ put)
+Puts put_result.Nothing p dest put q put' = (q ≡ p) × (put' ≡ put) × HasNothing p dest
 
 -- a frame of this kind is outgoing to a rank
 pub record IsOutgoing (kind : FrameKind) (p : Phase) (dest : ℕ) : Type 0 where
@@ -42,14 +42,14 @@ pub record IsOutgoing (kind : FrameKind) (p : Phase) (dest : ℕ) : Type 0 where
 
 -- if nothing went the rank is as it was, and if the lane had room nothing is outgoing to that rank;
 -- if a frame went it was outgoing
-abbrev pub Stays : Went → Phase → ℕ → Phase → Type 0
-Stays (went.Gone kind) p dest q = IsOutgoing kind p dest
-Stays went.Full p dest q = q ≡ p
-Stays went.Nothing p dest q = (q ≡ p) × HasNothing p dest
+abbrev pub Stays : PutResult → Phase → ℕ → Phase → Type 0
+Stays (put_result.Gone kind) p dest q = IsOutgoing kind p dest
+Stays put_result.Full p dest q = q ≡ p
+Stays put_result.Nothing p dest q = (q ≡ p) × HasNothing p dest
 
 -- What is outgoing to a rank next goes into the lane to that rank, among the lanes to each, or
 -- finds it full, or isn't there: the other lanes are left as they were.
-pub record PutsInto (went : Went) (p : Phase) (dest : ℕ) (lanes : List TxValue) (q : Phase) (lanes' : List TxValue) : Type 0 where
+pub record PutsInto (went : PutResult) (p : Phase) (dest : ℕ) (lanes : List TxValue) (q : Phase) (lanes' : List TxValue) : Type 0 where
   pub lane : (d : TxValue) → Puts went p dest (put_of (slice_index_or lanes dest d)) q (put_of (slice_index_or lanes' dest d))
   pub others : (k : ℕ) (d : TxValue) → k ≢ dest → slice_index_or lanes' k d ≡ slice_index_or lanes k d
   pub rank : Stays went p dest q

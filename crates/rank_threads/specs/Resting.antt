@@ -2,8 +2,8 @@
 -- idle turn makes of one that hasn't marked itself yet (docs/ARCHITECTURE.md).
 use Rattle.std.specs.Prelude.{◌≡◌, ℕ, Bool, true, false, ◌⊎◌}
 use Rattle.rank_threads.specs.Tally.{after_idle, is_last_idle}
-use Rattle.rank_threads.specs.declared.stepping.Stepped.{Stepped}
-use Rattle.rank_threads.specs.declared.stepping.Stepped.TheVariants as stepped
+use Rattle.rank_threads.specs.declared.turn.stepping.Stepped.{Stepped}
+use Rattle.rank_threads.specs.declared.turn.stepping.Stepped.TheVariants as stepped
 use Rattle.rank_threads.specs.declared.tally.Tally.{Tally}
 
 -- A rank that waits has counted the turn. If that isn't the last of as many in succession as the

@@ -6,10 +6,10 @@ use Rattle.ports.specs.Lanes.{Lane, lane_to, lane_from}
 use Rattle.event_logger.specs.Desks.{DeskValue, LoggerValue}
 use Rattle.script_text.specs.declared.line.ScriptLine.{ScriptLine}
 use Rattle.rank_threads.specs.Stations.{IsNew}
-use Rattle.rank_threads.specs.declared.seating.Account.{Account}
-use Rattle.rank_threads.specs.declared.seating.Remains.{Remains}
-use Rattle.rank_threads.specs.declared.seating.Unseated.{Unseated}
-use Rattle.rank_threads.specs.declared.station.Station.{Station}
+use Rattle.rank_threads.specs.declared.life.seating.Account.{Account}
+use Rattle.rank_threads.specs.declared.life.seating.Remains.{Remains}
+use Rattle.rank_threads.specs.declared.life.seating.Unseated.{Unseated}
+use Rattle.rank_threads.specs.declared.life.station.Station.{Station}
 
 -- the desks of the ranks from this one on, each of this logger
 abbrev pub AreDesksFrom : LoggerValue → ℕ → List DeskValue → Type 0
@@ -40,8 +40,8 @@ ended None = end.Unfinished
 ended (Some e) = e
 
 -- what a rank came to: how it left, how often it crashed, how many steps it made, whether a limit
--- stopped it, how it stood, how many lines of the script it left unused, what its recoveries cost, and
--- why it can't go on
+-- stopped it, how it stood, how many lines of the script it left unused, what its recoveries cost,
+-- and why it can't go on
 abbrev pub account_of : Station → Account
 account_of s = record {
   end = ended s.end;

@@ -6,10 +6,10 @@ use Rattle.plain_logger.specs.History.{above}
 use Rattle.rank_node.specs.Phases.{stable_in}
 use Rattle.rank_threads.specs.Phases.{SameStable}
 use Rattle.rank_threads.specs.Lanes.{SameTxs, SameRxs}
-use Rattle.rank_threads.specs.declared.parcel.Parcel.{Parcel}
-use Rattle.rank_threads.specs.declared.row.Row.{Row}
+use Rattle.rank_threads.specs.declared.life.parcel.Parcel.{Parcel}
+use Rattle.rank_threads.specs.declared.life.row.Row.{Row}
 use Rattle.rank_threads.specs.declared.life.Life.{Life}
-use Rattle.rank_threads.specs.declared.station.Station.{Station}
+use Rattle.rank_threads.specs.declared.life.station.Station.{Station}
 use Rattle.rank_threads.specs.Costs.{new_meter}
 use Rattle.rank_threads.specs.Tally.{new_tally}
 

@@ -17,8 +17,8 @@ use Rattle.rank_threads.specs.Phases.{machine_in, want_in}
 use Rattle.rank_threads.specs.Tally.{after_steps}
 use Rattle.rank_threads.specs.Phases.{Phase}
 use Rattle.rank_node.specs.declared.phase.Phase.TheVariants as phase
-use Rattle.rank_threads.specs.declared.stepping.Stepped.{Stepped}
-use Rattle.rank_threads.specs.declared.stepping.Stepped.TheVariants as stepped
+use Rattle.rank_threads.specs.declared.turn.stepping.Stepped.{Stepped}
+use Rattle.rank_threads.specs.declared.turn.stepping.Stepped.TheVariants as stepped
 use Rattle.rank_threads.specs.declared.tally.Tally.{Tally}
 
 -- a step that isn't refused does this
@@ -144,8 +144,8 @@ StridesIn made p q = StridesOf made (machine_in p) (machine_in q)
 abbrev pub Strode : ℕ → Phase → Phase → Tally → Tally → Type 0
 Strode most p q t u = (made : ℕ) × (made ≢ 0) × StridesIn made p q × (u ≡ after_steps t made most false)
 
--- What a turn counts of its step, of a rank that stood so before and after it: its own steps, an act
--- as one, and a limit that stops the rank.
+-- What a turn counts of its step, of a rank that stood so before and after it: its own steps, an
+-- act as one, and a limit that stops the rank.
 abbrev pub Counts : ℕ → Phase → Phase → Stepped → Tally → Tally → Type 0
 Counts most p q stepped.Moved t u = Strode most p q t u
 Counts most p q stepped.Acted t u = u ≡ after_steps t 1 most true

@@ -9,31 +9,31 @@ use Rattle.rank_threads.specs.Steps.{step_of}
 use Rattle.rank_threads.specs.Taking.{TookBelow}
 use Rattle.rank_threads.specs.Phases.{Phase}
 use Rattle.rank_threads.specs.declared.life.Life.{Life}
-use Rattle.rank_threads.specs.declared.taking.Brought.{Brought}
-use Rattle.rank_threads.specs.declared.taking.Brought.TheVariants as brought
-use Rattle.rank_threads.specs.declared.turn.Begun.{Begun}
+use Rattle.rank_threads.specs.declared.turn.taking.Arrivals.{Arrivals}
+use Rattle.rank_threads.specs.declared.turn.taking.Arrivals.TheVariants as arrivals
+use Rattle.rank_threads.specs.declared.turn.TurnStart.{TurnStart}
 
 -- whether frames came
-abbrev pub is_frames : Brought → Bool
-is_frames brought.Frames = true
-is_frames (brought.Nothing none) = false
-is_frames (brought.Unrung unrung) = false
+abbrev pub is_frames : Arrivals → Bool
+is_frames arrivals.Frames = true
+is_frames (arrivals.Nothing none) = false
+is_frames (arrivals.Unrung unrung) = false
 
 -- A rank takes what its lanes bring, unless its bell wasn't rung: then it takes nothing.
-abbrev pub Brings : Brought → Life → Life → Type 0
-Brings brought.Frames old new = TookBelow old.node.size old new true
-Brings (brought.Nothing none) old new = TookBelow old.node.size old new false
-Brings (brought.Unrung unrung) old new = new ≡ old
+abbrev pub Brings : Arrivals → Life → Life → Type 0
+Brings arrivals.Frames old new = TookBelow old.node.size old new true
+Brings (arrivals.Nothing none) old new = TookBelow old.node.size old new false
+Brings (arrivals.Unrung unrung) old new = new ≡ old
 
--- A turn began: the rank took what its lanes brought, and then made the step that its state said. If
--- that was an act it was counted, by its clock.
-pub record IsBegun (old new : Life) (begun : Begun) : Type 0 where
+-- A turn began: the rank took what its lanes brought, and then made the step that its state said.
+-- If that was an act it was counted, by its clock.
+pub record IsBegun (old new : Life) (begun : TurnStart) : Type 0 where
   pub mid : Life
   pub brought : Brings begun.brought old mid
   pub stepped : Ok begun.stepped ≡ step_of mid.tally mid.node.phase
   pub acts : new.meter ≡ after_step mid.meter begun.stepped (clock_in new.node.phase)
 
 -- the script kills the rank after this beginning of a turn
-abbrev pub kills_after : Result Begun NodeFault → List ScriptLine → Phase → Bool
+abbrev pub kills_after : Result TurnStart NodeFault → List ScriptLine → Phase → Bool
 kills_after (Ok begun) plan p = is_kill (order_after begun.stepped plan p)
 kills_after (Err f) plan p = false

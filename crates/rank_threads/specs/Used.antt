@@ -3,8 +3,8 @@
 use Rattle.std.specs.Prelude.{◌≡◌, ℕ, ◌⊎◌, Bool, true, List, ◌∷◌, drop}
 use Rattle.script_text.specs.declared.line.Order.TheVariants.{Kill, Image}
 use Rattle.script_text.specs.declared.line.ScriptLine.{ScriptLine}
-use Rattle.rank_threads.specs.declared.ending.Ending.{Ending}
-use Rattle.rank_threads.specs.declared.ending.Ending.TheVariants as ending
+use Rattle.rank_threads.specs.declared.life.ending.Ending.{Ending}
+use Rattle.rank_threads.specs.declared.life.ending.Ending.TheVariants as ending
 use Rattle.rank_threads.specs.declared.turn.After.{After}
 use Rattle.rank_threads.specs.declared.turn.After.TheVariants as after
 

@@ -2,12 +2,11 @@
 //! them.
 ghost use Rattle.std.specs.Prelude.{◌≡◌, ◌≢◌, ◌+◌, ◌<◌, IfOk};
 ghost use Rattle.rank_threads.specs.Lanes.{SameTxs, SameRxs};
-ghost use Rattle.rank_threads.specs.Lives.{SameNode};
-ghost use Rattle.rank_threads.specs.Phases.{gate_in, SameShelf};
+ghost use Rattle.rank_threads.specs.Lives.{KeepsOutput};
 ghost use Rattle.rank_threads.specs.Putting.{PutsInto};
 ghost use Rattle.rank_threads.specs.Taking.{Takes, those_of};
 
-use crate::node::{Node, Went};
+use crate::node::{Node, PutResult};
 use metered::Heap;
 use ports::{Rx, Tx};
 use rank_node::Frame;
@@ -16,16 +15,16 @@ use std::alloc::AllocError;
 /// The lanes from all ranks below a number were looked at, from rank 0 on. Only
 /// `take_from` raises it.
 #[derive(Clone, Copy)]
-pub struct Looked {
+pub struct LanesSeen {
     below: u16,
 }
 
-impl Looked {
+impl LanesSeen {
     /// No lane was looked at yet.
-    pub fn none() -> Looked
+    pub fn none() -> LanesSeen
         ensures { result.below ≡ 0 }
     {
-        Looked { below: 0 }
+        LanesSeen { below: 0 }
     }
 
     fn note(&mut self, source: u8)
@@ -40,7 +39,7 @@ impl Looked {
 
 /// The next frame of the lane from this rank, which is looked at.
 #[tactic(auto, using(crate::proofs::LaneLists::map_set_same, crate::proofs::TakingLemmas::takes_looked, crate::proofs::TakingLemmas::takes_none))]
-pub fn take_from(lanes: &mut Vec<Rx, Heap>, source: u8, looked: &mut Looked) -> Option<Frame>
+pub fn take_from(lanes: &mut Vec<Rx, Heap>, source: u8, looked: &mut LanesSeen) -> Option<Frame>
     ensures takes { Takes source (those_of result) lanes.old.items lanes.new.items }
     ensures next { looked.old.below ≡ source → looked.new.below ≡ source + 1 }
     ensures others { looked.old.below ≢ source → looked.new.below ≡ looked.old.below }
@@ -61,17 +60,15 @@ pub fn put_to(
     lanes: &mut Vec<Tx, Heap>,
     dest: u8,
     node: &mut Node<'_, '_>,
-) -> Result<Went, AllocError>
+) -> Result<PutResult, AllocError>
     requires { dest < node.old.size }
     ensures puts { IfOk result (λ went. PutsInto went node.old.phase dest lanes.old.items node.new.phase lanes.new.items) }
-    ensures gate { gate_in node.new.phase ≡ gate_in node.old.phase }
-    ensures shelf { SameShelf node.old.phase node.new.phase }
     ensures lanes { SameTxs lanes.old.items lanes.new.items }
-    ensures node { SameNode node.old node.new }
+    ensures kept { KeepsOutput node.old node.new }
 {
     let lane = usize::from(dest);
     if lane >= lanes.len() {
-        return Ok(Went::Full);
+        return Ok(PutResult::Full);
     }
     node.put_one(dest, &mut lanes[lane])
 }

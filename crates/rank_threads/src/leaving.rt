@@ -1,14 +1,16 @@
 //! Part 6 of a turn: in an idle one a rank marks itself, and looks whether all
 //! may leave (termination detection).
 ghost use Rattle.std.specs.Prelude.{◌≡◌, ◌≢◌, ℕ, ◌<◌, false, IfOk, slice_index_or};
-ghost use Rattle.rank_threads.specs.Lives.{SameLife, SamePlan, SameGate};
+ghost use Rattle.rank_threads.specs.Lives.{KeepsGate};
 ghost use Rattle.rank_threads.specs.Resting.{Rests};
 
+mod marks;
+
 use crate::life::Life;
-use crate::marks::{AllAtRest, first_look, second_look};
 use crate::shared::Shared;
-use crate::stepping::Stepped;
-use crate::taking::none_came;
+use crate::turn::{Stepped, drain_lanes};
+pub use marks::{AllAtRest, Mark};
+use marks::{first_look, second_look};
 use metered::Heap;
 use std::alloc::AllocError;
 
@@ -24,9 +26,7 @@ pub fn rest<H>(
     stepped: Stepped,
 ) -> Result<Option<AllAtRest>, AllocError>
     ensures rests { life.old.tally.is_marked ≡ false → IfOk result (λ _. Rests shared.now.limits.idle stepped life.old.tally life.new.tally) }
-    ensures plan { SamePlan life.old life.new }
-    ensures gate { SameGate life.old life.new }
-    ensures same { SameLife life.old life.new }
+    ensures kept { KeepsGate life.old life.new }
 {
     if life.tally.is_marked {
         return may_leave(shared, life);
@@ -38,7 +38,7 @@ pub fn rest<H>(
         Stepped::Moved | Stepped::Acted | Stepped::Held => return Ok(None),
         Stepped::Blocked => {
             let waited = life.tally.count_idle(shared.limits.idle);
-            if !waited || others_went_on(shared.alloc, life)? {
+            if !waited || look_for_growth(shared.alloc, life)? {
                 return Ok(None);
             }
         }
@@ -54,14 +54,12 @@ fn may_leave<H>(
     shared: &Shared<'_, H>,
     life: &mut Life<'_, '_>,
 ) -> Result<Option<AllAtRest>, AllocError>
-    ensures plan { SamePlan life.old life.new }
-    ensures gate { SameGate life.old life.new }
-    ensures same { SameLife life.old life.new }
+    ensures kept { KeepsGate life.old life.new }
 {
     let Some(first) = first_look(shared.marks) else {
         return Ok(None);
     };
-    let Some(none) = none_came(shared, life)? else {
+    let Some(none) = drain_lanes(shared, life)? else {
         life.tally.end_idleness();
         return Ok(None);
     };
@@ -69,12 +67,10 @@ fn may_leave<H>(
 }
 
 // Whether another row has grown since the last reads. All are read.
-fn others_went_on(alloc: Heap, life: &mut Life<'_, '_>) -> Result<bool, AllocError>
+fn look_for_growth(alloc: Heap, life: &mut Life<'_, '_>) -> Result<bool, AllocError>
     ensures quiet { IfOk result (λ went_on. went_on ≡ false → life.new.tally ≡ life.old.tally) }
     ensures tally { life.new.tally ≡ record life.old.tally { seen = life.new.tally.seen } }
-    ensures plan { SamePlan life.old life.new }
-    ensures gate { SameGate life.old life.new }
-    ensures same { SameLife life.old life.new }
+    ensures kept { KeepsGate life.old life.new }
 {
     let mut went_on = false;
     for of in 0..life.node.size {
@@ -93,9 +89,7 @@ fn note_growth(alloc: Heap, life: &mut Life<'_, '_>, of: u8) -> Result<bool, All
     ensures quiet { IfOk result (λ grown. grown ≡ false → life.new.tally ≡ life.old.tally) }
     ensures others { (k : ℕ) → k ≢ of → slice_index_or life.new.tally.seen k 0 ≡ slice_index_or life.old.tally.seen k 0 }
     ensures tally { life.new.tally ≡ record life.old.tally { seen = life.new.tally.seen } }
-    ensures plan { SamePlan life.old life.new }
-    ensures gate { SameGate life.old life.new }
-    ensures same { SameLife life.old life.new }
+    ensures kept { KeepsGate life.old life.new }
 {
     let after = life.tally.seen_in(of);
     let events = life.node.read(alloc, of, after)?;

@@ -4,49 +4,42 @@
 //! The threads aren't verified end to end. A run is validated after the fact,
 //! as a certifying program is: there is a report only if a verified checker
 //! finds a crash-free run that explains it.
+//!
+//! Read it in this order:
+//!
+//! 1. `running`, `stage`, `playing`: a run from nothing to its report, what it
+//!    needs before it has a logger, and all its ranks.
+//! 2. `life`: a rank from life to life. Its station outlives its lives, its
+//!    keeper starts and joins them, and the crew is all keepers.
+//! 3. `turn`: a life goes turn by turn; a turn's six parts, one a file.
+//! 4. `node`: the rank of `rank_node` at its logger, as a turn calls it.
+//! 5. `leaving`: the marks of ranks at rest, and when a rank may leave.
+//! 6. `report`: what is left of a run as its report, once that is validated.
+//!
+//! Beside these: what all ranks share (`shared`, `hold`), a rank's lanes
+//! (`lanes_of`), what its script asks (`plan`), and what is counted of it
+//! (`tally`; `meter` and `costs`).
 #![tactic(auto)]
 
-mod cause;
-mod clearing;
 mod costs;
-mod crew;
-mod dropping;
-mod ending;
 mod hold;
-mod keeper;
 mod lanes_of;
 mod leaving;
 mod life;
-mod living;
-mod marks;
 mod meter;
 mod node;
-mod orders;
-mod parcel;
 mod plan;
 mod playing;
-mod putting;
-mod releasing;
 mod report;
-mod reporting;
-mod row;
 mod running;
-mod seating;
 mod shared;
 mod stage;
-mod station;
-mod stepping;
-mod stood;
-mod taking;
 mod tally;
 mod turn;
-mod waiting;
 
-pub use cause::Cause;
 pub use costs::{Costs, LogSize};
 pub use hold::Hold;
 pub use playing::{Played, play};
-pub use report::{Report, RunFault};
-pub use reporting::certify;
+pub use report::{Cause, Report, RunFault, certify};
 pub use running::{RunLimits, run};
 pub use stage::Stage;

@@ -5,12 +5,14 @@ ghost use Rattle.rank_node.specs.Phases.{stable_in};
 mod calls;
 mod frames;
 mod lives;
+mod no_screen;
+mod releasing;
 mod sizes;
 mod steps;
 
 use checkpoint::MemoryShelf;
 use event_logger::{Desk, Logger};
-pub use frames::Went;
+pub use frames::PutResult;
 use rank_node::Phase;
 
 /// A rank in its phase, with the logger that its desk is of. It must be spent.

@@ -5,10 +5,9 @@ ghost use Rattle.event_logger.specs.Desks.{AreDesks, desks_below};
 ghost use Rattle.rank_threads.specs.Report.{IsPlayed};
 ghost use Rattle.rank_threads.specs.Stage.{IsStage};
 
-use crate::crew::keep_all;
 use crate::hold::Hold;
+use crate::life::{Account, Remains, Unseated, keep_all, seat_all, unseat_all};
 use crate::running::RunLimits;
-use crate::seating::{Account, Remains, Unseated, seat_all, unseat_all};
 use crate::shared::Shared;
 use crate::stage::Stage;
 use event_logger::{Desk, Logger};

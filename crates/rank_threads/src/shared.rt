@@ -1,7 +1,7 @@
 //! What all ranks of a run share.
 ghost use Rattle.std.specs.Prelude.{◌≡◌, IfSome};
 
-use crate::marks::Mark;
+use crate::leaving::Mark;
 use crate::running::RunLimits;
 use crossbeam_utils::CachePadded;
 use metered::Heap;
@@ -19,7 +19,7 @@ pub struct Stop<'a> {
 
 impl<'a> Stop<'a> {
     /// Why, to be noted of the rank that can't go on.
-    pub fn spent(self) -> (NodeFault, Stopped<'a>)
+    pub fn spend(self) -> (NodeFault, Stopped<'a>)
         ensures why { result.0 ≡ self.entry.why }
         ensures set { result.1.flag.of ≡ self.entry.flag.of }
     {
@@ -36,19 +36,19 @@ pub struct Stopped<'a> {
 
 /// What the mark of a rank says. Only `Shared::set_mark` makes one.
 #[derive(Clone, Copy)]
-pub struct Marked {
+pub struct SetMark {
     put: u64,
     taken: u64,
 }
 
 /// The mark of a rank was taken back. Only `Shared::take_mark_back` makes one.
 #[derive(Clone, Copy)]
-pub struct TakenBack(());
+pub struct ClearedMark(());
 
 /// The bell of a rank hasn't been rung since it was last looked at. Only
 /// `Shared::take_ring` makes one.
 #[derive(Clone, Copy)]
-pub struct NotRung(());
+pub struct NoRing(());
 
 /// What all ranks share. Of each rank there is a mark and a bell.
 pub struct Shared<'a, H> {
@@ -115,7 +115,7 @@ impl<'a, H> Shared<'a, H> {
 
     /// Takes back the ring of this rank's bell. Where there was none, no frame has
     /// come to the rank since the last call.
-    pub fn take_ring(&self, rank: u8) -> Option<NotRung> {
+    pub fn take_ring(&self, rank: u8) -> Option<NoRing> {
         let was_rung = match self.bells.get(usize::from(rank)) {
             Some(bell) => bell.load(Ordering::SeqCst) && bell.swap(false, Ordering::SeqCst),
             None => true,
@@ -123,25 +123,25 @@ impl<'a, H> Shared<'a, H> {
         if was_rung {
             return None;
         }
-        Some(NotRung(()))
+        Some(NoRing(()))
     }
 
     /// The mark of this rank is set.
-    pub fn set_mark(&self, rank: u8, put: u64, taken: u64) -> Marked
+    pub fn set_mark(&self, rank: u8, put: u64, taken: u64) -> SetMark
         ensures put { result.put ≡ put }
         ensures taken { result.taken ≡ taken }
     {
         if let Some(mark) = self.marks.get(usize::from(rank)) {
             mark.set(put, taken);
         }
-        Marked { put, taken }
+        SetMark { put, taken }
     }
 
     /// The mark of this rank is taken back.
-    pub fn take_mark_back(&self, rank: u8) -> TakenBack {
+    pub fn take_mark_back(&self, rank: u8) -> ClearedMark {
         if let Some(mark) = self.marks.get(usize::from(rank)) {
             mark.take_back();
         }
-        TakenBack(())
+        ClearedMark(())
     }
 }

@@ -4,10 +4,9 @@ ghost use Rattle.rank_threads.specs.Plans.{plans_below};
 ghost use Rattle.rank_threads.specs.Seating.{IsRoom};
 ghost use Rattle.rank_threads.specs.Stage.{IsStage};
 
-use crate::marks::Mark;
-use crate::parcel::Parcel;
+use crate::leaving::Mark;
+use crate::life::{Parcel, Remains};
 use crate::plan::Plan;
-use crate::seating::Remains;
 use crossbeam_utils::CachePadded;
 use lanes::{Ends, open_all};
 use metered::Heap;

@@ -2,8 +2,8 @@
 ghost use Rattle.std.specs.Prelude.{◌≡◌, true, false, Some, slice_index_or, slice_set};
 ghost use Rattle.rank_threads.specs.Tally.{new_tally, one_more, begun_again, after_steps, is_last_idle, after_idle, after_wait};
 
-use crate::ending::Killed;
-use crate::shared::{Marked, Stop, Stopped, TakenBack};
+use crate::life::KillToken;
+use crate::shared::{ClearedMark, SetMark, Stop, Stopped};
 use metered::limits::MOST_RANKS;
 use rank_node::NodeFault;
 
@@ -63,7 +63,7 @@ impl Tally {
     pub fn refuse<'s>(&mut self, stop: Stop<'s>) -> Stopped<'s>
         ensures { self.new ≡ record self.old { fault = Some stop.entry.why } }
     {
-        let (why, stopped) = stop.spent();
+        let (why, stopped) = stop.spend();
         self.fault = Some(why);
         stopped
     }
@@ -112,7 +112,7 @@ impl Tally {
     }
 
     /// The script kills the rank.
-    pub fn count_crash(&mut self, _: &Killed)
+    pub fn count_crash(&mut self, _: &KillToken)
         ensures { self.new ≡ record self.old { crashes = one_more self.old.crashes } }
     {
         self.crashes = self.crashes.saturating_add(1);
@@ -136,7 +136,7 @@ impl Tally {
 
     /// The rank's mark was set, with what it has put and taken, where it owes no
     /// other a frame.
-    pub fn mark(&mut self, _marked: Marked)
+    pub fn mark(&mut self, _marked: SetMark)
         requires owes { self.old.may_owe ≡ false }
         requires put { _marked.put ≡ self.old.put }
         requires taken { _marked.taken ≡ self.old.taken }
@@ -146,7 +146,7 @@ impl Tally {
     }
 
     /// The rank's mark was taken back.
-    pub fn unmark(&mut self, _: TakenBack)
+    pub fn unmark(&mut self, _: ClearedMark)
         ensures { self.new ≡ record self.old { is_marked = false } }
     {
         self.is_marked = false;

@@ -2,44 +2,49 @@
 //! a step (`stepping`), what the script asks for and whether an image is due
 //! (`orders`), what waits at the gate (`clearing`), what goes out (`putting`), and
 //! the rank's mark (`leaving`).
-ghost use Rattle.std.specs.Prelude.{◌≡◌, true, false, Some, None, IfOk, OnOk, OnErr, drop};
+ghost use Rattle.std.specs.Prelude.{◌≡◌, true, false, Some, IfOk};
 ghost use Rattle.rank_node.specs.Phases.{clock_in, settled_in};
 ghost use Rattle.rank_threads.specs.Clearing.{leaves_misses};
 ghost use Rattle.rank_threads.specs.Costs.{after_step};
-ghost use Rattle.rank_threads.specs.Endings.{GoesDownAt, goes_down, is_down, is_leave};
+ghost use Rattle.rank_threads.specs.Endings.{GoesDownAt, is_down, is_leave};
 ghost use Rattle.rank_threads.specs.Lives.{SameLife, SamePlan};
-ghost use Rattle.rank_threads.specs.Orders.{images_after, order_after, is_kill};
-ghost use Rattle.rank_threads.specs.Phases.{NoneWaits, SameShelf, TookImage, gate_in, is_running, misses_only_in};
-ghost use Rattle.rank_threads.specs.Putting.{NothingBelow};
+ghost use Rattle.rank_threads.specs.Orders.{images_after};
+ghost use Rattle.rank_threads.specs.TurnEnds.{ClearsTurn, FollowsScript, LeavesGate, LetsOut, TakesImage};
 ghost use Rattle.rank_threads.specs.Turns.{IsBegun, kills_after};
-ghost use Rattle.rank_threads.specs.Used.{MayUseImage, MayUseOne, UsesLine};
+ghost use Rattle.rank_threads.specs.Used.{UsesLine};
 
-use crate::clearing::clear_gate;
-use crate::ending::{Killed, Why, kill_of};
+mod clearing;
+mod orders;
+mod putting;
+mod stepping;
+mod taking;
+
 use crate::hold::Hold;
 use crate::leaving::rest;
-use crate::life::Life;
-use crate::orders::{images_after, is_image, order_after};
-use crate::putting::put_out;
+use crate::life::{KillToken, Life, Why, kill_of};
 use crate::shared::Shared;
-use crate::stepping::{Stepped, step};
-use crate::taking::{Brought, is_frames, taken};
-use ports::ConsoleState;
+use clearing::clear_gate;
+use orders::{images_after, is_image, order_after};
+use putting::put_out;
 use rank_node::NodeFault;
 use std::sync::Wait;
+pub use stepping::Stepped;
+use stepping::step;
+use taking::{Arrivals, is_frames, take_if_rung};
+pub use taking::{EmptyLanes, drain_lanes};
 
 /// What follows a turn. It must be spent.
 pub enum After<'s> {
     /// Another turn; after an idle one others go first.
     Turn { is_idle: bool },
-    Crash(Killed),
+    Crash(KillToken),
     Leave(Why<'s>),
 }
 
 /// What the first two parts of a turn came to.
 #[derive(Clone, Copy)]
-pub struct Begun {
-    brought: Brought,
+pub struct TurnStart {
+    brought: Arrivals,
     pub stepped: Stepped,
 }
 
@@ -47,18 +52,16 @@ pub struct Begun {
 pub fn begin<W: Wait, H: Hold>(
     rt: &W,
     shared: &Shared<'_, H>,
-    blank: &mut ConsoleState,
     life: &mut Life<'_, '_>,
-) -> Result<Begun, NodeFault>
+) -> Result<TurnStart, NodeFault>
     ensures begun { IfOk result (λ begun. IsBegun life.old life.new begun) }
     ensures plan { SamePlan life.old life.new }
-    ensures blank { blank.new ≡ blank.old }
     ensures same { SameLife life.old life.new }
 {
-    let brought = taken(shared, life)?;
-    let stepped = step(rt, shared, blank, life)?;
+    let brought = take_if_rung(shared, life)?;
+    let stepped = step(rt, shared, life)?;
     count_act(life, stepped);
-    Ok(Begun { brought, stepped })
+    Ok(TurnStart { brought, stepped })
 }
 
 // An act is counted by its clock.
@@ -78,29 +81,23 @@ fn count_act(life: &mut Life<'_, '_>, stepped: Stepped)
 pub fn finish<'s, W: Wait, H: Hold>(
     rt: &W,
     shared: &Shared<'s, H>,
-    blank: &mut ConsoleState,
     life: &mut Life<'_, '_>,
-    begun: Result<Begun, NodeFault>,
+    begun: Result<TurnStart, NodeFault>,
 ) -> After<'s>
     requires { settled_in life.old.node.phase ≡ life.old.node.phase }
     ensures killed { is_down result ≡ kills_after begun life.old.plan life.old.node.phase }
     ensures at { GoesDownAt result life.new.node.phase }
     ensures lines { UsesLine result life.old.plan life.new.plan }
-    ensures settled { is_down result ≡ false → life.new.tally.fault ≡ None → life.new.tally.is_refused ≡ false
-        → misses_only_in life.new.node.phase ≡ false → NoneWaits life.new.node.phase }
-    ensures spent { is_down result ≡ false → life.new.tally.fault ≡ None → life.new.tally.is_refused ≡ false
-        → life.old.tally.is_spent ≡ true → NoneWaits life.new.node.phase }
-    ensures left { is_leave result ≡ true → life.new.tally.fault ≡ None → life.new.tally.is_refused ≡ false → NoneWaits life.new.node.phase }
-    ensures blank { blank.new ≡ blank.old }
+    ensures gate { ClearsTurn life.old life.new result }
     ensures same { SameLife life.old life.new }
 {
     let after = match begun {
-        Ok(begun) => end(rt, shared, blank, life, begun),
+        Ok(begun) => end(rt, shared, life, begun),
         Err(fault) => Err(fault),
     };
     match after {
         Ok(after) => after,
-        Err(fault) => faulted(rt, shared, life, fault),
+        Err(fault) => leave_with_fault(rt, shared, life, fault),
     }
 }
 
@@ -108,29 +105,13 @@ pub fn finish<'s, W: Wait, H: Hold>(
 fn end<'s, W: Wait, H: Hold>(
     rt: &W,
     shared: &Shared<'s, H>,
-    blank: &mut ConsoleState,
     life: &mut Life<'_, '_>,
-    begun: Begun,
+    begun: TurnStart,
 ) -> Result<After<'s>, NodeFault>
-    ensures killed { goes_down result ≡ is_kill (order_after begun.stepped life.old.plan life.old.node.phase) }
-    ensures at { IfOk result (λ after. GoesDownAt after life.new.node.phase) }
-    ensures lines { IfOk result (λ after. UsesLine after life.old.plan life.new.plan) }
-    ensures err_lines { OnErr result (MayUseImage life.old.plan life.new.plan) }
-    ensures used { goes_down result ≡ true → life.new.plan ≡ drop 1 life.old.plan }
-    ensures unasked { order_after begun.stepped life.old.plan life.old.node.phase ≡ None → life.new.plan ≡ life.old.plan }
-    ensures image { images_after begun.stepped shared.now.limits.images_every life.old.plan life.old.node.phase ≡ true → is_running life.old.node.phase ≡ true
-        → life.new.tally.is_refused ≡ false → IfOk result (λ after. is_down after ≡ false → TookImage (clock_in life.old.node.phase) life.new.node.phase) }
-    ensures unimaged { images_after begun.stepped shared.now.limits.images_every life.old.plan life.old.node.phase ≡ false → SameShelf life.old.node.phase life.new.node.phase }
-    ensures replays { is_running life.old.node.phase ≡ false → SameShelf life.old.node.phase life.new.node.phase }
-    ensures crashed { goes_down result ≡ true → SameShelf life.old.node.phase life.new.node.phase }
-    ensures settled { leaves_misses begun.stepped (images_after begun.stepped shared.now.limits.images_every life.old.plan life.old.node.phase)
-        life.old.tally.is_spent life.old.node.phase ≡ false
-        → IfOk result (λ after. is_down after ≡ false → life.new.tally.is_refused ≡ false → NoneWaits life.new.node.phase) }
-    ensures kept { leaves_misses begun.stepped (images_after begun.stepped shared.now.limits.images_every life.old.plan life.old.node.phase)
-        life.old.tally.is_spent life.old.node.phase ≡ true
-        → IfOk result (λ after. is_down after ≡ false → gate_in life.new.node.phase ≡ gate_in life.old.node.phase) }
-    ensures left { IfOk result (λ after. is_leave after ≡ true → life.new.tally.is_refused ≡ false → NoneWaits life.new.node.phase) }
-    ensures blank { blank.new ≡ blank.old }
+    ensures script { FollowsScript begun.stepped life.old life.new result }
+    ensures images { TakesImage (images_after begun.stepped shared.now.limits.images_every life.old.plan life.old.node.phase) life.old life.new result }
+    ensures gate { LeavesGate (leaves_misses begun.stepped (images_after begun.stepped shared.now.limits.images_every life.old.plan life.old.node.phase)
+        life.old.tally.is_spent life.old.node.phase) life.old life.new result }
     ensures same { SameLife life.old life.new }
 {
     let order = order_after(begun.stepped, life);
@@ -140,7 +121,7 @@ fn end<'s, W: Wait, H: Hold>(
     }
     let is_imaged = images_after(begun.stepped, shared.limits.images_every, life);
     let is_asked = is_image(order);
-    let put = let_out(rt, shared, blank, life, begun.stepped, is_imaged, is_asked)?;
+    let put = let_out(rt, shared, life, begun.stepped, is_imaged, is_asked)?;
     let is_busy = match begun.stepped {
         Stepped::Moved | Stepped::Acted | Stepped::Held => true,
         Stepped::Blocked | Stepped::Ended => put || is_frames(begun.brought),
@@ -161,32 +142,19 @@ fn end<'s, W: Wait, H: Hold>(
 fn let_out<W: Wait, H>(
     rt: &W,
     shared: &Shared<'_, H>,
-    blank: &mut ConsoleState,
     life: &mut Life<'_, '_>,
     stepped: Stepped,
     is_imaged: bool,
     is_asked: bool,
 ) -> Result<bool, NodeFault>
-    ensures nothing { OnOk result (life.old.tally.may_owe ≡ true → life.new.tally.may_owe ≡ false → NothingBelow life.new.node.size life.new.node.phase) }
-    ensures settled { leaves_misses stepped is_imaged life.old.tally.is_spent life.old.node.phase ≡ false
-        → OnOk result (life.new.tally.is_refused ≡ false → NoneWaits life.new.node.phase) }
-    ensures kept { leaves_misses stepped is_imaged life.old.tally.is_spent life.old.node.phase ≡ true
-        → OnOk result (gate_in life.new.node.phase ≡ gate_in life.old.node.phase) }
-    ensures image { is_imaged ≡ true → is_running life.old.node.phase ≡ true
-        → life.new.tally.is_refused ≡ false → OnOk result (TookImage (clock_in life.old.node.phase) life.new.node.phase) }
-    ensures unimaged { is_imaged ≡ false → SameShelf life.old.node.phase life.new.node.phase }
-    ensures replays { is_running life.old.node.phase ≡ false → SameShelf life.old.node.phase life.new.node.phase }
-    ensures unasked { is_asked ≡ false → life.new.plan ≡ life.old.plan }
-    ensures lines { MayUseOne is_asked life.old.plan life.new.plan }
-    ensures blank { blank.new ≡ blank.old }
-    ensures same { SameLife life.old life.new }
+    ensures lets { LetsOut (leaves_misses stepped is_imaged life.old.tally.is_spent life.old.node.phase) is_imaged is_asked life.old life.new result }
 {
-    clear_gate(rt, shared, blank, life, stepped, is_imaged, is_asked)?;
+    clear_gate(rt, shared, life, stepped, is_imaged, is_asked)?;
     Ok(put_out(shared, life)?)
 }
 
 /// A rank that has nothing left to replay runs from now on.
-pub fn settled<'p, 'l>(life: Life<'p, 'l>) -> Life<'p, 'l>
+pub fn settle<'p, 'l>(life: Life<'p, 'l>) -> Life<'p, 'l>
     ensures settled { result.node.phase ≡ settled_in life.entry.node.phase }
     ensures rest { result ≡ record life.entry { node = result.node } }
     ensures same { SameLife life.entry result }
@@ -202,7 +170,7 @@ pub fn settled<'p, 'l>(life: Life<'p, 'l>) -> Life<'p, 'l>
     } = life;
     Life {
         rank,
-        node: node.settled(),
+        node: node.settle(),
         to,
         from,
         plan,
@@ -212,7 +180,7 @@ pub fn settled<'p, 'l>(life: Life<'p, 'l>) -> Life<'p, 'l>
 }
 
 // The rank can't go on, and all are to leave.
-fn faulted<'s, W: Wait, H>(
+fn leave_with_fault<'s, W: Wait, H>(
     rt: &W,
     shared: &Shared<'s, H>,
     life: &mut Life<'_, '_>,

@@ -2,17 +2,17 @@
 ghost use Rattle.std.specs.Prelude.{◌≡◌, ◌<◌, true, false, OnErr, IfOk, IfErr};
 ghost use Rattle.rank_node.specs.Fault.{MayRefuseImage};
 ghost use Rattle.rank_node.specs.Phases.{clock_in, settled_in};
-ghost use Rattle.rank_threads.specs.Lives.{SameNode};
+ghost use Rattle.rank_threads.specs.Lives.{KeepsOutput, KeepsStand};
 ghost use Rattle.rank_threads.specs.Phases.{gate_in, misses_only_in, is_running};
 ghost use Rattle.rank_threads.specs.Phases.{HasImage, NoneWaits, ReadsRow, SameShelf};
 
 use super::Node;
-use crate::releasing::release_all;
+use super::releasing::release_all;
 use checkpoint::MemoryShelf;
 use event_logger::Desk;
 use metered::Heap;
 use plain_logger::Event;
-use ports::{Console, ConsoleState};
+use ports::Console;
 use rank_node::{NodeFault, Phase};
 use std::alloc::AllocError;
 use std::sync::Wait;
@@ -59,10 +59,8 @@ impl<'p, 'l> Node<'p, 'l> {
     pub fn read(&mut self, alloc: Heap, of: u8, after: u32) -> Result<Vec<Event, Heap>, AllocError>
         requires { of < self.old.size }
         ensures read { IfOk result (λ events. ReadsRow self.old.phase of after events.items self.new.phase) }
-        ensures shelf { SameShelf self.old.phase self.new.phase }
         ensures err { OnErr result (self.new.phase ≡ self.old.phase) }
-        ensures gate { gate_in self.new.phase ≡ gate_in self.old.phase }
-        ensures same { SameNode self.old self.new }
+        ensures kept { KeepsOutput self.old self.new }
     {
         let answer = match &mut self.phase {
             Phase::Running(rank) => rank.read(self.logger, of, after),
@@ -79,10 +77,8 @@ impl<'p, 'l> Node<'p, 'l> {
         ensures refused { IfErr result MayRefuseImage }
         ensures stays { IfOk result (λ took. took ≡ false → self.new.phase ≡ self.old.phase) }
         ensures replays { is_running self.old.phase ≡ false → self.new.phase ≡ self.old.phase }
-        ensures clock { clock_in self.new.phase ≡ clock_in self.old.phase }
-        ensures runs { is_running self.new.phase ≡ is_running self.old.phase }
         ensures gate { gate_in self.new.phase ≡ gate_in self.old.phase }
-        ensures same { SameNode self.old self.new }
+        ensures stands { KeepsStand self.old self.new }
     {
         match &mut self.phase {
             Phase::Running(rank) => {
@@ -95,21 +91,13 @@ impl<'p, 'l> Node<'p, 'l> {
 
     /// What waits at the gate of a rank that runs passes. Answers whether the
     /// logger took all its events. An `Err` means out of memory.
-    pub fn release<W: Wait>(
-        &mut self,
-        rt: &W,
-        console: &Console,
-        blank: &mut ConsoleState,
-    ) -> Result<bool, AllocError>
+    pub fn release<W: Wait>(&mut self, rt: &W, console: &Console) -> Result<bool, AllocError>
         ensures settled { IfOk result (λ all. all ≡ true → NoneWaits self.new.phase) }
         ensures shelf { SameShelf self.old.phase self.new.phase }
-        ensures clock { clock_in self.new.phase ≡ clock_in self.old.phase }
-        ensures runs { is_running self.new.phase ≡ is_running self.old.phase }
-        ensures blank { blank.new ≡ blank.old }
-        ensures same { SameNode self.old self.new }
+        ensures stands { KeepsStand self.old self.new }
     {
         match &mut self.phase {
-            Phase::Running(rank) => release_all(rt, self.logger, console, blank, rank),
+            Phase::Running(rank) => release_all(rt, self.logger, console, rank),
             Phase::Replaying(_) | Phase::Down(_) => Ok(true),
         }
     }

@@ -3,8 +3,7 @@ ghost use Rattle.std.specs.Prelude.{◌≡◌, ◌<◌, Some, IfOk, OnOk, OnErr}
 ghost use Rattle.ports.specs.Lanes.{lane_to, put_of};
 ghost use Rattle.rank_node.specs.declared.turn.Arrived.TheVariants.{Accepted};
 ghost use Rattle.rank_node.specs.Phases.{arrival_in, arrived_in};
-ghost use Rattle.rank_threads.specs.Lives.{SameNode};
-ghost use Rattle.rank_threads.specs.Phases.{gate_in, SameShelf};
+ghost use Rattle.rank_threads.specs.Lives.{KeepsOutput};
 ghost use Rattle.rank_threads.specs.Putting.{Puts};
 
 use super::Node;
@@ -15,7 +14,7 @@ use std::alloc::AllocError;
 
 /// What became of one frame.
 #[derive(Clone, Copy, Debug, PartialEq, Eq)]
-pub enum Went {
+pub enum PutResult {
     /// It is in the lane.
     Gone(FrameKind),
     /// The lane is full; it is still outgoing.
@@ -33,9 +32,7 @@ impl<'p, 'l> Node<'p, 'l> {
         ensures ok { OnOk result (self.new.phase ≡ arrived_in self.old.phase from frame) }
         ensures accepted_only { OnErr result (arrival_in self.old.phase from frame ≡ Some Accepted) }
         ensures err { OnErr result (self.new.phase ≡ self.old.phase) }
-        ensures shelf { SameShelf self.old.phase self.new.phase }
-        ensures gate { gate_in self.new.phase ≡ gate_in self.old.phase }
-        ensures same { SameNode self.old self.new }
+        ensures kept { KeepsOutput self.old self.new }
     {
         match self.phase.arrive(from, frame) {
             Ok(_) => Ok(()),
@@ -47,26 +44,24 @@ impl<'p, 'l> Node<'p, 'l> {
     /// when it is in the lane, and not before. An `Err` means out of memory, and
     /// leaves all as it was.
     #[tactic(auto, using(crate::proofs::GateLemmas::gone_waits))]
-    pub fn put_one(&mut self, dest: u8, lane: &mut Tx) -> Result<Went, AllocError>
+    pub fn put_one(&mut self, dest: u8, lane: &mut Tx) -> Result<PutResult, AllocError>
         requires { dest < self.old.size }
         ensures puts { IfOk result (λ went. Puts went self.old.phase dest (put_of lane.old) self.new.phase (put_of lane.new)) }
         ensures err { OnErr result ((self.new.phase ≡ self.old.phase) × (put_of lane.new ≡ put_of lane.old)) }
-        ensures shelf { SameShelf self.old.phase self.new.phase }
-        ensures gate { gate_in self.new.phase ≡ gate_in self.old.phase }
-        ensures same { SameNode self.old self.new }
+        ensures kept { KeepsOutput self.old self.new }
         ensures lane { lane_to lane.new ≡ lane_to lane.old }
     {
         let Ok(frame) = self.phase.outgoing(dest) else {
             return Err(AllocError);
         };
         let Some(frame) = frame else {
-            return Ok(Went::Nothing);
+            return Ok(PutResult::Nothing);
         };
         let kind = kind_of(&frame);
         if lane.put(frame).is_err() {
-            return Ok(Went::Full);
+            return Ok(PutResult::Full);
         }
         self.phase.passed(dest);
-        Ok(Went::Gone(kind))
+        Ok(PutResult::Gone(kind))
     }
 }

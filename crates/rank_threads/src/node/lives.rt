@@ -6,7 +6,7 @@ ghost use Rattle.rank_threads.specs.Lives.{SameNode};
 ghost use Rattle.rank_threads.specs.Phases.{Begins, SameStable};
 
 use super::Node;
-use crate::row::Row;
+use crate::life::Row;
 use checkpoint::MemoryShelf;
 use event_logger::{Desk, Logger};
 use metered::Heap;
@@ -34,8 +34,8 @@ impl<'p, 'l> Node<'p, 'l> {
         ensures size { result.0.size ≡ size }
     {
         let (phase, fault) = match row {
-            None => first(alloc, program, down),
-            Some(row) => again(alloc, program, down, row),
+            None => start(alloc, program, down),
+            Some(row) => restart(alloc, program, down, row),
         };
         let node = Node {
             phase,
@@ -46,7 +46,7 @@ impl<'p, 'l> Node<'p, 'l> {
     }
 
     /// A rank that has nothing left to replay runs from now on.
-    pub fn settled(self) -> Node<'p, 'l>
+    pub fn settle(self) -> Node<'p, 'l>
         ensures settled { result.phase ≡ settled_in self.entry.phase }
         ensures same { SameNode self.entry result }
     {
@@ -81,7 +81,7 @@ impl<'p, 'l> Node<'p, 'l> {
 }
 
 // At the beginning of its program.
-fn first<'p>(
+fn start<'p>(
     alloc: Heap,
     program: &'p Program,
     down: Down<MemoryShelf, Desk>,
@@ -97,7 +97,7 @@ fn first<'p>(
 }
 
 // At its image, replaying what of its row is above it.
-fn again<'p>(
+fn restart<'p>(
     alloc: Heap,
     program: &'p Program,
     down: Down<MemoryShelf, Desk>,

@@ -1,19 +1,21 @@
 //! The steps of a rank's machine.
-ghost use Rattle.std.specs.Prelude.{◌≡◌, ◌≢◌, ◌+◌, ◌<◌, ◌≤◌, [], false, Some, Err, option_map, IfSome, IfOk, OnErr};
+ghost use Rattle.std.specs.Prelude.{◌≡◌, ◌≢◌, ◌+◌, ◌<◌, ◌≤◌, [], false, true, Some, Err, option_map, IfSome, IfOk, OnErr};
 ghost use Rattle.rank_machine.specs.declared.want.Want.TheVariants.{Internal};
 ghost use Rattle.rank_machine.specs.Machine.{machine_want, IsWantedBy};
 ghost use Rattle.rank_node.specs.Phases.{clock_in};
 ghost use Rattle.rank_node.specs.Steps.{refusal_of, turn_of};
 ghost use Rattle.rank_threads.specs.Lives.{SameNode};
 ghost use Rattle.rank_threads.specs.Phases.{want_in, IsWantedIn};
-ghost use Rattle.rank_threads.specs.Steps.{StridesIn, acts_made, is_print, replay_turn, turn_in, unless_refused};
+ghost use Rattle.rank_threads.specs.NodeSteps.{IsNodeStep};
+ghost use Rattle.rank_threads.specs.Steps.{StridesIn, acts_made, is_print, replay_turn, unless_refused};
 
 use super::Node;
+use super::no_screen::NoScreen;
 use checkpoint::MemoryShelf;
 use event_logger::Desk;
 use ports::ConsoleState;
 use rank_machine::Wanted;
-use rank_node::{NodeFault, Phase, Replaying, Running, Turn};
+use rank_node::{NodeFault, Phase, Replaying, Running, Screen, Turn};
 
 impl<'p, 'l> Node<'p, 'l> {
     /// What its machine wants next, with what was evaluated to find it; nothing
@@ -48,51 +50,66 @@ impl<'p, 'l> Node<'p, 'l> {
         }
     }
 
-    /// One step of its machine, of which this was found; what it prints goes to
-    /// the screen.
-    pub fn step(&mut self, screen: &mut ConsoleState, wanted: Wanted) -> Result<Turn, NodeFault>
+    /// One step of its machine, of which this was found. It prints nothing, so it
+    /// has no screen.
+    pub fn step(&mut self, wanted: Wanted) -> Result<Turn, NodeFault>
+        requires wanted { IsWantedIn self.old.phase wanted }
+        requires silent { is_print (want_in self.old.phase) ≡ false }
+        ensures step { IsNodeStep self.old self.new result }
+    {
+        self.step_on_screen(&mut NoScreen, wanted)
+    }
+
+    /// A print of its machine, of which this was found, onto the screen.
+    pub fn print(&mut self, screen: &mut ConsoleState, wanted: Wanted) -> Result<Turn, NodeFault>
+        requires wanted { IsWantedIn self.old.phase wanted }
+        requires print { is_print (want_in self.old.phase) ≡ true }
+        ensures step { IsNodeStep self.old self.new result }
+    {
+        self.step_on_screen(screen, wanted)
+    }
+
+    fn step_on_screen<C: Screen>(
+        &mut self,
+        screen: &mut C,
+        wanted: Wanted,
+    ) -> Result<Turn, NodeFault>
         requires { IsWantedIn self.old.phase wanted }
-        ensures answer { result ≢ Err NodeFault.Memory → result ≡ turn_in self.old.phase }
-        ensures clock { IfOk result (λ turn. clock_in self.new.phase ≡ clock_in self.old.phase + acts_made (want_in self.old.phase) turn) }
-        ensures err { OnErr result (self.new.phase ≡ self.old.phase) }
-        ensures quiet { is_print (want_in self.old.phase) ≡ false → screen.new ≡ screen.old }
-        ensures same { SameNode self.old self.new }
+        ensures step { IsNodeStep self.old self.new result }
     {
         match &mut self.phase {
-            Phase::Running(rank) => step_on(rank, screen, wanted),
-            Phase::Replaying(rank) => step_again(rank, screen, wanted),
+            Phase::Running(rank) => run_on(rank, screen, wanted),
+            Phase::Replaying(rank) => replay_on(rank, screen, wanted),
             Phase::Down(_) => unreachable!(),
         }
     }
 }
 
-// A step of a rank that runs, said as a turn needs it: what is answered, how far the clock goes, and what is shown.
-fn step_on(
+// A step of a rank that runs, said as a turn needs it: what is answered, and how far the clock goes.
+fn run_on<C: Screen>(
     rank: &mut Running<'_, MemoryShelf, Desk>,
-    screen: &mut ConsoleState,
+    screen: &mut C,
     wanted: Wanted,
 ) -> Result<Turn, NodeFault>
     requires { IsWantedBy rank.old.machine wanted }
     ensures answer { result ≢ Err NodeFault.Memory → result ≡ unless_refused (refusal_of rank.old) (turn_of rank.old) }
     ensures clock { IfOk result (λ turn. rank.new.clock ≡ rank.old.clock + acts_made (Some (machine_want rank.old.machine)) turn) }
     ensures err { OnErr result (rank.new ≡ rank.old) }
-    ensures quiet { is_print (Some (machine_want rank.old.machine)) ≡ false → screen.new ≡ screen.old }
     ensures stable { rank.new.stable ≡ rank.old.stable }
 {
     rank.step_wanted(screen, wanted)
 }
 
 // A rank is settled as soon as nothing is left, so that none replays beyond its row.
-fn step_again(
+fn replay_on<C: Screen>(
     rank: &mut Replaying<'_, MemoryShelf, Desk>,
-    screen: &mut ConsoleState,
+    screen: &mut C,
     wanted: Wanted,
 ) -> Result<Turn, NodeFault>
     requires { IsWantedBy rank.old.node.machine wanted }
     ensures answer { result ≢ Err NodeFault.Memory → result ≡ replay_turn rank.old.node rank.old.left }
     ensures clock { IfOk result (λ turn. rank.new.node.clock ≡ rank.old.node.clock + acts_made (Some (machine_want rank.old.node.machine)) turn) }
     ensures err { OnErr result (rank.new ≡ rank.old) }
-    ensures quiet { is_print (Some (machine_want rank.old.node.machine)) ≡ false → screen.new ≡ screen.old }
     ensures stable { rank.new.node.stable ≡ rank.old.node.stable }
 {
     if rank.left() == 0 {
@@ -102,9 +119,9 @@ fn step_again(
 }
 
 // A step of a rank that has an event left, said so too.
-fn replay_one(
+fn replay_one<C: Screen>(
     rank: &mut Replaying<'_, MemoryShelf, Desk>,
-    screen: &mut ConsoleState,
+    screen: &mut C,
     wanted: Wanted,
 ) -> Result<Turn, NodeFault>
     requires left { rank.old.left ≢ [] }
@@ -112,7 +129,6 @@ fn replay_one(
     ensures answer { result ≢ Err NodeFault.Memory → result ≡ replay_turn rank.old.node rank.old.left }
     ensures clock { IfOk result (λ turn. rank.new.node.clock ≡ rank.old.node.clock + acts_made (Some (machine_want rank.old.node.machine)) turn) }
     ensures err { OnErr result (rank.new ≡ rank.old) }
-    ensures quiet { is_print (Some (machine_want rank.old.node.machine)) ≡ false → screen.new ≡ screen.old }
     ensures stable { rank.new.node.stable ≡ rank.old.node.stable }
 {
     rank.step_wanted(screen, wanted)

@@ -1,0 +1,14 @@
+use Rattle.std.proofs.Common.{◌≡◌, false}
+use Rattle.rank_threads.specs.Lives.{KeepsGate}
+use Rattle.rank_threads.specs.Putting.{PutAll}
+use Rattle.rank_threads.proofs.turn.putting.put_all_to.Given as goal
+
+-- the life stays the same, where nothing was put so does the rank, and each frame that was is counted
+abbrev pub invariant-loop : goal.invariant-loop
+invariant-loop g l = record {
+  untouched : l.put ≡ false → l.life.node.phase ≡ l.fn.life.node.phase;
+  undone : l.is_done ≡ false;
+  owing : l.life.tally.may_owe ≡ l.fn.life.tally.may_owe;
+  counted : PutAll l.dest l.fn.life l.life;
+  kept : KeepsGate l.fn.life l.life;
+}

@@ -1,0 +1,171 @@
+//! A keeper, the supervisor of a rank, starts and joins the threads of the
+//! rank's lives (its incarnations).
+ghost use Rattle.std.specs.Prelude.{◌≡◌, ◌≢◌, Some, None};
+ghost use Rattle.rank_node.specs.declared.fault.NodeFault.TheVariants.{Memory};
+ghost use Rattle.rank_threads.specs.Keeping.{HasLived, IsToldToLeave, Lives};
+ghost use Rattle.rank_threads.specs.Stations.{SameStation, HasRow};
+ghost use Rattle.rank_threads.specs.Tally.{begun_again};
+
+use super::dropping::drop_frames;
+use super::living::{refuse_life, run_life};
+use super::parcel::{AfterLife, Parcel};
+use super::station::Station;
+use crate::hold::Hold;
+use crate::shared::{Shared, Stop, Stopped};
+use audit::End;
+use rank_node::NodeFault;
+use std::snapshot::Snapshot;
+use std::sync::Wait;
+use std::thread;
+use std::thread::Threads;
+
+/// Plays lives until one doesn't crash, the rank meets a fault, or all are told
+/// to leave: the rank has come to its end in each case.
+#[tactic(auto, using(crate::proofs::LifeLemmas::keeper_laws))]
+pub fn keep<'l, R: Threads + Wait + Sync + Copy + Send, H: Hold + Sync>(
+    rt: R,
+    shared: &Shared<'_, H>,
+    station: Station<'l>,
+) -> Station<'l>
+    ensures ended { result.end ≢ None }
+    ensures lives { Lives shared.now.text.now station.entry result }
+    ensures same { SameStation station.entry result }
+{
+    let mut station = station;
+    for _ in rt.forever() {
+        if let Some(stopped) = shared.stopped() {
+            return leave_unfinished(station, stopped);
+        }
+        station = play_life(rt, shared, station);
+        if station.end.is_some() {
+            return station;
+        }
+        if station.tally.fault.is_some() {
+            return give_up(station);
+        }
+    }
+    unreachable!()
+}
+
+// A rank that has a fault lives no more, and keeps it.
+fn give_up<'l>(station: Station<'l>) -> Station<'l>
+    ensures end { result.end ≢ None }
+    ensures counts { result.tally ≡ station.entry.tally }
+    ensures same { SameStation station.entry result }
+{
+    let mut station = station;
+    station.end = Some(End::Unfinished);
+    station
+}
+
+// All were told to leave, so the rank lives no more.
+fn leave_unfinished<'l>(station: Station<'l>, _: Stopped<'_>) -> Station<'l>
+    ensures told { IsToldToLeave station.entry result }
+    ensures same { SameStation station.entry result }
+{
+    let mut station = station;
+    station.end = Some(End::Unfinished);
+    station
+}
+
+// A life, and the row for the next one where the rank is to live on.
+#[tactic(auto, using(crate::proofs::LifeLemmas::lived_on))]
+fn play_life<'l, R: Threads + Wait + Sync + Copy + Send, H: Hold + Sync>(
+    rt: R,
+    shared: &Shared<'_, H>,
+    station: Station<'l>,
+) -> Station<'l>
+    ensures row { result.end ≡ None → result.tally.fault ≡ None → HasRow result }
+    ensures lived { HasLived shared.now.text.now station.entry result }
+    ensures same { SameStation station.entry result }
+{
+    let station = spawn_life(rt, shared, station);
+    if station.end.is_some() {
+        return station;
+    }
+    fetch_row(&rt, shared, station)
+}
+
+// The frames in the lanes into the rank are dropped, and its row is fetched.
+fn fetch_row<'l, W: Wait, H>(rt: &W, shared: &Shared<'_, H>, station: Station<'l>) -> Station<'l>
+    ensures row { result.tally.fault ≡ None → HasRow result }
+    ensures plan { result.plan ≡ station.entry.plan }
+    ensures end { result.end ≡ station.entry.end }
+    ensures stood { result.stood ≡ station.entry.stood }
+    ensures tally { result.tally ≡ record (begun_again station.entry.tally) { taken = result.tally.taken; fault = result.tally.fault } }
+    ensures fault { result.tally.fault ≢ Some Memory → result.tally.fault ≡ station.entry.tally.fault }
+    ensures same { SameStation station.entry result }
+{
+    let mut station = station;
+    drop_frames(&mut station);
+    station.tally.begin_again();
+    match station.fetch(shared.alloc) {
+        Ok(()) => station,
+        Err(_) => refuse_life(station, shared.stop_all(rt, NodeFault::Memory)),
+    }
+}
+
+// A life of the rank that travels in the parcel.
+fn live_in_parcel<'l, W: Wait + Drop + Copy, H: Hold>(
+    shared: &Shared<'_, H>,
+    parcel: Parcel<'l, W>,
+) -> Parcel<'l, W>
+    ensures lived { HasLived shared.now.text.now parcel.entry.station result.station }
+    ensures same { SameStation parcel.entry.station result.station }
+{
+    let rt = parcel.rt;
+    let station = run_life(&rt, shared, parcel.open());
+    Parcel { rt, station }
+}
+
+/// What comes back where no thread could be made: the rank has met want of
+/// memory, and all were told to leave.
+pub fn refuse_parcel<'l, W: Wait + Drop + Copy>(
+    parcel: Parcel<'l, W>,
+    stop: Stop<'_>,
+) -> Parcel<'l, W>
+    requires { stop.why ≡ Memory }
+    ensures fault { result.station.tally ≡ record parcel.entry.station.tally { fault = Some Memory } }
+    ensures same { SameStation parcel.entry.station result.station }
+{
+    let rt = parcel.rt;
+    let station = refuse_life(parcel.open(), stop);
+    Parcel { rt, station }
+}
+
+/// Plays one life in a thread. Where no thread can be made, all are told to
+/// leave, and only then the life is begun here: it makes no turn.
+#[tactic(auto, using(crate::proofs::LifeLemmas::met_fault))]
+fn spawn_life<'l, R: Threads + Wait + Sync + Copy + Send, H: Hold + Sync>(
+    rt: R,
+    shared: &Shared<'_, H>,
+    station: Station<'l>,
+) -> Station<'l>
+    ensures lived { HasLived shared.now.text.now station.entry result }
+    ensures same { SameStation station.entry result }
+{
+    let parcel = Parcel { rt, station };
+    thread::scope(
+        thread::scope_env(),
+        &rt,
+        move |scope| -> Parcel<'_, R>
+            ensures lived { HasLived shared.entry.now.text.now parcel.entry.station result.station }
+            ensures same { SameStation parcel.entry.station result.station }
+        {
+            let promise = AfterLife(Snapshot::of(&parcel.station), Snapshot::of(&shared.text));
+            let whole = move || -> Parcel<'_, R>
+                ensures lived { HasLived shared.entry.now.text.now parcel.entry.station result.station }
+                ensures same { SameStation parcel.entry.station result.station }
+            { live_in_parcel(shared, parcel) };
+            match scope.spawn_with(promise, whole) {
+                Ok(child) => child.join(&rt),
+                Err(back) => {
+                    // What comes back is the whole life: it has to see that it is to leave.
+                    let stop = shared.stop_all(&rt, NodeFault::Memory);
+                    refuse_parcel((back.value)(), stop)
+                }
+            }
+        },
+    )
+    .open()
+}

@@ -1,0 +1,207 @@
+//! From a station (a process slot) to a life (an incarnation) and back.
+ghost use Rattle.std.specs.Prelude.{◌≡◌, ◌<◌, ◌≤◌, None, IfErr, OnOk, OnErr};
+ghost use Rattle.metered.specs.Limits.{most_ranks};
+ghost use Rattle.rank_threads.specs.Costs.{after_log, log_size_in};
+ghost use Rattle.rank_threads.specs.Endings.{stood_at};
+ghost use Rattle.rank_threads.specs.Phases.{Begins, is_replaying};
+ghost use Rattle.rank_threads.specs.Stations.{SameStation, IsLifeOf, IsNew, HasRow};
+
+use super::Station;
+use crate::life::stood::Stood;
+use crate::life::{Life, Row};
+use crate::meter::Meter;
+use crate::node::Node;
+use crate::plan::Plan;
+use crate::shared::Shared;
+use crate::tally::Tally;
+use audit::End;
+use checkpoint::MemoryShelf;
+use event_logger::{Desk, Logger};
+use metered::Heap;
+use ports::{Rx, Tx};
+use rank_language::Program;
+use rank_node::{Down, NodeFault, Phase, Stable};
+use std::sync::Wait;
+
+impl<'l> Station<'l> {
+    /// The station of a rank that hasn't lived yet.
+    pub fn new(
+        alloc: Heap,
+        logger: &'l Logger,
+        desk: Desk,
+        rank: u8,
+        size: u8,
+        to: Vec<Tx, Heap>,
+        from: Vec<Rx, Heap>,
+        plan: Plan,
+    ) -> Station<'l>
+        requires rank { rank < size }
+        requires few { size ≤ most_ranks }
+        requires who { desk.rank ≡ rank }
+        requires own { desk.table ≡ logger.now.table }
+        requires ranks { logger.now.ranks ≡ size }
+        ensures desk { result.down.desk ≡ desk }
+        ensures to { result.to ≡ to }
+        ensures from { result.from ≡ from }
+        ensures plan { result.plan ≡ plan }
+        ensures rank { result.rank ≡ rank }
+        ensures fresh { IsNew result }
+    {
+        let stable = Stable::new(desk, MemoryShelf::new(alloc), rank, size);
+        Station {
+            rank,
+            down: Down::of(stable),
+            logger,
+            size,
+            to,
+            from,
+            plan,
+            tally: Tally::new(),
+            meter: Meter::new(),
+            row: None,
+            end: None,
+            stood: Stood {
+                clock: 0,
+                is_replaying: false,
+                is_at_rest: false,
+            },
+        }
+    }
+
+    /// A life of the rank begins. Where it can't, its fault says why, and
+    /// all are to leave.
+    pub fn begin<'p, W: Wait, H>(
+        self,
+        rt: &W,
+        shared: &Shared<'_, H>,
+        program: &'p Program,
+    ) -> Life<'p, 'l>
+        ensures begins { result.tally.fault ≡ None → Begins program.now self.entry.down self.entry.row result.node.phase }
+        ensures plan { result.plan ≡ self.entry.plan }
+        ensures tally { result.tally ≡ record self.entry.tally { fault = result.tally.fault } }
+        ensures well { result.tally.fault ≡ None → result.tally ≡ self.entry.tally }
+        ensures meter { result.meter ≡ self.entry.meter }
+        ensures same { IsLifeOf self.entry result }
+    {
+        let Station {
+            rank,
+            down,
+            logger,
+            size,
+            to,
+            from,
+            plan,
+            mut tally,
+            meter,
+            row,
+            end: _,
+            stood: _,
+        } = self;
+        let (node, fault) = Node::begin(shared.alloc, program, logger, down, row, size);
+        if let Some(fault) = fault {
+            tally.refuse(shared.stop_all(rt, fault));
+        }
+        Life {
+            rank,
+            node,
+            to,
+            from,
+            plan,
+            tally,
+            meter,
+        }
+    }
+
+    /// The rank stops for good, and gives back its desk and its lanes.
+    pub fn close(self) -> (Desk, Vec<Tx, Heap>, Vec<Rx, Heap>)
+        ensures desk { result.0 ≡ self.entry.down.desk }
+        ensures to { result.1 ≡ self.entry.to }
+        ensures from { result.2 ≡ self.entry.from }
+    {
+        let Station {
+            rank: _,
+            down,
+            logger: _,
+            size: _,
+            to,
+            from,
+            plan: _,
+            tally: _,
+            meter: _,
+            row: _,
+            end: _,
+            stood: _,
+        } = self;
+        let (desk, _shelf) = down.retire().parts();
+        (desk, to, from)
+    }
+
+    /// The rank fetches its row, which it replays in its next life.
+    pub fn fetch(&mut self, alloc: Heap) -> Result<(), NodeFault>
+        ensures row { OnOk result (HasRow self.new) }
+        ensures meter { self.new.meter ≡ self.old.meter }
+        ensures rest { (self.new.plan ≡ self.old.plan) × (self.new.tally ≡ self.old.tally) × (self.new.end ≡ self.old.end) × (self.new.stood ≡ self.old.stood) }
+        ensures memory { IfErr result (λ e. e ≡ NodeFault.Memory) }
+        ensures err { OnErr result ((self.new.down ≡ self.old.down) × (self.new.row ≡ self.old.row)) }
+        ensures same { SameStation self.old self.new }
+    {
+        let logger = self.logger;
+        let row = self.down.fetch(alloc, logger)?;
+        self.row = Some(Row::new(row));
+        Ok(())
+    }
+}
+
+impl<'p, 'l> Life<'p, 'l> {
+    /// The life is over. `end` says how the rank left; where it crashed, it
+    /// didn't. `is_at_rest` says whether it left as all ranks were at rest.
+    pub fn leave(self, end: Option<End>, is_at_rest: bool) -> Station<'l>
+        ensures end { result.end ≡ end }
+        ensures stood { result.stood ≡ stood_at is_at_rest self.entry.node.phase }
+        ensures plan { result.plan ≡ self.entry.plan }
+        ensures tally { result.tally ≡ self.entry.tally }
+        ensures meter { result.meter ≡ after_log self.entry.meter (log_size_in self.entry.node.phase) }
+        ensures row { result.row ≡ None }
+        ensures same { IsLifeOf result self.entry }
+    {
+        let Life {
+            rank,
+            node,
+            to,
+            from,
+            plan,
+            tally,
+            mut meter,
+        } = self;
+        meter.note_log(node.log_size());
+        let stood = Stood {
+            clock: node.clock(),
+            is_replaying: is_replaying(&node),
+            is_at_rest,
+        };
+        let (down, logger, size) = node.end();
+        Station {
+            rank,
+            down,
+            logger,
+            size,
+            to,
+            from,
+            plan,
+            tally,
+            meter,
+            row: None,
+            end,
+            stood,
+        }
+    }
+}
+
+fn is_replaying(node: &Node<'_, '_>) -> bool
+    ensures { result ≡ is_replaying node.now.phase }
+{
+    match node.phase() {
+        Phase::Replaying(_) => true,
+        Phase::Running(_) | Phase::Down(_) => false,
+    }
+}

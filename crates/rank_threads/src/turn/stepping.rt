@@ -1,0 +1,166 @@
+//! Part 2 of a turn: a stride or a step of the rank.
+ghost use Rattle.std.specs.Prelude.{◌≡◌, ◌≢◌, ◌+◌, true, false, Ok, Err, IfOk, OnErr};
+ghost use Rattle.rank_node.specs.Phases.{clock_in};
+ghost use Rattle.rank_threads.specs.Lives.{SameLife, KeepsCosts};
+ghost use Rattle.rank_threads.specs.Phases.{want_in};
+ghost use Rattle.rank_threads.specs.NodeSteps.{IsNodeStep};
+ghost use Rattle.rank_threads.specs.Steps.{acts_of, counted, is_limit, is_own, step_of, told, Counts, Strode};
+
+use crate::hold::Hold;
+use crate::life::Life;
+use crate::shared::Shared;
+use rank_machine::Want;
+use rank_node::{NodeFault, Turn};
+use std::sync::Wait;
+
+/// How many steps of its own a rank makes in one turn at most.
+const STRIDE: u32 = 1024;
+
+/// What became of a rank's step.
+#[derive(Clone, Copy, Debug, PartialEq, Eq)]
+pub enum Stepped {
+    /// It made steps of its own.
+    Moved,
+    /// It made an act.
+    Acted,
+    /// It waits for a message.
+    Blocked,
+    /// It waits at its gate.
+    Held,
+    /// It has ended, or steps no more.
+    Ended,
+}
+
+/// A stride of steps of the rank's own, or else one step, where the rank may
+/// step. No act follows a stride in the same turn.
+///
+/// A rank that is refused by a limit is spent, and steps no more.
+#[tactic(auto, using(crate::proofs::TurnLemmas::step_laws))]
+pub fn step<W: Wait, H: Hold>(
+    rt: &W,
+    shared: &Shared<'_, H>,
+    life: &mut Life<'_, '_>,
+) -> Result<Stepped, NodeFault>
+    ensures answer { result ≢ Err NodeFault.Memory → result ≡ step_of life.old.tally life.old.node.phase }
+    ensures counts { IfOk result (λ stepped. Counts shared.now.limits.steps life.old.node.phase life.new.node.phase stepped life.old.tally life.new.tally) }
+    ensures clock { IfOk result (λ stepped. clock_in life.new.node.phase ≡ clock_in life.old.node.phase + acts_of stepped) }
+    ensures waits { life.old.tally.is_blocked ≡ true → life.old.tally.is_spent ≡ false → (result ≡ Ok Stepped.Blocked) × (life.new ≡ life.old) }
+    ensures kept { KeepsCosts life.old life.new }
+{
+    if life.tally.is_spent {
+        return Ok(Stepped::Ended);
+    }
+    if life.tally.is_blocked {
+        tell(shared, life);
+        return Ok(Stepped::Blocked);
+    }
+    if try_stride(shared, life) {
+        return Ok(Stepped::Moved);
+    }
+    let answer = act(rt, shared, life);
+    count(shared, life, answer)
+}
+
+// Steps of the rank's own, where it wants one. Answers whether it made any.
+#[tactic(auto, using(crate::proofs::TurnLemmas::stride_laws))]
+fn try_stride<H>(shared: &Shared<'_, H>, life: &mut Life<'_, '_>) -> bool
+    ensures own { result ≡ is_own (want_in life.old.node.phase) }
+    ensures none { result ≡ false → (life.new.node.phase ≡ life.old.node.phase) × (life.new.tally ≡ life.old.tally) }
+    ensures counts { result ≡ true → Strode shared.now.limits.steps life.old.node.phase life.new.node.phase life.old.tally life.new.tally }
+    ensures clock { clock_in life.new.node.phase ≡ clock_in life.old.node.phase }
+    ensures kept { KeepsCosts life.old life.new }
+{
+    let left = shared.limits.steps.saturating_sub(life.tally.steps);
+    let made = life.node.stride(left.min(STRIDE).max(1));
+    if made == 0 {
+        return false;
+    }
+    life.tally.count_steps(made, shared.limits.steps, false);
+    true
+}
+
+// An act is counted, and a rank that is refused by a limit has ended.
+#[tactic(auto, using(crate::proofs::TurnLemmas::count_laws))]
+fn count<H>(
+    shared: &Shared<'_, H>,
+    life: &mut Life<'_, '_>,
+    answer: Result<Turn, NodeFault>,
+) -> Result<Stepped, NodeFault>
+    ensures told { result ≡ told answer }
+    ensures counted { life.new.tally ≡ counted shared.now.limits.steps answer life.old.tally }
+    ensures rest { life.new ≡ record life.old { tally = life.new.tally } }
+    ensures same { SameLife life.old life.new }
+{
+    match answer {
+        Ok(Turn::Moved) => {
+            life.tally.count_steps(1, shared.limits.steps, true);
+            Ok(Stepped::Acted)
+        }
+        Ok(Turn::Blocked) => {
+            life.tally.block();
+            Ok(Stepped::Blocked)
+        }
+        Ok(Turn::Held) => Ok(Stepped::Held),
+        Ok(Turn::Ended) => Ok(Stepped::Ended),
+        Err(fault) => {
+            if !is_limit(fault) {
+                return Err(fault);
+            }
+            life.tally.spend();
+            Ok(Stepped::Ended)
+        }
+    }
+}
+
+// Whether a limit refuses the step.
+fn is_limit(fault: NodeFault) -> bool
+    ensures { result ≡ is_limit fault }
+{
+    match fault {
+        NodeFault::ClockSpent | NodeFault::Log => true,
+        NodeFault::Memory
+        | NodeFault::NotSettled
+        | NodeFault::Shelf
+        | NodeFault::Image
+        | NodeFault::Replay => false,
+    }
+}
+
+// Who holds acts is told of the one that the rank wants.
+fn tell<H: Hold>(shared: &Shared<'_, H>, life: &Life<'_, '_>) {
+    // No clock is near the end of its type.
+    let clock = life.node.clock().saturating_add(1);
+    shared.hold.before(life.rank, clock);
+}
+
+// Who holds acts is told of one before it is made, also where it turns out to
+// be blocked. The console's lock is taken for a print alone.
+fn act<W: Wait, H: Hold>(
+    rt: &W,
+    shared: &Shared<'_, H>,
+    life: &mut Life<'_, '_>,
+) -> Result<Turn, NodeFault>
+    ensures step { IsNodeStep life.old.node life.new.node result }
+    ensures rest { life.new ≡ record life.old { node = life.new.node } }
+    ensures same { SameLife life.old life.new }
+{
+    let Some(wanted) = life.node.wanted() else {
+        return Ok(Turn::Ended);
+    };
+    if wanted.want.is_act() {
+        tell(shared, life);
+    }
+    match wanted.want {
+        Want::Print(_) => {
+            let mut console = shared.console.lock(rt);
+            life.node.print(&mut *console, wanted)
+        }
+        Want::Internal
+        | Want::Send { .. }
+        | Want::Receive(_)
+        | Want::Probe(_)
+        | Want::TryProbe(_)
+        | Want::Halted
+        | Want::Faulted(_) => life.node.step(wanted),
+    }
+}
