@@ -14,5 +14,5 @@ module _ {W : Type 0} where
   kept_snoc text xs ys x y kept one = rw (stations_snoc xs x, stations_snoc ys y) (one, kept)
 
 -- where no thread could be made, the rank has met refused memory
-pub kept_refused : (text : List ℕ) (old new : Station) → SameStation old new → new.tally.fault ≡ Some fault.Memory → WasKept text old new
+pub kept_refused : (text : List ℕ) (old new : Station) → SameStation old new → new.kit.tally.fault ≡ Some fault.Memory → WasKept text old new
 kept_refused text old new same met = (same, failed (λ none. (let both : Some fault.Memory ≡ None = sym met ∙ none in absurd cc)))

@@ -22,25 +22,25 @@ dropped_then m (frame ∷ frames) more = dropped_then (one_dropped m) frames mor
 
 -- at first nothing is dropped
 pub dropped_nothing : (source : ℕ) (station : Station) → DroppedFrom source station station
-dropped_nothing source station = record { frames = []; lanes = takes_none source station.from.items; tally = refl; meter = refl }
+dropped_nothing source station = record { frames = []; lanes = takes_none source station.kit.from.items; tally = refl; meter = refl }
 
 -- one frame is dropped
-pub dropped_one : (source : ℕ) (old new : Station) (frame : Frame) → Takes source (frame ∷ []) old.from.items new.from.items
-    → new.tally ≡ lost old.tally → new.meter ≡ one_dropped old.meter → DroppedFrom source old new
+pub dropped_one : (source : ℕ) (old new : Station) (frame : Frame) → Takes source (frame ∷ []) old.kit.from.items new.kit.from.items
+    → new.kit.tally ≡ lost old.kit.tally → new.kit.meter ≡ one_dropped old.kit.meter → DroppedFrom source old new
 dropped_one source old new frame takes counted metered = record { frames = frame ∷ []; lanes = takes; tally = counted; meter = metered }
 
 -- none was there
-pub dropped_none : (source : ℕ) (old new : Station) → Takes source [] old.from.items new.from.items → new.tally ≡ old.tally
-    → new.meter ≡ old.meter → DroppedFrom source old new
+pub dropped_none : (source : ℕ) (old new : Station) → Takes source [] old.kit.from.items new.kit.from.items → new.kit.tally ≡ old.kit.tally
+    → new.kit.meter ≡ old.kit.meter → DroppedFrom source old new
 dropped_none source old new takes counted metered = record { frames = []; lanes = takes; tally = counted; meter = metered }
 
 -- some more are dropped, behind those before
 pub dropped_more : (source : ℕ) (old mid new : Station) → DroppedFrom source old mid → DroppedFrom source mid new → DroppedFrom source old new
 dropped_more source old mid new before here = record {
   frames = before.frames ++ here.frames;
-  lanes = takes_then source before.frames here.frames old.from.items mid.from.items new.from.items before.lanes here.lanes;
-  tally = here.tally ∙ ap (λ t. all_lost t here.frames) before.tally ∙ sym (lost_then old.tally before.frames here.frames);
-  meter = here.meter ∙ ap (λ m. all_dropped m here.frames) before.meter ∙ sym (dropped_then old.meter before.frames here.frames);
+  lanes = takes_then source before.frames here.frames old.kit.from.items mid.kit.from.items new.kit.from.items before.lanes here.lanes;
+  tally = here.tally ∙ ap (λ t. all_lost t here.frames) before.tally ∙ sym (lost_then old.kit.tally before.frames here.frames);
+  meter = here.meter ∙ ap (λ m. all_dropped m here.frames) before.meter ∙ sym (dropped_then old.kit.meter before.frames here.frames);
 }
 
 -- one lane more

@@ -22,12 +22,12 @@ by_end (ending.Left reason) is_spent p crashes = refl
 
 -- a life that began at a station and ended so was lived, and is counted by the end
 pub has_lived : (text : List ℕ) (program : ProgramValue) (old new : Station) (begun ended : Life) (how : Ending)
-    → IsProgramOf text program → begun.tally.fault ≡ None → (begun.tally.fault ≡ None → Begins program old.down old.row begun.node.phase)
-    → begun.plan ≡ old.plan → (begun.tally.fault ≡ None → begun.tally ≡ old.tally)
-    → SamePlace begun ended → UsesLines how begun.plan ended.plan → IsKilledAt how ended.node.phase
-    → ended.tally.crashes ≡ crashes_after how begun.tally.crashes
-    → new.end ≡ end_after how ended.tally.is_spent ended.node.phase
-    → new.plan ≡ ended.plan → new.tally ≡ ended.tally → new.stood ≡ stood_after how ended.node.phase → HasLived text old new
+    → IsProgramOf text program → begun.kit.tally.fault ≡ None → (begun.kit.tally.fault ≡ None → Begins program old.down old.row begun.node.phase)
+    → begun.kit.plan ≡ old.kit.plan → (begun.kit.tally.fault ≡ None → begun.kit.tally ≡ old.kit.tally)
+    → SamePlace begun ended → UsesLines how begun.kit.plan ended.kit.plan → IsKilledAt how ended.node.phase
+    → ended.kit.tally.crashes ≡ crashes_after how begun.kit.tally.crashes
+    → new.end ≡ end_after how ended.kit.tally.is_spent ended.node.phase
+    → new.kit.plan ≡ ended.kit.plan → new.kit.tally ≡ ended.kit.tally → new.stood ≡ stood_after how ended.node.phase → HasLived text old new
 has_lived text program old new begun ended how reads well begins plan counts same lines killed counted leaves left tally stands none = record {
   program = program;
   reads = reads;
@@ -47,22 +47,22 @@ has_lived text program old new begun ended how reads well begins plan counts sam
   spent = ap (λ t. t.is_spent) tally;
   crashes =
       ap (λ t. t.crashes) tally ∙ counted ∙ ap (λ t. crashes_after how t.crashes) (counts well)
-      ∙ by_end how ended.tally.is_spent ended.node.phase old.tally.crashes
-      ∙ ap (λ e. crashes_by e old.tally.crashes) (sym leaves);
+      ∙ by_end how ended.kit.tally.is_spent ended.node.phase old.kit.tally.crashes
+      ∙ ap (λ e. crashes_by e old.kit.tally.crashes) (sym leaves);
 }
 
 -- if a rank met a fault nothing is said
-pub met_fault : (text : List ℕ) (old new : Station) (f : NodeFault) → new.tally.fault ≡ Some f → HasLived text old new
+pub met_fault : (text : List ℕ) (old new : Station) (f : NodeFault) → new.kit.tally.fault ≡ Some f → HasLived text old new
 met_fault text old new f met none = (let both : Some f ≡ None = sym met ∙ none in absurd cc)
 
 -- nor if it has one
-pub has_fault : (text : List ℕ) (old new : Station) → is_some new.tally.fault ≡ true → HasLived text old new
+pub has_fault : (text : List ℕ) (old new : Station) → is_some new.kit.tally.fault ≡ true → HasLived text old new
 has_fault text old new some none = (let gone : false ≡ true = ap is_some (sym none) ∙ some in absurd cc)
 
 -- what comes behind a life, counts no crash and uses no line leaves it as it was
-pub lived_on : (text : List ℕ) (old mid new : Station) → HasLived text old mid → (new.tally.fault ≢ Some fault.Memory → new.tally.fault ≡ mid.tally.fault)
-    → new.end ≡ mid.end → new.plan ≡ mid.plan → new.stood ≡ mid.stood → new.tally.crashes ≡ mid.tally.crashes → new.tally.steps ≡ mid.tally.steps
-    → new.tally.is_spent ≡ mid.tally.is_spent → HasLived text old new
+pub lived_on : (text : List ℕ) (old mid new : Station) → HasLived text old mid → (new.kit.tally.fault ≢ Some fault.Memory → new.kit.tally.fault ≡ mid.kit.tally.fault)
+    → new.end ≡ mid.end → new.kit.plan ≡ mid.kit.plan → new.stood ≡ mid.stood → new.kit.tally.crashes ≡ mid.kit.tally.crashes → new.kit.tally.steps ≡ mid.kit.tally.steps
+    → new.kit.tally.is_spent ≡ mid.kit.tally.is_spent → HasLived text old new
 lived_on text old mid new lived kept end plan stood same steps spent none =
     let life = lived (sym (kept (λ memory. (let both : None ≡ Some fault.Memory = sym none ∙ memory in absurd cc))) ∙ none) in
     record {
@@ -82,7 +82,7 @@ lived_on text old mid new lived kept end plan stood same steps spent none =
       stands = stood ∙ life.stands;
       steps = steps ∙ life.steps;
       spent = spent ∙ life.spent;
-      crashes = same ∙ life.crashes ∙ ap (λ e. crashes_by e old.tally.crashes) (sym end);
+      crashes = same ∙ life.crashes ∙ ap (λ e. crashes_by e old.kit.tally.crashes) (sym end);
     }
 
 -- a fault or none
@@ -92,18 +92,18 @@ well_or_not (Some e) = inr (λ both. absurd cc)
 
 -- one life more, without a fault, by which the rank crashed
 pub lives_on : (text : List ℕ) (first old new : Station) → ((u : Station) → Lives text old u → Lives text first u)
-    → HasLived text old new → new.end ≡ None → new.tally.fault ≡ None → (new.end ≡ None → new.tally.fault ≡ None → HasRow new) → (u : Station) → Lives text new u → Lives text first u
+    → HasLived text old new → new.end ≡ None → new.kit.tally.fault ≡ None → (new.end ≡ None → new.kit.tally.fault ≡ None → HasRow new) → (u : Station) → Lives text new u → Lives text first u
 lives_on text first old new before lived crashed well row u rest = before u (again (lived well) well crashed (row crashed well) rest)
 
 -- the last life, in which the rank left, or met a fault
 pub lives_last : (text : List ℕ) (first old new : Station) → ((u : Station) → Lives text old u → Lives text first u) → HasLived text old new
     → new.end ≢ None → Lives text first new
 lives_last text first old new before lived left =
-    elim (well_or_not new.tally.fault) [ inl well ↦ before new (last (lived well) well left) | inr fault ↦ before new (failed fault) ]
+    elim (well_or_not new.kit.tally.fault) [ inl well ↦ before new (last (lived well) well left) | inr fault ↦ before new (failed fault) ]
 
 -- the last life, behind which the rank has a fault, and is given up with it
 pub lives_failed : (text : List ℕ) (first old mid new : Station) → ((u : Station) → Lives text old u → Lives text first u)
-    → is_some mid.tally.fault ≡ true → new.tally ≡ mid.tally → Lives text first new
+    → is_some mid.kit.tally.fault ≡ true → new.kit.tally ≡ mid.kit.tally → Lives text first new
 lives_failed text first old mid new before some same = before new (failed (λ none.
     let gone : false ≡ true = ap is_some (sym (ap (λ t. t.fault) (sym same) ∙ none)) ∙ some in
     absurd cc))

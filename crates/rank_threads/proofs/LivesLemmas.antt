@@ -52,38 +52,38 @@ used_by (ending.Left reason) is_spent p old new e lines end =
 -- These lines were used between two stations, and so many kills are counted.
 record Counted (old new : Station) : Type 0 where
   pub lines : List ScriptLine
-  pub first : old.plan ≡ lines ++ new.plan
-  pub crashes : new.tally.crashes ≡ min (old.tally.crashes + kills_in lines) most
+  pub first : old.kit.plan ≡ lines ++ new.kit.plan
+  pub crashes : new.kit.tally.crashes ≡ min (old.kit.tally.crashes + kills_in lines) most
 
 -- in one life
-life_counted : (text : List ℕ) (old new : Station) → IsLife text old new → old.tally.crashes ≤ most → Counted old new
+life_counted : (text : List ℕ) (old new : Station) → IsLife text old new → old.kit.tally.crashes ≤ most → Counted old new
 life_counted text old new life low =
-    let all = used_by life.how life.ended.tally.is_spent life.ended.node.phase life.begun.plan life.ended.plan new.end life.lines life.leaves in
+    let all = used_by life.how life.ended.kit.tally.is_spent life.ended.node.phase life.begun.kit.plan life.ended.kit.plan new.end life.lines life.leaves in
     record {
       lines = all.lines;
       first = sym life.plan ∙ all.first ∙ ap (λ l. all.lines ++ l) (sym life.left);
-      crashes = life.crashes ∙ all.counts old.tally.crashes low;
+      crashes = life.crashes ∙ all.counts old.kit.tally.crashes low;
     }
 
 -- in all lives of a rank that has no fault at the end
-counted : (text : List ℕ) (old new : Station) → Lives text old new → new.tally.fault ≡ None → old.tally.crashes ≤ most → Counted old new
+counted : (text : List ℕ) (old new : Station) → Lives text old new → new.kit.tally.fault ≡ None → old.kit.tally.crashes ≤ most → Counted old new
 counted text old new (told left) none low = record {
   lines = [];
   first = sym left.plan;
-  crashes = ap (λ t. t.crashes) left.counts ∙ stops_not old.tally.crashes most low;
+  crashes = ap (λ t. t.crashes) left.counts ∙ stops_not old.kit.tally.crashes most low;
 }
 counted text old new (failed fault) none low = absurd (fault none)
 counted text old new (last life well left) none low = life_counted text old new life low
 counted text old new (again {mid = mid} life well crashed row more) none low =
     let one = life_counted text old mid life low in
-    let rest = counted text mid new more none (rw (one.crashes) (stops_low (old.tally.crashes + kills_in one.lines) most)) in
+    let rest = counted text mid new more none (rw (one.crashes) (stops_low (old.kit.tally.crashes + kills_in one.lines) most)) in
     record {
       lines = one.lines ++ rest.lines;
-      first = one.first ∙ ap (λ l. one.lines ++ l) rest.first ∙ sym (append_assoc one.lines rest.lines new.plan);
+      first = one.first ∙ ap (λ l. one.lines ++ l) rest.first ∙ sym (append_assoc one.lines rest.lines new.kit.plan);
       crashes =
           rest.crashes ∙ ap (λ n. min (n + kills_in rest.lines) most) one.crashes
-          ∙ stops_later old.tally.crashes (kills_in one.lines) (kills_in rest.lines) most
-          ∙ ap (λ n. min (old.tally.crashes + n) most) (sym (kills_append one.lines rest.lines));
+          ∙ stops_later old.kit.tally.crashes (kills_in one.lines) (kills_in rest.lines) most
+          ∙ ap (λ n. min (old.kit.tally.crashes + n) most) (sym (kills_append one.lines rest.lines));
     }
 
 -- the lines of a script for each of so many ranks, from one on
@@ -109,7 +109,7 @@ plans_same (suc k) script =
 -- each of these stations has the lines of a script that are for its rank
 abbrev ArePlanned : ℕ → List ScriptLine → List Station → Type 0
 ArePlanned rank script [] = Unit {0}
-ArePlanned rank script (s ∷ ss) = (s.plan ≡ orders_of rank script) × ArePlanned (rank + 1) script ss
+ArePlanned rank script (s ∷ ss) = (s.kit.plan ≡ orders_of rank script) × ArePlanned (rank + 1) script ss
 
 -- so has each station of which the lines are listed so
 planned : (rank k : ℕ) (script : List ScriptLine) (ss : List Station) → plans_of ss ≡ plans_from rank k script → ArePlanned rank script ss
@@ -125,12 +125,12 @@ all_counted text script rank crashes [] [] new planned kept well low = stops_not
 all_counted text script rank crashes [] (y ∷ ys) new planned kept well low = absurd kept
 all_counted text script rank crashes (x ∷ xs) [] new planned kept well low = absurd kept
 all_counted text script rank crashes (x ∷ xs) (y ∷ ys) new planned kept well low =
-    let none : x.tally.crashes ≡ 0 = ap (λ t. t.crashes) new.0.tally in
+    let none : x.kit.tally.crashes ≡ 0 = ap (λ t. t.crashes) new.0.tally in
     let one = counted text x y kept.0.1 well.0 (rw (none) (omega arith)) in
-    let lines : used_of (orders_of rank script) (length y.plan) ≡ one.lines
-    = ap (λ l. used_of l (length y.plan)) (sym planned.0 ∙ one.first) ∙ used_first one.lines y.plan in
-    let rest = all_counted text script (rank + 1) (min (crashes + y.tally.crashes) most) xs ys new.1 planned.1 kept.1 well.1
-    (stops_low (crashes + y.tally.crashes) most) in
+    let lines : used_of (orders_of rank script) (length y.kit.plan) ≡ one.lines
+    = ap (λ l. used_of l (length y.kit.plan)) (sym planned.0 ∙ one.first) ∙ used_first one.lines y.kit.plan in
+    let rest = all_counted text script (rank + 1) (min (crashes + y.kit.tally.crashes) most) xs ys new.1 planned.1 kept.1 well.1
+    (stops_low (crashes + y.kit.tally.crashes) most) in
     let many = kills_used_from (rank + 1) script (map (λ a. a.unused) (accounts_of ys)) in
     rest ∙ ap (λ n. min (min (crashes + n) most + many) most) (one.crashes ∙ ap (λ n. min (n + kills_in one.lines) most) none)
     ∙ stops_there crashes (kills_in one.lines) many most

@@ -79,11 +79,11 @@ put_then m dest (first ∷ frames) frame = put_then (after_put m dest (kind_of f
 -- at first nothing went
 pub put_nothing : (dest : ℕ) (life : Life) → PutAll dest life life
 put_nothing dest life =
-    record { frames = []; lane = λ d. sym (append-nil (put_of (slice_index_or life.to.items dest d))); meter = refl }
+    record { frames = []; lane = λ d. sym (append-nil (put_of (slice_index_or life.kit.to.items dest d))); meter = refl }
 
 -- one frame more went, behind those before
 pub put_more : (dest : ℕ) (old mid new : Life) (kind : FrameKind) (p q : Phase) → PutAll dest old mid
-    → PutsInto (put_result.Gone kind) p dest mid.to.items q new.to.items → new.meter ≡ after_put mid.meter dest kind → PutAll dest old new
+    → PutsInto (put_result.Gone kind) p dest mid.kit.to.items q new.kit.to.items → new.kit.meter ≡ after_put mid.kit.meter dest kind → PutAll dest old new
 put_more dest old mid new kind p q before here counted =
     let frame = here.rank.frame in
     record {
@@ -91,28 +91,28 @@ put_more dest old mid new kind p q before here counted =
       lane = λ d.
           let one = here.lane d in
           one.last
-          ∙ ap (λ f. put_of (slice_index_or mid.to.items dest d) ++ f ∷ []) (same_frame p dest one.frame frame one.outgoing here.rank.outgoing)
+          ∙ ap (λ f. put_of (slice_index_or mid.kit.to.items dest d) ++ f ∷ []) (same_frame p dest one.frame frame one.outgoing here.rank.outgoing)
           ∙ ap (λ put. put ++ frame ∷ []) (before.lane d)
-          ∙ append_assoc (put_of (slice_index_or old.to.items dest d)) before.frames (frame ∷ []);
+          ∙ append_assoc (put_of (slice_index_or old.kit.to.items dest d)) before.frames (frame ∷ []);
       meter =
-          counted ∙ ap (after_put mid.meter dest) here.rank.is_kind ∙ ap (λ m. after_put m dest (kind_of frame)) before.meter
-          ∙ sym (put_then old.meter dest before.frames frame);
+          counted ∙ ap (after_put mid.kit.meter dest) here.rank.is_kind ∙ ap (λ m. after_put m dest (kind_of frame)) before.meter
+          ∙ sym (put_then old.kit.meter dest before.frames frame);
     }
 
 -- the lane was full
-pub put_full : (dest : ℕ) (old mid new : Life) (p q : Phase) → PutAll dest old mid → PutsInto put_result.Full p dest mid.to.items q new.to.items
-    → new.meter ≡ mid.meter → PutAll dest old new
+pub put_full : (dest : ℕ) (old mid new : Life) (p q : Phase) → PutAll dest old mid → PutsInto put_result.Full p dest mid.kit.to.items q new.kit.to.items
+    → new.kit.meter ≡ mid.kit.meter → PutAll dest old new
 put_full dest old mid new p q before here same =
     record { frames = before.frames; lane = λ d. (here.lane d).1 ∙ before.lane d; meter = same ∙ before.meter }
 
 -- nothing was outgoing any more
-pub put_no_more : (dest : ℕ) (old mid new : Life) (p q : Phase) → PutAll dest old mid → PutsInto put_result.Nothing p dest mid.to.items q new.to.items
-    → new.meter ≡ mid.meter → PutAll dest old new
+pub put_no_more : (dest : ℕ) (old mid new : Life) (p q : Phase) → PutAll dest old mid → PutsInto put_result.Nothing p dest mid.kit.to.items q new.kit.to.items
+    → new.kit.meter ≡ mid.kit.meter → PutAll dest old new
 put_no_more dest old mid new p q before here same =
     record { frames = before.frames; lane = λ d. (here.lane d).1 ∙ before.lane d; meter = same ∙ before.meter }
 
 -- what touches no lane and counts nothing leaves it so
-pub put_kept : (dest : ℕ) (old mid new : Life) → PutAll dest old mid → new.to ≡ mid.to → new.meter ≡ mid.meter → PutAll dest old new
+pub put_kept : (dest : ℕ) (old mid new : Life) → PutAll dest old mid → new.kit.to ≡ mid.kit.to → new.kit.meter ≡ mid.kit.meter → PutAll dest old new
 put_kept dest old mid new before to same = record {
   frames = before.frames;
   lane = λ d. ap (λ lanes. put_of (slice_index_or lanes.items dest d)) to ∙ before.lane d;

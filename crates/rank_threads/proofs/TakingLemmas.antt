@@ -71,18 +71,18 @@ takes_looked source (Some frame) lanes d y within some none = takes_at source (f
 
 -- at first nothing came
 pub took_nothing : (source : ℕ) (life : Life) → TookFrom source life life false
-took_nothing source life = record { frames = []; lanes = takes_none source life.from.items; rank = refl; took = refl; tally = refl; plan = refl; to = refl }
+took_nothing source life = record { frames = []; lanes = takes_none source life.kit.from.items; rank = refl; took = refl; tally = refl; plan = refl; to = refl }
 
 -- one frame came
-pub took_frame : (source : ℕ) (old new : Life) (frame : Frame) → Takes source (frame ∷ []) old.from.items new.from.items
-    → new.node.phase ≡ arrived_in old.node.phase source frame → new.tally ≡ woken old.tally → new.plan ≡ old.plan → new.to ≡ old.to
+pub took_frame : (source : ℕ) (old new : Life) (frame : Frame) → Takes source (frame ∷ []) old.kit.from.items new.kit.from.items
+    → new.node.phase ≡ arrived_in old.node.phase source frame → new.kit.tally ≡ woken old.kit.tally → new.kit.plan ≡ old.kit.plan → new.kit.to ≡ old.kit.to
     → TookFrom source old new true
 took_frame source old new frame takes came counted plan to =
     record { frames = frame ∷ []; lanes = takes; rank = came; took = refl; tally = counted; plan = plan; to = to }
 
 -- none was there
-pub took_none : (source : ℕ) (old new : Life) → Takes source [] old.from.items new.from.items → new.node.phase ≡ old.node.phase
-    → new.tally ≡ old.tally → new.plan ≡ old.plan → new.to ≡ old.to → TookFrom source old new false
+pub took_none : (source : ℕ) (old new : Life) → Takes source [] old.kit.from.items new.kit.from.items → new.node.phase ≡ old.node.phase
+    → new.kit.tally ≡ old.kit.tally → new.kit.plan ≡ old.kit.plan → new.kit.to ≡ old.kit.to → TookFrom source old new false
 took_none source old new takes same counted plan to =
     record { frames = []; lanes = takes; rank = same; took = refl; tally = counted; plan = plan; to = to }
 
@@ -91,11 +91,11 @@ pub took_more : (source : ℕ) (old mid new : Life) (took : Bool) → TookFrom s
     → TookFrom source old new true
 took_more source old mid new took before here = record {
   frames = before.frames ++ here.frames;
-  lanes = takes_then source before.frames here.frames old.from.items mid.from.items new.from.items before.lanes here.lanes;
+  lanes = takes_then source before.frames here.frames old.kit.from.items mid.kit.from.items new.kit.from.items before.lanes here.lanes;
   rank = here.rank ∙ ap (λ p. all_arrived p source here.frames) before.rank
       ∙ sym (arrived_then old.node.phase source before.frames here.frames);
   took = some_behind before.frames here.frames here.took;
-  tally = here.tally ∙ ap (λ t. all_taken t here.frames) before.tally ∙ sym (taken_then old.tally before.frames here.frames);
+  tally = here.tally ∙ ap (λ t. all_taken t here.frames) before.tally ∙ sym (taken_then old.kit.tally before.frames here.frames);
   plan = here.plan ∙ before.plan;
   to = here.to ∙ before.to;
 }
@@ -105,11 +105,11 @@ pub took_no_more : (source : ℕ) (old mid new : Life) (took : Bool) → TookFro
     → TookFrom source old new took
 took_no_more source old mid new took before here = record {
   frames = before.frames ++ here.frames;
-  lanes = takes_then source before.frames here.frames old.from.items mid.from.items new.from.items before.lanes here.lanes;
+  lanes = takes_then source before.frames here.frames old.kit.from.items mid.kit.from.items new.kit.from.items before.lanes here.lanes;
   rank = here.rank ∙ ap (λ p. all_arrived p source here.frames) before.rank
       ∙ sym (arrived_then old.node.phase source before.frames here.frames);
   took = before.took ∙ none_behind before.frames here.frames here.took;
-  tally = here.tally ∙ ap (λ t. all_taken t here.frames) before.tally ∙ sym (taken_then old.tally before.frames here.frames);
+  tally = here.tally ∙ ap (λ t. all_taken t here.frames) before.tally ∙ sym (taken_then old.kit.tally before.frames here.frames);
   plan = here.plan ∙ before.plan;
   to = here.to ∙ before.to;
 }

@@ -151,8 +151,8 @@ clock_told p q r answer result stood same own grows stays =
 
 -- the rank took what its lanes brought, and made the step that its state said then
 pub is_begun : (old mid new : Life) (begun : TurnStart) → Brings begun.brought old mid
-    → (Ok begun.stepped ≢ Err fault.Memory → Ok begun.stepped ≡ step_of mid.tally mid.node.phase)
-    → new.meter ≡ after_step mid.meter begun.stepped (clock_in new.node.phase) → IsBegun old new begun
+    → (Ok begun.stepped ≢ Err fault.Memory → Ok begun.stepped ≡ step_of mid.kit.tally mid.node.phase)
+    → new.kit.meter ≡ after_step mid.kit.meter begun.stepped (clock_in new.node.phase) → IsBegun old new begun
 is_begun old mid new begun brings steps acts =
     record { mid = mid; brought = brings; stepped = steps (λ lacked. absurd cc); acts = acts }
 

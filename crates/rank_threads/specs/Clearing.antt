@@ -30,15 +30,15 @@ leaves_misses stepped is_imaged is_spent p = has_stepped stepped && not is_image
 -- shelf then holds its image, and that line is used up. A rank that replays keeps its shelf and its
 -- lines. The rank's clock, and whether it runs, are as they were.
 pub record ClearsGate (is_imaged is_asked : Bool) (old new : Life) (result : Result (Unit {0}) NodeFault) : Type 0 where
-  pub image : result ≡ Ok tt → is_imaged ≡ true → new.tally.is_refused ≡ false → is_running new.node.phase ≡ true → HasImage new.node.phase
+  pub image : result ≡ Ok tt → is_imaged ≡ true → new.kit.tally.is_refused ≡ false → is_running new.node.phase ≡ true → HasImage new.node.phase
   pub clock : clock_in new.node.phase ≡ clock_in old.node.phase
   pub unimaged : is_imaged ≡ false → SameShelf old.node.phase new.node.phase
   pub replays : is_running new.node.phase ≡ false → SameShelf old.node.phase new.node.phase
-  pub used : result ≡ Ok tt → is_imaged ≡ true → is_asked ≡ true → new.tally.is_refused ≡ false → is_running new.node.phase ≡ true
-      → new.plan ≡ drop 1 old.plan
-  pub kept : is_running new.node.phase ≡ false → new.plan ≡ old.plan
-  pub unasked : is_asked ≡ false → new.plan ≡ old.plan
-  pub lines : MayUseOne is_asked old.plan new.plan
-  pub owing : old.tally.may_owe ≡ true → new.tally.may_owe ≡ true
+  pub used : result ≡ Ok tt → is_imaged ≡ true → is_asked ≡ true → new.kit.tally.is_refused ≡ false → is_running new.node.phase ≡ true
+      → new.kit.plan ≡ drop 1 old.kit.plan
+  pub kept : is_running new.node.phase ≡ false → new.kit.plan ≡ old.kit.plan
+  pub unasked : is_asked ≡ false → new.kit.plan ≡ old.kit.plan
+  pub lines : MayUseOne is_asked old.kit.plan new.kit.plan
+  pub owing : old.kit.tally.may_owe ≡ true → new.kit.tally.may_owe ≡ true
   pub runs : is_running new.node.phase ≡ is_running old.node.phase
   pub same : SameLife old new

@@ -22,9 +22,9 @@ all_lost t (frame ∷ frames) = all_lost (lost t) frames
 -- cost.
 pub record DroppedFrom (source : ℕ) (old new : Station) : Type 0 where
   pub frames : List Frame
-  pub lanes : Takes source frames old.from.items new.from.items
-  pub tally : new.tally ≡ all_lost old.tally frames
-  pub meter : new.meter ≡ all_dropped old.meter frames
+  pub lanes : Takes source frames old.kit.from.items new.kit.from.items
+  pub tally : new.kit.tally ≡ all_lost old.kit.tally frames
+  pub meter : new.kit.meter ≡ all_dropped old.kit.meter frames
 
 -- What the lanes from the ranks below this number brought was dropped, from rank 0 on.
 abbrev pub DroppedBelow : ℕ → Station → Station → Type 0
@@ -37,5 +37,5 @@ DroppedBelow (suc k) old new = (mid : Station) × DroppedBelow k old mid × Drop
 pub record OnlyDrops (old new : Station) : Type 0 where
   pub down : new.down ≡ old.down
   pub rest : SameRest old new
-  pub counted : new.tally ≡ record old.tally { taken = new.tally.taken; may_owe = new.tally.may_owe; is_blocked = new.tally.is_blocked }
+  pub counted : new.kit.tally ≡ record old.kit.tally { taken = new.kit.tally.taken; may_owe = new.kit.tally.may_owe; is_blocked = new.kit.tally.is_blocked }
   pub same : SameStation old new

@@ -26,29 +26,29 @@ pub record IsLife (text : List ℕ) (old new : Station) : Type 0 where
   pub reads : IsProgramOf text program
   pub begun : Life
   pub begins : Begins program old.down old.row begun.node.phase
-  pub plan : begun.plan ≡ old.plan
-  pub counts : begun.tally ≡ old.tally
+  pub plan : begun.kit.plan ≡ old.kit.plan
+  pub counts : begun.kit.tally ≡ old.kit.tally
   pub ended : Life
   pub same : SamePlace begun ended
   pub how : Ending
-  pub lines : UsesLines how begun.plan ended.plan
+  pub lines : UsesLines how begun.kit.plan ended.kit.plan
   pub killed : IsKilledAt how ended.node.phase
-  pub leaves : new.end ≡ end_after how ended.tally.is_spent ended.node.phase
-  pub left : new.plan ≡ ended.plan
+  pub leaves : new.end ≡ end_after how ended.kit.tally.is_spent ended.node.phase
+  pub left : new.kit.plan ≡ ended.kit.plan
   pub stands : new.stood ≡ stood_after how ended.node.phase
-  pub steps : new.tally.steps ≡ ended.tally.steps
-  pub spent : new.tally.is_spent ≡ ended.tally.is_spent
-  pub crashes : new.tally.crashes ≡ crashes_by new.end old.tally.crashes
+  pub steps : new.kit.tally.steps ≡ ended.kit.tally.steps
+  pub spent : new.kit.tally.is_spent ≡ ended.kit.tally.is_spent
+  pub crashes : new.kit.tally.crashes ≡ crashes_by new.end old.kit.tally.crashes
 
 -- A life was lived. Nothing is said if the rank met a fault.
 abbrev pub HasLived : List ℕ → Station → Station → Type 0
-HasLived text old new = new.tally.fault ≡ None → IsLife text old new
+HasLived text old new = new.kit.tally.fault ≡ None → IsLife text old new
 
 -- The rank was told to leave, and lives no more: it is unfinished, and all that is counted stays.
 pub record IsToldToLeave (old new : Station) : Type 0 where
   pub end : new.end ≡ Some end.Unfinished
-  pub plan : new.plan ≡ old.plan
-  pub counts : new.tally ≡ old.tally
+  pub plan : new.kit.plan ≡ old.kit.plan
+  pub counts : new.kit.tally ≡ old.kit.tally
 
 -- The lives of a rank that reads this text, one after another: it was told to leave; or it has a
 -- fault, with which its lives end, and which is still there; or it lived without one, and left; or
@@ -56,9 +56,9 @@ pub record IsToldToLeave (old new : Station) : Type 0 where
 -- the row that was fetched.
 pub data Lives (text : List ℕ) : Station → Station → Type 0 where
   told : {old new : Station} → IsToldToLeave old new → Lives text old new
-  failed : {old new : Station} → new.tally.fault ≢ None → Lives text old new
-  last : {old new : Station} → IsLife text old new → new.tally.fault ≡ None → new.end ≢ None → Lives text old new
-  again : {old mid new : Station} → IsLife text old mid → mid.tally.fault ≡ None → mid.end ≡ None → HasRow mid → Lives text mid new
+  failed : {old new : Station} → new.kit.tally.fault ≢ None → Lives text old new
+  last : {old new : Station} → IsLife text old new → new.kit.tally.fault ≡ None → new.end ≢ None → Lives text old new
+  again : {old mid new : Station} → IsLife text old mid → mid.kit.tally.fault ≡ None → mid.end ≡ None → HasRow mid → Lives text mid new
       → Lives text old new
 
 -- A keeper has had this station: rank, desk and lanes are the same, and the rank has lived from it

@@ -12,21 +12,21 @@ SameNode a b = SamePhase a.phase b.phase × (b.size ≡ a.size)
 
 -- the rank, its desk and its lanes are the same
 abbrev pub SamePlace : Life → Life → Type 0
-SamePlace a b = (b.rank ≡ a.rank) × SameNode a.node b.node × SameTxs a.to.items b.to.items × SameRxs a.from.items b.from.items
+SamePlace a b = (b.kit.rank ≡ a.kit.rank) × SameNode a.node b.node × SameTxs a.kit.to.items b.kit.to.items × SameRxs a.kit.from.items b.kit.from.items
 
 -- the rank, its desk and its lanes are the same, and no crash was counted
 abbrev pub SameLife : Life → Life → Type 0
-SameLife a b = SamePlace a b × (b.tally.crashes ≡ a.tally.crashes)
+SameLife a b = SamePlace a b × (b.kit.tally.crashes ≡ a.kit.tally.crashes)
 
 -- the same lines of the script are left
 abbrev pub SamePlan : Life → Life → Type 0
-SamePlan a b = b.plan ≡ a.plan
+SamePlan a b = b.kit.plan ≡ a.kit.plan
 
 -- the same waits at the gate, with as many events stored, the logger has refused an event of the
 -- rank or hasn't, as before, and its shelf is as it was
 abbrev pub SameGate : Life → Life → Type 0
 SameGate a b =
-    (gate_in b.node.phase ≡ gate_in a.node.phase) × (b.tally.is_refused ≡ a.tally.is_refused) × SameShelf a.node.phase b.node.phase
+    (gate_in b.node.phase ≡ gate_in a.node.phase) × (b.kit.tally.is_refused ≡ a.kit.tally.is_refused) × SameShelf a.node.phase b.node.phase
 
 -- Frames came or went, or turns were counted. All else of the life is as it was: the rank, its desk
 -- and its lanes, its crashes, the lines of its script, what waits at its gate, and its shelf.
@@ -40,7 +40,7 @@ pub record KeepsGate (old new : Life) : Type 0 where
 pub record KeepsCosts (old new : Life) : Type 0 where
   pub same : SameLife old new
   pub plan : SamePlan old new
-  pub meter : new.meter ≡ old.meter
+  pub meter : new.kit.meter ≡ old.kit.meter
 
 -- The rank, whatever has come or gone of its frames, is at its desk, its gate and its shelf as it
 -- was.

@@ -57,5 +57,5 @@ pub record PutsInto (went : PutResult) (p : Phase) (dest : ℕ) (lanes : List Tx
 -- These frames went into the lane to a rank, one behind another, and each was counted by its kind.
 pub record PutAll (dest : ℕ) (old new : Life) : Type 0 where
   pub frames : List Frame
-  pub lane : (d : TxValue) → put_of (slice_index_or new.to.items dest d) ≡ put_of (slice_index_or old.to.items dest d) ++ frames
-  pub meter : new.meter ≡ all_put old.meter dest frames
+  pub lane : (d : TxValue) → put_of (slice_index_or new.kit.to.items dest d) ≡ put_of (slice_index_or old.kit.to.items dest d) ++ frames
+  pub meter : new.kit.meter ≡ all_put old.kit.meter dest frames

@@ -45,13 +45,13 @@ ended (Some e) = e
 abbrev pub account_of : Station → Account
 account_of s = record {
   end = ended s.end;
-  crashes = s.tally.crashes;
-  steps = s.tally.steps;
-  is_spent = s.tally.is_spent;
+  crashes = s.kit.tally.crashes;
+  steps = s.kit.tally.steps;
+  is_spent = s.kit.tally.is_spent;
   stood = s.stood;
-  unused = length s.plan;
-  costs = s.meter.costs;
-  fault = s.tally.fault;
+  unused = length s.kit.plan;
+  costs = s.kit.meter.costs;
+  fault = s.kit.tally.fault;
 }
 
 -- no rank has lived yet
@@ -65,7 +65,7 @@ desks_of stations = map (λ s. s.down.desk) stations
 
 -- the lines of the script that are left for each of these
 abbrev pub plans_of : List Station → List (List ScriptLine)
-plans_of stations = map (λ s. s.plan) stations
+plans_of stations = map (λ s. s.kit.plan) stations
 
 -- what the rank of each of these came to
 abbrev pub accounts_of : List Station → List Account
@@ -73,8 +73,8 @@ accounts_of stations = map account_of stations
 
 -- into which lanes each of these puts
 abbrev pub lanes_to : List Station → List (List Lane)
-lanes_to stations = map (λ s. map lane_to s.to.items) stations
+lanes_to stations = map (λ s. map lane_to s.kit.to.items) stations
 
 -- from which lanes each of these takes
 abbrev pub lanes_from : List Station → List (List Lane)
-lanes_from stations = map (λ s. map lane_from s.from.items) stations
+lanes_from stations = map (λ s. map lane_from s.kit.from.items) stations

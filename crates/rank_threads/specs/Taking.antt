@@ -33,12 +33,12 @@ pub record Takes (source : ℕ) (frames : List Frame) (lanes lanes' : List RxVal
 -- whether any came. The plan and the lanes to other ranks stayed.
 pub record TookFrom (source : ℕ) (old new : Life) (answer : Bool) : Type 0 where
   pub frames : List Frame
-  pub lanes : Takes source frames old.from.items new.from.items
+  pub lanes : Takes source frames old.kit.from.items new.kit.from.items
   pub rank : new.node.phase ≡ all_arrived old.node.phase source frames
   pub took : answer ≡ is_some_frame frames
-  pub tally : new.tally ≡ all_taken old.tally frames
-  pub plan : new.plan ≡ old.plan
-  pub to : new.to ≡ old.to
+  pub tally : new.kit.tally ≡ all_taken old.kit.tally frames
+  pub plan : new.kit.plan ≡ old.kit.plan
+  pub to : new.kit.to ≡ old.kit.to
 
 -- A rank took in what the lanes from the ranks below this number brought, from rank 0 on, and
 -- answered whether that was anything.

@@ -17,18 +17,18 @@ use Rattle.rank_threads.specs.declared.turn.stepping.Stepped.{Stepped}
 -- After this step a rank crashes just if the script's next line kills it at its clock; that line is
 -- then used up. Else it uses no line, or one that asks for an image.
 pub record FollowsScript (stepped : Stepped) (old new : Life) (result : Result After NodeFault) : Type 0 where
-  pub killed : goes_down result ≡ is_kill (order_after stepped old.plan old.node.phase)
+  pub killed : goes_down result ≡ is_kill (order_after stepped old.kit.plan old.node.phase)
   pub at : IfOk result (λ after. GoesDownAt after new.node.phase)
-  pub used : goes_down result ≡ true → new.plan ≡ drop 1 old.plan
-  pub lines : IfOk result (λ after. UsesLine after old.plan new.plan)
-  pub err_lines : OnErr result (MayUseImage old.plan new.plan)
-  pub unasked : order_after stepped old.plan old.node.phase ≡ None → new.plan ≡ old.plan
+  pub used : goes_down result ≡ true → new.kit.plan ≡ drop 1 old.kit.plan
+  pub lines : IfOk result (λ after. UsesLine after old.kit.plan new.kit.plan)
+  pub err_lines : OnErr result (MayUseImage old.kit.plan new.kit.plan)
+  pub unasked : order_after stepped old.kit.plan old.node.phase ≡ None → new.kit.plan ≡ old.kit.plan
 
 -- A rank that is to take an image has one of its clock on its shelf, if it runs, doesn't crash, and
 -- the logger has refused no event of it. The shelf of any other rank, and of one that crashes,
 -- stays as it was.
 pub record TakesImage (is_imaged : Bool) (old new : Life) (result : Result After NodeFault) : Type 0 where
-  pub image : is_imaged ≡ true → is_running old.node.phase ≡ true → new.tally.is_refused ≡ false
+  pub image : is_imaged ≡ true → is_running old.node.phase ≡ true → new.kit.tally.is_refused ≡ false
       → IfOk result (λ after. is_down after ≡ false → TookImage (clock_in old.node.phase) new.node.phase)
   pub unimaged : is_imaged ≡ false → SameShelf old.node.phase new.node.phase
   pub replays : is_running old.node.phase ≡ false → SameShelf old.node.phase new.node.phase
@@ -38,32 +38,32 @@ pub record TakesImage (is_imaged : Bool) (old new : Life) (result : Result After
 -- of a rank that leaves. Of one that crashes nothing is said, nor of one of which the logger
 -- refused an event.
 pub record LeavesGate (leaves : Bool) (old new : Life) (result : Result After NodeFault) : Type 0 where
-  pub settled : leaves ≡ false → IfOk result (λ after. is_down after ≡ false → new.tally.is_refused ≡ false → NoneWaits new.node.phase)
+  pub settled : leaves ≡ false → IfOk result (λ after. is_down after ≡ false → new.kit.tally.is_refused ≡ false → NoneWaits new.node.phase)
   pub kept : leaves ≡ true → IfOk result (λ after. is_down after ≡ false → gate_in new.node.phase ≡ gate_in old.node.phase)
-  pub left : IfOk result (λ after. is_leave after ≡ true → new.tally.is_refused ≡ false → NoneWaits new.node.phase)
+  pub left : IfOk result (λ after. is_leave after ≡ true → new.kit.tally.is_refused ≡ false → NoneWaits new.node.phase)
 
 -- What waits passed, unless misses alone are left there, and then what is outgoing went out. A rank
 -- that was to take an image took it between, if it runs and the logger has refused no event of it.
 -- A rank that owed a frame, and owes none any more, has none outgoing. Only a line that asked for
 -- an image may be used up.
 pub record LetsOut (leaves is_imaged is_asked : Bool) (old new : Life) (result : Result Bool NodeFault) : Type 0 where
-  pub nothing : OnOk result (old.tally.may_owe ≡ true → new.tally.may_owe ≡ false → NothingBelow new.node.size new.node.phase)
-  pub settled : leaves ≡ false → OnOk result (new.tally.is_refused ≡ false → NoneWaits new.node.phase)
+  pub nothing : OnOk result (old.kit.tally.may_owe ≡ true → new.kit.tally.may_owe ≡ false → NothingBelow new.node.size new.node.phase)
+  pub settled : leaves ≡ false → OnOk result (new.kit.tally.is_refused ≡ false → NoneWaits new.node.phase)
   pub kept : leaves ≡ true → OnOk result (gate_in new.node.phase ≡ gate_in old.node.phase)
-  pub image : is_imaged ≡ true → is_running old.node.phase ≡ true → new.tally.is_refused ≡ false
+  pub image : is_imaged ≡ true → is_running old.node.phase ≡ true → new.kit.tally.is_refused ≡ false
       → OnOk result (TookImage (clock_in old.node.phase) new.node.phase)
   pub unimaged : is_imaged ≡ false → SameShelf old.node.phase new.node.phase
   pub replays : is_running old.node.phase ≡ false → SameShelf old.node.phase new.node.phase
-  pub unasked : is_asked ≡ false → new.plan ≡ old.plan
-  pub lines : MayUseOne is_asked old.plan new.plan
+  pub unasked : is_asked ≡ false → new.kit.plan ≡ old.kit.plan
+  pub lines : MayUseOne is_asked old.kit.plan new.kit.plan
   pub same : SameLife old new
 
 -- At the end of a turn nothing waits at the gate of a rank but misses, and nothing at all if a
 -- limit had stopped the rank, or if it leaves. Of a rank that crashes nothing is said, nor of one
 -- that has a fault, or of which the logger refused an event.
 pub record ClearsTurn (old new : Life) (after : After) : Type 0 where
-  pub settled : is_down after ≡ false → new.tally.fault ≡ None → new.tally.is_refused ≡ false → misses_only_in new.node.phase ≡ false
+  pub settled : is_down after ≡ false → new.kit.tally.fault ≡ None → new.kit.tally.is_refused ≡ false → misses_only_in new.node.phase ≡ false
       → NoneWaits new.node.phase
-  pub spent : is_down after ≡ false → new.tally.fault ≡ None → new.tally.is_refused ≡ false → old.tally.is_spent ≡ true
+  pub spent : is_down after ≡ false → new.kit.tally.fault ≡ None → new.kit.tally.is_refused ≡ false → old.kit.tally.is_spent ≡ true
       → NoneWaits new.node.phase
-  pub left : is_leave after ≡ true → new.tally.fault ≡ None → new.tally.is_refused ≡ false → NoneWaits new.node.phase
+  pub left : is_leave after ≡ true → new.kit.tally.fault ≡ None → new.kit.tally.is_refused ≡ false → NoneWaits new.node.phase

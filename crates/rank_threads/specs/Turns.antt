@@ -30,8 +30,8 @@ Brings (arrivals.Unrung unrung) old new = new ≡ old
 pub record IsBegun (old new : Life) (begun : TurnStart) : Type 0 where
   pub mid : Life
   pub brought : Brings begun.brought old mid
-  pub stepped : Ok begun.stepped ≡ step_of mid.tally mid.node.phase
-  pub acts : new.meter ≡ after_step mid.meter begun.stepped (clock_in new.node.phase)
+  pub stepped : Ok begun.stepped ≡ step_of mid.kit.tally mid.node.phase
+  pub acts : new.kit.meter ≡ after_step mid.kit.meter begun.stepped (clock_in new.node.phase)
 
 -- the script kills the rank after this beginning of a turn
 abbrev pub kills_after : Result TurnStart NodeFault → List ScriptLine → Phase → Bool

@@ -25,27 +25,27 @@ pub fn rest<H>(
     life: &mut Life<'_, '_>,
     stepped: Stepped,
 ) -> Result<Option<AllAtRest>, AllocError>
-    ensures rests { life.old.tally.is_marked ≡ false → IfOk result (λ _. Rests shared.now.limits.idle stepped life.old.tally life.new.tally) }
+    ensures rests { life.old.kit.tally.is_marked ≡ false → IfOk result (λ _. Rests shared.now.limits.idle stepped life.old.kit.tally life.new.kit.tally) }
     ensures kept { KeepsGate life.old life.new }
 {
-    if life.tally.is_marked {
+    if life.kit.tally.is_marked {
         return may_leave(shared, life);
     }
-    if life.tally.may_owe {
+    if life.kit.tally.may_owe {
         return Ok(None);
     }
     match stepped {
         Stepped::Moved | Stepped::Acted | Stepped::Held => return Ok(None),
         Stepped::Blocked => {
-            let waited = life.tally.count_idle(shared.limits.idle);
+            let waited = life.kit.tally.count_idle(shared.limits.idle);
             if !waited || look_for_growth(shared.alloc, life)? {
                 return Ok(None);
             }
         }
         Stepped::Ended => {}
     }
-    let marked = shared.set_mark(life.rank, life.tally.put, life.tally.taken);
-    life.tally.mark(marked);
+    let marked = shared.set_mark(life.kit.rank, life.kit.tally.put, life.kit.tally.taken);
+    life.kit.tally.mark(marked);
     Ok(None)
 }
 
@@ -60,7 +60,7 @@ fn may_leave<H>(
         return Ok(None);
     };
     let Some(none) = drain_lanes(shared, life)? else {
-        life.tally.end_idleness();
+        life.kit.tally.end_idleness();
         return Ok(None);
     };
     Ok(second_look(shared.marks, &first, none))
@@ -68,13 +68,13 @@ fn may_leave<H>(
 
 // Whether another row has grown since the last reads. All are read.
 fn look_for_growth(alloc: Heap, life: &mut Life<'_, '_>) -> Result<bool, AllocError>
-    ensures quiet { IfOk result (λ went_on. went_on ≡ false → life.new.tally ≡ life.old.tally) }
-    ensures tally { life.new.tally ≡ record life.old.tally { seen = life.new.tally.seen } }
+    ensures quiet { IfOk result (λ went_on. went_on ≡ false → life.new.kit.tally ≡ life.old.kit.tally) }
+    ensures tally { life.new.kit.tally ≡ record life.old.kit.tally { seen = life.new.kit.tally.seen } }
     ensures kept { KeepsGate life.old life.new }
 {
     let mut went_on = false;
     for of in 0..life.node.size {
-        if of != life.rank {
+        if of != life.kit.rank {
             went_on = note_growth(alloc, life, of)? || went_on;
         }
     }
@@ -86,16 +86,16 @@ fn look_for_growth(alloc: Heap, life: &mut Life<'_, '_>) -> Result<bool, AllocEr
 #[tactic(auto, using(crate::proofs::PuttingLemmas::set_elsewhere))]
 fn note_growth(alloc: Heap, life: &mut Life<'_, '_>, of: u8) -> Result<bool, AllocError>
     requires { of < life.old.node.size }
-    ensures quiet { IfOk result (λ grown. grown ≡ false → life.new.tally ≡ life.old.tally) }
-    ensures others { (k : ℕ) → k ≢ of → slice_index_or life.new.tally.seen k 0 ≡ slice_index_or life.old.tally.seen k 0 }
-    ensures tally { life.new.tally ≡ record life.old.tally { seen = life.new.tally.seen } }
+    ensures quiet { IfOk result (λ grown. grown ≡ false → life.new.kit.tally ≡ life.old.kit.tally) }
+    ensures others { (k : ℕ) → k ≢ of → slice_index_or life.new.kit.tally.seen k 0 ≡ slice_index_or life.old.kit.tally.seen k 0 }
+    ensures tally { life.new.kit.tally ≡ record life.old.kit.tally { seen = life.new.kit.tally.seen } }
     ensures kept { KeepsGate life.old life.new }
 {
-    let after = life.tally.seen_in(of);
+    let after = life.kit.tally.seen_in(of);
     let events = life.node.read(alloc, of, after)?;
     let Some(last) = events.last() else {
         return Ok(false);
     };
-    life.tally.note_seen(of, last.receiver_clock());
+    life.kit.tally.note_seen(of, last.receiver_clock());
     Ok(true)
 }

@@ -2,14 +2,16 @@
 //! of its own.
 //!
 //! All ranks get their stations in `seating`, and a keeper each in `crew`. A
-//! keeper (`keeper`) sends its rank's `station` in a `parcel` into the thread of
-//! each life. There the rank makes its turns (`living`, `waiting`), until it is
-//! killed or leaves (`ending`, `stood`). After a crash the frames in its lanes
-//! are dropped (`dropping`), and it fetches its `row` for the next life.
+//! keeper (`keeper`) sends its rank's `station`, with the rank's `kit`, in a
+//! `parcel` into the thread of each life. There the rank makes its turns
+//! (`living`, `waiting`), until it is killed or leaves (`ending`, `stood`). After
+//! a crash the frames in its lanes are dropped (`dropping`), and it fetches its
+//! `row` for the next life.
 mod crew;
 mod dropping;
 mod ending;
 mod keeper;
+mod kit;
 mod living;
 mod parcel;
 mod row;
@@ -18,27 +20,16 @@ mod station;
 mod stood;
 mod waiting;
 
-use crate::meter::Meter;
 use crate::node::Node;
-use crate::plan::Plan;
-use crate::tally::Tally;
 pub use crew::keep_all;
 pub use ending::{KillToken, Why, kill_of};
-use metered::Heap;
+use kit::Kit;
 pub use parcel::Parcel;
-use ports::{Rx, Tx};
 pub use row::Row;
 pub use seating::{Account, Remains, Unseated, seat_all, unseat_all};
 
 /// A rank in one life. It never leaves its thread, and must be spent.
 pub struct Life<'p, 'l> {
-    pub rank: u8,
     pub node: Node<'p, 'l>,
-    /// The lanes to each rank.
-    pub to: Vec<Tx, Heap>,
-    /// The lanes from each rank.
-    pub from: Vec<Rx, Heap>,
-    pub plan: Plan,
-    pub tally: Tally,
-    pub meter: Meter,
+    pub kit: Kit,
 }

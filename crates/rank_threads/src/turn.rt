@@ -66,10 +66,10 @@ pub fn begin<W: Wait, H: Hold>(
 
 // An act is counted by its clock.
 fn count_act(life: &mut Life<'_, '_>, stepped: Stepped)
-    ensures { life.new ≡ record life.old { meter = after_step life.old.meter stepped (clock_in life.old.node.phase) } }
+    ensures { life.new ≡ record life.old { kit = record life.old.kit { meter = after_step life.old.kit.meter stepped (clock_in life.old.node.phase) } } }
 {
     match stepped {
-        Stepped::Acted => life.meter.count_act(life.node.clock()),
+        Stepped::Acted => life.kit.meter.count_act(life.node.clock()),
         Stepped::Moved | Stepped::Blocked | Stepped::Held | Stepped::Ended => {}
     }
 }
@@ -85,9 +85,9 @@ pub fn finish<'s, W: Wait, H: Hold>(
     begun: Result<TurnStart, NodeFault>,
 ) -> After<'s>
     requires { settled_in life.old.node.phase ≡ life.old.node.phase }
-    ensures killed { is_down result ≡ kills_after begun life.old.plan life.old.node.phase }
+    ensures killed { is_down result ≡ kills_after begun life.old.kit.plan life.old.node.phase }
     ensures at { GoesDownAt result life.new.node.phase }
-    ensures lines { UsesLine result life.old.plan life.new.plan }
+    ensures lines { UsesLine result life.old.kit.plan life.new.kit.plan }
     ensures gate { ClearsTurn life.old life.new result }
     ensures same { SameLife life.old life.new }
 {
@@ -109,14 +109,14 @@ fn end<'s, W: Wait, H: Hold>(
     begun: TurnStart,
 ) -> Result<After<'s>, NodeFault>
     ensures script { FollowsScript begun.stepped life.old life.new result }
-    ensures images { TakesImage (images_after begun.stepped shared.now.limits.images_every life.old.plan life.old.node.phase) life.old life.new result }
-    ensures gate { LeavesGate (leaves_misses begun.stepped (images_after begun.stepped shared.now.limits.images_every life.old.plan life.old.node.phase)
-        life.old.tally.is_spent life.old.node.phase) life.old life.new result }
+    ensures images { TakesImage (images_after begun.stepped shared.now.limits.images_every life.old.kit.plan life.old.node.phase) life.old life.new result }
+    ensures gate { LeavesGate (leaves_misses begun.stepped (images_after begun.stepped shared.now.limits.images_every life.old.kit.plan life.old.node.phase)
+        life.old.kit.tally.is_spent life.old.node.phase) life.old life.new result }
     ensures same { SameLife life.old life.new }
 {
     let order = order_after(begun.stepped, life);
     if let Some(killed) = kill_of(order, life.node.clock()) {
-        life.plan.use_one();
+        life.kit.plan.use_one();
         return Ok(After::Crash(killed));
     }
     let is_imaged = images_after(begun.stepped, shared.limits.images_every, life);
@@ -127,7 +127,7 @@ fn end<'s, W: Wait, H: Hold>(
         Stepped::Blocked | Stepped::Ended => put || is_frames(begun.brought),
     };
     if is_busy {
-        life.tally.end_idleness();
+        life.kit.tally.end_idleness();
         return Ok(After::Turn { is_idle: false });
     }
     match rest(shared, life, begun.stepped)? {
@@ -147,7 +147,7 @@ fn let_out<W: Wait, H>(
     is_imaged: bool,
     is_asked: bool,
 ) -> Result<bool, NodeFault>
-    ensures lets { LetsOut (leaves_misses stepped is_imaged life.old.tally.is_spent life.old.node.phase) is_imaged is_asked life.old life.new result }
+    ensures lets { LetsOut (leaves_misses stepped is_imaged life.old.kit.tally.is_spent life.old.node.phase) is_imaged is_asked life.old life.new result }
 {
     clear_gate(rt, shared, life, stepped, is_imaged, is_asked)?;
     Ok(put_out(shared, life)?)
@@ -159,23 +159,10 @@ pub fn settle<'p, 'l>(life: Life<'p, 'l>) -> Life<'p, 'l>
     ensures rest { result ≡ record life.entry { node = result.node } }
     ensures same { SameLife life.entry result }
 {
-    let Life {
-        rank,
-        node,
-        to,
-        from,
-        plan,
-        tally,
-        meter,
-    } = life;
+    let Life { node, kit } = life;
     Life {
-        rank,
         node: node.settle(),
-        to,
-        from,
-        plan,
-        tally,
-        meter,
+        kit,
     }
 }
 
@@ -189,9 +176,9 @@ fn leave_with_fault<'s, W: Wait, H>(
     ensures leaves { is_leave result ≡ true }
     ensures stays { is_down result ≡ false }
     ensures at { GoesDownAt result life.new.node.phase }
-    ensures fault { life.new ≡ record life.old { tally = record life.old.tally { fault = Some fault } } }
+    ensures fault { life.new ≡ record life.old { kit = record life.old.kit { tally = record life.old.kit.tally { fault = Some fault } } } }
     ensures same { SameLife life.old life.new }
 {
-    let stopped = life.tally.refuse(shared.stop_all(rt, fault));
+    let stopped = life.kit.tally.refuse(shared.stop_all(rt, fault));
     After::Leave(Why::Told(stopped))
 }

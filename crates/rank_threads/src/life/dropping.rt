@@ -43,10 +43,10 @@ fn drop_one(station: &mut Station<'_>, source: u8, looked: &mut LanesSeen) -> bo
     ensures dropped { DroppedFrom source station.old station.new }
     ensures only { OnlyDrops station.old station.new }
 {
-    let Some(_) = take_from(&mut station.from, source, looked) else {
+    let Some(_) = take_from(&mut station.kit.from, source, looked) else {
         return false;
     };
-    station.tally.count_taken();
-    station.meter.count_dropped();
+    station.kit.tally.count_taken();
+    station.kit.meter.count_dropped();
     true
 }

@@ -51,10 +51,10 @@ pub fn kill_of(order: Option<Order>, clock: u32) -> Option<KillToken>
 /// The life is over: the rank has gone down, or left.
 pub fn end_life<'l>(life: Life<'_, 'l>, ended: Ending<'_>) -> Station<'l>
     requires at { IsKilledAt ended life.node.phase }
-    ensures end { result.end ≡ end_after ended.entry life.entry.tally.is_spent life.entry.node.phase }
+    ensures end { result.end ≡ end_after ended.entry life.entry.kit.tally.is_spent life.entry.node.phase }
     ensures stood { result.stood ≡ stood_after ended.entry life.entry.node.phase }
-    ensures plan { result.plan ≡ life.entry.plan }
-    ensures tally { result.tally ≡ life.entry.tally }
+    ensures plan { result.kit.plan ≡ life.entry.kit.plan }
+    ensures tally { result.kit.tally ≡ life.entry.kit.tally }
     ensures same { IsLifeOf result life.entry }
 {
     let (end, is_at_rest) = match ended {
@@ -75,9 +75,9 @@ fn is_rest(why: &Why<'_>) -> bool
 
 // A rank that a limit stopped, or that didn't come to the end of its row, is unfinished.
 fn end_of(life: &Life<'_, '_>) -> End
-    ensures { result ≡ end_of life.now.tally.is_spent life.now.node.phase }
+    ensures { result ≡ end_of life.now.kit.tally.is_spent life.now.node.phase }
 {
-    if life.tally.is_spent {
+    if life.kit.tally.is_spent {
         return End::Unfinished;
     }
     match life.node.phase() {

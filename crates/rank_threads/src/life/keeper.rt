@@ -40,7 +40,7 @@ pub fn keep<'l, R: Threads + Wait + Sync + Copy + Send, H: Hold + Sync>(
         if station.end.is_some() {
             return station;
         }
-        if station.tally.fault.is_some() {
+        if station.kit.tally.fault.is_some() {
             return give_up(station);
         }
     }
@@ -50,7 +50,7 @@ pub fn keep<'l, R: Threads + Wait + Sync + Copy + Send, H: Hold + Sync>(
 // A rank that has a fault lives no more, and keeps it.
 fn give_up<'l>(station: Station<'l>) -> Station<'l>
     ensures end { result.end ≢ None }
-    ensures counts { result.tally ≡ station.entry.tally }
+    ensures counts { result.kit.tally ≡ station.entry.kit.tally }
     ensures same { SameStation station.entry result }
 {
     let mut station = station;
@@ -75,7 +75,7 @@ fn play_life<'l, R: Threads + Wait + Sync + Copy + Send, H: Hold + Sync>(
     shared: &Shared<'_, H>,
     station: Station<'l>,
 ) -> Station<'l>
-    ensures row { result.end ≡ None → result.tally.fault ≡ None → HasRow result }
+    ensures row { result.end ≡ None → result.kit.tally.fault ≡ None → HasRow result }
     ensures lived { HasLived shared.now.text.now station.entry result }
     ensures same { SameStation station.entry result }
 {
@@ -88,17 +88,17 @@ fn play_life<'l, R: Threads + Wait + Sync + Copy + Send, H: Hold + Sync>(
 
 // The frames in the lanes into the rank are dropped, and its row is fetched.
 fn fetch_row<'l, W: Wait, H>(rt: &W, shared: &Shared<'_, H>, station: Station<'l>) -> Station<'l>
-    ensures row { result.tally.fault ≡ None → HasRow result }
-    ensures plan { result.plan ≡ station.entry.plan }
+    ensures row { result.kit.tally.fault ≡ None → HasRow result }
+    ensures plan { result.kit.plan ≡ station.entry.kit.plan }
     ensures end { result.end ≡ station.entry.end }
     ensures stood { result.stood ≡ station.entry.stood }
-    ensures tally { result.tally ≡ record (begun_again station.entry.tally) { taken = result.tally.taken; fault = result.tally.fault } }
-    ensures fault { result.tally.fault ≢ Some Memory → result.tally.fault ≡ station.entry.tally.fault }
+    ensures tally { result.kit.tally ≡ record (begun_again station.entry.kit.tally) { taken = result.kit.tally.taken; fault = result.kit.tally.fault } }
+    ensures fault { result.kit.tally.fault ≢ Some Memory → result.kit.tally.fault ≡ station.entry.kit.tally.fault }
     ensures same { SameStation station.entry result }
 {
     let mut station = station;
     drop_frames(&mut station);
-    station.tally.begin_again();
+    station.kit.tally.begin_again();
     match station.fetch(shared.alloc) {
         Ok(()) => station,
         Err(_) => refuse_life(station, shared.stop_all(rt, NodeFault::Memory)),
@@ -125,7 +125,7 @@ pub fn refuse_parcel<'l, W: Wait + Drop + Copy>(
     stop: Stop<'_>,
 ) -> Parcel<'l, W>
     requires { stop.why ≡ Memory }
-    ensures fault { result.station.tally ≡ record parcel.entry.station.tally { fault = Some Memory } }
+    ensures fault { result.station.kit.tally ≡ record parcel.entry.station.kit.tally { fault = Some Memory } }
     ensures same { SameStation parcel.entry.station result.station }
 {
     let rt = parcel.rt;

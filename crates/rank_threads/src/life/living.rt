@@ -36,7 +36,7 @@ pub fn run_life<'l, W: Wait, H: Hold>(
         return refuse_life(station, shared.stop_all(rt, NodeFault::Memory));
     };
     let life = station.begin(rt, shared, &program);
-    if life.tally.fault.is_some() {
+    if life.kit.tally.fault.is_some() {
         return life.leave(Some(End::Unfinished), false);
     }
     let (life, ended) = make_turns(rt, shared, life);
@@ -51,9 +51,9 @@ fn make_turns<'p, 'l, 's, W: Wait, H: Hold>(
     life: Life<'p, 'l>,
 ) -> (Life<'p, 'l>, Ending<'s>)
     ensures at { IsKilledAt result.1 result.0.node.phase }
-    ensures lines { UsesLines result.1 life.entry.plan result.0.plan }
-    ensures crashes { result.0.tally.crashes ≡ crashes_after result.1 life.entry.tally.crashes }
-    ensures left { is_at_rest result.1 ≡ true → result.0.tally.fault ≡ None → result.0.tally.is_refused ≡ false → NoneWaits result.0.node.phase }
+    ensures lines { UsesLines result.1 life.entry.kit.plan result.0.kit.plan }
+    ensures crashes { result.0.kit.tally.crashes ≡ crashes_after result.1 life.entry.kit.tally.crashes }
+    ensures left { is_at_rest result.1 ≡ true → result.0.kit.tally.fault ≡ None → result.0.kit.tally.is_refused ≡ false → NoneWaits result.0.node.phase }
     ensures same { SamePlace life.entry result.0 }
 {
     let mut life = life;
@@ -69,14 +69,14 @@ fn make_turns<'p, 'l, 's, W: Wait, H: Hold>(
         }
         match finish(rt, shared, &mut life, begun) {
             After::Crash(killed) => {
-                life.tally.count_crash(&killed);
+                life.kit.tally.count_crash(&killed);
                 return (life, Ending::Crashed(killed));
             }
             After::Leave(why) => return (life, Ending::Left(why)),
             After::Turn { is_idle: false } => patience.end_wait(),
             After::Turn { is_idle: true } => {
                 if patience.wait() {
-                    life.tally.count_wait();
+                    life.kit.tally.count_wait();
                 }
             }
         }
@@ -87,11 +87,11 @@ fn make_turns<'p, 'l, 's, W: Wait, H: Hold>(
 /// The rank has met refused memory, and all were told to leave.
 pub fn refuse_life<'l>(station: Station<'l>, stop: Stop<'_>) -> Station<'l>
     requires { stop.why ≡ NodeFault.Memory }
-    ensures fault { result.tally ≡ record station.entry.tally { fault = Some NodeFault.Memory } }
+    ensures fault { result.kit.tally ≡ record station.entry.kit.tally { fault = Some NodeFault.Memory } }
     ensures rest { SameRest station.entry result }
     ensures same { SameStation station.entry result }
 {
     let mut station = station;
-    station.tally.refuse(stop);
+    station.kit.tally.refuse(stop);
     station
 }

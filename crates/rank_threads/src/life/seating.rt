@@ -140,19 +140,19 @@ pub fn unseat_all<'l, W: Wait + Drop + Copy>(
 // A rank that didn't leave by itself is unfinished.
 fn take_apart(station: Station<'_>) -> (Desk, Vec<Tx, Heap>, Vec<Rx, Heap>, Account)
     ensures desk { result.0 ≡ station.entry.down.desk }
-    ensures to { result.1 ≡ station.entry.to }
-    ensures from { result.2 ≡ station.entry.from }
+    ensures to { result.1 ≡ station.entry.kit.to }
+    ensures from { result.2 ≡ station.entry.kit.from }
     ensures account { result.3 ≡ account_of station.entry }
 {
     let account = Account {
         end: station.end.unwrap_or(End::Unfinished),
-        crashes: station.tally.crashes,
-        steps: station.tally.steps,
-        is_spent: station.tally.is_spent,
+        crashes: station.kit.tally.crashes,
+        steps: station.kit.tally.steps,
+        is_spent: station.kit.tally.is_spent,
         stood: station.stood,
-        unused: station.plan.unused(),
-        costs: station.meter.costs,
-        fault: station.tally.fault,
+        unused: station.kit.plan.unused(),
+        costs: station.kit.meter.costs,
+        fault: station.kit.tally.fault,
     };
     let (desk, to, from) = station.close();
     (desk, to, from, account)

@@ -85,7 +85,8 @@ impl<'p, 'l> Node<'p, 'l> {
     }
 }
 
-// A step of a rank that runs, said as a turn needs it: what is answered, and how far the clock goes.
+// A step of a rank that runs, said as a turn needs it: what is answered, and how
+// far the clock goes.
 fn run_on<C: Screen>(
     rank: &mut Running<'_, MemoryShelf, Desk>,
     screen: &mut C,

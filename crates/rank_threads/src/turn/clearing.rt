@@ -23,9 +23,9 @@ pub fn clear_gate<W: Wait, H>(
     is_imaged: bool,
     is_asked: bool,
 ) -> Result<(), NodeFault>
-    ensures settled { leaves_misses stepped is_imaged life.old.tally.is_spent life.old.node.phase ≡ false → result ≡ Ok tt
-        → life.new.tally.is_refused ≡ false → NoneWaits life.new.node.phase }
-    ensures left { leaves_misses stepped is_imaged life.old.tally.is_spent life.old.node.phase ≡ true → life.new ≡ life.old }
+    ensures settled { leaves_misses stepped is_imaged life.old.kit.tally.is_spent life.old.node.phase ≡ false → result ≡ Ok tt
+        → life.new.kit.tally.is_refused ≡ false → NoneWaits life.new.node.phase }
+    ensures left { leaves_misses stepped is_imaged life.old.kit.tally.is_spent life.old.node.phase ≡ true → life.new ≡ life.old }
     ensures cleared { ClearsGate is_imaged is_asked life.old life.new result }
 {
     if leaves_misses(life, stepped, is_imaged) {
@@ -36,9 +36,9 @@ pub fn clear_gate<W: Wait, H>(
 
 // Whether misses may go on waiting.
 fn leaves_misses(life: &Life<'_, '_>, stepped: Stepped, is_imaged: bool) -> bool
-    ensures { result ≡ leaves_misses stepped is_imaged life.now.tally.is_spent life.now.node.phase }
+    ensures { result ≡ leaves_misses stepped is_imaged life.now.kit.tally.is_spent life.now.node.phase }
 {
-    has_stepped(stepped) && !is_imaged && !life.tally.is_spent && life.node.misses_only()
+    has_stepped(stepped) && !is_imaged && !life.kit.tally.is_spent && life.node.misses_only()
 }
 
 fn has_stepped(stepped: Stepped) -> bool
@@ -62,27 +62,27 @@ fn pass_all<W: Wait, H>(
     is_imaged: bool,
     is_asked: bool,
 ) -> Result<(), NodeFault>
-    ensures settled { result ≡ Ok tt → life.new.tally.is_refused ≡ false → NoneWaits life.new.node.phase }
-    ensures counted { result ≡ Ok tt → is_imaged ≡ true → life.new.tally.is_refused ≡ false
-        → is_running life.new.node.phase ≡ true → life.new.meter ≡ after_image life.old.meter (image_size_in life.new.node.phase) }
-    ensures uncounted { is_imaged ≡ false → life.new.meter ≡ life.old.meter }
+    ensures settled { result ≡ Ok tt → life.new.kit.tally.is_refused ≡ false → NoneWaits life.new.node.phase }
+    ensures counted { result ≡ Ok tt → is_imaged ≡ true → life.new.kit.tally.is_refused ≡ false
+        → is_running life.new.node.phase ≡ true → life.new.kit.meter ≡ after_image life.old.kit.meter (image_size_in life.new.node.phase) }
+    ensures uncounted { is_imaged ≡ false → life.new.kit.meter ≡ life.old.kit.meter }
     ensures cleared { ClearsGate is_imaged is_asked life.old life.new result }
 {
     let Ok(all) = life.node.release(rt, shared.console) else {
         return Err(NodeFault::Memory);
     };
     if !all {
-        life.tally.refuse_event();
+        life.kit.tally.refuse_event();
         return Ok(());
     }
     if is_imaged && life.node.image()? {
         let bytes = life.node.image_bytes(shared.alloc)?;
-        life.meter.count_image(bytes);
+        life.kit.meter.count_image(bytes);
         if is_asked {
-            life.plan.use_one();
+            life.kit.plan.use_one();
         }
         // each rank of which it accepted something is due a word
-        life.tally.set_owing(true);
+        life.kit.tally.set_owing(true);
     }
     Ok(())
 }

@@ -9,10 +9,10 @@ use std::num::NonZeroU32;
 
 /// What the script's next line asks for after this step.
 pub fn order_after(stepped: Stepped, life: &Life<'_, '_>) -> Option<Order>
-    ensures { result ≡ order_after stepped life.now.plan life.now.node.phase }
+    ensures { result ≡ order_after stepped life.now.kit.plan life.now.node.phase }
 {
     match stepped {
-        Stepped::Acted => life.plan.order_at(life.node.clock()),
+        Stepped::Acted => life.kit.plan.order_at(life.node.clock()),
         Stepped::Moved | Stepped::Blocked | Stepped::Held | Stepped::Ended => None,
     }
 }
@@ -30,7 +30,7 @@ pub fn is_image(order: Option<Order>) -> bool
 /// Whether an image is to be taken after this step: the script's next line asks
 /// for it, or it is due, as the rank takes one after each so many acts.
 pub fn images_after(stepped: Stepped, every: Option<NonZeroU32>, life: &Life<'_, '_>) -> bool
-    ensures { result ≡ images_after stepped every life.now.plan life.now.node.phase }
+    ensures { result ≡ images_after stepped every life.now.kit.plan life.now.node.phase }
 {
     is_image(order_after(stepped, life)) || is_due_after(stepped, every, life)
 }

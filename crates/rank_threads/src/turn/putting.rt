@@ -16,13 +16,13 @@ use std::alloc::AllocError;
 /// then, nothing is outgoing to any rank.
 #[tactic(auto, using(crate::proofs::PuttingLemmas::nothing_next))]
 pub fn put_out<H>(shared: &Shared<'_, H>, life: &mut Life<'_, '_>) -> Result<bool, AllocError>
-    ensures nothing { OnOk result (life.old.tally.may_owe ≡ true → life.new.tally.may_owe ≡ false → NothingBelow life.new.node.size life.new.node.phase) }
+    ensures nothing { OnOk result (life.old.kit.tally.may_owe ≡ true → life.new.kit.tally.may_owe ≡ false → NothingBelow life.new.node.size life.new.node.phase) }
     ensures kept { KeepsGate life.old life.new }
 {
-    if !life.tally.may_owe {
+    if !life.kit.tally.may_owe {
         return Ok(false);
     }
-    life.tally.set_owing(false);
+    life.kit.tally.set_owing(false);
     let mut put = false;
     for dest in 0..life.node.size {
         put = put_all_to(shared, life, dest)? || put;
@@ -39,19 +39,19 @@ fn put_all_to<H>(
     dest: u8,
 ) -> Result<bool, AllocError>
     requires { dest < life.old.node.size }
-    ensures nothing { OnOk result (life.new.tally.may_owe ≡ false → HasNothing life.new.node.phase dest) }
-    ensures untouched { OnOk result (life.new.tally.may_owe ≡ false → life.new.node.phase ≡ life.old.node.phase) }
-    ensures owing { OnOk result (life.old.tally.may_owe ≡ true → life.new.tally.may_owe ≡ true) }
+    ensures nothing { OnOk result (life.new.kit.tally.may_owe ≡ false → HasNothing life.new.node.phase dest) }
+    ensures untouched { OnOk result (life.new.kit.tally.may_owe ≡ false → life.new.node.phase ≡ life.old.node.phase) }
+    ensures owing { OnOk result (life.old.kit.tally.may_owe ≡ true → life.new.kit.tally.may_owe ≡ true) }
     ensures counted { OnOk result (PutAll dest life.old life.new) }
     ensures kept { KeepsGate life.old life.new }
 {
     let mut put = false;
     let mut is_done = false;
     for _ in 0..MOST_FRAMES {
-        match put_to(&mut life.to, dest, &mut life.node)? {
+        match put_to(&mut life.kit.to, dest, &mut life.node)? {
             PutResult::Gone(kind) => {
-                life.tally.count_put();
-                life.meter.count_put(dest, kind);
+                life.kit.tally.count_put();
+                life.kit.meter.count_put(dest, kind);
                 put = true;
             }
             PutResult::Full => break,
@@ -62,7 +62,7 @@ fn put_all_to<H>(
         }
     }
     if put || !is_done {
-        life.tally.set_owing(true);
+        life.kit.tally.set_owing(true);
     }
     if put {
         shared.ring(dest);

@@ -41,16 +41,16 @@ pub fn step<W: Wait, H: Hold>(
     shared: &Shared<'_, H>,
     life: &mut Life<'_, '_>,
 ) -> Result<Stepped, NodeFault>
-    ensures answer { result ≢ Err NodeFault.Memory → result ≡ step_of life.old.tally life.old.node.phase }
-    ensures counts { IfOk result (λ stepped. Counts shared.now.limits.steps life.old.node.phase life.new.node.phase stepped life.old.tally life.new.tally) }
+    ensures answer { result ≢ Err NodeFault.Memory → result ≡ step_of life.old.kit.tally life.old.node.phase }
+    ensures counts { IfOk result (λ stepped. Counts shared.now.limits.steps life.old.node.phase life.new.node.phase stepped life.old.kit.tally life.new.kit.tally) }
     ensures clock { IfOk result (λ stepped. clock_in life.new.node.phase ≡ clock_in life.old.node.phase + acts_of stepped) }
-    ensures waits { life.old.tally.is_blocked ≡ true → life.old.tally.is_spent ≡ false → (result ≡ Ok Stepped.Blocked) × (life.new ≡ life.old) }
+    ensures waits { life.old.kit.tally.is_blocked ≡ true → life.old.kit.tally.is_spent ≡ false → (result ≡ Ok Stepped.Blocked) × (life.new ≡ life.old) }
     ensures kept { KeepsCosts life.old life.new }
 {
-    if life.tally.is_spent {
+    if life.kit.tally.is_spent {
         return Ok(Stepped::Ended);
     }
-    if life.tally.is_blocked {
+    if life.kit.tally.is_blocked {
         tell(shared, life);
         return Ok(Stepped::Blocked);
     }
@@ -65,17 +65,17 @@ pub fn step<W: Wait, H: Hold>(
 #[tactic(auto, using(crate::proofs::TurnLemmas::stride_laws))]
 fn try_stride<H>(shared: &Shared<'_, H>, life: &mut Life<'_, '_>) -> bool
     ensures own { result ≡ is_own (want_in life.old.node.phase) }
-    ensures none { result ≡ false → (life.new.node.phase ≡ life.old.node.phase) × (life.new.tally ≡ life.old.tally) }
-    ensures counts { result ≡ true → Strode shared.now.limits.steps life.old.node.phase life.new.node.phase life.old.tally life.new.tally }
+    ensures none { result ≡ false → (life.new.node.phase ≡ life.old.node.phase) × (life.new.kit.tally ≡ life.old.kit.tally) }
+    ensures counts { result ≡ true → Strode shared.now.limits.steps life.old.node.phase life.new.node.phase life.old.kit.tally life.new.kit.tally }
     ensures clock { clock_in life.new.node.phase ≡ clock_in life.old.node.phase }
     ensures kept { KeepsCosts life.old life.new }
 {
-    let left = shared.limits.steps.saturating_sub(life.tally.steps);
+    let left = shared.limits.steps.saturating_sub(life.kit.tally.steps);
     let made = life.node.stride(left.min(STRIDE).max(1));
     if made == 0 {
         return false;
     }
-    life.tally.count_steps(made, shared.limits.steps, false);
+    life.kit.tally.count_steps(made, shared.limits.steps, false);
     true
 }
 
@@ -87,17 +87,17 @@ fn count<H>(
     answer: Result<Turn, NodeFault>,
 ) -> Result<Stepped, NodeFault>
     ensures told { result ≡ told answer }
-    ensures counted { life.new.tally ≡ counted shared.now.limits.steps answer life.old.tally }
-    ensures rest { life.new ≡ record life.old { tally = life.new.tally } }
+    ensures counted { life.new.kit.tally ≡ counted shared.now.limits.steps answer life.old.kit.tally }
+    ensures rest { life.new ≡ record life.old { kit = record life.old.kit { tally = life.new.kit.tally } } }
     ensures same { SameLife life.old life.new }
 {
     match answer {
         Ok(Turn::Moved) => {
-            life.tally.count_steps(1, shared.limits.steps, true);
+            life.kit.tally.count_steps(1, shared.limits.steps, true);
             Ok(Stepped::Acted)
         }
         Ok(Turn::Blocked) => {
-            life.tally.block();
+            life.kit.tally.block();
             Ok(Stepped::Blocked)
         }
         Ok(Turn::Held) => Ok(Stepped::Held),
@@ -106,7 +106,7 @@ fn count<H>(
             if !is_limit(fault) {
                 return Err(fault);
             }
-            life.tally.spend();
+            life.kit.tally.spend();
             Ok(Stepped::Ended)
         }
     }
@@ -130,7 +130,7 @@ fn is_limit(fault: NodeFault) -> bool
 fn tell<H: Hold>(shared: &Shared<'_, H>, life: &Life<'_, '_>) {
     // No clock is near the end of its type.
     let clock = life.node.clock().saturating_add(1);
-    shared.hold.before(life.rank, clock);
+    shared.hold.before(life.kit.rank, clock);
 }
 
 // Who holds acts is told of one before it is made, also where it turns out to

@@ -98,7 +98,7 @@ pub fn take_if_rung<H>(
     ensures brings { IfOk result (λ brought. Brings brought life.old life.new) }
     ensures kept { KeepsGate life.old life.new }
 {
-    if let Some(unrung) = shared.take_ring(life.rank) {
+    if let Some(unrung) = shared.take_ring(life.kit.rank) {
         return Ok(Arrivals::Unrung(unrung));
     }
     match drain_lanes(shared, life)? {
@@ -131,7 +131,7 @@ fn take_one<H>(
     ensures took { IfOk result (λ took. TookFrom source life.old life.new took) }
     ensures kept { KeepsGate life.old life.new }
 {
-    let Some(frame) = take_from(&mut life.from, source, looked) else {
+    let Some(frame) = take_from(&mut life.kit.from, source, looked) else {
         return Ok(false);
     };
     wake(shared, life);
@@ -142,23 +142,23 @@ fn take_one<H>(
 
 // A frame came. The mark is taken back before anything is done with it.
 fn wake<H>(shared: &Shared<'_, H>, life: &mut Life<'_, '_>)
-    ensures { life.new ≡ record life.old { tally = woken life.old.tally } }
+    ensures { life.new ≡ record life.old { kit = record life.old.kit { tally = woken life.old.kit.tally } } }
 {
-    if life.tally.is_marked {
-        life.tally.unmark(shared.take_mark_back(life.rank));
+    if life.kit.tally.is_marked {
+        life.kit.tally.unmark(shared.take_mark_back(life.kit.rank));
     }
-    life.tally.count_taken();
+    life.kit.tally.count_taken();
 }
 
 // What a frame of this kind may let go is measured before it arrives. The bytes
 // are summed up only where the log keeps more messages than ever.
 fn measure(life: &mut Life<'_, '_>, kind: FrameKind)
-    ensures { life.new ≡ record life.old { meter = before_kind life.old.meter kind (log_size_in life.old.node.phase) } }
+    ensures { life.new ≡ record life.old { kit = record life.old.kit { meter = before_kind life.old.kit.meter kind (log_size_in life.old.node.phase) } } }
 {
     match kind {
         FrameKind::Notice => {
-            if life.node.kept_messages() > life.meter.costs.kept_most.messages {
-                life.meter.note_most(life.node.log_size());
+            if life.node.kept_messages() > life.kit.meter.costs.kept_most.messages {
+                life.kit.meter.note_most(life.node.log_size());
             }
         }
         FrameKind::Message { .. } | FrameKind::Ask => {}

@@ -7,6 +7,7 @@ ghost use Rattle.rank_threads.specs.Phases.{Begins, is_replaying};
 ghost use Rattle.rank_threads.specs.Stations.{SameStation, IsLifeOf, IsNew, HasRow};
 
 use super::Station;
+use crate::life::kit::Kit;
 use crate::life::stood::Stood;
 use crate::life::{Life, Row};
 use crate::meter::Meter;
@@ -41,23 +42,26 @@ impl<'l> Station<'l> {
         requires own { desk.table ≡ logger.now.table }
         requires ranks { logger.now.ranks ≡ size }
         ensures desk { result.down.desk ≡ desk }
-        ensures to { result.to ≡ to }
-        ensures from { result.from ≡ from }
-        ensures plan { result.plan ≡ plan }
-        ensures rank { result.rank ≡ rank }
+        ensures to { result.kit.to ≡ to }
+        ensures from { result.kit.from ≡ from }
+        ensures plan { result.kit.plan ≡ plan }
+        ensures rank { result.kit.rank ≡ rank }
         ensures fresh { IsNew result }
     {
         let stable = Stable::new(desk, MemoryShelf::new(alloc), rank, size);
-        Station {
+        let kit = Kit {
             rank,
-            down: Down::of(stable),
-            logger,
-            size,
             to,
             from,
             plan,
             tally: Tally::new(),
             meter: Meter::new(),
+        };
+        Station {
+            kit,
+            down: Down::of(stable),
+            logger,
+            size,
             row: None,
             end: None,
             stood: Stood {
@@ -76,62 +80,50 @@ impl<'l> Station<'l> {
         shared: &Shared<'_, H>,
         program: &'p Program,
     ) -> Life<'p, 'l>
-        ensures begins { result.tally.fault ≡ None → Begins program.now self.entry.down self.entry.row result.node.phase }
-        ensures plan { result.plan ≡ self.entry.plan }
-        ensures tally { result.tally ≡ record self.entry.tally { fault = result.tally.fault } }
-        ensures well { result.tally.fault ≡ None → result.tally ≡ self.entry.tally }
-        ensures meter { result.meter ≡ self.entry.meter }
+        ensures begins { result.kit.tally.fault ≡ None → Begins program.now self.entry.down self.entry.row result.node.phase }
+        ensures kit { result.kit ≡ record self.entry.kit { tally = record self.entry.kit.tally { fault = result.kit.tally.fault } } }
+        ensures well { result.kit.tally.fault ≡ None → result.kit.tally ≡ self.entry.kit.tally }
         ensures same { IsLifeOf self.entry result }
     {
         let Station {
-            rank,
+            mut kit,
             down,
             logger,
             size,
-            to,
-            from,
-            plan,
-            mut tally,
-            meter,
             row,
             end: _,
             stood: _,
         } = self;
         let (node, fault) = Node::begin(shared.alloc, program, logger, down, row, size);
         if let Some(fault) = fault {
-            tally.refuse(shared.stop_all(rt, fault));
+            kit.tally.refuse(shared.stop_all(rt, fault));
         }
-        Life {
-            rank,
-            node,
-            to,
-            from,
-            plan,
-            tally,
-            meter,
-        }
+        Life { node, kit }
     }
 
     /// The rank stops for good, and gives back its desk and its lanes.
     pub fn close(self) -> (Desk, Vec<Tx, Heap>, Vec<Rx, Heap>)
         ensures desk { result.0 ≡ self.entry.down.desk }
-        ensures to { result.1 ≡ self.entry.to }
-        ensures from { result.2 ≡ self.entry.from }
+        ensures to { result.1 ≡ self.entry.kit.to }
+        ensures from { result.2 ≡ self.entry.kit.from }
     {
         let Station {
-            rank: _,
+            kit,
             down,
             logger: _,
             size: _,
+            row: _,
+            end: _,
+            stood: _,
+        } = self;
+        let Kit {
+            rank: _,
             to,
             from,
             plan: _,
             tally: _,
             meter: _,
-            row: _,
-            end: _,
-            stood: _,
-        } = self;
+        } = kit;
         let (desk, _shelf) = down.retire().parts();
         (desk, to, from)
     }
@@ -139,8 +131,8 @@ impl<'l> Station<'l> {
     /// The rank fetches its row, which it replays in its next life.
     pub fn fetch(&mut self, alloc: Heap) -> Result<(), NodeFault>
         ensures row { OnOk result (HasRow self.new) }
-        ensures meter { self.new.meter ≡ self.old.meter }
-        ensures rest { (self.new.plan ≡ self.old.plan) × (self.new.tally ≡ self.old.tally) × (self.new.end ≡ self.old.end) × (self.new.stood ≡ self.old.stood) }
+        ensures kit { self.new.kit ≡ self.old.kit }
+        ensures rest { (self.new.end ≡ self.old.end) × (self.new.stood ≡ self.old.stood) }
         ensures memory { IfErr result (λ e. e ≡ NodeFault.Memory) }
         ensures err { OnErr result ((self.new.down ≡ self.old.down) × (self.new.row ≡ self.old.row)) }
         ensures same { SameStation self.old self.new }
@@ -158,22 +150,12 @@ impl<'p, 'l> Life<'p, 'l> {
     pub fn leave(self, end: Option<End>, is_at_rest: bool) -> Station<'l>
         ensures end { result.end ≡ end }
         ensures stood { result.stood ≡ stood_at is_at_rest self.entry.node.phase }
-        ensures plan { result.plan ≡ self.entry.plan }
-        ensures tally { result.tally ≡ self.entry.tally }
-        ensures meter { result.meter ≡ after_log self.entry.meter (log_size_in self.entry.node.phase) }
+        ensures kit { result.kit ≡ record self.entry.kit { meter = after_log self.entry.kit.meter (log_size_in self.entry.node.phase) } }
         ensures row { result.row ≡ None }
         ensures same { IsLifeOf result self.entry }
     {
-        let Life {
-            rank,
-            node,
-            to,
-            from,
-            plan,
-            tally,
-            mut meter,
-        } = self;
-        meter.note_log(node.log_size());
+        let Life { node, mut kit } = self;
+        kit.meter.note_log(node.log_size());
         let stood = Stood {
             clock: node.clock(),
             is_replaying: is_replaying(&node),
@@ -181,15 +163,10 @@ impl<'p, 'l> Life<'p, 'l> {
         };
         let (down, logger, size) = node.end();
         Station {
-            rank,
+            kit,
             down,
             logger,
             size,
-            to,
-            from,
-            plan,
-            tally,
-            meter,
             row: None,
             end,
             stood,

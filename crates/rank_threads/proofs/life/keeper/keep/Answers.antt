@@ -12,7 +12,7 @@ returns-then-is_some-2-clause-lives g c =
 pub loop-preserved : goal.loop-preserved
 loop-preserved g c =
     let crashed : c.play_life-station.result.end ≡ None = search rules in
-    let well : c.play_life-station.result.tally.fault ≡ None = search rules in
+    let well : c.play_life-station.result.kit.tally.fault ≡ None = search rules in
     record {
       same = search rules;
       lives =

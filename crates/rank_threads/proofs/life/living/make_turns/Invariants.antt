@@ -6,5 +6,5 @@ use Rattle.rank_threads.proofs.life.living.make_turns.Given as goal
 abbrev pub invariant-loop : goal.invariant-loop
 invariant-loop g l = record {
   same : SameLife l.initial.life l.life;
-  lines : UsesImages l.initial.life.plan l.life.plan;
+  lines : UsesImages l.initial.life.kit.plan l.life.kit.plan;
 }

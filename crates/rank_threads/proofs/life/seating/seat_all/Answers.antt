@@ -18,18 +18,18 @@ loop-desk-preserved g c =
     let kept = c.loop-desk.invariant in
     let less = desks_less c.args.logger.now 0 c.pop.new.self.items c.in-Some.desk (rw (sym c.in-Some.ensures.items) kept.desks) in
     let shorter : vec_len c.loop-desk.desks ≡ vec_len c.pop.new.self + 1 = grind (arith, c.in-Some.ensures.len) in
-    let to = seated (λ s. map lane_to s.to.items) (to_names c.pop-in-Some.new.self.items) (map lane_to c.in-Some-pop.to_each.items) c.loop-desk.stations.items
+    let to = seated (λ s. map lane_to s.kit.to.items) (to_names c.pop-in-Some.new.self.items) (map lane_to c.in-Some-pop.to_each.items) c.loop-desk.stations.items
     (record { rt = c.args.rt; station = c.new-station.result }) (to_names c.args.parts.ends.to.items)
     (rw (sym (to_snoc c.pop-in-Some.new.self.items c.in-Some-pop.to_each), sym c.in-Some-pop.ensures.items) kept.to)
     (sym (ap (λ v. map lane_to v.items) c.new-station.ensures.to)) in
-    let from = seated (λ s. map lane_from s.from.items) (from_names c.pop-in-Some-2.new.self.items) (map lane_from c.in-Some-pop-2.from_each.items)
+    let from = seated (λ s. map lane_from s.kit.from.items) (from_names c.pop-in-Some-2.new.self.items) (map lane_from c.in-Some-pop-2.from_each.items)
     c.loop-desk.stations.items (record { rt = c.args.rt; station = c.new-station.result }) (from_names c.args.parts.ends.from.items)
     (rw (sym (from_snoc c.pop-in-Some-2.new.self.items c.in-Some-pop-2.from_each), sym c.in-Some-pop-2.ensures.items) kept.from)
     (sym (ap (λ v. map lane_from v.items) c.new-station.ensures.from)) in
     let desks = seated (λ s. s.down.desk) c.pop.new.self.items c.in-Some.desk c.loop-desk.stations.items
     (record { rt = c.args.rt; station = c.new-station.result }) c.args.parts.desks.items
     (rw (sym c.in-Some.ensures.items) kept.seated) (sym c.new-station.ensures.desk) in
-    let plans = seated (λ s. s.plan) c.pop-in-Some-3.new.self.items c.in-Some-pop-3.plan c.loop-desk.stations.items
+    let plans = seated (λ s. s.kit.plan) c.pop-in-Some-3.new.self.items c.in-Some-pop-3.plan c.loop-desk.stations.items
     (record { rt = c.args.rt; station = c.new-station.result }) c.args.parts.plans.items
     (rw (sym c.in-Some-pop-3.ensures.items) kept.plans) (sym c.new-station.ensures.plan) in
     let fresh = new_more c.loop-desk.stations.items (record { rt = c.args.rt; station = c.new-station.result }) kept.fresh c.new-station.ensures.fresh in

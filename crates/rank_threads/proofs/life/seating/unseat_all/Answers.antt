@@ -11,12 +11,12 @@ loop-parcel-preserved g c =
     let kept = c.loop-parcel.invariant in
     let stations = c.in-Some.ensures.items in
     let all = stations_of c.args.stations.items in
-    let to = unseated (λ s. map lane_to s.to.items) (to_names c.loop-parcel.to.items) (map lane_to c.take_apart-desk.result.1.items) c.pop.new.self.items
+    let to = unseated (λ s. map lane_to s.kit.to.items) (to_names c.loop-parcel.to.items) (map lane_to c.take_apart-desk.result.1.items) c.pop.new.self.items
     c.in-Some.parcel (lanes_to all) (rw (sym stations) kept.to)
-    (ap (λ v. map lane_to v.items) (c.take_apart-desk.ensures.to ∙ ap (λ s. s.to) c.open.ensures)) in
-    let from = unseated (λ s. map lane_from s.from.items) (from_names c.loop-parcel.from.items) (map lane_from c.take_apart-desk.result.2.items)
+    (ap (λ v. map lane_to v.items) (c.take_apart-desk.ensures.to ∙ ap (λ s. s.kit.to) c.open.ensures)) in
+    let from = unseated (λ s. map lane_from s.kit.from.items) (from_names c.loop-parcel.from.items) (map lane_from c.take_apart-desk.result.2.items)
     c.pop.new.self.items c.in-Some.parcel (lanes_from all) (rw (sym stations) kept.from)
-    (ap (λ v. map lane_from v.items) (c.take_apart-desk.ensures.from ∙ ap (λ s. s.from) c.open.ensures)) in
+    (ap (λ v. map lane_from v.items) (c.take_apart-desk.ensures.from ∙ ap (λ s. s.kit.from) c.open.ensures)) in
     let desks = unseated (λ s. s.down.desk) c.loop-parcel.desks.items c.take_apart-desk.result.0 c.pop.new.self.items c.in-Some.parcel (desks_of all)
     (rw (sym stations) kept.desks) (c.take_apart-desk.ensures.desk ∙ ap (λ s. s.down.desk) c.open.ensures) in
     let accounts = unseated account_of c.loop-parcel.accounts.items c.take_apart-desk.result.3 c.pop.new.self.items c.in-Some.parcel (accounts_of all)

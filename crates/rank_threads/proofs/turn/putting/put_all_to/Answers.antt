@@ -10,9 +10,9 @@ use Rattle.rank_threads.proofs.turn.putting.put_all_to.Goals.{then-put, else-put
 -- a frame went and was counted
 pub loop-preserved : goal.loop-preserved
 loop-preserved g c =
-    let here : PutsInto (put_result.Gone c.in-Gone.kind) c.loop.life.node.phase c.args.dest c.loop.life.to.items c.put_to.new.node.phase c.put_to.new.lanes.items
+    let here : PutsInto (put_result.Gone c.in-Gone.kind) c.loop.life.node.phase c.args.dest c.loop.life.kit.to.items c.put_to.new.node.phase c.put_to.new.lanes.items
     = search rules in
-    let counted : c.count_put-in-Gone.new.self ≡ after_put c.loop.life.meter c.args.dest c.in-Gone.kind = search rules in
+    let counted : c.count_put-in-Gone.new.self ≡ after_put c.loop.life.kit.meter c.args.dest c.in-Gone.kind = search rules in
     record {
       untouched = search rules;
       undone = search rules;

@@ -8,7 +8,7 @@ abbrev pub invariant-loop : goal.invariant-loop
 invariant-loop g l = record {
   untouched : l.put ≡ false → l.life.node.phase ≡ l.fn.life.node.phase;
   undone : l.is_done ≡ false;
-  owing : l.life.tally.may_owe ≡ l.fn.life.tally.may_owe;
+  owing : l.life.kit.tally.may_owe ≡ l.fn.life.kit.tally.may_owe;
   counted : PutAll l.dest l.fn.life l.life;
   kept : KeepsGate l.fn.life l.life;
 }
