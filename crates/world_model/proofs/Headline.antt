@@ -5,14 +5,14 @@ use Rattle.world_model.specs.Counts.{Counts}
 use Rattle.world_model.specs.Plain.{plain_rank, plain, without_runs, RunsOfMisses}
 use Rattle.world_model.specs.Follows.{ReleaseFollows, Happens, Follows}
 use Rattle.rank_node.specs.Waiting.{BeginsWithEvents, event_in, effects, events_in, expanded}
-use Rattle.world_model.proofs.Pending.{begins_effect, continue_is_run, row_with_pending, as_many_acts}
-use Rattle.world_model.proofs.StandingFrames.{Stands-putting, Stands-arrive}
-use Rattle.world_model.proofs.StandingStores.{Stands-ack}
-use Rattle.world_model.proofs.StandingParts.{Stands-store}
-use Rattle.world_model.proofs.StandingReleases.{effect_there, Stands-release}
-use Rattle.world_model.proofs.RunsCounts.{Counts-put, Counts-arrive, Counts-crash, Counts-restart, Counts-ack, Counts-store, Counts-release}
-use Rattle.world_model.proofs.RunsCountsOfSteps.{Counts-step, Counts-replay}
-use Rattle.world_model.proofs.Ranks.{settled_behind}
+use Rattle.world_model.proofs.Standing.Pending.{begins_effect, continue_is_run, row_with_pending, as_many_acts}
+use Rattle.world_model.proofs.Standing.KeptByFrames.{Stands-putting, Stands-arrive}
+use Rattle.world_model.proofs.Standing.KeptByAcks.{Stands-ack}
+use Rattle.world_model.proofs.Standing.KeptByStores.{Stands-store}
+use Rattle.world_model.proofs.Standing.KeptByReleases.{effect_there, Stands-release}
+use Rattle.world_model.proofs.Runs.CountsKept.{Counts-put, Counts-arrive, Counts-crash, Counts-restart, Counts-ack, Counts-store, Counts-release}
+use Rattle.world_model.proofs.Runs.CountsKeptBySteps.{Counts-step, Counts-replay}
+use Rattle.world_model.proofs.Standing.LiveRanks.{settled_behind}
 use Rattle.plain_logger.specs.Misses.{expand}
 use Rattle.std.proofs.lemmas.Option.{slice_get_within}
 use Rattle.world_model.specs.Rows.{row}
@@ -25,20 +25,20 @@ use Rattle.world_model.specs.declared.reply.Reply.{Reply}
 use Rattle.world_model.specs.declared.reply.Reply.TheVariants as reply
 use Rattle.world_model.specs.Stands.{RankStands, start_at, Stands}
 use Rattle.rank_node.specs.Storing.{next_unstored}
-use Rattle.world_model.proofs.Lists.{drop_none}
-use Rattle.world_model.proofs.Worlds.{Goes}
-use Rattle.world_model.proofs.Crashes.{Stands-crash}
-use Rattle.world_model.proofs.StandingRestarts.{fetched_whole, Stands-restart}
-use Rattle.world_model.proofs.Imaging.{Stands-image, Counts-image}
-use Rattle.world_model.proofs.StandingReplays.{Stands-replay}
-use Rattle.world_model.proofs.StandingSteps.{Stands-step}
-use Rattle.world_model.proofs.RunsKept.{Runs-put, Runs-arrive, Runs-ack, Runs-release, Runs-step, Runs-replay}
-use Rattle.world_model.proofs.RunsKeptStored.{Runs-crash, Runs-restart, Runs-image, Runs-store}
-use Rattle.world_model.proofs.Plain.{unpassed_plain, events_expanded, effects_expanded}
-use Rattle.world_model.proofs.PlainRanks.{none_waits, none_left}
-use Rattle.world_model.proofs.PlainFollows.{put_plainly, arrive_plainly, ack_plainly, release_plainly, image_plainly, crash_plainly}
-use Rattle.world_model.proofs.PlainReplaying.{replay_plainly}
-use Rattle.world_model.proofs.PlainWorlds.{GoesOn, goes_plainly, plainly_goes, rank_of, as_many_rows, row_of, stored_first, stored_low}
+use Rattle.world_model.proofs.Lists.Beginnings.{drop_none}
+use Rattle.world_model.proofs.Standing.Worlds.{Goes}
+use Rattle.world_model.proofs.Standing.KeptByCrashes.{Stands-crash}
+use Rattle.world_model.proofs.Standing.KeptByRestarts.{fetched_whole, Stands-restart}
+use Rattle.world_model.proofs.Standing.KeptByImages.{Stands-image, Counts-image}
+use Rattle.world_model.proofs.Standing.KeptByReplays.{Stands-replay}
+use Rattle.world_model.proofs.Standing.KeptBySteps.{Stands-step}
+use Rattle.world_model.proofs.Runs.KeptByEvents.{Runs-put, Runs-arrive, Runs-ack, Runs-release, Runs-step, Runs-replay}
+use Rattle.world_model.proofs.Runs.KeptByStores.{Runs-crash, Runs-restart, Runs-image, Runs-store}
+use Rattle.world_model.proofs.Plain.EffectsAndLeft.{unpassed_plain, events_expanded, effects_expanded}
+use Rattle.world_model.proofs.Plain.Ranks.{none_waits, none_left}
+use Rattle.world_model.proofs.Plain.SameEvents.{put_plainly, arrive_plainly, ack_plainly, release_plainly, image_plainly, crash_plainly}
+use Rattle.world_model.proofs.Plain.ReplaySteps.{replay_plainly}
+use Rattle.world_model.proofs.Plain.Worlds.{GoesOn, goes_plainly, plainly_goes, rank_of, as_many_rows, row_of, stored_first, stored_low}
 
 -- what an event does to the world without runs of misses
 plain_goes : (w w' : WorldValue) → Stands w → (Goes (without_runs w) → Goes (without_runs w')) → GoesOn w'

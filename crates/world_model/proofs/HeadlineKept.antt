@@ -5,7 +5,7 @@ use Rattle.world_model.specs.Counts.{RankCounts}
 use Rattle.world_model.specs.Plain.{plain, without_runs, RankRuns}
 use Rattle.world_model.specs.Follows.{CanNot, Happens}
 use Rattle.world_model.specs.Memory.{Fetched, Unchanged}
-use Rattle.world_model.proofs.Ranks.{ahead, first_image_stands}
+use Rattle.world_model.proofs.Standing.LiveRanks.{ahead, first_image_stands}
 use Rattle.plain_logger.specs.Event.{EventValue}
 use Rattle.plain_logger.specs.Misses.{expand}
 use Rattle.std.proofs.lemmas.Option.{slice_get_within}
@@ -30,9 +30,9 @@ use Rattle.world_model.specs.declared.reply.Reply.{Reply}
 use Rattle.checkpoint.specs.Image.{ImageValue}
 use Rattle.rank_node.specs.Image.{first_image, begins_at}
 use Rattle.world_model.specs.Stands.{ImageStands, RankStands, start_at, StandsAt, DueCovered, RankCovers, Stands}
-use Rattle.world_model.proofs.Lists.{replicate_get, replicate_length, get_map, map_length}
-use Rattle.world_model.proofs.PlainRanks.{none_waits, none_left}
-use Rattle.world_model.proofs.PlainWorlds.{IsPlain, is_plain, rank_of}
+use Rattle.world_model.proofs.Lists.Beginnings.{replicate_get, replicate_length, get_map, map_length}
+use Rattle.world_model.proofs.Plain.Ranks.{none_waits, none_left}
+use Rattle.world_model.proofs.Plain.Worlds.{IsPlain, is_plain, rank_of}
 
 -- ---- refused memory
 

@@ -113,7 +113,7 @@ impl Run {
     }
 
     /// Puts the newest act. An `Err` means out of memory.
-    #[tactic(auto, using(crate::proofs::RunIndex::count_fits))]
+    #[tactic(auto, using(crate::proofs::Runs::Index::count_fits))]
     pub fn push(&mut self, passed: Passed) -> Result<(), AllocError>
         requires { passed.rank < self.old.ranks }
         ensures ok { OnOk result (self.new.acts ≡ passed ∷ self.old.acts) }
@@ -128,7 +128,7 @@ impl Run {
 
     /// Puts so many misses of a rank, or none where memory ends. An `Err` is
     /// refused memory.
-    #[tactic(auto, using(crate::proofs::RunsMissing::misses_more, crate::proofs::RunsMissing::misses_back))]
+    #[tactic(auto, using(crate::proofs::Runs::MoreMisses::misses_more, crate::proofs::Runs::MoreMisses::misses_back))]
     pub fn push_misses(&mut self, rank: u8, count: u32) -> Result<(), AllocError>
         requires { rank < self.old.ranks }
         ensures ok { OnOk result (self.new.acts ≡ with_misses rank count self.old.acts) }
@@ -146,7 +146,7 @@ impl Run {
     }
 
     /// Takes so many of the newest acts back. This takes no memory.
-    #[tactic(auto, using(crate::proofs::RunsMissing::drop_next, crate::proofs::Lists::drop_zero))]
+    #[tactic(auto, using(crate::proofs::Runs::MoreMisses::drop_next, crate::proofs::Lists::Beginnings::drop_zero))]
     pub fn take_back_many(&mut self, count: u32)
         ensures acts { self.new.acts ≡ drop count self.old.acts }
         ensures ranks { self.new.ranks ≡ self.old.ranks }
@@ -157,7 +157,7 @@ impl Run {
     }
 
     /// Takes the newest act back, if there is one. This takes no memory.
-    #[tactic(auto, using(crate::proofs::RunIndex::counted_last))]
+    #[tactic(auto, using(crate::proofs::Runs::Index::counted_last))]
     pub fn take_back(&mut self)
         ensures acts { self.new.acts ≡ drop 1 self.old.acts }
         ensures ranks { self.new.ranks ≡ self.old.ranks }

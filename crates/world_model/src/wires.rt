@@ -52,7 +52,7 @@ impl WiresFrom {
         &self.wires[usize::from(dest)]
     }
 
-    #[tactic(auto, using(crate::proofs::Places::set_same))]
+    #[tactic(auto, using(crate::proofs::Lists::Replaced::set_same))]
     fn put(&mut self, dest: u8, frame: Frame) -> Result<(), AllocError>
         requires { dest < length self.old }
         ensures ok { OnOk result (self.new ≡ slice_set self.old dest (slice_index_or self.old dest [] ++ frame ∷ [])) }
@@ -109,7 +109,7 @@ impl Wires {
 
     /// A frame is put on the wire from one rank to another. An `Err` is want
     /// of memory.
-    #[tactic(auto, using(crate::proofs::Places::set_same))]
+    #[tactic(auto, using(crate::proofs::Lists::Replaced::set_same))]
     pub fn put(&mut self, source: u8, dest: u8, frame: Frame) -> Result<(), AllocError>
         requires { HasWire self.old source dest }
         ensures ok { OnOk result (self.new ≡ with_frame self.old source dest frame) }

@@ -9,7 +9,7 @@ impl<'p> BareWorld<'p> {
     ghost use Rattle.world_model.specs.Stands.{Stands};
 
     /// The rank's oldest stored event is acknowledged.
-    #[tactic(auto, using(crate::proofs::DoingStores::ack_laws, crate::proofs::Doing::works_at))]
+    #[tactic(auto, using(crate::proofs::Calls::Stores::ack_laws, crate::proofs::Calls::RankOfEvent::works_at))]
     pub fn ack(&mut self, rank: u32) -> Reply
         requires { Stands self.old }
         ensures { Follows self.old (Ack rank) result self.new }

@@ -15,7 +15,7 @@ impl<'p> BareWorld<'p> {
 
     /// The frame of this index on the wire from the source arrives at the
     /// destination.
-    #[tactic(auto, using(crate::proofs::DoingFrames::arrive_laws))]
+    #[tactic(auto, using(crate::proofs::Calls::Frames::arrive_laws))]
     pub fn arrive(&mut self, source: u32, dest: u32, index: u64) -> Result<Reply, AllocError>
         requires { Stands self.old }
         ensures follows { IfOk result (λ reply. Follows self.old (Arrive source dest index) reply self.new) }

@@ -8,7 +8,7 @@ use std::alloc::AllocError;
 impl<'p> BareWorld<'p> {
     /// The same world but for the shelves themselves, whose images are the
     /// same. An `Err` means out of memory.
-    #[tactic(auto, using(crate::proofs::Likeness::alike_length))]
+    #[tactic(auto, using(crate::proofs::Alike::ListLeadsToo::alike_length))]
     pub fn copy(&self) -> Result<BareWorld<'p>, AllocError>
         ensures { IfOk result (λ copy. Alike self.now copy) }
     {

@@ -8,7 +8,7 @@ impl<'p> BareWorld<'p> {
     ghost use Rattle.world_model.specs.Follows.{Follows};
 
     /// The rank crashes, and nothing of it stays but what is stable.
-    #[tactic(auto, using(crate::proofs::DoingLives::crash_nowhere, crate::proofs::DoingLives::crash_down, crate::proofs::DoingLives::crash_some))]
+    #[tactic(auto, using(crate::proofs::Calls::Lives::crash_nowhere, crate::proofs::Calls::Lives::crash_down, crate::proofs::Calls::Lives::crash_some))]
     pub fn crash(&mut self, rank: u32) -> Reply
         ensures { Follows self.old (Crash rank) result self.new }
     {

@@ -11,7 +11,7 @@ impl<'p> BareWorld<'p> {
     ghost use Rattle.world_model.specs.Stands.{Stands};
 
     /// The rank takes an image of itself, in the place of an older one.
-    #[tactic(auto, using(crate::proofs::DoingImages::image_laws, crate::proofs::Doing::works_at))]
+    #[tactic(auto, using(crate::proofs::Calls::Images::image_laws, crate::proofs::Calls::RankOfEvent::works_at))]
     pub fn image(&mut self, rank: u32) -> Result<Reply, AllocError>
         requires { Stands self.old }
         ensures follows { IfOk result (λ reply. Follows self.old (Image rank) reply self.new) }

@@ -13,7 +13,7 @@ impl<'p> BareWorld<'p> {
     ghost use Rattle.world_model.specs.Stands.{Stands};
 
     /// What goes next from the source is put on the wire to the destination.
-    #[tactic(auto, using(crate::proofs::DoingFrames::put_laws))]
+    #[tactic(auto, using(crate::proofs::Calls::Frames::put_laws))]
     pub fn put(&mut self, source: u32, dest: u32) -> Result<Reply, AllocError>
         requires { Stands self.old }
         ensures follows { IfOk result (λ reply. Follows self.old (Put source dest) reply self.new) }

@@ -20,7 +20,7 @@ impl<'p> BareWorld<'p> {
 
     /// The oldest effect of a rank at work is released. Its act goes on the
     /// run first, and is taken back where memory ends after that.
-    #[tactic(auto, using(crate::proofs::DoingReleases::release_laws, crate::proofs::Doing::works_at))]
+    #[tactic(auto, using(crate::proofs::Calls::Releases::release_laws, crate::proofs::Calls::RankOfEvent::works_at))]
     pub fn release(&mut self, rank: u32) -> Result<Reply, AllocError>
         requires { Stands self.old }
         ensures follows { IfOk result (λ reply. Follows self.old (Release rank) reply self.new) }

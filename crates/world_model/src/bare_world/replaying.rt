@@ -15,7 +15,7 @@ impl<'p> BareWorld<'p> {
 
     /// A rank that replays makes one step. Nothing passes: its acts are in the
     /// run.
-    #[tactic(auto, using(crate::proofs::DoingSteps::replay_laws))]
+    #[tactic(auto, using(crate::proofs::Calls::Steps::replay_laws))]
     pub(crate) fn replay(&mut self, rank: u8) -> Result<Reply, AllocError>
         requires stands { Stands self.old }
         requires rank { rank < length self.old.ranks }

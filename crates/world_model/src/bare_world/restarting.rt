@@ -15,7 +15,7 @@ impl<'p> BareWorld<'p> {
     /// The rank starts again at its image: it fetches its row, and replays what
     /// is above that. Where memory ends after the fetch, that stays in the
     /// logger's history.
-    #[tactic(auto, using(crate::proofs::DoingLives::restart_laws))]
+    #[tactic(auto, using(crate::proofs::Calls::Lives::restart_laws))]
     pub fn restart(&mut self, rank: u32) -> Result<Reply, AllocError>
         requires { Stands self.old }
         ensures follows { IfOk result (λ reply. Follows self.old (Restart rank) reply self.new) }

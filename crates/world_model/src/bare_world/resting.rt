@@ -14,7 +14,7 @@ impl<'p> BareWorld<'p> {
     ghost use Rattle.world_model.specs.Finished.{IsQuiet, IsSpent};
 
     /// Whether a rank is quiet, as far as it says so. This takes no memory.
-    #[tactic(auto, using(crate::proofs::Resting::quiet_is))]
+    #[tactic(auto, using(crate::proofs::Ending::QuietRanks::quiet_is))]
     pub fn is_quiet(&self, rank: u8) -> bool
         requires { rank < size self.now }
         ensures { OnTrue result (IsQuiet self.now rank) }
@@ -32,7 +32,7 @@ impl<'p> BareWorld<'p> {
     }
 
     /// By which name the next act of a rank is refused, if it is.
-    #[tactic(auto, using(crate::proofs::Resting::spent_is, crate::proofs::Resting::at_rest_unspent, crate::proofs::Resting::allowed_unspent))]
+    #[tactic(auto, using(crate::proofs::Ending::QuietRanks::spent_is, crate::proofs::Ending::QuietRanks::at_rest_unspent, crate::proofs::Ending::QuietRanks::allowed_unspent))]
     pub fn refusal(&self, rank: u8) -> Option<NodeFault>
         requires { rank < size self.now }
         ensures some { IfSome result (λ fault. IsSpent self.now rank fault) }

@@ -22,7 +22,7 @@ impl<'p> BareWorld<'p> {
     ghost use Rattle.world_model.specs.Stands.{Stands};
 
     /// The rank makes one step.
-    #[tactic(auto, using(crate::proofs::DoingSteps::step_nowhere))]
+    #[tactic(auto, using(crate::proofs::Calls::Steps::step_nowhere))]
     pub fn step(&mut self, rank: u32) -> Result<Reply, AllocError>
         requires { Stands self.old }
         ensures follows { IfOk result (λ reply. Follows self.old (Step rank) reply self.new) }
@@ -42,7 +42,7 @@ impl<'p> BareWorld<'p> {
     /// A rank that doesn't replay makes one step. What the step lets others
     /// see at once goes on the run first, and is taken back where memory ends
     /// after that.
-    #[tactic(auto, using(crate::proofs::DoingSteps::step_laws, crate::proofs::Doing::works_at))]
+    #[tactic(auto, using(crate::proofs::Calls::Steps::step_laws, crate::proofs::Calls::RankOfEvent::works_at))]
     fn advance(&mut self, rank: u8) -> Result<Reply, AllocError>
         requires stands { Stands self.old }
         requires rank { rank < length self.old.ranks }
@@ -71,7 +71,7 @@ impl<'p> BareWorld<'p> {
 
 /// The act of a rank's next step, where others can see it at once: a send or
 /// a print.
-#[tactic(auto, using(crate::proofs::DoingSteps::unmoved, crate::proofs::DoingSteps::waits_behind, crate::proofs::DoingSteps::send_takes))]
+#[tactic(auto, using(crate::proofs::Calls::Steps::unmoved, crate::proofs::Calls::Steps::waits_behind, crate::proofs::Calls::Steps::send_takes))]
 fn effect_of(alloc: Heap, running: &Running<'_, MemoryShelf, ()>) -> Result<Option<Act>, AllocError>
     ensures effect { IfOk result (λ act. option_map act_of act ≡ effect_at running.now (machine_want running.now.machine) (turn_of running.now)) }
     ensures memory { OnErr result (takes_memory running.now ≡ true) }

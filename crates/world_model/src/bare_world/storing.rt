@@ -21,7 +21,7 @@ impl<'p> BareWorld<'p> {
 
     /// The rank's oldest unstored event is stored. Its acts go on the run
     /// first, and are taken back where memory ends after that.
-    #[tactic(auto, using(crate::proofs::DoingStores::store_laws, crate::proofs::Doing::works_at))]
+    #[tactic(auto, using(crate::proofs::Calls::Stores::store_laws, crate::proofs::Calls::RankOfEvent::works_at))]
     pub fn store(&mut self, rank: u32) -> Result<Reply, AllocError>
         requires { Stands self.old }
         ensures follows { IfOk result (λ reply. Follows self.old (Store rank) reply self.new) }
@@ -47,7 +47,7 @@ impl<'p> BareWorld<'p> {
 
     /// The acts that the rank's oldest unstored event stands for go on the
     /// run, so many. An `Err` means out of memory.
-    #[tactic(auto, using(crate::proofs::DoingStores::noted_one, crate::proofs::DoingStores::noted_misses))]
+    #[tactic(auto, using(crate::proofs::Calls::Stores::noted_one, crate::proofs::Calls::Stores::noted_misses))]
     fn note(&mut self, rank: u8, event: Event) -> Result<u32, AllocError>
         requires stands { Stands self.old }
         requires rank { rank < length self.old.ranks }
@@ -68,7 +68,7 @@ impl<'p> BareWorld<'p> {
 
     /// The act that the rank's oldest unstored event, which found a message,
     /// stands for.
-    #[tactic(auto, using(crate::proofs::DoingStores::hit_stands, crate::proofs::DoingStores::reception_stands))]
+    #[tactic(auto, using(crate::proofs::Calls::Stores::hit_stands, crate::proofs::Calls::Stores::reception_stands))]
     fn act_of(&self, rank: u8, event: Event) -> Act
         requires stands { Stands self.now }
         requires oldest { AtRank self.now.ranks rank (λ v. next_unstored v.rank ≡ Some event) }
@@ -89,7 +89,7 @@ impl<'p> BareWorld<'p> {
     }
 
     /// The place of the message that the rank's oldest unstored event names.
-    #[tactic(auto, using(crate::proofs::DoingStores::names_a_rank, crate::proofs::DoingStores::names_a_message, crate::proofs::Doing::at_below))]
+    #[tactic(auto, using(crate::proofs::Calls::Stores::names_a_rank, crate::proofs::Calls::Stores::names_a_message, crate::proofs::Calls::RankOfEvent::at_below))]
     fn place_of(&self, rank: u8, event: Event) -> u64
         requires stands { Stands self.now }
         requires oldest { AtRank self.now.ranks rank (λ v. next_unstored v.rank ≡ Some event) }

@@ -22,7 +22,7 @@ impl<'p> BareWorld<'p> {
     /// The world is driven on, and the events that it takes are a recovery
     /// schedule for each world that is like it. An `Err` means that memory was
     /// refused.
-    #[tactic(auto, using(crate::proofs::WayFound::way_found))]
+    #[tactic(auto, using(crate::proofs::Again::WholeWay::way_found))]
     pub fn way(&mut self) -> Result<Vec<WorldEvent, Heap>, AllocError>
         requires { IsWorld self.old }
         ensures way { IfOk result (λ events. (start : WorldValue) → Alike start self.old → IsWayOn start events.items) }
@@ -39,7 +39,7 @@ impl<'p> BareWorld<'p> {
     }
 
     /// An event; where it isn't refused it goes last on the list.
-    #[tactic(auto, using(crate::proofs::Driving::world_after))]
+    #[tactic(auto, using(crate::proofs::Alike::OneEventMore::world_after))]
     fn drive(
         &mut self,
         event: WorldEvent,

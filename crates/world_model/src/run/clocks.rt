@@ -49,7 +49,7 @@ impl Clocks {
     }
 
     /// The place of a clock, from 1.
-    #[tactic(auto, using(crate::proofs::RunClocks::found_there))]
+    #[tactic(auto, using(crate::proofs::Runs::ClocksRise::found_there))]
     pub(super) fn place_of(&self, clock: u64) -> Option<u64>
         requires { Rising self.now }
         ensures some { IfSome result (λ j. at_place self.now j ≡ Some clock) }

@@ -11,7 +11,7 @@ use std::alloc::AllocError;
 impl<'p> Seat<'p> {
     /// The same rank in the same phase, on a shelf of its own that holds the
     /// same image. An `Err` means out of memory.
-    #[tactic(auto, using(crate::proofs::Copying::seat_copy))]
+    #[tactic(auto, using(crate::proofs::Alike::Copies::seat_copy))]
     pub fn copy(&self, alloc: Heap) -> Result<Seat<'p>, AllocError>
         ensures { IfOk result (λ copy. IsSeatCopy self.now copy) }
     {
@@ -28,7 +28,7 @@ impl<'p> Seat<'p> {
 }
 
 // The same rank on a shelf of its own, with the image that its shelf holds.
-#[tactic(auto, using(crate::proofs::Copying::phase_copy))]
+#[tactic(auto, using(crate::proofs::Alike::Copies::phase_copy))]
 fn copied<'p>(
     rank: &Phase<'p, MemoryShelf, ()>,
     alloc: Heap,

@@ -15,7 +15,7 @@ impl<'p> Seat<'p> {
 
     /// The rank, which is at work and whose step isn't refused by name, makes
     /// one step. An `Err` means out of memory.
-    #[tactic(auto, using(crate::proofs::Showing::step_is))]
+    #[tactic(auto, using(crate::proofs::Calls::Console::step_is))]
     pub fn step(&mut self, console: &mut ConsoleState) -> Result<Turn, AllocError>
         requires work { IfLive self.old.live (λ v. v.left ≡ []) }
         requires allowed { IfLive self.old.live (λ v. refusal_of v.rank ≡ None) }

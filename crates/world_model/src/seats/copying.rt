@@ -12,7 +12,7 @@ use std::alloc::AllocError;
 impl<'p> Seats<'p> {
     /// The same ranks, on shelves of their own that hold the same images. An
     /// `Err` means out of memory.
-    #[tactic(auto, using(crate::proofs::Copying::are_seats, crate::proofs::Copying::are_alike, crate::proofs::Copying::same_images))]
+    #[tactic(auto, using(crate::proofs::Alike::Copies::are_seats, crate::proofs::Alike::Copies::are_alike, crate::proofs::Alike::Copies::same_images))]
     pub fn copy(&self, alloc: Heap) -> Result<Seats<'p>, AllocError>
         ensures program { IfOk result (λ copy. copy.program ≡ self.now.program) }
         ensures ranks { IfOk result (λ copy. AreAlike self.now.ranks copy.ranks) }

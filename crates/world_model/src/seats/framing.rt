@@ -31,7 +31,7 @@ impl<'p> Seats<'p> {
     }
 
     /// A frame from one rank arrives at another. An `Err` means out of memory.
-    #[tactic(auto, using(crate::proofs::Places::set_same))]
+    #[tactic(auto, using(crate::proofs::Lists::Replaced::set_same))]
     pub fn arrive(&mut self, rank: u8, from: u8, frame: Frame) -> Result<Arrived, AllocError>
         requires rank { rank < length self.old.ranks }
         requires from { AtRank self.old.ranks rank (λ v. from < v.rank.stable.size) }

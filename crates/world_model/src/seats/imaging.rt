@@ -10,7 +10,7 @@ use std::alloc::AllocError;
 impl<'p> Seats<'p> {
     /// A rank, which is at work and where nothing waits, takes an image of
     /// itself. An `Err` means out of memory.
-    #[tactic(auto, using(crate::proofs::Places::set_same))]
+    #[tactic(auto, using(crate::proofs::Lists::Replaced::set_same))]
     pub fn image(&mut self, rank: u8) -> Result<(), AllocError>
         requires rank { rank < length self.old.ranks }
         requires work { AtRank self.old.ranks rank (λ v. v.left ≡ []) }

@@ -26,7 +26,7 @@ impl<'p> Seats<'p> {
     /// the program where it has none, which cuts no event of its row, and this
     /// is how many events of that are left to replay. An `Err` is want of
     /// memory.
-    #[tactic(auto, using(crate::proofs::Places::set_same))]
+    #[tactic(auto, using(crate::proofs::Lists::Replaced::set_same))]
     pub fn restart(
         &mut self,
         alloc: Heap,

@@ -15,7 +15,7 @@ impl<'p> Seats<'p> {
 
     /// A rank, which is at work and whose step isn't refused by name, makes
     /// one step. An `Err` means out of memory.
-    #[tactic(auto, using(crate::proofs::Places::set_same))]
+    #[tactic(auto, using(crate::proofs::Lists::Replaced::set_same))]
     pub fn step(&mut self, rank: u8, console: &mut ConsoleState) -> Result<Turn, AllocError>
         requires rank { rank < length self.old.ranks }
         requires work { AtRank self.old.ranks rank (λ v. v.left ≡ []) }
@@ -35,7 +35,7 @@ impl<'p> Seats<'p> {
 
     /// A rank, which replays and isn't refused, makes one step of its replay.
     /// An `Err` means out of memory.
-    #[tactic(auto, using(crate::proofs::Places::set_same))]
+    #[tactic(auto, using(crate::proofs::Lists::Replaced::set_same))]
     pub fn replay(&mut self, rank: u8, console: &mut ConsoleState) -> Result<Turn, AllocError>
         requires rank { rank < length self.old.ranks }
         requires replays { AtRank self.old.ranks rank (λ v. v.left ≢ []) }

@@ -19,7 +19,7 @@ impl<'p> Seats<'p> {
     /// The oldest unstored event of a rank at work, which the logger accepts,
     /// is stored, and this is its row's new length. An `Err` is want of
     /// memory.
-    #[tactic(auto, using(crate::proofs::Places::set_same))]
+    #[tactic(auto, using(crate::proofs::Lists::Replaced::set_same))]
     pub fn store(&mut self, rank: u8, logger: &mut LoggerState) -> Result<u32, AllocError>
         requires rank { rank < length self.old.ranks }
         requires work { AtRank self.old.ranks rank (λ v. v.left ≡ []) }
@@ -37,7 +37,7 @@ impl<'p> Seats<'p> {
     }
 
     /// The oldest stored event of a rank at work is acknowledged.
-    #[tactic(auto, using(crate::proofs::Places::set_same))]
+    #[tactic(auto, using(crate::proofs::Lists::Replaced::set_same))]
     pub fn ack(&mut self, rank: u8) -> bool
         requires rank { rank < length self.old.ranks }
         requires work { AtRank self.old.ranks rank (λ v. v.left ≡ []) }
@@ -53,7 +53,7 @@ impl<'p> Seats<'p> {
 
     /// The oldest effect of a rank at work is released, and this is its clock.
     /// An `Err` means out of memory.
-    #[tactic(auto, using(crate::proofs::Places::set_same))]
+    #[tactic(auto, using(crate::proofs::Lists::Replaced::set_same))]
     pub fn release(&mut self, rank: u8, console: &mut ConsoleState) -> Result<u32, AllocError>
         requires rank { rank < length self.old.ranks }
         requires work { AtRank self.old.ranks rank (λ v. v.left ≡ []) }

@@ -115,7 +115,7 @@ impl<'p> World<'p> {
     }
 
     /// A rank makes a step; if it is down it starts again first.
-    #[tactic(auto, using(crate::proofs::Finishing::step_played, crate::proofs::Finishing::quiet_then))]
+    #[tactic(auto, using(crate::proofs::Ending::IsPlayedOn::step_played, crate::proofs::Ending::IsPlayedOn::quiet_then))]
     fn step_rank(&mut self, rank: u8, events: &mut Vec<WorldEvent, Heap>) -> Result<(), AllocError>
         ensures ok { OnOk result (Played (λ r. step_of r (Step rank)) self.old events.old.items self.new events.new.items) }
         ensures err { OnErr result (PlayedAlmost no_steps self.old events.old.items self.new events.new.items) }
@@ -141,7 +141,7 @@ impl<'p> World<'p> {
 
     /// At the gate of a rank the oldest event is stored and acknowledged, and
     /// the oldest send or line released, where it may be.
-    #[tactic(auto, using(crate::proofs::Finishing::gate_played, crate::proofs::Finishing::gate_almost, crate::proofs::Trying::gate_tried))]
+    #[tactic(auto, using(crate::proofs::Ending::IsPlayedOn::gate_played, crate::proofs::Ending::IsPlayedOn::gate_almost, crate::proofs::Ending::TriedInVain::gate_tried))]
     fn open_gate(&mut self, rank: u8, events: &mut Vec<WorldEvent, Heap>) -> Result<(), AllocError>
         ensures ok { OnOk result (Played no_steps self.old events.old.items self.new events.new.items) }
         ensures err { OnErr result (PlayedAlmost no_steps self.old events.old.items self.new events.new.items) }
@@ -250,7 +250,7 @@ impl<'p> World<'p> {
 
     /// An event, which goes last on the list if it changed something. There is
     /// room for it on the list before it happens.
-    #[tactic(auto, using(crate::proofs::Finishing::played_one, crate::proofs::Finishing::played_none, crate::proofs::Finishing::played_failed, crate::proofs::Finishing::played_nothing, crate::proofs::Trying::tried_one, crate::proofs::Trying::tried_none))]
+    #[tactic(auto, using(crate::proofs::Ending::IsPlayedOn::played_one, crate::proofs::Ending::IsPlayedOn::played_none, crate::proofs::Ending::IsPlayedOn::played_failed, crate::proofs::Ending::IsPlayedOn::played_nothing, crate::proofs::Ending::TriedInVain::tried_one, crate::proofs::Ending::TriedInVain::tried_none))]
     fn play(
         &mut self,
         event: WorldEvent,

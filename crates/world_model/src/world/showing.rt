@@ -29,7 +29,7 @@ impl<'p> World<'p> {
     }
 
     /// The events of a rank that are stored, in order.
-    #[tactic(auto, using(crate::proofs::PlainWorlds::as_many_rows))]
+    #[tactic(auto, using(crate::proofs::Plain::Worlds::as_many_rows))]
     pub fn row(&self, rank: u8) -> &[Event]
         requires { rank < size self.now }
         ensures { result.now ≡ row self.now.logger.rows rank }
@@ -39,7 +39,7 @@ impl<'p> World<'p> {
 
     /// The frames that were ever put on the wire from one rank to another,
     /// oldest first.
-    #[tactic(auto, using(crate::proofs::DoingFrames::has_wire))]
+    #[tactic(auto, using(crate::proofs::Calls::Frames::has_wire))]
     pub fn frames(&self, source: u8, dest: u8) -> &[Frame]
         requires source { source < size self.now }
         requires dest { dest < size self.now }

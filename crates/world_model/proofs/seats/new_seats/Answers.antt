@@ -1,4 +1,4 @@
-use Rattle.world_model.proofs.Opening.{all_more}
+use Rattle.world_model.proofs.Lists.NewRanks.{all_more}
 use Rattle.world_model.proofs.seats.new_seats.Goals as goal
 
 -- src/seats.rt

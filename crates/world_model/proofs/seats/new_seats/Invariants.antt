@@ -1,5 +1,5 @@
 use Rattle.std.proofs.Common.{◌≡◌, length}
-use Rattle.world_model.proofs.Opening.{AllNew}
+use Rattle.world_model.proofs.Lists.NewRanks.{AllNew}
 use Rattle.world_model.proofs.seats.new_seats.Given as goal
 
 abbrev pub invariant-loop-rank : goal.invariant-loop-rank

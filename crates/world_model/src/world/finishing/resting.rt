@@ -114,7 +114,7 @@ impl<'p> World<'p> {
     }
 
     /// A law, for proofs alone: a world of which every rank is at rest has ended.
-    #[tactic(auto, using(crate::proofs::EndRests::all_rest))]
+    #[tactic(auto, using(crate::proofs::Ending::RestIsEnd::all_rest))]
     fn law_rests(&self)
         ensures { ((r : ℕ) → r < size self.now → RestsAt self.now r) → HasEnded self.now }
     {
@@ -122,7 +122,7 @@ impl<'p> World<'p> {
     }
 
     /// A law, for proofs alone: a still world of which no rank is spent has ended.
-    #[tactic(auto, using(crate::proofs::EndStill::still_ends))]
+    #[tactic(auto, using(crate::proofs::Ending::StillIsEnd::still_ends))]
     fn law_still(&self)
         ensures { IsStill self.now → IsNowhereSpent self.now → HasEnded self.now }
     {

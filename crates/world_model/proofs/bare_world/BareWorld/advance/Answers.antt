@@ -4,7 +4,7 @@ use Rattle.world_model.specs.World.{WorldValue}
 use Rattle.world_model.specs.Follows.{Follows, stepped}
 use Rattle.world_model.specs.declared.event.WorldEvent.TheVariants.{Step}
 use Rattle.world_model.specs.declared.reply.Reply.{Reply}
-use Rattle.world_model.proofs.DoingSteps.{step_some}
+use Rattle.world_model.proofs.Calls.Steps.{step_some}
 use Rattle.world_model.proofs.bare_world.BareWorld.advance.Goals as goal
 
 -- the reply is the turn's

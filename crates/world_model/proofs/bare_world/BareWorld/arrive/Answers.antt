@@ -3,8 +3,8 @@ use Rattle.rank_node.specs.Frames.{arrival_of, after_frame}
 use Rattle.world_model.specs.World.{Live}
 use Rattle.world_model.specs.Wires.{HasWire, wire_of}
 use Rattle.world_model.specs.Seats.{AtRank, with_value}
-use Rattle.world_model.proofs.Doing.{on_err}
-use Rattle.world_model.proofs.DoingFrames.{has_wire, arrive_not_foreign, arrive_named, arrive_named_possible}
+use Rattle.world_model.proofs.Calls.RankOfEvent.{on_err}
+use Rattle.world_model.proofs.Calls.Frames.{has_wire, arrive_not_foreign, arrive_named, arrive_named_possible}
 use Rattle.world_model.proofs.bare_world.BareWorld.arrive.Goals as goal
 
 -- the wire is there

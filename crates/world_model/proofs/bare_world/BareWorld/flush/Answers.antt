@@ -1,5 +1,5 @@
-use Rattle.world_model.proofs.WayAdvancing.{flushed_more}
-use Rattle.world_model.proofs.WayAdvancingLoops.{emptied, where_true, where_false}
+use Rattle.world_model.proofs.Again.Calls.{flushed_more}
+use Rattle.world_model.proofs.Again.Loops.{emptied, where_true, where_false}
 use Rattle.world_model.proofs.bare_world.BareWorld.flush.Goals as goal
 
 -- src/bare_world/way.rt

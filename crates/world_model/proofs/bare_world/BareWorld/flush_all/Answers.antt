@@ -1,6 +1,6 @@
 use Rattle.std.proofs.Common.{length, ap, arith}
 use Rattle.world_model.specs.World.{WorldValue}
-use Rattle.world_model.proofs.WayAdvancingLoops.{flush_all_next}
+use Rattle.world_model.proofs.Again.Loops.{flush_all_next}
 use Rattle.world_model.proofs.bare_world.BareWorld.flush_all.Goals as goal
 
 -- src/bare_world/way.rt

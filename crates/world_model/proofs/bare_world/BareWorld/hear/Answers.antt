@@ -1,7 +1,7 @@
 use Rattle.std.proofs.Common.{◌≡◌, true, false, refl, subst}
 use Rattle.world_model.specs.Wires.{wire_of}
 use Rattle.world_model.specs.Driven.{IsAskAt}
-use Rattle.world_model.proofs.WayListening.{hear_true, hear_false, hear_moved, heard_end}
+use Rattle.world_model.proofs.Way.EachAskIsHeard.{hear_true, hear_false, hear_moved, heard_end}
 use Rattle.world_model.proofs.bare_world.BareWorld.hear.Goals as goal
 use Rattle.world_model.proofs.bare_world.BareWorld.hear.Goals.{then-is_ask+in_ok-drive, else-is_ask}
 

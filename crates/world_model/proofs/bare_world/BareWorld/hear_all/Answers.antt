@@ -1,6 +1,6 @@
 use Rattle.std.proofs.Common.{length, ap, arith}
 use Rattle.world_model.specs.World.{WorldValue}
-use Rattle.world_model.proofs.WayListening.{hear_all_next}
+use Rattle.world_model.proofs.Way.EachAskIsHeard.{hear_all_next}
 use Rattle.world_model.proofs.bare_world.BareWorld.hear_all.Goals as goal
 
 -- src/bare_world/way/hearing.rt

@@ -1,7 +1,7 @@
 use Rattle.std.proofs.Common.{◌≤◌, length, ap, subst, arith}
 use Rattle.world_model.specs.World.{WorldValue}
 use Rattle.world_model.specs.RunIndex.{IsNext}
-use Rattle.world_model.proofs.WayActsMade.{made_before, next_ahead, new_count, counted_set, low_count}
+use Rattle.world_model.proofs.Again.EachActIsMade.{made_before, next_ahead, new_count, counted_set, low_count}
 use Rattle.world_model.proofs.bare_world.BareWorld.make.Goals as goal
 
 -- src/bare_world/way/making.rt

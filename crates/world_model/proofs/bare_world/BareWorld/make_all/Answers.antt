@@ -1,6 +1,6 @@
 use Rattle.std.proofs.Common.{length, ap, arith}
 use Rattle.world_model.specs.World.{WorldValue}
-use Rattle.world_model.proofs.WayActsMade.{make_all_next, make_last}
+use Rattle.world_model.proofs.Again.EachActIsMade.{make_all_next, make_last}
 use Rattle.world_model.proofs.bare_world.BareWorld.make_all.Goals as goal
 
 -- src/bare_world/way/making.rt

@@ -1,6 +1,6 @@
 use Rattle.std.proofs.Common.{◌≡◌, ◌<◌, ℕ, Some, sym, subst, ap, ◌∙◌, length}
 use Rattle.world_model.specs.RunIndex.{clock_at}
-use Rattle.world_model.proofs.DoingStores.{names_a_rank, names_a_message}
+use Rattle.world_model.proofs.Calls.Stores.{names_a_rank, names_a_message}
 use Rattle.world_model.proofs.bare_world.BareWorld.place_of.Goals as goal
 
 -- src/bare_world/storing.rt

@@ -2,7 +2,7 @@ use Rattle.std.proofs.Common.{◌≡◌, ◌<◌, Some, sym, subst, IsSome}
 use Rattle.rank_node.specs.Frames.{outgoing_of}
 use Rattle.world_model.specs.World.{Live}
 use Rattle.world_model.specs.Seats.{AtRank}
-use Rattle.world_model.proofs.DoingFrames.{put_due}
+use Rattle.world_model.proofs.Calls.Frames.{put_due}
 use Rattle.world_model.proofs.bare_world.BareWorld.put.Goals as goal
 
 -- src/bare_world/putting.rt

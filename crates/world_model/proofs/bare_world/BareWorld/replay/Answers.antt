@@ -6,8 +6,8 @@ use Rattle.world_model.specs.Seats.{AtRank, IsReplayed}
 use Rattle.world_model.specs.Follows.{Follows, stepped}
 use Rattle.world_model.specs.declared.event.WorldEvent.TheVariants.{Step}
 use Rattle.world_model.specs.declared.reply.Reply.{Reply}
-use Rattle.world_model.proofs.Showing.{Shows}
-use Rattle.world_model.proofs.DoingSteps.{replay_some}
+use Rattle.world_model.proofs.Calls.Console.{Shows}
+use Rattle.world_model.proofs.Calls.Steps.{replay_some}
 use Rattle.world_model.proofs.bare_world.BareWorld.replay.Goals as goal
 
 -- the reply is the turn's

@@ -6,7 +6,7 @@ use Rattle.rank_node.specs.Image.{begins_at}
 use Rattle.rank_node.specs.Replay.{left_of, cuts}
 use Rattle.world_model.specs.World.{Live, WorldValue}
 use Rattle.world_model.specs.Seats.{IsRestarted}
-use Rattle.world_model.proofs.DoingLives.{restart_named, restart_uncut}
+use Rattle.world_model.proofs.Calls.Lives.{restart_named, restart_uncut}
 use Rattle.world_model.proofs.bare_world.BareWorld.restart.Goals as goal
 
 -- src/bare_world/restarting.rt

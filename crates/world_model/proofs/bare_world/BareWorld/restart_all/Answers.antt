@@ -1,4 +1,4 @@
-use Rattle.world_model.proofs.WayAdvancingLoops.{restart_next}
+use Rattle.world_model.proofs.Again.Loops.{restart_next}
 use Rattle.world_model.proofs.bare_world.BareWorld.restart_all.Goals as goal
 
 -- src/bare_world/way.rt

@@ -1,6 +1,6 @@
 use Rattle.world_model.specs.declared.event.WorldEvent.TheVariants.{Put}
-use Rattle.world_model.proofs.WayAdvancingLoops.{round_none, round_some}
-use Rattle.world_model.proofs.Driving.{world_after}
+use Rattle.world_model.proofs.Again.Loops.{round_none, round_some}
+use Rattle.world_model.proofs.Alike.OneEventMore.{world_after}
 use Rattle.world_model.proofs.bare_world.BareWorld.round.Goals as goal
 
 -- src/bare_world/way.rt

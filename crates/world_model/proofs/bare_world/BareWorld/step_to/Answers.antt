@@ -1,6 +1,6 @@
 use Rattle.std.proofs.Common.{inl, arith}
-use Rattle.world_model.proofs.WayAdvancing.{advanced_none}
-use Rattle.world_model.proofs.WayActsMade.{step_next, near_made, nears_first}
+use Rattle.world_model.proofs.Again.Calls.{advanced_none}
+use Rattle.world_model.proofs.Again.EachActIsMade.{step_next, near_made, nears_first}
 use Rattle.world_model.proofs.bare_world.BareWorld.step_to.Goals as goal
 
 -- src/bare_world/way/making.rt

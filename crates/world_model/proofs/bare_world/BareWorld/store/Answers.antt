@@ -3,7 +3,7 @@ use Rattle.plain_logger.specs.declared.call.Reply.TheVariants.{Length}
 use Rattle.rank_node.specs.Storing.{next_unstored, after_store, Appends}
 use Rattle.world_model.specs.World.{Live, WorldValue}
 use Rattle.world_model.specs.Seats.{at_work, AtRank, with_value, IsAccepted, NotedAs}
-use Rattle.world_model.proofs.DoingStores.{store_accepted, store_named}
+use Rattle.world_model.proofs.Calls.Stores.{store_accepted, store_named}
 use Rattle.world_model.proofs.bare_world.BareWorld.store.Goals as goal
 
 -- src/bare_world/storing.rt

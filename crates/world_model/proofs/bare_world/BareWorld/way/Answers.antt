@@ -1,4 +1,4 @@
-use Rattle.world_model.proofs.WayFound.{ready_start, way_found, way_caught_up}
+use Rattle.world_model.proofs.Again.WholeWay.{ready_start, way_found, way_caught_up}
 use Rattle.world_model.proofs.bare_world.BareWorld.way.Goals as goal
 
 -- src/bare_world/way.rt

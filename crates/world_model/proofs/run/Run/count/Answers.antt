@@ -1,7 +1,7 @@
 use Rattle.std.proofs.Common.{◌<◌, length, sym, ap, subst, ◌∙◌}
 use Rattle.crash_free.specs.Runs.{history}
 use Rattle.world_model.specs.RunIndex.{RunValue}
-use Rattle.world_model.proofs.RunIndex.{count_there}
+use Rattle.world_model.proofs.Runs.Index.{count_there}
 use Rattle.world_model.proofs.run.Run.count.Goals as goal
 
 pub returns : goal.returns

@@ -1,6 +1,6 @@
 use Rattle.std.proofs.Common.{◌≡◌, ◌<◌, ℕ, IfSome, IfNone, Some, sym, subst}
 use Rattle.world_model.specs.RunIndex.{RunValue, clock_at}
-use Rattle.world_model.proofs.RunIndex.{sent_there, placed, unplaced}
+use Rattle.world_model.proofs.Runs.Index.{sent_there, placed, unplaced}
 use Rattle.world_model.proofs.run.Run.place_of.Goals as goal
 
 pub place_of-requires-clause-there : goal.place_of-requires-clause-there

@@ -1,7 +1,7 @@
 use Rattle.std.proofs.Common.{◌<◌, ◌++◌, ◌∷◌, [], sym, ap, subst, ◌∙◌}
 use Rattle.crash_free.specs.Runs.{Passed}
 use Rattle.world_model.specs.RunIndex.{RunValue}
-use Rattle.world_model.proofs.RunIndex.{pushed}
+use Rattle.world_model.proofs.Runs.Index.{pushed}
 use Rattle.world_model.proofs.run.Run.push.Goals as goal
 
 pub invariant_of-self-2 : goal.invariant_of-self-2

@@ -1,7 +1,7 @@
 use Rattle.std.proofs.Common.{ap}
 use Rattle.crash_free.specs.Runs.{Passed}
 use Rattle.world_model.specs.RunIndex.{IsNext}
-use Rattle.world_model.proofs.RunIndex.{rank_at_is, rank_at_of}
+use Rattle.world_model.proofs.Runs.Index.{rank_at_is, rank_at_of}
 use Rattle.world_model.proofs.run.Run.rank_at.Goals as goal
 
 -- the act comes next after so many

@@ -2,7 +2,7 @@ use Rattle.std.proofs.Common.{◌≡◌, ◌<◌, length, sym, ap, subst, ◌∙
 use Rattle.std.proofs.lemmas.List.{length-map}
 use Rattle.crash_free.specs.Runs.{sent}
 use Rattle.world_model.specs.RunIndex.{RunValue}
-use Rattle.world_model.proofs.RunIndex.{sent_there}
+use Rattle.world_model.proofs.Runs.Index.{sent_there}
 use Rattle.world_model.proofs.run.Run.sent.Goals as goal
 
 pub sent-requires : goal.sent-requires

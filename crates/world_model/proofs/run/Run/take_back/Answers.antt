@@ -1,6 +1,6 @@
 use Rattle.std.proofs.Common.{ap, ◌∙◌}
 use Rattle.crash_free.specs.Runs.{Passed}
-use Rattle.world_model.proofs.RunIndex.{taken_back}
+use Rattle.world_model.proofs.Runs.Index.{taken_back}
 use Rattle.world_model.proofs.run.Run.take_back.Goals as goal
 
 pub invariant_of-self : goal.invariant_of-self

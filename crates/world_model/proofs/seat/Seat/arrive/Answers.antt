@@ -1,4 +1,4 @@
-use Rattle.world_model.proofs.Seating.{arrive_kept}
+use Rattle.world_model.proofs.Calls.SeatStays.{arrive_kept}
 use Rattle.world_model.proofs.seat.Seat.arrive.Goals as goal
 
 -- src/seat/calling.rt

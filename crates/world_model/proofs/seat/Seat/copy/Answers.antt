@@ -1,4 +1,4 @@
-use Rattle.world_model.proofs.Copying.{kept_copy}
+use Rattle.world_model.proofs.Alike.Copies.{kept_copy}
 use Rattle.world_model.proofs.seat.Seat.copy.Goals as goal
 
 -- src/seat/copying.rt

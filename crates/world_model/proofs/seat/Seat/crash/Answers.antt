@@ -1,4 +1,4 @@
-use Rattle.world_model.proofs.Seating.{own_down, seated_down}
+use Rattle.world_model.proofs.Calls.SeatStays.{own_down, seated_down}
 use Rattle.world_model.proofs.seat.Seat.crash.Goals as goal
 
 -- src/seat/living.rt

@@ -1,5 +1,5 @@
 use Rattle.std.proofs.Common.{Some, ap, ◌∙◌}
-use Rattle.world_model.proofs.Seating.{of_image, as_running}
+use Rattle.world_model.proofs.Calls.SeatStays.{of_image, as_running}
 use Rattle.world_model.proofs.seat.Seat.image.Goals as goal
 
 -- src/seat/imaging.rt

@@ -7,8 +7,8 @@ use Rattle.rank_node.specs.declared.phase.Phase.TheVariants.{Replaying}
 use Rattle.world_model.specs.World.{Live}
 use Rattle.world_model.specs.Seat.{live_of}
 use Rattle.world_model.specs.Seats.{in_replay, IfLive, IsFitting, IsReplayed, SeatValue}
-use Rattle.world_model.proofs.Settling.{replay_refused, replayed_is, settled_live}
-use Rattle.world_model.proofs.Seating.{kept_there, replayed_then}
+use Rattle.world_model.proofs.Calls.SettlesAtTheEnd.{replay_refused, replayed_is, settled_live}
+use Rattle.world_model.proofs.Calls.SeatStays.{kept_there, replayed_then}
 use Rattle.world_model.proofs.seat.Seat.replay.Goals as goal
 
 -- src/seat/stepping.rt

@@ -1,5 +1,5 @@
 use Rattle.std.proofs.Common.{Some, ap, ◌∙◌}
-use Rattle.world_model.proofs.Seating.{kept_step}
+use Rattle.world_model.proofs.Calls.SeatStays.{kept_step}
 use Rattle.world_model.proofs.seat.Seat.step.Goals as goal
 
 -- src/seat/stepping.rt

@@ -3,8 +3,8 @@ use Rattle.rank_node.specs.Image.{image_on}
 use Rattle.rank_node.specs.declared.phase.Phase.TheVariants.{Replaying}
 use Rattle.world_model.specs.Seat.{live_of, shelf_of, IsStanding}
 use Rattle.world_model.specs.Seats.{IsRestarted}
-use Rattle.world_model.proofs.Seating.{of_restart, restarted_is}
-use Rattle.world_model.proofs.Settling.{settled_live, settled_standing}
+use Rattle.world_model.proofs.Calls.SeatStays.{of_restart, restarted_is}
+use Rattle.world_model.proofs.Calls.SettlesAtTheEnd.{settled_live, settled_standing}
 use Rattle.world_model.proofs.seat.living.restarted.Goals as goal
 
 -- src/seat/living.rt

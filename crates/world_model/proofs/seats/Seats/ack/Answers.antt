@@ -1,7 +1,7 @@
 use Rattle.std.proofs.Common.{◌≡◌, ap, ◌∙◌, slice_set}
 use Rattle.world_model.specs.World.{Live}
-use Rattle.world_model.proofs.Doing.{on_true, on_false}
-use Rattle.world_model.proofs.Lives.{IsTaken, taken, of_seat, after_call, images_stay}
+use Rattle.world_model.proofs.Calls.RankOfEvent.{on_true, on_false}
+use Rattle.world_model.proofs.Lists.OfSeats.{IsTaken, taken, of_seat, after_call, images_stay}
 use Rattle.world_model.proofs.seats.Seats.ack.Goals as goal
 
 -- the seat is the rank's

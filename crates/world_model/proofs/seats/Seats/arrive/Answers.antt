@@ -2,7 +2,7 @@ use Rattle.std.proofs.Common.{ap}
 use Rattle.rank_node.specs.Frames.{after_frame}
 use Rattle.world_model.specs.World.{Live}
 use Rattle.world_model.specs.Seats.{SeatValue}
-use Rattle.world_model.proofs.Lives.{IsTaken, taken, of_seat, still_seats, with_rank_then, images_stay}
+use Rattle.world_model.proofs.Lists.OfSeats.{IsTaken, taken, of_seat, still_seats, with_rank_then, images_stay}
 use Rattle.world_model.proofs.seats.Seats.arrive.Goals as goal
 
 -- the seat is the rank's

@@ -1,7 +1,7 @@
 use Rattle.std.proofs.Common.{subst}
 use Rattle.std.specs.List.{AllZip}
 use Rattle.world_model.specs.Copied.{IsSeatCopy}
-use Rattle.world_model.proofs.Copying.{are_seats}
+use Rattle.world_model.proofs.Alike.Copies.{are_seats}
 use Rattle.world_model.proofs.seats.Seats.copy.Goals as goal
 
 -- src/seats/copying.rt

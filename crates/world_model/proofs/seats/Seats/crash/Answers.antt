@@ -1,6 +1,6 @@
 use Rattle.std.proofs.Common.{ap, ◌∙◌, slice_set}
 use Rattle.world_model.specs.Seats.{SeatValue}
-use Rattle.world_model.proofs.Lives.{IsTaken, taken, ranks_then, same_images}
+use Rattle.world_model.proofs.Lists.OfSeats.{IsTaken, taken, ranks_then, same_images}
 use Rattle.world_model.proofs.seats.Seats.crash.Goals as goal
 
 -- the seat is the rank's

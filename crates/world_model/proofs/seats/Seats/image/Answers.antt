@@ -1,7 +1,7 @@
 use Rattle.std.proofs.Common.{ap}
 use Rattle.world_model.specs.Seats.{SeatsValue}
-use Rattle.world_model.proofs.Doing.{on_ok}
-use Rattle.world_model.proofs.Lives.{IsTaken, taken, imaged_then}
+use Rattle.world_model.proofs.Calls.RankOfEvent.{on_ok}
+use Rattle.world_model.proofs.Lists.OfSeats.{IsTaken, taken, imaged_then}
 use Rattle.world_model.proofs.seats.Seats.image.Goals as goal
 
 -- the seat is the rank's

@@ -1,6 +1,6 @@
 use Rattle.rank_node.specs.Frames.{after_passed}
 use Rattle.world_model.specs.World.{Live}
-use Rattle.world_model.proofs.Lives.{IsTaken, taken, with_rank_then, images_stay}
+use Rattle.world_model.proofs.Lists.OfSeats.{IsTaken, taken, with_rank_then, images_stay}
 use Rattle.world_model.proofs.seats.Seats.passed.Goals as goal
 
 -- the seat is the rank's

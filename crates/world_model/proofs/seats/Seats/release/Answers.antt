@@ -1,6 +1,6 @@
 use Rattle.rank_node.specs.Releasing.{next_effect, released}
 use Rattle.world_model.specs.World.{Live}
-use Rattle.world_model.proofs.Lives.{IsTaken, taken, of_seat, with_rank_then, images_stay}
+use Rattle.world_model.proofs.Lists.OfSeats.{IsTaken, taken, of_seat, with_rank_then, images_stay}
 use Rattle.world_model.proofs.seats.Seats.release.Goals as goal
 
 -- the seat is the rank's

@@ -1,7 +1,7 @@
 use Rattle.std.proofs.Common.{ap}
 use Rattle.world_model.specs.Seats.{SeatsValue}
-use Rattle.world_model.proofs.Doing.{on_ok}
-use Rattle.world_model.proofs.Lives.{IsTaken, taken, restarted_then, uncut_there, images_stay}
+use Rattle.world_model.proofs.Calls.RankOfEvent.{on_ok}
+use Rattle.world_model.proofs.Lists.OfSeats.{IsTaken, taken, restarted_then, uncut_there, images_stay}
 use Rattle.world_model.proofs.seats.Seats.restart.Goals as goal
 
 -- the seat is the rank's

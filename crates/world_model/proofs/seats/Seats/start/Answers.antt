@@ -1,4 +1,4 @@
-use Rattle.world_model.proofs.Opening.{no_images}
+use Rattle.world_model.proofs.Lists.NewRanks.{no_images}
 use Rattle.world_model.proofs.seats.Seats.start.Goals as goal
 
 -- src/seats.rt

@@ -1,4 +1,4 @@
-use Rattle.world_model.proofs.Lives.{IsTaken, taken, after_call, images_stay}
+use Rattle.world_model.proofs.Lists.OfSeats.{IsTaken, taken, after_call, images_stay}
 use Rattle.world_model.proofs.seats.Seats.step.Goals as goal
 
 -- the seat is the rank's

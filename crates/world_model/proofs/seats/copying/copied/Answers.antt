@@ -1,6 +1,6 @@
 use Rattle.std.proofs.Common.{refl}
 use Rattle.std.proofs.lemmas.Option.{slice_get_read}
-use Rattle.world_model.proofs.Copying.{copy_more}
+use Rattle.world_model.proofs.Alike.Copies.{copy_more}
 use Rattle.world_model.proofs.seats.copying.copied.Goals as goal
 
 -- src/seats/copying.rt

@@ -1,8 +1,8 @@
 use Rattle.std.proofs.Common.{length, refl, ap, arith}
 use Rattle.world_model.specs.Finished.{no_steps, ArrivesInVain}
-use Rattle.world_model.proofs.Doing.{on_err}
-use Rattle.world_model.proofs.Finishing.{played_same, quiet_last, quiet_then}
-use Rattle.world_model.proofs.Trying.{tried_nothing, each_next, wire_all}
+use Rattle.world_model.proofs.Calls.RankOfEvent.{on_err}
+use Rattle.world_model.proofs.Ending.IsPlayedOn.{played_same, quiet_last, quiet_then}
+use Rattle.world_model.proofs.Ending.TriedInVain.{tried_nothing, each_next, wire_all}
 use Rattle.world_model.proofs.world.World.find_between.Goals as goal
 
 -- src/world/finishing.rt

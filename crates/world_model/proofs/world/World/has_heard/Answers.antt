@@ -1,7 +1,7 @@
 use Rattle.std.proofs.Common.{◌<◌, sym, subst}
 use Rattle.world_model.specs.World.{size}
-use Rattle.world_model.proofs.DoingFrames.{has_wire}
-use Rattle.world_model.proofs.Repeating.{heard_here}
+use Rattle.world_model.proofs.Calls.Frames.{has_wire}
+use Rattle.world_model.proofs.Ending.LastIsRepeated.{heard_here}
 use Rattle.world_model.proofs.world.World.has_heard.Goals as goal
 
 -- src/world/finishing/resting.rt

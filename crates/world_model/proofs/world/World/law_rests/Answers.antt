@@ -2,7 +2,7 @@ use Rattle.std.proofs.Common.{ℕ, ◌<◌, subst}
 use Rattle.world_model.specs.World.{WorldValue, size}
 use Rattle.world_model.specs.ToTheEnd.{HasEnded}
 use Rattle.world_model.specs.Finished.{RestsAt}
-use Rattle.world_model.proofs.EndRests.{all_rest}
+use Rattle.world_model.proofs.Ending.RestIsEnd.{all_rest}
 use Rattle.world_model.proofs.world.World.law_rests.Goals as goal
 
 -- src/world/finishing/resting.rt

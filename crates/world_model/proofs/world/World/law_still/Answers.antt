@@ -2,7 +2,7 @@ use Rattle.std.proofs.Common.{subst}
 use Rattle.world_model.specs.World.{WorldValue}
 use Rattle.world_model.specs.ToTheEnd.{HasEnded}
 use Rattle.world_model.specs.Finished.{IsStill, IsNowhereSpent}
-use Rattle.world_model.proofs.EndStill.{still_ends}
+use Rattle.world_model.proofs.Ending.StillIsEnd.{still_ends}
 use Rattle.world_model.proofs.world.World.law_still.Goals as goal
 
 -- src/world/finishing/resting.rt

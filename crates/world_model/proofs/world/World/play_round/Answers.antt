@@ -1,4 +1,4 @@
-use Rattle.world_model.proofs.Trying.{round_still}
+use Rattle.world_model.proofs.Ending.TriedInVain.{round_still}
 use Rattle.world_model.proofs.world.World.play_round.Goals as goal
 
 -- src/world/finishing.rt

@@ -2,7 +2,7 @@ use Rattle.std.proofs.Common.{arith, sym, subst, ◌∙◌, ap}
 use Rattle.std.proofs.lemmas.Bool.{OnTrue_at}
 use Rattle.world_model.specs.World.{WorldValue, size}
 use Rattle.world_model.specs.Finished.{IsQuiet}
-use Rattle.world_model.proofs.Finishing.{hears_next}
+use Rattle.world_model.proofs.Ending.IsPlayedOn.{hears_next}
 use Rattle.world_model.proofs.world.World.rests.Goals as goal
 
 -- src/world/finishing/resting.rt

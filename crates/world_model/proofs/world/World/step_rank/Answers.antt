@@ -1,4 +1,4 @@
-use Rattle.world_model.proofs.Trying.{step_tried}
+use Rattle.world_model.proofs.Ending.TriedInVain.{step_tried}
 use Rattle.world_model.proofs.world.World.step_rank.Goals as goal
 
 -- src/world/finishing.rt

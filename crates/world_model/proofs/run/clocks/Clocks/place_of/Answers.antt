@@ -1,7 +1,7 @@
 use Rattle.std.proofs.Common.{Err, subst, ◌∙◌}
 use Rattle.std.specs.List.Sorted.{IsBinarySearchResult}
 use Rattle.std.specs.Ordering.{nat_cmp}
-use Rattle.world_model.proofs.RunClocks.{found_nowhere}
+use Rattle.world_model.proofs.Runs.ClocksRise.{found_nowhere}
 use Rattle.world_model.proofs.run.clocks.Clocks.place_of.Goals as goal
 
 pub returns-in-Err-clause-none : goal.returns-in-Err-clause-none

@@ -1,0 +1,21 @@
+-- The program comes to its end, and a world is played there.
+pub mod MayBeLostStill
+pub mod NeedsNothingLost
+pub mod LeadsOn
+pub mod CoursesAreAlike
+pub mod SendsToRanks
+pub mod GatesOpen
+pub mod AllAreSettled
+pub mod FramesKeepSettled
+pub mod LostIsSentAgain
+pub mod AllSentArrives
+pub mod ActFindsMessage
+pub mod ActIsMade
+pub mod RunComesToEnd
+pub mod LeavesAll
+pub mod LastIsRepeated
+pub mod IsPlayedOn
+pub mod TriedInVain
+pub mod QuietRanks
+pub mod RestIsEnd
+pub mod StillIsEnd

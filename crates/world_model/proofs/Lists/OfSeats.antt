@@ -1,0 +1,182 @@
+-- The ranks and the images of seats, by the seat of one rank.
+use Rattle.std.proofs.Common.{◌≡◌, ℕ, ◌<◌, false, List, Option, Some, None, length, option_map, refl, sym, ap, subst, ◌∙◌}
+use Rattle.std.proofs.Common.{arith, get_or, slice_get, slice_set, IsSomeAnd, length-set}
+use Rattle.std.proofs.lemmas.Option.{slice_get-map, slice_get_read}
+use Rattle.std.proofs.lemmas.List.{map-set}
+use Rattle.checkpoint.specs.Image.{ImageValue}
+use Rattle.plain_logger.specs.Event.{EventValue}
+use Rattle.rank_language.specs.Program.{ProgramValue}
+use Rattle.rank_node.specs.Image.{begins_at}
+use Rattle.rank_node.specs.Replay.{cuts}
+use Rattle.world_model.specs.World.{Rank, Live}
+use Rattle.world_model.specs.Seats.{SeatValue, SeatsValue, IsSeat, AreSeats, lives, images, IfLive, AtRank}
+use Rattle.world_model.specs.Seats.{with_live, with_rank_value, with_value, IsImaged, IsRestarted}
+use Rattle.world_model.proofs.Lists.Beginnings.{map_length}
+use Rattle.world_model.proofs.Lists.Replaced.{replaced_keeps, set_same}
+
+-- the rank of a seat stands in its place
+pub live_there : (seats : List SeatValue) (r : ℕ) (s : SeatValue) → slice_get seats r ≡ Some s → slice_get (lives seats) r ≡ Some s.live
+live_there seats r s there = slice_get-map (λ (z : SeatValue). z.live) seats r ∙ ap (λ o. option_map (λ (z : SeatValue). z.live) o) there
+
+-- so does its image
+pub image_there : (seats : List SeatValue) (r : ℕ) (s : SeatValue) → slice_get seats r ≡ Some s → slice_get (images seats) r ≡ Some s.image
+image_there seats r s there = slice_get-map (λ (z : SeatValue). z.image) seats r ∙ ap (λ o. option_map (λ (z : SeatValue). z.image) o) there
+
+-- what holds of the rank of a seat holds at its place
+pub at_seat : (seats : List SeatValue) (r : ℕ) (s : SeatValue) (P : Live → Type 0) → slice_get seats r ≡ Some s → IfLive s.live P → AtRank (lives seats) r P
+at_seat seats r s P there h = subst (λ z. IsSomeAnd z (λ x. IfLive x P)) (sym (live_there seats r s there)) h
+
+-- another seat in the place of one
+pub set_lives : (seats : List SeatValue) (r : ℕ) (s : SeatValue) → lives (slice_set seats r s) ≡ slice_set (lives seats) r s.live
+set_lives seats r s = map-set (λ (z : SeatValue). z.live) seats r s
+
+-- the images then
+pub set_images : (seats : List SeatValue) (r : ℕ) (s : SeatValue) → images (slice_set seats r s) ≡ slice_set (images seats) r s.image
+set_images seats r s = map-set (λ (z : SeatValue). z.image) seats r s
+
+-- where the image of the seat stays all images do
+pub same_images : (seats : List SeatValue) (r : ℕ) (s s' : SeatValue) → slice_get seats r ≡ Some s → s'.image ≡ s.image
+    → images (slice_set seats r s') ≡ images seats
+same_images seats r s s' there e =
+    set_images seats r s' ∙ set_same (images seats) r s'.image (image_there seats r s there ∙ ap Some (sym e))
+
+-- where the seat stays of its rank all are seats
+pub still_seats : (program : ProgramValue) (seats : List SeatValue) (r : ℕ) (s s' : SeatValue) → slice_get seats r ≡ Some s
+    → s'.program ≡ s.program → s'.rank ≡ s.rank → s'.size ≡ s.size → AreSeats program (length seats) seats
+    → AreSeats program (length (slice_set seats r s')) (slice_set seats r s')
+still_seats program seats r s s' there same_program same_rank same_size all =
+    subst (λ n. AreSeats program n (slice_set seats r s')) (sym (length-set seats r s'))
+    (replaced_keeps (λ k x. IsSeat program (length seats) k x) seats r s' (λ k x ne at. all k x at)
+    (λ x at. (let is = all r s there in record { same_program = same_program ∙ is.same_program; rank = same_rank ∙ is.rank; size = same_size ∙ is.size })))
+
+-- ---- a call on the seat of one rank
+
+-- The seat that a call takes from the seats is the rank's.
+pub record IsTaken (value : SeatsValue) (seats : List SeatValue) (index rank : ℕ) (s : SeatValue) : Type 0 where
+  pub all_ranks : lives seats ≡ value.ranks
+  pub all_images : images seats ≡ value.images
+  pub number : index ≡ rank
+  pub there : slice_get seats index ≡ Some s
+
+-- it is what stands at its index
+pub taken : (value : SeatsValue) (program : ProgramValue) (seats : List SeatValue) (index rank : ℕ) (s : SeatValue)
+    → ◌≡◌ {A = SeatsValue} (record { program = program; ranks = lives seats; images = images seats }) value → index ≡ rank
+    → rank < length value.ranks → s ≡ get_or seats index s → IsTaken value seats index rank s
+taken value program seats index rank s view same below read =
+    let ranks : lives seats ≡ value.ranks = ap (λ (z : SeatsValue). z.ranks) view in
+    let many : length (lives seats) ≡ length seats = map_length (λ (z : SeatValue). z.live) seats in
+    let all : length (lives seats) ≡ length value.ranks = ap (λ (z : List (Option Live)). length z) ranks in
+    record {
+      all_ranks = ranks;
+      all_images = ap (λ (z : SeatsValue). z.images) view;
+      number = same;
+      there = slice_get_read seats (length seats) index s refl (omega (arith, same, many, all, below)) read;
+    }
+
+-- what holds of the rank of the seat holds at its place
+pub of_seat : {value : SeatsValue} {seats : List SeatValue} {index rank : ℕ} {s : SeatValue} (P : Live → Type 0)
+    → IsTaken value seats index rank s → IfLive s.live P → AtRank value.ranks rank P
+of_seat {value = value} {seats = seats} {index = index} {rank = rank} {s = s} P t h =
+    subst (λ z. AtRank value.ranks z P) t.number (subst (λ z. AtRank z index P) t.all_ranks (at_seat seats index s P t.there h))
+
+-- the ranks after the call
+pub ranks_then : {value : SeatsValue} {seats : List SeatValue} {index rank : ℕ} {s : SeatValue} (s' : SeatValue)
+    → IsTaken value seats index rank s → lives (slice_set seats index s') ≡ slice_set value.ranks rank s'.live
+ranks_then {value = value} {seats = seats} {index = index} s' t =
+    set_lives seats index s' ∙ ap (λ z. slice_set z index s'.live) t.all_ranks ∙ ap (λ z. slice_set value.ranks z s'.live) t.number
+
+-- what the call did to the rank of the seat, as what it did to the ranks
+pub after_call : {value : SeatsValue} {seats : List SeatValue} {index rank : ℕ} {s : SeatValue} (s' : SeatValue) (P Q : Live → Type 0)
+    → IsTaken value seats index rank s
+    → ((v : Live) → lives (slice_set seats index s') ≡ slice_set value.ranks rank s'.live → P v → Q v)
+    → IfLive s.live P → AtRank value.ranks rank Q
+after_call {value = value} {seats = seats} {index = index} {rank = rank} {s = s} s' P Q t then h =
+    of_seat Q t (go s.live h)
+  where
+    go : (o : Option Live) → IfLive o P → IfLive o Q
+    go None q = q
+    go (Some v) q = then v (ranks_then s' t) q
+
+-- the rank of the seat is then this one
+pub with_rank_then : {value : SeatsValue} {seats : List SeatValue} {index rank : ℕ} {s : SeatValue} (s' : SeatValue) (f : Live → Rank)
+    → IsTaken value seats index rank s → IfLive s.live (λ v. s'.live ≡ with_rank_value v (f v))
+    → AtRank value.ranks rank (λ v. lives (slice_set seats index s') ≡ with_value value.ranks rank v (f v))
+with_rank_then {value = value} {seats = seats} {index = index} {rank = rank} s' f t h =
+    after_call s' (λ v. s'.live ≡ with_rank_value v (f v)) (λ v. lives (slice_set seats index s') ≡ with_value value.ranks rank v (f v)) t
+    (λ v is e. is ∙ ap (λ x. slice_set value.ranks rank x) e) h
+
+-- where the call leaves the seat's image, the images are as they were
+pub images_stay : {value : SeatsValue} {seats : List SeatValue} {index rank : ℕ} {s : SeatValue} (s' : SeatValue)
+    → IsTaken value seats index rank s → s' ≡ with_live s s'.live → images (slice_set seats index s') ≡ value.images
+images_stay {value = value} {seats = seats} {index = index} {rank = rank} {s = s} s' t others =
+    same_images seats index s s' t.there (ap (λ (z : SeatValue). z.image) others) ∙ t.all_images
+
+-- the seat is one of as many as there are ranks
+seat_size : {value : SeatsValue} {seats : List SeatValue} {index rank : ℕ} {s : SeatValue} (program : ProgramValue) → IsTaken value seats index rank s
+    → AreSeats program (length seats) seats → s.size ≡ length value.ranks
+seat_size {seats = seats} {index = index} {s = s} program t all =
+    (all index s t.there).size ∙ sym (map_length (λ (z : SeatValue). z.live) seats) ∙ ap (λ (z : List (Option Live)). length z) t.all_ranks
+
+-- a restart of the rank of the seat
+pub restarted_then : {value : SeatsValue} {seats : List SeatValue} {index rank : ℕ} {s : SeatValue} (s' : SeatValue) (program : ProgramValue)
+    (row : List EventValue) → program ≡ value.program → IsTaken value seats index rank s → AreSeats program (length seats) seats
+    → IsRestarted s.program s.size s.rank s.image row s'.live
+    → IsSomeAnd (slice_get value.images rank) (λ image.
+    (x : Option Live) × IsRestarted value.program (length value.ranks) rank image row x × (lives (slice_set seats index s') ≡ slice_set value.ranks rank x))
+restarted_then {value = value} {seats = seats} {index = index} {rank = rank} {s = s} s' program row same t all h =
+    subst (λ z. IsSomeAnd z (λ image.
+    (x : Option Live) × IsRestarted value.program (length value.ranks) rank image row x × (lives (slice_set seats index s') ≡ slice_set value.ranks rank x)))
+    (sym there) (s'.live, is, ranks_then s' t)
+  where
+    own : IsSeat program (length seats) index s
+    own = all index s t.there
+
+    there : slice_get value.images rank ≡ Some s.image
+    there = subst (λ z. slice_get value.images z ≡ Some s.image) t.number
+        (subst (λ z. slice_get z index ≡ Some s.image) t.all_images (image_there seats index s t.there))
+
+    is : IsRestarted value.program (length value.ranks) rank s.image row s'.live
+    is =
+        subst (λ z. IsRestarted z (length value.ranks) rank s.image row s'.live) (own.same_program ∙ same)
+        (subst (λ z. IsRestarted s.program z rank s.image row s'.live) (seat_size program t all)
+        (subst (λ z. IsRestarted s.program s.size z s.image row s'.live) (own.rank ∙ t.number) h))
+
+-- the image of the seat cuts no event of a row, where that of its place cuts none
+pub uncut_there : {value : SeatsValue} {seats : List SeatValue} {index rank : ℕ} {s : SeatValue} (program : ProgramValue) (row : List EventValue)
+    → program ≡ value.program → IsTaken value seats index rank s → AreSeats program (length seats) seats
+    → IsSomeAnd (slice_get value.images rank) (λ image. cuts (begins_at value.program rank (length value.ranks) image).clock row ≡ false)
+    → cuts (begins_at s.program s.rank s.size s.image).clock row ≡ false
+uncut_there {value = value} {seats = seats} {index = index} {rank = rank} {s = s} program row same t all h =
+    ap (λ z. cuts (begins_at z s.rank s.size s.image).clock row) (own.same_program ∙ same)
+    ∙ ap (λ z. cuts (begins_at value.program z s.size s.image).clock row) (own.rank ∙ t.number)
+    ∙ ap (λ z. cuts (begins_at value.program rank z s.image).clock row) (seat_size program t all)
+    ∙ subst (λ z. IsSomeAnd z (λ image. cuts (begins_at value.program rank (length value.ranks) image).clock row ≡ false)) there h
+  where
+    own : IsSeat program (length seats) index s
+    own = all index s t.there
+
+    there : slice_get value.images rank ≡ Some s.image
+    there = subst (λ z. slice_get value.images z ≡ Some s.image) t.number
+        (subst (λ z. slice_get z index ≡ Some s.image) t.all_images (image_there seats index s t.there))
+
+-- an image of the rank of the seat
+pub imaged_then : {value : SeatsValue} {seats : List SeatValue} {index rank : ℕ} {s : SeatValue} (s' : SeatValue) (program : ProgramValue)
+    → program ≡ value.program → IsTaken value seats index rank s → AreSeats program (length seats) seats
+    → IfLive s.live (λ v. IsImaged s.program s.size s.rank v s'.live s'.image)
+    → AtRank value.ranks rank (λ v. (x : Option Live) × (image : Option ImageValue) × IsImaged value.program (length value.ranks) rank v x image
+    × (lives (slice_set seats index s') ≡ slice_set value.ranks rank x) × (images (slice_set seats index s') ≡ slice_set value.images rank image))
+imaged_then {value = value} {seats = seats} {index = index} {rank = rank} {s = s} s' program same t all h =
+    after_call s' (λ v. IsImaged s.program s.size s.rank v s'.live s'.image)
+    (λ v. (x : Option Live) × (image : Option ImageValue) × IsImaged value.program (length value.ranks) rank v x image
+    × (lives (slice_set seats index s') ≡ slice_set value.ranks rank x) × (images (slice_set seats index s') ≡ slice_set value.images rank image)) t
+    (λ v is e. (s'.live, s'.image, of_rank v e, is, images_then)) h
+  where
+    of_rank : (v : Live) → IsImaged s.program s.size s.rank v s'.live s'.image → IsImaged value.program (length value.ranks) rank v s'.live s'.image
+    of_rank v is =
+        let own = all index s t.there in
+        subst (λ z. IsImaged z (length value.ranks) rank v s'.live s'.image) (own.same_program ∙ same)
+        (subst (λ z. IsImaged s.program z rank v s'.live s'.image) (seat_size program t all)
+        (subst (λ z. IsImaged s.program s.size z v s'.live s'.image) (own.rank ∙ t.number) is))
+
+    images_then : images (slice_set seats index s') ≡ slice_set value.images rank s'.image
+    images_then = set_images seats index s' ∙ ap (λ z. slice_set z index s'.image) t.all_images ∙ ap (λ z. slice_set value.images z s'.image) t.number

@@ -1,0 +1,27 @@
+-- Where ranks, images and payload logs stand in the run, and that each event keeps it.
+pub mod Inboxes
+pub mod InRun
+pub mod Pending
+pub mod LiveRanks
+pub mod Worlds
+pub mod PayloadLogs
+pub mod Lines
+pub mod InboxAfterArrival
+pub mod PassesOnce
+pub mod ImageStands
+pub mod StepsAtWork
+pub mod ReplayParts
+pub mod KeptByNewEvents
+pub mod StepsByPlace
+pub mod ReplayFindsPacket
+pub mod ReplayGoesOn
+pub mod FirstPasses
+pub mod KeptBySteps
+pub mod KeptByCrashes
+pub mod KeptByReplays
+pub mod KeptByFrames
+pub mod KeptByAcks
+pub mod KeptByStores
+pub mod KeptByReleases
+pub mod KeptByImages
+pub mod KeptByRestarts
