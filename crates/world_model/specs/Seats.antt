@@ -1,5 +1,7 @@
 -- The ranks of a world, by their numbers, and what the calls on one come to.
-use Rattle.std.specs.Prelude.{◌≡◌, ◌≢◌, ℕ, List, [], ◌∷◌, length, map, Option, Some, None, IsSomeAnd, slice_get, slice_set, Ok}
+use Rattle.std.specs.Prelude.{◌≡◌, ◌≢◌, ◌<◌, ℕ, List, [], ◌∷◌, length, map, Option, Some, None, IsSomeAnd, slice_get, slice_set, Ok}
+use Rattle.std.specs.Prelude.{Result, IfOk, OnErr, option_and_then}
+use Rattle.std.specs.declared.alloc.AllocError.{AllocError}
 use Rattle.checkpoint.specs.Image.{ImageValue}
 use Rattle.checkpoint.specs.Shelf.{image_bytes}
 use Rattle.checkpoint.specs.declared.memory_shelf.MemoryShelf.{MemoryShelf}
@@ -9,13 +11,20 @@ use Rattle.plain_logger.specs.declared.call.Call.TheVariants.{Append}
 use Rattle.plain_logger.specs.declared.call.Reply.TheVariants.{Length}
 use Rattle.rank_language.specs.Program.{ProgramValue}
 use Rattle.rank_machine.specs.Machine.{MachineValue, machine_want}
+use Rattle.rank_node.specs.declared.frame.Frame.{Frame}
+use Rattle.rank_node.specs.declared.turn.Arrived.{Arrived}
 use Rattle.rank_node.specs.declared.turn.Turn.{Turn}
+use Rattle.rank_node.specs.Frames.{after_passed, arrival_of, after_frame}
 use Rattle.rank_node.specs.Image.{begins_at, image_of, image_on, after_image, with_shelf}
-use Rattle.rank_node.specs.Replay.{Replay, restarted, left_of, replay_turn_of, after_replay, left_after, ReplayStep}
+use Rattle.rank_node.specs.Releasing.{next_effect, released, ShowsEffect}
+use Rattle.rank_node.specs.Replay.{Replay, restarted, left_of, replay_turn_of, after_replay, left_after, ReplayStep, ShowsReplay}
 use Rattle.rank_node.specs.Steps.{turn_of, MachineStep, after_step}
+use Rattle.rank_node.specs.Storing.{next_unstored, after_store, after_ack, Appends}
+use Rattle.rank_node.specs.Waiting.{effect_clock}
 use Rattle.rank_machine.specs.Acts.{Act}
 use Rattle.crash_free.specs.Runs.{Passed, continue}
 use Rattle.ports.specs.declared.line.Line.{Line}
+use Rattle.ports.specs.Console.{after_line}
 use Rattle.world_model.specs.Rows.{Noted}
 use Rattle.world_model.specs.World.{Rank, Live, WorldValue}
 use Rattle.world_model.specs.Headline.{stable_of, IsOpened}
@@ -102,10 +111,6 @@ AtRank ranks r P = IsSomeAnd (slice_get ranks r) (λ x. IfLive x P)
 abbrev pub with_rank_value : Live → Rank → Option Live
 with_rank_value v x = Some (record { rank = x; left = v.left })
 
--- the ranks with this value in the place of one
-abbrev pub with_value : List (Option Live) → ℕ → Live → Rank → List (Option Live)
-with_value ranks r v x = slice_set ranks r (with_rank_value v x)
-
 -- The rank made a step, and its machine is then this one.
 pub record IsStep (v : Live) (x : Option Live) (lines lines' : List Line) : Type 0 where
   pub machine : MachineValue
@@ -139,6 +144,73 @@ pub record IsImaged (program : ProgramValue) (n r : ℕ) (v : Live) (x : Option 
   pub after : x ≡ with_rank_value v (after_image v.rank (with_shelf v.rank.stable shelf))
   pub taken : image ≡ Some (image_of v.rank)
   pub held : image_on program r n (image_bytes shelf.image) ≡ image
+
+-- what was outgoing to this rank has gone
+abbrev pub HasGone : ℕ → Live → Option Live → Type 0
+HasGone dest v x = x ≡ with_rank_value v (after_passed v.rank dest)
+
+-- a frame from this rank arrives, and this is answered
+abbrev pub Arrives : ℕ → Frame → Arrived → Live → Option Live → Type 0
+Arrives from frame answer v x = (answer ≡ arrival_of v.rank from frame) × (x ≡ with_rank_value v (after_frame v.rank from frame))
+
+-- the oldest stored event is acknowledged
+abbrev pub IsAcked : Live → Option Live → Type 0
+IsAcked v x = (0 < v.rank.stored) × (x ≡ with_rank_value v (after_ack v.rank))
+
+-- the oldest unstored event is stored in the rank's row, which is then so long
+abbrev pub IsStored : StateValue → StateValue → ℕ → Live → Option Live → Type 0
+IsStored logger logger' count v x =
+    Appends (next_unstored v.rank) v.rank.stable.rank logger (Length count) logger' × (x ≡ with_rank_value v (after_store v.rank))
+
+-- the oldest effect, of this clock, is released, and shown if it is a line
+abbrev pub IsReleased : List Line → List Line → ℕ → Live → Option Live → Type 0
+IsReleased lines lines' clock v x =
+    (option_and_then effect_clock (next_effect v.rank) ≡ Some clock) × (x ≡ with_rank_value v (released v.rank (next_effect v.rank)))
+    × ShowsEffect (λ old rank clock value new. new ≡ after_line old rank clock value) v.rank (next_effect v.rank) lines lines'
+
+-- the rank makes a step, and this is answered
+abbrev pub MakesStep : List Line → List Line → Turn → Live → Option Live → Type 0
+MakesStep lines lines' turn v x = (turn ≡ turn_of v.rank) × IsStep v x lines lines'
+
+-- the rank replays a step, this is answered, and a line of the step is shown if it is new
+abbrev pub ReplaysStep : List Line → List Line → Turn → Live → Option Live → Type 0
+ReplaysStep lines lines' turn v x =
+    IsReplayed v turn x × ShowsReplay (λ old rank clock value new. new ≡ after_line old rank clock value) v.rank lines lines'
+
+-- The rank of this number is live and changes so, and nothing else of the seats does.
+pub record ChangesRank (old : SeatsValue) (r : ℕ) (new : SeatsValue) (change : Live → Option Live → Type 0) : Type 0 where
+  pub rank : AtRank old.ranks r (λ v. (x : Option Live) × change v x × (new.ranks ≡ slice_set old.ranks r x))
+  pub program : new.program ≡ old.program
+  pub images : new.images ≡ old.images
+
+-- A call on the rank of this number: it changes as is answered, and nothing else of the seats does.
+-- If memory is refused nothing changes, and this holds of the rank.
+pub record CallsRank {A : Type 0} (old : SeatsValue) (r : ℕ) (result : Result A AllocError) (new : SeatsValue)
+    (change : A → Live → Option Live → Type 0) (asks : Live → Type 0) : Type 0 where
+  pub ok : IfOk result (λ answer. ChangesRank old r new (change answer))
+  pub memory : OnErr result (AtRank old.ranks r asks)
+  pub err : OnErr result (new ≡ old)
+
+-- The rank of this number, live or down, was put in its place, and nothing else of the seats changed.
+pub record SetsRank (old : SeatsValue) (r : ℕ) (x : Option Live) (new : SeatsValue) : Type 0 where
+  pub ranks : new.ranks ≡ slice_set old.ranks r x
+  pub program : new.program ≡ old.program
+  pub images : new.images ≡ old.images
+
+-- The rank of this number started again at its image, or at the beginning of the program, so many
+-- events of its row are left to replay, and nothing else of the seats changed.
+pub record RestartsRank (old : SeatsValue) (r : ℕ) (row : List EventValue) (new : SeatsValue) (count : ℕ) : Type 0 where
+  pub counted : IsSomeAnd (slice_get old.images r) (λ image. count ≡ length (left_of (begins_at old.program r (length old.ranks) image) row))
+  pub rank : IsSomeAnd (slice_get old.images r) (λ image.
+      (x : Option Live) × IsRestarted old.program (length old.ranks) r image row x × (new.ranks ≡ slice_set old.ranks r x))
+  pub program : new.program ≡ old.program
+  pub images : new.images ≡ old.images
+
+-- The rank of this number took an image of itself, and nothing else of the seats changed.
+pub record TakesImage (old : SeatsValue) (r : ℕ) (new : SeatsValue) : Type 0 where
+  pub rank : AtRank old.ranks r (λ v. (x : Option Live) × (image : Option ImageValue) × IsImaged old.program (length old.ranks) r v x image
+      × (new.ranks ≡ slice_set old.ranks r x) × (new.images ≡ slice_set old.images r image))
+  pub program : new.program ≡ old.program
 
 -- there is an event, and the logger accepts it
 abbrev pub IsAccepted : StateValue → ℕ → Option EventValue → Type 0

@@ -1,6 +1,6 @@
 -- What a put and an arrival come to.
 use Rattle.std.proofs.Common.{◌≡◌, ◌≢◌, ℕ, ◌<◌, ◌≤◌, List, [], Option, Some, None, length, refl, sym}
-use Rattle.std.proofs.Common.{ap, subst, ◌∙◌, arith, slice_get, slice_index_or, IsSome, if◌then◌else◌, IsSomeAnd}
+use Rattle.std.proofs.Common.{ap, subst, ◌∙◌, arith, slice_get, slice_set, slice_index_or, IsSome, if◌then◌else◌, IsSomeAnd}
 use Rattle.std.proofs.lemmas.Option.{slice_get_within, slice_get-get_or}
 use Rattle.std.proofs.lemmas.Bool.{eq-eqb}
 use Rattle.matching.specs.declared.inbox.Accept.{Accept}
@@ -11,12 +11,12 @@ use Rattle.rank_node.specs.declared.frame.Frame.{Frame}
 use Rattle.rank_node.specs.declared.frame.Frame.TheVariants as frame
 use Rattle.rank_node.specs.declared.turn.Arrived.{Arrived}
 use Rattle.rank_node.specs.declared.turn.Arrived.TheVariants as arrived
-use Rattle.rank_node.specs.Frames.{outgoing_of, after_passed, arrival_of, after_frame, IsPacket}
+use Rattle.rank_node.specs.Frames.{outgoing_of, arrival_of, IsPacket}
 use Rattle.crash_free.specs.Runs.{Passed}
 use Rattle.world_model.specs.World.{Rank, Live, WorldValue, size, IsDown, IsWire}
 use Rattle.world_model.specs.Wires.{HasWire, wire_of, with_frame}
 use Rattle.world_model.specs.Headline.{IsReal}
-use Rattle.world_model.specs.Seats.{AtRank, with_value}
+use Rattle.world_model.specs.Seats.{AtRank, Arrives, HasGone}
 use Rattle.world_model.specs.Follows.{CanNot, Follows, PutFollows, ArriveFollows, put_as, arrived_as}
 use Rattle.world_model.specs.Stands.{Stands}
 use Rattle.world_model.proofs.Plain.Worlds.{rank_of}
@@ -69,12 +69,12 @@ put_due w s d f st l h =
 pub put_some : (w w' : WorldValue) (s d : ℕ) (f : Frame)
     → AtRank w.ranks s (λ v. Some f ≡ outgoing_of v.rank d) → HasWire w.wires s d
     → w'.wires ≡ with_frame w.wires s d f
-    → AtRank w.ranks s (λ v. w'.ranks ≡ with_value w.ranks s v (after_passed v.rank d))
+    → AtRank w.ranks s (λ v. (y : Option Live) × HasGone d v y × (w'.ranks ≡ slice_set w.ranks s y))
     → w'.program ≡ w.program → w'.images ≡ w.images → w'.logger ≡ w.logger → w'.lines ≡ w.lines → w'.run ≡ w.run
     → Follows w (Put s d) (put_as (length (wire_of w.wires s d)) f) w'
 put_some w w' s d f next has wires ranks program images logger lines run = go f follows
   where
-    x : (v : Live) × (slice_get w.ranks s ≡ Some (Some v)) × (w'.ranks ≡ with_value w.ranks s v (after_passed v.rank d))
+    x : (v : Live) × (slice_get w.ranks s ≡ Some (Some v)) × ((y : Option Live) × HasGone d v y × (w'.ranks ≡ slice_set w.ranks s y))
     x = live_at w.ranks s _ ranks
 
     of_s : List (List Frame)
@@ -97,7 +97,7 @@ put_some w w' s d f next has wires ranks program images logger lines run = go f 
       frames = wire_of w.wires s d;
       wire = at_d;
       answered = refl;
-      after = same_world w' _ program x.2 images logger wires lines run;
+      after = same_world w' _ program (x.2.2 ∙ ap (λ z. slice_set w.ranks s z) x.2.1) images logger wires lines run;
     }
 
     go : (g : Frame) → PutFollows w s d (put_as (length (wire_of w.wires s d)) g) w' → Follows w (Put s d) (put_as (length (wire_of w.wires s d)) g) w'
@@ -156,26 +156,23 @@ arrived_some x s (frame.Data p) C d real e =
 
 -- what arrives isn't foreign
 pub arrive_not_foreign : (w : WorldValue) (s d i : ℕ) (f : Frame) (a : Arrived) → Stands w → HasWire w.wires s d
-    → slice_get (wire_of w.wires s d) i ≡ Some f → AtRank w.ranks d (λ v. a ≡ arrival_of v.rank s f) → a ≢ arrived.Foreign
-arrive_not_foreign w s d i f a st has there h foreign =
+    → slice_get (wire_of w.wires s d) i ≡ Some f
+    → (ranks : List (Option Live)) → AtRank w.ranks d (λ v. (y : Option Live) × Arrives s f a v y × (ranks ≡ slice_set w.ranks d y)) → a ≢ arrived.Foreign
+arrive_not_foreign w s d i f a st has there ranks h foreign =
     let v = live_at w.ranks d _ h in
-    arrived_some v.0.rank s f w.run d (st.run.packets s d i (wire_of w.wires s d) f (the_wire w s d has) there) (ap arrived_as (sym v.2 ∙ foreign))
+    arrived_some v.0.rank s f w.run d (st.run.packets s d i (wire_of w.wires s d) f (the_wire w s d has) there) (ap arrived_as (sym v.2.1.0 ∙ foreign))
 
 -- a frame arrives
 pub arrive_some : (w w' : WorldValue) (s d i : ℕ) (f : Frame) (a : Arrived) (answer : Reply) → HasWire w.wires s d
     → slice_get (wire_of w.wires s d) i ≡ Some f
-    → AtRank w.ranks d (λ v. a ≡ arrival_of v.rank s f)
-    → AtRank w.ranks d (λ v. w'.ranks ≡ with_value w.ranks d v (after_frame v.rank s f))
+    → AtRank w.ranks d (λ v. (y : Option Live) × Arrives s f a v y × (w'.ranks ≡ slice_set w.ranks d y))
     → arrived_as a ≡ Some answer
     → w'.program ≡ w.program → w'.images ≡ w.images → w'.logger ≡ w.logger → w'.wires ≡ w.wires → w'.lines ≡ w.lines → w'.run ≡ w.run
     → Follows w (Arrive s d i) answer w'
-arrive_some w w' s d i f a answer has there h ranks is program images logger wires lines run = go a answer is follows
+arrive_some w w' s d i f a answer has there ranks is program images logger wires lines run = go a answer is follows
   where
-    x : (v : Live) × (slice_get w.ranks d ≡ Some (Some v)) × (w'.ranks ≡ with_value w.ranks d v (after_frame v.rank s f))
+    x : (v : Live) × (slice_get w.ranks d ≡ Some (Some v)) × ((y : Option Live) × Arrives s f a v y × (w'.ranks ≡ slice_set w.ranks d y))
     x = live_at w.ranks d _ ranks
-
-    answered : a ≡ arrival_of x.0.rank s f
-    answered = subst (λ z. IsSomeAnd z (λ y. IsSomeAnd y (λ (v : Live). a ≡ arrival_of v.rank s f))) x.1 h
 
     follows : ArriveFollows w s d i answer w'
     follows = record {
@@ -185,8 +182,8 @@ arrive_some w w' s d i f a answer has there h ranks is program images logger wir
       wire = the_wire w s d has;
       frame = f;
       there = there;
-      answered = ap arrived_as (sym answered) ∙ is;
-      after = same_world w' _ program x.2 images logger wires lines run;
+      answered = ap arrived_as (sym x.2.1.0) ∙ is;
+      after = same_world w' _ program (x.2.2 ∙ ap (λ z. slice_set w.ranks d z) x.2.1.1) images logger wires lines run;
     }
 
     go : (b : Arrived) (r : Reply) → arrived_as b ≡ Some r → ArriveFollows w s d i r w' → Follows w (Arrive s d i) r w'
@@ -203,14 +200,13 @@ arrive_some w w' s d i f a answer has there h ranks is program images logger wir
 -- the same, of ranks whose numbers the event names
 pub arrive_named : (w w' : WorldValue) (s d i from to : ℕ) (f : Frame) (a : Arrived) (answer : Reply) → s ≡ from → d ≡ to → HasWire w.wires s d
     → slice_get (wire_of w.wires s d) i ≡ Some f
-    → AtRank w.ranks d (λ v. a ≡ arrival_of v.rank s f)
-    → AtRank w.ranks d (λ v. w'.ranks ≡ with_value w.ranks d v (after_frame v.rank s f))
+    → AtRank w.ranks d (λ v. (y : Option Live) × Arrives s f a v y × (w'.ranks ≡ slice_set w.ranks d y))
     → arrived_as a ≡ Some answer
     → w'.program ≡ w.program → w'.images ≡ w.images → w'.logger ≡ w.logger → w'.wires ≡ w.wires → w'.lines ≡ w.lines → w'.run ≡ w.run
     → Follows w (Arrive from to i) answer w'
-arrive_named w w' s d i from to f a answer same_s same_d has there h ranks is program images logger wires lines run =
+arrive_named w w' s d i from to f a answer same_s same_d has there ranks is program images logger wires lines run =
     subst (λ z. Follows w (Arrive z to i) answer w') same_s
-    (subst (λ z. Follows w (Arrive s z i) answer w') same_d (arrive_some w w' s d i f a answer has there h ranks is program images logger wires lines run))
+    (subst (λ z. Follows w (Arrive s z i) answer w') same_d (arrive_some w w' s d i f a answer has there ranks is program images logger wires lines run))
 
 -- where memory ends a put and an arrival could happen
 pub put_possible : (w : WorldValue) (s d : ℕ) → d < length w.ranks → AtRank w.ranks s (λ v. outgoing_of v.rank d ≢ None) → CanNot w (Put s d) → ⊥

@@ -1,13 +1,13 @@
 -- What a release comes to.
 use Rattle.std.proofs.Common.{◌≡◌, ℕ, ◌≤◌, List, [], Option, Some, None, refl, sym}
-use Rattle.std.proofs.Common.{ap, subst, ◌∙◌, slice_get, IsSome, IsSomeAnd, option_and_then}
+use Rattle.std.proofs.Common.{ap, subst, ◌∙◌, slice_get, slice_set, IsSome, IsSomeAnd, option_and_then}
 use Rattle.rank_machine.specs.Acts.{Act}
 use Rattle.rank_node.specs.declared.waiting.Waiting.{Waiting}
 use Rattle.rank_node.specs.declared.waiting.Waiting.TheVariants as waits
 use Rattle.rank_node.specs.Waiting.{effect_clock}
 use Rattle.rank_node.specs.Releasing.{effect_of, next_effect, released, ShowsEffect}
 use Rattle.world_model.specs.World.{Rank, Live, WorldValue, size}
-use Rattle.world_model.specs.Seats.{at_work, AtRank, with_value, IsNotAtWork}
+use Rattle.world_model.specs.Seats.{at_work, AtRank, IsNotAtWork, IsReleased}
 use Rattle.world_model.specs.Follows.{CanNot, Follows, passed_at, lines_released, released_act}
 use Rattle.world_model.specs.Stands.{Stands}
 use Rattle.world_model.proofs.Plain.Worlds.{rank_of}
@@ -31,13 +31,11 @@ release_none w r x at none = (λ v live running. subst (λ z. next_effect z.rank
 -- an effect is released
 pub release_some : (w w' : WorldValue) (r : ℕ) (x : Rank) (effect : Waiting) (act : Act) (before clock : ℕ) → Stands w
     → slice_get w.ranks r ≡ Some (at_work x) → Some effect ≡ next_effect x → released_act x effect ≡ Some act
-    → AtRank w.ranks r (λ v. option_and_then effect_clock (next_effect v.rank) ≡ Some clock)
-    → AtRank w.ranks r (λ v. w'.ranks ≡ with_value w.ranks r v (released v.rank (next_effect v.rank)))
-    → AtRank w.ranks r (λ v. ShowsEffect Shows v.rank (next_effect v.rank) w.lines w'.lines)
+    → AtRank w.ranks r (λ v. (y : Option Live) × IsReleased w.lines w'.lines clock v y × (w'.ranks ≡ slice_set w.ranks r y))
     → effect_clock effect ≡ Some before → w'.run ≡ passed_at w.run r before (Some act)
     → w'.program ≡ w.program → w'.images ≡ w.images → w'.logger ≡ w.logger → w'.wires ≡ w.wires
     → Follows w (Release r) (reply.Released clock) w'
-release_some w w' r x effect act before clock s at oldest acts clocked ranks shows is_before run program images logger wires =
+release_some w w' r x effect act before clock s at oldest acts ranks is_before run program images logger wires =
     record {
       before = record { rank = x; left = [] };
       live = at;
@@ -49,15 +47,17 @@ release_some w w' r x effect act before clock s at oldest acts clocked ranks sho
       act = act;
       passes = acts;
       after =
-          same_world w' _ program (at_value w.ranks r x _ at ranks ∙ ap (λ z. with_value w.ranks r (record { rank = x; left = [] }) (released x z))
-          (sym oldest)) images logger wires
-          (shown_effect x effect w.lines w'.lines (subst (λ z. ShowsEffect Shows x z w.lines w'.lines) (sym oldest) (at_value w.ranks r x _ at shows))
+          same_world w' _ program (is.2 ∙ ap (λ z. slice_set w.ranks r z) (is.1.1 ∙ ap (λ z. at_work (released x z)) (sym oldest))) images logger wires
+          (shown_effect x effect w.lines w'.lines (subst (λ z. ShowsEffect Shows x z w.lines w'.lines) (sym oldest) is.1.2)
           ∙ ap (λ z. lines_released w.lines z effect) (rank_of s r (record { rank = x; left = [] }) at).number)
           (run ∙ ap (λ z. passed_at w.run r z (Some act)) (let q : Some before ≡ Some clock = sym is_before ∙ of_it in cc));
     }
   where
+    is : (y : Option Live) × IsReleased w.lines w'.lines clock (record { rank = x; left = [] }) y × (w'.ranks ≡ slice_set w.ranks r y)
+    is = at_value w.ranks r x _ at ranks
+
     of_it : effect_clock effect ≡ Some clock
-    of_it = ap (λ z. option_and_then effect_clock z) oldest ∙ at_value w.ranks r x _ at clocked
+    of_it = ap (λ z. option_and_then effect_clock z) oldest ∙ is.1.0
 
 -- where memory ends a release could happen
 pub release_possible : (w : WorldValue) (r : ℕ) (x : Rank) (effect : Waiting) → slice_get w.ranks r ≡ Some (at_work x) → Some effect ≡ next_effect x

@@ -16,10 +16,10 @@ use Rattle.rank_node.specs.declared.turn.Turn.{Turn}
 use Rattle.rank_node.specs.declared.turn.Turn.TheVariants as turn
 use Rattle.rank_node.specs.Waiting.{is_settled, has_room}
 use Rattle.rank_node.specs.Steps.{turn_of, turn_at, refusal_of, takes_memory, takes_memory_at}
-use Rattle.rank_node.specs.Replay.{replay_turn_at, replay_takes_memory, is_before, ShowsReplayAt, ShowsReplay}
+use Rattle.rank_node.specs.Replay.{replay_turn_at, replay_takes_memory, is_before, ShowsReplayAt}
 use Rattle.crash_free.specs.Runs.{history}
 use Rattle.world_model.specs.World.{Rank, Live, WorldValue, size}
-use Rattle.world_model.specs.Seats.{at_work, AtRank, IsFitting, IsReplayed, IsStep, IsNotAtWork, IsNotInReplay}
+use Rattle.world_model.specs.Seats.{at_work, AtRank, IsFitting, IsReplayed, IsNotAtWork, IsNotInReplay, MakesStep, ReplaysStep}
 use Rattle.world_model.specs.Follows.{CanNot, Happens, Follows, StepFollows, ReplayFollows}
 use Rattle.world_model.specs.Follows.{lines_after, shown_where_moved, effect_at, where_moved, at_once}
 use Rattle.world_model.specs.Memory.{TakesNoMemory}
@@ -77,24 +77,20 @@ step_allowed ranks r x at e = value_at ranks r x (λ v. refusal_of v.rank ≡ No
 -- a rank at work makes a step
 pub step_some : (w w' : WorldValue) (r : ℕ) (x : Rank) (t : Turn) → Stands w
     → slice_get w.ranks r ≡ Some (at_work x) → is_some (refusal_of x) ≡ false
-    → AtRank w.ranks r (λ v. t ≡ turn_of v.rank)
-    → AtRank w.ranks r (λ v. (y : Option Live) × IsStep v y w.lines w'.lines × (w'.ranks ≡ slice_set w.ranks r y))
+    → AtRank w.ranks r (λ v. (y : Option Live) × MakesStep w.lines w'.lines t v y × (w'.ranks ≡ slice_set w.ranks r y))
     → w'.run ≡ passed_at w.run r (x.clock + 1) (effect_at x (machine_want x.machine) (turn_of x))
     → w'.program ≡ w.program → w'.images ≡ w.images → w'.logger ≡ w.logger → w'.wires ≡ w.wires
     → Follows w (Step r) (stepped t) w'
-step_some w w' r x t s at none turned step run program images logger wires = turn_cases (Step r) w w' t (inl follows)
+step_some w w' r x t s at none step run program images logger wires = turn_cases (Step r) w w' t (inl follows)
   where
-    is : (y : Option Live) × IsStep (record { rank = x; left = [] }) y w.lines w'.lines × (w'.ranks ≡ slice_set w.ranks r y)
-    is = at_value w.ranks r x (λ v. (y : Option Live) × IsStep v y w.lines w'.lines × (w'.ranks ≡ slice_set w.ranks r y)) at step
-
-    answered : t ≡ turn_of x
-    answered = at_value w.ranks r x (λ v. t ≡ turn_of v.rank) at turned
+    is : (y : Option Live) × MakesStep w.lines w'.lines t (record { rank = x; left = [] }) y × (w'.ranks ≡ slice_set w.ranks r y)
+    is = at_value w.ranks r x (λ v. (y : Option Live) × MakesStep w.lines w'.lines t v y × (w'.ranks ≡ slice_set w.ranks r y)) at step
 
     number : x.stable.rank ≡ r
     number = (rank_of s r (record { rank = x; left = [] }) at).number
 
     lines : w'.lines ≡ lines_after w.lines r x (machine_want x.machine) (turn_of x)
-    lines = is.1.shown ∙ ap (λ z. lines_after w.lines z x (machine_want x.machine) (turn_of x)) number
+    lines = is.1.1.shown ∙ ap (λ z. lines_after w.lines z x (machine_want x.machine) (turn_of x)) number
 
     follows : StepFollows w r (stepped t) w'
     follows = record {
@@ -102,10 +98,10 @@ step_some w w' r x t s at none turned step run program images logger wires = tur
       live = at;
       running = refl;
       allowed = no_refusal (refusal_of x) none;
-      machine = is.1.machine;
-      steps = is.1.steps;
-      answered = ap stepped answered;
-      after = same_world w' _ program (is.2 ∙ ap (λ z. slice_set w.ranks r z) is.1.after) images logger wires lines run;
+      machine = is.1.1.machine;
+      steps = is.1.1.steps;
+      answered = ap stepped is.1.0;
+      after = same_world w' _ program (is.2 ∙ ap (λ z. slice_set w.ranks r z) is.1.1.after) images logger wires lines run;
     }
 
 -- where memory ends a step could happen
@@ -232,48 +228,44 @@ shown_again v (want.Faulted k) e t old new none turned shows = shows
 
 -- a rank that replays makes a step
 pub replay_some : (w w' : WorldValue) (r : ℕ) (t : Turn) → Stands w
-    → AtRank w.ranks r (λ v. (y : Option Live) × IsReplayed v t y × (w'.ranks ≡ slice_set w.ranks r y))
-    → AtRank w.ranks r (λ v. ShowsReplay Shows v.rank w.lines w'.lines)
+    → AtRank w.ranks r (λ v. (y : Option Live) × ReplaysStep w.lines w'.lines t v y × (w'.ranks ≡ slice_set w.ranks r y))
     → w'.run ≡ w.run → w'.program ≡ w.program → w'.images ≡ w.images → w'.logger ≡ w.logger → w'.wires ≡ w.wires
     → Follows w (Step r) (stepped t) w'
-replay_some w w' r t s step shows run program images logger wires = turn_cases (Step r) w w' t (inr follows)
+replay_some w w' r t s step run program images logger wires = turn_cases (Step r) w w' t (inr follows)
   where
-    x : (v : Live) × (slice_get w.ranks r ≡ Some (Some v)) × ((y : Option Live) × IsReplayed v t y × (w'.ranks ≡ slice_set w.ranks r y))
+    x : (v : Live) × (slice_get w.ranks r ≡ Some (Some v)) × ((y : Option Live) × ReplaysStep w.lines w'.lines t v y × (w'.ranks ≡ slice_set w.ranks r y))
     x = live_at w.ranks r _ step
 
     v : Live
     v = x.0
 
     is : IsReplayed x.0 t x.2.0
-    is = x.2.1
+    is = x.2.1.0
 
     none : x.0.rank.pending ≡ []
-    none = none_waiting w r x.0 s x.1 x.2.1.event x.2.1.rest x.2.1.replaying
+    none = none_waiting w r x.0 s x.1 x.2.1.0.event x.2.1.0.rest x.2.1.0.replaying
 
     behind_run : x.0.rank.clock < length (history w.run r)
-    behind_run = is_behind w r x.0 s x.1 x.2.1.event x.2.1.rest x.2.1.replaying
-
-    shown : ShowsReplay Shows x.0.rank w.lines w'.lines
-    shown = subst (λ z. IsSomeAnd z (λ y. IsSomeAnd y (λ (u : Live). ShowsReplay Shows u.rank w.lines w'.lines))) x.1 shows
+    behind_run = is_behind w r x.0 s x.1 x.2.1.0.event x.2.1.0.rest x.2.1.0.replaying
 
     lines : w'.lines ≡ lines_after w.lines r x.0.rank (machine_want x.0.rank.machine) t
     lines =
-        shown_again x.0.rank (machine_want x.0.rank.machine) x.2.1.event t w.lines w'.lines none x.2.1.turned shown
+        shown_again x.0.rank (machine_want x.0.rank.machine) x.2.1.0.event t w.lines w'.lines none x.2.1.0.turned x.2.1.1
         ∙ ap (λ z. lines_after w.lines z x.0.rank (machine_want x.0.rank.machine) t) (rank_of s r x.0 x.1).number
 
     follows : ReplayFollows w r (stepped t) w'
     follows = record {
       before = x.0;
       live = x.1;
-      event = x.2.1.event;
-      rest = x.2.1.rest;
-      replaying = x.2.1.replaying;
+      event = x.2.1.0.event;
+      rest = x.2.1.0.rest;
+      replaying = x.2.1.0.replaying;
       turn = t;
-      turned = x.2.1.turned;
-      machine = x.2.1.machine;
-      steps = x.2.1.steps;
+      turned = x.2.1.0.turned;
+      machine = x.2.1.0.machine;
+      steps = x.2.1.0.steps;
       answered = refl;
-      after = same_world w' _ program (x.2.2 ∙ ap (λ z. slice_set w.ranks r z) x.2.1.after) images logger wires lines
+      after = same_world w' _ program (x.2.2 ∙ ap (λ z. slice_set w.ranks r z) x.2.1.0.after) images logger wires lines
           (run ∙ sym (passed_again w.run r x.0.rank.clock (effect_at x.0.rank (machine_want x.0.rank.machine) t) behind_run));
     }
 

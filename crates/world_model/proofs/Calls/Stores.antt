@@ -1,6 +1,6 @@
 -- What a store and an acknowledgment come to.
 use Rattle.std.proofs.Common.{◌≡◌, ◌≢◌, ℕ, zero, suc, ◌+◌, ◌<◌, ◌≤◌, true, false, List, [], ◌∷◌, ◌++◌, Option, Some, None, length, drop, replicate, refl, sym}
-use Rattle.std.proofs.Common.{ap, subst, ◌∙◌, arith, slice_get, IsSomeAnd, option_map}
+use Rattle.std.proofs.Common.{ap, subst, ◌∙◌, arith, slice_get, slice_set, IsSomeAnd, option_map}
 use Rattle.std.proofs.lemmas.List.{append-nil}
 use Rattle.std.proofs.lemmas.Option.{slice_get_within}
 use Rattle.plain_logger.specs.Event.{EventValue, event_of, finds_none, count_of}
@@ -12,12 +12,12 @@ use Rattle.plain_logger.specs.declared.kind.Kind.{Kind}
 use Rattle.plain_logger.specs.declared.kind.Kind.TheVariants as kind
 use Rattle.plain_logger.proofs.Misses.{one_part}
 use Rattle.rank_machine.specs.Acts.{Act, Message, sends, takes, hits, misses, prints}
-use Rattle.rank_node.specs.Storing.{next_unstored, after_store, after_ack, Appends}
+use Rattle.rank_node.specs.Storing.{next_unstored, Appends}
 use Rattle.crash_free.specs.Runs.{Passed, at_place, history, sent, looked_up, continue}
 use Rattle.world_model.specs.Rows.{row, event_at}
 use Rattle.world_model.specs.RunIndex.{clock_at, with_misses}
 use Rattle.world_model.specs.World.{Rank, Live, WorldValue, size}
-use Rattle.world_model.specs.Seats.{at_work, AtRank, with_value, IsAccepted, IsNotAtWork, NotedAs}
+use Rattle.world_model.specs.Seats.{at_work, AtRank, IsAccepted, IsAcked, IsNotAtWork, IsStored, NotedAs}
 use Rattle.world_model.specs.Follows.{CanNot, Follows}
 use Rattle.world_model.specs.Stands.{start_at, Stands}
 use Rattle.world_model.specs.declared.event.WorldEvent.TheVariants.{Store, Ack}
@@ -43,7 +43,7 @@ pub ack_idle : (w : WorldValue) (r : ℕ) → Stands w → IsSomeAnd (slice_get 
 ack_idle w r s h = (λ v live. (nothing_in_replay w r v s live (live_in_replay w r v h live)).1, refl)
 
 -- an event is acknowledged
-pub ack_some : (w w' : WorldValue) (r : ℕ) → AtRank w.ranks r (λ v. (0 < v.rank.stored) × (w'.ranks ≡ with_value w.ranks r v (after_ack v.rank)))
+pub ack_some : (w w' : WorldValue) (r : ℕ) → AtRank w.ranks r (λ v. (y : Option Live) × IsAcked v y × (w'.ranks ≡ slice_set w.ranks r y))
     → w'.program ≡ w.program → w'.images ≡ w.images → w'.logger ≡ w.logger → w'.wires ≡ w.wires → w'.lines ≡ w.lines → w'.run ≡ w.run
     → Follows w (Ack r) reply.Acked w'
 ack_some w w' r h program images logger wires lines run =
@@ -51,9 +51,9 @@ ack_some w w' r h program images logger wires lines run =
     record {
       before = x.0;
       live = x.1;
-      some = λ z. (let l = x.2.0 in omega (arith, l, z));
+      some = λ z. (let l = x.2.1.0 in omega (arith, l, z));
       answered = refl;
-      after = same_world w' _ program x.2.1 images logger wires lines run;
+      after = same_world w' _ program (x.2.2 ∙ ap (λ z. slice_set w.ranks r z) x.2.1.1) images logger wires lines run;
     }
 
 -- what the oldest unstored event of a rank says of the run
@@ -248,14 +248,15 @@ appended : (e : EventValue) (o : Option EventValue) (r count : ℕ) (w w' : Worl
 appended e o r count w w' q h = subst (λ z. Appends z r w.logger (Length count) w'.logger) q h
 
 -- an event is stored
-pub store_some : (w w' : WorldValue) (r acts : ℕ) (x : Rank) (e : EventValue) (count : ℕ)
+pub store_some : (w w' : WorldValue) (r acts : ℕ) (x : Rank) (e : EventValue) (count : ℕ) → Stands w
     → slice_get w.ranks r ≡ Some (at_work x) → next_unstored x ≡ Some e
     → NotedAs w.run r e acts w'.run
-    → AtRank w.ranks r (λ v. Appends (next_unstored v.rank) r w.logger (Length count) w'.logger)
-    → AtRank w.ranks r (λ v. w'.ranks ≡ with_value w.ranks r v (after_store v.rank))
+    → AtRank w.ranks r (λ v. (y : Option Live) × IsStored w.logger w'.logger count v y × (w'.ranks ≡ slice_set w.ranks r y))
     → w'.program ≡ w.program → w'.images ≡ w.images → w'.wires ≡ w.wires → w'.lines ≡ w.lines
     → Follows w (Store r) (reply.Stored count) w'
-store_some w w' r acts x e count at oldest noted appends ranks program images wires lines =
+store_some w w' r acts x e count s at oldest noted ranks program images wires lines =
+    let number = (rank_of s r (record { rank = x; left = [] }) at).number in
+    let is = at_value w.ranks r x _ at ranks in
     record {
       before = record { rank = x; left = [] };
       live = at;
@@ -263,22 +264,21 @@ store_some w w' r acts x e count at oldest noted appends ranks program images wi
       oldest = oldest;
       count = count;
       answered = refl;
-      appends = appended e (next_unstored x) r count w w' oldest (at_value w.ranks r x _ at appends);
+      appends = appended e (next_unstored x) r count w w' oldest (subst (λ z. Appends (next_unstored x) z w.logger (Length count) w'.logger) number is.1.0);
       acts = noted.acts;
       noted = noted.noted;
-      after = same_world w' _ program (at_value w.ranks r x _ at ranks) images refl wires lines noted.after;
+      after = same_world w' _ program (is.2 ∙ ap (λ z. slice_set w.ranks r z) is.1.1) images refl wires lines noted.after;
     }
 
 -- the same, of a rank whose number the event names
-pub store_named : (w w' : WorldValue) (r named acts : ℕ) (x : Rank) (e : EventValue) (count : ℕ) → r ≡ named
+pub store_named : (w w' : WorldValue) (r named acts : ℕ) (x : Rank) (e : EventValue) (count : ℕ) → r ≡ named → Stands w
     → slice_get w.ranks r ≡ Some (at_work x) → next_unstored x ≡ Some e
     → NotedAs w.run r e acts w'.run
-    → AtRank w.ranks r (λ v. Appends (next_unstored v.rank) r w.logger (Length count) w'.logger)
-    → AtRank w.ranks r (λ v. w'.ranks ≡ with_value w.ranks r v (after_store v.rank))
+    → AtRank w.ranks r (λ v. (y : Option Live) × IsStored w.logger w'.logger count v y × (w'.ranks ≡ slice_set w.ranks r y))
     → w'.program ≡ w.program → w'.images ≡ w.images → w'.wires ≡ w.wires → w'.lines ≡ w.lines
     → Follows w (Store named) (reply.Stored count) w'
-store_named w w' r named acts x e count same at oldest noted appends ranks program images wires lines =
-    subst (λ z. Follows w (Store z) (reply.Stored count) w') same (store_some w w' r acts x e count at oldest noted appends ranks program images wires lines)
+store_named w w' r named acts x e count same s at oldest noted ranks program images wires lines =
+    subst (λ z. Follows w (Store z) (reply.Stored count) w') same (store_some w w' r acts x e count s at oldest noted ranks program images wires lines)
 
 -- where memory ends a store could happen
 pub store_possible : (w : WorldValue) (r : ℕ) (x : Rank) (e : EventValue) → slice_get w.ranks r ≡ Some (at_work x) → next_unstored x ≡ Some e

@@ -1,16 +1,17 @@
 -- The ranks and the images of seats, by the seat of one rank.
 use Rattle.std.proofs.Common.{◌≡◌, ℕ, ◌<◌, false, List, Option, Some, None, length, option_map, refl, sym, ap, subst, ◌∙◌}
-use Rattle.std.proofs.Common.{arith, get_or, slice_get, slice_set, IsSomeAnd, length-set}
+use Rattle.std.proofs.Common.{arith, get_or, slice_get, slice_set, IsSomeAnd, length-set, Result, Ok, Err, IfOk, OnOk, OnErr}
+use Rattle.std.specs.declared.alloc.AllocError.{AllocError}
 use Rattle.std.proofs.lemmas.Option.{slice_get-map, slice_get_read}
 use Rattle.std.proofs.lemmas.List.{map-set}
 use Rattle.checkpoint.specs.Image.{ImageValue}
 use Rattle.plain_logger.specs.Event.{EventValue}
 use Rattle.rank_language.specs.Program.{ProgramValue}
 use Rattle.rank_node.specs.Image.{begins_at}
-use Rattle.rank_node.specs.Replay.{cuts}
-use Rattle.world_model.specs.World.{Rank, Live}
+use Rattle.rank_node.specs.Replay.{cuts, left_of}
+use Rattle.world_model.specs.World.{Live}
 use Rattle.world_model.specs.Seats.{SeatValue, SeatsValue, IsSeat, AreSeats, lives, images, IfLive, AtRank}
-use Rattle.world_model.specs.Seats.{with_live, with_rank_value, with_value, IsImaged, IsRestarted}
+use Rattle.world_model.specs.Seats.{with_live, IsImaged, IsRestarted, ChangesRank, CallsRank, RestartsRank, TakesImage}
 use Rattle.world_model.proofs.Lists.Beginnings.{map_length}
 use Rattle.world_model.proofs.Lists.Replaced.{replaced_keeps, set_same}
 
@@ -97,19 +98,76 @@ after_call {value = value} {seats = seats} {index = index} {rank = rank} {s = s}
     go None q = q
     go (Some v) q = then v (ranks_then s' t) q
 
--- the rank of the seat is then this one
-pub with_rank_then : {value : SeatsValue} {seats : List SeatValue} {index rank : ℕ} {s : SeatValue} (s' : SeatValue) (f : Live → Rank)
-    → IsTaken value seats index rank s → IfLive s.live (λ v. s'.live ≡ with_rank_value v (f v))
-    → AtRank value.ranks rank (λ v. lives (slice_set seats index s') ≡ with_value value.ranks rank v (f v))
-with_rank_then {value = value} {seats = seats} {index = index} {rank = rank} s' f t h =
-    after_call s' (λ v. s'.live ≡ with_rank_value v (f v)) (λ v. lives (slice_set seats index s') ≡ with_value value.ranks rank v (f v)) t
-    (λ v is e. is ∙ ap (λ x. slice_set value.ranks rank x) e) h
-
 -- where the call leaves the seat's image, the images are as they were
 pub images_stay : {value : SeatsValue} {seats : List SeatValue} {index rank : ℕ} {s : SeatValue} (s' : SeatValue)
     → IsTaken value seats index rank s → s' ≡ with_live s s'.live → images (slice_set seats index s') ≡ value.images
 images_stay {value = value} {seats = seats} {index = index} {rank = rank} {s = s} s' t others =
     same_images seats index s s' t.there (ap (λ (z : SeatValue). z.image) others) ∙ t.all_images
+
+-- and all are the seats of their ranks still
+pub all_stay : {program : ProgramValue} {value : SeatsValue} {seats : List SeatValue} {index rank : ℕ} {s : SeatValue} (s' : SeatValue)
+    → IsTaken value seats index rank s → s' ≡ with_live s s'.live → AreSeats program (length seats) seats
+    → AreSeats program (length (slice_set seats index s')) (slice_set seats index s')
+all_stay {program = program} {seats = seats} {index = index} {s = s} s' t others all =
+    still_seats program seats index s s' t.there (ap (λ (z : SeatValue). z.program) others) (ap (λ (z : SeatValue). z.rank) others)
+    (ap (λ (z : SeatValue). z.size) others) all
+
+-- what the call did to the rank of the seat it did to that of the seats
+pub change_there : {value : SeatsValue} {seats : List SeatValue} {index rank : ℕ} {s : SeatValue} {program : ProgramValue} (s' : SeatValue)
+    (change : Live → Option Live → Type 0) → IsTaken value seats index rank s → program ≡ value.program → s' ≡ with_live s s'.live
+    → IfLive s.live (λ v. change v s'.live)
+    → ChangesRank value rank (record { program = program; ranks = lives (slice_set seats index s'); images = images (slice_set seats index s') }) change
+change_there {value = value} {seats = seats} {index = index} {rank = rank} s' change t program others h =
+    record {
+      rank = after_call s' (λ v. change v s'.live) (λ v. (x : Option Live) × change v x × (lives (slice_set seats index s') ≡ slice_set value.ranks rank x)) t
+          (λ v is e. (s'.live, e, is)) h;
+      program = program;
+      images = images_stay s' t others;
+    }
+
+-- two facts of a live rank are one
+both_live : (o : Option Live) (P Q : Live → Type 0) → IfLive o P → IfLive o Q → IfLive o (λ v. P v × Q v)
+both_live None P Q h g = h
+both_live (Some v) P Q h g = (h, g)
+
+-- so are two facts of a call that succeeds, of which one is about what is answered
+pub both_ok : {A : Type 0} (result : Result A AllocError) (o : Option Live) (P : A → Live → Type 0) (Q : Live → Type 0)
+    → IfOk result (λ a. IfLive o (P a)) → OnOk result (IfLive o Q) → IfOk result (λ a. IfLive o (λ v. P a v × Q v))
+both_ok (Ok a) o P Q h g = both_live o (P a) Q h g
+both_ok (Err e) o P Q h g = tt
+
+-- and three
+pub three_ok : {A : Type 0} (result : Result A AllocError) (o : Option Live) (P : A → Live → Type 0) (Q R : Live → Type 0)
+    → IfOk result (λ a. IfLive o (P a)) → OnOk result (IfLive o Q) → OnOk result (IfLive o R) → IfOk result (λ a. IfLive o (λ v. P a v × Q v × R v))
+three_ok (Ok a) None P Q R h g k = h
+three_ok (Ok a) (Some v) P Q R h g k = (h, g, k)
+three_ok (Err e) o P Q R h g k = tt
+
+-- of which rank memory is refused
+pub asks_there : {A : Type 0} {value : SeatsValue} {seats : List SeatValue} {index rank : ℕ} {s : SeatValue} (result : Result A AllocError)
+    (asks : Live → Type 0) → IsTaken value seats index rank s → OnErr result (IfLive s.live asks) → OnErr result (AtRank value.ranks rank asks)
+asks_there (Ok a) asks t h = tt
+asks_there (Err e) asks t h = of_seat asks t h
+
+-- a call on the seat is one on the rank of the seats
+pub call_there : {A : Type 0} {value : SeatsValue} {seats : List SeatValue} {index rank : ℕ} {s : SeatValue} {program : ProgramValue}
+    (result : Result A AllocError) (s' : SeatValue) (change : A → Live → Option Live → Type 0) (asks : Live → Type 0) → IsTaken value seats index rank s
+    → ◌≡◌ {A = SeatsValue} (record { program = program; ranks = lives seats; images = images seats }) value
+    → s' ≡ with_live s s'.live → IfOk result (λ a. IfLive s.live (λ v. change a v s'.live)) → OnErr result (AtRank value.ranks rank asks)
+    → OnErr result (s' ≡ s)
+    → CallsRank value rank result (record { program = program; ranks = lives (slice_set seats index s'); images = images (slice_set seats index s') }) change asks
+call_there (Ok a) s' change asks t view others ok memory err =
+    record { ok = change_there s' (change a) t (ap (λ (z : SeatsValue). z.program) view) others ok; memory = tt; err = tt }
+call_there {seats = seats} {index = index} {s = s} {program = program} (Err e) s' change asks t view others ok memory err =
+    record {
+      ok = tt;
+      memory = memory;
+      err =
+          ap made (ap (λ z. slice_set seats index z) err ∙ set_same seats index s t.there) ∙ view;
+    }
+  where
+    made : List SeatValue → SeatsValue
+    made z = record { program = program; ranks = lives z; images = images z }
 
 -- the seat is one of as many as there are ranks
 seat_size : {value : SeatsValue} {seats : List SeatValue} {index rank : ℕ} {s : SeatValue} (program : ProgramValue) → IsTaken value seats index rank s
@@ -118,15 +176,21 @@ seat_size {seats = seats} {index = index} {s = s} program t all =
     (all index s t.there).size ∙ sym (map_length (λ (z : SeatValue). z.live) seats) ∙ ap (λ (z : List (Option Live)). length z) t.all_ranks
 
 -- a restart of the rank of the seat
-pub restarted_then : {value : SeatsValue} {seats : List SeatValue} {index rank : ℕ} {s : SeatValue} (s' : SeatValue) (program : ProgramValue)
-    (row : List EventValue) → program ≡ value.program → IsTaken value seats index rank s → AreSeats program (length seats) seats
+pub restarted_then : {value : SeatsValue} {seats : List SeatValue} {index rank : ℕ} {s : SeatValue} {program : ProgramValue} (s' : SeatValue)
+    (row : List EventValue) (count : ℕ) → IsTaken value seats index rank s → program ≡ value.program → AreSeats program (length seats) seats
+    → s' ≡ with_live s s'.live → count ≡ length (left_of (begins_at s.program s.rank s.size s.image) row)
     → IsRestarted s.program s.size s.rank s.image row s'.live
-    → IsSomeAnd (slice_get value.images rank) (λ image.
-    (x : Option Live) × IsRestarted value.program (length value.ranks) rank image row x × (lives (slice_set seats index s') ≡ slice_set value.ranks rank x))
-restarted_then {value = value} {seats = seats} {index = index} {rank = rank} {s = s} s' program row same t all h =
-    subst (λ z. IsSomeAnd z (λ image.
-    (x : Option Live) × IsRestarted value.program (length value.ranks) rank image row x × (lives (slice_set seats index s') ≡ slice_set value.ranks rank x)))
-    (sym there) (s'.live, is, ranks_then s' t)
+    → RestartsRank value rank row (record { program = program; ranks = lives (slice_set seats index s'); images = images (slice_set seats index s') }) count
+restarted_then {value = value} {seats = seats} {index = index} {rank = rank} {s = s} {program = program} s' row count t same all others counts h =
+    record {
+      counted = subst (λ z. IsSomeAnd z (λ image. count ≡ length (left_of (begins_at value.program rank (length value.ranks) image) row))) (sym there) counted;
+      rank =
+          subst (λ z. IsSomeAnd z (λ image.
+          (x : Option Live) × IsRestarted value.program (length value.ranks) rank image row x × (lives (slice_set seats index s') ≡ slice_set value.ranks rank x)))
+          (sym there) (s'.live, is, ranks_then s' t);
+      program = same;
+      images = images_stay s' t others;
+    }
   where
     own : IsSeat program (length seats) index s
     own = all index s t.there
@@ -135,11 +199,30 @@ restarted_then {value = value} {seats = seats} {index = index} {rank = rank} {s 
     there = subst (λ z. slice_get value.images z ≡ Some s.image) t.number
         (subst (λ z. slice_get z index ≡ Some s.image) t.all_images (image_there seats index s t.there))
 
+    begins : begins_at s.program s.rank s.size s.image ≡ begins_at value.program rank (length value.ranks) s.image
+    begins =
+        ap (λ z. begins_at z s.rank s.size s.image) (own.same_program ∙ same)
+        ∙ ap (λ z. begins_at value.program z s.size s.image) (own.rank ∙ t.number)
+        ∙ ap (λ z. begins_at value.program rank z s.image) (seat_size program t all)
+
+    counted : count ≡ length (left_of (begins_at value.program rank (length value.ranks) s.image) row)
+    counted = counts ∙ ap (λ z. length (left_of z row)) begins
+
     is : IsRestarted value.program (length value.ranks) rank s.image row s'.live
     is =
         subst (λ z. IsRestarted z (length value.ranks) rank s.image row s'.live) (own.same_program ∙ same)
         (subst (λ z. IsRestarted s.program z rank s.image row s'.live) (seat_size program t all)
         (subst (λ z. IsRestarted s.program s.size z s.image row s'.live) (own.rank ∙ t.number) h))
+
+-- so it is with each answer
+pub restart_there : {value : SeatsValue} {seats : List SeatValue} {index rank : ℕ} {s : SeatValue} {program : ProgramValue} (result : Result ℕ AllocError)
+    (s' : SeatValue) (row : List EventValue) → IsTaken value seats index rank s → program ≡ value.program → AreSeats program (length seats) seats
+    → s' ≡ with_live s s'.live → IfOk result (λ count. count ≡ length (left_of (begins_at s.program s.rank s.size s.image) row))
+    → OnOk result (IsRestarted s.program s.size s.rank s.image row s'.live)
+    → IfOk result (RestartsRank value rank row
+    (record { program = program; ranks = lives (slice_set seats index s'); images = images (slice_set seats index s') }))
+restart_there (Ok count) s' row t same all others counts h = restarted_then s' row count t same all others counts h
+restart_there (Err e) s' row t same all others counts h = tt
 
 -- the image of the seat cuts no event of a row, where that of its place cuts none
 pub uncut_there : {value : SeatsValue} {seats : List SeatValue} {index rank : ℕ} {s : SeatValue} (program : ProgramValue) (row : List EventValue)
@@ -160,16 +243,18 @@ uncut_there {value = value} {seats = seats} {index = index} {rank = rank} {s = s
         (subst (λ z. slice_get z index ≡ Some s.image) t.all_images (image_there seats index s t.there))
 
 -- an image of the rank of the seat
-pub imaged_then : {value : SeatsValue} {seats : List SeatValue} {index rank : ℕ} {s : SeatValue} (s' : SeatValue) (program : ProgramValue)
+pub imaged_then : {value : SeatsValue} {seats : List SeatValue} {index rank : ℕ} {s : SeatValue} {program : ProgramValue} (s' : SeatValue)
     → program ≡ value.program → IsTaken value seats index rank s → AreSeats program (length seats) seats
     → IfLive s.live (λ v. IsImaged s.program s.size s.rank v s'.live s'.image)
-    → AtRank value.ranks rank (λ v. (x : Option Live) × (image : Option ImageValue) × IsImaged value.program (length value.ranks) rank v x image
-    × (lives (slice_set seats index s') ≡ slice_set value.ranks rank x) × (images (slice_set seats index s') ≡ slice_set value.images rank image))
-imaged_then {value = value} {seats = seats} {index = index} {rank = rank} {s = s} s' program same t all h =
-    after_call s' (λ v. IsImaged s.program s.size s.rank v s'.live s'.image)
-    (λ v. (x : Option Live) × (image : Option ImageValue) × IsImaged value.program (length value.ranks) rank v x image
-    × (lives (slice_set seats index s') ≡ slice_set value.ranks rank x) × (images (slice_set seats index s') ≡ slice_set value.images rank image)) t
-    (λ v is e. (s'.live, s'.image, of_rank v e, is, images_then)) h
+    → TakesImage value rank (record { program = program; ranks = lives (slice_set seats index s'); images = images (slice_set seats index s') })
+imaged_then {value = value} {seats = seats} {index = index} {rank = rank} {s = s} {program = program} s' same t all h =
+    record {
+      rank = after_call s' (λ v. IsImaged s.program s.size s.rank v s'.live s'.image)
+          (λ v. (x : Option Live) × (image : Option ImageValue) × IsImaged value.program (length value.ranks) rank v x image
+          × (lives (slice_set seats index s') ≡ slice_set value.ranks rank x) × (images (slice_set seats index s') ≡ slice_set value.images rank image)) t
+          (λ v is e. (s'.live, s'.image, of_rank v e, is, images_then)) h;
+      program = same;
+    }
   where
     of_rank : (v : Live) → IsImaged s.program s.size s.rank v s'.live s'.image → IsImaged value.program (length value.ranks) rank v s'.live s'.image
     of_rank v is =

@@ -1,8 +1,6 @@
 //! Images of the ranks of a world.
-ghost use Rattle.std.specs.Prelude.{◌≡◌, ◌<◌, [], Option, length, slice_set, OnOk, OnErr};
-ghost use Rattle.checkpoint.specs.Image.{ImageValue};
-ghost use Rattle.world_model.specs.World.{Live};
-ghost use Rattle.world_model.specs.Seats.{AtRank, IsImaged};
+ghost use Rattle.std.specs.Prelude.{◌≡◌, ◌<◌, [], length, OnOk, OnErr};
+ghost use Rattle.world_model.specs.Seats.{AtRank, TakesImage};
 
 use crate::seats::Seats;
 use std::alloc::AllocError;
@@ -15,10 +13,7 @@ impl<'p> Seats<'p> {
         requires rank { rank < length self.old.ranks }
         requires work { AtRank self.old.ranks rank (λ v. v.left ≡ []) }
         requires settled { AtRank self.old.ranks rank (λ v. v.rank.pending ≡ []) }
-        ensures ok { OnOk result (AtRank self.old.ranks rank (λ v. (x : Option Live) × (image : Option ImageValue)
-            × IsImaged self.old.program (length self.old.ranks) rank v x image × (self.new.ranks ≡ slice_set self.old.ranks rank x)
-            × (self.new.images ≡ slice_set self.old.images rank image))) }
-        ensures program { self.new.program ≡ self.old.program }
+        ensures ok { OnOk result (TakesImage self.old rank self.new) }
         ensures err { OnErr result (self.new ≡ self.old) }
     {
         self.seats[usize::from(rank)].image()

@@ -1,10 +1,9 @@
 //! How the ranks of a world go down and come up again.
-ghost use Rattle.std.specs.Prelude.{◌≡◌, ◌<◌, ◌≤◌, false, None, Option, Some, length, slice_get, slice_set, IfOk, OnOk, OnErr, IsSomeAnd};
+ghost use Rattle.std.specs.Prelude.{◌≡◌, ◌<◌, ◌≤◌, false, None, Some, length, slice_get, IfOk, OnErr, IsSomeAnd};
 ghost use Rattle.metered.specs.Limits.{most_events};
 ghost use Rattle.rank_node.specs.Image.{begins_at};
-ghost use Rattle.rank_node.specs.Replay.{cuts, left_of};
-ghost use Rattle.world_model.specs.World.{Live};
-ghost use Rattle.world_model.specs.Seats.{IsRestarted};
+ghost use Rattle.rank_node.specs.Replay.{cuts};
+ghost use Rattle.world_model.specs.Seats.{RestartsRank, SetsRank};
 
 use crate::seats::Seats;
 use metered::Heap;
@@ -15,9 +14,7 @@ impl<'p> Seats<'p> {
     /// A rank crashes: its image stays. This takes no memory.
     pub fn crash(&mut self, rank: u8)
         requires { rank < length self.old.ranks }
-        ensures down { self.new.ranks ≡ slice_set self.old.ranks rank None }
-        ensures program { self.new.program ≡ self.old.program }
-        ensures images { self.new.images ≡ self.old.images }
+        ensures { SetsRank self.old rank None self.new }
     {
         self.seats[usize::from(rank)].crash();
     }
@@ -38,13 +35,7 @@ impl<'p> Seats<'p> {
         requires row { length row.items ≤ most_events }
         requires uncut { IsSomeAnd (slice_get self.old.images rank) (λ image.
             cuts (begins_at self.old.program rank (length self.old.ranks) image).clock row.items ≡ false) }
-        ensures count { IfOk result (λ count. IsSomeAnd (slice_get self.old.images rank) (λ image.
-            count ≡ length (left_of (begins_at self.old.program rank (length self.old.ranks) image) row.items))) }
-        ensures ok { OnOk result (IsSomeAnd (slice_get self.old.images rank) (λ image.
-            (x : Option Live) × IsRestarted self.old.program (length self.old.ranks) rank image row.items x
-            × (self.new.ranks ≡ slice_set self.old.ranks rank x))) }
-        ensures program { self.new.program ≡ self.old.program }
-        ensures images { self.new.images ≡ self.old.images }
+        ensures ok { IfOk result (RestartsRank self.old rank row.items self.new) }
         ensures err { OnErr result (self.new ≡ self.old) }
     {
         self.seats[usize::from(rank)].restart(alloc, row)

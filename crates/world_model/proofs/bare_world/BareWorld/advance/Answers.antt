@@ -16,4 +16,4 @@ pub returns-clause-follows : goal.returns-clause-follows
 returns-clause-follows c =
     answered c.args.self.now _ c.args.rank c.in-Ok.turn _ c.stepped.ensures
     (step_some c.args.self.now _ c.args.rank c.in-Some.running.now c.in-Ok.turn c.requires.stands (search rules) (search rules) (search rules)
-    (search rules) (search rules) (search rules) (search rules) (search rules) (search rules))
+    (search rules) (search rules) (search rules) (search rules) (search rules))

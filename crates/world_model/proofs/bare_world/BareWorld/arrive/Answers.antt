@@ -1,8 +1,7 @@
-use Rattle.std.proofs.Common.{◌≡◌, Some, sym, ap, subst, ◌∙◌, slice_get}
-use Rattle.rank_node.specs.Frames.{arrival_of, after_frame}
+use Rattle.std.proofs.Common.{◌≡◌, Option, Some, sym, ap, subst, ◌∙◌, slice_get, slice_set}
 use Rattle.world_model.specs.World.{Live}
 use Rattle.world_model.specs.Wires.{HasWire, wire_of}
-use Rattle.world_model.specs.Seats.{AtRank, with_value}
+use Rattle.world_model.specs.Seats.{AtRank, Arrives}
 use Rattle.world_model.proofs.Calls.RankOfEvent.{on_err}
 use Rattle.world_model.proofs.Calls.Frames.{has_wire, arrive_not_foreign, arrive_named, arrive_named_possible}
 use Rattle.world_model.proofs.bare_world.BareWorld.arrive.Goals as goal
@@ -38,9 +37,10 @@ there_then c =
 pub arrived_as-requires : goal.arrived_as-requires
 arrived_as-requires c =
     arrive_not_foreign c.args.self.now c.in-Some.source c.in-Some-rank_of.dest c.args.index c.in_ok-frame.frame
-    c.in_ok-arrived.arrived c.requires (has c) (there c)
-    (subst (λ z. AtRank z.ranks c.in-Some-rank_of.dest (λ (v : Live). c.in_ok-arrived.arrived ≡ arrival_of v.rank c.in-Some.source c.in_ok-frame.frame))
-    c.self.view_is c.in_ok-arrived.ensures.answer)
+    c.in_ok-arrived.arrived c.requires (has c) (there c) c.arrive.new.self.ranks
+    (subst (λ z. AtRank z.ranks c.in-Some-rank_of.dest (λ (v : Live). (y : Option Live)
+    × Arrives c.in-Some.source c.in_ok-frame.frame c.in_ok-arrived.arrived v y × (c.arrive.new.self.ranks ≡ slice_set z.ranks c.in-Some-rank_of.dest y)))
+    c.self.view_is c.in_ok-arrived.ensures.ok.rank)
 
 -- src/bare_world/arriving.rt
 pub returns-clause-follows : goal.returns-clause-follows
@@ -48,13 +48,12 @@ returns-clause-follows c =
     arrive_named c.args.self.now _ c.in-Some.source c.in-Some-rank_of.dest c.args.index
     c.args.source c.args.dest c.in_ok-frame.frame c.in_ok-arrived.arrived c.arrived_as.result
     c.in-Some.ensures.0 c.in-Some-rank_of.ensures.0 (has_then c) (there_then c)
-    (subst (λ z. AtRank z.ranks c.in-Some-rank_of.dest (λ (v : Live). c.in_ok-arrived.arrived ≡ arrival_of v.rank c.in-Some.source c.in_ok-frame.frame))
-    c.self.view_is c.in_ok-arrived.ensures.answer)
-    (subst (λ z. AtRank z.ranks c.in-Some-rank_of.dest
-    (λ (v : Live). c.arrive.new.self.ranks ≡ with_value z.ranks c.in-Some-rank_of.dest v (after_frame v.rank c.in-Some.source c.in_ok-frame.frame)))
-    c.self.view_is c.in_ok-arrived.ensures.ok)
+    (subst (λ z. AtRank z.ranks c.in-Some-rank_of.dest (λ (v : Live). (y : Option Live)
+    × Arrives c.in-Some.source c.in_ok-frame.frame c.in_ok-arrived.arrived v y × (c.arrive.new.self.ranks ≡ slice_set z.ranks c.in-Some-rank_of.dest y)))
+    c.self.view_is c.in_ok-arrived.ensures.ok.rank)
     c.arrived_as.ensures
-    (c.arrive.ensures.program ∙ ap (λ z. z.program) c.self.view_is) (c.arrive.ensures.images ∙ ap (λ z. z.images) c.self.view_is)
+    (c.in_ok-arrived.ensures.ok.program ∙ ap (λ z. z.program) c.self.view_is)
+    (c.in_ok-arrived.ensures.ok.images ∙ ap (λ z. z.images) c.self.view_is)
     (ap (λ z. z.logger) c.self.view_is) (ap (λ z. z.wires) c.self.view_is) (ap (λ z. z.lines) c.self.view_is) (ap (λ z. z.run) c.self.view_is)
 
 -- src/bare_world/arriving.rt

@@ -1,12 +1,10 @@
 use Rattle.std.proofs.Common.{◌≡◌, ℕ, Option, ◌∙◌, ap, subst, slice_set, sym}
-use Rattle.rank_node.specs.Replay.{ShowsReplay}
 use Rattle.rank_node.specs.declared.turn.Turn.{Turn}
 use Rattle.world_model.specs.World.{Live, WorldValue}
-use Rattle.world_model.specs.Seats.{AtRank, IsReplayed}
+use Rattle.world_model.specs.Seats.{AtRank, ReplaysStep}
 use Rattle.world_model.specs.Follows.{Follows, stepped}
 use Rattle.world_model.specs.declared.event.WorldEvent.TheVariants.{Step}
 use Rattle.world_model.specs.declared.reply.Reply.{Reply}
-use Rattle.world_model.proofs.Calls.Console.{Shows}
 use Rattle.world_model.proofs.Calls.Steps.{replay_some}
 use Rattle.world_model.proofs.bare_world.BareWorld.replay.Goals as goal
 
@@ -20,11 +18,9 @@ returns-clause-follows c =
     answered c.args.self.now _ c.args.rank c.in_ok-turn.turn _ c.stepped.ensures
     (replay_some c.args.self.now _ c.args.rank c.in_ok-turn.turn c.requires.stands
     (subst (λ (z : WorldValue). AtRank z.ranks c.args.rank
-    (λ (v : Live). (x : Option Live) × IsReplayed v c.in_ok-turn.turn x × (c.replay.new.self.ranks ≡ slice_set z.ranks c.args.rank x)))
-    c.self.view_is c.in_ok-turn.ensures.ok)
-    (subst (λ (z : WorldValue). AtRank z.ranks c.args.rank (λ (v : Live). ShowsReplay Shows v.rank z.lines c.replay.new.console))
-    c.self.view_is c.in_ok-turn.ensures.shown)
+    (λ (v : Live). (x : Option Live) × ReplaysStep z.lines c.replay.new.console c.in_ok-turn.turn v x × (c.replay.new.self.ranks ≡ slice_set z.ranks c.args.rank x)))
+    c.self.view_is c.in_ok-turn.ensures.ok.ok.rank)
     (ap (λ (z : WorldValue). z.run) c.self.view_is)
-    (c.in_ok-turn.ensures.program ∙ ap (λ (z : WorldValue). z.program) c.self.view_is)
-    (c.in_ok-turn.ensures.images ∙ ap (λ (z : WorldValue). z.images) c.self.view_is)
+    (c.in_ok-turn.ensures.ok.ok.program ∙ ap (λ (z : WorldValue). z.program) c.self.view_is)
+    (c.in_ok-turn.ensures.ok.ok.images ∙ ap (λ (z : WorldValue). z.images) c.self.view_is)
     (ap (λ (z : WorldValue). z.logger) c.self.view_is) (ap (λ (z : WorldValue). z.wires) c.self.view_is))

@@ -27,9 +27,9 @@ returns-clause-follows c =
     (subst (λ r. Answers c.self.inside.logger r (Fetch 0) (Events c.in-Ok.row.items) c.fetch.new.self) c.from.ensures c.in-Ok.ensures.ok))
     (subst (λ z. IsSomeAnd (slice_get z.images c.in-Some.rank) (λ image.
     c.in_ok-left.left ≡ length (left_of (begins_at z.program c.in-Some.rank (length z.ranks) image) c.in-Ok.row.items)))
-    c.self.view_is c.in_ok-left.ensures.count)
+    c.self.view_is c.in_ok-left.ensures.ok.counted)
     (subst (λ z. IsSomeAnd (slice_get z.images c.in-Some.rank) (λ image. (x : Option Live)
     × IsRestarted z.program (length z.ranks) c.in-Some.rank image c.in-Ok.row.items x × (c.restart.new.self.ranks ≡ slice_set z.ranks c.in-Some.rank x)))
-    c.self.view_is c.in_ok-left.ensures.ok)
-    (c.restart.ensures.program ∙ ap (λ z. z.program) c.self.view_is) (c.restart.ensures.images ∙ ap (λ z. z.images) c.self.view_is)
+    c.self.view_is c.in_ok-left.ensures.ok.rank)
+    (c.in_ok-left.ensures.ok.program ∙ ap (λ z. z.program) c.self.view_is) (c.in_ok-left.ensures.ok.images ∙ ap (λ z. z.images) c.self.view_is)
     (ap (λ z. z.wires) c.self.view_is) (ap (λ z. z.lines) c.self.view_is) (ap (λ z. z.run) c.self.view_is)

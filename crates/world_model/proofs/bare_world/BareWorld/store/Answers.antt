@@ -1,8 +1,7 @@
-use Rattle.std.proofs.Common.{◌≡◌, Some, sym, ap, subst, ◌∙◌, slice_get}
-use Rattle.plain_logger.specs.declared.call.Reply.TheVariants.{Length}
-use Rattle.rank_node.specs.Storing.{next_unstored, after_store, Appends}
+use Rattle.std.proofs.Common.{◌≡◌, Option, Some, sym, ap, subst, ◌∙◌, slice_get, slice_set}
+use Rattle.rank_node.specs.Storing.{next_unstored}
 use Rattle.world_model.specs.World.{Live, WorldValue}
-use Rattle.world_model.specs.Seats.{at_work, AtRank, with_value, IsAccepted, NotedAs}
+use Rattle.world_model.specs.Seats.{at_work, AtRank, IsAccepted, IsStored, NotedAs}
 use Rattle.world_model.proofs.Calls.Stores.{store_accepted, store_named}
 use Rattle.world_model.proofs.bare_world.BareWorld.store.Goals as goal
 
@@ -21,15 +20,13 @@ pub returns-clause-follows : goal.returns-clause-follows
 returns-clause-follows c =
     let both = c.self-2.view_is ∙ c.in_ok-acts.ensures.others in
     store_named c.args.self.now _ c.in-Some.rank c.args.rank c.in_ok-acts.acts c.in-Some-running.running.now
-    c.in-Some-oldest_unstored.event c.in-Ok.count c.in-Some.ensures.0
+    c.in-Some-oldest_unstored.event c.in-Ok.count c.in-Some.ensures.0 c.requires
     (subst (λ z. slice_get z.ranks c.in-Some.rank ≡ Some (at_work c.in-Some-running.running.now)) c.self.view_is c.in-Some-running.ensures.some)
     (sym c.oldest_unstored.ensures ∙ c.in-Some-oldest_unstored.is)
     (subst (λ z. NotedAs c.args.self.now.run c.in-Some.rank c.in-Some-oldest_unstored.event c.in_ok-acts.acts z)
     (sym (ap (λ (z : WorldValue). z.run) c.self-2.view_is)) c.in_ok-acts.ensures.noted)
     (subst (λ (z : WorldValue). AtRank z.ranks c.in-Some.rank
-    (λ (v : Live). Appends (next_unstored v.rank) c.in-Some.rank z.logger (Length c.in-Ok.count) c.store.new.logger))
-    both c.in-Ok.ensures.row)
-    (subst (λ (z : WorldValue). AtRank z.ranks c.in-Some.rank (λ (v : Live). c.store.new.self.ranks ≡ with_value z.ranks c.in-Some.rank v (after_store v.rank)))
-    both c.in-Ok.ensures.ok)
-    (c.in-Ok.ensures.program ∙ ap (λ (z : WorldValue). z.program) both) (c.in-Ok.ensures.images ∙ ap (λ (z : WorldValue). z.images) both)
+    (λ (v : Live). (x : Option Live) × IsStored z.logger c.store.new.logger c.in-Ok.count v x × (c.store.new.self.ranks ≡ slice_set z.ranks c.in-Some.rank x)))
+    both c.in-Ok.ensures.ok.ok.rank)
+    (c.in-Ok.ensures.ok.ok.program ∙ ap (λ (z : WorldValue). z.program) both) (c.in-Ok.ensures.ok.ok.images ∙ ap (λ (z : WorldValue). z.images) both)
     (ap (λ (z : WorldValue). z.wires) both) (ap (λ (z : WorldValue). z.lines) both)

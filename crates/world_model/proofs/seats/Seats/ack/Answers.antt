@@ -1,7 +1,8 @@
-use Rattle.std.proofs.Common.{◌≡◌, ap, ◌∙◌, slice_set}
+use Rattle.std.proofs.Common.{◌≡◌, ap}
 use Rattle.world_model.specs.World.{Live}
+use Rattle.world_model.specs.Seats.{SeatsValue, IsAcked}
 use Rattle.world_model.proofs.Calls.RankOfEvent.{on_true, on_false}
-use Rattle.world_model.proofs.Lists.OfSeats.{IsTaken, taken, of_seat, after_call, images_stay}
+use Rattle.world_model.proofs.Lists.OfSeats.{IsTaken, taken, of_seat, change_there}
 use Rattle.world_model.proofs.seats.Seats.ack.Goals as goal
 
 -- the seat is the rank's
@@ -13,13 +14,9 @@ seat c = taken c.args.self.now _ c.self.inside.seats.items c.from.result c.args.
 pub returns-clause-acked : goal.returns-clause-acked
 returns-clause-acked c =
     on_true c.ack.result
-    (λ h. after_call c.ack.new.self _ _ (seat c) (λ v is e. (e.0, is ∙ ap (λ x. slice_set c.args.self.now.ranks c.args.rank x) e.1)) h)
+    (λ h. change_there c.ack.new.self IsAcked (seat c) (ap (λ (z : SeatsValue). z.program) c.self.view_is) c.ack.ensures.others h)
     c.ack.ensures.acked
 
 -- src/seats/storing.rt
 pub returns-clause-none : goal.returns-clause-none
 returns-clause-none c = on_false c.ack.result (λ h. of_seat (λ (v : Live). v.rank.stored ≡ 0) (seat c) h) c.ack.ensures.none
-
--- src/seats/storing.rt
-pub returns-clause-images : goal.returns-clause-images
-returns-clause-images c = images_stay c.ack.new.self (seat c) c.ack.ensures.others

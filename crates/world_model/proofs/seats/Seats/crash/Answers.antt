@@ -1,5 +1,5 @@
 use Rattle.std.proofs.Common.{ap, ◌∙◌, slice_set}
-use Rattle.world_model.specs.Seats.{SeatValue}
+use Rattle.world_model.specs.Seats.{SeatValue, SeatsValue}
 use Rattle.world_model.proofs.Lists.OfSeats.{IsTaken, taken, ranks_then, same_images}
 use Rattle.world_model.proofs.seats.Seats.crash.Goals as goal
 
@@ -9,11 +9,10 @@ seat c = taken c.args.self.now _ c.self.inside.seats.items c.from.result c.args.
     c.self.view_is c.from.ensures c.requires c.index_mut.ensures.value
 
 -- src/seats/living.rt
-pub returns-clause-down : goal.returns-clause-down
-returns-clause-down c =
-    ranks_then c.crash.new.self (seat c) ∙ ap (λ (z : SeatValue). slice_set c.args.self.now.ranks c.args.rank z.live) c.crash.ensures
-
--- src/seats/living.rt
-pub returns-clause-images : goal.returns-clause-images
-returns-clause-images c =
-    same_images _ _ _ c.crash.new.self (seat c).there (ap (λ (z : SeatValue). z.image) c.crash.ensures) ∙ (seat c).all_images
+pub returns : goal.returns
+returns c =
+    record {
+      ranks = ranks_then c.crash.new.self (seat c) ∙ ap (λ (z : SeatValue). slice_set c.args.self.now.ranks c.args.rank z.live) c.crash.ensures;
+      program = ap (λ (z : SeatsValue). z.program) c.self.view_is;
+      images = same_images _ _ _ c.crash.new.self (seat c).there (ap (λ (z : SeatValue). z.image) c.crash.ensures) ∙ (seat c).all_images;
+    }

@@ -13,5 +13,5 @@ seat c = taken c.args.self.now _ c.self.inside.seats.items c.from.result c.args.
 pub returns-clause-ok : goal.returns-clause-ok
 returns-clause-ok c =
     on_ok c.image.result
-    (λ h. imaged_then c.image.new.self _ (ap (λ (z : SeatsValue). z.program) c.self.view_is) (seat c) c.self.invariant h)
+    (λ h. imaged_then c.image.new.self (ap (λ (z : SeatsValue). z.program) c.self.view_is) (seat c) c.self.invariant h)
     c.image.ensures.ok

@@ -1,6 +1,6 @@
-use Rattle.rank_node.specs.Frames.{after_passed}
-use Rattle.world_model.specs.World.{Live}
-use Rattle.world_model.proofs.Lists.OfSeats.{IsTaken, taken, with_rank_then, images_stay}
+use Rattle.std.proofs.Common.{ap}
+use Rattle.world_model.specs.Seats.{SeatsValue, HasGone}
+use Rattle.world_model.proofs.Lists.OfSeats.{IsTaken, taken, change_there}
 use Rattle.world_model.proofs.seats.Seats.passed.Goals as goal
 
 -- the seat is the rank's
@@ -9,11 +9,7 @@ seat c = taken c.args.self.now _ c.self.inside.seats.items c.from.result c.args.
     c.self.view_is c.from.ensures c.requires.rank c.index_mut.ensures.value
 
 -- src/seats/framing.rt
-pub returns-clause-passed : goal.returns-clause-passed
-returns-clause-passed c =
-    with_rank_then c.passed.new.self (λ (v : Live). after_passed v.rank c.args.dest) (seat c) c.passed.ensures.passed
-
--- src/seats/framing.rt
-pub returns-clause-images : goal.returns-clause-images
-returns-clause-images c =
-    images_stay c.passed.new.self (seat c) c.passed.ensures.others
+pub returns : goal.returns
+returns c =
+    change_there c.passed.new.self (HasGone c.args.dest) (seat c) (ap (λ (z : SeatsValue). z.program) c.self.view_is) c.passed.ensures.others
+    c.passed.ensures.passed

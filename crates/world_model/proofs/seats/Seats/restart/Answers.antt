@@ -1,7 +1,6 @@
 use Rattle.std.proofs.Common.{ap}
 use Rattle.world_model.specs.Seats.{SeatsValue}
-use Rattle.world_model.proofs.Calls.RankOfEvent.{on_ok}
-use Rattle.world_model.proofs.Lists.OfSeats.{IsTaken, taken, restarted_then, uncut_there, images_stay}
+use Rattle.world_model.proofs.Lists.OfSeats.{IsTaken, taken, restart_there, uncut_there}
 use Rattle.world_model.proofs.seats.Seats.restart.Goals as goal
 
 -- the seat is the rank's
@@ -19,11 +18,5 @@ restart-requires-clause-uncut c =
 -- src/seats/living.rt
 pub returns-clause-ok : goal.returns-clause-ok
 returns-clause-ok c =
-    on_ok c.restart.result
-    (λ h. restarted_then c.restart.new.self _ c.args.row.items (ap (λ (z : SeatsValue). z.program) c.self.view_is) (seat c) c.self.invariant h)
-    c.restart.ensures.ok
-
--- src/seats/living.rt
-pub returns-clause-images : goal.returns-clause-images
-returns-clause-images c =
-    images_stay c.restart.new.self (seat c) c.restart.ensures.others
+    restart_there c.restart.result c.restart.new.self c.args.row.items (seat c) (ap (λ (z : SeatsValue). z.program) c.self.view_is) c.self.invariant
+    c.restart.ensures.others c.restart.ensures.count c.restart.ensures.ok

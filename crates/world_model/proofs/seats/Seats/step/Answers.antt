@@ -1,17 +1,22 @@
-use Rattle.world_model.proofs.Lists.OfSeats.{IsTaken, taken, after_call, images_stay}
+use Rattle.std.proofs.Common.{◌≡◌, true}
+use Rattle.rank_node.specs.Steps.{takes_memory}
+use Rattle.world_model.specs.World.{Live}
+use Rattle.world_model.specs.Seats.{MakesStep}
+use Rattle.world_model.proofs.Lists.OfSeats.{IsTaken, taken, all_stay, asks_there, both_ok, call_there}
 use Rattle.world_model.proofs.seats.Seats.step.Goals as goal
 
 -- the seat is the rank's
-seat : (c : goal.In_ok-turn) → IsTaken c.args.self.now c.self.inside.seats.items c.from.result c.args.rank c.index_mut.result.now
+seat : (c : goal.After-self-1) → IsTaken c.args.self.now c.self.inside.seats.items c.from.result c.args.rank c.index_mut.result.now
 seat c = taken c.args.self.now _ c.self.inside.seats.items c.from.result c.args.rank c.index_mut.result.now
     c.self.view_is c.from.ensures c.requires.rank c.index_mut.ensures.value
 
 -- src/seats/stepping.rt
-pub returns-clause-ok : goal.returns-clause-ok
-returns-clause-ok c =
-    after_call c.step.new.self _ _ (seat c) (λ v is e. (c.step.new.self.live, e, is)) c.in_ok-turn.ensures.ok
+pub invariant_of-self : goal.invariant_of-self
+invariant_of-self c = all_stay c.step.new.self (seat c) c.step.ensures.others c.self.invariant
 
 -- src/seats/stepping.rt
-pub returns-clause-images : goal.returns-clause-images
-returns-clause-images c =
-    images_stay c.step.new.self (seat c) c.step.ensures.others
+pub returns-clause-ok : goal.returns-clause-ok
+returns-clause-ok c =
+    call_there c.step.result c.step.new.self (MakesStep c.args.console.now c.step.new.console) (λ (v : Live). takes_memory v.rank ≡ true)
+    (seat c) c.self.view_is c.step.ensures.others (both_ok c.step.result _ _ _ c.step.ensures.turn c.step.ensures.ok)
+    (asks_there c.step.result _ (seat c) c.step.ensures.memory) c.step.ensures.err
