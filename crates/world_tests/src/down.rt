@@ -1,10 +1,17 @@
 //! Ways on from worlds whose ranks are down.
+ghost use Rattle.std.specs.Prelude.{◌≤◌};
+ghost use Rattle.metered.specs.Limits.{most_ranks};
+
+use crate::same::same;
 use crate::scenes::ONE_MESSAGE;
+use crate::views::play as play_text;
 use crate::ways::{SQUARES, leads_on};
-use events_text::{parse_events, world_text};
+use events_text::world_text;
 use metered::Heap;
+use metered::limits::MOST_RANKS;
 use rank_language::Program;
 use std::alloc::AllocError;
+use std::process::Abort;
 use std::test::*;
 use world_model::{Reply, View, World, WorldEvent};
 
@@ -133,59 +140,82 @@ fn shown(live: bool, clock: u32, acts: usize) -> View {
     }
 }
 
+/// What comes of a new world of a message once these events are played.
+fn one_down(alloc: Heap, program: &Program) -> Result<Option<Seen>, AllocError> {
+    let mut world = World::new(alloc, program, 2)?;
+    let seen = if play_text(alloc, &mut world, ONE_DOWN) {
+        lead_on(alloc, &mut world, 1)
+    } else {
+        Err(AllocError)
+    };
+    world.close();
+    seen
+}
+
 #[test]
 fn one_rank_is_down(rt: HostRuntime) -> Result<(), Fail> {
     let alloc = rt.alloc();
     let program = Program::parse(alloc, ONE_MESSAGE)?;
-    let Ok(events) = parse_events(alloc, ONE_DOWN) else {
-        return Err(AllocError.into());
-    };
-    let mut world = World::new(alloc, &program, 2)?;
-    let played = world.run(alloc, events.as_slice()).is_ok();
-    let seen = lead_on(alloc, &mut world, 1);
-    world.close();
-    let Some(seen) = seen? else {
-        return Err(AllocError.into());
-    };
-    assert!(rt; played && seen.good, "a way on");
-    assert_eq!(rt; seen.before, shown(false, 0, 1), "before it");
+    let seen = one_down(alloc, &program)?.ok_or(AllocError)?;
+    assert!(rt; seen.good, "a way on");
+    same(&rt, "before it", &seen.before, &shown(false, 0, 1));
     assert!(rt; seen.after.clock >= 1, "the clock after it");
+    Ok(())
+}
+
+/// A program, on how many ranks it runs, those below which take images, the acts of the last rank, and all lines.
+type Down = (&'static [u8], u8, u32, u32, &'static str);
+
+const ALL_DOWN: [Down; 2] = [
+    (SQUARES, 2, 0, 9, "0> 9\n1> 3\n"),
+    (
+        AROUND,
+        8,
+        7,
+        9,
+        "0> 3\n1> 3\n2> 3\n3> 3\n4> 3\n5> 3\n6> 3\n7> 3\n",
+    ),
+];
+
+/// What comes of a new world that is played and in which all ranks crash.
+fn all_down(
+    alloc: Heap,
+    program: &Program,
+    ranks: u8,
+    imaged: u32,
+) -> Result<Option<Seen>, AllocError>
+    requires some { 1 ≤ ranks }
+    requires few { ranks ≤ most_ranks }
+{
+    let mut world = World::new(alloc, program, ranks)?;
+    let seen = lead_on_down(alloc, &mut world, imaged, ranks - 1);
+    world.close();
+    seen
+}
+
+/// That is what it should be.
+fn is_led_on(rt: &impl Abort, alloc: Heap, down: Down) -> Result<(), Fail> {
+    let (text, ranks, imaged, acts, lines) = down;
+    assert!(rt;
+        1 <= ranks && ranks <= MOST_RANKS as u8,
+        "a number of ranks"
+    );
+    let program = Program::parse(alloc, text)?;
+    let seen = all_down(alloc, &program, ranks, imaged)?.ok_or(AllocError)?;
+    assert!(rt; seen.good, "a way on of {ranks} ranks");
+    let case = format_args!("before it, {ranks} ranks");
+    same(rt, case, &seen.before, &shown(false, 0, acts as usize));
+    let case = format_args!("after it, {ranks} ranks");
+    same(rt, case, &seen.after, &shown(true, acts, acts as usize));
+    let case = format_args!("the lines of {ranks} ranks");
+    same(rt, case, &seen.lines.as_str(), &lines);
     Ok(())
 }
 
 #[test]
 fn all_ranks_are_down(rt: HostRuntime) -> Result<(), Fail> {
-    let alloc = rt.alloc();
-    // the ranks, those below which take images, the acts of the last rank, and all lines
-    for (text, ranks, imaged, acts, lines) in [
-        (SQUARES, 2, 0, 9, "0> 9\n1> 3\n"),
-        (
-            AROUND,
-            8,
-            7,
-            9,
-            "0> 3\n1> 3\n2> 3\n3> 3\n4> 3\n5> 3\n6> 3\n7> 3\n",
-        ),
-    ] {
-        let program = Program::parse(alloc, text)?;
-        let mut world = World::new(alloc, &program, ranks)?;
-        let seen = lead_on_down(alloc, &mut world, imaged, ranks - 1);
-        world.close();
-        let Some(seen) = seen? else {
-            return Err(AllocError.into());
-        };
-        assert!(rt; seen.good, "a way on of {ranks} ranks");
-        assert_eq!(rt;
-            seen.before,
-            shown(false, 0, acts),
-            "before it, {ranks} ranks"
-        );
-        assert_eq!(rt;
-            seen.after,
-            shown(true, acts as u32, acts),
-            "after it, {ranks} ranks"
-        );
-        assert_eq!(rt; seen.lines.as_str(), lines, "the lines of {ranks} ranks");
+    for down in ALL_DOWN {
+        is_led_on(&rt, rt.alloc(), down)?;
     }
     Ok(())
 }

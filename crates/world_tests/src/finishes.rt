@@ -13,6 +13,7 @@ use rank_language::Program;
 use rank_machine::Want;
 use rank_node::Phase;
 use std::alloc::AllocError;
+use std::process::Abort;
 use std::test::*;
 use world_model::{Finish, FinishEnd, Reply, World, WorldEvent};
 
@@ -181,13 +182,28 @@ fn a_thousand_worlds(rt: HostRuntime) -> Result<(), Fail> {
             "a number of ranks"
         );
         let program = Program::parse(alloc, text)?;
-        let found = explore(alloc, &program, ranks, LIMITS, &mut Unwatched)?;
-        assert!(rt; found.complete, "a search");
-        for list in 0..100 {
-            let events = drawn_events(alloc, &mut draw, ranks)?;
-            let good = ends_after(alloc, &program, ranks, events.as_slice(), &found)?;
-            assert!(rt; good, "list {list}");
-        }
+        end_by_draw(&rt, alloc, &program, ranks, &mut draw)?;
+    }
+    Ok(())
+}
+
+/// A hundred worlds of a program, which events by the draw lead on, end well.
+fn end_by_draw(
+    rt: &impl Abort,
+    alloc: Heap,
+    program: &Program,
+    ranks: u8,
+    draw: &mut u64,
+) -> Result<(), AllocError>
+    requires some { 1 ≤ ranks }
+    requires few { ranks ≤ most_ranks }
+{
+    let found = explore(alloc, program, ranks, LIMITS, &mut Unwatched)?;
+    assert!(rt; found.complete, "a search");
+    for list in 0..100 {
+        let events = drawn_events(alloc, draw, ranks)?;
+        let good = ends_after(alloc, program, ranks, events.as_slice(), &found)?;
+        assert!(rt; good, "list {list}");
     }
     Ok(())
 }

@@ -4,6 +4,7 @@ ghost use Rattle.std.specs.Prelude.{◌≤◌};
 ghost use Rattle.metered.specs.Limits.{most_ranks};
 
 use crate::finishes::{LIMITS, ends_after};
+use crate::same::same;
 use crate::ways::SQUARES;
 use explore::{Explored, Unwatched, explore};
 use metered::Heap;
@@ -235,18 +236,32 @@ fn add_second(
 
 /// How many worlds of a rank end well, which all do.
 fn count_of(rt: &impl Abort, alloc: Heap, killed: Killed) -> Result<usize, Fail> {
-    let (text, ranks, rank, ..) = killed;
+    let (text, ranks, ..) = killed;
     assert!(rt;
         1 <= ranks && ranks <= MOST_RANKS as u8,
         "a number of ranks"
     );
     let program = Program::parse(alloc, text)?;
-    let found = explore(alloc, &program, ranks, LIMITS, &mut Unwatched)?;
+    Ok(count_by(rt, alloc, &program, ranks, killed)?)
+}
+
+/// The same of this program on so many ranks.
+fn count_by(
+    rt: &impl Abort,
+    alloc: Heap,
+    program: &Program,
+    ranks: u8,
+    killed: Killed,
+) -> Result<usize, AllocError>
+    requires some { 1 ≤ ranks }
+    requires few { ranks ≤ most_ranks }
+{
+    let found = explore(alloc, program, ranks, LIMITS, &mut Unwatched)?;
     assert!(rt; found.complete, "a search");
     let all = lines_of(alloc, killed)?;
     for (index, lines) in all.iter().enumerate() {
-        let good = ends_well(alloc, &program, ranks, lines.as_slice(), &found)?;
-        assert!(rt; good, "world {index} of rank {rank} of {ranks}");
+        let good = ends_well(alloc, program, ranks, lines.as_slice(), &found)?;
+        assert!(rt; good, "world {index} of rank {} of {ranks}", killed.2);
     }
     Ok(all.len())
 }
@@ -257,6 +272,6 @@ fn after_each_kill(rt: HostRuntime) -> Result<(), Fail> {
     for killed in RANKS {
         count = count.saturating_add(count_of(&rt, rt.alloc(), killed)?);
     }
-    assert_eq!(rt; count, 323, "worlds");
+    same(&rt, "worlds", &count, &323);
     Ok(())
 }

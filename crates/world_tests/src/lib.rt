@@ -23,6 +23,8 @@ mod kills;
 #[cfg(test)]
 mod misses;
 #[cfg(test)]
+mod same;
+#[cfg(test)]
 mod scenes;
 #[cfg(test)]
 mod simulations;

@@ -1,9 +1,10 @@
 //! Whole texts of worlds whose ranks poll: misses in succession are one event, as far as nothing parts them.
+use crate::same::same;
 use crate::scenes::{Row, compare_world};
-use crate::views::{shown, view_of};
-use events_text::parse_events;
+use crate::views::{play, shown, view_of};
+use metered::Heap;
 use rank_language::Program;
-use std::alloc::AllocError;
+use std::process::Abort;
 use std::test::*;
 use world_model::World;
 
@@ -201,21 +202,22 @@ step 0
 fn a_rank_half_through_a_run(rt: HostRuntime) -> Result<(), Fail> {
     let alloc = rt.alloc();
     let program = Program::parse(alloc, THREE_PROBES)?;
-    let Ok(events) = parse_events(alloc, HALF_A_RUN) else {
-        return Err(AllocError.into());
-    };
     let mut world = World::new(alloc, &program, 1)?;
-    let played = world.run(alloc, events.as_slice()).is_ok();
-    let halfway = view_of(&world, 0);
-    let way = world.catch_up();
-    let led = match &way {
+    goes_through(&rt, alloc, &mut world);
+    world.close();
+    Ok(())
+}
+
+/// What a new world shows of its rank then.
+fn goes_through(rt: &impl Abort, alloc: Heap, world: &mut World<'_>) {
+    let played = play(alloc, world, HALF_A_RUN);
+    let halfway = view_of(world, 0);
+    same(rt, "half through", &halfway, &shown(true, 1, 2, 3));
+    let led = match world.catch_up() {
         Ok(way) => world.run(alloc, way.as_slice()).is_ok(),
         Err(_) => false,
     };
-    let after = view_of(&world, 0);
-    world.close();
     assert!(rt; played && led, "memory");
-    assert_eq!(rt; halfway, shown(true, 1, 2, 3), "half through the run");
-    assert_eq!(rt; after, shown(true, 0, 3, 3), "after the way on");
-    Ok(())
+    let after = view_of(world, 0);
+    same(rt, "after the way on", &after, &shown(true, 0, 3, 3));
 }

@@ -2,6 +2,7 @@
 ghost use Rattle.std.specs.Prelude.{◌≤◌};
 ghost use Rattle.metered.specs.Limits.{most_ranks};
 
+use crate::same::same;
 use crash_free::{Choice, NotAllowed, Sim};
 use events_text::{parse_events, run_text};
 use metered::Heap;
@@ -139,7 +140,8 @@ pub fn make(
     want: Result<(), NotAllowed>,
 ) {
     assert!(rt; rank < sim.ranks());
-    assert_eq!(rt; sim.act(rank, choice), want, "{rank}: {choice:?}");
+    let case = format_args!("{rank}: {choice:?}");
+    same(rt, case, &sim.act(rank, choice), &want);
 }
 
 /// A rank goes on so many times, where there is nothing to choose.
@@ -159,13 +161,25 @@ pub fn world_shown(
     requires { ranks ≤ most_ranks }
 {
     let program = Program::parse(alloc, program)?;
+    Ok(shown_by(alloc, &program, ranks, events)?)
+}
+
+/// The same of this program.
+fn shown_by(
+    alloc: Heap,
+    program: &Program,
+    ranks: u8,
+    events: &[u8],
+) -> Result<String<Heap>, AllocError>
+    requires { ranks ≤ most_ranks }
+{
     let Ok(events) = parse_events(alloc, events) else {
-        return Err(AllocError.into());
+        return Err(AllocError);
     };
-    let mut world = World::new(alloc, &program, ranks)?;
+    let mut world = World::new(alloc, program, ranks)?;
     let text = run_text(alloc, &mut world, events.as_slice());
     world.close();
-    Ok(text?)
+    text
 }
 
 /// An event of a world, and its reply.
@@ -184,9 +198,10 @@ pub fn compare_world(
     requires { ranks ≤ most_ranks }
 {
     let events = events_of(alloc, table)?;
-    let want = replies_of(alloc, table, lines)?;
     let text = world_shown(alloc, program, ranks, events.as_bytes())?;
-    assert_eq!(rt; text.as_str(), want.as_str(), "a world of {ranks} ranks");
+    let want = replies_of(alloc, table, lines)?;
+    let case = format_args!("a world of {ranks} ranks");
+    same(rt, case, &text.as_str(), &want.as_str());
     Ok(())
 }
 

@@ -2,6 +2,7 @@
 ghost use Rattle.std.specs.Prelude.{◌≤◌};
 ghost use Rattle.metered.specs.Limits.{most_ranks};
 
+use crate::same::same;
 use crate::scenes::Pick::{Miss, Next, Take};
 use crate::scenes::{
     LONG_MESSAGE, MANY_MESSAGES, Move, ONE_MESSAGE, PROBES, RING, THREE_MESSAGES, go_on, make,
@@ -10,6 +11,7 @@ use crate::scenes::{
 use crash_free::{Choice, NotAllowed, Sim};
 use metered::Heap;
 use rank_language::Program;
+use std::alloc::AllocError;
 use std::process::Abort;
 use std::test::*;
 
@@ -60,11 +62,16 @@ fn compare_refusals(
     rt: &impl Abort,
     alloc: Heap,
     rows: &[(NotAllowed, u8, &str)],
-) -> Result<(), Fail> {
+) -> Result<(), AllocError> {
     for row in rows {
         let (refusal, number, text) = *row;
         let shown = format!(in alloc; "{refusal}")?;
-        assert_eq!(rt; (refusal.number(), shown.as_str()), (number, text));
+        same(
+            rt,
+            "number and text",
+            &(refusal.number(), shown.as_str()),
+            &(number, text),
+        );
     }
     Ok(())
 }
@@ -72,7 +79,17 @@ fn compare_refusals(
 /// Plays moves of two ranks of this program.
 fn play_two(rt: &impl Abort, alloc: Heap, text: &[u8], moves: &[Move]) -> Result<(), Fail> {
     let program = Program::parse(alloc, text)?;
-    let mut sim = Sim::new(alloc, &program, 2)?;
+    Ok(play_new(rt, alloc, &program, moves)?)
+}
+
+/// The same of this program.
+fn play_new(
+    rt: &impl Abort,
+    alloc: Heap,
+    program: &Program,
+    moves: &[Move],
+) -> Result<(), AllocError> {
+    let mut sim = Sim::new(alloc, program, 2)?;
     play(rt, &mut sim, moves);
     Ok(())
 }
@@ -80,7 +97,7 @@ fn play_two(rt: &impl Abort, alloc: Heap, text: &[u8], moves: &[Move]) -> Result
 #[test]
 fn each_refusal(rt: HostRuntime) -> Result<(), Fail> {
     play_two(&rt, rt.alloc(), ONE_MESSAGE, &MOVES)?;
-    compare_refusals(&rt, rt.alloc(), &REFUSALS)
+    Ok(compare_refusals(&rt, rt.alloc(), &REFUSALS)?)
 }
 
 /// A probe is shown what a receive could take, and that may be taken still. One that waits can't miss, and one that doesn't wait
@@ -199,7 +216,21 @@ fn take_three(
     requires few { ranks ≤ most_ranks }
 {
     let program = Program::parse(alloc, THREE_MESSAGES)?;
-    let mut sim = Sim::new(alloc, &program, ranks)?;
+    Ok(take_each(rt, alloc, &program, ranks, takes)?)
+}
+
+/// The same of this program.
+fn take_each(
+    rt: &impl Abort,
+    alloc: Heap,
+    program: &Program,
+    ranks: u8,
+    takes: &[(u64, Result<(), NotAllowed>)],
+) -> Result<(), AllocError>
+    requires some { 1 ≤ ranks }
+    requires few { ranks ≤ most_ranks }
+{
+    let mut sim = Sim::new(alloc, program, ranks)?;
     go_on(rt, &mut sim, 0, 5);
     go_on(rt, &mut sim, 1, 2);
     for one in takes {
@@ -252,7 +283,7 @@ fn compare_run(
     want: Result<(), (usize, NotAllowed)>,
 ) {
     assert!(rt; sim.are_of_ranks(choices), "each choice is of a rank");
-    assert_eq!(rt; sim.run(choices), want);
+    same(rt, "where it stops, and why", &sim.run(choices), &want);
 }
 
 /// Each rank but the first takes from the one before it and sends on.
@@ -264,18 +295,23 @@ fn hand_on(rt: &impl Abort, sim: &mut Sim) {
     }
 }
 
-#[test]
-fn sixteen_ranks_at_once(rt: HostRuntime) -> Result<(), Fail> {
-    let program = Program::parse(rt.alloc(), RING)?;
-    let mut sim = Sim::new(rt.alloc(), &program, 16)?;
-    compare_run(&rt, &mut sim, &FIRST, Ok(()));
-    hand_on(&rt, &mut sim);
-    compare_run(&rt, &mut sim, &BACK, Err((4, NotAllowed::Ended)));
-    play(&rt, &mut sim, &LAST);
+/// The ring goes around its sixteen ranks.
+fn go_around(rt: &impl Abort, sim: &mut Sim) {
+    compare_run(rt, sim, &FIRST, Ok(()));
+    hand_on(rt, sim);
+    compare_run(rt, sim, &BACK, Err((4, NotAllowed::Ended)));
+    play(rt, sim, &LAST);
     assert!(rt;
         !sim.are_of_ranks(&[(0, NEXT), (16, NEXT)]),
         "there is no rank 16"
     );
+}
+
+#[test]
+fn sixteen_ranks_at_once(rt: HostRuntime) -> Result<(), Fail> {
+    let program = Program::parse(rt.alloc(), RING)?;
+    let mut sim = Sim::new(rt.alloc(), &program, 16)?;
+    go_around(&rt, &mut sim);
     Ok(())
 }
 

@@ -1,4 +1,5 @@
 //! Texts of events, and of replies.
+use crate::same::same;
 use events_text::{EventsFault, EventsFaultKind, parse_events, world_text};
 use metered::Heap;
 use std::alloc::AllocError;
@@ -49,7 +50,7 @@ const EVENTS: [(&str, WorldEvent); 9] = [
 fn have_events(rt: &impl Abort, alloc: Heap, rows: &[(&str, WorldEvent)]) {
     for row in rows {
         let (text, want) = *row;
-        assert_eq!(rt; only_event(alloc, text), Some(want), "at {text}");
+        same(rt, text, &only_event(alloc, text), &Some(want));
     }
 }
 
@@ -78,7 +79,7 @@ const TEXTS: [(&str, (usize, usize, u8)); 17] = [
 fn have_outcomes(rt: &impl Abort, alloc: Heap, rows: &[(&str, (usize, usize, u8))]) {
     for row in rows {
         let (text, want) = *row;
-        assert_eq!(rt; outcome(alloc, text.as_bytes()), want, "at {text}");
+        same(rt, text, &outcome(alloc, text.as_bytes()), &want);
     }
 }
 
@@ -112,18 +113,19 @@ fn have_ends(
     rt: &impl Abort,
     alloc: Heap,
     rows: &[(&str, &str, (usize, usize, u8))],
-) -> Result<(), Fail> {
+) -> Result<(), AllocError> {
     for row in rows {
         let (line, end, want) = *row;
         let text = long_text(alloc, 100000, line, end)?;
-        assert_eq!(rt; outcome(alloc, text.as_slice()), want, "with {end}");
+        let found = outcome(alloc, text.as_slice());
+        same(rt, format_args!("with {end}"), &found, &want);
     }
     Ok(())
 }
 
 #[test]
 fn long_texts(rt: HostRuntime) -> Result<(), Fail> {
-    have_ends(&rt, rt.alloc(), &LONG_TEXTS)
+    Ok(have_ends(&rt, rt.alloc(), &LONG_TEXTS)?)
 }
 
 /// Each reply.
@@ -179,9 +181,9 @@ refused
 #[test]
 fn replies_and_faults(rt: HostRuntime) -> Result<(), Fail> {
     let text = world_text(rt.alloc(), &REPLIES, 1, &[])?;
-    assert_eq!(rt; text.as_str(), OF_REPLIES, "each reply");
+    same(&rt, "each reply", &text.as_str(), &OF_REPLIES);
     let (line, limit) = (EventsFaultKind::BadLine, EventsFaultKind::Limit);
     let text = format!(in rt.alloc(); "{line} {limit}")?;
-    assert_eq!(rt; text.as_str(), "BadLine Limit");
+    same(&rt, "kinds of faults", &text.as_str(), &"BadLine Limit");
     Ok(())
 }

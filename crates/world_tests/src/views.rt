@@ -1,8 +1,10 @@
 //! What a world shows of its ranks: before a crash, while the rank is down, and as it replays.
+use crate::same::same;
 use crate::scenes::ONE_MESSAGE;
 use events_text::parse_events;
+use metered::Heap;
 use rank_language::Program;
-use std::alloc::AllocError;
+use std::process::Abort;
 use std::test::*;
 use world_model::{View, World, WorldEvent};
 
@@ -24,32 +26,39 @@ step 1
 fn what_a_world_shows(rt: HostRuntime) -> Result<(), Fail> {
     let alloc = rt.alloc();
     let program = Program::parse(alloc, ONE_MESSAGE)?;
-    let Ok(events) = parse_events(alloc, BEFORE) else {
-        return Err(AllocError.into());
-    };
     let mut world = World::new(alloc, &program, 2)?;
-    let new = view_of(&world, 0);
-    let played = world.run(alloc, events.as_slice()).is_ok();
-    let sender = view_of(&world, 0);
-    let works = view_of(&world, 1);
-    let crashed = world.apply(WorldEvent::Crash { rank: 1 });
-    let down = view_of(&world, 1);
-    let restarted = world.apply(WorldEvent::Restart { rank: 1 });
-    let replays = view_of(&world, 1);
-    let acts = ranks_of_acts(&world);
+    shows_each(&rt, alloc, &mut world);
     world.close();
-    assert_eq!(rt; new, shown(true, 0, 0, 0), "a new rank");
-    assert!(rt; played && crashed.is_ok() && restarted.is_ok(), "memory");
-    assert_eq!(rt; sender, shown(true, 0, 1, 1), "the sender");
-    assert_eq!(rt; works, shown(true, 0, 2, 1), "a rank whose line waits");
-    assert_eq!(rt; down, shown(false, 0, 0, 1), "a rank that is down");
-    assert_eq!(rt; replays, shown(true, 1, 0, 1), "a rank that replays");
-    assert_eq!(rt;
-        acts,
-        (2, Some(0), Some(1)),
-        "the acts of its run, which no crash takes back"
-    );
     Ok(())
+}
+
+/// What a new world shows then.
+fn shows_each(rt: &impl Abort, alloc: Heap, world: &mut World<'_>) {
+    let new = view_of(world, 0);
+    same(rt, "a new rank", &new, &shown(true, 0, 0, 0));
+    let played = play(alloc, world, BEFORE);
+    assert!(rt; played, "memory");
+    let sender = view_of(world, 0);
+    same(rt, "the sender", &sender, &shown(true, 0, 1, 1));
+    let works = view_of(world, 1);
+    same(rt, "a rank whose line waits", &works, &shown(true, 0, 2, 1));
+    let crashed = world.apply(WorldEvent::Crash { rank: 1 });
+    let down = view_of(world, 1);
+    same(rt, "a rank that is down", &down, &shown(false, 0, 0, 1));
+    let restarted = world.apply(WorldEvent::Restart { rank: 1 });
+    let replays = view_of(world, 1);
+    same(rt, "a rank that replays", &replays, &shown(true, 1, 0, 1));
+    assert!(rt; crashed.is_ok() && restarted.is_ok(), "memory");
+    let case = "the acts of its run, which no crash takes back";
+    same(rt, case, &ranks_of_acts(world), &(2, Some(0), Some(1)));
+}
+
+/// Plays these events, and says whether there was memory.
+pub fn play(alloc: Heap, world: &mut World<'_>, events: &[u8]) -> bool {
+    match parse_events(alloc, events) {
+        Ok(events) => world.run(alloc, events.as_slice()).is_ok(),
+        Err(_) => false,
+    }
 }
 
 // How many acts the run of a world has, and the ranks of the first and of the last.

@@ -1,4 +1,5 @@
 //! Whole texts of worlds: each event with its reply, and then the lines.
+use crate::same::same;
 use crate::scenes::{CHAIN, LONG_MESSAGE, MANY_MESSAGES, RING, Row, compare_world};
 use metered::Heap;
 use rank_language::Program;
@@ -220,19 +221,25 @@ fn push_steps(events: &mut Vec<WorldEvent, Heap>, rank: u32) -> Result<(), Alloc
 /// The replies to these events of two ranks of this program.
 fn replies_of(alloc: Heap, text: &[u8], events: &[WorldEvent]) -> Result<Vec<Reply, Heap>, Fail> {
     let program = Program::parse(alloc, text)?;
-    let mut world = World::new(alloc, &program, 2)?;
+    Ok(replies_by(alloc, &program, events)?)
+}
+
+/// The same of this program.
+fn replies_by(
+    alloc: Heap,
+    program: &Program,
+    events: &[WorldEvent],
+) -> Result<Vec<Reply, Heap>, AllocError> {
+    let mut world = World::new(alloc, program, 2)?;
     let outcome = world.run(alloc, events);
     world.close();
-    match outcome {
-        Ok(replies) => Ok(replies),
-        Err(_) => Err(AllocError.into()),
-    }
+    outcome.map_err(|_| AllocError)
 }
 
 /// Each of these is what the long run wants.
 fn compare_replies(rt: &impl Abort, replies: &[Reply]) {
     for (place, reply) in replies.iter().enumerate() {
-        assert_eq!(rt; *reply, wanted(place), "event {place}");
+        same(rt, format_args!("event {place}"), reply, &wanted(place));
     }
 }
 
@@ -242,7 +249,7 @@ fn compare_replies(rt: &impl Abort, replies: &[Reply]) {
 fn a_long_run(rt: HostRuntime) -> Result<(), Fail> {
     let events = many_events(rt.alloc(), 4097)?;
     let replies = replies_of(rt.alloc(), MANY_MESSAGES, events.as_slice())?;
-    assert_eq!(rt; replies.len(), 57362, "one reply for each event");
+    same(&rt, "one reply for each event", &replies.len(), &57362);
     compare_replies(&rt, replies.as_slice());
     Ok(())
 }

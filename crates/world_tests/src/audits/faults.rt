@@ -1,5 +1,6 @@
 //! The numbers and texts of faults.
 
+use crate::same::same;
 use std::test::*;
 use world_model::AuditFault;
 
@@ -25,7 +26,12 @@ const FAULTS: [(AuditFault, u8, &str); 6] = [
 fn each_fault(rt: HostRuntime) -> Result<(), Fail> {
     for (fault, number, text) in FAULTS {
         let shown = format!(in rt.alloc(); "{fault}")?;
-        assert_eq!(rt; (fault.number(), shown.as_str()), (number, text));
+        same(
+            &rt,
+            "number and text",
+            &(fault.number(), shown.as_str()),
+            &(number, text),
+        );
     }
     Ok(())
 }

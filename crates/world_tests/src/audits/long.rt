@@ -2,15 +2,17 @@
 
 use crate::audits::Stored::Took;
 use crate::audits::{answer, compare, event_of};
+use crate::same::same;
 use metered::Heap;
 use ports::Line;
+use std::alloc::AllocError;
 use std::process::Abort;
 use std::test::*;
 use world_model::{End, Outcome};
 
 /// Rank 0 sends so many numbers to rank 1, which prints each.
-fn stream(alloc: Heap, count: u32) -> Result<String<Heap>, Fail> {
-    Ok(format!(in alloc;
+fn stream(alloc: Heap, count: u32) -> Result<String<Heap>, AllocError> {
+    format!(in alloc;
         "var i
 var x
 while i < {count}
@@ -23,11 +25,11 @@ print x
 end
 end
 "
-    )?)
+    )
 }
 
 /// What `stream` comes to.
-fn streamed(rt: &impl Abort, alloc: Heap, count: u32) -> Result<Outcome, Fail> {
+fn streamed(rt: &impl Abort, alloc: Heap, count: u32) -> Result<Outcome, AllocError> {
     assert!(rt; count <= 100_000);
     let mut row = Vec::new(alloc);
     let mut lines = Vec::new(alloc);
@@ -49,21 +51,33 @@ fn streamed(rt: &impl Abort, alloc: Heap, count: u32) -> Result<Outcome, Fail> {
     })
 }
 
+/// What is answered to a stream of so many numbers.
+fn answer_to_stream(
+    rt: &impl Abort,
+    alloc: Heap,
+    text: &[u8],
+    count: u32,
+    steps: u32,
+) -> Result<u8, Fail> {
+    let outcome = streamed(rt, alloc, count)?;
+    answer(alloc, text, 2, &outcome, steps)
+}
+
 #[test]
 fn a_stream(rt: HostRuntime) -> Result<(), Fail> {
     let alloc = rt.alloc();
     let text = stream(alloc, 300)?;
     for (count, steps, want) in [(300u32, 10_000u32, 0u8), (300, 1000, 5), (299, 10_000, 4)] {
-        let outcome = streamed(&rt, alloc, count)?;
-        let given = answer(alloc, text.as_bytes(), 2, &outcome, steps)?;
-        assert_eq!(rt; given, want, "{count} of 300 in {steps} steps");
+        let given = answer_to_stream(&rt, alloc, text.as_bytes(), count, steps)?;
+        let case = format_args!("{count} of 300 in {steps} steps");
+        same(&rt, case, &given, &want);
     }
     Ok(())
 }
 
 /// Rank 0 sends a number to rank 1 and gets it back, so many times.
-fn round_trips(alloc: Heap, count: u32) -> Result<String<Heap>, Fail> {
-    Ok(format!(in alloc;
+fn round_trips(alloc: Heap, count: u32) -> Result<String<Heap>, AllocError> {
+    format!(in alloc;
         "var i
 var x
 while i < {count}
@@ -77,11 +91,11 @@ send 0, 7, x
 end
 end
 "
-    )?)
+    )
 }
 
 /// What `round_trips` comes to: each rank's sends are its odd or its even acts.
-fn tripped(rt: &impl Abort, alloc: Heap, count: u32) -> Result<Outcome, Fail> {
+fn tripped(rt: &impl Abort, alloc: Heap, count: u32) -> Result<Outcome, AllocError> {
     assert!(rt; count <= 100_000);
     let mut of_rank_0 = Vec::new(alloc);
     let mut of_rank_1 = Vec::new(alloc);
@@ -99,15 +113,20 @@ fn tripped(rt: &impl Abort, alloc: Heap, count: u32) -> Result<Outcome, Fail> {
     })
 }
 
+/// What is answered to so many round trips.
+fn answer_to_trips(rt: &impl Abort, alloc: Heap, text: &[u8], count: u32) -> Result<u8, Fail> {
+    let outcome = tripped(rt, alloc, count)?;
+    answer(alloc, text, 2, &outcome, 100_000)
+}
+
 /// Neither rank can do more than one trip before the other goes on.
 #[test]
 fn one_trip_after_another(rt: HostRuntime) -> Result<(), Fail> {
     let alloc = rt.alloc();
     let text = round_trips(alloc, 1001)?;
     for (count, want) in [(1001u32, 0u8), (1000, 4)] {
-        let outcome = tripped(&rt, alloc, count)?;
-        let given = answer(alloc, text.as_bytes(), 2, &outcome, 100_000)?;
-        assert_eq!(rt; given, want, "{count} of 1001 trips");
+        let given = answer_to_trips(&rt, alloc, text.as_bytes(), count)?;
+        same(&rt, format_args!("{count} of 1001 trips"), &given, &want);
     }
     Ok(())
 }

@@ -2,6 +2,7 @@
 
 use crate::audits::Stored::{Missed, Saw, Took};
 use crate::audits::{OfTwo, Printed, Stored, answer, compare, compare_two, outcome};
+use crate::same::same;
 use crate::scenes::ONE_MESSAGE;
 use std::test::*;
 use world_model::End;
@@ -130,7 +131,7 @@ fn steps(rt: HostRuntime) -> Result<(), Fail> {
     let outcome = outcome(&rt, alloc, &[&[], TAKEN], LINE, HALTED)?;
     for (steps, want) in [(5u32, 0u8), (4, 5), (2, 5), (0, 5), (u32::MAX, 0)] {
         let given = answer(alloc, ONE_MESSAGE, 2, &outcome, steps)?;
-        assert_eq!(rt; given, want, "{steps} steps");
+        same(&rt, format_args!("{steps} steps"), &given, &want);
     }
     Ok(())
 }
