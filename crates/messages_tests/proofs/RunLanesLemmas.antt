@@ -1,7 +1,7 @@
 -- An end that put or took is of its lane still, so all lanes are between the same ranks as before.
 use Rattle.std.proofs.Common.{◌≡◌, ℕ, zero, suc, ◌<◌, List, [], ◌∷◌, map, length, slice_set, slice_index_or, refl, ap, ◌∙◌, arith, Vec}
 use Rattle.ports.specs.Lanes.{Lane, TxValue, RxValue, lane_to, lane_from}
-use Rattle.lanes.specs.Ends.{IsCrossed, AreCrossed, to_names, from_names}
+use Rattle.ports.specs.AllLanes.{IsCrossed, AreCrossed, to_names, from_names}
 
 -- an item for which the same stands leaves what stands for all
 same_names : {X Y : Type 0} (name : X → Y) (items : List X) (place : ℕ) (item d : X) → place < length items

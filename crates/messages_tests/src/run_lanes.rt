@@ -1,14 +1,13 @@
 //! The lanes of a run: what no clause of theirs says, for lanes that carry
 //! nothing meet every clause.
 ghost use Rattle.std.specs.Prelude.{◌≡◌, map};
-ghost use Rattle.lanes.specs.Ends.{AreCrossed};
+ghost use Rattle.ports.specs.AllLanes.{AreCrossed};
 ghost use Rattle.ports.specs.Lanes.{lane_from};
 
 use crate::one_lane::{ask, number_of};
 use crate::same::same;
-use lanes::{Ends, close_all, open_all};
 use metered::Heap;
-use ports::{Carried, Rx};
+use ports::{Carried, Ends, Rx, close_all, open_all};
 use rank_node::Frame;
 use std::process::Abort;
 use std::test::*;

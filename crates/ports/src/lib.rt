@@ -2,11 +2,13 @@
 //! consumer, and the console, on which each line is shown once.
 #![tactic(auto)]
 
+mod all_lanes;
 mod console;
 mod console_state;
 mod lanes;
 mod line;
 
+pub use all_lanes::{Ends, close_all, open_all};
 pub use console::Console;
 pub use console_state::ConsoleState;
 pub use lanes::{Carried, Rx, Tx, close, lane};

@@ -2,7 +2,7 @@
 use Rattle.std.proofs.Common.{◌≡◌, ℕ, zero, suc, ◌+◌, List, [], ◌∷◌, ◌++◌, ◌<◌, length, map, slice_index_or, refl, sym, ◌∙◌, ap, arith, Vec}
 use Rattle.std.proofs.lemmas.List.{map-append, append_assoc}
 use Rattle.ports.specs.Lanes.{TxValue, RxValue, lane_to, lane_from}
-use Rattle.lanes.specs.Ends.{to_names, from_names}
+use Rattle.ports.specs.AllLanes.{to_names, from_names}
 use Rattle.event_logger.specs.Desks.{DeskValue, LoggerValue, AreDesks}
 use Rattle.rank_threads.specs.Keeping.{WereKept}
 use Rattle.rank_threads.specs.Seating.{AreDesksFrom, AreNew, desks_of, lanes_from, lanes_to}

@@ -1,6 +1,6 @@
 -- What is made ready for a run before it has an event logger.
 use Rattle.std.specs.Prelude.{◌≡◌, ℕ, ◌≤◌, List, [], vec_len, vec_capacity}
-use Rattle.lanes.specs.Ends.{AreCrossed}
+use Rattle.ports.specs.AllLanes.{AreCrossed}
 use Rattle.rank_language.specs.Correct.{IsProgramOf}
 use Rattle.rank_language.specs.Program.{ProgramValue}
 use Rattle.script_text.specs.declared.line.ScriptLine.{ScriptLine}

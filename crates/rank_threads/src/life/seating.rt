@@ -1,7 +1,7 @@
 //! From lanes and desks to stations, and back.
 ghost use Rattle.std.specs.Prelude.{◌≡◌, ◌≤◌, [], vec_len, vec_capacity};
 ghost use Rattle.metered.specs.Limits.{most_ranks};
-ghost use Rattle.lanes.specs.Ends.{to_names, from_names};
+ghost use Rattle.ports.specs.AllLanes.{to_names, from_names};
 ghost use Rattle.rank_threads.specs.Plans.{plans_below};
 ghost use Rattle.rank_threads.specs.Seating.{AreDesksFrom, ArePartsOf, AreNew, IsRoom};
 ghost use Rattle.rank_threads.specs.Seating.{account_of, accounts_of, desks_of, lanes_from, lanes_to, plans_of};
@@ -14,9 +14,8 @@ use crate::costs::Costs;
 use crate::plan::Plan;
 use audit::End;
 use event_logger::{Desk, Logger};
-use lanes::Ends;
 use metered::Heap;
-use ports::{Rx, Tx};
+use ports::{Ends, Rx, Tx};
 use rank_node::NodeFault;
 use script_text::Script;
 use std::snapshot::Snapshot;

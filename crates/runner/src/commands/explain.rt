@@ -4,8 +4,8 @@ ghost use Rattle.runner.specs.Explanations.{HoldsEvents, HoldsEventsIn, HoldsPro
 
 use command_line::ExplainJob;
 use core_runner::{Files, Refusal, Said, text_in};
+use diagnostics::{explain_events, explain_program, explain_script, first_unmet};
 use events_text::{EventsFault, parse_events};
-use explanations::{explain_events, explain_program, explain_script, first_unmet};
 use metered::Heap;
 use rank_language::{ParseFault, Program};
 use script_text::{Script, ScriptParseFault};

@@ -1,4 +1,4 @@
-use Rattle.lanes.specs.Ends.{AreCrossed}
+use Rattle.ports.specs.AllLanes.{AreCrossed}
 use Rattle.messages_tests.proofs.run_lanes.all_fill.Given as goal
 
 abbrev pub invariant-loop-source : goal.invariant-loop-source

@@ -1,4 +1,4 @@
-use Rattle.lanes.specs.Ends.{AreCrossed}
+use Rattle.ports.specs.AllLanes.{AreCrossed}
 use Rattle.messages_tests.proofs.run_lanes.fills.Given as goal
 
 abbrev pub invariant-loop-count : goal.invariant-loop-count

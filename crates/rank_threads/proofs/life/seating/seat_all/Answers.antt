@@ -1,6 +1,6 @@
 use Rattle.std.proofs.Common.{◌≡◌, ◌+◌, map, vec_len, sym, ◌∙◌, ap, arith}
 use Rattle.ports.specs.Lanes.{lane_from, lane_to}
-use Rattle.lanes.specs.Ends.{to_names, from_names}
+use Rattle.ports.specs.AllLanes.{to_names, from_names}
 use Rattle.rank_threads.proofs.SeatingLemmas.{desks_less, from_snoc, new_more, seated, to_snoc}
 use Rattle.rank_threads.proofs.life.seating.seat_all.Goals as goal
 

@@ -1,6 +1,6 @@
 use Rattle.std.proofs.Common.{map, sym, ◌∙◌, ap, arith}
 use Rattle.ports.specs.Lanes.{lane_from, lane_to}
-use Rattle.lanes.specs.Ends.{to_names, from_names}
+use Rattle.ports.specs.AllLanes.{to_names, from_names}
 use Rattle.rank_threads.specs.Seating.{account_of, accounts_of, desks_of, lanes_from, lanes_to}
 use Rattle.rank_threads.specs.Stations.{stations_of}
 use Rattle.rank_threads.proofs.SeatingLemmas.{from_snoc, to_snoc, unseated}

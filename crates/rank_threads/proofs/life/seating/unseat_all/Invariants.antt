@@ -1,5 +1,5 @@
 use Rattle.std.proofs.Common.{◌≡◌, ◌+◌, ◌≤◌, ◌++◌, vec_len, vec_capacity}
-use Rattle.lanes.specs.Ends.{to_names, from_names}
+use Rattle.ports.specs.AllLanes.{to_names, from_names}
 use Rattle.rank_threads.specs.Seating.{accounts_of, desks_of, lanes_from, lanes_to}
 use Rattle.rank_threads.specs.Stations.{stations_of}
 use Rattle.rank_threads.proofs.life.seating.unseat_all.Given as goal

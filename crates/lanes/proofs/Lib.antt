@@ -1,4 +1,0 @@
-pub mod EndsLemmas
-pub mod GrowLemmas
-pub mod RowLemmas
-pub mod SumLemmas

@@ -1,7 +1,0 @@
-use Rattle.std.proofs.Common.{◌≡◌}
-use Rattle.ports.specs.Lanes.{lane_to, lane_from}
-use Rattle.refused_memory.proofs.lanes.make_all.Given as goal
-
--- the ends are of the lane that they were of
-abbrev pub invariant-loop-call : goal.invariant-loop-call
-invariant-loop-call g l = (lane_to l.tx ≡ lane_to l.initial.tx) × (lane_from l.rx ≡ lane_from l.initial.rx)

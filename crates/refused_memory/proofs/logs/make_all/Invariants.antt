@@ -1,6 +1,0 @@
-use Rattle.std.proofs.Common.{◌≡◌, length}
-use Rattle.refused_memory.proofs.logs.make_all.Given as goal
-
--- the log is of two ranks
-abbrev pub invariant-loop-one : goal.invariant-loop-one
-invariant-loop-one g l = length l.log ≡ 2

@@ -1,6 +1,0 @@
-use Rattle.std.proofs.Common.{◌≡◌, length}
-use Rattle.refused_memory.proofs.sims.act_all.Given as goal
-
--- there are two ranks
-abbrev pub invariant-loop-rank : goal.invariant-loop-rank
-invariant-loop-rank g l = length l.sim.machines ≡ 2
