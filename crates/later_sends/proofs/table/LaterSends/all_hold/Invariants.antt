@@ -1,0 +1,14 @@
+use Rattle.std.proofs.Common.{◌≡◌, ℕ, ◌<◌, ◌-◌, true, Some}
+use Rattle.std.specs.Prelude.{slice_get}
+use Rattle.rank_language.specs.Block.{Line}
+use Rattle.later_sends.specs.LaterSends.{holds_at, claimed}
+use Rattle.later_sends.proofs.table.LaterSends.all_hold.Given as goal
+
+-- the claims so far hold
+abbrev pub invariant-loop-position : goal.invariant-loop-position
+invariant-loop-position l = record {
+  held : (p : ℕ) (k : Line) → p < l.position → slice_get l.program.statements p ≡ Some k → claimed l.self p ≡ true → holds_at (claimed l.self) p k ≡ true;
+}
+
+abbrev pub decreases-loop-position : goal.decreases-loop-position
+decreases-loop-position l = l.lines - l.position

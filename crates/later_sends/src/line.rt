@@ -1,0 +1,29 @@
+//! Which lines send.
+ghost use Rattle.std.specs.Prelude.{◌≡◌};
+ghost use Rattle.rank_language.specs.Seen.{line_of};
+ghost use Rattle.later_sends.specs.LaterSends.{line_may_send};
+
+use rank_language::Statement;
+
+/// Whether the statement is a send, or a collective, which sends messages of its
+/// own.
+pub fn may_send(statement: &Statement) -> bool
+    ensures { result ≡ line_may_send (line_of statement.now) }
+{
+    match statement {
+        Statement::Send { .. } | Statement::Collect(_) => true,
+        Statement::Declare(_)
+        | Statement::DeclareArray(_)
+        | Statement::Assign(..)
+        | Statement::AssignItem(..)
+        | Statement::If(..)
+        | Statement::Else(_)
+        | Statement::EndIf
+        | Statement::While(..)
+        | Statement::EndWhile(_)
+        | Statement::Receive { .. }
+        | Statement::Probe { .. }
+        | Statement::TryProbe { .. }
+        | Statement::Print(_) => false,
+    }
+}
