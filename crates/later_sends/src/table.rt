@@ -56,10 +56,10 @@ impl LaterSends {
     pub fn sends_no_more(&self, position: usize) -> bool
         ensures { result ≡ claimed self.now position }
     {
-        if position >= self.claims.len() {
-            return false;
+        match self.claims.get(position) {
+            Some(claim) => *claim,
+            None => false,
         }
-        self.claims[position]
     }
 
     // Whether the claim for the statement at a position is right, if those for the next ones are.
