@@ -1,0 +1,113 @@
+//! Ranks whose choices alone are enough for a search.
+ghost use Rattle.std.specs.Prelude.{◌≡◌, ◌<◌, ℕ, true, false, length};
+ghost use Rattle.rank_machine.specs.Acts.{IsNamed};
+ghost use Rattle.crash_free.specs.Sim.{Simulates, start_of};
+ghost use Rattle.later_sends.specs.LaterSends.{IsTableOf};
+ghost use Rattle.explore.specs.Persistent.{IsPersistent};
+ghost use Rattle.explore.specs.Settled.{AreOfProgram, HasSentAll, IsSettled};
+
+use crash_free::Sim;
+use later_sends::LaterSends;
+use matching::Selector;
+use rank_machine::Want;
+
+/// Whether the acts that this rank may make don't depend on what the other
+/// ranks do next, as far as can be seen: each rank of which it may take or hit a
+/// message has one there that is eligible, has ended, or sends no more. A no may
+/// be wrong.
+pub fn is_persistent(sim: &Sim<'_>, later: &LaterSends, rank: u8) -> bool
+    requires stands { Simulates sim.now }
+    requires programs { AreOfProgram sim.now }
+    requires table { IsTableOf sim.now.program later.now }
+    requires rank { rank < length sim.now.machines }
+    ensures { result ≡ true → IsPersistent (start_of sim.now.program (length sim.now.machines)) (length sim.now.machines) sim.now.run rank }
+{
+    match sim.wants(rank) {
+        Want::Receive(selector) => are_settled(sim, later, rank, &selector),
+        Want::Probe(selector) => are_settled(sim, later, rank, &selector),
+        Want::TryProbe(selector) => are_settled(sim, later, rank, &selector),
+        // behind a step of its own it may ask for anything
+        Want::Internal => false,
+        Want::Send { .. } => true,
+        Want::Print(_) => true,
+        Want::Halted => true,
+        Want::Faulted(_) => true,
+    }
+}
+
+// Whether what the rank may take or hit of each source stays as it is.
+fn are_settled(sim: &Sim<'_>, later: &LaterSends, rank: u8, selector: &Selector) -> bool
+    requires stands { Simulates sim.now }
+    requires programs { AreOfProgram sim.now }
+    requires table { IsTableOf sim.now.program later.now }
+    requires rank { rank < length sim.now.machines }
+    ensures { result ≡ true → (source : ℕ) → IsSettled sim.now rank selector.now source }
+{
+    let ranks = sim.ranks();
+    let mut source = 0;
+    while source < ranks {
+        if !is_settled(sim, later, rank, selector, source) {
+            return false;
+        }
+        source += 1;
+    }
+    true
+}
+
+// The same of this source: it is the rank itself, or another that isn't named, or one that has a
+// message there, in front of all that it may send yet, or it sends no more.
+fn is_settled(
+    sim: &Sim<'_>,
+    later: &LaterSends,
+    rank: u8,
+    selector: &Selector,
+    source: u8,
+) -> bool
+    requires stands { Simulates sim.now }
+    requires programs { AreOfProgram sim.now }
+    requires table { IsTableOf sim.now.program later.now }
+    requires rank { rank < length sim.now.machines }
+    requires source { source < length sim.now.machines }
+    ensures { result ≡ true → IsSettled sim.now rank selector.now source }
+{
+    if source == rank {
+        return true;
+    }
+    if !may_be_of(selector, source) {
+        return true;
+    }
+    match sim.eligible(rank, selector, source) {
+        Some(_) => true,
+        None => sends_no_more(sim, later, source),
+    }
+}
+
+// Whether the selector names this source, or none.
+fn may_be_of(selector: &Selector, source: u8) -> bool
+    ensures { result ≡ false → IsNamed selector.now.source source → ⊥ }
+{
+    match selector.source {
+        Some(named) => named == source,
+        None => true,
+    }
+}
+
+// Whether the rank has ended, or stands where no send and no collective is behind.
+fn sends_no_more(sim: &Sim<'_>, later: &LaterSends, rank: u8) -> bool
+    requires stands { Simulates sim.now }
+    requires programs { AreOfProgram sim.now }
+    requires table { IsTableOf sim.now.program later.now }
+    requires rank { rank < length sim.now.machines }
+    ensures { result ≡ true → (r : ℕ) → HasSentAll sim.now r rank }
+{
+    match sim.wants(rank) {
+        Want::Halted => true,
+        Want::Faulted(_) => true,
+        Want::Internal
+        | Want::Send { .. }
+        | Want::Receive(_)
+        | Want::Probe(_)
+        | Want::TryProbe(_)
+        | Want::Print(_) => later.sends_no_more(sim.machine(rank).position()),
+    }
+}
