@@ -18,6 +18,7 @@ use Rattle.later_sends.specs.Sending.{may_send, some_sends, SendsNoMore}
 
 -- Statements
 
+-- one of three, in either grouping
 or_moved : (a b c : Bool) → (a || (b || c)) ≡ ((a || b) || c)
 or_moved true b c = refl
 or_moved false b c = refl
@@ -80,6 +81,7 @@ rest_silent s (if_only v y r) c e h = test_silent (if_only v y r) c (value s v) 
 rest_silent s (if_else v y o r) c e h = test_silent (if_else v y o r) c (value s v) e h
 rest_silent s (loop v y r) c e h = test_silent (loop v y r) c (value s v) e h
 
+-- as a whole state
 step_silent : (s : Store) (b : Block) (k : Option MachineFault) (c : State) → inner_of s b k ≡ Some c → some_sends b ≡ false → SendsNoMore c
 step_silent s b None c e h = by_rest (inner_rest s b) refl e
   where
@@ -92,6 +94,7 @@ step_silent s b None c e h = by_rest (inner_rest s b) refl e
         subst (λ (z : State). SendsNoMore z) same (rest_silent s b r is h)
 step_silent s b (Some k) c e h = absurd cc
 
+-- so a rank that sends no more doesn't after an inner step
 pub inner_stays : (a b : State) → SendsNoMore a → inner a ≡ Some b → SendsNoMore b
 inner_stays a b h e = step_silent a.store a.rest a.fault b e h
 
@@ -151,6 +154,7 @@ first_silent (if_only e y r) a act m is h = still (if_only e y r) a is h
 first_silent (if_else e y o r) a act m is h = still (if_else e y o r) a is h
 first_silent (loop e y r) a act m is h = still (loop e y r) a is h
 
+-- a rank that has faulted stays
 unless_silent : (fault : Option MachineFault) (a : State) (act : Act) (m : Option Message) → SendsNoMore a → SendsNoMore (unless_faulted fault a act m)
 unless_silent None a act m h = first_silent a.rest a act m refl h
 unless_silent (Some k) a act m h = h
@@ -171,6 +175,7 @@ asked : {A : Type 0} (v : Valued A) (f : A → Want) → ((x : A) → IsSend (f 
 asked (Ok z) f none h = none z h
 asked (Err k) f none h = h
 
+-- by each first statement
 no_send : (s : Store) (b : Block) (k : Option MachineFault) → some_sends b ≡ false → IsSend (want_of s b k) → ⊥
 no_send s b (Some k) h w = w
 no_send s done None h w = w

@@ -27,6 +27,7 @@ back : (c : ℕ → Bool) (n m : ℕ) (xs ys : List Line) → n + length xs ≡ 
 back c n m [] ys q h = subst (λ k. Checked c k ys) (let e : n ≡ m = omega (arith, q) in e) h
 back c n m (l ∷ ls) ys q h = back c (n + 1) m ls ys (omega (arith, q)) h.1
 
+-- what isn't true is false
 denied : (b : Bool) → not b ≡ true → b ≡ false
 denied true e = absurd cc
 denied false e = refl
@@ -35,10 +36,11 @@ denied false e = refl
 at : (c : ℕ → Bool) (m n : ℕ) → m ≡ n → c m ≡ true → c n ≡ true
 at c m n q h = subst (λ k. c k ≡ true) q h
 
--- what a line's claim says: it doesn't send, and leads where it is claimed
+-- what a line's claim says: the line doesn't send
 no_send : (c : ℕ → Bool) (n : ℕ) (l : Line) → holds_at c n l ≡ true → line_may_send l ≡ false
 no_send c n l h = denied (line_may_send l) (and_parts (not (line_may_send l)) _ h).0
 
+-- and it leads where it is claimed
 leads_on : (c : ℕ → Bool) (n : ℕ) (l : Line) → holds_at c n l ≡ true → (c (next_position l n true) ≡ true) × (c (next_position l n false) ≡ true)
 leads_on c n l h = and_parts (c (next_position l n true)) (c (next_position l n false)) (and_parts (not (line_may_send l)) _ h).1
 
@@ -103,6 +105,7 @@ abbrev Right : (ℕ → Bool) → ℕ → List Block → Type 0
 Right c n [] = Unit {0}
 Right c n (b ∷ bs) = (c n ≡ true → some_sends b ≡ false) × Right c (n + 1) bs
 
+-- from an equal position on
 right_at : (c : ℕ → Bool) (m n : ℕ) (bs : List Block) → m ≡ n → Right c m bs → Right c n bs
 right_at c m n bs q h = subst (λ k. Right c k bs) q h
 

@@ -9,7 +9,7 @@ ghost use Rattle.later_sends.specs.Sending.{SendsNoMore};
 /// A law, for proofs alone: a rank that sends no more wants no send and makes
 /// none, and sends no more after an inner step, and after any act with any
 /// message.
-#[tactic(auto, using(crate::proofs::Silent::wants_no_send, crate::proofs::Silent::makes_no_send, crate::proofs::Silent::inner_stays, crate::proofs::Silent::next_stays))]
+#[tactic(auto, using(crate::proofs::Silent::wants_no_send, crate::proofs::Silent::makes_no_send))]
 pub fn law_sends_no_more()
     ensures wants { (a : State) → SendsNoMore a → IsSend (wants a) → ⊥ }
     ensures makes { (a : State) (dest : ℕ) (context : Context) (tag : ℕ) (items : List ℤ) (message : Option Message) → SendsNoMore a
