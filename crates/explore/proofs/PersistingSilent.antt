@@ -71,6 +71,7 @@ record Stays (act : Act) (b : State) : Type 0 where
   nothing : (c dest : ℕ) → send_at c dest act [] ≡ []
   silent : SendsNoMore b
 
+-- so it is, whichever of the two the state is
 silent_act : (a mid : State) (act : Act) (m : Option Message) → IsSilent a → Inners a mid → Makes mid act m → Stays act (next mid act m)
 silent_act a mid act m (inl h) steps makes =
     let now : SendsNoMore mid = inners_stay steps h in
