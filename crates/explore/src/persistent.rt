@@ -56,13 +56,7 @@ fn are_settled(sim: &Sim<'_>, later: &LaterSends, rank: u8, selector: &Selector)
 
 // The same of this source: it is the rank itself, or another that isn't named, or one that has a
 // message there, in front of all that it may send yet, or it sends no more.
-fn is_settled(
-    sim: &Sim<'_>,
-    later: &LaterSends,
-    rank: u8,
-    selector: &Selector,
-    source: u8,
-) -> bool
+fn is_settled(sim: &Sim<'_>, later: &LaterSends, rank: u8, selector: &Selector, source: u8) -> bool
     requires stands { Simulates sim.now }
     requires programs { AreOfProgram sim.now }
     requires table { IsTableOf sim.now.program later.now }
