@@ -2,7 +2,7 @@
 -- that has a message there, as others come behind it; of one that sends no more; and of one that isn't named, or isn't there, none is.
 use Rattle.std.proofs.Common.{◌≡◌, ◌≢◌, ℕ, suc, ◌+◌, ◌<◌, ◌≤◌, List, [], ◌++◌, Option, Some, None, length}
 use Rattle.std.proofs.Common.{slice_get, ◌⊎◌, inl, inr, refl, sym, ap, subst, ◌∙◌, arith}
-use Rattle.std.specs.Prelude.{true, false, IsSomeAnd}
+use Rattle.std.specs.Prelude.{Bool, true, false, IsSomeAnd}
 use Rattle.std.proofs.lemmas.Bool.{cases_eq, cases_lt}
 use Rattle.std.proofs.lemmas.List.{append-nil, append_assoc}
 use Rattle.std.proofs.lemmas.Option.{slice_get_within}
@@ -72,15 +72,18 @@ module _ (s : SimValue) (r : ℕ) where
 
   module _ (w : Selector) where
     -- of the rank itself
-    pub own_settled : IsSettled s r w r
+    own_settled : IsSettled s r w r
     own_settled C place way e =
         let same = (goes C way).same in
         eligible_by (inbound_of s.run r) (inbound_of C r) (history s.run r) (history C r) r place w (ap (λ h. sends_from 0 r h) same) same e
 
-    -- of a rank that sends no more
-    pub sent_settled : (q : ℕ) → HasSentAll s r q → IsSettled s r w q
-    sent_settled q all C place way e =
-        eligible_by (inbound_of s.run r) (inbound_of C r) (history s.run r) (history C r) q place w (all C way r) (goes C way).same e
+    pub itself_settled : (q : ℕ) → q ≡ r → IsSettled s r w q
+    itself_settled q same = subst (λ z. IsSettled s r w z) (sym same) own_settled
+
+    -- of a rank that sends no more, if the answer says so
+    pub sent_settled : (q : ℕ) (answer : Bool) → (answer ≡ true → (x : ℕ) → HasSentAll s x q) → answer ≡ true → IsSettled s r w q
+    sent_settled q answer all said_so C place way e =
+        eligible_by (inbound_of s.run r) (inbound_of C r) (history s.run r) (history C r) q place w (all said_so r C way r) (goes C way).same e
 
     -- of one that has a message there
     pub first_settled : (q i : ℕ) → IsEligible (inbound_of s.run r) (history s.run r) q (suc i) w → IsSettled s r w q
@@ -95,12 +98,13 @@ module _ (s : SimValue) (r : ℕ) where
     pub unnamed_settled : (q : ℕ) → (IsNamed w.source q → ⊥) → IsSettled s r w q
     unnamed_settled q never C place way e = absurd (never e.matching.1)
 
-    -- of one source more
-    pub settled_further : (k : ℕ) → ((q : ℕ) → q < k → IsSettled s r w q) → IsSettled s r w k → (q : ℕ) → q < k + 1 → IsSettled s r w q
-    settled_further k before this q low = go (cases_eq q k)
+    -- of one source more, if the answer says so
+    pub settled_further : (k : ℕ) (answer : Bool) → ((q : ℕ) → q < k → IsSettled s r w q) → (answer ≡ true → IsSettled s r w k) → answer ≡ true
+        → (q : ℕ) → q < k + 1 → IsSettled s r w q
+    settled_further k answer before this said_so q low = go (cases_eq q k)
       where
         go : (q ≡ k) ⊎ (q ≡ k → ⊥) → IsSettled s r w q
-        go (inl same) = subst (λ z. IsSettled s r w z) (sym same) this
+        go (inl same) = subst (λ z. IsSettled s r w z) (sym same) (this said_so)
         go (inr apart) = before q (omega (arith, low, apart))
 
     -- of all, where it is so of each rank that there is
@@ -195,9 +199,9 @@ persists s r w now asked apart settled C act way may = (
         (subst (λ v. IsFree v act (inbound_of C r) (history s.run r)) wants_this k.free)
 
 module _ (s : SimValue) (r : ℕ) (now : Simulates s) where
-  module _ (w : Selector) (settled : (q : ℕ) → IsSettled s r w q) where
+  module _ (w : Selector) (answer : Bool) (all : answer ≡ true → (q : ℕ) → IsSettled s r w q) (said_so : answer ≡ true) where
     by_selector : (x : Selector) → x ≡ w → (q : ℕ) → IsSettled s r x q
-    by_selector x same q = subst (λ y. IsSettled s r y q) (sym same) (settled q)
+    by_selector x same q = subst (λ y. IsSettled s r y q) (sym same) (all said_so q)
 
     -- so of a receive
     pub persists_receive : WantsAt s.machines r (want.Receive w) → IsPersistent (start_of s.program (length s.machines)) (length s.machines) s.run r

@@ -1,11 +1,12 @@
 -- A rank that has ended, or behind which no send and no collective stands, sends no more: so what it sent stays as it is, however the
 -- ranks go on.
 use Rattle.std.proofs.Common.{◌≡◌, ◌≢◌, ℕ, ℤ, ◌+◌, List, [], ◌∷◌, ◌++◌, Option, Some, None, length, slice_get, ◌⊎◌, inl, inr, refl, sym, ap, subst, ◌∙◌}
-use Rattle.std.specs.Prelude.{true, false}
+use Rattle.std.specs.Prelude.{Bool, true, false}
 use Rattle.std.proofs.lemmas.Bool.{cases_eq}
 use Rattle.std.proofs.lemmas.List.{append-nil}
 use Rattle.rank_language.specs.Block.{remaining}
 use Rattle.rank_language.specs.Program.{block_of}
+use Rattle.rank_machine.specs.declared.fault.MachineFault.{MachineFault}
 use Rattle.rank_machine.specs.declared.want.Want.{Want}
 use Rattle.rank_machine.specs.declared.want.Want.TheVariants as want
 use Rattle.rank_machine.specs.States.{State, Inners, here, on, inner}
@@ -149,17 +150,27 @@ machine_silent s q m now is silent r C goes dest =
     sent_stays (start_of s.program (length s.machines)) (length s.machines) r q dest goes
     (record { after = at.0; stands = state_of m; reached = at.1; steps = at.2; silent = silent })
 
--- who has ended has
-pub ended_silent : (s : SimValue) (q : ℕ) (w : Want) → Simulates s → WantsAt s.machines q w → HasEnded w → (r : ℕ) → HasSentAll s r q
+-- so has who has ended
+ended_silent : (s : SimValue) (q : ℕ) (w : Want) → Simulates s → WantsAt s.machines q w → HasEnded w → (r : ℕ) → HasSentAll s r q
 ended_silent s q w now asked ended r =
     let m = there_is (slice_get s.machines q) (λ x. Wants x w) asked in
     let apart : w ≢ want.Internal = λ e. (let z : HasEnded want.Internal = subst HasEnded e ended in z) in
     let is : wants (state_of m.0) ≡ w = wanted s q m.0 w now m.1 m.2 apart in
     machine_silent s q m.0 now m.1 (inr (subst HasEnded (sym is) ended)) r
 
+-- by its end
+pub halted_silent : (s : SimValue) (q r : ℕ) → Simulates s → WantsAt s.machines q want.Halted → HasSentAll s r q
+halted_silent s q r now asked = ended_silent s q want.Halted now asked tt r
+
+-- or by a fault
+pub faulted_silent : (s : SimValue) (q r : ℕ) (k : MachineFault) → Simulates s → WantsAt s.machines q (want.Faulted k) → HasSentAll s r q
+faulted_silent s q r k now asked = ended_silent s q (want.Faulted k) now asked tt r
+
 -- and so has who stands at a position that the table claims
-pub claimed_silent : (s : SimValue) (q : ℕ) (m : MachineValue) (table : List _) → Simulates s → AreOfProgram s → IsTableOf s.program table
-    → slice_get s.machines q ≡ Some m → claimed table m.position ≡ true → (r : ℕ) → HasSentAll s r q
-claimed_silent s q m table now programs right is claim r =
+pub claimed_silent : (s : SimValue) (q r position : ℕ) (m : MachineValue) (table : List Bool) (answer : Bool) → Simulates s → AreOfProgram s
+    → IsTableOf s.program table → slice_get s.machines q ≡ Some m → position ≡ m.position → answer ≡ claimed table position → answer ≡ true
+    → HasSentAll s r q
+claimed_silent s q r position m table answer now programs right is at said said_so =
+    let claim : claimed table m.position ≡ true = ap (claimed table) (sym at) ∙ sym said ∙ said_so in
     machine_silent s q m now is
     (inl (subst (λ p. some_sends (remaining (block_of p) m.position) ≡ false) (sym (programs q m is)) (right m.position claim))) r

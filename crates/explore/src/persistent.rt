@@ -15,6 +15,7 @@ use rank_machine::Want;
 /// ranks do next, as far as can be seen: each rank of which it may take or hit a
 /// message has one there that is eligible, has ended, or sends no more. A no may
 /// be wrong.
+#[tactic(auto, using(crate::proofs::Persisting::persists_receive, crate::proofs::Persisting::persists_probe, crate::proofs::Persisting::persists_try))]
 pub fn is_persistent(sim: &Sim<'_>, later: &LaterSends, rank: u8) -> bool
     requires stands { Simulates sim.now }
     requires programs { AreOfProgram sim.now }
@@ -56,6 +57,7 @@ fn are_settled(sim: &Sim<'_>, later: &LaterSends, rank: u8, selector: &Selector)
 
 // The same of this source: it is the rank itself, or another that isn't named, or one that has a
 // message there, in front of all that it may send yet, or it sends no more.
+#[tactic(auto, using(crate::proofs::Persisting::itself_settled, crate::proofs::Persisting::first_settled, crate::proofs::Persisting::sent_settled))]
 fn is_settled(sim: &Sim<'_>, later: &LaterSends, rank: u8, selector: &Selector, source: u8) -> bool
     requires stands { Simulates sim.now }
     requires programs { AreOfProgram sim.now }
@@ -87,6 +89,7 @@ fn may_be_of(selector: &Selector, source: u8) -> bool
 }
 
 // Whether the rank has ended, or stands where no send and no collective is behind.
+#[tactic(auto, using(crate::proofs::PersistingSilent::halted_silent, crate::proofs::PersistingSilent::faulted_silent, crate::proofs::PersistingSilent::claimed_silent))]
 fn sends_no_more(sim: &Sim<'_>, later: &LaterSends, rank: u8) -> bool
     requires stands { Simulates sim.now }
     requires programs { AreOfProgram sim.now }
