@@ -8,10 +8,11 @@ use Rattle.crash_free.specs.Runs.{Passed, history, IsRun}
 use Rattle.crash_free.specs.Alike.{StandsAlike, StandAlike}
 use Rattle.crash_free.proofs.Alike.{comes_too, alike_back, each_follows_too}
 use Rattle.final_runs.specs.Maximal.{IsMaximal, RankOutcome, end_of, IsRankOutcome, IsOutcomeOf}
-use Rattle.explore.specs.Exploring.{and_then, HasOneAnswer, IsExplored, ends, fixed, branch}
+use Rattle.explore.specs.Exploring.{and_then, HasOneAnswer, IsExplored, ends, fixed, alone, branch}
 use Rattle.explore.specs.Exploring.{AlwaysEndsIn, at_end, goes_on}
 use Rattle.explore.specs.Onward.{GoesOnTo, there, further, MayEndSo}
 use Rattle.final_runs.proofs.Simulating.{no_step}
+use Rattle.explore.proofs.AlikeAlone.{persistent_too}
 
 -- where the one is maximal the other is
 pub maximal_too : (start : ℕ → State) (n : ℕ) (P Q : List Passed) → IsRun start n P → IsRun start n Q → StandAlike start n P Q → IsMaximal start n P
@@ -94,6 +95,13 @@ explored_too start n found P Q run run' alike (fixed r act fix explored) =
     fixed r f.other
     (record { low = fix.low; may = f.may; one = subst HasOneAnswer (sym f.wants_same) fix.one })
     (explored_too start n found (and_then P r act) (and_then Q r f.other) (run, fix.low, fix.may) (run', fix.low, f.may) f.alike explored)
+explored_too start n found P Q run run' alike (alone r act may persistent explored) =
+    let f = each_follows_too start n P Q run run' alike r act may.0 may.1 in
+    alone r f.other (may.0, f.may) (persistent_too start n P Q r run run' alike persistent)
+    (λ a may'.
+    (let g = each_follows_too start n Q P run' run (alike_back start n P Q alike) r a may'.0 may'.1 in
+    explored_too start n found (and_then P r g.other) (and_then Q r a) (run, may'.0, g.may) (run', may'.0, may'.1)
+    (alike_back start n (and_then Q r a) (and_then P r g.other) g.alike) (explored g.other (may'.0, g.may))))
 explored_too start n found P Q run run' alike (branch r act may explored) =
     let f = each_follows_too start n P Q run run' alike r act may.0 may.1 in
     branch r f.other (may.0, f.may)

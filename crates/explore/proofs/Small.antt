@@ -1,8 +1,7 @@
 -- How many runs a search needs to look at.
-use Rattle.std.proofs.Common.{◌≡◌, ℕ, zero, suc, ◌+◌, ◌<◌, ◌≤◌, List, [], ◌∷◌, ◌++◌, Some, length, slice_get, ◌⊎◌, inl, inr, refl, sym, ap, subst, ◌∙◌, arith}
+use Rattle.std.proofs.Common.{◌≡◌, ℕ, zero, suc, ◌+◌, ◌<◌, ◌≤◌, List, [], ◌∷◌, ◌++◌, Some, length, slice_get, ◌⊎◌, inl, inr, refl, sym, ap, subst, arith}
 use Rattle.std.specs.Prelude.{sum_by}
 use Rattle.std.proofs.lemmas.Bool.{cases_eq}
-use Rattle.std.proofs.lemmas.List.{append-nil}
 use Rattle.std.proofs.lemmas.Option.{slice_get_within, get_or_from_slice_get}
 use Rattle.std.proofs.lemmas.List.Sums.{sum_by-cons, sum_by-append, get_or-le-sum_by}
 use Rattle.rank_language.specs.Program.{ProgramValue}
@@ -22,7 +21,7 @@ use Rattle.explore.specs.Stems.{Stem, IsRunOf}
 use Rattle.explore.specs.Small.{AreEnough, at_once, tree, EnoughFor, EnoughForAll, KeepsEnough}
 use Rattle.explore.proofs.Among.{among_none}
 use Rattle.explore.proofs.Fixed.{same_act}
-use Rattle.explore.proofs.Exploring.{both_ways, follows_both}
+use Rattle.explore.proofs.Exploring.{both_ways, follows_both, part_of_same}
 use Rattle.explore.proofs.Ending.{fixed_still, swapped}
 
 -- Sums
@@ -111,10 +110,6 @@ same_enough start n k D C (tree moves needs among each few some) part back =
   where
     same : (r : ℕ) → history D r ≡ history C r
     same r = both_ways (history D r) (history C r) (back r) (part r)
-
--- of runs with the same histories each is a part of the other
-part_of_same : (C D : List Passed) → ((z : ℕ) → history C z ≡ history D z) → IsPartOf C D
-part_of_same C D same z = ([], sym (same z) ∙ sym (append-nil (history C z)))
 
 -- as many are once a fixed act was made, whichever act the search makes first
 pub fixed_enough : (start : ℕ → State) (n k : ℕ) (C : List Passed) (r : ℕ) (act : Act) → IsFixed start n C r act → AreEnough start n k C

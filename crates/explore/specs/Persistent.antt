@@ -5,7 +5,7 @@ use Rattle.rank_machine.specs.States.{State}
 use Rattle.rank_machine.specs.Acts.{Act}
 use Rattle.crash_free.specs.Runs.{Passed}
 use Rattle.final_runs.specs.Maximal.{MayFollow}
-use Rattle.explore.specs.Exploring.{and_then}
+use Rattle.explore.specs.AndThen.{and_then}
 
 -- acts of other ranks than r, one after another, lead from the one run to the other
 pub data GoesOnWithout (start : ℕ → State) (n r : ℕ) : List Passed → List Passed → Type 0 where
