@@ -15,8 +15,8 @@ use std::marker::Model;
 /// hold as much again in reserve.
 const MOST_NUMBERS: usize = 33_554_432;
 
-/// Where the runs of a search stood at which several moves were open, so that
-/// it searches none twice that stands where one stood before.
+/// Where the runs of a search stood at which it would leave branches, so that it
+/// searches none twice that stands where one stood before.
 ///
 /// It keeps so many states as it may, if they fit in 256 MiB. Behind that it
 /// keeps no more, so that memory stays bounded, and what stands where none of

@@ -1,10 +1,10 @@
 //! How far a search has come.
 ghost use Rattle.std.specs.Prelude.{◌≡◌, ◌≤◌, ◌<◌, ◌++◌, ◌∷◌, ℕ, true, false, [], IfOk, Ok, length};
 ghost use Rattle.metered.specs.Limits.{most_ranks};
-ghost use Rattle.live_variables.specs.Live.{IsTableOf};
 ghost use Rattle.explore.specs.Counting.{GoesBeyond};
 ghost use Rattle.explore.specs.Searching.{IsOn, NeedsFewer};
 ghost use Rattle.explore.specs.Stems.{stems_of, whole};
+ghost use Rattle.explore.specs.Tables.{AreTablesOf};
 
 use crate::branch::Branch;
 use crate::explored::Explored;
@@ -13,9 +13,9 @@ use crate::met::Met;
 use crate::path::Path;
 use crate::play::{Played, play};
 use crate::races::Races;
+use crate::tables::Tables;
 use crate::taking::take_up;
 use final_runs::outcome_of;
-use live_variables::Live;
 use metered::Heap;
 use rank_language::Program;
 use std::alloc::AllocError;
@@ -73,13 +73,13 @@ impl<'p> Search<'p> {
         &mut self,
         alloc: Heap,
         program: &'p Program,
-        live: &Live,
+        tables: &Tables,
         steps: u32,
     ) -> Result<bool, AllocError>
         requires some { 1 ≤ length self.old.path.sim.machines }
         requires few { length self.old.path.sim.machines ≤ most_ranks }
         requires program { self.old.path.sim.program ≡ program.now }
-        requires table { IsTableOf program.now live.now }
+        requires tables { AreTablesOf program.now tables.now }
         requires on { IsOn self.old.path.sim.program (length self.old.path.sim.machines) self.old.path.sim self.old.pending.items
             self.old.found self.old.met self.old.out_of_steps }
         ensures on { IfOk result (λ _. IsOn self.old.path.sim.program (length self.old.path.sim.machines) self.new.path.sim self.new.pending.items
@@ -91,7 +91,7 @@ impl<'p> Search<'p> {
             → self.new.out_of_steps ≡ true → GoesBeyond self.old.path.sim.program (length self.old.path.sim.machines) steps) }
     {
         while let Some(branch) = self.pending.pop() {
-            if self.look(alloc, program, live, steps, branch)? {
+            if self.look(alloc, program, tables, steps, branch)? {
                 return Ok(true);
             }
         }
@@ -105,14 +105,14 @@ impl<'p> Search<'p> {
         &mut self,
         alloc: Heap,
         program: &'p Program,
-        live: &Live,
+        tables: &Tables,
         steps: u32,
         branch: Branch,
     ) -> Result<bool, AllocError>
         requires some { 1 ≤ length self.old.path.sim.machines }
         requires few { length self.old.path.sim.machines ≤ most_ranks }
         requires program { self.old.path.sim.program ≡ program.now }
-        requires table { IsTableOf program.now live.now }
+        requires tables { AreTablesOf program.now tables.now }
         requires on { IsOn self.old.path.sim.program (length self.old.path.sim.machines) self.old.path.sim (self.old.pending.items ++ branch ∷ [])
             self.old.found self.old.met self.old.out_of_steps }
         ensures on { IfOk result (λ _. IsOn self.old.path.sim.program (length self.old.path.sim.machines) self.new.path.sim self.new.pending.items
@@ -132,7 +132,7 @@ impl<'p> Search<'p> {
             alloc,
             &mut self.path,
             &mut self.pending,
-            live,
+            tables,
             &mut self.met,
             &mut self.races,
         )? {

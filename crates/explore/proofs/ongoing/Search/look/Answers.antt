@@ -1,7 +1,7 @@
 use Rattle.std.proofs.Common.{◌≡◌, true, false, length, refl, sym, subst, ◌∙◌, arith}
-use Rattle.live_variables.specs.Live.{IsTableOf}
 use Rattle.std.specs.Prelude.{Ok}
 use Rattle.explore.specs.Stems.{stems_of}
+use Rattle.explore.specs.Tables.{AreTablesOf}
 use Rattle.explore.proofs.Going.{fewer_cut, fewer_looked, off_now, on_cut, on_looked}
 use Rattle.explore.proofs.Looking.{looks_cut, looks_ended, looks_met}
 use Rattle.explore.proofs.Stems.{last_run, last_within}
@@ -18,10 +18,15 @@ take_up-requires-clause-some_run c = last_run c.args.self.now.path.sim.program (
 pub play-requires-clause-few : goal.play-requires-clause-few
 play-requires-clause-few c = (let alike = c.in_ok-take_up.ensures.alike in omega (arith, c.requires.few, alike.ranks))
 
-pub play-requires-clause-table : goal.play-requires-clause-table
-play-requires-clause-table c =
+pub play-requires-clause-tables : goal.play-requires-clause-tables
+play-requires-clause-tables c =
     (let alike = c.in_ok-take_up.ensures.alike in
-    subst (λ p. IsTableOf p c.args.live.now) (sym (alike.program ∙ c.requires.program)) c.requires.table)
+    subst (λ p. AreTablesOf p c.args.tables.now) (sym (alike.program ∙ c.requires.program)) c.requires.tables)
+
+pub play-requires-clause-counts : goal.play-requires-clause-counts
+play-requires-clause-counts c =
+    let yes : c.take_up.result ≡ Ok true = (let one = c.in_ok-take_up.was in let two = c.if-not-branch.false in cc) in
+    (c.args.steps, c.take_up.ensures.counts yes)
 
 pub play-requires-clause-off : goal.play-requires-clause-off
 play-requires-clause-off c =

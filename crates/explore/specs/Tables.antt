@@ -1,0 +1,10 @@
+-- What a search knows of a program before it begins.
+use Rattle.rank_language.specs.Program.{ProgramValue}
+use Rattle.live_variables.specs.Live as live
+use Rattle.later_sends.specs.LaterSends as later
+use Rattle.explore.specs.declared.tables.Tables.{Tables}
+
+-- each of the tables is right for the program
+pub record AreTablesOf (program : ProgramValue) (t : Tables) : Type 0 where
+  pub live : live.IsTableOf program t.live
+  pub later : later.IsTableOf program t.later
