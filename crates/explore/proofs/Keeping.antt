@@ -5,7 +5,7 @@ use Rattle.std.specs.List.{filter, list_any}
 use Rattle.std.proofs.lemmas.Bool.{eq-eqb, eqb-true}
 use Rattle.crash_free.specs.Sim.{SimValue, choice_of}
 use Rattle.explore.specs.declared.moves.Move.{Move}
-use Rattle.explore.specs.Keeping.{is_of, ArePersistent, AreKept}
+use Rattle.explore.specs.Narrowing.{is_of, ArePersistent, AreKept}
 use Rattle.explore.specs.Moves.{move_of, HasAllOf, HasAll, AreOfRanks}
 use Rattle.explore.specs.Outcomes.{IsAmong, AreDistinct}
 

@@ -3,7 +3,7 @@ ghost use Rattle.std.specs.Prelude.{◌≡◌, IfSome};
 ghost use Rattle.std.specs.List.{filter, list_any};
 ghost use Rattle.crash_free.specs.Sim.{Simulates};
 ghost use Rattle.later_sends.specs.LaterSends.{IsTableOf};
-ghost use Rattle.explore.specs.Keeping.{AreKept, IsEnough, is_of};
+ghost use Rattle.explore.specs.Narrowing.{AreKept, IsEnough, is_of};
 ghost use Rattle.explore.specs.Settled.{AreOfProgram};
 
 use crate::moves::Move;

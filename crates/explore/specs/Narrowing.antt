@@ -14,7 +14,7 @@ is_of r m = m.rank == r
 abbrev pub ArePersistent : SimValue → ℕ → Type 0
 ArePersistent s r = IsPersistent (start_of s.program (length s.machines)) (length s.machines) s.run r
 
--- the acts of rank r are persistent, and one of the moves is one of its
+-- the acts of rank r are persistent, and one of the moves is of it
 abbrev pub IsEnough : SimValue → List Move → ℕ → Type 0
 IsEnough s moves r = ArePersistent s r × (list_any (is_of r) moves ≡ true)
 
