@@ -20,11 +20,15 @@ use Rattle.crash_free.specs.Sim.{SimValue, Simulates, Allows, choice_of, inbound
 use Rattle.crash_free.specs.Wanted.{Wants, WantsAt, StandsAtAct}
 use Rattle.crash_free.proofs.Lists.{push_cases}
 use Rattle.final_runs.specs.Maximal.{IsOutcomeOf, MayFollow, RankOutcome}
+use Rattle.explore.specs.declared.moves.Noted.{Noted}
+use Rattle.explore.specs.Chosen.{MakesChoices}
+use Rattle.explore.specs.Explored.{OutcomeValue, noted_choices, rank_outcomes}
 use Rattle.explore.specs.Exploring.{and_then}
 use Rattle.explore.specs.Searching.{IsAlike}
 use Rattle.explore.specs.Shown.{IsMark, was_shown, shows_to, IsPast, MayMissShown, MissesShown}
 use Rattle.rank_language.specs.Program.{ProgramValue}
 use Rattle.explore.proofs.Choosing.{there_is, goes_there, goes_by}
+use Rattle.explore.proofs.SeenOf.{choices_at, seen_at}
 use Rattle.final_runs.proofs.Simulating.{sender_there, stands_there, wanted}
 
 -- what a run begins with is one
@@ -224,20 +228,25 @@ misses_none start run p before here (inl x) = here x.0 x.1
 misses_none start run p before here (inr x) = before x
 
 -- one mark more
-pub marked_more : (program : ProgramValue) (n : ℕ) (outcomes : List (List RankOutcome)) (marks : List (Option Bool)) (at : ℕ) (o : List RankOutcome)
-    (mark : Option Bool) → length marks ≡ at → slice_get outcomes at ≡ Some o → IfSome mark (IsMark program n o)
-    → ((i : ℕ) (x : List RankOutcome) (m : Option Bool) → slice_get outcomes i ≡ Some x → slice_get marks i ≡ Some m → IfSome m (IsMark program n x))
-    → (i : ℕ) (x : List RankOutcome) (m : Option Bool) → slice_get outcomes i ≡ Some x → slice_get (marks ++ mark ∷ []) i ≡ Some m
-    → IfSome m (IsMark program n x)
-marked_more program n outcomes marks at o mark size there is before i x m e f = go (push_cases marks mark i m f)
+pub marked_more : (program : ProgramValue) (n : ℕ) (outcomes : List OutcomeValue) (marks : List (Option Bool)) (at : ℕ) (x : OutcomeValue)
+    (mark : Option Bool) → length marks ≡ at → slice_get outcomes at ≡ Some x → IfSome mark (IsMark program n x.ranks x.choices)
+    → ((i : ℕ) (o : List RankOutcome) (cs : List Noted) (m : Option Bool) → slice_get (rank_outcomes outcomes) i ≡ Some o
+    → slice_get (noted_choices outcomes) i ≡ Some cs → slice_get marks i ≡ Some m → IfSome m (IsMark program n o cs))
+    → (i : ℕ) (o : List RankOutcome) (cs : List Noted) (m : Option Bool) → slice_get (rank_outcomes outcomes) i ≡ Some o
+    → slice_get (noted_choices outcomes) i ≡ Some cs → slice_get (marks ++ mark ∷ []) i ≡ Some m → IfSome m (IsMark program n o cs)
+marked_more program n outcomes marks at x mark size there is before i o cs m seen noted f = go (push_cases marks mark i m f)
   where
-    go : (slice_get marks i ≡ Some m) ⊎ ((i ≡ length marks) × (m ≡ mark)) → IfSome m (IsMark program n x)
-    go (inl old) = before i x m e old
+    go : (slice_get marks i ≡ Some m) ⊎ ((i ≡ length marks) × (m ≡ mark)) → IfSome m (IsMark program n o cs)
+    go (inl old) = before i o cs m seen noted old
     go (inr new) =
-        let at_it : slice_get outcomes at ≡ Some x = subst (λ k. slice_get outcomes k ≡ Some x) (new.0 ∙ size) e in
-        let one : Some o ≡ Some x = sym there ∙ at_it in
-        let same : o ≡ x = cc in
-        subst (λ y. IfSome m (IsMark program n y)) same (subst (λ y. IfSome y (IsMark program n o)) (sym new.1) is)
+        let here : slice_get outcomes i ≡ Some x = subst (λ k. slice_get outcomes k ≡ Some x) (sym (new.0 ∙ size)) there in
+        let one : Some x.ranks ≡ Some o = sym (seen_at outcomes i x here) ∙ seen in
+        let two : Some x.choices ≡ Some cs = sym (choices_at outcomes i x here) ∙ noted in
+        let same_ranks : x.ranks ≡ o = cc in
+        let same_choices : x.choices ≡ cs = cc in
+        subst (λ y. IfSome m (IsMark program n y cs)) same_ranks
+        (subst (λ y. IfSome m (IsMark program n x.ranks y)) same_choices
+        (subst (λ y. IfSome y (IsMark program n x.ranks x.choices)) (sym new.1) is))
 
 -- the acts of a run in their order, turned around, are the run
 pub run_back : (start : ℕ → State) (n : ℕ) (run acts : List Passed) (o : List RankOutcome) → IsOutcomeOf start n run o → acts ≡ reverse run
@@ -245,15 +254,16 @@ pub run_back : (start : ℕ → State) (n : ℕ) (run acts : List Passed) (o : L
 run_back start n run acts o is same = subst (λ C. IsRun start n C) (sym (ap reverse same ∙ reverse-reverse run)) is.is_run
 
 -- the mark of the run that was made again is one of the outcome
-pub mark_there : {E : Type 0} (program : ProgramValue) (n : ℕ) (o : List RankOutcome) (run acts : List Passed) (r : Result (Option Bool) E)
-    → IsOutcomeOf (start_of program n) n run o → acts ≡ reverse run → (r ≡ Ok (Some true) → MissesShown (start_of program n) (reverse acts))
-    → (r ≡ Ok (Some false) → MissesShown (start_of program n) (reverse acts) → ⊥) → IfOk r (λ mark. IfSome mark (IsMark program n o))
-mark_there program n o run acts (Err x) is same past none = tt
-mark_there program n o run acts (Ok None) is same past none = tt
-mark_there program n o run acts (Ok (Some mark)) is same past none =
+pub mark_there : {E : Type 0} (program : ProgramValue) (n : ℕ) (o : List RankOutcome) (choices : List Noted) (run acts : List Passed)
+    (r : Result (Option Bool) E) → IsOutcomeOf (start_of program n) n run o → MakesChoices program n run choices → acts ≡ reverse run → (r ≡ Ok (Some true) → MissesShown (start_of program n) (reverse acts))
+    → (r ≡ Ok (Some false) → MissesShown (start_of program n) (reverse acts) → ⊥) → IfOk r (λ mark. IfSome mark (IsMark program n o choices))
+mark_there program n o choices run acts (Err x) is chosen same past none = tt
+mark_there program n o choices run acts (Ok None) is chosen same past none = tt
+mark_there program n o choices run acts (Ok (Some mark)) is chosen same past none =
     record {
       run = run;
       outcome = is;
+      chosen = chosen;
       yes = λ e. subst (λ C. MissesShown (start_of program n) C) back (past (ap (λ b. Ok (Some b)) e));
       no = λ e x. none (ap (λ b. Ok (Some b)) e) (subst (λ C. MissesShown (start_of program n) C) (sym back) x);
     }

@@ -13,6 +13,8 @@ use Rattle.rank_machine.specs.Acts.{Act, sends, takes, hits, misses, prints}
 use Rattle.crash_free.specs.Runs.{Passed, history, IsEligible, MayMake}
 use Rattle.crash_free.specs.Sim.{inbound_of, start_of}
 use Rattle.final_runs.specs.Maximal.{RankOutcome, IsOutcomeOf}
+use Rattle.explore.specs.declared.moves.Noted.{Noted}
+use Rattle.explore.specs.Chosen.{MakesChoices}
 
 -- the act takes or hits the message of this source with this index, from 0, or a later one of it
 abbrev pub shows_it : ℕ → ℕ → Act → Bool
@@ -49,16 +51,18 @@ abbrev pub MissesShown : (ℕ → State) → List Passed → Type 0
 MissesShown start [] = ⊥
 MissesShown start (p ∷ P) = ((p.act ≡ misses) × MayMissShown start P p.rank) ⊎ MissesShown start P
 
--- The mark of an outcome is that of some maximal run that has it: whether in this run a rank misses
--- a message that it was shown.
-pub record IsMark (program : ProgramValue) (n : ℕ) (o : List RankOutcome) (mark : Bool) : Type 0 where
+-- The mark of an outcome is that of some maximal run that has it, and in which the choices were made
+-- that are noted with it: whether in this run a rank misses a message that it was shown.
+pub record IsMark (program : ProgramValue) (n : ℕ) (o : List RankOutcome) (choices : List Noted) (mark : Bool) : Type 0 where
   pub run : List Passed
   pub outcome : IsOutcomeOf (start_of program n) n run o
+  pub chosen : MakesChoices program n run choices
   pub yes : mark ≡ true → MissesShown (start_of program n) run
   pub no : mark ≡ false → MissesShown (start_of program n) run → ⊥
 
 -- each outcome has its mark, or none if its run wasn't found again
-pub record AreMarked (program : ProgramValue) (n : ℕ) (outcomes : List (List RankOutcome)) (marks : List (Option Bool)) : Type 0 where
+pub record AreMarked (program : ProgramValue) (n : ℕ) (outcomes : List (List RankOutcome)) (choices : List (List Noted)) (marks : List (Option Bool))
+    : Type 0 where
   pub as_many : length marks ≡ length outcomes
-  pub each : (i : ℕ) (o : List RankOutcome) (mark : Option Bool) → slice_get outcomes i ≡ Some o → slice_get marks i ≡ Some mark
-      → IfSome mark (IsMark program n o)
+  pub each : (i : ℕ) (o : List RankOutcome) (cs : List Noted) (mark : Option Bool) → slice_get outcomes i ≡ Some o → slice_get choices i ≡ Some cs
+      → slice_get marks i ≡ Some mark → IfSome mark (IsMark program n o cs)

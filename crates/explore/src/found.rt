@@ -1,5 +1,6 @@
 //! The outcomes that a search has found, each once.
 ghost use Rattle.std.specs.Prelude.{◌≡◌, [], true, false, OnOk};
+ghost use Rattle.explore.specs.Explored.{rank_outcomes};
 ghost use Rattle.explore.specs.Found.{hash_of};
 ghost use Rattle.explore.specs.Outcomes.{IsAmong};
 ghost use Rattle.explore.specs.Searching.{Notes};
@@ -25,14 +26,15 @@ pub struct Found {
 
 impl Model for Found {
     ghost use Rattle.std.specs.Prelude.{List};
+    ghost use Rattle.explore.specs.Explored.{rank_outcomes};
     ghost use Rattle.explore.specs.Found.{HaveEntries};
     ghost use Rattle.final_runs.specs.Maximal.{RankOutcome};
 
     ghost Value = { List (List RankOutcome) };
 
-    ghost view = { λ f. f.outcomes.items };
+    ghost view = { λ f. rank_outcomes f.outcomes.items };
 
-    ghost invariant = { λ f. HaveEntries f.outcomes.items f.by_hash };
+    ghost invariant = { λ f. HaveEntries (rank_outcomes f.outcomes.items) f.by_hash };
 }
 
 impl Found {
@@ -76,7 +78,7 @@ impl Found {
 
     /// The outcomes.
     pub fn into_outcomes(self) -> Vec<Outcome, Heap>
-        ensures { result.items ≡ self }
+        ensures { rank_outcomes result.items ≡ self }
     {
         let Found {
             outcomes,
@@ -88,7 +90,7 @@ impl Found {
 
 // Whether it stands at the place.
 fn has_at(outcomes: &[Outcome], place: usize, ranks: &[RankEnd]) -> bool
-    ensures { result ≡ true → IsAmong outcomes.now ranks.now }
+    ensures { result ≡ true → IsAmong (rank_outcomes outcomes.now) ranks.now }
 {
     if place >= outcomes.len() {
         return false;
@@ -99,8 +101,8 @@ fn has_at(outcomes: &[Outcome], place: usize, ranks: &[RankEnd]) -> bool
 
 // Whether the outcome is among these.
 fn has(outcomes: &[Outcome], ranks: &[RankEnd]) -> bool
-    ensures yes { result ≡ true → IsAmong outcomes.now ranks.now }
-    ensures no { result ≡ false → IsAmong outcomes.now ranks.now → ⊥ }
+    ensures yes { result ≡ true → IsAmong (rank_outcomes outcomes.now) ranks.now }
+    ensures no { result ≡ false → IsAmong (rank_outcomes outcomes.now) ranks.now → ⊥ }
 {
     for other in outcomes {
         if are_same(&other.ranks, ranks) {

@@ -7,6 +7,7 @@ ghost use Rattle.crash_free.specs.Seen.{act_of};
 ghost use Rattle.crash_free.specs.Sim.{Simulates, inbound_of, start_of};
 ghost use Rattle.crash_free.specs.Wanted.{WantsAt, StandsAtAct};
 ghost use Rattle.final_runs.specs.Maximal.{MayFollow};
+ghost use Rattle.explore.specs.Explored.{noted_choices, rank_outcomes};
 ghost use Rattle.explore.specs.Exploring.{and_then};
 ghost use Rattle.explore.specs.Searching.{IsAlike};
 ghost use Rattle.explore.specs.Shown.{AreMarked, IsMark, IsPast, MayMissShown, MissesShown, shows_to, was_shown};
@@ -36,7 +37,7 @@ pub fn marks_of(
 ) -> Result<Vec<Option<bool>, Heap>, AllocError>
     requires some { 1 ≤ ranks }
     requires few { ranks ≤ most_ranks }
-    ensures { IfOk result (λ marks. AreMarked program.now ranks outcomes.now marks.items) }
+    ensures { IfOk result (λ marks. AreMarked program.now ranks (rank_outcomes outcomes.now) (noted_choices outcomes.now) marks.items) }
 {
     let mut marks = Vec::new(alloc);
     for at in 0..outcomes.len() {
@@ -63,7 +64,7 @@ fn mark_of(
 ) -> Result<Option<bool>, AllocError>
     requires some { 1 ≤ ranks }
     requires few { ranks ≤ most_ranks }
-    ensures { IfOk result (λ mark. IfSome mark (IsMark program.now ranks outcome.now)) }
+    ensures { IfOk result (λ mark. IfSome mark (IsMark program.now ranks outcome.now.ranks outcome.now.choices)) }
 {
     let Some(run) = run_of(alloc, program, ranks, limits, outcome)? else {
         return Ok(None);

@@ -1,8 +1,9 @@
 //! Runs that a search makes.
-ghost use Rattle.std.specs.Prelude.{◌≡◌, ◌<◌, ◌≤◌, IfOk, OnOk, length, sum, slice_index};
+ghost use Rattle.std.specs.Prelude.{◌≡◌, ◌<◌, ◌≤◌, [], IfOk, OnOk, length, sum, slice_index};
 ghost use Rattle.metered.specs.Limits.{most_ranks};
 ghost use Rattle.crash_free.specs.Sim.{Allows, Simulates};
 ghost use Rattle.crash_free.specs.Wanted.{StandsAtAct};
+ghost use Rattle.explore.specs.Chosen.{IsNoteAt};
 
 use crate::moves::{Move, Noted};
 use crate::races::asks_to_probe;
@@ -24,6 +25,7 @@ pub struct Path<'p> {
 }
 
 impl<'p> Path<'p> {
+    ghost use Rattle.explore.specs.Chosen.{KeepsChoices};
     ghost use Rattle.explore.specs.Counts.{Counts, KeepsCount};
     ghost use Rattle.explore.specs.Searching.{Begins};
 
@@ -40,6 +42,7 @@ impl<'p> Path<'p> {
         ensures begins { IfOk result (λ path. Begins program.entry.now ranks path) }
         ensures stands { IfOk result (λ path. Simulates path.sim) }
         ensures counts { IfOk result (λ path. Counts steps path.sim path.left) }
+        ensures none { IfOk result (λ path. path.choices.items ≡ []) }
     {
         Ok(Path {
             sim: Sim::new(alloc, program, ranks)?,
@@ -59,6 +62,7 @@ impl<'p> Path<'p> {
         ensures stands { OnOk result (Simulates self.new.sim) }
         ensures less { OnOk result (sum self.new.left < sum self.old.left) }
         ensures counts { OnOk result (KeepsCount self.old.sim self.old.left self.new.sim self.new.left) }
+        ensures choices { OnOk result (KeepsChoices self.old self.new) }
     {
         let _ = self.sim.ranks();
         let noted = noted(&self.sim, chosen);
@@ -74,8 +78,10 @@ impl<'p> Path<'p> {
     }
 }
 
+#[tactic(auto, using(crate::proofs::Chosen::note_there))]
 fn noted(sim: &Sim<'_>, chosen: Move) -> Noted
     requires { chosen.rank < length sim.now.machines }
+    ensures { IsNoteAt sim.now.machines chosen result }
 {
     Noted {
         chosen,

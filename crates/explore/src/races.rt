@@ -1,5 +1,7 @@
 //! Which receives and probes had several answers.
-ghost use Rattle.std.specs.Prelude.{◌<◌, ◌≤◌, length};
+ghost use Rattle.std.specs.Prelude.{◌≡◌, ◌<◌, ◌≤◌, IsSomeAnd, length, slice_get};
+ghost use Rattle.rank_machine.specs.Machine.{machine_want};
+ghost use Rattle.explore.specs.Chosen.{is_probe};
 ghost use Rattle.explore.specs.Moves.{AreOfRanks};
 
 use crate::moves::Move;
@@ -122,8 +124,10 @@ fn add_answer(race: &mut Race, choice: Choice) {
 }
 
 /// Whether the rank asks for a probe.
+#[tactic(auto, using(crate::proofs::Chosen::probe_asked))]
 pub fn asks_to_probe(sim: &Sim<'_>, rank: u8) -> bool
     requires { rank < length sim.now.machines }
+    ensures { IsSomeAnd (slice_get sim.now.machines rank) (λ machine. result ≡ is_probe (machine_want machine)) }
 {
     match sim.wants(rank) {
         Want::Probe(_) | Want::TryProbe(_) => true,

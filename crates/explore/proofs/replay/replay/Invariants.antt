@@ -1,11 +1,18 @@
 use Rattle.std.proofs.Common.{sum}
 use Rattle.crash_free.specs.Sim.{Simulates}
+use Rattle.explore.specs.Chosen.{KeepsChoices}
+use Rattle.explore.specs.Counts.{KeepsCount}
 use Rattle.explore.specs.Searching.{IsAlike}
 use Rattle.explore.proofs.replay.replay.Given as goal
 
--- so far the ranks are those of the beginning
+-- so far the ranks are those of the beginning, and the choices are those that were made
 abbrev pub invariant-loop-found : goal.invariant-loop-found
-invariant-loop-found l = IsAlike l.initial.path.sim l.path.sim × Simulates l.path.sim
+invariant-loop-found l = record {
+  alike : IsAlike l.initial.path.sim l.path.sim;
+  stands : Simulates l.path.sim;
+  counts : KeepsCount l.initial.path.sim l.initial.path.left l.path.sim l.path.left;
+  choices : KeepsChoices l.initial.path l.path;
+}
 
 abbrev pub decreases-loop-found : goal.decreases-loop-found
 decreases-loop-found l = sum l.path.left

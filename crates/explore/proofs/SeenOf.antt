@@ -1,0 +1,39 @@
+-- Outcomes that were found, and what is seen of their ranks and noted of their choices.
+use Rattle.std.proofs.Common.{◌≡◌, ◌≢◌, ℕ, zero, suc, ◌<◌, List, [], ◌∷◌, ◌++◌, Some, length, slice_get, refl, ap, ◌∙◌}
+use Rattle.std.specs.Prelude.{option_map}
+use Rattle.std.proofs.lemmas.Option.{slice_get-map, slice_get_within}
+use Rattle.final_runs.specs.Maximal.{RankOutcome}
+use Rattle.explore.specs.Explored.{OutcomeValue, noted_choices, rank_outcomes}
+use Rattle.explore.specs.Outcomes.{IsAmong}
+
+-- what is seen of an outcome at a place stands there
+pub seen_at : (xs : List OutcomeValue) (i : ℕ) (x : OutcomeValue) → slice_get xs i ≡ Some x → slice_get (rank_outcomes xs) i ≡ Some x.ranks
+seen_at xs i x there = slice_get-map (λ (o : OutcomeValue). o.ranks) xs i ∙ ap (option_map (λ (o : OutcomeValue). o.ranks)) there
+
+-- so do its choices
+pub choices_at : (xs : List OutcomeValue) (i : ℕ) (x : OutcomeValue) → slice_get xs i ≡ Some x → slice_get (noted_choices xs) i ≡ Some x.choices
+choices_at xs i x there = slice_get-map (λ (o : OutcomeValue). o.choices) xs i ∙ ap (option_map (λ (o : OutcomeValue). o.choices)) there
+
+-- what is seen at a place is seen of the outcome there
+pub seen_back : (xs : List OutcomeValue) (i : ℕ) (o : List RankOutcome) → slice_get (rank_outcomes xs) i ≡ Some o
+    → (x : OutcomeValue) × (slice_get xs i ≡ Some x) × (x.ranks ≡ o)
+seen_back [] i o e = absurd cc
+seen_back (x ∷ xs) zero o e = (x, refl, cc)
+seen_back (x ∷ xs) (suc i) o e = seen_back xs i o e
+
+-- behind others it comes last
+pub seen_push : (xs : List OutcomeValue) (x : OutcomeValue) → rank_outcomes (xs ++ x ∷ []) ≡ rank_outcomes xs ++ x.ranks ∷ []
+seen_push [] x = refl
+seen_push (y ∷ xs) x = ap (λ (r : List (List RankOutcome)). y.ranks ∷ r) (seen_push xs x)
+
+-- an outcome at a place of which just that is seen is among them
+pub seen_among : (xs : List OutcomeValue) (i : ℕ) (x : OutcomeValue) (o : List RankOutcome) → slice_get xs i ≡ Some x → x.ranks ≡ o
+    → IsAmong (rank_outcomes xs) o
+seen_among xs i x o there same = (i, seen_at xs i x there ∙ ap (λ r. Some r) same)
+
+-- where it is seen of none, it isn't among them
+pub seen_nowhere : (xs : List OutcomeValue) (o : List RankOutcome)
+    → ((i : ℕ) (x : OutcomeValue) → i < length xs → slice_get xs i ≡ Some x → x.ranks ≢ o) → IsAmong (rank_outcomes xs) o → ⊥
+seen_nowhere xs o none a =
+    let x = seen_back xs a.0 o a.1 in
+    none a.0 x.0 (slice_get_within xs a.0 x.0 x.1) x.1 x.2
