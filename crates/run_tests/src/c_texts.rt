@@ -1,8 +1,8 @@
 //! Programs as C: the part of the text that differs from program to program, whole.
-use crate::scenes::answer_of;
+use crate::scenes::{Answer, answer_of, ended_with};
+use std::alloc::AllocError;
 use std::process::Abort;
 use std::sync::Wait;
-use std::test::Fail;
 use std::thread::Threads;
 
 /// Programs, each with its own part of the C text. In front of it stands `BEFORE`, and behind it
@@ -115,22 +115,33 @@ const AFTER: &str = "\n// ---- What is the same for every program ----\n";
 fn expect_own_parts<R: Threads + Wait + Sync + Copy + Send + AllocGlobal + Abort>(
     rt: &R,
     rows: &[(&str, &str)],
-) -> Result<(), Fail> {
+) -> Result<(), AllocError> {
     for row in rows {
         let (text, want) = *row;
-        let answer = answer_of(rt, "c p", &[("p", text)])?;
-        assert_eq!(rt; (answer.status, answer.err()), (0, ""), "at {text}");
-        let own = format!(in rt.alloc(); "{BEFORE}{want}{AFTER}")?;
-        assert!(rt;
-            answer.out().contains(own.as_str()),
-            "at {text}: {}",
-            answer.out()
-        );
+        expect_own_part(rt, text, want)?;
     }
     Ok(())
 }
 
+fn expect_own_part<R: Threads + Wait + Sync + Copy + Send + AllocGlobal + Abort>(
+    rt: &R,
+    text: &str,
+    want: &str,
+) -> Result<(), AllocError> {
+    let own = format!(in rt.alloc(); "{BEFORE}{want}{AFTER}")?;
+    let answer = answer_of(rt, "c p", &[("p", text)])?;
+    has_part(rt, text, &answer, own.as_str());
+    Ok(())
+}
+
+// The C text of this program has this part.
+fn has_part(rt: &impl Abort, text: &str, answer: &Answer, own: &str) {
+    ended_with(rt, text, answer, 0, "");
+    let found = answer.out();
+    assert!(rt; found.contains(own), "at {text}: {found}");
+}
+
 #[test]
-fn programs_are_printed_as_c(rt: HostRuntime) -> Result<(), Fail> {
+fn programs_are_printed_as_c(rt: HostRuntime) -> Result<(), AllocError> {
     expect_own_parts(&rt, &TEXTS)
 }

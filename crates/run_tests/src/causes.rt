@@ -1,8 +1,8 @@
 //! Why ranks are unfinished: which limit each met, or that it still replayed.
 use crate::holding::wait_until;
-use metered::limits::MOST_RANKS;
-use rank_language::Program;
-use runner::{Cause, Hold, Report, RunLimits, Script, run};
+use crate::reported::{limits_of, report_of};
+use crate::same::same;
+use runner::{Cause, Hold, Report};
 use std::alloc::{AllocError, Global};
 use std::fmt::Write;
 use std::process::Abort;
@@ -12,7 +12,6 @@ use std::test::Fail;
 use std::thread::Threads;
 
 /// A run, and why each of its ranks is unfinished.
-#[derive(Debug)]
 struct Row {
     ranks: u8,
     program: &'static str,
@@ -85,7 +84,7 @@ const ROWS: [Row; 7] = [
 ];
 
 /// Waits for no act.
-#[derive(Drop)]
+#[derive(Clone, Copy)]
 struct Nobody;
 
 impl Hold for Nobody {
@@ -96,15 +95,19 @@ impl Hold for Nobody {
 fn causes_text(alloc: Global, report: &Report) -> Result<String, AllocError> {
     let mut text = String::new(alloc);
     for cause in report.causes.iter() {
-        match cause {
-            Some(Cause::Steps(made)) => writeln!(text, "steps {made}")?,
-            Some(Cause::Clock(clock)) => writeln!(text, "clock {clock}")?,
-            Some(Cause::Events) => writeln!(text, "events")?,
-            Some(Cause::Replay(clock)) => writeln!(text, "replay {clock}")?,
-            None => writeln!(text, "none")?,
-        }
+        print_cause(&mut text, *cause)?;
     }
     Ok(text)
+}
+
+fn print_cause(text: &mut String, cause: Option<Cause>) -> Result<(), AllocError> {
+    match cause {
+        Some(Cause::Steps(made)) => writeln!(text, "steps {made}"),
+        Some(Cause::Clock(clock)) => writeln!(text, "clock {clock}"),
+        Some(Cause::Events) => text.push_str("events\n"),
+        Some(Cause::Replay(clock)) => writeln!(text, "replay {clock}"),
+        None => text.push_str("none\n"),
+    }
 }
 
 // The run of this row has these causes.
@@ -113,18 +116,21 @@ fn expect<R: Threads + Wait + Sync + Copy + Send + AllocGlobal + Abort, H: Hold 
     row: &Row,
     hold: &H,
 ) -> Result<(), Fail> {
-    assert!(rt; 0 < row.ranks && usize::from(row.ranks) <= MOST_RANKS);
-    let alloc = rt.alloc();
-    let program = Program::parse(alloc, row.program.as_bytes())?;
-    let script = Script::parse(alloc, row.script.as_bytes(), row.ranks)?;
-    let limits = RunLimits {
-        idle: 1000,
-        steps: row.steps,
-        images_every: None,
-    };
-    let report = run(rt, alloc, &program, row.ranks, &script, limits, hold)?;
-    let got = causes_text(alloc, &report)?;
-    assert_eq!(rt; got.as_str(), row.want, "at {row:?}");
+    let texts = (row.ranks, row.program, row.script);
+    let report = report_of(rt, texts, limits_of(1000, row.steps), hold)?;
+    Ok(are_causes(rt, rt.alloc(), row, &report)?)
+}
+
+// These are the causes.
+fn are_causes(
+    rt: &impl Abort,
+    alloc: Global,
+    row: &Row,
+    report: &Report,
+) -> Result<(), AllocError> {
+    let got = causes_text(alloc, report)?;
+    let case = format_args!("at {:?} under {:?}", row.program, row.script);
+    same(rt, case, &got.as_str(), &row.want);
     Ok(())
 }
 

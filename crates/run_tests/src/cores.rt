@@ -1,10 +1,10 @@
 //! The core answers as the whole program does, and leaves out what it hasn't.
+use crate::same::same;
 use crate::scenes::{Answer, Table, answer_of, words_of};
 use core_runner::core_command;
 use std::alloc::AllocError;
 use std::process::Abort;
 use std::sync::Wait;
-use std::test::Fail;
 use std::thread::Threads;
 
 /// A program, a script for it, and events.
@@ -64,49 +64,64 @@ fn core_answer_of<R: Threads + Wait + Sync + Copy + Send + AllocGlobal>(
     let alloc = rt.alloc();
     let line = format!(in alloc; "ftmpi {words}")?;
     let words = words_of(alloc, line.as_str())?;
+    Ok(core_answer_to(rt, words.as_slice()))
+}
+
+// Calls it with all these words.
+fn core_answer_to<R: Threads + Wait + Sync + Copy + Send + AllocGlobal>(
+    rt: &R,
+    words: &[String],
+) -> Answer {
+    let alloc = rt.alloc();
     let mut files = Table {
         alloc,
         files: FILES.as_slice(),
     };
     let mut out = Vec::new(alloc);
     let mut err = Vec::new(alloc);
-    let status = core_command(rt, alloc, words.as_slice(), &mut files, &mut out, &mut err);
-    Ok(Answer { status, out, err })
+    let status = core_command(rt, alloc, words, &mut files, &mut out, &mut err);
+    Answer { status, out, err }
 }
 
 fn are_same<R: Threads + Wait + Sync + Copy + Send + AllocGlobal + Abort>(
     rt: &R,
     rows: &[(&str, u8)],
-) -> Result<(), Fail> {
+) -> Result<(), AllocError> {
     for row in rows {
         let (words, status) = *row;
         let whole = answer_of(rt, words, FILES.as_slice())?;
         let core = core_answer_of(rt, words)?;
-        let found = (core.status, core.out(), core.err());
-        assert_eq!(rt; found, (status, whole.out(), whole.err()), "at {words}");
-        assert_eq!(rt; whole.status, status, "at {words}");
+        is_same(rt, words, &core, &whole, status);
     }
     Ok(())
+}
+
+// Both answered the same, with this status.
+fn is_same<'a>(rt: &impl Abort, words: &'a str, core: &'a Answer, whole: &'a Answer, status: u8) {
+    let found = (core.status, core.out(), core.err());
+    same(rt, words, &found, &(status, whole.out(), whole.err()));
+    same(rt, words, &whole.status, &status);
 }
 
 fn are_left_out<R: Threads + Wait + Sync + Copy + Send + AllocGlobal + Abort>(
     rt: &R,
     rows: &[&str],
-) -> Result<(), Fail> {
+) -> Result<(), AllocError> {
     for words in rows {
         let core = core_answer_of(rt, words)?;
-        let want = "the core has check, run, world without --json, and catch-up alone\n";
-        assert_eq!(rt;
-            (core.status, core.out(), core.err()),
-            (6, "", want),
-            "at {words}"
-        );
+        is_left_out(rt, words, &core);
     }
     Ok(())
 }
 
+fn is_left_out<'a>(rt: &impl Abort, words: &'a str, core: &'a Answer) {
+    let want = "the core has check, run, world without --json, and catch-up alone\n";
+    let found = (core.status, core.out(), core.err());
+    same(rt, words, &found, &(6, "", want));
+}
+
 #[test]
-fn cores(rt: HostRuntime) -> Result<(), Fail> {
+fn cores(rt: HostRuntime) -> Result<(), AllocError> {
     are_same(&rt, &SAME)?;
     are_left_out(&rt, &LEFT_OUT)
 }

@@ -2,9 +2,11 @@
 //! a frame that a crash drops.
 use crate::holding::wait_until;
 use crate::kills::OWN;
+use crate::reported::{limits_of, report_of};
+use crate::same::same;
 use crate::scenes::{Scripted, expect_scripted};
-use rank_language::Program;
-use runner::{Hold, RunLimits, Script, run};
+use runner::{Hold, Report};
+use std::alloc::{AllocError, Global};
 use std::fmt::Write;
 use std::process::Abort;
 use std::sync::Wait;
@@ -168,7 +170,7 @@ crashes 1, logger calls 1
 ];
 
 #[test]
-fn costs_are_printed(rt: HostRuntime) -> Result<(), Fail> {
+fn costs_are_printed(rt: HostRuntime) -> Result<(), AllocError> {
     expect_scripted(&rt, &TABLES)
 }
 
@@ -207,19 +209,20 @@ end
 fn expect_dropped<R: Threads + Wait + Sync + Copy + Send + AllocGlobal + Abort>(
     rt: &R,
 ) -> Result<(), Fail> {
-    let alloc = rt.alloc();
-    let program = Program::parse(alloc, DROPPED.as_bytes())?;
     let hold = OnItsWay {
         of_rank_0: AtomicU64::new(0),
         of_rank_1: AtomicU64::new(0),
     };
-    let limits = RunLimits {
-        idle: 1000,
-        steps: 1000,
-        images_every: None,
-    };
-    let script = Script::parse(alloc, b"kill 1 at 1\n", 2)?;
-    let report = run(rt, alloc, &program, 2, &script, limits, &hold)?;
+    let texts = (2, DROPPED, "kill 1 at 1\n");
+    let report = report_of(rt, texts, limits_of(1000, 1000), &hold)?;
+    let text = costs_text(rt.alloc(), &report)?;
+    let want = "2 0, 1 1, 0, 0\n3 1, 0 0, 2, 1\n";
+    same(rt, "costs", &text.as_str(), &want);
+    Ok(())
+}
+
+// Acts and messages, those made again, asks, and what was dropped, a line for each rank.
+fn costs_text(alloc: Global, report: &Report) -> Result<String, AllocError> {
     let mut text = String::new(alloc);
     for one in report.costs.iter() {
         let (acts, again) = (one.acts, one.acts_again);
@@ -227,8 +230,7 @@ fn expect_dropped<R: Threads + Wait + Sync + Copy + Send + AllocGlobal + Abort>(
         let (asks, dropped) = (one.asks, one.dropped);
         writeln!(text, "{acts} {again}, {sent} {resent}, {asks}, {dropped}")?;
     }
-    assert_eq!(rt; text.as_str(), "2 0, 1 1, 0, 0\n3 1, 0 0, 2, 1\n");
-    Ok(())
+    Ok(text)
 }
 
 #[test]

@@ -1,9 +1,9 @@
 //! Runs whose ranks are killed at each of their acts, once and twice, with an image before and without.
 use crate::kills::{COLLECTIVES, OWN, TRIPS};
-use crate::scenes::expect_answer;
+use crate::scenes::expect_job;
+use std::alloc::AllocError;
 use std::process::Abort;
 use std::sync::Wait;
-use std::test::Fail;
 use std::thread::Threads;
 
 /// A miss, a line, a message to itself past another tag's miss, and a miss again.
@@ -118,35 +118,75 @@ fn expect_killed<R: Threads + Wait + Sync + Copy + Send + AllocGlobal + Abort>(
     script: &str,
     crashes: u32,
     calls: u32,
-) -> Result<(), Fail> {
-    let alloc = rt.alloc();
-    let words = format!(in alloc; "run {} --script s p", killed.options)?;
+) -> Result<(), AllocError> {
+    let lines = killed.out;
+    let out = format!(in rt.alloc(); "{lines}crashes {crashes}, logger calls {calls}\n")?;
+    let job = ("run", killed.options, "--script s p");
     let files = [("p", killed.program), ("s", script)];
-    let out = format!(in alloc; "{}crashes {crashes}, logger calls {calls}\n", killed.out)?;
-    expect_answer(rt, words.as_str(), &files, (0, out.as_str(), ""))
+    expect_job(rt, job, &files, (0, out.as_str(), ""))
+}
+
+// So it is where the rank is killed at this clock.
+fn expect_killed_once<R: Threads + Wait + Sync + Copy + Send + AllocGlobal + Abort>(
+    rt: &R,
+    killed: &Killed,
+    clock: u32,
+) -> Result<(), AllocError> {
+    let rank = killed.rank;
+    let script = format!(in rt.alloc(); "kill {rank} at {clock}\n")?;
+    expect_killed(rt, killed, script.as_str(), 1, killed.calls)
+}
+
+/// A line of a script: what is done to which rank, and at which clock.
+type Order = (&'static str, u32, u32);
+
+// So it is under a script of these two lines, with so many crashes and calls.
+fn expect_ordered<R: Threads + Wait + Sync + Copy + Send + AllocGlobal + Abort>(
+    rt: &R,
+    killed: &Killed,
+    first: Order,
+    second: Order,
+    counts: (u32, u32),
+) -> Result<(), AllocError> {
+    let (order, rank, clock) = first;
+    let (other, whose, when) = second;
+    let script = format!(in rt.alloc(); "{order} {rank} at {clock}\n{other} {whose} at {when}\n")?;
+    expect_killed(rt, killed, script.as_str(), counts.0, counts.1)
 }
 
 #[test]
-fn at_each_act(rt: HostRuntime) -> Result<(), Fail> {
+fn at_each_act(rt: HostRuntime) -> Result<(), AllocError> {
     for killed in &RANKS {
-        let rank = killed.rank;
         for clock in 1..=killed.acts {
-            let script = format!(in rt.alloc(); "kill {rank} at {clock}\n")?;
-            expect_killed(&rt, killed, script.as_str(), 1, killed.calls)?;
+            expect_killed_once(&rt, killed, clock)?;
         }
     }
     Ok(())
 }
 
 #[test]
-fn at_each_act_above_an_image(rt: HostRuntime) -> Result<(), Fail> {
+fn at_each_act_above_an_image(rt: HostRuntime) -> Result<(), AllocError> {
     for killed in &RANKS {
-        let (rank, image) = (killed.rank, killed.image);
+        let image = ("image", killed.rank, killed.image);
         for clock in killed.above..=killed.acts {
-            let script = format!(in rt.alloc();
-                "image {rank} at {image}\nkill {rank} at {clock}\n"
-            )?;
-            expect_killed(&rt, killed, script.as_str(), 1, killed.calls)?;
+            let kill = ("kill", killed.rank, clock);
+            expect_ordered(&rt, killed, image, kill, (1, killed.calls))?;
+        }
+    }
+    Ok(())
+}
+
+// So it is where the first of these ranks is killed at each act, and then the second one.
+fn expect_killed_twice<R: Threads + Wait + Sync + Copy + Send + AllocGlobal + Abort>(
+    rt: &R,
+    killed: &Killed,
+    ranks: (u32, u32),
+) -> Result<(), AllocError> {
+    for first in 1..=killed.acts {
+        for second in 1..=killed.acts {
+            let kill = ("kill", ranks.0, first);
+            let again = ("kill", ranks.1, second);
+            expect_ordered(rt, killed, kill, again, (2, 10))?;
         }
     }
     Ok(())
@@ -154,29 +194,14 @@ fn at_each_act_above_an_image(rt: HostRuntime) -> Result<(), Fail> {
 
 /// The second kill comes after the first, at the same act, or in the replay.
 #[test]
-fn twice(rt: HostRuntime) -> Result<(), Fail> {
+fn twice(rt: HostRuntime) -> Result<(), AllocError> {
     for killed in &RANKS[..2] {
-        let rank = killed.rank;
-        for first in 1..=killed.acts {
-            for second in 1..=killed.acts {
-                let script = format!(in rt.alloc();
-                    "kill {rank} at {first}\nkill {rank} at {second}\n"
-                )?;
-                expect_killed(&rt, killed, script.as_str(), 2, 10)?;
-            }
-        }
+        expect_killed_twice(&rt, killed, (killed.rank, killed.rank))?;
     }
     Ok(())
 }
 
 #[test]
-fn both_ranks(rt: HostRuntime) -> Result<(), Fail> {
-    let killed = &RANKS[0];
-    for first in 1..=killed.acts {
-        for second in 1..=killed.acts {
-            let script = format!(in rt.alloc(); "kill 0 at {first}\nkill 1 at {second}\n")?;
-            expect_killed(&rt, killed, script.as_str(), 2, 10)?;
-        }
-    }
-    Ok(())
+fn both_ranks(rt: HostRuntime) -> Result<(), AllocError> {
+    expect_killed_twice(&rt, &RANKS[0], (0, 1))
 }

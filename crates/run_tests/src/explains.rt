@@ -1,6 +1,9 @@
 //! Texts with a fault, and what `explain` tells of each.
 use crate::scenes::expect_answer;
-use std::test::*;
+use std::alloc::AllocError;
+use std::process::Abort;
+use std::sync::Wait;
+use std::thread::Threads;
 
 /// Programs.
 const PROGRAMS: [(&str, &str); 47] = [
@@ -266,25 +269,29 @@ const EVENTS: [(&str, &str); 6] = [
     ),
 ];
 
-#[test]
-fn faults_are_explained(rt: HostRuntime) -> Result<(), Fail> {
-    for (text, want) in &PROGRAMS {
-        expect_answer(&rt, "explain p", &[("p", *text)], (2, *want, ""))?;
-    }
-    for (text, want) in &SCRIPTS {
-        let files = [("p", "print 1\n"), ("s", *text)];
-        expect_answer(
-            &rt,
-            "explain --ranks 2 --script s p",
-            &files,
-            (2, *want, ""),
-        )?;
-    }
-    for (text, want) in &EVENTS {
-        let files = [("p", "print 1\n"), ("e", *text)];
-        expect_answer(&rt, "explain --events e p", &files, (2, *want, ""))?;
+// Each of these texts is explained so, as the file of this name beside others, to which these words come.
+fn expect_explained<R: Threads + Wait + Sync + Copy + Send + AllocGlobal + Abort>(
+    rt: &R,
+    words: &str,
+    name: &str,
+    status: u8,
+    rows: &[(&str, &str)],
+) -> Result<(), AllocError> {
+    for row in rows {
+        let (text, want) = *row;
+        // the first file of a name is read
+        let files = [(name, text), ("p", "print 1\n"), ("e", "step 0\n")];
+        expect_answer(rt, words, &files, (status, want, ""))?;
     }
     Ok(())
+}
+
+#[test]
+fn faults_are_explained(rt: HostRuntime) -> Result<(), AllocError> {
+    expect_explained(&rt, "explain p", "p", 2, &PROGRAMS)?;
+    let words = "explain --ranks 2 --script s p";
+    expect_explained(&rt, words, "s", 2, &SCRIPTS)?;
+    expect_explained(&rt, "explain --events e p", "e", 2, &EVENTS)
 }
 
 /// A script, and what is told of it where no text has a fault.
@@ -305,11 +312,8 @@ const UNMET: [(&str, &str); 4] = [
 ];
 
 #[test]
-fn lines_that_no_run_uses_are_told(rt: HostRuntime) -> Result<(), Fail> {
-    for (script, want) in &UNMET {
-        let files = [("p", "print 1\n"), ("s", *script), ("e", "step 0\n")];
-        let words = "explain --ranks 2 --script s --events e p";
-        expect_answer(&rt, words, &files, (0, *want, ""))?;
-    }
+fn lines_that_no_run_uses_are_told(rt: HostRuntime) -> Result<(), AllocError> {
+    let words = "explain --ranks 2 --script s --events e p";
+    expect_explained(&rt, words, "s", 0, &UNMET)?;
     expect_answer(&rt, "explain none", &[], (2, "", "cannot read none\n"))
 }

@@ -1,8 +1,8 @@
 //! Faults of statements.
-use crate::scenes::expect_run;
+use crate::scenes::expect_job;
+use std::alloc::AllocError;
 use std::process::Abort;
 use std::sync::Wait;
-use std::test::Fail;
 use std::thread::Threads;
 
 /// Statements with the fault at which one rank stands.
@@ -51,18 +51,27 @@ const FAULTS: [(&str, u8); 38] = [
 fn expect_faults<R: Threads + Wait + Sync + Copy + Send + AllocGlobal + Abort>(
     rt: &R,
     rows: &[(&str, u8)],
-) -> Result<(), Fail> {
-    let alloc = rt.alloc();
+) -> Result<(), AllocError> {
     for row in rows {
         let (statement, fault) = *row;
-        let text = format!(in alloc; "var x\n{statement}\nprint 1\n")?;
-        let out = format!(in alloc; "rank 0: fault {fault}\ncrashes 0, logger calls 0\n")?;
-        expect_run(rt, "--ranks 1", text.as_str(), 1, out.as_str())?;
+        expect_fault(rt, statement, fault)?;
     }
     Ok(())
 }
 
+fn expect_fault<R: Threads + Wait + Sync + Copy + Send + AllocGlobal + Abort>(
+    rt: &R,
+    statement: &str,
+    fault: u8,
+) -> Result<(), AllocError> {
+    let alloc = rt.alloc();
+    let text = format!(in alloc; "var x\n{statement}\nprint 1\n")?;
+    let out = format!(in alloc; "rank 0: fault {fault}\ncrashes 0, logger calls 0\n")?;
+    let job = ("run", "--ranks 1", "p");
+    expect_job(rt, job, &[("p", text.as_str())], (1, out.as_str(), ""))
+}
+
 #[test]
-fn faults(rt: HostRuntime) -> Result<(), Fail> {
+fn faults(rt: HostRuntime) -> Result<(), AllocError> {
     expect_faults(&rt, &FAULTS)
 }

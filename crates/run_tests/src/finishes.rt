@@ -1,9 +1,9 @@
 //! Events that lead a world to its end, whole: what `catch-up --to-the-end` prints, and that `world` plays
 //! it behind the events before it; and why a world isn't led there.
-use crate::scenes::expect_answer;
+use crate::scenes::{expect_answer, expect_job};
+use std::alloc::AllocError;
 use std::process::Abort;
 use std::sync::Wait;
-use std::test::Fail;
 use std::thread::Threads;
 
 /// Rank 0 sends 41, and rank 1 prints one more.
@@ -214,7 +214,7 @@ fn expect_output<'a, R: Threads + Wait + Sync + Copy + Send + AllocGlobal + Abor
     program: &'a str,
     events: &'a str,
     out: &'a str,
-) -> Result<(), Fail> {
+) -> Result<(), AllocError> {
     expect_answer(rt, words, &[("p", program), ("e", events)], (0, out, ""))
 }
 
@@ -222,21 +222,39 @@ fn expect_output<'a, R: Threads + Wait + Sync + Copy + Send + AllocGlobal + Abor
 fn is_finished<R: Threads + Wait + Sync + Copy + Send + AllocGlobal + Abort>(
     rt: &R,
     row: &Finished,
-) -> Result<(), Fail> {
-    let alloc = rt.alloc();
-    let finish = format!(in alloc; "catch-up {} --ranks {} p e", row.options, row.ranks)?;
-    expect_output(rt, finish.as_str(), row.program, row.events, row.more)?;
-    let all = format!(in alloc; "{}{}", row.events, row.more)?;
-    let world = format!(in alloc; "world --ranks {} p e", row.ranks)?;
-    expect_output(rt, world.as_str(), row.program, all.as_str(), row.out)?;
-    expect_output(rt, finish.as_str(), row.program, all.as_str(), "")
+) -> Result<(), AllocError> {
+    let all = format!(in rt.alloc(); "{}{}", row.events, row.more)?;
+    is_led(rt, row, row.events, row.more)?;
+    is_played(rt, row, all.as_str())?;
+    is_led(rt, row, all.as_str(), "")
+}
+
+// This leads a world of these events to its end.
+fn is_led<R: Threads + Wait + Sync + Copy + Send + AllocGlobal + Abort>(
+    rt: &R,
+    row: &Finished,
+    events: &str,
+    more: &str,
+) -> Result<(), AllocError> {
+    let words = format!(in rt.alloc(); "catch-up {} --ranks {} p e", row.options, row.ranks)?;
+    expect_output(rt, words.as_str(), row.program, events, more)
+}
+
+// A world plays all these events.
+fn is_played<R: Threads + Wait + Sync + Copy + Send + AllocGlobal + Abort>(
+    rt: &R,
+    row: &Finished,
+    events: &str,
+) -> Result<(), AllocError> {
+    let words = format!(in rt.alloc(); "world --ranks {} p e", row.ranks)?;
+    expect_output(rt, words.as_str(), row.program, events, row.out)
 }
 
 // So it is with each of these.
 fn are_finished<R: Threads + Wait + Sync + Copy + Send + AllocGlobal + Abort>(
     rt: &R,
     rows: &[Finished],
-) -> Result<(), Fail> {
+) -> Result<(), AllocError> {
     for row in rows {
         is_finished(rt, row)?;
     }
@@ -277,18 +295,18 @@ const UNFINISHED: [(&str, &str, &str, &str); 5] = [
 fn are_unfinished<R: Threads + Wait + Sync + Copy + Send + AllocGlobal + Abort>(
     rt: &R,
     rows: &[(&str, &str, &str, &str)],
-) -> Result<(), Fail> {
+) -> Result<(), AllocError> {
     for row in rows {
         let (options, program, events, error) = *row;
-        let words = format!(in rt.alloc(); "catch-up --to-the-end {options} p e")?;
+        let job = ("catch-up --to-the-end", options, "p e");
         let files = [("p", program), ("e", events)];
-        expect_answer(rt, words.as_str(), &files, (1, "", error))?;
+        expect_job(rt, job, &files, (1, "", error))?;
     }
     Ok(())
 }
 
 #[test]
-fn worlds_are_led_to_their_end(rt: HostRuntime) -> Result<(), Fail> {
+fn worlds_are_led_to_their_end(rt: HostRuntime) -> Result<(), AllocError> {
     are_finished(&rt, &FINISHED)?;
     are_unfinished(&rt, &UNFINISHED)
 }

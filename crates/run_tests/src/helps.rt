@@ -10,10 +10,11 @@ use crate::helps::runs::{RUN, TRACE};
 use crate::helps::soaks::SOAK;
 use crate::helps::whole::{C, CHECK, EXPLAIN, EXPLORE, PROGRAM};
 use crate::helps::worlds::{CATCH_UP, WORLD};
-use crate::scenes::answer_of;
+use crate::same::same;
+use crate::scenes::{Answer, answer_of};
+use std::alloc::AllocError;
 use std::process::Abort;
 use std::sync::Wait;
-use std::test::*;
 use std::thread::Threads;
 
 /// Words, and all that they print.
@@ -39,21 +40,26 @@ const HELPS: [(&str, &str); 15] = [
 fn say_all<R: Threads + Wait + Sync + Copy + Send + AllocGlobal + Abort>(
     rt: &R,
     rows: &[(&str, &str)],
-) -> Result<(), Fail> {
+) -> Result<(), AllocError> {
     for row in rows {
         let (words, want) = *row;
         let answer = answer_of(rt, words, &[])?;
-        let found = (answer.status, answer.out(), answer.err());
-        assert_eq!(rt; found, (0, want, ""), "at {words}");
-        assert!(rt;
-            answer.out().lines().all(|line| line.len() <= 80),
-            "a line of {words} is too long"
-        );
+        is_help(rt, words, &answer, want);
     }
     Ok(())
 }
 
+// This was printed, in lines that aren't too long.
+fn is_help<'a>(rt: &impl Abort, words: &'a str, answer: &'a Answer, want: &'a str) {
+    let found = (answer.status, answer.out(), answer.err());
+    same(rt, words, &found, &(0, want, ""));
+    assert!(rt;
+        answer.out().lines().all(|line| line.len() <= 80),
+        "a line of {words} is too long"
+    );
+}
+
 #[test]
-fn help_says_what_there_is(rt: HostRuntime) -> Result<(), Fail> {
+fn help_says_what_there_is(rt: HostRuntime) -> Result<(), AllocError> {
     say_all(&rt, &HELPS)
 }

@@ -1,7 +1,8 @@
 //! When a run tells its `Hold` of an act: before the act is made, and of one that
 //! is blocked in every turn.
-use rank_language::Program;
-use runner::{Hold, Report, RunLimits, Script, run};
+use crate::reported::{limits_of, report_under};
+use crate::same::same;
+use runner::{Hold, Line, Report, Script};
 use std::process::Abort;
 use std::sync::Wait;
 use std::sync::atomic::{AtomicBool, AtomicU64, Ordering};
@@ -27,15 +28,8 @@ fn held_run<R: Threads + Wait + Sync + Copy + Send + AllocGlobal + Abort, H: Hol
     text: &str,
     hold: &H,
 ) -> Result<Report, Fail> {
-    let alloc = rt.alloc();
-    let program = Program::parse(alloc, text.as_bytes())?;
-    let limits = RunLimits {
-        idle: 1000,
-        steps: 1000,
-        images_every: None,
-    };
-    let script = Script::new(alloc);
-    Ok(run(rt, alloc, &program, 2, &script, limits, hold)?)
+    let script = Script::new(rt.alloc());
+    report_under(rt, 2, text, &script, limits_of(1000, 1000), hold)
 }
 
 // Rank 0 makes no act before rank 1 is told of its third one, and rank 1 none before rank 0 is told of its first.
@@ -67,10 +61,14 @@ fn expect_told_before<R: Threads + Wait + Sync + Copy + Send + AllocGlobal + Abo
     };
     let text = "if rank\nprint 2\nprint 3\nprint 4\nelse\nprint 1\nend\n";
     let report = held_run(rt, text, &hold)?;
-    let lines = report.outcome.lines.as_slice();
-    assert_eq!(rt; lines.len(), 4);
-    assert!(rt; lines.iter().take(2).all(|line| line.rank == 1));
+    begin_with_rank_1(rt, report.outcome.lines.as_slice());
     Ok(())
+}
+
+// Of four lines the first two are those of rank 1.
+fn begin_with_rank_1(rt: &impl Abort, lines: &[Line]) {
+    same(rt, "lines", &lines.len(), &4);
+    assert!(rt; lines.iter().take(2).all(|line| line.rank == 1));
 }
 
 #[test]
@@ -111,10 +109,14 @@ fn expect_told_again<R: Threads + Wait + Sync + Copy + Send + AllocGlobal + Abor
     };
     let text = "var x\nif rank\nrecv 0, 5, x\nelse\nsend 1, 4, 8\nsend 1, 5, 9\nend\n";
     let report = held_run(rt, text, &hold)?;
+    is_told_in_turns(rt, &hold, report.calls.as_slice());
+    Ok(())
+}
+
+fn is_told_in_turns<'a>(rt: &impl Abort, hold: &Counting, calls: &'a [u64]) {
     assert!(rt; hold.told.load(Ordering::SeqCst) >= 2 * TURNS);
     assert!(rt; !hold.is_gapped.load(Ordering::SeqCst));
-    assert_eq!(rt; report.calls.as_slice(), [0u64, 1].as_slice());
-    Ok(())
+    same(rt, "calls", &calls, &[0u64, 1].as_slice());
 }
 
 #[test]

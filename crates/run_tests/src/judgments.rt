@@ -1,8 +1,8 @@
 //! Verdicts on outcomes, as `judge` prints them. What is expected was found by hand, act by act.
-use crate::scenes::expect_answer;
+use crate::scenes::expect_job;
+use std::alloc::AllocError;
 use std::process::Abort;
 use std::sync::Wait;
-use std::test::Fail;
 use std::thread::Threads;
 
 /// An outcome that is judged: its options, the texts of the program and of the outcome, the status, and what is written to
@@ -20,12 +20,11 @@ type Judged = (
 fn expect_verdicts<R: Threads + Wait + Sync + Copy + Send + AllocGlobal + Abort>(
     rt: &R,
     rows: &[Judged],
-) -> Result<(), Fail> {
+) -> Result<(), AllocError> {
     for row in rows {
         let (options, program, outcome, status, out, err) = *row;
-        let words = format!(in rt.alloc(); "judge {options} p o")?;
         let files = [("p", program), ("o", outcome)];
-        expect_answer(rt, words.as_str(), &files, (status, out, err))?;
+        expect_job(rt, ("judge", options, "p o"), &files, (status, out, err))?;
     }
     Ok(())
 }
@@ -170,7 +169,7 @@ rank 1: halted
 ];
 
 #[test]
-fn some_run_has_it(rt: HostRuntime) -> Result<(), Fail> {
+fn some_run_has_it(rt: HostRuntime) -> Result<(), AllocError> {
     expect_verdicts(&rt, &YES)
 }
 
@@ -360,7 +359,7 @@ rank 1 could have: end 1 stalled
 ];
 
 #[test]
-fn no_run_has_it(rt: HostRuntime) -> Result<(), Fail> {
+fn no_run_has_it(rt: HostRuntime) -> Result<(), AllocError> {
     expect_verdicts(&rt, &NO)
 }
 
@@ -564,6 +563,6 @@ const REFUSED: [Judged; 24] = [
 ];
 
 #[test]
-fn outcomes_are_refused(rt: HostRuntime) -> Result<(), Fail> {
+fn outcomes_are_refused(rt: HostRuntime) -> Result<(), AllocError> {
     expect_verdicts(&rt, &REFUSED)
 }

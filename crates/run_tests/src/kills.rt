@@ -1,6 +1,9 @@
 //! Runs whose ranks are killed, with what they write.
 use crate::scenes::{Scripted, expect_answer, expect_scripted};
-use std::test::Fail;
+use std::alloc::AllocError;
+use std::process::Abort;
+use std::sync::Wait;
+use std::thread::Threads;
 
 /// Rank 0 sends 41, and rank 1 prints one more.
 const ANSWER: &str =
@@ -248,7 +251,7 @@ const KILLS: [Scripted; 18] = [
 ];
 
 #[test]
-fn kills(rt: HostRuntime) -> Result<(), Fail> {
+fn kills(rt: HostRuntime) -> Result<(), AllocError> {
     expect_scripted(&rt, &KILLS)
 }
 
@@ -317,14 +320,22 @@ const POLLED: [Scripted; 8] = [
     },
 ];
 
+// Rank 0 polls five times and is killed at this clock.
+fn expect_polled<R: Threads + Wait + Sync + Copy + Send + AllocGlobal + Abort>(
+    rt: &R,
+    clock: u32,
+) -> Result<(), AllocError> {
+    let script = format!(in rt.alloc(); "kill 0 at {clock}\n")?;
+    let files = [("p", FIVE_MISSES), ("s", script.as_str())];
+    let out = "0> 0\nrank 0: halted\ncrashes 1, logger calls 2\n";
+    expect_answer(rt, "run --ranks 1 --script s p", &files, (0, out, ""))
+}
+
 #[test]
-fn misses_in_succession_are_one_call(rt: HostRuntime) -> Result<(), Fail> {
+fn misses_in_succession_are_one_call(rt: HostRuntime) -> Result<(), AllocError> {
     expect_scripted(&rt, &POLLED)?;
     for clock in 1..=6u32 {
-        let script = format!(in rt.alloc(); "kill 0 at {clock}\n")?;
-        let files = [("p", FIVE_MISSES), ("s", script.as_str())];
-        let out = "0> 0\nrank 0: halted\ncrashes 1, logger calls 2\n";
-        expect_answer(&rt, "run --ranks 1 --script s p", &files, (0, out, ""))?;
+        expect_polled(&rt, clock)?;
     }
     Ok(())
 }

@@ -46,7 +46,11 @@ mod plays;
 #[cfg(test)]
 mod refusals;
 #[cfg(test)]
+mod reported;
+#[cfg(test)]
 mod reports;
+#[cfg(test)]
+mod same;
 #[cfg(test)]
 mod scenes;
 #[cfg(test)]

@@ -1,10 +1,9 @@
 //! Runs that a limit ends.
-use crate::scenes::{Run, answer_of, expect_runs};
+use crate::scenes::{Answer, Run, answer_of, ended_with, expect_runs};
 use std::alloc::{AllocError, Global};
 use std::fmt::Write;
 use std::process::Abort;
 use std::sync::Wait;
-use std::test::Fail;
 use std::thread::Threads;
 
 /// Runs that `--steps` or `--idle` ends, or would end a step later.
@@ -84,40 +83,46 @@ const LIMITS: [Run; 11] = [
 ];
 
 #[test]
-fn limits(rt: HostRuntime) -> Result<(), Fail> {
+fn limits(rt: HostRuntime) -> Result<(), AllocError> {
     expect_runs(&rt, &LIMITS)
 }
 
 /// A rank sends messages to itself for ever.
 const TO_ITSELF: &str = "var x\nwhile 1\nsend 0, 0, 1\nrecv 0, 0, x\nend\n";
 
+// A text that begins so, and then has these two with its number between them for each round.
+fn text_of_rounds(
+    alloc: Global,
+    begin: &str,
+    round: (&str, &str),
+    rounds: u32,
+) -> Result<String, AllocError> {
+    let (before, behind) = round;
+    let mut text = String::from_str(alloc, begin)?;
+    for number in 0..rounds {
+        write!(text, "{before}{number}{behind}")?;
+    }
+    Ok(text)
+}
+
 // The events of so many messages of a rank to itself, and a step and a try of the one after.
 fn events_of_rounds(alloc: Global, rounds: u32) -> Result<String, AllocError> {
-    let mut events = String::from_str(alloc, "step 0\n")?;
-    for round in 0..rounds {
-        events.push_str("step 0\nstep 0\nput 0 0\n")?;
-        write!(events, "arrive 0 0 {round}\nstep 0\n")?;
-        events.push_str("store 0\nack 0\nstep 0\n")?;
-    }
-    Ok(events)
+    let before = "step 0\nstep 0\nput 0 0\narrive 0 0 ";
+    let behind = "\nstep 0\nstore 0\nack 0\nstep 0\n";
+    text_of_rounds(alloc, "step 0\n", (before, behind), rounds)
 }
 
 // A crash behind so many rounds and a step into the next, and the whole replay. The frames of the wires come again.
 fn replay_of_rounds(alloc: Global, rounds: u32) -> Result<String, AllocError> {
-    let mut events = String::from_str(alloc, "crash 0\nrestart 0\nstep 0\n")?;
-    for round in 0..rounds {
-        write!(
-            events,
-            "step 0\nstep 0\narrive 0 0 {round}\nstep 0\nstep 0\n"
-        )?;
-    }
-    Ok(events)
+    let begin = "crash 0\nrestart 0\nstep 0\n";
+    let before = "step 0\nstep 0\narrive 0 0 ";
+    let behind = "\nstep 0\nstep 0\n";
+    text_of_rounds(alloc, begin, (before, behind), rounds)
 }
 
 // What the replay answers.
 fn replies_of_replay(alloc: Global, rounds: u32) -> Result<String, AllocError> {
-    let mut replies = String::new(alloc);
-    write!(replies, "crashed\nrestarted {rounds}\nmoved\n")?;
+    let mut replies = format!(in alloc; "crashed\nrestarted {rounds}\nmoved\n")?;
     for _ in 0..rounds {
         replies.push_str("moved\nmoved\naccepted\nmoved\nmoved\n")?;
     }
@@ -127,30 +132,50 @@ fn replies_of_replay(alloc: Global, rounds: u32) -> Result<String, AllocError> {
 /// A reception more than a rank may have, which is refused, and again.
 const ONE_MORE: &str = "step 0\nstep 0\nput 0 0\narrive 0 0 4096\nstep 0\nstep 0\n";
 
+// The events of 4096 messages and one more, of the replay of them all, and of one more behind that.
+fn events_of_4097(alloc: Global) -> Result<String, AllocError> {
+    let rounds = events_of_rounds(alloc, 4096)?;
+    let replay = replay_of_rounds(alloc, 4096)?;
+    let (rounds, replay) = (rounds.as_str(), replay.as_str());
+    format!(in alloc; "{rounds}{ONE_MORE}{replay}step 0\nstep 0\narrive 0 0 4096\nstep 0\n")
+}
+
+// What is replied from the one more on.
+fn replies_from_4097(alloc: Global) -> Result<String, AllocError> {
+    let replayed = replies_of_replay(alloc, 4096)?;
+    let replayed = replayed.as_str();
+    format!(in alloc;
+        "put 4096 data 4097\naccepted\nrefused\nrefused\n{replayed}moved\nmoved\naccepted\nrefused\n"
+    )
+}
+
 // After 4096 receptions the next one is refused, and so it is behind a replay of them all.
 fn expect_4097<R: Threads + Wait + Sync + Copy + Send + AllocGlobal + Abort>(
     rt: &R,
-) -> Result<(), Fail> {
-    let alloc = rt.alloc();
-    let mut events = events_of_rounds(alloc, 4096)?;
-    events.push_str(ONE_MORE)?;
-    events.push_str(replay_of_rounds(alloc, 4096)?.as_str())?;
-    events.push_str("step 0\nstep 0\narrive 0 0 4096\nstep 0\n")?;
-    let replayed = replies_of_replay(alloc, 4096)?;
-    let replayed = replayed.as_str();
-    let want = format!(in alloc;
-        "put 4096 data 4097\naccepted\nrefused\nrefused\n{replayed}moved\nmoved\naccepted\nrefused\n"
-    )?;
-    let files = [("p", TO_ITSELF), ("e", events.as_str())];
-    let answer = answer_of(rt, "world --ranks 1 p e", &files)?;
+) -> Result<(), AllocError> {
+    let events = events_of_4097(rt.alloc())?;
+    let answer = answer_to(rt, events.as_str())?;
+    ends_so(rt, rt.alloc(), &answer)
+}
+
+fn answer_to<R: Threads + Wait + Sync + Copy + Send + AllocGlobal>(
+    rt: &R,
+    events: &str,
+) -> Result<Answer, AllocError> {
+    let files = [("p", TO_ITSELF), ("e", events)];
+    answer_of(rt, "world --ranks 1 p e", &files)
+}
+
+fn ends_so(rt: &impl Abort, alloc: Global, answer: &Answer) -> Result<(), AllocError> {
+    let want = replies_from_4097(alloc)?;
+    ended_with(rt, "a world", answer, 0, "");
     let out = answer.out();
-    assert_eq!(rt; (answer.status, answer.err()), (0, ""));
     assert!(rt; out.contains("stored 4096\nacked\nmoved\n"));
     assert!(rt; out.ends_with(want.as_str()));
     Ok(())
 }
 
 #[test]
-fn event_4097_in_a_world(rt: HostRuntime) -> Result<(), Fail> {
+fn event_4097_in_a_world(rt: HostRuntime) -> Result<(), AllocError> {
     expect_4097(&rt)
 }

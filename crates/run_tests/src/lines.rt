@@ -1,6 +1,6 @@
 //! Messages from the text to the line.
 use crate::scenes::{Run, expect_runs};
-use std::test::Fail;
+use std::alloc::AllocError;
 
 /// One rank prints values of expressions.
 const VALUES: &str = "\
@@ -119,6 +119,6 @@ const PROGRAMS: [Run; 8] = [
 ];
 
 #[test]
-fn programs(rt: HostRuntime) -> Result<(), Fail> {
+fn programs(rt: HostRuntime) -> Result<(), AllocError> {
     expect_runs(&rt, &PROGRAMS)
 }

@@ -1,6 +1,7 @@
 //! Ranks run at the same time.
-use rank_language::Program;
-use runner::{Hold, RunLimits, Script, run};
+use crate::reported::{limits_of, report_under};
+use crate::same::same;
+use runner::{Hold, Script};
 use std::process::Abort;
 use std::sync::Wait;
 use std::sync::atomic::{AtomicBool, Ordering};
@@ -37,23 +38,21 @@ impl Hold for Meet {
 fn expect_meeting<R: Threads + Wait + Sync + Copy + Send + AllocGlobal + Abort>(
     rt: &R,
 ) -> Result<(), Fail> {
-    let alloc = rt.alloc();
-    let program = Program::parse(alloc, b"print rank\n")?;
     let meet = Meet {
         called: [AtomicBool::new(false), AtomicBool::new(false)],
         seen: [AtomicBool::new(false), AtomicBool::new(false)],
     };
-    let limits = RunLimits {
-        idle: 1000,
-        steps: 1000,
-        images_every: None,
-    };
-    let script = Script::new(alloc);
-    let report = run(rt, alloc, &program, 2, &script, limits, &meet)?;
+    let script = Script::new(rt.alloc());
+    let report = report_under(rt, 2, "print rank\n", &script, limits_of(1000, 1000), &meet)?;
+    have_met(rt, &meet, report.outcome.lines.len());
+    Ok(())
+}
+
+// Both saw each other, and so many lines were printed.
+fn have_met(rt: &impl Abort, meet: &Meet, lines: usize) {
     assert!(rt; meet.seen[0].load(Ordering::SeqCst));
     assert!(rt; meet.seen[1].load(Ordering::SeqCst));
-    assert_eq!(rt; report.outcome.lines.len(), 2);
-    Ok(())
+    same(rt, "lines", &lines, &2);
 }
 
 #[test]

@@ -1,8 +1,10 @@
 //! Runs whose ranks take an image after each so many acts: what they write, and which acts they make again.
 use crate::kills::{COLLECTIVES, FIVE_MISSES, ROUNDS, TRIPS};
+use crate::reported::report_of;
+use crate::same::same;
 use crate::scenes::{Scripted, expect_scripted};
-use rank_language::Program;
-use runner::{Hold, RunLimits, Script, run};
+use runner::{Hold, RunLimits};
+use std::alloc::AllocError;
 use std::num::NonZeroU32;
 use std::process::Abort;
 use std::sync::Wait;
@@ -105,7 +107,7 @@ const RUNS: [Scripted; 11] = [
 ];
 
 #[test]
-fn runs_with_periodic_images(rt: HostRuntime) -> Result<(), Fail> {
+fn runs_with_periodic_images(rt: HostRuntime) -> Result<(), AllocError> {
     expect_scripted(&rt, &RUNS)
 }
 
@@ -136,24 +138,30 @@ fn expect_made<R: Threads + Wait + Sync + Copy + Send + AllocGlobal + Abort>(
     rt: &R,
     rows: &[(u32, u64)],
 ) -> Result<(), Fail> {
-    let alloc = rt.alloc();
     for row in rows {
         let (every, want) = *row;
-        let program = Program::parse(alloc, LINES.as_bytes())?;
-        let script = Script::parse(alloc, b"kill 0 at 5\n", 1)?;
-        let limits = RunLimits {
-            idle: 1000,
-            steps: 1000,
-            images_every: NonZeroU32::new(every),
-        };
-        let clocks = Clocks {
-            sum: AtomicU64::new(0),
-        };
-        let report = run(rt, alloc, &program, 1, &script, limits, &clocks)?;
-        let found = (report.crashes, clocks.sum.load(Ordering::SeqCst));
-        assert_eq!(rt; found, (1, want), "an image after each {every} acts");
+        let found = crashes_and_sum(rt, every)?;
+        let case = format_args!("an image after each {every} acts");
+        same(rt, case, &found, &(1, want));
     }
     Ok(())
+}
+
+// How often the rank crashes if it takes an image after each so many acts, and the sum of the clocks of its acts.
+fn crashes_and_sum<R: Threads + Wait + Sync + Copy + Send + AllocGlobal + Abort>(
+    rt: &R,
+    every: u32,
+) -> Result<(u64, u64), Fail> {
+    let clocks = Clocks {
+        sum: AtomicU64::new(0),
+    };
+    let limits = RunLimits {
+        idle: 1000,
+        steps: 1000,
+        images_every: NonZeroU32::new(every),
+    };
+    let report = report_of(rt, (1, LINES, "kill 0 at 5\n"), limits, &clocks)?;
+    Ok((report.crashes, clocks.sum.load(Ordering::SeqCst)))
 }
 
 #[test]

@@ -1,8 +1,9 @@
 //! Runs drawn, as `trace --picture` prints them: what stands in the text of a picture, and in which order.
-use crate::scenes::answer_of;
+use crate::same::same;
+use crate::scenes::{answer_of, ended_with};
+use std::alloc::AllocError;
 use std::process::Abort;
 use std::sync::Wait;
-use std::test::*;
 use std::thread::Threads;
 
 /// A run that is drawn: its options, the texts of the program and of the script, the status, what stands in the picture one
@@ -20,34 +21,48 @@ struct Drawn {
 fn expect_pictures<R: Threads + Wait + Sync + Copy + Send + AllocGlobal + Abort>(
     rt: &R,
     rows: &[Drawn],
-) -> Result<(), Fail> {
+) -> Result<(), AllocError> {
     for row in rows {
         let words = format!(in rt.alloc(); "trace --picture {} --script s p<&\"'>q", row.options)?;
-        let files = [("p<&\"'>q", row.program), ("s", row.script)];
-        let answer = answer_of(rt, words.as_str(), &files)?;
-        assert_eq!(rt;
-            (answer.status, answer.err()),
-            (row.status, ""),
-            "at {words}"
-        );
-        let mut at = 0usize;
-        for part in row.parts {
-            let end = end_of(answer.out(), at, part);
-            assert!(rt;
-                end.is_some(),
-                "at {words}: {part} doesn't stand behind what is before it"
-            );
-            at = end.unwrap_or(at);
-        }
-        assert_eq!(rt; at, answer.out().len(), "at {words}, behind the last part");
-        for part in row.without {
-            assert!(rt;
-                !answer.out().contains(*part),
-                "at {words}: {part} stands there"
-            );
-        }
+        expect_picture(rt, words.as_str(), row)?;
     }
     Ok(())
+}
+
+// These words print the picture of this row.
+fn expect_picture<R: Threads + Wait + Sync + Copy + Send + AllocGlobal + Abort>(
+    rt: &R,
+    words: &str,
+    row: &Drawn,
+) -> Result<(), AllocError> {
+    let files = [("p<&\"'>q", row.program), ("s", row.script)];
+    let answer = answer_of(rt, words, &files)?;
+    ended_with(rt, words, &answer, row.status, "");
+    stand_there(rt, words, answer.out(), row.parts);
+    are_absent(rt, words, answer.out(), row.without);
+    Ok(())
+}
+
+// These parts stand in the picture one behind another, the last one at its end.
+fn stand_there(rt: &impl Abort, words: &str, picture: &str, parts: &[&str]) {
+    let mut at = 0usize;
+    for part in parts {
+        let end = end_of(picture, at, part);
+        assert!(rt;
+            end.is_some(),
+            "at {words}: {part} doesn't stand behind what is before it"
+        );
+        at = end.unwrap_or(at);
+    }
+    let case = format_args!("at {words}, behind the last part");
+    same(rt, case, &at, &picture.len());
+}
+
+// None of these parts stands in the picture.
+fn are_absent(rt: &impl Abort, words: &str, picture: &str, parts: &[&str]) {
+    for part in parts {
+        assert!(rt; !picture.contains(*part), "at {words}: {part} stands there");
+    }
 }
 
 // Where a part ends that stands in a text from this place on, if one does.
@@ -143,7 +158,7 @@ const MESSAGES: [Drawn; 4] = [
 ];
 
 #[test]
-fn messages_are_drawn(rt: HostRuntime) -> Result<(), Fail> {
+fn messages_are_drawn(rt: HostRuntime) -> Result<(), AllocError> {
     expect_pictures(&rt, &MESSAGES)
 }
 
@@ -219,7 +234,7 @@ const SIGNS: [Drawn; 4] = [
 ];
 
 #[test]
-fn signs_are_drawn(rt: HostRuntime) -> Result<(), Fail> {
+fn signs_are_drawn(rt: HostRuntime) -> Result<(), AllocError> {
     expect_pictures(&rt, &SIGNS)
 }
 
@@ -266,6 +281,6 @@ const WIDE: [Drawn; 2] = [
 ];
 
 #[test]
-fn wide_runs_are_drawn(rt: HostRuntime) -> Result<(), Fail> {
+fn wide_runs_are_drawn(rt: HostRuntime) -> Result<(), AllocError> {
     expect_pictures(&rt, &WIDE)
 }

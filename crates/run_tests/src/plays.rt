@@ -1,10 +1,12 @@
 //! Runs as events: given to `world`, these print the lines of the run, and none of them is refused.
 mod kills;
 
-use crate::scenes::{Answer, answer_of, expect_answer};
+use crate::same::same;
+use crate::scenes::{Answer, answer_of, ended_with, expect_answer};
+use std::alloc::{AllocError, Global};
+use std::fmt::Write;
 use std::process::Abort;
 use std::sync::Wait;
-use std::test::Fail;
 use std::thread::Threads;
 
 /// A run that is asked for as events: the words that ask for it, the number of ranks, the texts of
@@ -22,7 +24,7 @@ pub struct Played {
 pub fn expect_plays<R: Threads + Wait + Sync + Copy + Send + AllocGlobal + Abort>(
     rt: &R,
     rows: &[Played],
-) -> Result<(), Fail> {
+) -> Result<(), AllocError> {
     for row in rows {
         expect_play(rt, row)?;
     }
@@ -32,59 +34,61 @@ pub fn expect_plays<R: Threads + Wait + Sync + Copy + Send + AllocGlobal + Abort
 fn expect_play<R: Threads + Wait + Sync + Copy + Send + AllocGlobal + Abort>(
     rt: &R,
     row: &Played,
-) -> Result<(), Fail> {
-    let events = events_of(rt, row)?;
-    let lines = lines_of(rt, row.ranks, row.program, events.out())?;
-    is_printed(rt, lines.as_str(), row)
+) -> Result<(), AllocError> {
+    let files = [("p", row.program), ("s", row.script)];
+    let events = answer_of(rt, row.words, &files)?;
+    let case = format_args!("at {} of {}", row.words, row.program);
+    ended_with(rt, case, &events, row.status, "");
+    expect_lines(rt, row, events.out())
 }
 
-// The events that the row's words ask for.
-fn events_of<R: Threads + Wait + Sync + Copy + Send + AllocGlobal + Abort>(
+// A world of the row's program plays these events, refuses none, and prints the row's lines.
+fn expect_lines<R: Threads + Wait + Sync + Copy + Send + AllocGlobal + Abort>(
     rt: &R,
     row: &Played,
-) -> Result<Answer, Fail> {
-    let words = row.words;
-    let program = row.program;
-    let events = answer_of(rt, words, &[("p", program), ("s", row.script)])?;
-    assert_eq!(rt;
-        (events.status, events.err()),
-        (row.status, ""),
-        "at {words} of {program}"
-    );
-    Ok(events)
+    events: &str,
+) -> Result<(), AllocError> {
+    let world = world_of(rt, row, events)?;
+    ended_with(rt, "a world", &world, 0, "");
+    are_replied(rt, rt.alloc(), row, world.out())
 }
 
-// The lines that a world of the program prints under these events.
-fn lines_of<'a, R: Threads + Wait + Sync + Copy + Send + AllocGlobal + Abort>(
+// What a world of the row's program answers to these events.
+fn world_of<R: Threads + Wait + Sync + Copy + Send + AllocGlobal + Abort>(
     rt: &R,
-    ranks: u8,
-    program: &'a str,
-    events: &'a str,
-) -> Result<String, Fail> {
-    let words = format!(in rt.alloc(); "world --ranks {ranks} p e")?;
-    let world = answer_of(rt, words.as_str(), &[("p", program), ("e", events)])?;
-    assert_eq!(rt; (world.status, world.err()), (0, ""));
-    lines_in(rt, world.out())
+    row: &Played,
+    events: &str,
+) -> Result<Answer, AllocError> {
+    let words = format!(in rt.alloc(); "world --ranks {} p e", row.ranks)?;
+    let files = [("p", row.program), ("e", events)];
+    answer_of(rt, words.as_str(), &files)
 }
 
-fn is_printed<R: AllocGlobal + Abort>(rt: &R, lines: &str, row: &Played) -> Result<(), Fail> {
-    let words = row.words;
-    let program = row.program;
-    assert_eq!(rt; lines, row.lines, "at {words} of {program}");
+// These replies have no refusal, and the row's lines.
+fn are_replied(
+    rt: &impl Abort,
+    alloc: Global,
+    row: &Played,
+    replies: &str,
+) -> Result<(), AllocError> {
+    let mut lines = String::new(alloc);
+    for reply in replies.split('\n') {
+        is_accepted(rt, reply, replies);
+        if reply.contains("> ") {
+            writeln!(lines, "{reply}")?;
+        }
+    }
+    are_lines(rt, row, lines.as_str());
     Ok(())
 }
 
-// The lines that ranks printed, among the replies of a world of which none is a refusal.
-fn lines_in<R: AllocGlobal + Abort>(rt: &R, replies: &str) -> Result<String, Fail> {
-    let mut lines = String::new(rt.alloc());
-    for line in replies.split('\n') {
-        assert!(rt; line != "refused", "in {replies}");
-        if line.contains("> ") {
-            lines.push_str(line)?;
-            lines.push_str("\n")?;
-        }
-    }
-    Ok(lines)
+fn is_accepted(rt: &impl Abort, reply: &str, replies: &str) {
+    assert!(rt; reply != "refused", "in {replies}");
+}
+
+fn are_lines<'a>(rt: &impl Abort, row: &'a Played, lines: &'a str) {
+    let case = format_args!("at {} of {}", row.words, row.program);
+    same(rt, case, &lines, &row.lines);
 }
 
 /// Rank 0 sends, rank 1 receives and prints.
@@ -161,7 +165,7 @@ const RUNS: [Played; 7] = [
 ];
 
 #[test]
-fn runs_are_played(rt: HostRuntime) -> Result<(), Fail> {
+fn runs_are_played(rt: HostRuntime) -> Result<(), AllocError> {
     expect_plays(&rt, &RUNS)
 }
 
@@ -206,7 +210,7 @@ const OUTCOMES: [Played; 4] = [
 ];
 
 #[test]
-fn outcomes_are_played(rt: HostRuntime) -> Result<(), Fail> {
+fn outcomes_are_played(rt: HostRuntime) -> Result<(), AllocError> {
     expect_plays(&rt, &OUTCOMES)
 }
 
@@ -244,10 +248,19 @@ const REFUSED: [(&str, &str, &str); 3] = [
     ),
 ];
 
-#[test]
-fn runs_without_events(rt: HostRuntime) -> Result<(), Fail> {
-    for (words, program, told) in REFUSED {
-        expect_answer(&rt, words, &[("p", program)], (1, "", told))?;
+// Instead of events this is told.
+fn are_told<R: Threads + Wait + Sync + Copy + Send + AllocGlobal + Abort>(
+    rt: &R,
+    rows: &[(&str, &str, &str)],
+) -> Result<(), AllocError> {
+    for row in rows {
+        let (words, program, told) = *row;
+        expect_answer(rt, words, &[("p", program)], (1, "", told))?;
     }
     Ok(())
+}
+
+#[test]
+fn runs_without_events(rt: HostRuntime) -> Result<(), AllocError> {
+    are_told(&rt, &REFUSED)
 }

@@ -1,11 +1,10 @@
 //! Runs with all that they report, and how far each rank told of its acts.
-ghost use Rattle.std.specs.Prelude.{◌≤◌};
-ghost use Rattle.metered.specs.Limits.{most_ranks};
-
+use crate::reported::{limits_of, report_of};
+use crate::same::same;
 use crate::told::{Told, described};
-use metered::limits::MOST_RANKS;
-use rank_language::Program;
-use runner::{RunLimits, Script, run};
+use metered::Heap;
+use runner::Report;
+use std::alloc::AllocError;
 use std::process::Abort;
 use std::sync::Wait;
 use std::test::Fail;
@@ -15,22 +14,24 @@ use std::thread::Threads;
 fn expect<R: Threads + Wait + Sync + Copy + Send + AllocGlobal + Abort>(
     rt: &R,
     row: &Row,
-) -> Result<(), Fail>
-    requires some { 1 ≤ row.now.ranks }
-    requires few { row.now.ranks ≤ most_ranks }
-{
-    let alloc = rt.alloc();
-    let program = Program::parse(alloc, row.program.as_bytes())?;
-    let script = Script::parse(alloc, row.script.as_bytes(), row.ranks)?;
-    let told = Told::new(alloc, row.ranks)?;
-    let limits = RunLimits {
-        idle: row.idle,
-        steps: 10000,
-        images_every: None,
-    };
-    let report = run(rt, alloc, &program, row.ranks, &script, limits, &told)?;
-    let got = described(alloc, &told, &report)?;
-    assert_eq!(rt; got.as_str(), row.want, "at {row:?}");
+) -> Result<(), Fail> {
+    let told = Told::new(rt.alloc(), row.ranks)?;
+    let texts = (row.ranks, row.program, row.script);
+    let report = report_of(rt, texts, limits_of(row.idle, 10000), &told)?;
+    Ok(is_described(rt, rt.alloc(), row, &told, &report)?)
+}
+
+// This is what was told and reported.
+fn is_described(
+    rt: &impl Abort,
+    alloc: Heap,
+    row: &Row,
+    told: &Told,
+    report: &Report,
+) -> Result<(), AllocError> {
+    let got = described(alloc, told, report)?;
+    let case = format_args!("at {:?} under {:?}", row.program, row.script);
+    same(rt, case, &got.as_str(), &row.want);
     Ok(())
 }
 
@@ -161,7 +162,7 @@ end
 ";
 
 /// A run, and what it tells and reports.
-#[derive(Clone, Copy, Debug)]
+#[derive(Clone, Copy)]
 struct Row {
     ranks: u8,
     idle: u32,
@@ -236,7 +237,6 @@ fn expect_all<R: Threads + Wait + Sync + Copy + Send + AllocGlobal + Abort>(
     rows: &[Row],
 ) -> Result<(), Fail> {
     for row in rows {
-        assert!(rt; 0 < row.ranks && usize::from(row.ranks) <= MOST_RANKS);
         expect(rt, row)?;
     }
     Ok(())

@@ -1,13 +1,14 @@
 //! Calls of the whole program: words and files in, exit status and texts out.
+use crate::same::same;
 use runner::{FileFault, Files, command};
 use std::alloc::{AllocError, Global};
+use std::fmt::Display;
 use std::process::Abort;
 use std::sync::Wait;
-use std::test::Fail;
 use std::thread::Threads;
 
 // Files by name: `none` can't be read, and there is no memory for `large`.
-#[derive(Drop)]
+#[derive(Clone, Copy)]
 pub struct Table<'a> {
     pub alloc: Global,
     pub files: &'a [(&'a str, &'a str)],
@@ -51,9 +52,14 @@ impl Answer {
 pub fn words_of(alloc: Global, line: &str) -> Result<Vec<String>, AllocError> {
     let mut words = Vec::new(alloc);
     for word in line.split(' ') {
-        words.push(String::from_str(alloc, word)?)?;
+        push_word(alloc, &mut words, word)?;
     }
     Ok(words)
+}
+
+fn push_word(alloc: Global, words: &mut Vec<String>, word: &str) -> Result<(), AllocError> {
+    words.push(String::from_str(alloc, word)?)?;
+    Ok(())
 }
 
 // Calls the program with these words after its name.
@@ -65,11 +71,21 @@ pub fn answer_of<R: Threads + Wait + Sync + Copy + Send + AllocGlobal>(
     let alloc = rt.alloc();
     let line = format!(in alloc; "ftmpi {words}")?;
     let words = words_of(alloc, line.as_str())?;
+    Ok(answer_to(rt, words.as_slice(), files))
+}
+
+// Calls the program with all these words.
+fn answer_to<R: Threads + Wait + Sync + Copy + Send + AllocGlobal>(
+    rt: &R,
+    words: &[String],
+    files: &[(&str, &str)],
+) -> Answer {
+    let alloc = rt.alloc();
     let mut files = Table { alloc, files };
     let mut out = Vec::new(alloc);
     let mut err = Vec::new(alloc);
-    let status = command(rt, alloc, words.as_slice(), &mut files, &mut out, &mut err);
-    Ok(Answer { status, out, err })
+    let status = command(rt, alloc, words, &mut files, &mut out, &mut err);
+    Answer { status, out, err }
 }
 
 // The program called with these words answers this: its status and what it writes to both streams.
@@ -78,11 +94,48 @@ pub fn expect_answer<R: Threads + Wait + Sync + Copy + Send + AllocGlobal + Abor
     words: &str,
     files: &[(&str, &str)],
     want: (u8, &str, &str),
-) -> Result<(), Fail> {
+) -> Result<(), AllocError> {
     let answer = answer_of(rt, words, files)?;
-    let found = (answer.status, answer.out(), answer.err());
-    assert_eq!(rt; found, want, "at {words} and {files:?}");
+    is_answer(rt, words, files, &answer, want);
     Ok(())
+}
+
+// This was answered.
+fn is_answer<'a>(
+    rt: &impl Abort,
+    words: &'a str,
+    files: &'a [(&'a str, &'a str)],
+    answer: &'a Answer,
+    want: (u8, &'a str, &'a str),
+) {
+    let found = (answer.status, answer.out(), answer.err());
+    same(rt, format_args!("at {words} and {files:?}"), &found, &want);
+}
+
+// In this case the program ended with this status, and wrote this to standard error.
+pub fn ended_with<'a>(
+    rt: &impl Abort,
+    case: impl Display + Drop,
+    answer: &'a Answer,
+    status: u8,
+    err: &'a str,
+) {
+    same(rt, case, &(answer.status, answer.err()), &(status, err));
+}
+
+/// What a job is called by: its name, its options, and its files.
+pub type Job<'a> = (&'a str, &'a str, &'a str);
+
+// The job answers this.
+pub fn expect_job<R: Threads + Wait + Sync + Copy + Send + AllocGlobal + Abort>(
+    rt: &R,
+    job: Job<'_>,
+    files: &[(&str, &str)],
+    want: (u8, &str, &str),
+) -> Result<(), AllocError> {
+    let (name, options, rest) = job;
+    let words = format!(in rt.alloc(); "{name} {options} {rest}")?;
+    expect_answer(rt, words.as_str(), files, want)
 }
 
 /// A run: its options, the program's text, the exit status, and what it writes to standard output.
@@ -92,24 +145,22 @@ pub type Run = (&'static str, &'static str, u8, &'static str);
 pub fn expect_runs<R: Threads + Wait + Sync + Copy + Send + AllocGlobal + Abort>(
     rt: &R,
     runs: &[Run],
-) -> Result<(), Fail> {
-    for run in runs {
-        let (options, text, status, out) = *run;
-        expect_run(rt, options, text, status, out)?;
-    }
-    Ok(())
+) -> Result<(), AllocError> {
+    expect_each(rt, "run", runs)
 }
 
-// The program `text` run with these options answers this.
-pub fn expect_run<R: Threads + Wait + Sync + Copy + Send + AllocGlobal + Abort>(
+// The same of a job of this name in the place of a run.
+pub fn expect_each<R: Threads + Wait + Sync + Copy + Send + AllocGlobal + Abort>(
     rt: &R,
-    options: &str,
-    text: &str,
-    status: u8,
-    out: &str,
-) -> Result<(), Fail> {
-    let words = format!(in rt.alloc(); "run {options} p")?;
-    expect_answer(rt, words.as_str(), &[("p", text)], (status, out, ""))
+    name: &str,
+    runs: &[Run],
+) -> Result<(), AllocError> {
+    for run in runs {
+        let (options, text, status, out) = *run;
+        let job = (name, options, "p");
+        expect_job(rt, job, &[("p", text)], (status, out, ""))?;
+    }
+    Ok(())
 }
 
 /// A run under a script: its options, the texts of the program and of the script, and what it writes to standard output.
@@ -126,11 +177,20 @@ pub struct Scripted {
 pub fn expect_scripted<R: Threads + Wait + Sync + Copy + Send + AllocGlobal + Abort>(
     rt: &R,
     runs: &[Scripted],
-) -> Result<(), Fail> {
+) -> Result<(), AllocError> {
+    expect_each_scripted(rt, "run", runs)
+}
+
+// The same of a job of this name in the place of a run.
+pub fn expect_each_scripted<R: Threads + Wait + Sync + Copy + Send + AllocGlobal + Abort>(
+    rt: &R,
+    name: &str,
+    runs: &[Scripted],
+) -> Result<(), AllocError> {
     for run in runs {
-        let words = format!(in rt.alloc(); "run {} --script s p", run.options)?;
+        let job = (name, run.options, "--script s p");
         let files = [("p", run.program), ("s", run.script)];
-        expect_answer(rt, words.as_str(), &files, (run.status, run.out, ""))?;
+        expect_job(rt, job, &files, (run.status, run.out, ""))?;
     }
     Ok(())
 }

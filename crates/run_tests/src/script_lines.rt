@@ -1,9 +1,9 @@
 //! Scripts of as many lines as may be, and of one more.
-use crate::scenes::answer_of;
+use crate::same::same;
+use crate::scenes::{Answer, answer_of};
 use std::alloc::{AllocError, Global};
 use std::process::Abort;
 use std::sync::Wait;
-use std::test::Fail;
 use std::thread::Threads;
 
 /// A line, how often it stands in a script, what stands behind it, and what is said on standard error.
@@ -32,23 +32,25 @@ fn script_of(alloc: Global, line: &str, count: usize, last: &str) -> Result<Stri
 fn judge_scripts<R: Threads + Wait + Sync + Copy + Send + AllocGlobal + Abort>(
     rt: &R,
     rows: &[Long],
-) -> Result<(), Fail> {
+) -> Result<(), AllocError> {
     for row in rows {
         let (line, count, last, err) = *row;
         let script = script_of(rt.alloc(), line, count, last)?;
         let files = [("p", ""), ("s", script.as_str())];
         let answer = answer_of(rt, "run --ranks 1 --script s p", files.as_slice())?;
-        let want = (if err.is_empty() { 0 } else { 2 }, err);
-        assert_eq!(rt;
-            (answer.status, answer.err()),
-            want,
-            "at {count} lines and {last}"
-        );
+        is_judged(rt, &answer, count, last, err);
     }
     Ok(())
 }
 
+// A script of so many lines with this behind them was read, or refused with its text.
+fn is_judged<'a>(rt: &impl Abort, answer: &'a Answer, count: usize, last: &str, err: &'a str) {
+    let want = (if err.is_empty() { 0 } else { 2 }, err);
+    let case = format_args!("at {count} lines and {last}");
+    same(rt, case, &(answer.status, answer.err()), &want);
+}
+
 #[test]
-fn long_scripts(rt: HostRuntime) -> Result<(), Fail> {
+fn long_scripts(rt: HostRuntime) -> Result<(), AllocError> {
     judge_scripts(&rt, &SCRIPTS)
 }

@@ -1,22 +1,17 @@
 //! Soaks, as `soak` prints them. The scripts of a seed were worked out beside the program, by the
 //! definition of PCG XSH RR 64/32 (O'Neill 2014) and of a number below a bound (Lemire 2019).
-use crate::scenes::{Run, expect_answer};
+use crate::scenes::{Run, expect_each};
+use std::alloc::AllocError;
 use std::process::Abort;
 use std::sync::Wait;
-use std::test::Fail;
 use std::thread::Threads;
 
 // Each of these prints what its row says, and nothing on standard error.
 fn expect_soaks<R: Threads + Wait + Sync + Copy + Send + AllocGlobal + Abort>(
     rt: &R,
     rows: &[Run],
-) -> Result<(), Fail> {
-    for row in rows {
-        let (options, text, status, out) = *row;
-        let words = format!(in rt.alloc(); "soak {options} p")?;
-        expect_answer(rt, words.as_str(), &[("p", text)], (status, out, ""))?;
-    }
-    Ok(())
+) -> Result<(), AllocError> {
+    expect_each(rt, "soak", rows)
 }
 
 /// Programs whose outcome doesn't depend on time.
@@ -118,6 +113,6 @@ runs 2, crashes 0, images 0, outcomes 1
 ];
 
 #[test]
-fn runs_are_counted(rt: HostRuntime) -> Result<(), Fail> {
+fn runs_are_counted(rt: HostRuntime) -> Result<(), AllocError> {
     expect_soaks(&rt, &SOAKS)
 }

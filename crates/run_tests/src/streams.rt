@@ -1,11 +1,11 @@
 //! What streams show that take a part of a write, refuse it, or can't be flushed.
+use crate::same::same;
 use crate::scenes::{Table, words_of};
 use runner::command;
-use std::alloc::Global;
+use std::alloc::{AllocError, Global};
 use std::io::{ErrorKind, Write};
 use std::process::Abort;
 use std::sync::Wait;
-use std::test::Fail;
 use std::thread::Threads;
 
 /// A stream.
@@ -209,26 +209,50 @@ const WRITTEN: [Written; 17] = [
 fn is_written<R: Threads + Wait + Sync + Copy + Send + AllocGlobal + Abort>(
     rt: &R,
     row: &Written,
-) -> Result<(), Fail> {
+) -> Result<(), AllocError> {
+    let words = words_of(rt.alloc(), row.words)?;
+    is_shown(rt, row, words.as_slice());
+    Ok(())
+}
+
+// The same, with its words one by one.
+fn is_shown<R: Threads + Wait + Sync + Copy + Send + AllocGlobal + Abort>(
+    rt: &R,
+    row: &Written,
+    words: &[String],
+) {
+    let mut out = Writer::new(rt.alloc(), row.out);
+    let mut err = Writer::new(rt.alloc(), row.err);
+    let status = call(rt, words, &mut out, &mut err);
+    are_shown(rt, row, status, &out, &err);
+}
+
+// Calls the program on these streams, and answers its exit status.
+fn call<R: Threads + Wait + Sync + Copy + Send + AllocGlobal>(
+    rt: &R,
+    words: &[String],
+    out: &mut Writer,
+    err: &mut Writer,
+) -> u8 {
     let alloc = rt.alloc();
-    let words = words_of(alloc, row.words)?;
     let mut files = Table {
         alloc,
         files: &[("p", ""), ("e", "step 0"), ("five", "print 5\n")],
     };
-    let mut out = Writer::new(alloc, row.out);
-    let mut err = Writer::new(alloc, row.err);
-    let status = command(rt, alloc, words.as_slice(), &mut files, &mut out, &mut err);
+    command(rt, alloc, words, &mut files, out, err)
+}
+
+// The program ended so, and the streams show this.
+fn are_shown<'a>(rt: &impl Abort, row: &'a Written, status: u8, out: &'a Writer, err: &'a Writer) {
     let found = (status, (out.shown(), err.shown()));
-    assert_eq!(rt; found, (row.status, row.shown), "at {}", row.words);
-    Ok(())
+    same(rt, row.words, &found, &(row.status, row.shown));
 }
 
 // Each of these ends so.
 fn are_written<R: Threads + Wait + Sync + Copy + Send + AllocGlobal + Abort>(
     rt: &R,
     rows: &[Written],
-) -> Result<(), Fail> {
+) -> Result<(), AllocError> {
     for row in rows {
         is_written(rt, row)?;
     }
@@ -236,6 +260,6 @@ fn are_written<R: Threads + Wait + Sync + Copy + Send + AllocGlobal + Abort>(
 }
 
 #[test]
-fn failed_writes(rt: HostRuntime) -> Result<(), Fail> {
+fn failed_writes(rt: HostRuntime) -> Result<(), AllocError> {
     are_written(&rt, &WRITTEN)
 }

@@ -29,14 +29,12 @@ impl Told {
     }
 
     fn print(&self, text: &mut String<Heap>) -> Result<(), AllocError> {
-        write!(text, "told")?;
+        text.push_str("told")?;
         for (rank, clock) in self.greatest.iter().enumerate() {
             write!(text, " {rank}@{}", clock.load(Ordering::SeqCst))?;
         }
-        if self.is_gapped.load(Ordering::SeqCst) {
-            write!(text, " with a gap")?;
-        }
-        writeln!(text)
+        let is_gapped = self.is_gapped.load(Ordering::SeqCst);
+        text.push_str(if is_gapped { " with a gap\n" } else { "\n" })
     }
 }
 
@@ -60,19 +58,27 @@ impl Hold for Told {
 pub fn described(alloc: Heap, told: &Told, report: &Report) -> Result<String<Heap>, AllocError> {
     let mut text = String::new(alloc);
     told.print(&mut text)?;
+    print_report(&mut text, report)?;
+    Ok(text)
+}
+
+fn print_report(text: &mut String<Heap>, report: &Report) -> Result<(), AllocError> {
     for (rank, row) in report.outcome.rows.iter().enumerate() {
-        print_row(&mut text, rank, row.as_slice())?;
+        print_row(text, rank, row.as_slice())?;
     }
     for (rank, _) in (0u8..).zip(report.outcome.ends.iter()) {
-        print_lines(&mut text, rank, report.outcome.lines.as_slice())?;
+        print_lines(text, rank, report.outcome.lines.as_slice())?;
     }
-    print_ends(&mut text, report.outcome.ends.as_slice())?;
-    write!(text, "crashes {}, calls", report.crashes)?;
-    for calls in report.calls.iter() {
+    print_ends(text, report.outcome.ends.as_slice())?;
+    print_counts(text, report.crashes, report.calls.as_slice())
+}
+
+fn print_counts(text: &mut String<Heap>, crashes: u64, calls: &[u64]) -> Result<(), AllocError> {
+    write!(text, "crashes {crashes}, calls")?;
+    for calls in calls {
         write!(text, " {calls}")?;
     }
-    writeln!(text)?;
-    Ok(text)
+    text.push_str("\n")
 }
 
 fn print_lines(text: &mut String<Heap>, rank: u8, lines: &[Line]) -> Result<(), AllocError> {
@@ -87,27 +93,35 @@ fn print_lines(text: &mut String<Heap>, rank: u8, lines: &[Line]) -> Result<(), 
 fn print_row(text: &mut String<Heap>, rank: usize, row: &[Event]) -> Result<(), AllocError> {
     write!(text, "events of {rank}:")?;
     for event in row {
-        write!(
-            text,
-            " {:?} {}@{} at {}",
-            event.kind(),
-            event.sender(),
-            event.sender_clock(),
-            event.receiver_clock()
-        )?;
+        print_event(text, event)?;
     }
-    writeln!(text)
+    text.push_str("\n")
+}
+
+fn print_event(text: &mut String<Heap>, event: &Event) -> Result<(), AllocError> {
+    write!(
+        text,
+        " {:?} {}@{} at {}",
+        event.kind(),
+        event.sender(),
+        event.sender_clock(),
+        event.receiver_clock()
+    )
 }
 
 fn print_ends(text: &mut String<Heap>, ends: &[End]) -> Result<(), AllocError> {
-    write!(text, "ends")?;
+    text.push_str("ends")?;
     for end in ends {
-        match end {
-            End::Halted => write!(text, " halted")?,
-            End::Faulted(fault) => write!(text, " fault-{}", fault.number())?,
-            End::Stalled => write!(text, " stalled")?,
-            End::Unfinished => write!(text, " unfinished")?,
-        }
+        print_end(text, *end)?;
     }
-    writeln!(text)
+    text.push_str("\n")
+}
+
+fn print_end(text: &mut String<Heap>, end: End) -> Result<(), AllocError> {
+    match end {
+        End::Halted => text.push_str(" halted"),
+        End::Faulted(fault) => write!(text, " fault-{}", fault.number()),
+        End::Stalled => text.push_str(" stalled"),
+        End::Unfinished => text.push_str(" unfinished"),
+    }
 }

@@ -1,31 +1,18 @@
 //! Runs told act by act, as `trace` prints them.
-use crate::scenes::{answer_of, expect_answer};
+use crate::same::same;
+use crate::scenes::{Scripted, answer_of, expect_answer, expect_each_scripted};
 use serde_json::Value;
+use std::alloc::{AllocError, Global};
 use std::process::Abort;
 use std::sync::Wait;
-use std::test::*;
 use std::thread::Threads;
-
-/// A run that is told: its options, the texts of the program and of the script, the status, and what it writes to standard output.
-struct Traced {
-    options: &'static str,
-    program: &'static str,
-    script: &'static str,
-    status: u8,
-    out: &'static str,
-}
 
 // Each of these runs ends and is told as its row says, and nothing goes to standard error.
 fn expect_traces<R: Threads + Wait + Sync + Copy + Send + AllocGlobal + Abort>(
     rt: &R,
-    rows: &[Traced],
-) -> Result<(), Fail> {
-    for row in rows {
-        let words = format!(in rt.alloc(); "trace {} --script s p", row.options)?;
-        let files = [("p", row.program), ("s", row.script)];
-        expect_answer(rt, words.as_str(), &files, (row.status, row.out, ""))?;
-    }
-    Ok(())
+    rows: &[Scripted],
+) -> Result<(), AllocError> {
+    expect_each_scripted(rt, "trace", rows)
 }
 
 /// Rank 0 sends, rank 1 receives and prints.
@@ -40,8 +27,8 @@ end
 ";
 
 /// Faults, a stall with messages that don't match, and a circle.
-const ENDS: [Traced; 3] = [
-    Traced {
+const ENDS: [Scripted; 3] = [
+    Scripted {
         options: "--ranks 2",
         program: "var x\nif rank == 1\n  recv 0, 1, x\n\n  # the divisor\n  print 1 / x\nelse\n  send 1, 1, 0\nend\n",
         script: "",
@@ -56,7 +43,7 @@ rank 1: fault 2 ZeroDivide at line 6: print 1 / x
 crashes 0, logger calls 1
 ",
     },
-    Traced {
+    Scripted {
         options: "--ranks 2 --idle 100",
         program: "var x\nif rank == 0\n  recv any, 3, x\nelse\n  send 0, 5, 1\n  send 0, 4, 1\nend\n",
         script: "",
@@ -72,7 +59,7 @@ rank 0: 2 messages were never received, the first from 1, tag 5
 crashes 0, logger calls 0
 ",
     },
-    Traced {
+    Scripted {
         options: "--ranks 2 --idle 100",
         program: "var x\nrecv 1 - rank, 1, x\nsend 1 - rank, 1, x\n",
         script: "",
@@ -89,13 +76,13 @@ crashes 0, logger calls 0
 ];
 
 #[test]
-fn ends_are_told(rt: HostRuntime) -> Result<(), Fail> {
+fn ends_are_told(rt: HostRuntime) -> Result<(), AllocError> {
     expect_traces(&rt, &ENDS)
 }
 
 /// What a run prints that has spent its steps, one that leaves a message, and lines of scripts that never came to pass.
-const LEFT: [Traced; 4] = [
-    Traced {
+const LEFT: [Scripted; 4] = [
+    Scripted {
         options: "--ranks 1 --steps 1000",
         program: "var x\nwhile 1\n  let x = 1 - x\nend\n",
         script: "",
@@ -108,7 +95,7 @@ crashes 0, logger calls 0
 ",
     },
     // The steps of the life before count too, and the audit's run, in which nothing crashes, has enough.
-    Traced {
+    Scripted {
         options: "--ranks 1 --steps 1300",
         program: "var i\nwhile i < 400\nlet i = i + 1\nend\nprint 1\nprint 2\n",
         script: "kill 0 at 2\n",
@@ -124,7 +111,7 @@ rank 0: crash at clock 2, back to clock 0: 2 acts made again, 0 messages asked f
 crashes 1, logger calls 1
 ",
     },
-    Traced {
+    Scripted {
         options: "--ranks 2",
         program: ANSWER,
         script: "# nobody comes so far\nkill 1 at 99\n\nkill 1 at 1\n",
@@ -142,7 +129,7 @@ line 4: kill 1 at 1: line 2 stays next
 crashes 0, logger calls 1
 ",
     },
-    Traced {
+    Scripted {
         options: "--ranks 2",
         program: ANSWER,
         script: "kill 1 at 1\n",
@@ -163,13 +150,13 @@ crashes 1, logger calls 2
 ];
 
 #[test]
-fn what_is_left_is_told(rt: HostRuntime) -> Result<(), Fail> {
+fn what_is_left_is_told(rt: HostRuntime) -> Result<(), AllocError> {
     expect_traces(&rt, &LEFT)
 }
 
 /// The same as JSON: faults, messages that don't match, a circle, a crash, a line of a script that never came to pass, and a collective.
-const OBJECTS: [Traced; 3] = [
-    Traced {
+const OBJECTS: [Scripted; 3] = [
+    Scripted {
         options: "--json --ranks 2",
         program: ANSWER,
         script: "kill 1 at 1\n\nkill 1 at 9\n",
@@ -185,7 +172,7 @@ const OBJECTS: [Traced; 3] = [
 {\"crashes\":1,\"logger_calls\":2}
 ",
     },
-    Traced {
+    Scripted {
         options: "--json --ranks 2 --idle 100",
         program: "var x\nif rank == 0\n  recv 1, 3, x\nelse\n  send 0, 5, 1\n  recv 0, 4, x\nend\n",
         script: "",
@@ -199,7 +186,7 @@ const OBJECTS: [Traced; 3] = [
 {\"crashes\":0,\"logger_calls\":0}
 ",
     },
-    Traced {
+    Scripted {
         options: "--json --ranks 2",
         program: "var x\niprobe any, any, x\nbcast 1, x\nprint 1 / x\n",
         script: "",
@@ -219,25 +206,41 @@ const OBJECTS: [Traced; 3] = [
 // Each line is JSON that reads back as what is written so.
 fn reads_back<R: Threads + Wait + Sync + Copy + Send + AllocGlobal + Abort>(
     rt: &R,
-    row: &Traced,
-) -> Result<(), Fail> {
+    row: &Scripted,
+) -> Result<(), AllocError> {
     let words = format!(in rt.alloc(); "trace {} --script s p", row.options)?;
     let files = [("p", row.program), ("s", row.script)];
     let answer = answer_of(rt, words.as_str(), &files)?;
-    for line in answer.out().lines() {
-        let read = Value::from_str(rt.alloc(), line);
+    read_back(rt, rt.alloc(), answer.out())
+}
+
+// So it is with each line of a text.
+fn read_back(rt: &impl Abort, alloc: Global, text: &str) -> Result<(), AllocError> {
+    for line in text.lines() {
+        let read = Value::from_str(alloc, line);
         assert!(rt; read.is_ok(), "no JSON: {line}");
         if let Ok(value) = read {
-            assert!(rt; value.as_object().is_some(), "no object: {line}");
-            let text = value.to_string(rt.alloc())?;
-            assert_eq!(rt; text.as_str(), line, "read back");
+            is_written_so(rt, alloc, &value, line)?;
         }
     }
     Ok(())
 }
 
+// This is an object, and this is its text.
+fn is_written_so<'a>(
+    rt: &impl Abort,
+    alloc: Global,
+    value: &Value,
+    line: &'a str,
+) -> Result<(), AllocError> {
+    assert!(rt; value.as_object().is_some(), "no object: {line}");
+    let text = value.to_string(alloc)?;
+    same(rt, "read back", &text.as_str(), &line);
+    Ok(())
+}
+
 #[test]
-fn json_tells_the_same(rt: HostRuntime) -> Result<(), Fail> {
+fn json_tells_the_same(rt: HostRuntime) -> Result<(), AllocError> {
     expect_traces(&rt, &OBJECTS)?;
     for row in &OBJECTS {
         reads_back(&rt, row)?;
@@ -268,12 +271,20 @@ const REFUSED: [(&str, &str, &str, &str); 4] = [
     ),
 ];
 
-#[test]
-fn no_trace_is_told(rt: HostRuntime) -> Result<(), Fail> {
-    for row in &REFUSED {
+// Each of these is refused so.
+fn are_refused<R: Threads + Wait + Sync + Copy + Send + AllocGlobal + Abort>(
+    rt: &R,
+    rows: &[(&str, &str, &str, &str)],
+) -> Result<(), AllocError> {
+    for row in rows {
         let (words, program, script, error) = *row;
         let files = [("p", program), ("s", script)];
-        expect_answer(&rt, words, &files, (2, "", error))?;
+        expect_answer(rt, words, &files, (2, "", error))?;
     }
     Ok(())
+}
+
+#[test]
+fn no_trace_is_told(rt: HostRuntime) -> Result<(), AllocError> {
+    are_refused(&rt, &REFUSED)
 }

@@ -1,12 +1,12 @@
 //! What is told of a search while it goes on.
+use crate::same::same;
 use crate::scenes::{Table, words_of};
 use runner::{Progress, Watch, command_watched};
-use std::alloc::Global;
+use std::alloc::{AllocError, Global};
 use std::io::{ErrorKind, IsTerminal, Write};
 use std::process::Abort;
 use std::sync::Wait;
 use std::sync::atomic::{AtomicU64, Ordering};
-use std::test::Fail;
 use std::thread::Threads;
 use std::time::{Clock, Duration};
 
@@ -17,7 +17,7 @@ const FIRST_COME: &str =
 const WORDS: &str = "ftmpi explore --ranks 5 p";
 
 /// Counts what it is told.
-#[derive(Drop)]
+#[derive(Clone, Copy)]
 struct Counter {
     calls: u32,
     last: u32,
@@ -37,23 +37,24 @@ fn watched<R: Threads + Wait + Sync + Copy + Send + AllocGlobal, W: Watch>(
     rt: &R,
     words: &str,
     watch: &mut W,
-) -> Result<(u8, bool), Fail> {
+) -> Result<(u8, bool), AllocError> {
+    let words = words_of(rt.alloc(), words)?;
+    Ok(watched_call(rt, words.as_slice(), watch))
+}
+
+// The same of the program called with all these words.
+fn watched_call<R: Threads + Wait + Sync + Copy + Send + AllocGlobal, W: Watch>(
+    rt: &R,
+    words: &[String],
+    watch: &mut W,
+) -> (u8, bool) {
     let alloc = rt.alloc();
-    let words = words_of(alloc, words)?;
     let files = &[("p", FIRST_COME)];
     let mut files = Table { alloc, files };
     let (mut out, mut err) = (Vec::new(alloc), Vec::new(alloc));
-    let status = command_watched(
-        rt,
-        alloc,
-        words.as_slice(),
-        &mut files,
-        &mut out,
-        &mut err,
-        watch,
-    );
+    let status = command_watched(rt, alloc, words, &mut files, &mut out, &mut err, watch);
     let is_complete = out.ends_with(b"outcomes 24, runs 24, complete\n");
-    Ok((status, is_complete && err.is_empty()))
+    (status, is_complete && err.is_empty())
 }
 
 // A search tells of so many runs, each once and in order.
@@ -62,21 +63,21 @@ fn expect_told<R: Threads + Wait + Sync + Copy + Send + AllocGlobal + Abort>(
     words: &str,
     want: (u8, bool),
     runs: u32,
-) -> Result<(), Fail> {
+) -> Result<(), AllocError> {
     let mut counter = Counter {
         calls: 0,
         last: 0,
         is_in_order: true,
     };
     let found = watched(rt, words, &mut counter)?;
-    assert_eq!(rt; found, want, "at {words}");
+    same(rt, words, &found, &want);
     let told = (counter.calls, counter.last, counter.is_in_order);
-    assert_eq!(rt; told, (runs, runs, true), "at {words}");
+    same(rt, words, &told, &(runs, runs, true));
     Ok(())
 }
 
 #[test]
-fn each_run_is_told(rt: HostRuntime) -> Result<(), Fail> {
+fn each_run_is_told(rt: HostRuntime) -> Result<(), AllocError> {
     expect_told(&rt, WORDS, (0, true), 24)?;
     expect_told(&rt, "ftmpi explore --ranks 5 --runs 7 p", (1, false), 7)?;
     expect_told(&rt, "ftmpi run --ranks 5 p", (0, false), 0)
@@ -100,7 +101,7 @@ impl Clock for Ticks {
 }
 
 /// A clock that can't be read.
-#[derive(Drop)]
+#[derive(Clone, Copy)]
 struct Stopped;
 
 impl Clock for Stopped {
@@ -151,19 +152,23 @@ fn expect_shown<R: Threads + Wait + Sync + Copy + Send + AllocGlobal + Abort, C:
     clock: &C,
     is_terminal: bool,
     want: &str,
-) -> Result<(), Fail> {
+) -> Result<(), AllocError> {
     let mut screen = Screen::new(rt.alloc(), is_terminal);
     let mut progress = Progress::new(clock, &mut screen);
     let found = watched(rt, WORDS, &mut progress)?;
-    assert_eq!(rt; found, (0, true));
-    let shown = std::str::from_utf8(screen.shown.as_slice()).unwrap_or("no text");
-    assert_eq!(rt; shown, want);
+    same(rt, WORDS, &found, &(0, true));
+    is_shown(rt, &screen, want);
     Ok(())
+}
+
+fn is_shown<'a>(rt: &impl Abort, screen: &'a Screen, want: &'a str) {
+    let shown = std::str::from_utf8(screen.shown.as_slice()).unwrap_or("no text");
+    same(rt, "the screen", &shown, &want);
 }
 
 // A terminal is told after one second, and then each time that it took twice as long.
 #[test]
-fn a_terminal_is_told(rt: HostRuntime) -> Result<(), Fail> {
+fn a_terminal_is_told(rt: HostRuntime) -> Result<(), AllocError> {
     let ticks = Ticks {
         looks: AtomicU64::new(0),
     };

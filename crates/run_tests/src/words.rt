@@ -1,4 +1,5 @@
 //! What the words ask for, with what they leave out; and arguments that are no words.
+use crate::same::same;
 use crate::scenes::words_of;
 use command_line::{Job, job_of};
 use runner::words_given;
@@ -7,7 +8,6 @@ use std::env::FillError;
 use std::num::NonZeroU32;
 use std::process::Abort;
 use std::rt::Env;
-use std::test::Fail;
 
 /// The words of a run, with its ranks, idle turns, steps, program and the form of its costs, and of one that is told its form; those of a search, with its
 /// ranks, runs, steps, states, program and form; and those of a world that is led to its end, with its ranks, steps, program and events.
@@ -114,18 +114,30 @@ fn asked(alloc: Global, words: &[String]) -> Result<String, AllocError> {
 }
 
 // Each of these asks for this run.
-fn ask_for(rt: &impl Abort, alloc: Global, rows: &[(&str, &str)]) -> Result<(), Fail> {
+fn ask_for(rt: &impl Abort, alloc: Global, rows: &[(&str, &str)]) -> Result<(), AllocError> {
     for row in rows {
         let (line, want) = *row;
         let words = words_of(alloc, line)?;
-        let found = asked(alloc, words.as_slice())?;
-        assert_eq!(rt; found.as_str(), want, "at {line}");
+        is_asked(rt, alloc, words.as_slice(), (line, want))?;
     }
     Ok(())
 }
 
+// The words of this line ask for this.
+fn is_asked<'a>(
+    rt: &impl Abort,
+    alloc: Global,
+    words: &[String],
+    row: (&'a str, &'a str),
+) -> Result<(), AllocError> {
+    let (line, want) = row;
+    let found = asked(alloc, words)?;
+    same(rt, line, &found.as_str(), &want);
+    Ok(())
+}
+
 #[test]
-fn defaults(rt: HostRuntime) -> Result<(), Fail> {
+fn defaults(rt: HostRuntime) -> Result<(), AllocError> {
     ask_for(&rt, rt.alloc(), &RUNS)
 }
 
@@ -159,23 +171,23 @@ fn ask_for_images(
     rt: &impl Abort,
     alloc: Global,
     rows: &[(&str, Option<u32>)],
-) -> Result<(), Fail> {
+) -> Result<(), AllocError> {
     for row in rows {
         let (line, want) = *row;
         let words = words_of(alloc, line)?;
         let found = every_asked(alloc, words.as_slice());
-        assert_eq!(rt; found, want, "at {line}");
+        same(rt, line, &found, &want);
     }
     Ok(())
 }
 
 #[test]
-fn images_every(rt: HostRuntime) -> Result<(), Fail> {
+fn images_every(rt: HostRuntime) -> Result<(), AllocError> {
     ask_for_images(&rt, rt.alloc(), &EVERY)
 }
 
 /// A machine that calls the program with these arguments.
-#[derive(Drop)]
+#[derive(Clone, Copy)]
 struct Called<'a> {
     alloc: Global,
     arguments: &'a [&'a [u8]],
@@ -261,78 +273,91 @@ const CALLS: [Call; 6] = [
 ];
 
 // Each of these gives three words, or ends the program with status 3.
-fn give_words(rt: &impl Abort, alloc: Global, rows: &[Call]) -> Result<(), Fail> {
+fn give_words(rt: &impl Abort, alloc: Global, rows: &[Call]) -> Result<(), AllocError> {
     for row in rows {
-        let arguments = [row.name, row.first, row.second];
-        let called = Called {
-            alloc,
-            arguments: arguments.as_slice(),
-        };
-        let mut err = Vec::new(alloc);
-        let found = match words_given(&called) {
-            Ok(words) => (0, words.len()),
-            Err(fault) => (fault.tell(&mut err), 0),
-        };
-        let want = if row.error.is_empty() { (0, 3) } else { (3, 0) };
-        assert_eq!(rt; found, want, "at {arguments:?}");
-        assert_eq!(rt; err.as_slice(), row.error.as_bytes(), "at {arguments:?}");
+        gives_words(rt, alloc, *row);
     }
     Ok(())
 }
 
+fn gives_words(rt: &impl Abort, alloc: Global, row: Call) {
+    let arguments = [row.name, row.first, row.second];
+    let called = Called {
+        alloc,
+        arguments: arguments.as_slice(),
+    };
+    let mut err = Vec::new(alloc);
+    let found = words_or_fault(&called, &mut err);
+    let want = if row.error.is_empty() { (0, 3) } else { (3, 0) };
+    let case = format_args!("at {arguments:?}");
+    let told = (found, err.as_slice());
+    same(rt, case, &told, &(want, row.error.as_bytes()));
+}
+
+// The status and no words, which is told, or no status and how many words there are.
+fn words_or_fault(called: &Called<'_>, err: &mut Vec<u8>) -> (u8, usize) {
+    match words_given(called) {
+        Ok(words) => (0, words.len()),
+        Err(fault) => (fault.tell(err), 0),
+    }
+}
+
 #[test]
-fn arguments(rt: HostRuntime) -> Result<(), Fail> {
+fn arguments(rt: HostRuntime) -> Result<(), AllocError> {
     give_words(&rt, rt.alloc(), &CALLS)
 }
 
 // An argument of any length is a word, byte for byte.
-fn read_long(rt: &impl Abort, alloc: Global, lengths: &[usize]) -> Result<(), Fail> {
+fn read_long(rt: &impl Abort, alloc: Global, lengths: &[usize]) -> Result<(), AllocError> {
     for length in lengths {
         let long = vec![in alloc; b'x'; *length]?;
-        let arguments = [b"ftmpi".as_slice(), long.as_slice()];
-        let called = Called {
-            alloc,
-            arguments: arguments.as_slice(),
-        };
-        let found = match words_given(&called) {
-            Ok(words) => words
-                .get(1)
-                .is_some_and(|word| word.as_bytes() == long.as_slice()),
-            Err(_) => false,
-        };
-        assert!(rt; found, "at {length} bytes");
+        assert!(rt; is_read(alloc, long.as_slice()), "at {length} bytes");
     }
     Ok(())
 }
 
+// The second one of two arguments is a word, byte for byte.
+fn is_read(alloc: Global, long: &[u8]) -> bool {
+    let arguments = [b"ftmpi".as_slice(), long];
+    let called = Called {
+        alloc,
+        arguments: arguments.as_slice(),
+    };
+    match words_given(&called) {
+        Ok(words) => words.get(1).is_some_and(|word| word.as_bytes() == long),
+        Err(_) => false,
+    }
+}
+
 #[test]
-fn long_arguments(rt: HostRuntime) -> Result<(), Fail> {
+fn long_arguments(rt: HostRuntime) -> Result<(), AllocError> {
     read_long(&rt, rt.alloc(), &[0, 255, 256, 257, 512, 100000])
 }
 
 // There are as many words as arguments, and the last one is theirs.
-fn read_many(rt: &impl Abort, alloc: Global, counts: &[usize]) -> Result<(), Fail> {
+fn read_many(rt: &impl Abort, alloc: Global, counts: &[usize]) -> Result<(), AllocError> {
     for count in counts {
         let mut arguments = vec![in alloc; b"ftmpi".as_slice(); *count]?;
         arguments.push(b"last".as_slice())?;
-        let called = Called {
-            alloc,
-            arguments: arguments.as_slice(),
-        };
-        let found = match words_given(&called) {
-            Ok(words) => {
-                let is_there = words.last().is_some_and(|word| word.as_str() == "last");
-                (words.len(), is_there)
-            }
-            Err(_) => (0, false),
-        };
+        let found = count_and_last(alloc, arguments.as_slice());
         let want = (count.saturating_add(1), true);
-        assert_eq!(rt; found, want, "at {count} arguments");
+        same(rt, format_args!("at {count} arguments"), &found, &want);
     }
     Ok(())
 }
 
+// How many words these arguments are, and whether the last one is theirs.
+fn count_and_last(alloc: Global, arguments: &[&[u8]]) -> (usize, bool) {
+    match words_given(&Called { alloc, arguments }) {
+        Ok(words) => {
+            let is_there = words.last().is_some_and(|word| word.as_str() == "last");
+            (words.len(), is_there)
+        }
+        Err(_) => (0, false),
+    }
+}
+
 #[test]
-fn many_arguments(rt: HostRuntime) -> Result<(), Fail> {
+fn many_arguments(rt: HostRuntime) -> Result<(), AllocError> {
     read_many(&rt, rt.alloc(), &[0, 1, 63, 64, 255, 256, 10000])
 }

@@ -1,6 +1,9 @@
 //! Worlds as JSON, whole: each member of an event and of a rank.
 use crate::scenes::expect_answer;
-use std::test::*;
+use std::alloc::AllocError;
+use std::process::Abort;
+use std::sync::Wait;
+use std::thread::Threads;
 
 /// A program with events, and all that `world --json` prints of them.
 struct Objects {
@@ -280,12 +283,20 @@ const OBJECTS: [Objects; 5] = [
     },
 ];
 
+// A world of this row prints this.
+fn expect_objects<R: Threads + Wait + Sync + Copy + Send + AllocGlobal + Abort>(
+    rt: &R,
+    row: &Objects,
+) -> Result<(), AllocError> {
+    let words = format!(in rt.alloc(); "world --json --ranks {} p e", row.ranks)?;
+    let files = [("p", row.program), ("e", row.events)];
+    expect_answer(rt, words.as_str(), &files, (0, row.out, ""))
+}
+
 #[test]
-fn each_event_is_an_object(rt: HostRuntime) -> Result<(), Fail> {
+fn each_event_is_an_object(rt: HostRuntime) -> Result<(), AllocError> {
     for row in &OBJECTS {
-        let words = format!(in rt.alloc(); "world --json --ranks {} p e", row.ranks)?;
-        let files = [("p", row.program), ("e", row.events)];
-        expect_answer(&rt, words.as_str(), &files, (0, row.out, ""))?;
+        expect_objects(&rt, row)?;
     }
     Ok(())
 }

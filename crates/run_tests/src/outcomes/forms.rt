@@ -1,7 +1,7 @@
 //! Searches in short, as JSON, and with few states kept.
 use crate::outcomes::expect_outcomes;
 use crate::scenes::Run;
-use std::test::Fail;
+use std::alloc::AllocError;
 
 // Rank 0 takes one message of two or three.
 const RACE: &str = "var x\nif rank == 0\nrecv any, any, x\nprint source\nelse\nsend 0, 0, 0\nend\n";
@@ -135,7 +135,7 @@ outcomes 1, runs 1, stopped
 ];
 
 #[test]
-fn in_short(rt: HostRuntime) -> Result<(), Fail> {
+fn in_short(rt: HostRuntime) -> Result<(), AllocError> {
     expect_outcomes(&rt, &SHORT)
 }
 
@@ -172,7 +172,7 @@ const JSON: [Run; 2] = [
 ];
 
 #[test]
-fn as_json(rt: HostRuntime) -> Result<(), Fail> {
+fn as_json(rt: HostRuntime) -> Result<(), AllocError> {
     expect_outcomes(&rt, &JSON)
 }
 
@@ -208,6 +208,6 @@ outcomes 2, runs 2, complete
 ];
 
 #[test]
-fn few_states(rt: HostRuntime) -> Result<(), Fail> {
+fn few_states(rt: HostRuntime) -> Result<(), AllocError> {
     expect_outcomes(&rt, &FEW)
 }

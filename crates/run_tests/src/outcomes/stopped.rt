@@ -1,7 +1,7 @@
 //! Searches that come to a limit.
 use crate::outcomes::expect_outcomes;
 use crate::scenes::Run;
-use std::test::Fail;
+use std::alloc::AllocError;
 
 /// Searches that a limit stops.
 const STOPPED: [Run; 4] = [
@@ -61,6 +61,6 @@ outcomes 1, runs 5, stopped
 ];
 
 #[test]
-fn searches_stop(rt: HostRuntime) -> Result<(), Fail> {
+fn searches_stop(rt: HostRuntime) -> Result<(), AllocError> {
     expect_outcomes(&rt, &STOPPED)
 }

@@ -1,7 +1,7 @@
 //! Runs with a script as events: its kills and images are crashes and images of `world`.
 use crate::plays::{ANSWER, PROBES, Played, TAGS, expect_plays};
 use crate::scenes::expect_answer;
-use std::test::Fail;
+use std::alloc::AllocError;
 
 const KILLED: [Played; 6] = [
     Played {
@@ -59,7 +59,7 @@ const KILLED: [Played; 6] = [
 ];
 
 #[test]
-fn kills_are_played(rt: HostRuntime) -> Result<(), Fail> {
+fn kills_are_played(rt: HostRuntime) -> Result<(), AllocError> {
     expect_plays(&rt, &KILLED)
 }
 
@@ -130,7 +130,7 @@ step 1
 ";
 
 #[test]
-fn events_with_crashes(rt: HostRuntime) -> Result<(), Fail> {
+fn events_with_crashes(rt: HostRuntime) -> Result<(), AllocError> {
     let words = "trace --events --ranks 2 --script s p";
     let received = [("p", ANSWER), ("s", "kill 1 at 1\n")];
     expect_answer(&rt, words, &received, (0, RECEIVED, ""))?;
