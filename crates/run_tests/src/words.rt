@@ -273,21 +273,16 @@ const CALLS: [Call; 6] = [
 ];
 
 // Each of these gives three words, or ends the program with status 3.
-fn give_words(rt: &impl Abort, alloc: Global, rows: &[Call]) -> Result<(), AllocError> {
+fn give_words(rt: &impl Abort, alloc: Global, rows: &[Call]) {
     for row in rows {
         gives_words(rt, alloc, *row);
     }
-    Ok(())
 }
 
 fn gives_words(rt: &impl Abort, alloc: Global, row: Call) {
     let arguments = [row.name, row.first, row.second];
-    let called = Called {
-        alloc,
-        arguments: arguments.as_slice(),
-    };
     let mut err = Vec::new(alloc);
-    let found = words_or_fault(&called, &mut err);
+    let found = words_or_fault(alloc, arguments.as_slice(), &mut err);
     let want = if row.error.is_empty() { (0, 3) } else { (3, 0) };
     let case = format_args!("at {arguments:?}");
     let told = (found, err.as_slice());
@@ -295,38 +290,38 @@ fn gives_words(rt: &impl Abort, alloc: Global, row: Call) {
 }
 
 // The status and no words, which is told, or no status and how many words there are.
-fn words_or_fault(called: &Called<'_>, err: &mut Vec<u8>) -> (u8, usize) {
-    match words_given(called) {
+fn words_or_fault(alloc: Global, arguments: &[&[u8]], err: &mut Vec<u8>) -> (u8, usize) {
+    match words_given(&Called { alloc, arguments }) {
         Ok(words) => (0, words.len()),
         Err(fault) => (fault.tell(err), 0),
     }
 }
 
 #[test]
-fn arguments(rt: HostRuntime) -> Result<(), AllocError> {
-    give_words(&rt, rt.alloc(), &CALLS)
+fn arguments(rt: HostRuntime) {
+    give_words(&rt, rt.alloc(), &CALLS);
 }
 
-// An argument of any length is a word, byte for byte.
+// How many words these arguments are, and whether the last one is this, byte for byte.
+fn count_and_last(alloc: Global, arguments: &[&[u8]], last: &[u8]) -> (usize, bool) {
+    match words_given(&Called { alloc, arguments }) {
+        Ok(words) => {
+            let is_there = words.last().is_some_and(|word| word.as_bytes() == last);
+            (words.len(), is_there)
+        }
+        Err(_) => (0, false),
+    }
+}
+
+// An argument of any length is a word.
 fn read_long(rt: &impl Abort, alloc: Global, lengths: &[usize]) -> Result<(), AllocError> {
     for length in lengths {
         let long = vec![in alloc; b'x'; *length]?;
-        assert!(rt; is_read(alloc, long.as_slice()), "at {length} bytes");
+        let long = long.as_slice();
+        let found = count_and_last(alloc, &[b"ftmpi".as_slice(), long], long);
+        same(rt, format_args!("at {length} bytes"), &found, &(2, true));
     }
     Ok(())
-}
-
-// The second one of two arguments is a word, byte for byte.
-fn is_read(alloc: Global, long: &[u8]) -> bool {
-    let arguments = [b"ftmpi".as_slice(), long];
-    let called = Called {
-        alloc,
-        arguments: arguments.as_slice(),
-    };
-    match words_given(&called) {
-        Ok(words) => words.get(1).is_some_and(|word| word.as_bytes() == long),
-        Err(_) => false,
-    }
 }
 
 #[test]
@@ -339,22 +334,11 @@ fn read_many(rt: &impl Abort, alloc: Global, counts: &[usize]) -> Result<(), All
     for count in counts {
         let mut arguments = vec![in alloc; b"ftmpi".as_slice(); *count]?;
         arguments.push(b"last".as_slice())?;
-        let found = count_and_last(alloc, arguments.as_slice());
+        let found = count_and_last(alloc, arguments.as_slice(), b"last");
         let want = (count.saturating_add(1), true);
         same(rt, format_args!("at {count} arguments"), &found, &want);
     }
     Ok(())
-}
-
-// How many words these arguments are, and whether the last one is theirs.
-fn count_and_last(alloc: Global, arguments: &[&[u8]]) -> (usize, bool) {
-    match words_given(&Called { alloc, arguments }) {
-        Ok(words) => {
-            let is_there = words.last().is_some_and(|word| word.as_str() == "last");
-            (words.len(), is_there)
-        }
-        Err(_) => (0, false),
-    }
 }
 
 #[test]
