@@ -1,6 +1,6 @@
 //! The core answers as the whole program does, and leaves out what it hasn't.
 use crate::same::same;
-use crate::scenes::{Answer, Table, answer_of, words_of};
+use crate::scenes::{Answer, Table, answer_of, words_behind_name};
 use core_runner::core_command;
 use std::alloc::AllocError;
 use std::process::Abort;
@@ -61,9 +61,7 @@ fn core_answer_of<R: Threads + Wait + Sync + Copy + Send + AllocGlobal>(
     rt: &R,
     words: &str,
 ) -> Result<Answer, AllocError> {
-    let alloc = rt.alloc();
-    let line = format!(in alloc; "ftmpi {words}")?;
-    let words = words_of(alloc, line.as_str())?;
+    let words = words_behind_name(rt.alloc(), words)?;
     Ok(core_answer_to(rt, words.as_slice()))
 }
 

@@ -49,16 +49,24 @@ impl Answer {
     }
 }
 
+// The words of a line.
 pub fn words_of(alloc: Global, line: &str) -> Result<Vec<String>, AllocError> {
     let mut words = Vec::new(alloc);
-    for word in line.split(' ') {
-        push_word(alloc, &mut words, word)?;
-    }
+    push_words(alloc, &mut words, line)?;
     Ok(words)
 }
 
-fn push_word(alloc: Global, words: &mut Vec<String>, word: &str) -> Result<(), AllocError> {
-    words.push(String::from_str(alloc, word)?)?;
+// The program's name, and then the words of a line.
+pub fn words_behind_name(alloc: Global, line: &str) -> Result<Vec<String>, AllocError> {
+    let mut words = words_of(alloc, "ftmpi")?;
+    push_words(alloc, &mut words, line)?;
+    Ok(words)
+}
+
+fn push_words(alloc: Global, words: &mut Vec<String>, line: &str) -> Result<(), AllocError> {
+    for word in line.split(' ') {
+        words.push(String::from_str(alloc, word)?)?;
+    }
     Ok(())
 }
 
@@ -68,9 +76,7 @@ pub fn answer_of<R: Threads + Wait + Sync + Copy + Send + AllocGlobal>(
     words: &str,
     files: &[(&str, &str)],
 ) -> Result<Answer, AllocError> {
-    let alloc = rt.alloc();
-    let line = format!(in alloc; "ftmpi {words}")?;
-    let words = words_of(alloc, line.as_str())?;
+    let words = words_behind_name(rt.alloc(), words)?;
     Ok(answer_to(rt, words.as_slice(), files))
 }
 
