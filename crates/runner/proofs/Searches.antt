@@ -20,9 +20,9 @@ is_found_by program job found possible complete distinct few_runs =
     record { possible = possible; complete = complete; distinct = distinct; few_runs = few_runs }
 
 -- the text of what was found is printed where it is asked for
-pub text_printed : (program : ProgramValue) (job : ExploreJob) (found : ExploredValue) (out : List ℕ)
-    → job.form ≡ form.Text → IsMarkedText program job.ranks found job.runs out → IsPrinted program job found out
-text_printed program job found out is text =
+pub text_printed : (source : List ℕ) (program : ProgramValue) (job : ExploreJob) (found : ExploredValue) (out : List ℕ)
+    → job.form ≡ form.Text → IsMarkedText source program job.ranks found job.runs out → IsPrinted source program job found out
+text_printed source program job found out is text =
     record {
       text = λ _. text;
       summary = λ other. (let e : form.Text ≡ form.Summary = sym is ∙ other in absurd cc);
@@ -30,9 +30,9 @@ text_printed program job found out is text =
     }
 
 -- so is the short one
-pub summary_printed : (program : ProgramValue) (job : ExploreJob) (found : ExploredValue) (out : List ℕ)
-    → job.form ≡ form.Summary → IsMarkedSummary program job.ranks found job.runs out → IsPrinted program job found out
-summary_printed program job found out is text =
+pub summary_printed : (source : List ℕ) (program : ProgramValue) (job : ExploreJob) (found : ExploredValue) (out : List ℕ)
+    → job.form ≡ form.Summary → IsMarkedSummary program job.ranks found job.runs out → IsPrinted source program job found out
+summary_printed source program job found out is text =
     record {
       text = λ other. (let e : form.Summary ≡ form.Text = sym is ∙ other in absurd cc);
       summary = λ _. text;
@@ -40,9 +40,9 @@ summary_printed program job found out is text =
     }
 
 -- whatever is printed as JSON
-pub json_printed : (program : ProgramValue) (job : ExploreJob) (found : ExploredValue) (out : List ℕ)
-    → job.form ≡ form.Json → IsPrinted program job found out
-json_printed program job found out is =
+pub json_printed : (source : List ℕ) (program : ProgramValue) (job : ExploreJob) (found : ExploredValue) (out : List ℕ)
+    → job.form ≡ form.Json → IsPrinted source program job found out
+json_printed source program job found out is =
     record {
       text = λ other. (let e : form.Json ≡ form.Text = sym is ∙ other in absurd cc);
       summary = λ other. (let e : form.Json ≡ form.Summary = sym is ∙ other in absurd cc);
@@ -50,9 +50,9 @@ json_printed program job found out is =
     }
 
 -- the events of the outcome that is named are printed
-pub events_printed : (program : ProgramValue) (job : ExploreJob) (found : ExploredValue) (out : List ℕ) (number : ℕ)
-    → job.form ≡ form.Events number → PlaysOutcome program job.ranks found.outcomes number out → IsPrinted program job found out
-events_printed program job found out number is played = record {
+pub events_printed : (source : List ℕ) (program : ProgramValue) (job : ExploreJob) (found : ExploredValue) (out : List ℕ) (number : ℕ)
+    → job.form ≡ form.Events number → PlaysOutcome program job.ranks found.outcomes number out → IsPrinted source program job found out
+events_printed source program job found out number is played = record {
   text = λ other. (let e : form.Events number ≡ form.Text = sym is ∙ other in absurd cc);
   summary = λ other. (let e : form.Events number ≡ form.Summary = sym is ∙ other in absurd cc);
   events = λ another other. let e : form.Events number ≡ form.Events another = sym is ∙ other in
@@ -61,13 +61,13 @@ events_printed program job found out number is played = record {
 }
 
 -- what was found, printed with its status, is an answer
-pub is_search_answer : (program : ProgramValue) (job : ExploreJob) (found : ExploredValue) (out : List ℕ) (status : ℕ)
-    → IsFoundBy program job found → IsPrinted program job found out → HasSearchStatus found status → IsSearchAnswer program job out status
-is_search_answer program job found out status searched printed ended =
+pub is_search_answer : (source : List ℕ) (program : ProgramValue) (job : ExploreJob) (found : ExploredValue) (out : List ℕ) (status : ℕ)
+    → IsFoundBy program job found → IsPrinted source program job found out → HasSearchStatus found status → IsSearchAnswer source program job out status
+is_search_answer source program job found out status searched printed ended =
     record { found = found; searched = searched; printed = printed; ended = ended }
 
 -- an answer of the program of a text that the file holds
 pub is_explore_answer : (holds : List ℕ → Type 0) (job : ExploreJob) (text : List ℕ) (program : ProgramValue) (out : List ℕ) (status : ℕ)
-    → holds text → IsProgramOf text program → IsSearchAnswer program job out status → IsExploreAnswer holds job out status
+    → holds text → IsProgramOf text program → IsSearchAnswer text program job out status → IsExploreAnswer holds job out status
 is_explore_answer holds job text program out status held read answer =
     record { program = program; read = record { text = text; held = held; read = read }; answer = answer }

@@ -3,14 +3,16 @@ use Rattle.std.specs.Prelude.{◌≡◌, ℕ, ℤ, ◌+◌, Bool, length, List, 
 use Rattle.std.specs.Fmt.{decimal}
 use Rattle.audit.specs.declared.outcome.End.TheVariants as end
 use Rattle.events_text.specs.Output.{line_text}
+use Rattle.explore.specs.declared.moves.Noted.{Noted}
 use Rattle.explore.specs.Explored.{ExploredValue}
 use Rattle.explore.specs.Shown.{AreMarked}
 use Rattle.final_runs.specs.Maximal.{RankOutcome}
 use Rattle.rank_language.specs.Program.{ProgramValue}
 use Rattle.runner.specs.Meanings.{meaning_text}
-use Rattle.runner.specs.Partings.{choices_text}
+use Rattle.runner.specs.Partings.{ArePartings, choices_text}
 use Rattle.core_runner.specs.ReportText.{end_text}
 use Rattle.runner.specs.declared.outcomes.parting.Parted.{Parted}
+use Rattle.statement_lines.specs.Standing.{IsLinedOf}
 
 -- the values that a rank printed, a line each
 abbrev pub values_text : ℕ → List ℤ → List ℕ
@@ -31,23 +33,26 @@ endings_text rank (seen ∷ others) = end_text rank seen.end ++ endings_text (ra
 abbrev pub outcome_text : ℕ → List RankOutcome → List ℕ
 outcome_text number outcome = codes "outcome " ++ decimal number ++ codes "\n" ++ lines_text 0 outcome ++ endings_text 0 outcome
 
--- an outcome of this number, with some lines that say where runs part that lead there, and an empty
+-- an outcome of this number, with the lines that say where runs part that lead there, and an empty
 -- line
 unfoldable pub one_text : ℕ → List RankOutcome → List ℕ → List Parted → List ℕ
 one_text number outcome lines parted = outcome_text number outcome ++ choices_text lines parted ++ codes "\n"
 
--- Of these outcomes the first so many are written, one after another, each with its number, from 1.
-pub data AreWritten (outcomes : List (List RankOutcome)) : ℕ → List ℕ → Type 0 where
-  none : AreWritten outcomes 0 []
-  more : {count : ℕ} {text : List ℕ} (outcome : List RankOutcome) (lines : List ℕ) (parted : List Parted)
-      → AreWritten outcomes count text → slice_get outcomes count ≡ Some outcome
-      → AreWritten outcomes (count + 1) (text ++ one_text (count + 1) outcome lines parted)
+-- Of these outcomes, which have these choices, the first so many are written, one after another, each
+-- with its number, from 1, and with the places where its choices part from those of outcomes before
+-- it. The statement at position K of the program stands on line K of these.
+pub data AreWritten (outcomes : List (List RankOutcome)) (choices : List (List Noted)) (lines : List ℕ) : ℕ → List ℕ → Type 0 where
+  none : AreWritten outcomes choices lines 0 []
+  more : {count : ℕ} {text : List ℕ} (outcome : List RankOutcome) (parted : List Parted)
+      → AreWritten outcomes choices lines count text → slice_get outcomes count ≡ Some outcome → ArePartings choices count parted
+      → AreWritten outcomes choices lines (count + 1) (text ++ one_text (count + 1) outcome lines parted)
 
 -- What is printed of what a search found, with the marks of its outcomes, which looked at no more
--- than so many runs: each outcome, what that means, and the last line.
-pub record IsExploredText (found : ExploredValue) (marks : List (Option Bool)) (runs : ℕ) (text : List ℕ) : Type 0 where
+-- than so many runs, of a program whose statements stand on these lines: each outcome, what that
+-- means, and the last line.
+pub record IsExploredText (found : ExploredValue) (marks : List (Option Bool)) (runs : ℕ) (lines text : List ℕ) : Type 0 where
   pub outcomes : List ℕ
-  pub each : AreWritten found.outcomes (length found.outcomes) outcomes
+  pub each : AreWritten found.outcomes found.choices lines (length found.outcomes) outcomes
   pub whole : text ≡ outcomes ++ meaning_text found marks runs
 
 -- what is printed of it in short: some lines, and behind them what the outcomes mean
@@ -55,16 +60,19 @@ pub record IsSummary (found : ExploredValue) (marks : List (Option Bool)) (runs 
   pub races : List ℕ
   pub whole : text ≡ races ++ meaning_text found marks runs
 
--- The outcomes of the program on so many ranks are printed with marks of their own.
-pub record IsMarkedText (program : ProgramValue) (ranks : ℕ) (found : ExploredValue) (runs : ℕ) (text : List ℕ) : Type 0 where
+-- The outcomes of the program of this text on so many ranks are printed with marks of their own, and
+-- with the lines of the text on which its statements stand.
+pub record IsMarkedText (source : List ℕ) (program : ProgramValue) (ranks : ℕ) (found : ExploredValue) (runs : ℕ) (text : List ℕ) : Type 0 where
   pub marks : List (Option Bool)
-  pub marked : AreMarked program ranks found.outcomes marks
-  pub printed : IsExploredText found marks runs text
+  pub marked : AreMarked program ranks found.outcomes found.choices marks
+  pub lines : List ℕ
+  pub lined : IsLinedOf source program lines
+  pub printed : IsExploredText found marks runs lines text
 
 -- so they are in short
 pub record IsMarkedSummary (program : ProgramValue) (ranks : ℕ) (found : ExploredValue) (runs : ℕ) (text : List ℕ) : Type 0 where
   pub marks : List (Option Bool)
-  pub marked : AreMarked program ranks found.outcomes marks
+  pub marked : AreMarked program ranks found.outcomes found.choices marks
   pub printed : IsSummary found marks runs text
 
 -- each rank halts in this outcome

@@ -26,21 +26,21 @@ pub record HasSearchStatus (found : ExploredValue) (status : ℕ) : Type 0 where
   pub else_one : status ≤ 1
 
 -- Standard output has the text of what was found, or the short one, or a run of the outcome that the
--- job names, as events. Nothing is said of JSON.
-pub record IsPrinted (program : ProgramValue) (job : ExploreJob) (found : ExploredValue) (out : List ℕ) : Type 0 where
-  pub text : job.form ≡ form.Text → IsMarkedText program job.ranks found job.runs out
+-- job names, as events, of the program of this text. Nothing is said of JSON.
+pub record IsPrinted (source : List ℕ) (program : ProgramValue) (job : ExploreJob) (found : ExploredValue) (out : List ℕ) : Type 0 where
+  pub text : job.form ≡ form.Text → IsMarkedText source program job.ranks found job.runs out
   pub summary : job.form ≡ form.Summary → IsMarkedSummary program job.ranks found job.runs out
   pub events : (number : ℕ) → job.form ≡ form.Events number → PlaysOutcome program job.ranks found.outcomes number out
 
--- What was found by a search of this program is printed, with its status.
-pub record IsSearchAnswer (program : ProgramValue) (job : ExploreJob) (out : List ℕ) (status : ℕ) : Type 0 where
+-- What was found by a search of the program of this text is printed, with its status.
+pub record IsSearchAnswer (source : List ℕ) (program : ProgramValue) (job : ExploreJob) (out : List ℕ) (status : ℕ) : Type 0 where
   pub found : ExploredValue
   pub searched : IsFoundBy program job found
-  pub printed : IsPrinted program job found out
+  pub printed : IsPrinted source program job found out
   pub ended : HasSearchStatus found status
 
 -- What `explore` answers: that, of the program that the file holds.
 pub record IsExploreAnswer (holds : List ℕ → Type 0) (job : ExploreJob) (out : List ℕ) (status : ℕ) : Type 0 where
   pub program : ProgramValue
   pub read : IsProgramIn holds program
-  pub answer : IsSearchAnswer program job out status
+  pub answer : IsSearchAnswer read.text program job out status

@@ -1,5 +1,7 @@
 //! What the program prints of all outcomes of a program.
 ghost use Rattle.std.specs.Prelude.{◌≡◌, ◌<◌, ◌+◌, ◌++◌, ◌↔◌, IfOk, IsTrue, OnOk, Some, [], length, slice_get, string_bytes};
+ghost use Rattle.explore.specs.Explored.{rank_outcomes};
+ghost use Rattle.runner.specs.Partings.{AreOfLast, ArePartings};
 ghost use Rattle.runner.specs.OutcomesText.{AllHalt, AreWritten, Halts, IsExploredText};
 ghost use Rattle.runner.specs.OutcomesText.{endings_text, lines_text, one_text, outcome_text, values_text};
 
@@ -14,7 +16,7 @@ use crate::outcomes::parting::{Parted, part, print_choices};
 pub use crate::outcomes::racing::print_summary;
 use audit::End;
 use core_runner::{print_end, print_line};
-use explore::{Explored, Limits, Noted, Outcome, RankEnd};
+use explore::{Explored, Limits, Outcome, RankEnd};
 use metered::Heap;
 use std::alloc::AllocError;
 use std::fmt::Write;
@@ -29,7 +31,7 @@ pub fn print_explored(
     limits: Limits,
     lines: &[usize],
 ) -> Result<String<Heap>, AllocError>
-    ensures { IfOk result (λ text. IsExploredText found.now marks.now limits.runs (string_bytes text)) }
+    ensures { IfOk result (λ text. IsExploredText found.now marks.now limits.runs lines.now (string_bytes text)) }
 {
     let mut text = String::new(alloc);
     print_outcomes(alloc, &mut text, found, lines)?;
@@ -52,7 +54,7 @@ pub fn all_halt(found: &Explored) -> bool
 }
 
 fn halts(outcome: &Outcome) -> bool
-    ensures { IsTrue result ↔ Halts outcome.now }
+    ensures { IsTrue result ↔ Halts outcome.now.ranks }
 {
     outcome.ranks.iter().all(|seen| seen.end == End::Halted)
 }
@@ -66,24 +68,36 @@ fn print_outcomes(
     lines: &[usize],
 ) -> Result<(), AllocError>
     requires { string_bytes text.old ≡ [] }
-    ensures { OnOk result (AreWritten found.now.outcomes (length found.now.outcomes) (string_bytes text.new)) }
+    ensures { OnOk result (AreWritten found.now.outcomes found.now.choices lines.now (length found.now.outcomes) (string_bytes text.new)) }
 {
     let mut parted = Vec::new(alloc);
-    let mut last: &[Noted] = &[];
     for index in 0..found.outcomes.len() {
+        part_at(found, index, &mut parted)?;
         let outcome = outcome_at(found, index);
-        if index > 0 {
-            part(&mut parted, last, outcome.choices.as_slice())?;
-        }
         print_one(text, index + 1, outcome, parted.as_slice(), lines)?;
-        last = outcome.choices.as_slice();
     }
     Ok(())
 }
 
+// Brings up to date where the choices of this outcome part from those before it.
+#[tactic(auto, using(crate::proofs::Partings::none_parted))]
+fn part_at(found: &Explored, index: usize, parted: &mut Vec<Parted, Heap>) -> Result<(), AllocError>
+    requires index { index < length found.now.outcomes }
+    requires last { AreOfLast found.now.choices index parted.old.items }
+    ensures { OnOk result (ArePartings found.now.choices index parted.new.items) }
+{
+    if index == 0 {
+        return Ok(());
+    }
+    let last = outcome_at(found, index - 1);
+    let outcome = outcome_at(found, index);
+    part(parted, last.choices.as_slice(), outcome.choices.as_slice())
+}
+
 fn outcome_at(found: &Explored, index: usize) -> &Outcome
     requires { index < length found.now.outcomes }
-    ensures { slice_get found.now.outcomes index ≡ Some result.now }
+    ensures outcome { slice_get found.now.outcomes index ≡ Some result.now.ranks }
+    ensures choices { slice_get found.now.choices index ≡ Some result.now.choices }
 {
     &found.outcomes[index]
 }
@@ -96,7 +110,7 @@ fn print_one(
     parted: &[Parted],
     lines: &[usize],
 ) -> Result<(), AllocError>
-    ensures { OnOk result (string_bytes text.new ≡ string_bytes text.old ++ one_text number outcome.now lines.now parted.now) }
+    ensures { OnOk result (string_bytes text.new ≡ string_bytes text.old ++ one_text number outcome.now.ranks lines.now parted.now) }
 {
     print_outcome(text, number, outcome.ranks.as_slice())?;
     print_choices(text, parted, lines)?;

@@ -3,6 +3,7 @@ ghost use Rattle.std.specs.Prelude.{◌≡◌, ◌+◌, ℕ, IfOk, IfSome, Some,
 ghost use Rattle.run_events.specs.Plays.{IsPlayText};
 ghost use Rattle.runner.specs.Events.{PlaysOutcome};
 ghost use Rattle.explore.specs.Shown.{AreMarked};
+ghost use Rattle.rank_language.specs.Correct.{IsProgramOf};
 ghost use Rattle.runner.specs.OutcomesText.{IsMarkedSummary, IsMarkedText};
 ghost use Rattle.runner.specs.Searches.{HasSearchStatus, IsExploreAnswer, IsFoundBy, IsPrinted, IsSearchAnswer};
 
@@ -43,7 +44,8 @@ fn found_of<'a, W: Watch>(
     program: &Program,
     watch: &mut W,
 ) -> Result<Said, ToolRefusal<'a>>
-    ensures { IfOk result (λ said. IsSearchAnswer program.now job.entry said.out.items said.status) }
+    requires { IsProgramOf text.now program.now }
+    ensures { IfOk result (λ said. IsSearchAnswer text.now program.now job.entry said.out.items said.status) }
 {
     let found = searched(alloc, job, program, watch)?;
     let answer = answer_of(alloc, job, text, program, &found)?;
@@ -80,7 +82,8 @@ fn answer_of<'a>(
     program: &Program,
     found: &Explored,
 ) -> Result<String<Heap>, ToolRefusal<'a>>
-    ensures { IfOk result (λ answer. IsPrinted program.now job.entry found.now (string_bytes answer)) }
+    requires { IsProgramOf text.now program.now }
+    ensures { IfOk result (λ answer. IsPrinted text.now program.now job.entry found.now (string_bytes answer)) }
 {
     match job.form {
         ExploreForm::Events(number) => events_of(alloc, job, number, program, found),
@@ -90,7 +93,6 @@ fn answer_of<'a>(
     }
 }
 
-#[tactic(auto, using(crate::proofs::Written::is_marked))]
 fn found_text(
     alloc: Heap,
     job: ExploreJob<'_>,
@@ -98,7 +100,8 @@ fn found_text(
     program: &Program,
     found: &Explored,
 ) -> Result<String<Heap>, AllocError>
-    ensures { IfOk result (λ answer. IsMarkedText program.now job.entry.ranks found.now job.entry.runs (string_bytes answer)) }
+    requires { IsProgramOf text.now program.now }
+    ensures { IfOk result (λ answer. IsMarkedText text.now program.now job.entry.ranks found.now job.entry.runs (string_bytes answer)) }
 {
     let lines = statement_lines(alloc, text)?;
     let marks = marks_in(alloc, job, program, found)?;
@@ -151,7 +154,7 @@ fn marks_in(
     program: &Program,
     found: &Explored,
 ) -> Result<Vec<Option<bool>, Heap>, AllocError>
-    ensures { IfOk result (λ marks. AreMarked program.now job.entry.ranks found.now.outcomes marks.items) }
+    ensures { IfOk result (λ marks. AreMarked program.now job.entry.ranks found.now.outcomes found.now.choices marks.items) }
 {
     marks_of(
         alloc,
@@ -198,7 +201,7 @@ fn told<'a>(
 }
 
 fn outcome_at(found: &Explored, number: u32) -> Option<&Outcome>
-    ensures { IfSome result (λ outcome. (index : ℕ) × (number ≡ index + 1) × (slice_get found.now.outcomes index ≡ Some outcome.now)) }
+    ensures { IfSome result (λ outcome. (index : ℕ) × (number ≡ index + 1) × (slice_get found.now.outcomes index ≡ Some outcome.now.ranks)) }
 {
     let index = number.checked_sub(1)? as usize;
     found.outcomes.get(index)

@@ -1,6 +1,7 @@
 //! What the outcomes of a program mean.
 ghost use Rattle.std.specs.Prelude.{◌≡◌, ◌++◌, OnOk, length, string_bytes};
 ghost use Rattle.std.specs.Fmt.{decimal};
+ghost use Rattle.explore.specs.Explored.{rank_outcomes};
 ghost use Rattle.runner.specs.Meanings.{between, enumeration, fault_line, fault_words, faults_text, is_of, limits_text, named_ranks};
 ghost use Rattle.runner.specs.Meanings.{count_text, mark_text, marks_text, meaning_text, only_text, ranks_line, ranks_of, runs_text, stalls_text};
 ghost use Rattle.runner.specs.Meanings.{states_text, steps_text, unhalted_text};
@@ -130,7 +131,7 @@ fn is_of(ending: Ending, end: End) -> bool
 
 // Which ranks of the outcomes don't halt.
 fn print_unhalted(text: &mut String<Heap>, outcomes: &[Outcome]) -> Result<(), AllocError>
-    ensures { OnOk result (string_bytes text.new ≡ string_bytes text.old ++ unhalted_text 1 outcomes.now) }
+    ensures { OnOk result (string_bytes text.new ≡ string_bytes text.old ++ unhalted_text 1 (rank_outcomes outcomes.now)) }
 {
     let mut number = 0usize;
     let mut rest = outcomes;

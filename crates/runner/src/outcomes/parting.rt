@@ -1,6 +1,6 @@
 //! Where runs part that lead to different outcomes.
-ghost use Rattle.std.specs.Prelude.{◌≡◌, ◌++◌, OnOk, slice_get, string_bytes};
-ghost use Rattle.runner.specs.Partings.{before_words, choice_words, choices_text, chosen_words};
+ghost use Rattle.std.specs.Prelude.{◌≡◌, ◌≢◌, ◌<◌, ◌++◌, ℕ, true, false, OnOk, Some, slice_get, string_bytes};
+ghost use Rattle.runner.specs.Partings.{PartsOn, before_words, choice_words, choices_text, chosen_words};
 ghost use Rattle.runner.specs.Partings.{instead_words, other_words, parted_text, place_words};
 
 use crash_free::Choice;
@@ -23,30 +23,61 @@ pub fn part(
     parted: &mut Vec<Parted, Heap>,
     last: &[Noted],
     choices: &[Noted],
-) -> Result<(), AllocError> {
-    let mut at = 0usize;
-    for (index, before) in last.iter().enumerate() {
-        match choices.get(index) {
-            Some(chosen) if *chosen == *before => at = index.saturating_add(1),
-            Some(_) | None => break,
-        }
-    }
-    let mut kept = 0usize;
-    for each in parted.iter() {
-        if each.at >= at {
-            break;
-        }
-        kept = kept.saturating_add(1);
-    }
-    parted.truncate(kept);
-    if let (Some(before), Some(chosen)) = (last.get(at), choices.get(at)) {
-        parted.push(Parted {
-            at,
-            chosen: *chosen,
-            before: *before,
-        })?;
-    }
+) -> Result<(), AllocError>
+    ensures { OnOk result (PartsOn last.now choices.now parted.old.items parted.new.items) }
+{
+    let at = same_from_first(last, choices);
+    parted.truncate(count_before(parted.as_slice(), at));
+    let Some(before) = choice_at(last, at) else {
+        return Ok(());
+    };
+    let Some(chosen) = choice_at(choices, at) else {
+        return Ok(());
+    };
+    parted.push(Parted { at, chosen, before })?;
     Ok(())
+}
+
+// How many choices, from the first on, are the same in both.
+fn same_from_first(last: &[Noted], choices: &[Noted]) -> usize
+    ensures same { (i : ℕ) → i < result → slice_get choices.now i ≡ slice_get last.now i }
+    ensures apart { (chosen before : Noted) → slice_get choices.now result ≡ Some chosen → slice_get last.now result ≡ Some before → chosen ≢ before }
+{
+    let mut at = 0;
+    while at < last.len() && at < choices.len() {
+        if !is_same(choices[at], last[at]) {
+            return at;
+        }
+        at += 1;
+    }
+    at
+}
+
+fn is_same(noted: Noted, other: Noted) -> bool
+    ensures yes { result ≡ true → noted ≡ other }
+    ensures no { result ≡ false → noted ≢ other }
+{
+    noted == other
+}
+
+fn choice_at(choices: &[Noted], at: usize) -> Option<Noted>
+    ensures { result ≡ slice_get choices.now at }
+{
+    choices.get(at).copied()
+}
+
+// How many of these, from the first on, stand before this place.
+fn count_before(parted: &[Parted], at: usize) -> usize
+    ensures { (i : ℕ) (one : Parted) → i < result → slice_get parted.now i ≡ Some one → one.at < at }
+{
+    let mut count = 0;
+    while count < parted.len() {
+        if parted[count].at >= at {
+            return count;
+        }
+        count += 1;
+    }
+    count
 }
 
 /// Each of these, a line each. The statement at position K of the program stands on line

@@ -1,5 +1,6 @@
 //! What the program prints of the runs of a soak.
 ghost use Rattle.std.specs.Prelude.{◌≡◌, ◌++◌, true, false, IfOk, OnOk, string_bytes};
+ghost use Rattle.explore.specs.Explored.{rank_outcomes};
 ghost use Rattle.explore.specs.Outcomes.{IsAmong};
 ghost use Rattle.runner.specs.SoakText.{IsSoakText, bar_text, bars_text, count_text};
 
@@ -114,8 +115,8 @@ fn print_foreign(
 
 // Whether the outcome is among these.
 fn is_among(outcomes: &[Outcome], bar: &Bar) -> bool
-    ensures yes { result ≡ true → IsAmong outcomes.now bar.now.outcome }
-    ensures no { result ≡ false → IsAmong outcomes.now bar.now.outcome → ⊥ }
+    ensures yes { result ≡ true → IsAmong (rank_outcomes outcomes.now) bar.now.outcome }
+    ensures no { result ≡ false → IsAmong (rank_outcomes outcomes.now) bar.now.outcome → ⊥ }
 {
     for other in outcomes {
         if bar.is_of(other.ranks.as_slice()) {
