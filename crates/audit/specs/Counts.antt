@@ -2,8 +2,8 @@
 -- the event of an act is found without a walk over the row, of which one event may stand for many
 -- acts.
 use Rattle.std.specs.Prelude.{◌≡◌, ℕ, ◌+◌, ◌<◌, ◌≤◌, List, [], ◌∷◌, length, map, Some, slice_get, slice_index_or}
-use Rattle.metered.specs.Limits.{greatest_clock}
-use Rattle.plain_logger.specs.Event.{EventValue, count_of}
+use Rattle.limits.specs.Limits.{greatest_clock}
+use Rattle.sequential_logger.specs.Event.{EventValue, count_of}
 use Rattle.audit.specs.Rows.{expand}
 
 -- after each event, how many acts it and those before it stand for, when so many come before the

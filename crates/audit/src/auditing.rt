@@ -1,7 +1,7 @@
 //! Whether an outcome is that of a run without crashes: validation after the
 //! fact, by a certifying checker.
 ghost use Rattle.std.specs.Prelude.{◌≡◌, ◌≤◌, length, IfOk, IfErr};
-ghost use Rattle.metered.specs.Limits.{most_ranks};
+ghost use Rattle.limits.specs.Limits.{most_ranks};
 ghost use Rattle.audit.specs.Outcome.{IsOfSomeRun};
 ghost use Rattle.audit.specs.Lines.{IsSorted};
 ghost use Rattle.audit.specs.Counts.{AreCounted};
@@ -13,7 +13,7 @@ use crate::fault::AuditFault;
 use crate::outcome::Outcome;
 use crate::{counts, lines};
 use crash_free::Sim;
-use metered::Heap;
+use limits::Heap;
 use rank_language::Program;
 
 /// That an outcome is one of a run without crashes.
@@ -24,7 +24,7 @@ pub struct Audited;
 /// and, if there is memory, to each such outcome that no rank needs more than
 /// so many steps for.
 ///
-/// There are 1 to `MOST_RANKS` ranks of `metered::limits`. Internal steps count
+/// There are 1 to `MOST_RANKS` ranks of `limits`. Internal steps count
 /// as acts do. A no names a fault, by its number 1 to 6.
 pub fn audit(
     alloc: Heap,

@@ -1,15 +1,14 @@
 //! How many acts the stored events of a rank stand for.
 ghost use Rattle.std.specs.Prelude.{◌≡◌, ◌<◌, ◌-◌, length, slice_get, IfSome, IfNone, IfOk};
-ghost use Rattle.metered.specs.Limits.{greatest_clock};
-ghost use Rattle.plain_logger.specs.Event.{count_of};
-ghost use Rattle.plain_logger.specs.Misses.{parts_of};
+ghost use Rattle.limits.specs.Limits.{greatest_clock};
+ghost use Rattle.sequential_logger.specs.Event.{count_of};
+ghost use Rattle.sequential_logger.specs.Misses.{parts_of};
 ghost use Rattle.audit.specs.Rows.{expand};
 ghost use Rattle.audit.specs.Counts.{ends_from, AreCounted, AreTooMany, IsPlace};
 
 use crate::outcome::Outcome;
-use metered::Heap;
-use metered::limits::GREATEST_CLOCK;
-use plain_logger::{Event, Kind};
+use limits::{GREATEST_CLOCK, Heap};
+use sequential_logger::{Event, Kind};
 use std::alloc::AllocError;
 use std::marker::Model;
 

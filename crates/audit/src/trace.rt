@@ -1,14 +1,13 @@
 //! What an audit keeps of a rank's acts.
 ghost use Rattle.std.specs.Prelude.{◌≡◌, ◌≢◌, ℕ, ◌+◌, ◌<◌, ◌≤◌, [], length, Some, IfSome, IfNone, IfOk, OnOk, slice_index_or};
-ghost use Rattle.metered.specs.Limits.{greatest_clock};
+ghost use Rattle.limits.specs.Limits.{greatest_clock};
 ghost use Rattle.crash_free.specs.Runs.{at_place};
 ghost use Rattle.audit.specs.Trace.{AreInOrder, empty_trace, with_send, with_event, with_line};
 
 use crate::clocks::Clocks;
 use crate::lines::RankLines;
-use metered::Heap;
-use metered::limits::GREATEST_CLOCK;
-use plain_logger::Event;
+use limits::{GREATEST_CLOCK, Heap};
+use sequential_logger::Event;
 use std::alloc::AllocError;
 use std::marker::Model;
 

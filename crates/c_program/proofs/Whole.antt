@@ -2,7 +2,7 @@
 use Rattle.std.proofs.Common.{◌≡◌, ℕ, List, ap, ◌∙◌}
 use Rattle.rank_checker.specs.Faults.{IsText}
 use Rattle.rank_grammar.specs.Forms.{Form}
-use Rattle.statement_lines.specs.Standing.{StandOn}
+use Rattle.rank_language.specs.StandOn.{StandOn}
 use Rattle.c_program.specs.Whole.{IsCText, c_text}
 
 -- the text of a program's statements, with the numbers of their lines, is that program's C text

@@ -2,7 +2,7 @@
 use Rattle.std.specs.Prelude.{◌≡◌, ℕ, List, ◌++◌}
 use Rattle.rank_checker.specs.Faults.{IsText}
 use Rattle.rank_grammar.specs.Forms.{Form}
-use Rattle.statement_lines.specs.Standing.{StandOn}
+use Rattle.rank_language.specs.StandOn.{StandOn}
 use Rattle.c_program.specs.Translation.{c_program}
 use Rattle.c_program.specs.declared.runtime.head.TheConstants.{HEAD}
 use Rattle.c_program.specs.declared.runtime.values.TheConstants.{VALUES}

@@ -6,7 +6,7 @@ ghost use Rattle.rank_printer.specs.Canonical.{reading_text};
 ghost use Rattle.c_program.specs.Translation.{all_text, c_expression, operator_call, own_text};
 
 use crate::names::put_name;
-use metered::Heap;
+use limits::Heap;
 use rank_grammar::{Name, Operator, Reading, Written};
 use std::alloc::AllocError;
 

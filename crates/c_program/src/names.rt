@@ -2,7 +2,7 @@
 ghost use Rattle.std.specs.Prelude.{◌≡◌, ◌++◌, OnOk, map};
 ghost use Rattle.c_program.specs.Names.{c_name, ending_of, is_among, is_reserved};
 
-use metered::Heap;
+use limits::Heap;
 use rank_grammar::Name;
 use std::alloc::AllocError;
 

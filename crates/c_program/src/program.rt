@@ -8,7 +8,7 @@ ghost use Rattle.c_program.specs.Translation.{c_comment, c_indentation, c_lines,
 use crate::expression::put_number;
 use crate::names::put_name;
 use crate::statement::put_statement;
-use metered::Heap;
+use limits::Heap;
 use rank_grammar::Form;
 use std::alloc::AllocError;
 

@@ -7,7 +7,7 @@ ghost use Rattle.rank_grammar.specs.Tree.{tree_of};
 ghost use Rattle.c_program.specs.Translation.{all_text, c_expression, c_pattern, c_patterns, c_send, c_statement, c_target, c_two, reduction_call};
 
 use crate::expression::{put_all, put_expression, put_own};
-use metered::Heap;
+use limits::Heap;
 use rank_grammar::{Form, Name, Pattern, Payload, Reduction, Written};
 use std::alloc::AllocError;
 

@@ -9,10 +9,10 @@ ghost use Rattle.c_program.specs.Whole.{IsCText, c_text};
 
 use crate::program::put_program;
 use crate::runtime::{fixed_collectives, fixed_ending, fixed_head, fixed_messages, fixed_values};
-use metered::Heap;
+use limits::Heap;
 use rank_checker::{ParseFault, ProgramFault, read};
 use rank_grammar::Form;
-use statement_lines::statement_lines;
+use rank_language::statement_lines;
 use std::alloc::AllocError;
 
 /// The text of statements with the numbers of their lines.

@@ -3,7 +3,7 @@ use Rattle.std.proofs.Common.{◌≡◌, ℕ, zero, suc, ◌+◌, ◌≤◌, ◌
 use Rattle.std.proofs.Common.{Err, refl, sym, ap, subst, ◌∙◌, arith}
 use Rattle.std.specs.Prelude.{◌==◌}
 use Rattle.std.proofs.lemmas.List.{drop_more, take_more, take_all, map_push, flat_map_more}
-use Rattle.metered.specs.Limits.{most_items}
+use Rattle.limits.specs.Limits.{most_items}
 use Rattle.rank_checker.specs.declared.scope.Array.{Array}
 use Rattle.rank_checker.specs.SeenLines.{arrays_seen}
 use Rattle.rank_language.specs.Program.{AllSized}

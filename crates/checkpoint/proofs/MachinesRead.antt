@@ -4,7 +4,7 @@ use Rattle.std.proofs.Common.{ap, subst, arith, slice_index, inl, inr}
 use Rattle.std.specs.Prelude.{nat_lt, nat_le, ◌==◌}
 use Rattle.std.specs.List.{flat_map}
 use Rattle.std.proofs.lemmas.Bool.{leb-true, le-leb, ltb-true, lt-ltb, eqb-true, or_cases}
-use Rattle.metered.specs.Limits.{greatest_tag, most_items}
+use Rattle.limits.specs.Limits.{greatest_tag, most_items}
 use Rattle.byteorder.specs.Endian.{big_bytes}
 use Rattle.rank_language.specs.Program.{ProgramValue}
 use Rattle.rank_machine.specs.declared.fault.MachineFault.{MachineFault}

@@ -9,7 +9,7 @@ use Rattle.std.specs.Int.{w64}
 use Rattle.std.specs.List.{list_all, AllByRecursion}
 use Rattle.std.proofs.lemmas.Bool.{le-leb, lt-ltb, eqb-true, and_from}
 use Rattle.std.proofs.lemmas.List.{length-map, length_push}
-use Rattle.metered.specs.Limits.{most_ranks, most_lines, most_variables, most_arrays, greatest_clock}
+use Rattle.limits.specs.Limits.{most_ranks, most_lines, most_variables, most_arrays, greatest_clock}
 use Rattle.matching.specs.PacketValue.{PacketValue}
 use Rattle.matching.specs.Inbox.{Mailbox, IsMailbox, WasAccepted, RisesTo, is_below, may_follow}
 use Rattle.payload_log.specs.Backlog.{BacklogValue}

@@ -5,7 +5,7 @@ use Rattle.std.proofs.Common.{Some, None, Result, Ok, refl, arith}
 use Rattle.std.specs.Prelude.{nat_lt, nat_le, ◌==◌, if◌then◌else◌}
 use Rattle.std.proofs.lemmas.Bool.{leb-false, ltb-true, lt-ltb, eqb-true, eq-eqb, and_parts, and_from}
 use Rattle.std.proofs.lemmas.List.{length-append, length-map}
-use Rattle.metered.specs.Limits.{most_ranks}
+use Rattle.limits.specs.Limits.{most_ranks}
 use Rattle.rank_language.specs.Program.{ProgramValue}
 use Rattle.rank_machine.specs.declared.status.Status.{Status}
 use Rattle.rank_machine.specs.Collectives.{Kind, barriers, broadcasts, folds, Call, gives, gets, ends, others, parts, parts_among}

@@ -2,8 +2,8 @@
 use Rattle.std.specs.Prelude.{◌≡◌, ℕ, ◌+◌, ◌-◌, ◌<◌, ◌≤◌, true, List, [], ◌∷◌, ◌++◌, length, ℤ, slice_index, FitsSigned, All}
 use Rattle.std.specs.List.{AllByRecursion}
 use Rattle.std.specs.Int.{w64}
-use Rattle.metered.specs.Limits as limits
-use Rattle.metered.specs.Limits.{greatest_clock}
+use Rattle.limits.specs.Limits as limits
+use Rattle.limits.specs.Limits.{greatest_clock}
 use Rattle.matching.specs.PacketValue.{PacketValue, IsPacketValue, least_items, most_items, greatest_tag}
 use Rattle.matching.specs.Inbox.{Mailbox, may_follow}
 use Rattle.payload_log.specs.Backlog.{BacklogValue, IsBacklog}

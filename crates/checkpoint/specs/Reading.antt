@@ -6,8 +6,8 @@ use Rattle.std.specs.Int.{w64, cast_signed}
 use Rattle.byteorder.specs.Endian.{big_number}
 use Rattle.matching.specs.declared.packet.Context.{Context}
 use Rattle.matching.specs.declared.packet.Context.TheVariants.{PointToPoint, Collective}
-use Rattle.metered.specs.Limits as limits
-use Rattle.metered.specs.Limits.{greatest_clock}
+use Rattle.limits.specs.Limits as limits
+use Rattle.limits.specs.Limits.{greatest_clock}
 use Rattle.matching.specs.PacketValue.{PacketValue, least_items, most_items, greatest_tag}
 use Rattle.payload_log.specs.Backlog.{BacklogValue, from_beginning}
 use Rattle.rank_language.specs.Program.{ProgramValue}

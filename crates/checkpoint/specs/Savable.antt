@@ -1,7 +1,7 @@
 -- Which values can be written as an image of a rank, with the payload log of a sender
 -- (docs/FORMATS.md, "Images"; MPICH-V2).
 use Rattle.std.specs.Prelude.{◌≡◌, ◌≤◌, [], length, All}
-use Rattle.metered.specs.Limits.{most_ranks, greatest_clock}
+use Rattle.limits.specs.Limits.{most_ranks, greatest_clock}
 use Rattle.payload_log.specs.Backlog.{BacklogValue}
 use Rattle.payload_log.specs.Sender.{IsSentBy}
 use Rattle.checkpoint.specs.Image.{ImageValue}

@@ -3,7 +3,7 @@ ghost use Rattle.std.specs.Prelude.{◌≡◌};
 ghost use Rattle.checkpoint.specs.Spelling.{number_of};
 ghost use Rattle.checkpoint.specs.Reading.{most_ranks_in};
 
-use metered::limits::{MOST_RANKS, MOST_RANKS_OF_FORMAT_1};
+use limits::{MOST_RANKS, MOST_RANKS_OF_FORMAT_1};
 
 /// The version of the event words that a rank logs and replays.
 pub const EVENT_VERSION: u8 = 2;

@@ -1,6 +1,6 @@
 //! Images of a rank, as values and as bytes.
 ghost use Rattle.std.specs.Prelude.{◌≡◌, ◌<◌, ◌≤◌, length, Ok, IfOk};
-ghost use Rattle.metered.specs.Limits.{most_ranks, most_lines};
+ghost use Rattle.limits.specs.Limits.{most_ranks, most_lines};
 ghost use Rattle.rank_language.specs.Block.{size};
 ghost use Rattle.rank_language.specs.Program.{block_of};
 ghost use Rattle.rank_machine.specs.Machine.{IsMachine};
@@ -17,8 +17,8 @@ use crate::read_machine::{machine_of, origin_of, table_of};
 use crate::reading::count_of;
 use crate::write_image::{put_inbox, put_lanes, put_machine, put_origin, put_table};
 use crate::writing::put_u32;
+use limits::Heap;
 use matching::Inbox;
-use metered::Heap;
 use payload_log::PayloadLog;
 use rank_language::Program;
 use rank_machine::Machine;

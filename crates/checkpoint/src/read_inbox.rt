@@ -1,14 +1,13 @@
 //! Reads the inbox of an image.
 ghost use Rattle.std.specs.Prelude.{◌≡◌, ◌≤◌, ◌<◌, [], true, length, IfOk, All};
-ghost use Rattle.metered.specs.Limits.{greatest_clock};
+ghost use Rattle.limits.specs.Limits.{greatest_clock};
 ghost use Rattle.matching.specs.Inbox.{may_follow};
 ghost use Rattle.checkpoint.specs.Reading.{Gives, count_at, many_at, packet_at, inbox_at};
 
 use crate::fault::ImageFault;
 use crate::reading::{count_of, tail_of, u8_at, u32_at};
+use limits::{GREATEST_CLOCK, Heap};
 use matching::{Inbox, Packet};
-use metered::Heap;
-use metered::limits::GREATEST_CLOCK;
 
 /// How many packets were accepted, for each rank.
 fn counts_of(alloc: Heap, size: usize, bytes: &[u8]) -> Result<(Vec<u32, Heap>, &[u8]), ImageFault>

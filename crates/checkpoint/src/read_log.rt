@@ -1,13 +1,13 @@
 //! Reads the payload log of an image.
 ghost use Rattle.std.specs.Prelude.{◌≡◌, ◌+◌, ◌-◌, ◌≤◌, ◌<◌, [], length, IfOk};
-ghost use Rattle.metered.specs.Limits.{greatest_clock};
+ghost use Rattle.limits.specs.Limits.{greatest_clock};
 ghost use Rattle.payload_log.specs.Backlog.{AreNumbered};
 ghost use Rattle.checkpoint.specs.Reading.{Gives, many_at, kept_above, kept_at, lane_at, log_at};
 
 use crate::fault::ImageFault;
 use crate::reading::{count_of, tail_of, u32_at};
+use limits::Heap;
 use matching::Packet;
-use metered::Heap;
 use payload_log::{Backlog, PayloadLog};
 use std::collections::VecDeque;
 

@@ -1,6 +1,6 @@
 //! Reads the header and the machine of an image.
 ghost use Rattle.std.specs.Prelude.{◌≡◌, ◌≤◌, ◌<◌, ◌==◌, nat_le, length, map, IfOk};
-ghost use Rattle.metered.specs.Limits.{greatest_tag, most_items};
+ghost use Rattle.limits.specs.Limits.{greatest_tag, most_items};
 ghost use Rattle.rank_checker.specs.SeenLines.{arrays_seen};
 ghost use Rattle.rank_language.specs.Program.{AllSized};
 ghost use Rattle.rank_machine.specs.Faults.{IsLeft};
@@ -13,8 +13,7 @@ ghost use Rattle.checkpoint.specs.Seen.{standing_seen};
 use crate::fault::ImageFault;
 use crate::format::{EVENT_VERSION, Format};
 use crate::reading::{u8_at, u16_at, u32_at, values_of};
-use metered::Heap;
-use metered::limits::{GREATEST_CLOCK, GREATEST_TAG, MOST_ITEMS};
+use limits::{GREATEST_CLOCK, GREATEST_TAG, Heap, MOST_ITEMS};
 use rank_language::{Array, Program};
 use rank_machine::{Gathered, Items, Machine, MachineFault, Parts, Status};
 

@@ -1,15 +1,14 @@
 //! Reads the numbers and values of an image.
 ghost use Rattle.std.specs.Prelude.{◌≡◌, ◌<◌, ◌≤◌, length, IfOk, FitsSigned};
 ghost use Rattle.std.specs.Int.{w64};
-ghost use Rattle.metered.specs.Limits.{greatest_clock};
+ghost use Rattle.limits.specs.Limits.{greatest_clock};
 ghost use Rattle.matching.specs.PacketValue.{greatest_tag, least_items, most_items};
 ghost use Rattle.checkpoint.specs.Reading.{Gives, number_at, count_at, value_at, values_at, context_at, tail_at};
 
 use crate::fault::ImageFault;
 use byteorder::{BigEndian, ByteOrder};
+use limits::{GREATEST_CLOCK, GREATEST_TAG, Heap, MOST_COLLECTIVE_ITEMS, MOST_ITEMS};
 use matching::{Context, Packet, PacketItems};
-use metered::Heap;
-use metered::limits::{GREATEST_CLOCK, GREATEST_TAG, MOST_COLLECTIVE_ITEMS, MOST_ITEMS};
 
 pub fn u8_at(bytes: &[u8]) -> Result<(u8, &[u8]), ImageFault>
     ensures { Gives (λ x. (x.0, x.1.now)) result (number_at 1 bytes.now) }

@@ -4,7 +4,7 @@ ghost use Rattle.std.specs.Int.{w64};
 ghost use Rattle.std.specs.List.{flat_map};
 ghost use Rattle.byteorder.specs.Endian.{big_bytes};
 ghost use Rattle.matching.specs.Packets.{left};
-ghost use Rattle.metered.specs.Limits.{most_items};
+ghost use Rattle.limits.specs.Limits.{most_items};
 ghost use Rattle.rank_checker.specs.SeenLines.{arrays_seen};
 ghost use Rattle.rank_language.specs.Program.{AllSized};
 ghost use Rattle.checkpoint.specs.Image.{standing_of, status_of};
@@ -16,8 +16,8 @@ ghost use Rattle.checkpoint.specs.Spelling.{fault_field, standing, status, machi
 use crate::format::{EVENT_VERSION, Format};
 use crate::read_machine::array_count;
 use crate::writing::{put_tail, put_u8, put_u16, put_u32, put_values};
+use limits::Heap;
 use matching::{Inbox, Packet, Packets};
-use metered::Heap;
 use payload_log::Backlog;
 use rank_language::{Array, Program};
 use rank_machine::{Items, Machine, MachineFault};

@@ -6,8 +6,8 @@ ghost use Rattle.checkpoint.specs.Legal.{IsPacket};
 ghost use Rattle.checkpoint.specs.Spelling.{value, values, context_number, tail};
 
 use byteorder::{BigEndian, ByteOrder};
+use limits::Heap;
 use matching::{Context, Packet};
-use metered::Heap;
 use std::alloc::AllocError;
 
 pub fn put_u8(out: &mut Vec<u8, Heap>, n: u8) -> Result<(), AllocError>

@@ -1,7 +1,7 @@
 -- Which job the words of a command line name (docs/FORMATS.md, "Command"). `clap` refuses other forms, as an
 -- option that is given twice, and it writes the helps.
 use Rattle.std.specs.Prelude.{◌≡◌, ℕ, true, false, List, [], ◌∷◌, codes, None, IsSomeAnd, option_map}
-use Rattle.metered.specs.Limits.{most_ranks}
+use Rattle.limits.specs.Limits.{most_ranks}
 use Rattle.command_line.specs.Words.{IsSpelledIf, IsSpelledOr, Spells, files_of, is_given, value_of}
 use Rattle.command_line.specs.declared.catching_up.FinishJob.{FinishJob}
 use Rattle.command_line.specs.declared.costing.CostForm.{CostForm}

@@ -1,6 +1,6 @@
 //! What an argument of a command is, and how `clap` hears of it.
 use clap::{Arg, ArgAction, Command, value_parser};
-use metered::limits::{MOST_RANKS, MOST_SCRIPT_LINES};
+use limits::{MOST_RANKS, MOST_SCRIPT_LINES};
 use std::alloc::{AllocError, Global};
 
 /// An argument of a command.

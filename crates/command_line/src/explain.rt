@@ -1,6 +1,6 @@
 //! The words of `explain`.
 ghost use Rattle.std.specs.Prelude.{◌≤◌};
-ghost use Rattle.metered.specs.Limits.{most_ranks};
+ghost use Rattle.limits.specs.Limits.{most_ranks};
 
 use crate::argument::{Argument, command};
 use crate::help;

@@ -1,6 +1,6 @@
 //! The words of `soak`.
 ghost use Rattle.std.specs.Prelude.{◌+◌, ◌≤◌};
-ghost use Rattle.metered.specs.Limits.{most_ranks, most_script_lines};
+ghost use Rattle.limits.specs.Limits.{most_ranks, most_script_lines};
 
 use crate::argument::{Argument, command};
 use crate::help;

@@ -5,11 +5,11 @@
 //! an option.
 ghost use Rattle.std.specs.Prelude.{◌≡◌, ◌≤◌, ◌<◌, [], ◌∷◌, IfSome, IsSomeAnd, codes, length, option_map, slice_get};
 ghost use Rattle.std.specs.NonZero.{non_zero_u32_get};
-ghost use Rattle.metered.specs.Limits.{most_ranks};
+ghost use Rattle.limits.specs.Limits.{most_ranks};
 ghost use Rattle.command_line.specs.Words.{IsSpelledIf, IsSpelledOr, Spells, behind_hyphen, cut_of, files_behind, files_of, first_of, given_by};
 ghost use Rattle.command_line.specs.Words.{is_end, is_flag, is_given, is_option, name_and_value, option_in, own_value, takes_next, texts, value_of};
 
-use metered::limits::MOST_RANKS;
+use limits::MOST_RANKS;
 use std::num::NonZeroU32;
 
 /// The first word, and the words behind it.

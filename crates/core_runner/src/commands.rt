@@ -33,7 +33,7 @@ pub use crate::commands::telling::{tell, tell_no_job, tell_no_memory};
 pub use crate::commands::world::{Wanted, world_said};
 use crate::files::Files;
 use command_line::{Job, job_of};
-use metered::Heap;
+use limits::Heap;
 use std::io::Write;
 use std::sync::Wait;
 use std::thread::Threads;

@@ -8,7 +8,7 @@ ghost use Rattle.rank_threads.specs.Causes.{events_at};
 
 use audit::Outcome;
 use command_line::CostForm;
-use metered::Heap;
+use limits::Heap;
 use rank_threads::{Costs, LogSize, Report};
 use std::alloc::AllocError;
 use std::fmt::Write;

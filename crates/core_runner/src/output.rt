@@ -6,7 +6,7 @@ ghost use Rattle.core_runner.specs.ReportText.{calls_in, cost_text, end_text, en
 ghost use Rattle.core_runner.specs.Statuses.{AreHalted};
 
 use audit::{End, Outcome};
-use metered::Heap;
+use limits::Heap;
 use ports::Line;
 use rank_threads::Report;
 use std::alloc::AllocError;

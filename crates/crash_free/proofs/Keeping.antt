@@ -4,7 +4,7 @@ use Rattle.std.proofs.Common.{◌⊎◌, inl, inr}
 use Rattle.std.specs.Prelude.{slice_set, slice_index_or, replicate}
 use Rattle.std.proofs.lemmas.List.{length-set}
 use Rattle.std.proofs.lemmas.Option.{slice_get_within}
-use Rattle.metered.specs.Limits.{most_ranks}
+use Rattle.limits.specs.Limits.{most_ranks}
 use Rattle.rank_language.specs.Program.{ProgramValue}
 use Rattle.rank_machine.specs.States.{State, Inners, here, inner, opening}
 use Rattle.rank_machine.specs.Wants.{wants}

@@ -1,7 +1,7 @@
 -- What a simulation keeps beside its machines and its run: for each ordered pair of ranks a list of
 -- slots, one for each message that the one sent to the other, of which those taken are empty.
 use Rattle.std.specs.Prelude.{◌≡◌, ℕ, ◌+◌, ◌*◌, ◌<◌, ◌≤◌, Bool, true, false, List, [], ◌∷◌, Option, Some, None, length, slice_index_or, slice_get}
-use Rattle.metered.specs.Limits.{most_ranks}
+use Rattle.limits.specs.Limits.{most_ranks}
 use Rattle.matching.specs.PacketValue as packet
 use Rattle.matching.specs.Matching.{matches}
 use Rattle.matching.specs.declared.selector.Selector.{Selector}

@@ -5,7 +5,7 @@ use crate::piece::{Piece, words_of};
 use crate::shown::{line_of, put_piece};
 use crate::wordless::put_wordless;
 use events_text::EventsFaultKind;
-use metered::Heap;
+use limits::Heap;
 use std::alloc::AllocError;
 use std::fmt::Write;
 

@@ -1,6 +1,6 @@
 //! The word that was perhaps meant.
 
-use metered::Heap;
+use limits::Heap;
 use std::alloc::AllocError;
 use strsim::osa_distance;
 

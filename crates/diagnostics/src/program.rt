@@ -7,7 +7,7 @@ use crate::limits::limit_passed;
 use crate::near::put_nearest;
 use crate::piece::{Piece, pieces_of};
 use crate::shown::{line_of, put_bytes, put_marked, put_piece};
-use metered::Heap;
+use limits::Heap;
 use rank_language::{FaultKind, ProgramFault};
 use std::alloc::AllocError;
 use std::fmt::Write;

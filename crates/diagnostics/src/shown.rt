@@ -1,7 +1,7 @@
 //! How a line is shown, with a mark below a place in it.
 
 use crate::piece::Piece;
-use metered::Heap;
+use limits::Heap;
 use std::alloc::AllocError;
 
 /// The most bytes of a line that are shown.

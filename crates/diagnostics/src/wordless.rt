@@ -3,7 +3,7 @@
 use crate::piece::Piece;
 use crate::program::put_no_text;
 use crate::shown::put_piece;
-use metered::Heap;
+use limits::Heap;
 use std::alloc::AllocError;
 
 /// Says so of a line with a byte that is no text, or with a `#` behind spaces.

@@ -4,7 +4,7 @@ ghost use Rattle.world_model.specs.Headline.{lines_of};
 ghost use Rattle.events_text.specs.Output.{IsRunText, line_text, printed_text, ranks_text, replies_text, world_text};
 
 use crate::reply_line::ReplyLine;
-use metered::Heap;
+use limits::Heap;
 use ports::Line;
 use std::alloc::AllocError;
 use std::fmt::Write;

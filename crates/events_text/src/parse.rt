@@ -6,7 +6,7 @@ ghost use Rattle.events_text.specs.declared.fault.EventsFaultKind.{EventsFaultKi
 
 use crate::fault::EventsFault;
 use crate::line::{Judged, judge};
-use metered::Heap;
+use limits::Heap;
 use text_lines::next_line;
 use world_model::WorldEvent;
 

@@ -3,7 +3,7 @@ ghost use Rattle.std.specs.Prelude.{◌≡◌, IfOk, string_bytes};
 ghost use Rattle.events_text.specs.Written.{IsWayText, events_text};
 
 use crate::event_line::EventLine;
-use metered::Heap;
+use limits::Heap;
 use std::alloc::AllocError;
 use std::fmt::Write;
 use world_model::{World, WorldEvent};

@@ -8,7 +8,7 @@ ghost use Rattle.explore.specs.Stems.{GoOff, stems_of};
 use crate::branch::Branch;
 use crate::moves::Move;
 use crate::path::Path;
-use metered::Heap;
+use limits::Heap;
 use std::alloc::AllocError;
 
 /// Adds a branch for each of the moves but the first, so that the second is the

@@ -11,7 +11,7 @@ use crate::explored::{Outcome, are_same};
 use crate::found::hashing::hash_of;
 use crate::moves::Noted;
 use final_runs::RankEnd;
-use metered::Heap;
+use limits::Heap;
 use std::alloc::AllocError;
 use std::collections::BTreeMap;
 use std::marker::Model;

@@ -1,6 +1,6 @@
 //! Outcomes that no execution gives, as far as their runs were found.
 ghost use Rattle.std.specs.Prelude.{◌≡◌, ◌+◌, ◌<◌, ◌≤◌, ◌∷◌, ℕ, suc, true, false, IfOk, IfSome, OnOk, Ok, Some, length, reverse, slice_get};
-ghost use Rattle.metered.specs.Limits.{most_ranks};
+ghost use Rattle.limits.specs.Limits.{most_ranks};
 ghost use Rattle.rank_machine.specs.Acts as acts;
 ghost use Rattle.crash_free.specs.Runs.{history, IsEligible, IsRun};
 ghost use Rattle.crash_free.specs.Seen.{act_of};
@@ -17,8 +17,8 @@ use crate::explored::Outcome;
 use crate::limits::Limits;
 use crate::replay::run_of;
 use crash_free::{Act, Passed, Sim};
+use limits::Heap;
 use matching::Selector;
-use metered::Heap;
 use rank_language::Program;
 use rank_machine::Want;
 use std::alloc::AllocError;

@@ -5,8 +5,8 @@ ghost use Rattle.explore.specs.Met.{AddsAtMost, WasMet};
 ghost use Rattle.explore.specs.Outcomes.{IsAmong};
 
 use crash_free::{Sim, Standing};
+use limits::Heap;
 use live_variables::Live;
-use metered::Heap;
 use std::alloc::AllocError;
 use std::collections::BTreeMap;
 use std::marker::Model;

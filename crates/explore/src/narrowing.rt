@@ -10,7 +10,7 @@ use crate::moves::Move;
 use crate::persistent::is_persistent;
 use crash_free::Sim;
 use later_sends::LaterSends;
-use metered::Heap;
+use limits::Heap;
 
 /// Keeps the moves of one rank alone, if they are enough: those of the first rank
 /// that has moves, and whose acts don't depend on what the others do next, as far

@@ -1,6 +1,6 @@
 //! Runs that a search makes.
 ghost use Rattle.std.specs.Prelude.{◌≡◌, ◌<◌, ◌≤◌, [], IfOk, OnOk, length, sum, slice_index};
-ghost use Rattle.metered.specs.Limits.{most_ranks};
+ghost use Rattle.limits.specs.Limits.{most_ranks};
 ghost use Rattle.crash_free.specs.Sim.{Allows, Simulates};
 ghost use Rattle.crash_free.specs.Wanted.{StandsAtAct};
 ghost use Rattle.explore.specs.Chosen.{IsNoteAt};
@@ -8,8 +8,7 @@ ghost use Rattle.explore.specs.Chosen.{IsNoteAt};
 use crate::moves::{Move, Noted};
 use crate::races::asks_to_probe;
 use crash_free::Sim;
-use metered::Heap;
-use metered::limits::MOST_RANKS;
+use limits::{Heap, MOST_RANKS};
 use rank_language::Program;
 use std::alloc::AllocError;
 

@@ -6,8 +6,7 @@ ghost use Rattle.explore.specs.Moves.{AreOfRanks};
 
 use crate::moves::Move;
 use crash_free::{Choice, Sim};
-use metered::Heap;
-use metered::limits::MOST_RANKS;
+use limits::{Heap, MOST_RANKS};
 use rank_machine::Want;
 use std::alloc::AllocError;
 

@@ -2,8 +2,8 @@
 ghost use Rattle.std.specs.Prelude.{IfOk};
 
 use later_sends::LaterSends;
+use limits::Heap;
 use live_variables::Live;
-use metered::Heap;
 use rank_language::Program;
 use std::alloc::AllocError;
 

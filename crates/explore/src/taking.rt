@@ -1,6 +1,6 @@
 //! Branches that are taken up: their runs are made again.
 ghost use Rattle.std.specs.Prelude.{◌≡◌, ◌<◌, ◌≤◌, ℕ, ◌∷◌, true, false, [], List, IfOk, Ok, OnOk, Some, length, reverse, slice_index, take};
-ghost use Rattle.metered.specs.Limits.{most_ranks};
+ghost use Rattle.limits.specs.Limits.{most_ranks};
 ghost use Rattle.rank_machine.specs.Acts.{Act};
 ghost use Rattle.crash_free.specs.Runs as runs;
 ghost use Rattle.crash_free.specs.Runs.{IsRun};
@@ -17,8 +17,7 @@ use crate::branch::Branch;
 use crate::moves::Move;
 use crate::path::Path;
 use crash_free::{Passed, Sim};
-use metered::Heap;
-use metered::limits::MOST_RANKS;
+use limits::{Heap, MOST_RANKS};
 use rank_language::Program;
 use std::alloc::AllocError;
 

@@ -1,8 +1,8 @@
 //! What is made once more where memory was refused.
 ghost use Rattle.std.specs.Prelude.{◌≡◌, ◌≤◌, IfOk};
 
+use limits::Heap;
 use matching::{Context, Packet, PacketItems};
-use metered::Heap;
 use rank_language::Program;
 use std::alloc::AllocError;
 use std::fmt::Debug;

@@ -4,8 +4,8 @@ ghost use Rattle.event_logger.specs.Desks.{AreDesks, IsSameDesk};
 
 use crate::frugal::follow;
 use event_logger::{Desk, Ledger, Logger};
-use metered::Heap;
-use plain_logger::{Event, Kind};
+use limits::Heap;
+use sequential_logger::{Event, Kind};
 use std::alloc::AllocError;
 use std::io;
 

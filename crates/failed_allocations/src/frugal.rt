@@ -1,6 +1,6 @@
 //! Calls that take no memory.
 
-use metered::Heap;
+use limits::Heap;
 use std::io;
 
 /// Says that calls follow which take no memory, and on standard error where

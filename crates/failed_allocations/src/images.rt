@@ -3,7 +3,7 @@ ghost use Rattle.std.specs.Prelude.{IfOk};
 ghost use Rattle.checkpoint.specs.Savable.{IsSavable};
 
 use checkpoint::{Image, ImageFault, MemoryShelf, Shelf, decode, encode};
-use metered::Heap;
+use limits::Heap;
 use rank_language::Program;
 use std::alloc::AllocError;
 use std::io;

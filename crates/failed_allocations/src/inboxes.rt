@@ -3,8 +3,8 @@ ghost use Rattle.std.specs.Prelude.{◌≡◌, ◌<◌, length, IfOk};
 
 use crate::again::{compare, packet};
 use crate::frugal::follow;
+use limits::Heap;
 use matching::{Accept, Context, Inbox, Packet, Selector};
-use metered::Heap;
 use std::alloc::AllocError;
 use std::io;
 

@@ -3,7 +3,7 @@ ghost use Rattle.std.specs.Prelude.{◌≡◌, IfOk};
 ghost use Rattle.ports.specs.Lanes.{lane_from, lane_to};
 
 use crate::frugal::follow;
-use metered::Heap;
+use limits::Heap;
 use ports::{Rx, Tx, close, lane};
 use rank_node::{AskFrom, Frame};
 use std::alloc::AllocError;

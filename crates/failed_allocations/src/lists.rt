@@ -3,7 +3,7 @@
 use crate::again::{program_of, push};
 use crate::rows::{ROWS, Row};
 use crate::worlds::{apply, show_lines, world_of};
-use metered::Heap;
+use limits::Heap;
 use rank_language::Program;
 use std::alloc::AllocError;
 use std::io;

@@ -3,7 +3,7 @@ ghost use Rattle.std.specs.Prelude.{◌≡◌, ◌<◌, length, IfOk};
 
 use crate::again::{compare, packet};
 use crate::frugal::follow;
-use metered::Heap;
+use limits::Heap;
 use payload_log::PayloadLog;
 use std::alloc::AllocError;
 use std::io;

@@ -4,8 +4,8 @@ ghost use Rattle.matching.specs.Matching.{matches};
 
 use crate::again::{packet, program_of};
 use crate::frugal::follow;
+use limits::Heap;
 use matching::{Context, Packet, PacketItems, Selector};
-use metered::Heap;
 use rank_language::Program;
 use rank_machine::{Machine, Want};
 use std::alloc::AllocError;

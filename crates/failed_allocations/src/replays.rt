@@ -1,17 +1,16 @@
 //! A rank that crashed starts again, and replays.
 ghost use Rattle.std.specs.Prelude.{◌≡◌, ◌≤◌, length, IfOk, IfErr};
-ghost use Rattle.metered.specs.Limits.{most_events};
+ghost use Rattle.limits.specs.Limits.{most_events};
 
 use crate::again::{compare, packet_near};
 use crate::frugal::follow;
 use crate::ranks::Scene;
 use checkpoint::MemoryShelf;
-use metered::Heap;
-use metered::limits::MOST_EVENTS;
-use plain_logger::{Event, LoggerState};
+use limits::{Heap, MOST_EVENTS};
 use rank_language::Program;
 use rank_machine::Want;
 use rank_node::{Arrived, Down, Frame, NodeFault, Replaying, Stable, Turn};
+use sequential_logger::{Event, LoggerState};
 use std::alloc::AllocError;
 use std::io;
 

@@ -3,7 +3,7 @@ ghost use Rattle.std.specs.Prelude.{◌≡◌, ◌<◌, length, IfOk};
 
 use crate::again::{compare, program_of};
 use crash_free::{Choice, NotAllowed, Sim};
-use metered::Heap;
+use limits::Heap;
 use rank_language::Program;
 use rank_machine::Want;
 use std::alloc::AllocError;

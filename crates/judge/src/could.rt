@@ -1,7 +1,7 @@
 //! What could stand in an outcome next for a rank.
 use crate::follower::Follower;
+use limits::Heap;
 use matching::Selector;
-use metered::Heap;
 use rank_machine::Want;
 use std::alloc::AllocError;
 use std::fmt::Write;

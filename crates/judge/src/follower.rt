@@ -1,14 +1,14 @@
 //! The run that keeps to an outcome as far as its ranks can.
 ghost use Rattle.std.specs.Prelude.{◌≤◌};
-ghost use Rattle.metered.specs.Limits.{most_ranks};
+ghost use Rattle.limits.specs.Limits.{most_ranks};
 
 use audit::{Line, Outcome};
 use crash_free::{Choice, NotAllowed, Sim};
+use limits::Heap;
 use matching::Selector;
-use metered::Heap;
-use plain_logger::{Event, Kind};
 use rank_language::Program;
 use rank_machine::Want;
+use sequential_logger::{Event, Kind};
 use std::alloc::AllocError;
 
 /// How far a rank has come.

@@ -1,11 +1,11 @@
 //! Whether some run without crashes has an outcome.
 ghost use Rattle.std.specs.Prelude.{◌≤◌, IfOk};
-ghost use Rattle.metered.specs.Limits.{most_ranks};
+ghost use Rattle.limits.specs.Limits.{most_ranks};
 ghost use Rattle.judge.specs.Judged.{IsRight};
 
 use audit::{AuditFault, Outcome};
 use final_runs::{FinalFault, confirm};
-use metered::Heap;
+use limits::Heap;
 use rank_language::Program;
 use std::alloc::AllocError;
 

@@ -1,17 +1,16 @@
 //! Why an outcome is that of no run, and where.
 ghost use Rattle.std.specs.Prelude.{◌≤◌, IfOk, string_bytes};
 ghost use Rattle.judge.specs.Judged.{IsNoText};
-ghost use Rattle.metered.specs.Limits.{most_ranks};
+ghost use Rattle.limits.specs.Limits.{most_ranks};
 
 use crate::could::put_could;
 use crate::follower::Follower;
 use audit::{AuditFault, End, Outcome};
 use final_runs::FinalFault;
-use metered::Heap;
+use limits::Heap;
 use outcome_text::OutcomeText;
-use rank_language::Program;
+use rank_language::{Program, line_of_text};
 use rank_machine::Want;
-use statement_lines::line_of_text;
 use std::alloc::AllocError;
 use std::fmt::Write;
 

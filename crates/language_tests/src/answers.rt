@@ -1,6 +1,6 @@
 //! What is answered of lines and texts, as the tables of the tests have it.
 
-use metered::Heap;
+use limits::Heap;
 use rank_grammar::forms::form;
 use rank_grammar::{Token, tokens};
 use rank_language::Program;

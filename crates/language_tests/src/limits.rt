@@ -1,7 +1,7 @@
 //! Each limit of a program's text: what stands at it, and one more.
 
 use crate::answers::{Row, View, answer, declared, same, shows, statements_shown};
-use metered::Heap;
+use limits::Heap;
 use rank_language::Program;
 use std::alloc::AllocError;
 use std::process::Abort;

@@ -2,7 +2,7 @@
 //! the positions after it where its test holds and where it doesn't.
 
 use crate::answers::{Row, declared, same, statements_shown};
-use metered::Heap;
+use limits::Heap;
 use rank_language::Program;
 use std::alloc::AllocError;
 use std::process::Abort;

@@ -1,7 +1,7 @@
 //! Texts of programs, each with its canonical text or with its first fault.
 
 use crate::answers::{Row, View, same, shows};
-use metered::Heap;
+use limits::Heap;
 use rank_checker::{FaultKind, ParseFault, ProgramFault};
 use std::alloc::AllocError;
 use std::process::Abort;

@@ -6,7 +6,7 @@ ghost use Rattle.rank_language.specs.Seen.{line_of};
 ghost use Rattle.later_sends.specs.LaterSends.{holds_at, claimed, AllHold, IsTableOf};
 
 use crate::line::may_send;
-use metered::Heap;
+use limits::Heap;
 use rank_language::{Program, Statement};
 use std::alloc::AllocError;
 use std::marker::Model;

@@ -10,7 +10,7 @@ ghost use Rattle.live_variables.specs.Live.{IsTableOf, IsRow, row_of, claimed};
 use crate::name::Name;
 use crate::row::Row;
 use crate::unread::unread;
-use metered::Heap;
+use limits::Heap;
 use rank_language::Program;
 use std::alloc::AllocError;
 use std::marker::Model;

@@ -9,7 +9,7 @@ ghost use Rattle.live_variables.specs.Seen.{name_of};
 use crate::line::{reads, writes};
 use crate::name::Name;
 use crate::row::Row;
-use metered::Heap;
+use limits::Heap;
 use rank_language::{Program, Statement};
 use std::alloc::AllocError;
 

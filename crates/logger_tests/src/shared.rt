@@ -4,8 +4,8 @@ ghost use Rattle.event_logger.specs.Desks.{AreDesks, IsSameDesk};
 
 use crate::same::same;
 use event_logger::{Counts, Desk, Ledger, Logger};
-use metered::Heap;
-use plain_logger::{Event, Kind, LogFault};
+use limits::Heap;
+use sequential_logger::{Event, Kind, LogFault};
 use std::process::Abort;
 use std::test::*;
 use std::thread;

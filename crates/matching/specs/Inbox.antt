@@ -10,7 +10,7 @@ use Rattle.std.specs.Prelude.{◌≡◌, ℕ, ◌+◌, ◌<◌, ◌≤◌, Bool,
 use Rattle.std.specs.Prelude.{length, ◌==◌, nat_le, nat_lt, if◌then◌else◌, slice_index, slice_set, remove}
 use Rattle.std.specs.Prelude.{All, AllPairs}
 use Rattle.std.specs.List.{list_all}
-use Rattle.metered.specs.Limits.{greatest_clock}
+use Rattle.limits.specs.Limits.{greatest_clock}
 use Rattle.matching.specs.PacketValue.{PacketValue}
 use Rattle.matching.specs.Queue.{without_first}
 use Rattle.matching.specs.declared.inbox.Accept.{Accept}

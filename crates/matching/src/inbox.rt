@@ -5,7 +5,7 @@ ghost use Rattle.std.specs.Prelude.{Some, None, true, IfOk, IfErr, IfSome, OnOk,
 ghost use Rattle.std.specs.Bool.{OnTrue};
 ghost use Rattle.std.specs.List.{list_all};
 ghost use Rattle.std.specs.Option.{option_copied};
-ghost use Rattle.metered.specs.Limits.{greatest_clock};
+ghost use Rattle.limits.specs.Limits.{greatest_clock};
 ghost use Rattle.matching.specs.PacketValue.{PacketValue};
 ghost use Rattle.matching.specs.Matching.{matches, is_named};
 ghost use Rattle.matching.specs.Inbox.{RisesTo, is_below};
@@ -17,7 +17,7 @@ use crate::packet::Packet;
 use crate::packets::Packets;
 use crate::queue::Queue;
 use crate::selector::Selector;
-use metered::Heap;
+use limits::Heap;
 use std::alloc::AllocError;
 use std::marker::Model;
 

@@ -7,7 +7,7 @@ ghost use Rattle.matching.specs.Index.{has};
 use crate::label::Label;
 use crate::packet::Packet;
 use crate::selector::Selector;
-use metered::Heap;
+use limits::Heap;
 use std::alloc::AllocError;
 use std::collections::BTreeSet;
 

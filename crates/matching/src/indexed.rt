@@ -9,7 +9,7 @@ ghost use Rattle.matching.specs.Queue.{first_by, without_first, last_number};
 use crate::index::Index;
 use crate::label::Label;
 use crate::packet::Packet;
-use metered::Heap;
+use limits::Heap;
 use std::alloc::AllocError;
 use std::collections::BTreeMap;
 use std::collections::btree_map::Values;

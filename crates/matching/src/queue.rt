@@ -9,7 +9,7 @@ use crate::indexed::Indexed;
 use crate::label::Label;
 use crate::packet::Packet;
 use crate::packets::Packets;
-use metered::Heap;
+use limits::Heap;
 use std::alloc::AllocError;
 use std::marker::Model;
 

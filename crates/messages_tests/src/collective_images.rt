@@ -3,7 +3,7 @@ use crate::images::damaged::is_damaged;
 use crate::images::{Change, fails_each, reads};
 use crate::same::same;
 use checkpoint::{ImageFault, decode};
-use metered::Heap;
+use limits::Heap;
 use rank_language::Program;
 use rank_machine::Machine;
 use std::process::Abort;

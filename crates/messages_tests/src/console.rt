@@ -3,7 +3,7 @@
 ghost use Rattle.std.specs.Prelude.{◌≤◌};
 
 use crate::same::same;
-use metered::Heap;
+use limits::Heap;
 use ports::{Console, ConsoleState, Line};
 use rank_node::{Screen, Shown};
 use std::alloc::AllocError;

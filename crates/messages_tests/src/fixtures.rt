@@ -2,8 +2,8 @@
 ghost use Rattle.std.specs.Prelude.{◌≡◌, ◌≤◌, length, IfOk};
 ghost use Rattle.matching.specs.PacketValue.{least_items, most_items, greatest_tag};
 
+use limits::Heap;
 use matching::{Context, Packet, PacketItems};
-use metered::Heap;
 use std::alloc::AllocError;
 
 /// The packet of this number, sent at ten times that clock.

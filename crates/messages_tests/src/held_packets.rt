@@ -3,7 +3,7 @@ ghost use Rattle.std.specs.Prelude.{◌≡◌, ◌<◌, length};
 
 use crate::payload_logs::{Step, next_item, take_step};
 use crate::same::same;
-use metered::Heap;
+use limits::Heap;
 use payload_log::PayloadLog;
 use std::process::Abort;
 use std::test::*;

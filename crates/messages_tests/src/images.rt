@@ -1,13 +1,12 @@
 //! Images: their bytes, and the fault of each field.
 ghost use Rattle.std.specs.Prelude.{◌<◌, ◌≤◌};
-ghost use Rattle.metered.specs.Limits.{most_ranks};
+ghost use Rattle.limits.specs.Limits.{most_ranks};
 
 pub mod damaged;
 
 use crate::same::same;
 use checkpoint::{Image, ImageFault, decode, encode};
-use metered::Heap;
-use metered::limits::MOST_RANKS;
+use limits::{Heap, MOST_RANKS};
 use rank_language::Program;
 use rank_machine::Machine;
 use std::alloc::AllocError;

@@ -3,8 +3,8 @@ ghost use Rattle.std.specs.Prelude.{◌≡◌, ◌<◌, length};
 
 use crate::fixtures::packet;
 use crate::same::same;
+use limits::Heap;
 use matching::{Accept, Context, Inbox, Packet, Selector};
-use metered::Heap;
 use std::process::Abort;
 use std::test::*;
 

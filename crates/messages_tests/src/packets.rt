@@ -4,8 +4,8 @@ ghost use Rattle.matching.specs.PacketValue.{least_items, most_items, greatest_t
 
 use crate::fixtures::{items, packet};
 use crate::same::same;
+use limits::Heap;
 use matching::Context;
-use metered::Heap;
 use std::alloc::AllocError;
 use std::process::Abort;
 use std::test::*;

@@ -3,8 +3,8 @@ ghost use Rattle.std.specs.Prelude.{◌≡◌, ◌<◌, length};
 
 use crate::fixtures::packet;
 use crate::same::same;
+use limits::Heap;
 use matching::Context;
-use metered::Heap;
 use payload_log::PayloadLog;
 use std::process::Abort;
 use std::test::*;

@@ -6,7 +6,7 @@ ghost use Rattle.ports.specs.Lanes.{lane_from};
 
 use crate::one_lane::{ask, number_of};
 use crate::same::same;
-use metered::Heap;
+use limits::Heap;
 use ports::{Carried, Ends, Rx, close_all, open_all};
 use rank_node::Frame;
 use std::process::Abort;

@@ -3,7 +3,7 @@
 use crate::fixtures::bytes;
 use crate::same::same;
 use checkpoint::{MemoryShelf, Shelf};
-use metered::Heap;
+use limits::Heap;
 use std::alloc::AllocError;
 use std::process::Abort;
 use std::test::*;

@@ -4,7 +4,7 @@ ghost use Rattle.checkpoint.specs.Savable.{IsSavable};
 
 use crate::same::same;
 use checkpoint::{Image, decode, encode};
-use metered::Heap;
+use limits::Heap;
 use rank_language::Program;
 use std::alloc::AllocError;
 use std::process::Abort;

@@ -2,8 +2,8 @@
 
 use crate::machines::{outcome, packet};
 use crate::same::same_text;
+use limits::Heap;
 use matching::Packet;
-use metered::Heap;
 use std::alloc::AllocError;
 use std::process::Abort;
 use std::test::*;

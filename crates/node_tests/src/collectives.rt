@@ -3,9 +3,8 @@ ghost use Rattle.std.specs.Prelude.{◌≡◌, ◌<◌, true, IfOk, IfSome};
 ghost use Rattle.matching.specs.Matching.{matches};
 
 use crate::same::same_text;
+use limits::{Heap, MOST_COLLECTIVE_ITEMS};
 use matching::{Context, Packet, PacketItems, Selector};
-use metered::Heap;
-use metered::limits::MOST_COLLECTIVE_ITEMS;
 use rank_language::Program;
 use rank_machine::{Machine, Want};
 use std::alloc::AllocError;

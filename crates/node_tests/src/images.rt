@@ -1,17 +1,16 @@
 //! Images of a rank at work: what each call on its shelf leaves, where a device fails too.
 ghost use Rattle.std.specs.Prelude.{◌≡◌, ◌<◌, ◌≤◌, length, IfOk};
 ghost use Rattle.std.specs.Bool.{OnTrue};
-ghost use Rattle.metered.specs.Limits.{most_events};
+ghost use Rattle.limits.specs.Limits.{most_events};
 ghost use Rattle.checkpoint.specs.Shelf.{Grew, image_bytes};
 
 use crate::same::same;
 use crate::scenes::LastLine;
 use checkpoint::{Shelf, ShelfFault};
-use metered::Heap;
-use metered::limits::MOST_EVENTS;
-use plain_logger::{Event, LoggerState};
+use limits::{Heap, MOST_EVENTS};
 use rank_language::Program;
 use rank_node::{Down, NodeFault, Running, Stable};
+use sequential_logger::{Event, LoggerState};
 use std::process::Abort;
 use std::test::*;
 

@@ -1,11 +1,11 @@
 //! One machine from its beginning to what stops it.
 ghost use Rattle.std.specs.Prelude.{◌≡◌, ◌<◌, ◌≤◌, true, length};
-ghost use Rattle.metered.specs.Limits.{most_items};
+ghost use Rattle.limits.specs.Limits.{most_items};
 ghost use Rattle.matching.specs.Matching.{matches};
 
 use crate::same::same_text;
+use limits::Heap;
 use matching::{Context, Packet, PacketItems, Selector};
-use metered::Heap;
 use rank_language::Program;
 use rank_machine::{Machine, Want};
 use std::alloc::AllocError;

@@ -1,15 +1,14 @@
 //! Ranks that start again at images of format 1, go on, crash, and replay what is above the image.
 ghost use Rattle.std.specs.Prelude.{◌≡◌, ◌≤◌, length, IfOk};
-ghost use Rattle.metered.specs.Limits.{most_events};
+ghost use Rattle.limits.specs.Limits.{most_events};
 
 use crate::same::same;
 use crate::scenes::{LastLine, Rank, packet};
 use checkpoint::{MemoryShelf, Shelf};
-use metered::Heap;
-use metered::limits::MOST_EVENTS;
-use plain_logger::{Event, Kind, LoggerState};
+use limits::{Heap, MOST_EVENTS};
 use rank_language::Program;
 use rank_node::{Arrived, Down, Frame, Replaying, Stable, Turn};
+use sequential_logger::{Event, Kind, LoggerState};
 use std::process::Abort;
 use std::test::*;
 

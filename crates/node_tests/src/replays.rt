@@ -6,15 +6,14 @@ mod lives;
 use crate::same::same;
 use crate::scenes::{LastLine, packet, start};
 use checkpoint::MemoryShelf;
+use limits::{Heap, MOST_EVENTS};
 use lives::{
     HAS_ENDED, NOTHING_STORED, OTHER_CLOCK, OTHER_SORT, OTHER_TAG, PROBES, RUN_OF_MISSES,
     RUNS_AND_A_LINE, SENDS, WITHIN_A_RUN,
 };
-use metered::Heap;
-use metered::limits::MOST_EVENTS;
-use plain_logger::{Event, Kind};
 use rank_language::Program;
 use rank_node::{Arrived, Frame, NodeFault, Replaying, Turn};
+use sequential_logger::{Event, Kind};
 use std::process::Abort;
 use std::test::*;
 

@@ -1,10 +1,10 @@
 //! Ranks, screens and packets for the tests.
 ghost use Rattle.std.specs.Prelude.{◌≡◌, ◌<◌, ◌≤◌, IfOk};
-ghost use Rattle.metered.specs.Limits.{most_ranks};
+ghost use Rattle.limits.specs.Limits.{most_ranks};
 
 use checkpoint::MemoryShelf;
+use limits::Heap;
 use matching::{Context, Packet, PacketItems};
-use metered::Heap;
 use rank_language::Program;
 use rank_node::{Running, Screen, Shown, Stable};
 use std::alloc::AllocError;

@@ -3,8 +3,7 @@
 use crate::machines::standing;
 use crate::same::{same, same_text};
 use crate::scenes::{LastLine, Rank, start};
-use metered::Heap;
-use metered::limits::MOST_RANKS;
+use limits::{Heap, MOST_RANKS};
 use rank_language::Program;
 use rank_machine::Machine;
 use rank_node::{NodeFault, Turn};

@@ -2,7 +2,7 @@
 
 use crate::machines::standing;
 use crate::same::{same, same_text};
-use metered::Heap;
+use limits::Heap;
 use rank_language::Program;
 use rank_machine::{Machine, Want};
 use std::process::Abort;

@@ -4,10 +4,10 @@ use Rattle.std.specs.Str.{bytes_eq}
 use Rattle.std.specs.Borrow.{Bor}
 use Rattle.text_lines.specs.Pieces.{words_of}
 use Rattle.text_lines.specs.Skipped.{is_none}
-use Rattle.metered.specs.Limits.{greatest_sender}
-use Rattle.plain_logger.specs.Event.{IsEvent, event_of}
-use Rattle.plain_logger.specs.declared.kind.Kind.{Kind}
-use Rattle.plain_logger.specs.declared.kind.Kind.TheVariants.{Reception, Hit, Miss}
+use Rattle.limits.specs.Limits.{greatest_sender}
+use Rattle.sequential_logger.specs.Event.{IsEvent, event_of}
+use Rattle.sequential_logger.specs.declared.kind.Kind.{Kind}
+use Rattle.sequential_logger.specs.declared.kind.Kind.TheVariants.{Reception, Hit, Miss}
 use Rattle.rank_machine.specs.declared.fault.MachineFault.{MachineFault}
 use Rattle.rank_machine.specs.declared.fault.MachineFault.TheVariants.{Overflow, ZeroDivide, Index, BadRank, BadTag, TooLong, CollectiveMismatch}
 use Rattle.audit.specs.declared.outcome.End as ends

@@ -1,6 +1,6 @@
 -- Clocks, ranks and printed values as words spell them (docs/FORMATS.md, "Outcomes").
 use Rattle.std.specs.Prelude.{ℕ, ℤ, pos, neg_ℤ, min, List, [], ◌∷◌, Bool, ◌&&◌, nat_eq, nat_le, Option, Some, None, if◌then◌else◌}
-use Rattle.metered.specs.Limits.{greatest_clock}
+use Rattle.limits.specs.Limits.{greatest_clock}
 use Rattle.text_lines.specs.Numbers.{decimal_of, kept_of}
 
 -- the number of a rank that a word spells, as 32 bits keep it: a greater number is no rank's

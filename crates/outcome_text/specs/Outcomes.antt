@@ -4,7 +4,7 @@ use Rattle.std.specs.List.{filter_map}
 use Rattle.audit.specs.declared.outcome.End.{End}
 use Rattle.audit.specs.declared.outcome.End.TheVariants.{Unfinished}
 use Rattle.audit.specs.Outcome.{OutcomeValue}
-use Rattle.plain_logger.specs.Event.{EventValue}
+use Rattle.sequential_logger.specs.Event.{EventValue}
 use Rattle.ports.specs.declared.line.Line.{Line}
 use Rattle.outcome_text.specs.declared.form.Entry.{Entry}
 use Rattle.outcome_text.specs.declared.form.Entry.TheVariants as entry

@@ -1,8 +1,8 @@
 -- What an outcome text says, and its first faulty line with that line's lowest fault
 -- (docs/FORMATS.md, "Outcomes").
 use Rattle.std.specs.Prelude.{ℕ, zero, suc, ◌+◌, ◌==◌, ◌≡◌, length, slice_get, List, [], ◌∷◌, ◌++◌, Bool, true, false, ◌&&◌, ◌||◌, nat_le, nat_lt, Option, Some, None, if◌then◌else◌}
-use Rattle.metered.specs.Limits.{most_event_lines}
-use Rattle.plain_logger.specs.Event.{EventValue, event_of}
+use Rattle.limits.specs.Limits.{most_event_lines}
+use Rattle.sequential_logger.specs.Event.{EventValue, event_of}
 use Rattle.text_lines.specs.Pieces.{pieces_of, words_of}
 use Rattle.text_lines.specs.Skipped.{is_skipped}
 use Rattle.outcome_text.specs.declared.fault.OutcomeFault.{OutcomeFault}

@@ -1,6 +1,6 @@
 //! What a line of an outcome text says.
 use audit::End;
-use plain_logger::{Event, Kind};
+use sequential_logger::{Event, Kind};
 
 /// What a line says of its rank, as its words have it. `u32::MAX` stands for
 /// each greater rank.

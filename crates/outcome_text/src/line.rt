@@ -1,6 +1,6 @@
 //! The form of a line.
 ghost use Rattle.std.specs.Prelude.{◌≡◌, IfSome, false};
-ghost use Rattle.plain_logger.specs.Event.{IsClock, finds_none};
+ghost use Rattle.sequential_logger.specs.Event.{IsClock, finds_none};
 ghost use Rattle.text_lines.specs.Pieces.{words_of};
 ghost use Rattle.outcome_text.specs.Forms.{act_of, act_seen, clock_behind, clock_of, end_form, end_of, fault_of, faulted, form_of};
 ghost use Rattle.outcome_text.specs.Forms.{message_form, miss_form, named_form, plain_end, print_form, sender_of, value_of, IsFit};
@@ -8,8 +8,8 @@ ghost use Rattle.outcome_text.specs.Forms.{message_form, miss_form, named_form, 
 use crate::form::{Form, Part};
 use crate::number::{clock_in, rank_in, value_in};
 use audit::End;
-use plain_logger::Kind;
 use rank_machine::MachineFault;
+use sequential_logger::Kind;
 use text_lines::next_word;
 
 /// The clock of a word behind `at`.

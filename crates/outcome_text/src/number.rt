@@ -1,11 +1,11 @@
 //! Clocks, ranks and printed values as words spell them.
 ghost use Rattle.std.specs.Prelude.{◌≡◌};
 ghost use Rattle.outcome_text.specs.Numbers.{clock_in, negative, positive, rank_in, value_in, wide_in};
-ghost use Rattle.plain_logger.specs.Event.{IsClock};
+ghost use Rattle.sequential_logger.specs.Event.{IsClock};
 ghost use Rattle.text_lines.specs.Numbers.{digit_of};
 ghost use Rattle.std.specs.Prelude.{◌<◌, IfSome};
 
-use metered::limits::GREATEST_CLOCK;
+use limits::GREATEST_CLOCK;
 use text_lines::decimal;
 
 /// The number of a rank; `u32::MAX` stands for each that is greater.

@@ -5,8 +5,8 @@ ghost use Rattle.outcome_text.specs.Outcomes.{end_for, event_for, is_act, line_i
 use crate::form::Entry;
 use crate::text::OutcomeText;
 use audit::{End, Line, Outcome};
-use metered::Heap;
-use plain_logger::Event;
+use limits::Heap;
+use sequential_logger::Event;
 use std::alloc::AllocError;
 
 impl OutcomeText {

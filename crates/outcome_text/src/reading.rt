@@ -1,18 +1,17 @@
 //! A text is read line by line.
 ghost use Rattle.std.specs.Prelude.{◌≡◌, ◌<◌, ◌≤◌, [], Some, None, IfOk, IfErr, IfSome, OnOk, false, slice_get};
-ghost use Rattle.metered.specs.Limits.{greatest_sender, most_ranks};
+ghost use Rattle.limits.specs.Limits.{greatest_sender, most_ranks};
 ghost use Rattle.outcome_text.specs.Forms.{form_of, IsFit};
 ghost use Rattle.outcome_text.specs.Texts.{all_ended, entry_of, fault_of, form_by, form_fault, is_foreign, line_fault, progress_of, with_form, AreProgress};
-ghost use Rattle.plain_logger.specs.Event.{event_of, IsEvent};
+ghost use Rattle.sequential_logger.specs.Event.{event_of, IsEvent};
 ghost use Rattle.text_lines.specs.Pieces.{words_of};
 
 use crate::fault::OutcomeFaultKind;
 use crate::form::{Entry, Form, Part};
 use crate::line::form_of;
 use crate::progress::{Progress, is_of_stranger};
-use metered::Heap;
-use metered::limits::MOST_EVENT_LINES;
-use plain_logger::{Event, Kind};
+use limits::{Heap, MOST_EVENT_LINES};
+use sequential_logger::{Event, Kind};
 use std::alloc::AllocError;
 use text_lines::is_skipped;
 

@@ -1,11 +1,11 @@
 //! An outcome's text.
 ghost use Rattle.std.specs.Prelude.{◌≡◌, ◌≤◌, Err, None, Some, IfOk, OnOk};
-ghost use Rattle.metered.specs.Limits.{most_ranks};
+ghost use Rattle.limits.specs.Limits.{most_ranks};
 
 use crate::fault::{OutcomeFault, OutcomeFaultKind, OutcomeParseFault};
 use crate::form::Entry;
 use crate::reading::Reading;
-use metered::Heap;
+use limits::Heap;
 use std::alloc::AllocError;
 use std::marker::Model;
 use text_lines::next_line;

@@ -9,7 +9,7 @@ use Rattle.std.specs.Prelude.{nat_lt, if◌then◌else◌}
 use Rattle.std.proofs.lemmas.Bool.{lt-ltb, cases_lt}
 use Rattle.std.proofs.lemmas.Grind.{common_steps}
 use Rattle.std.proofs.lemmas.List.{drop-take, drop-drop, take-append-le, drop-append-le, length-take, length-drop, length-append, drop_all, take_all}
-use Rattle.metered.specs.Limits.{greatest_clock}
+use Rattle.limits.specs.Limits.{greatest_clock}
 use Rattle.matching.specs.PacketValue.{PacketValue}
 use Rattle.payload_log.specs.Backlog.{BacklogValue, AreNumbered, IsBacklog, backlog_of, saved, hold, freed_of, next_number, pruned}
 

@@ -8,7 +8,7 @@
 -- (MPICH-V2: garbage collection); Strom and Yemini 1985 (output commit).
 use Rattle.std.specs.Prelude.{◌≡◌, ℕ, ◌+◌, ◌-◌, ◌<◌, ◌≤◌, List, [], ◌∷◌, ◌++◌, length, nat_lt, if◌then◌else◌, take, drop, min, max}
 use Rattle.std.specs.Prelude.{slice_index_or, slice_get, Option}
-use Rattle.metered.specs.Limits.{greatest_clock}
+use Rattle.limits.specs.Limits.{greatest_clock}
 use Rattle.matching.specs.PacketValue.{PacketValue}
 
 -- the number up to which packets were collected, how many were saved in all, the number of the

@@ -1,9 +1,9 @@
 //! The payload log of one destination: the packets that are kept for it, and those held back.
 ghost use Rattle.std.specs.Prelude.{◌≡◌, ◌+◌, ◌-◌, ◌<◌, ◌≤◌, ◌↔◌, IfSome, IsSome, IfErr, OnOk, OnErr, option_copied, slice_get, drop, max, length, []};
-ghost use Rattle.metered.specs.Limits.{greatest_clock};
+ghost use Rattle.limits.specs.Limits.{greatest_clock};
 
+use limits::Heap;
 use matching::Packet;
-use metered::Heap;
 use std::alloc::AllocError;
 use std::collections::VecDeque;
 use std::marker::Model;

@@ -1,11 +1,11 @@
 //! The payload log of a sender: what it keeps for each destination.
 ghost use Rattle.std.specs.Prelude.{◌≡◌, ◌+◌, ◌<◌, ◌≤◌, ◌↔◌, IfSome, IsSome, IfErr, IfOk, OnOk, OnErr, length};
 ghost use Rattle.std.specs.Prelude.{replicate, slice_set, slice_get, option_copied, []};
-ghost use Rattle.metered.specs.Limits.{greatest_clock};
+ghost use Rattle.limits.specs.Limits.{greatest_clock};
 
 use crate::backlog::Backlog;
+use limits::Heap;
 use matching::Packet;
-use metered::Heap;
 use std::alloc::AllocError;
 use std::marker::Model;
 

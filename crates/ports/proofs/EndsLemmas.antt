@@ -8,7 +8,7 @@ use Rattle.std.proofs.lemmas.List.{map-set, map-append, length-map}
 use Rattle.std.proofs.lemmas.List.Elements.{All-same, All-push, All-pop, All-set, All-get_or}
 use Rattle.std.proofs.Math.ListN.{get_or-map}
 use Rattle.std.specs.List.{All}
-use Rattle.metered.specs.Limits.{most_frames}
+use Rattle.limits.specs.Limits.{most_frames}
 use Rattle.ports.specs.Lanes.{Lane, TxValue, RxValue, lane_to, lane_from, put_of, room_of}
 use Rattle.ports.specs.Crossed.{grow, grow_all}
 use Rattle.ports.specs.AllLanes.{to_names, from_names, AreWhole, AreCrossed, NonePut, HaveRoom}

@@ -2,7 +2,7 @@
 -- "Specifying Concurrent Program Modules", 1983).
 use Rattle.std.specs.Prelude.{◌≡◌, ℕ, ◌<◌, List, [], length, map, min, replicate, slice_index_or, Vec}
 use Rattle.std.specs.List.{All, sum_by}
-use Rattle.metered.specs.Limits.{most_frames}
+use Rattle.limits.specs.Limits.{most_frames}
 use Rattle.ports.specs.Lanes.{Lane, TxValue, RxValue, lane_to, lane_from, put_of, room_of, taken_of}
 use Rattle.ports.specs.Crossed.{grow_all}
 

@@ -2,14 +2,13 @@
 //! at once and closed at once.
 ghost use Rattle.std.specs.Prelude.{◌≡◌, ◌+◌, [], IfOk, OnOk, length, map, replicate, vec_len};
 ghost use Rattle.std.specs.List.{All};
-ghost use Rattle.metered.specs.Limits.{most_frames};
+ghost use Rattle.limits.specs.Limits.{most_frames};
 ghost use Rattle.ports.specs.Crossed.{grow};
 ghost use Rattle.ports.specs.AllLanes.{to_names, from_names, AreCrossed, ArePairs, HaveRoom, NonePut, NoneTaken, all_put, all_taken, counted_to};
 ghost use Rattle.ports.specs.Lanes.{lane_from, taken_of};
 
 use crate::lanes::{Carried, Rx, Tx, close, lane};
-use metered::Heap;
-use metered::limits::MOST_FRAMES;
+use limits::{Heap, MOST_FRAMES};
 use std::alloc::AllocError;
 
 /// The ends of the lanes between each two ranks.
@@ -22,7 +21,7 @@ pub struct Ends {
 }
 
 /// A lane from each of so many ranks to each, itself included, each for `MOST_FRAMES` of
-/// `metered::limits`. An error means out of memory.
+/// `limits`. An error means out of memory.
 pub fn open_all(alloc: Heap, ranks: u8) -> Result<Ends, AllocError>
     ensures crossed { IfOk result (λ ends. AreCrossed ends.to.items ends.from.items) }
     ensures sizes { IfOk result (λ ends. (vec_len ends.to ≡ ranks) × (vec_len ends.from ≡ ranks)) }

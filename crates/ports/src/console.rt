@@ -3,7 +3,7 @@ ghost use Rattle.std.specs.Sync.Mutex.{mutex_guard_value};
 ghost use Rattle.ports.specs.Console.{IsConsole};
 
 use crate::console_state::ConsoleState;
-use metered::Heap;
+use limits::Heap;
 use std::alloc::AllocError;
 use std::sync::{Mutex, MutexGuard, Wait};
 

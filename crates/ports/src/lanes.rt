@@ -5,7 +5,7 @@
 mod ends;
 
 pub use ends::{close, lane};
-use metered::Heap;
+use limits::Heap;
 use rank_node::Frame;
 use rtrb::{Consumer, Producer, PushError};
 use std::marker::Model;

@@ -5,7 +5,7 @@ use Rattle.std.specs.Prelude.{◌≡◌, ℕ, ◌<◌, ◌≤◌, List, [], ◌�
 use Rattle.std.proofs.Common.{◌⊎◌, inl, inr, refl, sym, ap, subst, ◌∙◌, arith}
 use Rattle.std.proofs.lemmas.Bool.{ltb-true}
 use Rattle.std.proofs.lemmas.Bool.Decides.{nat_tests}
-use Rattle.metered.specs.Limits.{most_lines, most_line_bytes}
+use Rattle.limits.specs.Limits.{most_lines, most_line_bytes}
 use Rattle.rank_checker.specs.declared.fault.FaultKind.{FaultKind}
 use Rattle.rank_checker.specs.declared.fault.FaultKind.TheVariants.{NotText, NotAStatement, BadForm}
 use Rattle.rank_checker.specs.declared.fault.FaultKind.TheVariants.{Undeclared, DeclaredTwice, BlockOpen}

@@ -5,7 +5,7 @@ use Rattle.std.specs.Str.{bytes_eq}
 use Rattle.std.proofs.Common.{refl, sym, subst, arith, length-take}
 use Rattle.std.proofs.lemmas.List.{take_all}
 use Rattle.std.proofs.lemmas.Bool.Decides.{nat_tests}
-use Rattle.metered.specs.Limits.{most_name_bytes}
+use Rattle.limits.specs.Limits.{most_name_bytes}
 use Rattle.rank_grammar.specs.Name.{kept_bytes}
 use Rattle.rank_grammar.specs.declared.token.Token.{Token}
 use Rattle.rank_grammar.specs.declared.token.Token.TheVariants as t

@@ -2,7 +2,7 @@
 -- gives, stays the same with each line, until a line at fault or the end decides.
 use Rattle.std.specs.Prelude.{◌≡◌, ℕ, ◌+◌, ◌≤◌, List, [], ◌∷◌, ◌++◌, Option, Some, None, Result, Ok, Err, IfOk, IfErr}
 use Rattle.std.proofs.Common.{refl, sym, ap, subst, ◌∙◌, append_assoc}
-use Rattle.metered.specs.Limits.{most_lines}
+use Rattle.limits.specs.Limits.{most_lines}
 use Rattle.rank_grammar.specs.declared.form.Form as source_form
 use Rattle.rank_grammar.specs.Forms.{Form}
 use Rattle.rank_grammar.specs.SeenForms.{form_seen}

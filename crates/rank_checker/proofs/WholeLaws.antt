@@ -2,7 +2,7 @@
 -- A line without fault shows each fact that its statement needs, since the fault of the opposite would hold.
 use Rattle.std.specs.Prelude.{◌≡◌, ℕ, ◌+◌, ◌<◌, ◌≤◌, List, Bool, true, false, length, Option, Some}
 use Rattle.std.proofs.Common.{refl, sym, ap, ◌∙◌, arith}
-use Rattle.metered.specs.Limits.{most_lines}
+use Rattle.limits.specs.Limits.{most_lines}
 use Rattle.rank_grammar.specs.declared.token.Token.{Token}
 use Rattle.rank_grammar.specs.Forms.{Form}
 use Rattle.rank_checker.specs.Scope.{Scope, declared_in, is_twice, is_stray, is_past_table, has_large, is_over}

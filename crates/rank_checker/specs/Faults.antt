@@ -1,7 +1,7 @@
 -- Which texts are programs, and which first fault each other text has, by cases and apart from how
 -- a text is read (the language's own manual, docs/ERRORS.md, "Faults of a text").
 use Rattle.std.specs.Prelude.{◌≡◌, ℕ, ◌+◌, ◌<◌, ◌≤◌, List, [], ◌∷◌, true, false, length, codes, Option, Some, None}
-use Rattle.metered.specs.Limits.{most_lines, most_line_bytes}
+use Rattle.limits.specs.Limits.{most_lines, most_line_bytes}
 use Rattle.rank_checker.specs.declared.fault.FaultKind.{FaultKind}
 use Rattle.rank_checker.specs.declared.fault.FaultKind.TheVariants.{NotText, NotAStatement, BadForm}
 use Rattle.rank_checker.specs.declared.fault.FaultKind.TheVariants.{Undeclared, DeclaredTwice, BlockOpen}

@@ -11,8 +11,8 @@ use Rattle.rank_grammar.specs.Forms.{Pattern, any, value, Payload, lone, one}
 use Rattle.rank_grammar.specs.Forms.{Form, var_form, array_form, let_form, item_form, if_form, else_form, end_form, while_form}
 use Rattle.rank_grammar.specs.Forms.{send_form, recv_form, probe_form, try_probe_form, print_form}
 use Rattle.rank_grammar.specs.Forms.{barrier_form, bcast_form, reduce_form}
-use Rattle.metered.specs.Limits.{most_lines, most_variables, most_arrays, most_items, most_blocks, most_name_bytes}
-use Rattle.metered.specs.Limits.{most_nodes, most_parentheses}
+use Rattle.limits.specs.Limits.{most_lines, most_variables, most_arrays, most_items, most_blocks, most_name_bytes}
+use Rattle.limits.specs.Limits.{most_nodes, most_parentheses}
 use Rattle.rank_checker.specs.Arguments.{Argument, variable_name, array_name, either_name, expression, pattern, payload}
 use Rattle.rank_checker.specs.Arguments.{arguments_of, each_argument, pattern_has, payload_has, some_expression}
 

@@ -1,6 +1,6 @@
 -- A text read line by line, as a function (`Faults` says the same by cases).
 use Rattle.std.specs.Prelude.{ℕ, ◌+◌, List, [], ◌∷◌, Bool, ◌||◌, not, nat_lt, length, Option, Some, None, Result, Ok, Err, if◌then◌else◌}
-use Rattle.metered.specs.Limits.{most_lines, most_line_bytes}
+use Rattle.limits.specs.Limits.{most_lines, most_line_bytes}
 use Rattle.rank_checker.specs.declared.fault.FaultKind.{FaultKind}
 use Rattle.rank_checker.specs.declared.fault.FaultKind.TheVariants.{NotText, NotAStatement, BadForm}
 use Rattle.rank_checker.specs.declared.fault.FaultKind.TheVariants.{Undeclared, DeclaredTwice, BlockOpen}

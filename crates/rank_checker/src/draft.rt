@@ -13,7 +13,7 @@ ghost use Rattle.rank_checker.specs.Progress.{HasTables, IsLed, Reads, ended, fr
 use crate::fault::{FaultKind, ParseFault, ProgramFault};
 use crate::judge::{Judged, judge};
 use crate::scope::{Array, Scope};
-use metered::Heap;
+use limits::Heap;
 use rank_grammar::{Form, Name};
 use std::alloc::AllocError;
 use text_lines::next_line;

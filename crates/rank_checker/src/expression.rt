@@ -8,8 +8,7 @@ ghost use Rattle.rank_checker.specs.Waiting.{all_known, nodes_in_all, some_great
 
 use crate::scope::Scope;
 use crate::survey::{GREATEST, Survey};
-use metered::Heap;
-use metered::limits::MOST_NODES;
+use limits::{Heap, MOST_NODES};
 use rank_grammar::Written;
 use std::alloc::AllocError;
 

@@ -1,12 +1,12 @@
 //! Whether a statement may stand where it does.
 ghost use Rattle.std.specs.Prelude.{◌≡◌, length, nat_le};
-ghost use Rattle.metered.specs.Limits.{most_arrays, most_blocks};
+ghost use Rattle.limits.specs.Limits.{most_arrays, most_blocks};
 ghost use Rattle.rank_grammar.specs.SeenForms.{form_seen};
 ghost use Rattle.rank_checker.specs.Scope.{is_array_length, is_empty, is_open_if, is_past_table, is_stray, is_twice};
 ghost use Rattle.rank_checker.specs.SeenLines.{scope_seen};
 
 use crate::scope::{Opened, Scope};
-use metered::limits::{MOST_ARRAYS, MOST_BLOCKS, MOST_ITEMS, MOST_VARIABLES};
+use limits::{MOST_ARRAYS, MOST_BLOCKS, MOST_ITEMS, MOST_VARIABLES};
 use rank_grammar::Form;
 
 /// Whether the name that the statement declares is already declared.

@@ -6,7 +6,7 @@ ghost use Rattle.rank_grammar.specs.SeenForms.{form_seen};
 ghost use Rattle.rank_checker.specs.Scope.{after, is_array, is_declared, is_variable, nothing_yet};
 ghost use Rattle.rank_checker.specs.SeenLines.{opened_seen, scope_seen};
 
-use metered::Heap;
+use limits::Heap;
 use rank_grammar::{Form, Name};
 use std::alloc::AllocError;
 

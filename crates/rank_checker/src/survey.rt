@@ -8,8 +8,7 @@ ghost use Rattle.rank_checker.specs.Scope.{is_variable, payload_declared, payloa
 ghost use Rattle.rank_checker.specs.SeenLines.{scope_seen};
 
 use crate::scope::Scope;
-use metered::Heap;
-use metered::limits::MOST_NODES;
+use limits::{Heap, MOST_NODES};
 use rank_grammar::{Form, Name, Pattern, Payload, Written};
 use std::alloc::AllocError;
 

@@ -19,8 +19,8 @@ use crate::reader::{expression_at, whole_expression};
 use crate::token::{Keyword, Token};
 use arguments::{after_bracket_assign, only_name};
 use collectives::{read_barrier, read_bcast, read_reduce};
+use limits::Heap;
 use messages::{read_probe, read_recv, read_send, read_try_probe};
-use metered::Heap;
 use std::alloc::AllocError;
 
 #[tactic(auto, unfolding(crate::specs::Forms::var_of))]

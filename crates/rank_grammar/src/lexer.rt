@@ -10,7 +10,7 @@ ghost use Rattle.rank_grammar.specs.SeenTokens.{pending_of, pending_in, flush_of
 use crate::name::Name;
 use crate::token::{Operator, Token};
 use crate::words::reserved_token;
-use metered::Heap;
+use limits::Heap;
 use std::alloc::AllocError;
 
 /// What the next byte may still go on with.

@@ -1,10 +1,10 @@
 //! Names of variables and arrays.
 
 ghost use Rattle.std.specs.Prelude.{◌≡◌, ◌<◌, ◌↔◌, IsTrue, List, [], ◌∷◌, ◌++◌, length, take};
-ghost use Rattle.metered.specs.Limits.{most_name_bytes};
+ghost use Rattle.limits.specs.Limits.{most_name_bytes};
 ghost use Rattle.rank_grammar.specs.Name.{kept_bytes};
 
-use metered::limits::MOST_NAME_BYTES;
+use limits::MOST_NAME_BYTES;
 use std::marker::Model;
 
 /// How many bytes of a name are kept: one above the longest, so that a name

@@ -18,7 +18,7 @@ use crate::name::Name;
 use crate::token::{Operator, Strength, Token};
 use crate::written::Written;
 use brackets::{closing, stopped};
-use metered::Heap;
+use limits::Heap;
 use operands::{joined, product};
 use std::alloc::AllocError;
 

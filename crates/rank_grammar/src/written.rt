@@ -1,7 +1,7 @@
 //! Expressions as a text writes them, with names.
 use crate::name::Name;
 use crate::token::{Operator, Reading};
-use metered::Heap;
+use limits::Heap;
 
 /// An expression as it is written: what it reads is named.
 ///

@@ -1,7 +1,7 @@
 -- The statements found from the last one on are the program of the whole text's statements: they are resolved by the
 -- tables that the statements leave, their targets are those of their tree, and their places are in the tables.
 use Rattle.std.proofs.Common.{◌≡◌, ℕ, ◌≤◌, List, [], length, map, Some, ap, ◌∙◌, sym, subst, arith}
-use Rattle.metered.specs.Limits.{most_variables, most_arrays}
+use Rattle.limits.specs.Limits.{most_variables, most_arrays}
 use Rattle.rank_grammar.specs.Forms.{Form}
 use Rattle.rank_checker.specs.declared.scope.Array.{Array}
 use Rattle.rank_checker.specs.Scope.{Scope, Opened, nothing_yet, after_all, IsWhole}

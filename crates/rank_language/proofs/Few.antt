@@ -1,6 +1,6 @@
 -- How many variables and arrays a whole program declares: no more than the tables have room for, since each declaration may stand
 -- where it does only while its table isn't full.
-use Rattle.metered.specs.Limits.{most_variables, most_arrays}
+use Rattle.limits.specs.Limits.{most_variables, most_arrays}
 use Rattle.std.proofs.Common.{◌≡◌, ℕ, ◌+◌, ◌≤◌, List, [], ◌∷◌, ◌++◌, length, false, arith, length-append}
 use Rattle.std.proofs.lemmas.Bool.Decides.{nat_tests}
 use Rattle.rank_grammar.specs.Forms.{Form, var_form, array_form, let_form, item_form, if_form, else_form, end_form, while_form}

@@ -17,3 +17,6 @@ pub mod Canonical
 pub mod Back
 pub mod Arrays
 pub mod Printed
+pub mod Standing
+pub mod LineCounting
+pub mod Lining

@@ -1,6 +1,6 @@
 -- What a whole program's statements by name are, by the tables that they leave. Tables only grow, so what is declared in
 -- front of a statement is declared in the tables of the whole; and where each statement may stand, blocks balance.
-use Rattle.metered.specs.Limits.{most_items}
+use Rattle.limits.specs.Limits.{most_items}
 use Rattle.std.proofs.Common.{◌≡◌, ℕ, ◌≤◌, List, [], ◌∷◌, ◌++◌, map, true, false, ◌&&◌, Some, arith, refl, ap, ◌∙◌, sym, subst}
 use Rattle.std.specs.Str.{bytes_eq}
 use Rattle.std.proofs.lemmas.Slice.Eq.{bytes_eq-Decides}

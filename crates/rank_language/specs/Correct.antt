@@ -1,6 +1,6 @@
 -- Which program a text has (docs/LANGUAGE.md: forms, meaning of one step, next positions).
 use Rattle.std.specs.Prelude.{◌≡◌, ℕ, ◌≤◌, List, Some, length, map}
-use Rattle.metered.specs.Limits.{most_lines, most_variables, most_arrays}
+use Rattle.limits.specs.Limits.{most_lines, most_variables, most_arrays}
 use Rattle.rank_grammar.specs.Forms.{Form}
 use Rattle.rank_checker.specs.Faults.{IsText}
 use Rattle.rank_checker.specs.Scope.{nothing_yet, after_all, IsWhole}

@@ -10,3 +10,5 @@ pub mod Ends
 pub mod Resolvable
 pub mod Named
 pub mod Correct
+pub mod StandOn
+pub mod LineNumbers

@@ -1,7 +1,7 @@
 -- A program as a value: its lines, and the names of its variables and arrays (docs/LANGUAGE.md:
 -- meaning of one step).
 use Rattle.std.specs.Prelude.{ℕ, ◌<◌, ◌≤◌, List, [], ◌∷◌, map}
-use Rattle.metered.specs.Limits.{most_items}
+use Rattle.limits.specs.Limits.{most_items}
 use Rattle.rank_checker.specs.declared.scope.Array.{Array}
 use Rattle.rank_checker.specs.SeenLines.{arrays_seen}
 use Rattle.rank_language.specs.declared.statement.Statement.{Statement}

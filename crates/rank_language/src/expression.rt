@@ -1,8 +1,8 @@
 //! Expressions as a machine reads them: variables and arrays by their places.
-use metered::Heap;
+use limits::Heap;
 use rank_grammar::{Operator, Reading};
 
-/// An expression of a program. It has no more nodes than `metered::limits::MOST_NODES`.
+/// An expression of a program. It has no more nodes than `limits::MOST_NODES`.
 #[derive(Debug, Drop)]
 pub enum Expression {
     Number(i64),

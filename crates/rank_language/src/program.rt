@@ -1,5 +1,5 @@
 //! Programs: statements in order, each with where it leads to.
-ghost use Rattle.metered.specs.Limits.{most_lines, most_variables, most_arrays};
+ghost use Rattle.limits.specs.Limits.{most_lines, most_variables, most_arrays};
 ghost use Rattle.rank_grammar.specs.Forms.{Form};
 ghost use Rattle.rank_checker.specs.declared.fault.ParseFault.TheVariants.{Fault, Memory};
 ghost use Rattle.rank_checker.specs.declared.fault.ProgramFault.{ProgramFault};
@@ -19,7 +19,7 @@ use crate::build::statements_of;
 use crate::name_form::name_forms;
 use crate::resolve::Tables;
 use crate::statement::Statement;
-use metered::Heap;
+use limits::Heap;
 use rank_checker::{Array, Draft, ParseFault, ProgramFault, read};
 use rank_grammar::Name;
 use rank_printer::print;
@@ -126,7 +126,7 @@ impl Program {
     }
 
     /// A law, for proofs alone: it has no more statements, variables and arrays
-    /// than a text may declare (`metered::limits`).
+    /// than a text may declare (`limits`).
     pub fn law_within_limits(&self)
         ensures lines { length self.now.statements ≤ most_lines }
         ensures variables { length self.now.variables ≤ most_variables }

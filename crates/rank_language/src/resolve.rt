@@ -8,7 +8,7 @@ ghost use Rattle.rank_language.specs.Seen.{placed_of};
 ghost use Rattle.rank_language.specs.SeenTables.{IsPlaceOf, tables_seen};
 
 use crate::expression::Expression;
-use metered::Heap;
+use limits::Heap;
 use rank_checker::Array;
 use rank_grammar::{Name, Written};
 use std::alloc::AllocError;

@@ -15,7 +15,7 @@ ghost use Rattle.rank_language.specs.SeenTables.{tables_seen};
 use crate::expression::Expression;
 use crate::resolve::{Declared, Tables, resolve};
 use crate::statement::{Buffer, Collective, Pattern, Payload, Statement};
-use metered::Heap;
+use limits::Heap;
 use rank_grammar::{Form, Name, Reduction, Written, form};
 use std::alloc::AllocError;
 

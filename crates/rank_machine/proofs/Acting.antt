@@ -3,7 +3,7 @@
 use Rattle.std.proofs.Common.{◌≡◌, ℕ, ℤ, ◌+◌, ◌<◌, ◌≤◌, Bool, true, false, not, Ok, Err, Option, Some}
 use Rattle.std.proofs.Common.{None, length, map, refl, sym, ap, subst, ◌∙◌, arith, slice_get, if◌then◌else◌}
 use Rattle.std.proofs.lemmas.List.{length-map, length-set}
-use Rattle.metered.specs.Limits.{greatest_tag, most_items}
+use Rattle.limits.specs.Limits.{greatest_tag, most_items}
 use Rattle.rank_language.specs.Placed.{declare, declare_array, assign, assign_item, send, receive, probe, try_probe, print, Collective, collect}
 use Rattle.rank_language.specs.Block.{Block, plain, Line, simple_line, if_line, else_line, end_line, while_line, back_line, remaining, size}
 use Rattle.rank_language.specs.Program.{block_of}

@@ -1,7 +1,7 @@
 -- A message that a machine may be shown is one between two ranks, as each probe that a state wants names just such: so its tag
 -- and its number of items are within their limits. And so is one that a receive takes.
 use Rattle.std.proofs.Common.{◌≡◌, ◌≤◌, length, Ok, Err, Option, Some, None, IfOk, refl, subst, ◌∙◌}
-use Rattle.metered.specs.Limits as limits
+use Rattle.limits.specs.Limits as limits
 use Rattle.matching.specs.declared.packet.Context.TheVariants.{PointToPoint}
 use Rattle.matching.specs.declared.selector.Selector.{Selector}
 use Rattle.matching.specs.PacketValue as packet

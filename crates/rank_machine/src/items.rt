@@ -1,14 +1,14 @@
 //! The items of one array.
 ghost use Rattle.std.specs.Prelude.{◌≡◌, ◌<◌, ◌≤◌, ◌++◌, IfOk, length, map, pos, replicate, slice_set};
-ghost use Rattle.metered.specs.Limits.{most_items};
+ghost use Rattle.limits.specs.Limits.{most_items};
 ghost use Rattle.rank_checker.specs.SeenLines.{arrays_seen};
 ghost use Rattle.rank_language.specs.Program.{AllSized};
 ghost use Rattle.rank_machine.specs.Values.{item_at, index_in};
 ghost use Rattle.rank_machine.specs.Acts.{overwritten};
 
 use crate::fault::MachineFault;
+use limits::Heap;
 use matching::PacketItems;
-use metered::Heap;
 use rank_language::Array;
 use std::alloc::AllocError;
 use std::marker::Model;
@@ -21,7 +21,7 @@ pub struct Items {
 
 impl Model for Items {
     ghost use Rattle.std.specs.Prelude.{◌≤◌, List, ℤ, length};
-    ghost use Rattle.metered.specs.Limits.{most_items};
+    ghost use Rattle.limits.specs.Limits.{most_items};
 
     ghost Value = { List ℤ };
 
@@ -54,7 +54,7 @@ impl Items {
         })
     }
 
-    /// These items, 1 to `MOST_ITEMS` of `metered::limits`.
+    /// These items, 1 to `MOST_ITEMS` of `limits`.
     pub fn of(items: Vec<i64, Heap>) -> Items
         requires least { 1 ≤ length items.items }
         requires most { length items.items ≤ most_items }

@@ -4,7 +4,7 @@ use crate::fault::MachineFault;
 use crate::gathered::Gathered;
 use crate::items::Items;
 use crate::status::Status;
-use metered::Heap;
+use limits::Heap;
 
 /// Where a machine stands and what it has stored, to build it of.
 #[derive(Drop)]
@@ -14,7 +14,7 @@ pub struct Parts {
     /// The fault that an act left, if one did.
     pub fault: Option<MachineFault>,
     pub status: Status,
-    /// How many collectives it has finished, up to `GREATEST_CLOCK` of `metered::limits`.
+    /// How many collectives it has finished, up to `GREATEST_CLOCK` of `limits`.
     pub finished: u32,
     /// How many parts of the collective that stands are done, 0 if none stands.
     pub done: u16,

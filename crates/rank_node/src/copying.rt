@@ -8,7 +8,7 @@ use crate::pending::Pending;
 use crate::replaying::Replaying;
 use crate::running::Running;
 use checkpoint::{Image, Shelf};
-use metered::Heap;
+use limits::Heap;
 use std::alloc::AllocError;
 
 impl<'p, S: Shelf, D> Running<'p, S, D> {

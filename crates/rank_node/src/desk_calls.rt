@@ -1,9 +1,9 @@
 //! What a rank calls at the event logger that threads share: it stores
 //! determinants there, and fetches its own for a replay.
 ghost use Rattle.std.specs.Prelude.{◌≡◌, ◌<◌, ◌≤◌, ◌↔◌, None, Ok, length, IfOk, IfErr, OnErr, MatchOption};
-ghost use Rattle.metered.specs.Limits.{most_events};
-ghost use Rattle.plain_logger.specs.History.{above};
-ghost use Rattle.plain_logger.specs.declared.call.Call.TheVariants.{Fetch};
+ghost use Rattle.limits.specs.Limits.{most_events};
+ghost use Rattle.sequential_logger.specs.History.{above};
+ghost use Rattle.sequential_logger.specs.declared.call.Call.TheVariants.{Fetch};
 ghost use Rattle.event_logger.specs.declared.view.Answer.TheVariants.{Stored};
 ghost use Rattle.event_logger.specs.Desks.{IsRead, IsSameDesk, found, own_row, with_call};
 ghost use Rattle.rank_node.specs.Desked.{with_desk, at_desk, Appended, IsDeclined};
@@ -15,8 +15,8 @@ use crate::replaying::Replaying;
 use crate::running::Running;
 use checkpoint::Shelf;
 use event_logger::{Desk, LogFault, Logger};
-use metered::Heap;
-use plain_logger::Event;
+use limits::Heap;
+use sequential_logger::Event;
 
 impl<'p, S: Shelf> Running<'p, S, Desk> {
     /// Appends the oldest unstored event to the rank's row and answers the

@@ -1,6 +1,6 @@
 //! Frames: what one rank puts on its way to another.
 ghost use Rattle.std.specs.Prelude.{◌≡◌, ◌≤◌, ◌+◌};
-ghost use Rattle.metered.specs.Limits.{greatest_clock};
+ghost use Rattle.limits.specs.Limits.{greatest_clock};
 
 use matching::Packet;
 use std::alloc::AllocError;
@@ -14,7 +14,7 @@ pub struct AskFrom {
 
 impl Model for AskFrom {
     ghost use Rattle.std.specs.Prelude.{ℕ, ◌≤◌, ◌+◌};
-    ghost use Rattle.metered.specs.Limits.{greatest_clock};
+    ghost use Rattle.limits.specs.Limits.{greatest_clock};
 
     ghost Value = { ℕ };
 
@@ -54,7 +54,7 @@ pub struct KeptUpto {
 
 impl Model for KeptUpto {
     ghost use Rattle.std.specs.Prelude.{ℕ, ◌≤◌};
-    ghost use Rattle.metered.specs.Limits.{greatest_clock};
+    ghost use Rattle.limits.specs.Limits.{greatest_clock};
 
     ghost Value = { ℕ };
 

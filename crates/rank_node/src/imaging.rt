@@ -1,6 +1,6 @@
 //! How a rank takes an image, its checkpoint.
 ghost use Rattle.std.specs.Prelude.{◌≡◌, ◌≢◌, ◌≤◌, [], length, Ok, Err, IfOk, IfErr, IsErrOf, OnOk, OnErr};
-ghost use Rattle.metered.specs.Limits.{greatest_clock};
+ghost use Rattle.limits.specs.Limits.{greatest_clock};
 ghost use Rattle.checkpoint.specs.Reading.{reading};
 ghost use Rattle.checkpoint.specs.Shelf.{Grew};
 ghost use Rattle.checkpoint.specs.Spelling.{spelling};
@@ -12,8 +12,8 @@ use crate::fault::NodeFault;
 use crate::frame::KeptUpto;
 use crate::running::Running;
 use checkpoint::{Shelf, encode_parts};
+use limits::Heap;
 use matching::Inbox;
-use metered::Heap;
 use std::alloc::AllocError;
 
 impl<'p, S: Shelf, D> Running<'p, S, D> {

@@ -4,15 +4,14 @@
 ghost use Rattle.std.specs.Prelude.{◌≡◌, ◌+◌, ◌-◌, ◌<◌, true, [], ◌∷◌, ◌++◌, length, take, drop, slice_get, option_and_then};
 ghost use Rattle.std.specs.Prelude.{IsTrue, IsSome, ◌↔◌, OnOk, OnErr};
 ghost use Rattle.std.specs.Bool.{OnTrue, OnFalse};
-ghost use Rattle.metered.specs.Limits.{greatest_clock};
+ghost use Rattle.limits.specs.Limits.{greatest_clock};
 ghost use Rattle.rank_node.specs.declared.waiting.Waiting.TheVariants as waits;
 
 mod copying;
 
 use crate::waiting::Waiting;
-use metered::Heap;
-use metered::limits::MOST_EFFECTS;
-use plain_logger::Event;
+use limits::{Heap, MOST_EFFECTS};
+use sequential_logger::Event;
 use std::alloc::AllocError;
 use std::collections::VecDeque;
 use std::marker::Model;
@@ -30,7 +29,7 @@ pub(crate) struct Pending {
 
 impl Model for Pending {
     ghost use Rattle.std.specs.Prelude.{◌≡◌, ◌≤◌};
-    ghost use Rattle.metered.specs.Limits.{most_effects};
+    ghost use Rattle.limits.specs.Limits.{most_effects};
     ghost use Rattle.rank_node.specs.Waiting.{Gate, BeginsWithEvents, effects};
 
     ghost Value = { Gate };

@@ -1,6 +1,6 @@
 //! A rank, whatever it does: it runs, replays or is down (fail-stop crashes).
 ghost use Rattle.std.specs.Prelude.{◌≡◌, ◌≤◌, length};
-ghost use Rattle.metered.specs.Limits.{most_events};
+ghost use Rattle.limits.specs.Limits.{most_events};
 ghost use Rattle.rank_node.specs.Phases.{stable_in, settled_in, settled_replay, clock_in, left_in};
 
 mod copying;

@@ -1,7 +1,7 @@
 //! A rank that replays its events, its determinants, between a restart and the
 //! last of them.
 ghost use Rattle.std.specs.Prelude.{◌≡◌, ◌≢◌, ◌≤◌, [], length, Ok, Err};
-ghost use Rattle.metered.specs.Limits.{most_events};
+ghost use Rattle.limits.specs.Limits.{most_events};
 ghost use Rattle.rank_machine.specs.Machine.{machine_want, IsWantedBy};
 
 mod frames;
@@ -12,9 +12,9 @@ use crate::down::Down;
 use crate::running::Running;
 use crate::stable::Stable;
 use checkpoint::Shelf;
-use metered::Heap;
-use plain_logger::Event;
+use limits::Heap;
 use rank_machine::{Want, Wanted};
+use sequential_logger::Event;
 use std::marker::Model;
 
 /// A rank that replays. It must be settled, crashed or retired.
@@ -32,7 +32,7 @@ pub struct Replaying<'p, S: Shelf, D> {
 impl<'p, S: Shelf, D> Model for Replaying<'p, S, D> {
     ghost use Rattle.std.specs.Prelude.{◌≡◌, ◌≤◌, length, drop, []};
     ghost use Rattle.std.specs.Coded.{codes};
-    ghost use Rattle.metered.specs.Limits.{most_events};
+    ghost use Rattle.limits.specs.Limits.{most_events};
     ghost use Rattle.rank_language.specs.Coding.{placed_code};
     ghost use Rattle.rank_node.specs.Replay.{Replay};
 

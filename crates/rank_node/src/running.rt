@@ -1,6 +1,6 @@
 //! A rank that runs.
 ghost use Rattle.std.specs.Prelude.{◌≡◌, ◌<◌, ◌≤◌, length, replicate, IfOk, IfErr, None};
-ghost use Rattle.metered.specs.Limits.{most_events, most_ranks};
+ghost use Rattle.limits.specs.Limits.{most_events, most_ranks};
 ghost use Rattle.rank_machine.specs.Machine.{machine_want, IsWantedBy};
 ghost use Rattle.checkpoint.specs.Savable.{IsSavable};
 ghost use Rattle.rank_node.specs.Image.{first_image};
@@ -10,8 +10,8 @@ use crate::fault::NodeFault;
 use crate::pending::Pending;
 use crate::stable::Stable;
 use checkpoint::{Image, Shelf};
+use limits::Heap;
 use matching::Inbox;
-use metered::Heap;
 use payload_log::PayloadLog;
 use rank_language::Program;
 use rank_machine::{Machine, Want, Wanted};

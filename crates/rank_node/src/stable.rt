@@ -1,16 +1,16 @@
 //! What of a rank outlives a crash: its handles on stable storage, and its
 //! place.
 ghost use Rattle.std.specs.Prelude.{◌≡◌, ◌<◌, ◌≤◌, Some, IfOk, IsErrOf, OnOk, OnErr};
-ghost use Rattle.metered.specs.Limits.{most_ranks};
+ghost use Rattle.limits.specs.Limits.{most_ranks};
 ghost use Rattle.checkpoint.specs.Shelf.{Grew, image_bytes};
 
 use checkpoint::{Shelf, ShelfFault};
-use metered::Heap;
+use limits::Heap;
 use std::marker::Model;
 
 /// A rank's desk at the logger, its shelf, and which of how many ranks it is.
 ///
-/// There are at most `MOST_RANKS` of `metered::limits`. The value must be spent.
+/// There are at most `MOST_RANKS` of `limits`. The value must be spent.
 // Calls on the shelf leave all else, as their clause `same` says.
 pub struct Stable<S: Shelf, D> {
     pub(crate) desk: D,
@@ -21,7 +21,7 @@ pub struct Stable<S: Shelf, D> {
 
 impl<S: Shelf, D> Model for Stable<S, D> {
     ghost use Rattle.std.specs.Prelude.{◌<◌, ◌≤◌};
-    ghost use Rattle.metered.specs.Limits.{most_ranks};
+    ghost use Rattle.limits.specs.Limits.{most_ranks};
     ghost use Rattle.rank_node.specs.Stored.{Stored};
 
     ghost Value = { Stored S D };

@@ -4,7 +4,7 @@ use Rattle.std.proofs.Common.{◌≡◌, ℕ, zero, suc, ◌+◌, ◌-◌, ◌*�
 use Rattle.std.proofs.Common.{refl, sym, subst, append_assoc, append-nil, length-append, arith}
 use Rattle.std.specs.Prelude.{if◌then◌else◌}
 use Rattle.std.specs.Fmt.{decimal}
-use Rattle.metered.specs.Limits.{most_line_bytes, most_blocks, most_parentheses}
+use Rattle.limits.specs.Limits.{most_line_bytes, most_blocks, most_parentheses}
 use Rattle.std.proofs.lemmas.Fmt.{length-decimal-le}
 use Rattle.rank_grammar.specs.declared.token.Operator.{Operator}
 use Rattle.rank_grammar.specs.declared.token.Operator.TheVariants.{Add, Subtract, Multiply, Divide, Remainder}

@@ -1,6 +1,6 @@
 -- Statements whose names and numbers are what a text can have, and whose expressions are within their limit.
 use Rattle.std.proofs.Common.{ℕ, ◌^◌, ◌<◌, ◌≤◌, List, length}
-use Rattle.metered.specs.Limits.{most_name_bytes, most_nodes}
+use Rattle.limits.specs.Limits.{most_name_bytes, most_nodes}
 use Rattle.rank_grammar.specs.Lexes.{IsName}
 use Rattle.rank_grammar.specs.Tree.{Tree, number, variable, item, reading, negation, operation}
 use Rattle.rank_grammar.specs.Forms.{Pattern, any, value, Payload, lone, one}

@@ -1,7 +1,7 @@
 -- The canonical text of a whole program's statements is a text of these statements: each of its lines has the tokens of
 -- its statement, and no fault holds of it.
 use Rattle.std.proofs.Common.{◌≡◌, ℕ, ◌+◌, ◌≤◌, List, [], ◌∷◌, length, Some, refl, sym, subst, arith}
-use Rattle.metered.specs.Limits.{most_lines, most_blocks}
+use Rattle.limits.specs.Limits.{most_lines, most_blocks}
 use Rattle.rank_grammar.specs.Forms.{Form}
 use Rattle.rank_grammar.specs.Lexes.{Lexes}
 use Rattle.text_lines.specs.Pieces.{pieces_of}

@@ -7,7 +7,7 @@ use Rattle.std.specs.Str.{bytes_eq}
 use Rattle.std.proofs.lemmas.Slice.Eq.{bytes_eq-Decides}
 use Rattle.std.proofs.lemmas.Bool.{and_parts}
 use Rattle.std.proofs.lemmas.Bool.Decides.{nat_tests}
-use Rattle.metered.specs.Limits.{most_lines, most_blocks, most_name_bytes, most_nodes, most_parentheses}
+use Rattle.limits.specs.Limits.{most_lines, most_blocks, most_name_bytes, most_nodes, most_parentheses}
 use Rattle.rank_grammar.specs.declared.token.Token.{Token}
 use Rattle.rank_grammar.specs.Tree.{Tree, number, variable, item, reading, negation, operation}
 use Rattle.rank_grammar.specs.Forms.{Pattern, any, value, Payload, lone, one}

@@ -5,7 +5,7 @@ ghost use Rattle.std.specs.Fmt.{decimal};
 ghost use Rattle.rank_grammar.specs.Tree.{tree_of};
 ghost use Rattle.rank_printer.specs.Canonical.{expression_text, is_operation, operand_text, operator_text, reading_text};
 
-use metered::Heap;
+use limits::Heap;
 use rank_grammar::{Operator, Reading, Written};
 use std::alloc::AllocError;
 

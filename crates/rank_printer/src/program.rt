@@ -6,7 +6,7 @@ ghost use Rattle.rank_checker.specs.SeenLines.{forms_seen};
 ghost use Rattle.rank_printer.specs.Canonical.{depth_after, depth_of, indentation, line_text, program_text};
 
 use crate::statement::put_form;
-use metered::Heap;
+use limits::Heap;
 use rank_grammar::Form;
 use std::alloc::AllocError;
 
@@ -68,7 +68,7 @@ fn put_line(
 /// The canonical text of statements.
 ///
 /// An expression is written with as much stack as it nests. Statements that
-/// `rank_checker::read` has read nest no deeper than `metered::limits::MOST_NODES`;
+/// `rank_checker::read` has read nest no deeper than `limits::MOST_NODES`;
 /// `rank_grammar::forms::form` alone puts no bound to it but the line's length. The only error is
 /// refused memory.
 pub fn print(alloc: Heap, forms: &[Form]) -> Result<Vec<u8, Heap>, AllocError>

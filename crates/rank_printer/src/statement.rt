@@ -8,7 +8,7 @@ ghost use Rattle.rank_grammar.specs.Tree.{tree_of};
 ghost use Rattle.rank_printer.specs.Canonical.{pattern_text, expression_text, form_text, payload_text, reduction_text};
 
 use crate::expression::{put_expression, put_number};
-use metered::Heap;
+use limits::Heap;
 use rank_grammar::{Form, Name, Pattern, Payload, Reduction, Written};
 use std::alloc::AllocError;
 

@@ -27,12 +27,12 @@ dropped_nothing source station = record { frames = []; lanes = takes_none source
 -- one frame is dropped
 pub dropped_one : (source : ℕ) (old new : Station) (frame : Frame) → Takes source (frame ∷ []) old.kit.from.items new.kit.from.items
     → new.kit.tally ≡ lost old.kit.tally → new.kit.meter ≡ one_dropped old.kit.meter → DroppedFrom source old new
-dropped_one source old new frame takes counted metered = record { frames = frame ∷ []; lanes = takes; tally = counted; meter = metered }
+dropped_one source old new frame takes counted limits = record { frames = frame ∷ []; lanes = takes; tally = counted; meter = limits }
 
 -- none was there
 pub dropped_none : (source : ℕ) (old new : Station) → Takes source [] old.kit.from.items new.kit.from.items → new.kit.tally ≡ old.kit.tally
     → new.kit.meter ≡ old.kit.meter → DroppedFrom source old new
-dropped_none source old new takes counted metered = record { frames = []; lanes = takes; tally = counted; meter = metered }
+dropped_none source old new takes counted limits = record { frames = []; lanes = takes; tally = counted; meter = limits }
 
 -- some more are dropped, behind those before
 pub dropped_more : (source : ℕ) (old mid new : Station) → DroppedFrom source old mid → DroppedFrom source mid new → DroppedFrom source old new

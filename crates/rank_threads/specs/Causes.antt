@@ -3,8 +3,8 @@
 use Rattle.std.specs.Prelude.{◌≡◌, ℕ, ◌+◌, ◌≤◌, nat_le, Bool, true, false, ◌&&◌, if◌then◌else◌, List, [], ◌∷◌, Option, Some, None, length, slice_index_or}
 use Rattle.audit.specs.declared.outcome.End.{End}
 use Rattle.audit.specs.declared.outcome.End.TheVariants as end
-use Rattle.metered.specs.Limits.{greatest_clock, most_events}
-use Rattle.plain_logger.specs.Event.{EventValue}
+use Rattle.limits.specs.Limits.{greatest_clock, most_events}
+use Rattle.sequential_logger.specs.Event.{EventValue}
 use Rattle.rank_threads.specs.declared.report.cause.Cause.{Cause}
 use Rattle.rank_threads.specs.declared.report.cause.Cause.TheVariants as cause
 use Rattle.rank_threads.specs.declared.report.Report.{Report}

@@ -3,7 +3,7 @@
 -- Source: the measures of rollback recovery in Elnozahy, Alvisi, Wang and Johnson 2002, "A Survey
 -- of Rollback-Recovery Protocols in Message-Passing Systems".
 use Rattle.std.specs.Prelude.{ℕ, ◌+◌, ◌-◌, ◌*◌, ◌^◌, min, nat_lt, if◌then◌else◌, Option, Some, None, List, [], ◌∷◌, length, replicate, slice_index_or, slice_set}
-use Rattle.metered.specs.Limits.{most_ranks}
+use Rattle.limits.specs.Limits.{most_ranks}
 use Rattle.matching.specs.PacketValue.{PacketValue}
 use Rattle.payload_log.specs.Backlog.{BacklogValue}
 use Rattle.rank_node.specs.Phases.{stable_in}

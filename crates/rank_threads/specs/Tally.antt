@@ -1,7 +1,7 @@
 -- How a run counts: the frames that are put and taken, by which termination is detected (Mattern
 -- 1987), and steps, crashes and idle turns.
 use Rattle.std.specs.Prelude.{ℕ, ◌+◌, ◌-◌, ◌^◌, min, Bool, true, false, ◌||◌, nat_le, if◌then◌else◌, List, [], ◌∷◌, None, replicate}
-use Rattle.metered.specs.Limits.{most_ranks}
+use Rattle.limits.specs.Limits.{most_ranks}
 use Rattle.rank_node.specs.declared.frame.Frame.{Frame}
 use Rattle.rank_threads.specs.declared.tally.Tally.{Tally}
 

@@ -7,7 +7,7 @@ ghost use Rattle.rank_threads.specs.Putting.{PutsInto};
 ghost use Rattle.rank_threads.specs.Taking.{Takes, those_of};
 
 use crate::node::{Node, PutResult};
-use metered::Heap;
+use limits::Heap;
 use ports::{Rx, Tx};
 use rank_node::Frame;
 use std::alloc::AllocError;

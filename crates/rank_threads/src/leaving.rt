@@ -10,8 +10,8 @@ use crate::life::Life;
 use crate::shared::Shared;
 use crate::turn::{Stepped, drain_lanes};
 pub use marks::{AllAtRest, Mark};
+use limits::Heap;
 use marks::{first_look, second_look};
-use metered::Heap;
 use std::alloc::AllocError;
 
 /// What an idle turn leads to: the rank leaves where all are at rest.

@@ -3,7 +3,7 @@ ghost use Rattle.std.specs.Prelude.{◌≡◌, slice_index_or, slice_set};
 ghost use Rattle.rank_threads.specs.Costs.{after_act, after_image, after_log, after_message, after_most, after_put, new_meter, one_dropped};
 
 use crate::costs::{Costs, FrameKind, LogSize};
-use metered::limits::MOST_RANKS;
+use limits::MOST_RANKS;
 
 /// What counts the costs of a rank. It outlives the rank's lives, as its tally
 /// does.

@@ -1,7 +1,7 @@
 //! What the script asks of one rank.
 ghost use Rattle.std.specs.Prelude.{◌≡◌};
 
-use metered::Heap;
+use limits::Heap;
 use script_text::{Order, ScriptLine};
 use std::marker::Model;
 

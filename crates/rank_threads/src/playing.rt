@@ -1,6 +1,6 @@
 //! All ranks of a run, from new desks of a logger to what is left of them.
 ghost use Rattle.std.specs.Prelude.{◌≡◌, ◌≤◌, vec_len};
-ghost use Rattle.metered.specs.Limits.{most_ranks};
+ghost use Rattle.limits.specs.Limits.{most_ranks};
 ghost use Rattle.event_logger.specs.Desks.{AreDesks, desks_below};
 ghost use Rattle.rank_threads.specs.Report.{IsPlayed};
 ghost use Rattle.rank_threads.specs.Stage.{IsStage};
@@ -11,7 +11,7 @@ use crate::running::RunLimits;
 use crate::shared::Shared;
 use crate::stage::Stage;
 use event_logger::{Desk, Logger};
-use metered::Heap;
+use limits::Heap;
 use ports::{ConsoleState, close_all};
 use rank_language::Program;
 use script_text::Script;

@@ -4,7 +4,7 @@ ghost use Rattle.std.specs.Prelude.{◌≡◌, IfSome};
 use crate::leaving::Mark;
 use crate::running::RunLimits;
 use crossbeam_utils::CachePadded;
-use metered::Heap;
+use limits::Heap;
 use ports::Console;
 use rank_node::NodeFault;
 use std::sync::atomic::{AtomicBool, Ordering};

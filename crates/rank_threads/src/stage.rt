@@ -8,7 +8,7 @@ use crate::leaving::Mark;
 use crate::life::{Parcel, Remains};
 use crate::plan::Plan;
 use crossbeam_utils::CachePadded;
-use metered::Heap;
+use limits::Heap;
 use ports::{Console, Ends, open_all};
 use rank_language::Program;
 use script_text::Script;

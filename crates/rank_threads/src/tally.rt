@@ -4,7 +4,7 @@ ghost use Rattle.rank_threads.specs.Tally.{new_tally, one_more, begun_again, aft
 
 use crate::life::KillToken;
 use crate::shared::{ClearedMark, SetMark, Stop, Stopped};
-use metered::limits::MOST_RANKS;
+use limits::MOST_RANKS;
 use rank_node::NodeFault;
 
 /// A wait in which others had the rank's core counts as so many idle turns:

@@ -1,7 +1,7 @@
 -- A world to which events were given is compared with a run.
 use Rattle.std.proofs.Common.{◌≡◌, ℕ, ◌<◌, ◌≤◌, List, length, Ok, ap, subst, ◌∙◌}
 use Rattle.std.specs.Prelude.{reverse}
-use Rattle.metered.specs.Limits.{most_event_lines}
+use Rattle.limits.specs.Limits.{most_event_lines}
 use Rattle.rank_language.specs.Program.{ProgramValue}
 use Rattle.crash_free.specs.Runs.{Passed, history, prints_from, IsRun}
 use Rattle.crash_free.specs.Sim.{SimValue, Simulates, start_of}

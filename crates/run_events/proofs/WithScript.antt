@@ -3,7 +3,7 @@ use Rattle.std.proofs.Common.{◌≡◌, ℕ, ◌<◌, ◌≤◌, ◌-◌, List,
 use Rattle.std.specs.Prelude.{Option, Some, None, true, false, reverse, option_map, slice_get, IsSomeAnd, ◌≢◌}
 use Rattle.std.proofs.lemmas.List.{append-nil, append_assoc, take_all}
 use Rattle.std.proofs.lemmas.Option.{slice_get_past}
-use Rattle.metered.specs.Limits.{most_event_lines}
+use Rattle.limits.specs.Limits.{most_event_lines}
 use Rattle.rank_language.specs.Program.{ProgramValue}
 use Rattle.script_text.specs.declared.line.Order.{Order}
 use Rattle.script_text.specs.declared.line.ScriptLine.{ScriptLine}

@@ -1,9 +1,9 @@
 -- What it is that events play a run: under them a new world, which is an adversarial execution,
 -- comes to where the crash-free run is, rank by rank, and no rank of it crashes.
 use Rattle.std.specs.Prelude.{◌≡◌, ◌≢◌, ℕ, ◌<◌, ◌≤◌, List, [], ◌∷◌, length, Ok, Some, slice_get}
-use Rattle.metered.specs.Limits.{most_event_lines}
+use Rattle.limits.specs.Limits.{most_event_lines}
 use Rattle.rank_language.specs.Program.{ProgramValue}
-use Rattle.plain_logger.specs.Event.{EventValue}
+use Rattle.sequential_logger.specs.Event.{EventValue}
 use Rattle.crash_free.specs.Runs.{Passed, history, printed}
 use Rattle.audit.specs.Outcome.{lines_of}
 use Rattle.audit.specs.Rows.{IsRow}

@@ -3,7 +3,7 @@
 -- and take images where the script has it.
 use Rattle.std.specs.Prelude.{◌≡◌, ◌≢◌, ℕ, ◌<◌, ◌≤◌, ◌-◌, List, [], ◌∷◌, ◌++◌, length, take, Option, Some, None, Ok}
 use Rattle.std.specs.Prelude.{slice_get, slice_index_or, option_map}
-use Rattle.metered.specs.Limits.{most_event_lines}
+use Rattle.limits.specs.Limits.{most_event_lines}
 use Rattle.rank_language.specs.Program.{ProgramValue}
 use Rattle.script_text.specs.Script.{orders_of}
 use Rattle.script_text.specs.declared.line.Order.{Order}

@@ -1,12 +1,11 @@
 //! What each act of a run was asked for by.
 ghost use Rattle.std.specs.Prelude.{◌<◌, ◌≤◌, length};
-ghost use Rattle.metered.specs.Limits.{most_ranks};
+ghost use Rattle.limits.specs.Limits.{most_ranks};
 
 use crate::fault::PlayFault;
 use crash_free::{NotAllowed, Passed, Sim};
+use limits::{Heap, MOST_EVENT_LINES};
 use matching::Selector;
-use metered::Heap;
-use metered::limits::MOST_EVENT_LINES;
 use rank_language::Program;
 use rank_machine::Want;
 

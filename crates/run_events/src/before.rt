@@ -10,9 +10,8 @@ use crate::asked::Asked;
 use crate::messages::Messages;
 use crate::order::{Happening, Waits};
 use crash_free::{Act, Passed};
+use limits::{Heap, MOST_RANKS};
 use matching::Selector;
-use metered::Heap;
-use metered::limits::MOST_RANKS;
 use std::alloc::AllocError;
 
 /// What waits for what in a run of so many ranks.

@@ -1,7 +1,6 @@
 //! Where a rank begins again, and which lines of its script come next.
 
-use metered::Heap;
-use metered::limits::MOST_RANKS;
+use limits::{Heap, MOST_RANKS};
 use script_text::{Order, ScriptLine};
 use std::alloc::AllocError;
 

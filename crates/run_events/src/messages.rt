@@ -1,9 +1,8 @@
 //! The messages of a run, by the ranks between which they go.
 
 use crash_free::{Act, Passed};
+use limits::{Heap, MOST_RANKS};
 use matching::{Context, Selector};
-use metered::Heap;
-use metered::limits::MOST_RANKS;
 use std::alloc::AllocError;
 
 /// A message.

@@ -1,7 +1,7 @@
 //! An order in which nothing comes before what it waits for.
 
 use crate::fault::PlayFault;
-use metered::Heap;
+use limits::Heap;
 use std::alloc::AllocError;
 
 /// What happens in a world that plays a run.

@@ -1,12 +1,11 @@
 //! Events in their order, before they are written out.
 ghost use Rattle.std.specs.Prelude.{◌≡◌, ◌+◌, ◌<◌, ◌≤◌, ◌++◌, ◌⊎◌, [], length, replicate, IfOk, IfErr, OnOk};
-ghost use Rattle.metered.specs.Limits.{most_event_lines};
+ghost use Rattle.limits.specs.Limits.{most_event_lines};
 ghost use Rattle.run_events.specs.Planned.{events_in};
 
 use crate::fault::PlayFault;
 use crate::times::Times;
-use metered::Heap;
-use metered::limits::MOST_EVENT_LINES;
+use limits::{Heap, MOST_EVENT_LINES};
 use std::alloc::AllocError;
 use std::marker::Model;
 use world_model::WorldEvent;

@@ -1,7 +1,7 @@
 //! The plan of a run: its acts in an order that a world can take, and what each
 //! rank does behind its last one.
 ghost use Rattle.std.specs.Prelude.{◌≤◌};
-ghost use Rattle.metered.specs.Limits.{most_ranks};
+ghost use Rattle.limits.specs.Limits.{most_ranks};
 
 use crate::asked::{AskedAll, asked_of, is_over};
 use crate::before::waits_of;
@@ -10,7 +10,7 @@ use crate::order::Happening;
 use crate::plan::Plan;
 use crate::writing::Events;
 use crash_free::{Act, Passed, Sim};
-use metered::Heap;
+use limits::Heap;
 use rank_language::Program;
 
 /// Events that are to play a run of the program on so many ranks. Where a rank

@@ -1,6 +1,6 @@
 //! Whether events play a run: they are given to a new world.
 ghost use Rattle.std.specs.Prelude.{◌≡◌, ◌<◌, ◌≤◌, ℕ, true, IfOk, length, reverse};
-ghost use Rattle.metered.specs.Limits.{most_ranks};
+ghost use Rattle.limits.specs.Limits.{most_ranks};
 ghost use Rattle.crash_free.specs.Sim.{Simulates};
 ghost use Rattle.world_model.specs.World.{size};
 ghost use Rattle.explore.specs.Own.{own};
@@ -8,7 +8,7 @@ ghost use Rattle.run_events.specs.Plays.{ArePlain, IsPlain, NoneRefused, Plays, 
 
 use crash_free::Sim;
 use explore::same_acts;
-use metered::Heap;
+use limits::Heap;
 use rank_language::Program;
 use std::alloc::AllocError;
 use world_model::{Reply, World, WorldEvent};

@@ -5,13 +5,12 @@
 //! their senders transmit again. So it finds what it found before, also where
 //! what it found wasn't stored, and stands where the plan goes on.
 ghost use Rattle.std.specs.Prelude.{◌≤◌};
-ghost use Rattle.metered.specs.Limits.{most_ranks};
+ghost use Rattle.limits.specs.Limits.{most_ranks};
 
 use crate::course::Course;
 use crate::fault::PlayFault;
 use crate::looks::{clock_of, is_running, misses_only};
-use metered::Heap;
-use metered::limits::MOST_SCRIPT_LINES;
+use limits::{Heap, MOST_SCRIPT_LINES};
 use rank_language::Program;
 use script_text::{Order, ScriptLine};
 use world_model::{World, WorldEvent};

@@ -1,7 +1,7 @@
 //! Whether events play a run with the kills and the images of its script, and
 //! their text.
 ghost use Rattle.std.specs.Prelude.{◌≡◌, ◌<◌, ◌≤◌, ℕ, true, IfOk, IfSome, OnOk, option_map, slice_get, string_bytes};
-ghost use Rattle.metered.specs.Limits.{most_event_lines, most_ranks};
+ghost use Rattle.limits.specs.Limits.{most_event_lines, most_ranks};
 ghost use Rattle.script_text.specs.Script.{orders_of};
 ghost use Rattle.world_model.specs.World.{size};
 ghost use Rattle.run_events.specs.Scripted.{behind, IsBack, IsScriptText, PlaysScript, PlaysScriptFrom, Takes, line_at, line_of, used_lines};
@@ -13,8 +13,7 @@ use crate::reviving::revived;
 use crate::text::text_of;
 use crate::used::used_lines;
 use crash_free::Sim;
-use metered::Heap;
-use metered::limits::MOST_EVENT_LINES;
+use limits::{Heap, MOST_EVENT_LINES};
 use rank_language::Program;
 use script_text::{Order, ScriptLine};
 use std::alloc::AllocError;

@@ -1,6 +1,6 @@
 //! The text of the events of a run.
 ghost use Rattle.std.specs.Prelude.{◌≡◌, ◌≤◌, true, Ok, IfOk, string_bytes};
-ghost use Rattle.metered.specs.Limits.{most_ranks};
+ghost use Rattle.limits.specs.Limits.{most_ranks};
 ghost use Rattle.events_text.specs.Events.{events_of};
 ghost use Rattle.events_text.specs.Written.{events_text};
 ghost use Rattle.run_events.specs.Plays.{IsPlayText};
@@ -10,7 +10,7 @@ use crate::planned::plan_of;
 use crate::playing::plays;
 use crash_free::Sim;
 use events_text::{EventsFault, events_text, parse_events};
-use metered::Heap;
+use limits::Heap;
 use rank_language::Program;
 use world_model::WorldEvent;
 

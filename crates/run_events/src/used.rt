@@ -2,7 +2,7 @@
 ghost use Rattle.std.specs.Prelude.{◌≡◌, IfOk};
 ghost use Rattle.run_events.specs.Scripted.{used_lines};
 
-use metered::Heap;
+use limits::Heap;
 use script_text::ScriptLine;
 use std::alloc::AllocError;
 

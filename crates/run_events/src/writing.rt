@@ -2,8 +2,7 @@
 
 use crate::fault::PlayFault;
 use crate::plan::Plan;
-use metered::Heap;
-use metered::limits::{MOST_EVENTS, MOST_RANKS};
+use limits::{Heap, MOST_EVENTS, MOST_RANKS};
 use world_model::WorldEvent;
 
 // What is known of one rank while events are written.

@@ -4,7 +4,7 @@ use Rattle.std.proofs.Common.{refl, sym, ap, ◌∙◌, subst, arith, Option, So
 use Rattle.std.specs.Prelude.{◌&&◌, ◌==◌}
 use Rattle.std.proofs.lemmas.Bool.{cases_eq, eq-eqb, ne_eqb, ltb-true}
 use Rattle.std.proofs.lemmas.List.{length-set, get_or-set_same, get_or-set_other, get_or-replicate}
-use Rattle.metered.specs.Limits.{most_ranks}
+use Rattle.limits.specs.Limits.{most_ranks}
 use Rattle.matching.specs.declared.packet.Context.{Context}
 use Rattle.rank_machine.specs.Acts.{Act, sends, takes, hits, misses, prints}
 use Rattle.crash_free.specs.Runs.{Passed, add_if, at_place}

@@ -17,7 +17,7 @@ use crate::drawing::marks::put_marks;
 use crate::drawing::replays::put_replays;
 use crate::layout::{Scene, scene_of};
 use crate::request::Request;
-use metered::Heap;
+use limits::Heap;
 use std::alloc::AllocError;
 use std::fmt::Write;
 

@@ -31,7 +31,7 @@ pub struct Request<'a> {
     pub title: &'a str,
     /// The acts of all ranks, each message sent before it is taken.
     pub acts: &'a [Passed],
-    /// How each rank ended, at most `MOST_RANKS` of `metered::limits`. Acts of
+    /// How each rank ended, at most `MOST_RANKS` of `limits`. Acts of
     /// other ranks aren't drawn.
     pub ends: &'a [End],
     /// The crashes that are known.

@@ -1,5 +1,5 @@
 //! Calls of `run`: the report of a run. Program, script and report are owned by functions of few exits.
-use metered::limits::MOST_RANKS;
+use limits::MOST_RANKS;
 use rank_language::Program;
 use runner::{Hold, Report, RunLimits, Script, run};
 use std::process::Abort;

@@ -2,7 +2,7 @@
 use crate::reported::{limits_of, report_of};
 use crate::same::same;
 use crate::told::{Told, described};
-use metered::Heap;
+use limits::Heap;
 use runner::Report;
 use std::alloc::AllocError;
 use std::process::Abort;

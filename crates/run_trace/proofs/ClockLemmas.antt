@@ -4,7 +4,7 @@ use Rattle.std.proofs.lemmas.Bool.{cases_eq}
 use Rattle.std.specs.Prelude.{slice_index_or, slice_set}
 use Rattle.std.proofs.lemmas.Bool.{eq-eqb, ne_eqb}
 use Rattle.std.proofs.lemmas.List.{length_push, get_or-set_same, get_or-set_other, get_or-replicate}
-use Rattle.metered.specs.Limits.{most_ranks}
+use Rattle.limits.specs.Limits.{most_ranks}
 use Rattle.crash_free.specs.Runs.{Passed, history, looked_up, sends_from}
 use Rattle.run_trace.specs.Places.{clock_of, greatest_told}
 use Rattle.run_trace.specs.Clocks.{AreCounted}

@@ -4,7 +4,7 @@ use Rattle.std.specs.Prelude.{get_or}
 use Rattle.std.proofs.lemmas.List.{append_assoc, take_all}
 use Rattle.std.proofs.lemmas.Option.{slice_get_within, slice_get-get_or}
 use Rattle.rank_language.specs.Program.{ProgramValue}
-use Rattle.statement_lines.specs.Standing.{IsLinedOf}
+use Rattle.rank_language.specs.StandOn.{IsLinedOf}
 use Rattle.rank_machine.specs.Acts.{Message}
 use Rattle.crash_free.specs.Runs.{Passed}
 use Rattle.run_trace.specs.Deliveries.{as_told, delivered, run_before}

@@ -1,6 +1,6 @@
 -- The clocks that are counted while a run is made once more.
 use Rattle.std.specs.Prelude.{◌≡◌, ℕ, ◌<◌, List, slice_index_or}
-use Rattle.metered.specs.Limits.{most_ranks}
+use Rattle.limits.specs.Limits.{most_ranks}
 use Rattle.crash_free.specs.Runs.{Passed}
 use Rattle.run_trace.specs.Places.{clock_of}
 

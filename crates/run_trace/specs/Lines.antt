@@ -2,7 +2,7 @@
 -- newest act first, and so have its places.
 use Rattle.std.specs.Prelude.{◌≡◌, ℕ, max, List, [], ◌∷◌, ◌++◌, codes, reverse, slice_index_or, Option}
 use Rattle.rank_language.specs.Program.{ProgramValue}
-use Rattle.statement_lines.specs.Standing.{IsLinedOf}
+use Rattle.rank_language.specs.StandOn.{IsLinedOf}
 use Rattle.rank_machine.specs.Acts.{Message}
 use Rattle.crash_free.specs.Runs.{Passed}
 use Rattle.run_trace.specs.Columns.{digit_count, head_text, right}

@@ -12,7 +12,7 @@ use crate::given::Told;
 use crate::message::{Message, put_collective, put_content, put_tag};
 use crate::place::Place;
 use crash_free::{Act, Passed};
-use metered::Heap;
+use limits::Heap;
 use std::alloc::AllocError;
 use std::fmt::Write;
 

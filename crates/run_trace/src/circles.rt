@@ -4,8 +4,7 @@ use crate::columns::put_between;
 use crate::ends::waits_for;
 use crate::given::Told;
 use audit::End;
-use metered::Heap;
-use metered::limits::MOST_RANKS;
+use limits::{Heap, MOST_RANKS};
 use std::alloc::AllocError;
 use std::fmt::Write;
 

@@ -2,7 +2,7 @@
 ghost use Rattle.std.specs.Prelude.{◌≡◌, ◌≤◌, ◌++◌, OnOk, string_bytes};
 ghost use Rattle.run_trace.specs.Columns.{between, digit_count, head_text, right};
 
-use metered::Heap;
+use limits::Heap;
 use std::alloc::AllocError;
 use std::fmt::Write;
 

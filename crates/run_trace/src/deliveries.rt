@@ -1,13 +1,13 @@
 //! Which act received which message.
 ghost use Rattle.std.specs.Prelude.{◌≡◌, IfOk};
-ghost use Rattle.metered.specs.Limits.{most_ranks};
+ghost use Rattle.limits.specs.Limits.{most_ranks};
 ghost use Rattle.run_trace.specs.Deliveries.{AreDelivered, AreOfRanks, sends_found};
 
 mod indices;
 mod sends;
 
 use crash_free::{Act, Passed};
-use metered::Heap;
+use limits::Heap;
 use sends::Sends;
 use std::alloc::AllocError;
 

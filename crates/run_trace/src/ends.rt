@@ -5,10 +5,10 @@ use crate::given::Told;
 use crate::left::unreceived;
 use crate::message::{Message, put_mark};
 use audit::End;
+use limits::Heap;
 use matching::{Context, Selector};
-use metered::Heap;
 use rank_machine::Want;
-use statement_lines::line_of_text;
+use rank_language::line_of_text;
 use std::alloc::AllocError;
 use std::fmt::Write;
 

@@ -3,8 +3,7 @@
 use crate::due::last_due;
 use crate::given::Given;
 use crash_free::Passed;
-use metered::Heap;
-use metered::limits::{MOST_RANKS, MOST_SCRIPT_LINES};
+use limits::{Heap, MOST_RANKS, MOST_SCRIPT_LINES};
 use script_text::{Order, ScriptLine};
 use std::alloc::AllocError;
 use std::num::NonZeroU32;

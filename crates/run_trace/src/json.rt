@@ -9,7 +9,7 @@ use crate::given::Told;
 use acts::put_acts;
 use ends::{put_circles, put_ends};
 use left::{put_cost, put_orders, put_unreceived};
-use metered::Heap;
+use limits::Heap;
 use std::alloc::AllocError;
 
 /// The run that is told, as JSON.

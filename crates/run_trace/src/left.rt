@@ -4,7 +4,7 @@ use crate::acts::message_at;
 use crate::given::Told;
 use crate::message::put_mark;
 use crash_free::Act;
-use metered::Heap;
+use limits::Heap;
 use std::alloc::AllocError;
 use std::fmt::Write;
 

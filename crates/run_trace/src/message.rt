@@ -4,8 +4,8 @@ ghost use Rattle.run_trace.specs.Seen.{message_seen};
 ghost use Rattle.run_trace.specs.Words.{collective_text, content_text, given_items, items_text, lead_text, listed_text};
 ghost use Rattle.run_trace.specs.Words.{mark_text, name_text, tag_text};
 
+use limits::Heap;
 use matching::Context;
-use metered::Heap;
 use std::alloc::AllocError;
 use std::fmt::Write;
 

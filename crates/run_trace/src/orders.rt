@@ -4,7 +4,7 @@ use crate::fates::{Fate, Fated};
 use crate::given::Told;
 use crate::words::put_count;
 use crash_free::Act;
-use metered::Heap;
+use limits::Heap;
 use script_text::Order;
 use std::alloc::AllocError;
 use std::fmt::Write;

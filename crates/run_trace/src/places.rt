@@ -1,6 +1,6 @@
 //! Where each act of a run was made.
 ghost use Rattle.std.specs.Prelude.{◌≡◌, ◌≤◌, ◌<◌, ◌+◌, IfOk, OnOk, length, min, slice_index_or, slice_set};
-ghost use Rattle.metered.specs.Limits.{most_ranks};
+ghost use Rattle.limits.specs.Limits.{most_ranks};
 ghost use Rattle.run_trace.specs.Places.{AreFound, IsMadeAt, greatest_told, is_try};
 ghost use Rattle.run_trace.specs.Clocks.{AreCounted};
 
@@ -8,8 +8,7 @@ mod seen;
 
 use crate::place::Place;
 use crash_free::{Passed, Sim};
-use metered::Heap;
-use metered::limits::MOST_RANKS;
+use limits::{Heap, MOST_RANKS};
 use rank_language::Program;
 use rank_machine::Want;
 use seen::is_there;

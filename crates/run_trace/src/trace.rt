@@ -1,10 +1,10 @@
 //! The whole trace, as text and as JSON.
 ghost use Rattle.std.specs.Prelude.{◌≡◌, ◌≤◌, IfOk, reverse, string_bytes};
-ghost use Rattle.metered.specs.Limits.{most_ranks};
+ghost use Rattle.limits.specs.Limits.{most_ranks};
 ghost use Rattle.run_trace.specs.Deliveries.{AreClocked, AreDelivered};
 ghost use Rattle.run_trace.specs.Lines.{BeginsWithActs};
 ghost use Rattle.run_trace.specs.Places.{AreFound};
-ghost use Rattle.statement_lines.specs.Standing.{IsLinedOf};
+ghost use Rattle.rank_language.specs.StandOn.{IsLinedOf};
 
 use crate::acts::put_acts;
 use crate::circles::put_circles;
@@ -18,7 +18,7 @@ use crate::orders::{put_crashes, put_unmet};
 use crate::place::Place;
 use crate::places::places_of;
 use crash_free::Sim;
-use metered::Heap;
+use limits::Heap;
 use rank_language::Program;
 use std::alloc::AllocError;
 
@@ -78,7 +78,7 @@ impl Found {
 /// lines of the script never came to pass, and what crashes and images the
 /// others were. `run` is the one that `audit::find_run` finds for the outcome
 /// that is given, and its statements stand on the lines that are given, as
-/// `statement_lines::parse` finds them. An `Err` means out of memory.
+/// `LinedProgram::parse` finds them. An `Err` means out of memory.
 pub fn trace_text(
     alloc: Heap,
     program: &Program,

@@ -1,6 +1,6 @@
 //! Words of several lines.
 
-use metered::Heap;
+use limits::Heap;
 use std::alloc::AllocError;
 use std::fmt::Write;
 

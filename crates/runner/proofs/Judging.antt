@@ -10,7 +10,7 @@ use Rattle.outcome_text.specs.Texts.{entries_of, first_fault}
 use Rattle.rank_language.specs.Program.{ProgramValue}
 use Rattle.runner.specs.Judgments.{HasVerdict, IsJudgeAnswer, IsYesText, TellsVerdict, TellsVerdictOf}
 use Rattle.runner.specs.Traces.{TracesReport}
-use Rattle.statement_lines.specs.Standing.{IsLinedOf}
+use Rattle.rank_language.specs.StandOn.{IsLinedOf}
 
 -- 0 for a yes
 pub has_yes : (program : ProgramValue) (n : ℕ) (outcome : OutcomeValue) (steps status : ℕ) → status ≡ 0 → IsRight program n outcome steps Yes

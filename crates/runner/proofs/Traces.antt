@@ -20,7 +20,7 @@ use Rattle.runner.specs.Events.{PlaysReport, PlaysScriptOf}
 use Rattle.runner.specs.Traces.{IsTold, IsTraceAnswer, TracesReport}
 use Rattle.script_text.specs.Script.{first_fault, script_lines}
 use Rattle.script_text.specs.declared.line.ScriptLine.{ScriptLine}
-use Rattle.statement_lines.specs.Standing.{IsLinedOf}
+use Rattle.rank_language.specs.StandOn.{IsLinedOf}
 
 -- a text that begins with the acts does so with more behind it
 pub goes_on : (source : List ℕ) (program : ProgramValue) (n : ℕ) (acts : List Passed) (text more now : List ℕ)

@@ -12,7 +12,7 @@ use Rattle.runner.specs.Meanings.{meaning_text}
 use Rattle.runner.specs.OutcomesText.{AreWritten, IsExploredText, IsMarkedSummary, IsMarkedText, IsSummary, one_text}
 use Rattle.runner.specs.Partings.{ArePartings}
 use Rattle.runner.specs.declared.outcomes.parting.Parted.{Parted}
-use Rattle.statement_lines.specs.Standing.{IsLinedOf, StandOn}
+use Rattle.rank_language.specs.StandOn.{IsLinedOf, StandOn}
 
 -- in an empty text none is written
 pub none_written : (outcomes : List (List RankOutcome)) (choices : List (List Noted)) (lines text : List ℕ) → text ≡ []

@@ -12,7 +12,7 @@ use Rattle.runner.specs.Meanings.{meaning_text}
 use Rattle.runner.specs.Partings.{ArePartings, choices_text}
 use Rattle.core_runner.specs.ReportText.{end_text}
 use Rattle.runner.specs.declared.outcomes.parting.Parted.{Parted}
-use Rattle.statement_lines.specs.Standing.{IsLinedOf}
+use Rattle.rank_language.specs.StandOn.{IsLinedOf}
 
 -- the values that a rank printed, a line each
 abbrev pub values_text : ℕ → List ℤ → List ℕ

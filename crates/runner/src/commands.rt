@@ -35,7 +35,7 @@ pub use crate::commands::tool_refusal::ToolRefusal;
 use command_line::{Job, job_of};
 use core_runner::{Files, tell, tell_no_job, tell_no_memory};
 use explore::{Unwatched, Watch};
-use metered::Heap;
+use limits::Heap;
 use std::io::Write;
 use std::sync::Wait;
 use std::thread::Threads;

@@ -17,7 +17,7 @@ pub use crate::outcomes::racing::print_summary;
 use audit::End;
 use core_runner::{print_end, print_line};
 use explore::{Explored, Limits, Outcome, RankEnd};
-use metered::Heap;
+use limits::Heap;
 use std::alloc::AllocError;
 use std::fmt::Write;
 

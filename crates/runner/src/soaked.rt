@@ -8,7 +8,7 @@ mod text;
 
 pub use crate::soaked::text::print_soaked;
 use core_runner::{Refusal, all_halted};
-use metered::Heap;
+use limits::Heap;
 use rank_threads::Report;
 use script_text::Script;
 use soak::{Histogram, images_used, seen_of};

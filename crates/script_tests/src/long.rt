@@ -1,6 +1,6 @@
 //! Texts as long as a script may be, and longer.
 use crate::told::told;
-use metered::Heap;
+use limits::Heap;
 use std::alloc::AllocError;
 use std::process::Abort;
 use std::test::*;

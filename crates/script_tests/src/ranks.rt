@@ -1,6 +1,6 @@
 //! The lines of one rank.
 use crate::told::told_lines;
-use metered::Heap;
+use limits::Heap;
 use script_text::Script;
 use std::alloc::AllocError;
 use std::process::Abort;

@@ -1,5 +1,5 @@
 //! What becomes of a script's text, told in one line of text.
-use metered::Heap;
+use limits::Heap;
 use script_text::{Order, Script, ScriptLine, ScriptParseFault};
 use std::alloc::AllocError;
 use std::fmt::Write;

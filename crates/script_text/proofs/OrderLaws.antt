@@ -4,7 +4,7 @@ use Rattle.std.specs.List.{cons_option, filter_map}
 use Rattle.std.proofs.Common.{refl, arith}
 use Rattle.std.proofs.lemmas.Bool.Decides.{nat_tests}
 use Rattle.std.proofs.lemmas.List.Elements.{All-nil, All-cons}
-use Rattle.metered.specs.Limits.{most_script_lines}
+use Rattle.limits.specs.Limits.{most_script_lines}
 use Rattle.text_lines.specs.Pieces.{pieces_of, words_of}
 use Rattle.text_lines.specs.Skipped.{is_skipped}
 use Rattle.script_text.specs.declared.fault.ScriptFault.{ScriptFault}

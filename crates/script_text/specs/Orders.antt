@@ -1,6 +1,6 @@
 -- What the lines of a script without fault are.
 use Rattle.std.specs.Prelude.{ℕ, ◌<◌, ◌≤◌}
-use Rattle.metered.specs.Limits.{greatest_clock}
+use Rattle.limits.specs.Limits.{greatest_clock}
 use Rattle.script_text.specs.declared.line.ScriptLine.{ScriptLine}
 
 -- A line is an order to one of so many ranks, at a clock that a rank can have.

@@ -1,7 +1,7 @@
 -- Which orders a script's text gives, and its first faulty line with that line's lowest fault (docs/FORMATS.md, "Scripts").
 use Rattle.std.specs.Prelude.{ℕ, ◌+◌, ◌==◌, List, [], ◌∷◌, Bool, true, false, not, ◌&&◌, nat_le, nat_lt, filter, Option, Some, None, if◌then◌else◌}
 use Rattle.std.specs.List.{filter_map}
-use Rattle.metered.specs.Limits.{greatest_clock, most_script_lines}
+use Rattle.limits.specs.Limits.{greatest_clock, most_script_lines}
 use Rattle.text_lines.specs.Pieces.{pieces_of, words_of}
 use Rattle.text_lines.specs.Skipped.{is_skipped}
 use Rattle.script_text.specs.declared.fault.ScriptFault.{ScriptFault}

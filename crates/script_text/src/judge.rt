@@ -8,7 +8,7 @@ ghost use Rattle.script_text.specs.Seen.{form_fault};
 use crate::fault::ScriptFaultKind;
 use crate::form::form_of;
 use crate::line::ScriptLine;
-use metered::limits::{GREATEST_CLOCK, MOST_SCRIPT_LINES};
+use limits::{GREATEST_CLOCK, MOST_SCRIPT_LINES};
 use text_lines::is_skipped;
 
 /// What a line that isn't skipped asks for in a run of so many ranks.

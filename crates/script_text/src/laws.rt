@@ -1,6 +1,6 @@
 //! What a script without fault is by its definition, with nothing to compute.
 ghost use Rattle.std.specs.Prelude.{◌≡◌, ◌≤◌, ℕ, All, List, None, length};
-ghost use Rattle.metered.specs.Limits.{most_script_lines};
+ghost use Rattle.limits.specs.Limits.{most_script_lines};
 ghost use Rattle.script_text.specs.Orders.{IsOrder};
 ghost use Rattle.script_text.specs.Script.{first_fault, script_lines};
 

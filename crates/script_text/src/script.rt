@@ -4,7 +4,7 @@ ghost use Rattle.std.specs.Prelude.{◌≡◌, [], Err, None, Some, IfOk, OnOk};
 use crate::fault::{ScriptFault, ScriptParseFault};
 use crate::judge::judge;
 use crate::line::ScriptLine;
-use metered::Heap;
+use limits::Heap;
 use std::alloc::AllocError;
 use std::marker::Model;
 use text_lines::next_line;

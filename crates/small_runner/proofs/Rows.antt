@@ -1,11 +1,11 @@
 -- What a logger answers of a row.
 use Rattle.std.proofs.Common.{◌≡◌, ℕ, suc, ◌≤◌, Bool, true, false, cond, List, [], ◌∷◌, length, subst, arith, sym}
 use Rattle.std.specs.Prelude.{nat_lt}
-use Rattle.metered.specs.Limits.{most_events}
-use Rattle.plain_logger.specs.Event.{EventValue}
-use Rattle.plain_logger.specs.History.{StateValue, Answers, IsRow, above, row}
-use Rattle.plain_logger.specs.declared.call.Call.TheVariants.{Fetch}
-use Rattle.plain_logger.specs.declared.call.Reply.TheVariants.{Events}
+use Rattle.limits.specs.Limits.{most_events}
+use Rattle.sequential_logger.specs.Event.{EventValue}
+use Rattle.sequential_logger.specs.History.{StateValue, Answers, IsRow, above, row}
+use Rattle.sequential_logger.specs.declared.call.Call.TheVariants.{Fetch}
+use Rattle.sequential_logger.specs.declared.call.Reply.TheVariants.{Events}
 
 -- what of a row is above a clock is no longer than the row
 length_above : (after : ℕ) (es : List EventValue) → length (above after es) ≤ length es

@@ -4,9 +4,9 @@ ghost use Rattle.rank_node.specs.Waiting.{is_settled};
 ghost use Rattle.small_runner.specs.Gate.{first_event};
 
 use checkpoint::MemoryShelf;
-use plain_logger::LoggerState;
 use ports::ConsoleState;
 use rank_node::{NodeFault, Running};
+use sequential_logger::LoggerState;
 
 /// Stores and acknowledges each event that waits, and releases each send and line, in their order.
 #[tactic(auto, using(crate::proofs::Gates::nothing_waits, crate::proofs::Gates::less))]

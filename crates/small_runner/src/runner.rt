@@ -4,7 +4,7 @@ ghost use Rattle.std.specs.Prelude.{◌≡◌, ◌<◌, length, IfOk};
 use crate::around::{Around, RANKS};
 use crate::failure::Failure;
 use crate::rank::Rank;
-use metered::Heap;
+use limits::Heap;
 use rank_language::Program;
 use rank_node::NodeFault;
 use std::io;

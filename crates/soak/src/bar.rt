@@ -3,7 +3,7 @@ ghost use Rattle.std.specs.Prelude.{◌≡◌, ◌≢◌, true, false};
 ghost use Rattle.soak.specs.Histogram.{BarValue, first_bar, with_one};
 
 use final_runs::RankEnd;
-use metered::Heap;
+use limits::Heap;
 use std::marker::Model;
 
 /// An outcome, and how many runs had it.

@@ -5,8 +5,7 @@ ghost use Rattle.soak.specs.Lines.{AreWithin, CanFollow, CanBeUsed, count_of, im
 
 use crate::course::{imaged, reached};
 use crate::most::Most;
-use metered::Heap;
-use metered::limits::GREATEST_CLOCK;
+use limits::{GREATEST_CLOCK, Heap};
 use rand::RngExt;
 use rand_pcg::Pcg32;
 use script_text::{Order, ScriptLine};

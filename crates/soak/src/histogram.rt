@@ -4,7 +4,7 @@ ghost use Rattle.soak.specs.Histogram.{AreOthers, HasAt, Notes};
 
 use crate::bar::Bar;
 use final_runs::RankEnd;
-use metered::Heap;
+use limits::Heap;
 use std::alloc::AllocError;
 use std::marker::Model;
 

@@ -1,6 +1,6 @@
 //! How much may happen in one run.
 ghost use Rattle.std.specs.Prelude.{◌+◌, ◌≤◌};
-ghost use Rattle.metered.specs.Limits.{most_script_lines};
+ghost use Rattle.limits.specs.Limits.{most_script_lines};
 
 /// How many kills and how many images a run's script has at most, both
 /// together no more than a script may have lines.

@@ -6,7 +6,7 @@ ghost use Rattle.soak.specs.Seen.{seen_one};
 
 use audit::{End, Outcome};
 use final_runs::RankEnd;
-use metered::Heap;
+use limits::Heap;
 use ports::Line;
 use std::alloc::AllocError;
 

@@ -2,7 +2,7 @@
 ghost use Rattle.std.specs.Prelude.{◌≡◌, IfOk, OnOk, ◌++◌, string_bytes};
 ghost use Rattle.soak.specs.Text.{line_text, text_of};
 
-use metered::Heap;
+use limits::Heap;
 use script_text::{Order, ScriptLine};
 use std::alloc::AllocError;
 use std::fmt::Write;

@@ -1,6 +1,5 @@
 //! How many images of a script were taken.
-use metered::Heap;
-use metered::limits::MOST_RANKS;
+use limits::{Heap, MOST_RANKS};
 use script_text::{Order, Script, ScriptLine};
 use std::alloc::AllocError;
 

@@ -1,9 +1,9 @@
 //! Determinants, and what waits at a gate.
 
 use crate::object::Object;
-use metered::Heap;
-use plain_logger::{Event, Kind};
+use limits::Heap;
 use rank_node::Waiting;
+use sequential_logger::{Event, Kind};
 use std::alloc::AllocError;
 
 /// A determinant.

@@ -1,8 +1,8 @@
 //! Packets and frames.
 
 use crate::object::Object;
+use limits::Heap;
 use matching::{Context, Packet};
-use metered::Heap;
 use rank_node::Frame;
 use std::alloc::AllocError;
 

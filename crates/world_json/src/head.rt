@@ -3,7 +3,7 @@
 use crate::object::Object;
 use crate::ranks::{Known, rank_object};
 use crate::texts::lines_of;
-use metered::Heap;
+use limits::Heap;
 use std::alloc::AllocError;
 use world_model::World;
 

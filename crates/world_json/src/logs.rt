@@ -2,7 +2,7 @@
 ghost use Rattle.std.specs.Prelude.{◌≡◌};
 
 use crate::object::Object;
-use metered::Heap;
+use limits::Heap;
 use payload_log::{Backlog, PayloadLog};
 use serde_json::Value;
 use std::alloc::AllocError;

@@ -1,7 +1,7 @@
 //! The names of a program's variables and arrays, which a program that is parsed
 //! doesn't show: they are read from its text.
 
-use metered::Heap;
+use limits::Heap;
 use std::alloc::AllocError;
 use text_lines::{next_line, without_front};
 

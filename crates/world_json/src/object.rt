@@ -1,6 +1,6 @@
 //! An object of JSON.
 
-use metered::Heap;
+use limits::Heap;
 use serde_json::{Map, Value, put};
 use std::alloc::AllocError;
 

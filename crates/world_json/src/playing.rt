@@ -1,6 +1,6 @@
 //! A world's events, one after another, an object a line.
 ghost use Rattle.std.specs.Prelude.{◌<◌, ◌≤◌, IfSome};
-ghost use Rattle.metered.specs.Limits.{most_ranks};
+ghost use Rattle.limits.specs.Limits.{most_ranks};
 ghost use Rattle.world_model.specs.World.{size};
 
 use crate::determinants::determinant_object;
@@ -10,10 +10,9 @@ use crate::names::names_of;
 use crate::object::Object;
 use crate::ranks::{Known, rank_object};
 use events_text::{EventLine, ReplyLine};
-use metered::Heap;
+use limits::Heap;
 use ports::Line;
-use rank_language::Program;
-use statement_lines::statement_lines;
+use rank_language::{Program, statement_lines};
 use std::alloc::AllocError;
 use world_model::{Reply, World, WorldEvent};
 

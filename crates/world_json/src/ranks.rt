@@ -1,6 +1,6 @@
 //! A rank as it stands.
 ghost use Rattle.std.specs.Prelude.{◌<◌, ◌≤◌};
-ghost use Rattle.metered.specs.Limits.{most_ranks};
+ghost use Rattle.limits.specs.Limits.{most_ranks};
 ghost use Rattle.world_model.specs.World.{size};
 
 use crate::determinants::waiting_object;
@@ -11,7 +11,7 @@ use crate::object::Object;
 use crate::standing::Standing;
 use crate::wants::want_object;
 use checkpoint::{Image, MemoryShelf, Shelf, decode};
-use metered::Heap;
+use limits::Heap;
 use rank_language::Program;
 use rank_machine::Machine;
 use rank_node::Phase;

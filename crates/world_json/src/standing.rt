@@ -2,8 +2,8 @@
 ghost use Rattle.std.specs.Prelude.{◌≡◌, IfOk};
 
 use checkpoint::MemoryShelf;
+use limits::Heap;
 use matching::Inbox;
-use metered::Heap;
 use payload_log::PayloadLog;
 use rank_machine::Machine;
 use rank_node::{Phase, Running, Waiting};

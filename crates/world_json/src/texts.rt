@@ -1,6 +1,6 @@
 //! Lines of texts, and which of them are skipped.
 
-use metered::Heap;
+use limits::Heap;
 use serde_json::Value;
 use std::alloc::AllocError;
 use text_lines::next_line;

@@ -2,8 +2,8 @@
 
 use crate::frames::put_context;
 use crate::object::Object;
+use limits::Heap;
 use matching::Selector;
-use metered::Heap;
 use rank_machine::Want;
 use std::alloc::AllocError;
 

@@ -1,8 +1,8 @@
 -- How many events a rank has made: those that are stored and those that aren't. This names no run,
 -- so it also holds of a rank that starts again behind it.
 use Rattle.std.specs.Prelude.{◌≡◌, ℕ, ◌+◌, ◌≤◌, List, length, Some, slice_get}
-use Rattle.metered.specs.Limits.{most_events}
-use Rattle.plain_logger.specs.Event.{EventValue}
+use Rattle.limits.specs.Limits.{most_events}
+use Rattle.sequential_logger.specs.Event.{EventValue}
 use Rattle.world_model.specs.World.{Live, unstored, WorldValue, IsLive}
 
 -- a live rank with these events in its row has made these and its unstored ones, and no more than

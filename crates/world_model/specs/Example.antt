@@ -13,8 +13,8 @@ use Rattle.std.proofs.Common.{refl, lit<, arith, inl, inr, ⊎_elim}
 use Rattle.checkpoint.specs.Image.{ImageValue}
 use Rattle.matching.specs.Inbox.{accepted_from}
 use Rattle.payload_log.specs.Backlog.{BacklogValue, new_backlog}
-use Rattle.plain_logger.specs.Event.{event_of}
-use Rattle.plain_logger.specs.declared.kind.Kind.TheVariants as kind
+use Rattle.sequential_logger.specs.Event.{event_of}
+use Rattle.sequential_logger.specs.declared.kind.Kind.TheVariants as kind
 use Rattle.matching.specs.declared.packet.Context.TheVariants.{PointToPoint}
 use Rattle.rank_grammar.specs.declared.token.Operator.TheVariants.{Add, Equal}
 use Rattle.rank_grammar.specs.declared.token.Reading.TheVariants.{Rank}

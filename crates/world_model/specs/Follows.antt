@@ -9,10 +9,10 @@ use Rattle.checkpoint.specs.Shelf.{image_bytes}
 use Rattle.checkpoint.specs.declared.memory_shelf.MemoryShelf.{MemoryShelf}
 use Rattle.matching.specs.PacketValue as packet
 use Rattle.payload_log.specs.Backlog.{backlog}
-use Rattle.plain_logger.specs.Event.{EventValue}
-use Rattle.plain_logger.specs.History.{Answers}
-use Rattle.plain_logger.specs.declared.call.Call.TheVariants.{Append, Fetch}
-use Rattle.plain_logger.specs.declared.call.Reply.TheVariants.{Length, Events}
+use Rattle.sequential_logger.specs.Event.{EventValue}
+use Rattle.sequential_logger.specs.History.{Answers}
+use Rattle.sequential_logger.specs.declared.call.Call.TheVariants.{Append, Fetch}
+use Rattle.sequential_logger.specs.declared.call.Reply.TheVariants.{Length, Events}
 use Rattle.rank_machine.specs.declared.want.Want.{Want}
 use Rattle.rank_machine.specs.declared.want.Want.TheVariants as want
 use Rattle.rank_machine.specs.Wants.{payload}

@@ -5,10 +5,10 @@ use Rattle.std.specs.declared.alloc.AllocError.{AllocError}
 use Rattle.checkpoint.specs.Image.{ImageValue}
 use Rattle.checkpoint.specs.Shelf.{image_bytes}
 use Rattle.checkpoint.specs.declared.memory_shelf.MemoryShelf.{MemoryShelf}
-use Rattle.plain_logger.specs.Event.{EventValue}
-use Rattle.plain_logger.specs.History.{StateValue, reply_of}
-use Rattle.plain_logger.specs.declared.call.Call.TheVariants.{Append}
-use Rattle.plain_logger.specs.declared.call.Reply.TheVariants.{Length}
+use Rattle.sequential_logger.specs.Event.{EventValue}
+use Rattle.sequential_logger.specs.History.{StateValue, reply_of}
+use Rattle.sequential_logger.specs.declared.call.Call.TheVariants.{Append}
+use Rattle.sequential_logger.specs.declared.call.Reply.TheVariants.{Length}
 use Rattle.rank_language.specs.Program.{ProgramValue}
 use Rattle.rank_machine.specs.Machine.{MachineValue, machine_want}
 use Rattle.rank_node.specs.declared.frame.Frame.{Frame}

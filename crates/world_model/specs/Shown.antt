@@ -1,6 +1,6 @@
 -- What a world shows of a rank that is looked at: the rank itself, whatever it does.
 use Rattle.std.specs.Prelude.{◌≡◌, ℕ, ◌≤◌, Some, slice_get}
-use Rattle.metered.specs.Limits.{most_ranks}
+use Rattle.limits.specs.Limits.{most_ranks}
 use Rattle.rank_node.specs.Image.{image_on}
 use Rattle.world_model.specs.Seat.{Phase, IsStanding, bytes_of, live_of}
 use Rattle.world_model.specs.World.{WorldValue, size}

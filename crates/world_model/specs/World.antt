@@ -5,8 +5,8 @@ use Rattle.std.specs.Prelude.{◌≡◌, ℕ, List, length, Option, Some, None, 
 use Rattle.checkpoint.specs.Image.{ImageValue}
 use Rattle.checkpoint.specs.declared.memory_shelf.MemoryShelf.{MemoryShelf}
 use Rattle.matching.specs.Inbox.{accepted_from}
-use Rattle.plain_logger.specs.Event.{EventValue}
-use Rattle.plain_logger.specs.History.{StateValue}
+use Rattle.sequential_logger.specs.Event.{EventValue}
+use Rattle.sequential_logger.specs.History.{StateValue}
 use Rattle.rank_language.specs.Program.{ProgramValue}
 use Rattle.rank_machine.specs.States as states
 use Rattle.rank_node.specs.declared.waiting.Waiting.{Waiting}

@@ -1,7 +1,7 @@
 //! What a world that was played to the end comes to.
 
 use crate::event::WorldEvent;
-use metered::Heap;
+use limits::Heap;
 use rank_node::NodeFault;
 
 /// Why no more events were played.

@@ -9,8 +9,8 @@ mod clocks;
 mod made;
 
 use crash_free::{Act, Passed};
+use limits::Heap;
 use made::Made;
-use metered::Heap;
 use std::alloc::AllocError;
 use std::marker::Model;
 

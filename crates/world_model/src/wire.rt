@@ -2,7 +2,7 @@
 //! may arrive in any order, often or never.
 ghost use Rattle.std.specs.Prelude.{◌≡◌, [], ◌∷◌, ◌++◌, None, Some, length, slice_get, MatchOption, OnOk, OnErr};
 
-use metered::Heap;
+use limits::Heap;
 use rank_node::Frame;
 use std::alloc::AllocError;
 use std::marker::Model;

@@ -3,7 +3,7 @@ ghost use Rattle.std.specs.Prelude.{◌≡◌, ◌<◌, [], ◌∷◌, ◌++◌,
 ghost use Rattle.world_model.specs.Wires.{HasWire, wire_of, with_frame};
 
 use crate::wire::Wire;
-use metered::Heap;
+use limits::Heap;
 use rank_node::Frame;
 use std::alloc::AllocError;
 use std::marker::Model;

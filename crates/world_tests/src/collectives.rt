@@ -1,7 +1,7 @@
 //! Collectives in worlds: each rank crashes at each of its steps, with and without an image before, and the lines are the same.
 use crate::same::same;
 use crate::scenes::{Row, compare_world};
-use metered::Heap;
+use limits::Heap;
 use rank_language::Program;
 use std::alloc::AllocError;
 use std::process::Abort;

@@ -1,14 +1,13 @@
 //! Ways on from worlds whose ranks are down.
 ghost use Rattle.std.specs.Prelude.{◌≤◌};
-ghost use Rattle.metered.specs.Limits.{most_ranks};
+ghost use Rattle.limits.specs.Limits.{most_ranks};
 
 use crate::same::same;
 use crate::scenes::ONE_MESSAGE;
 use crate::views::play as play_text;
 use crate::ways::{SQUARES, leads_on};
 use events_text::world_text;
-use metered::Heap;
-use metered::limits::MOST_RANKS;
+use limits::{Heap, MOST_RANKS};
 use rank_language::Program;
 use std::alloc::AllocError;
 use std::process::Abort;

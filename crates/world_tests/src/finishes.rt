@@ -1,14 +1,13 @@
 //! Worlds that are played to their ends, whatever happened to them before.
 ghost use Rattle.std.specs.Prelude.{◌<◌, ◌≤◌};
-ghost use Rattle.metered.specs.Limits.{most_ranks};
+ghost use Rattle.limits.specs.Limits.{most_ranks};
 ghost use Rattle.world_model.specs.World.{size};
 
 use crate::scenes::{CHAIN, ONE_MESSAGE, PROBES, RING, THREE_MESSAGES};
 use crate::ways::{SQUARES, THREE_PROBES, TWO_TAGS, drawn_events};
 use audit::End;
 use explore::{Explored, Limits, RankEnd, Unwatched, explore};
-use metered::Heap;
-use metered::limits::MOST_RANKS;
+use limits::{Heap, MOST_RANKS};
 use rank_language::Program;
 use rank_machine::Want;
 use rank_node::Phase;

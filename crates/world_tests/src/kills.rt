@@ -1,14 +1,13 @@
 //! Worlds whose ranks crash at each of their acts, once and twice, above an image and without one, and
 //! are then played to their ends: those of `run_tests`, file `everywhere`.
 ghost use Rattle.std.specs.Prelude.{◌≤◌};
-ghost use Rattle.metered.specs.Limits.{most_ranks};
+ghost use Rattle.limits.specs.Limits.{most_ranks};
 
 use crate::finishes::{LIMITS, ends_after};
 use crate::same::same;
 use crate::ways::SQUARES;
 use explore::{Explored, Unwatched, explore};
-use metered::Heap;
-use metered::limits::MOST_RANKS;
+use limits::{Heap, MOST_RANKS};
 use rank_language::Program;
 use std::alloc::AllocError;
 use std::process::Abort;

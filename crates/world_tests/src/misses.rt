@@ -2,7 +2,7 @@
 use crate::same::same;
 use crate::scenes::{Row, compare_world};
 use crate::views::{play, shown, view_of};
-use metered::Heap;
+use limits::Heap;
 use rank_language::Program;
 use std::process::Abort;
 use std::test::*;

@@ -1,11 +1,11 @@
 //! Programs, and what plays them.
 ghost use Rattle.std.specs.Prelude.{◌≤◌};
-ghost use Rattle.metered.specs.Limits.{most_ranks};
+ghost use Rattle.limits.specs.Limits.{most_ranks};
 
 use crate::same::same;
 use crash_free::{Choice, NotAllowed, Sim};
 use events_text::{parse_events, run_text};
-use metered::Heap;
+use limits::Heap;
 use rank_language::Program;
 use std::alloc::AllocError;
 use std::process::Abort;

@@ -1,6 +1,6 @@
 //! Crash-free runs, act by act: which choices programs allow.
 ghost use Rattle.std.specs.Prelude.{◌≤◌};
-ghost use Rattle.metered.specs.Limits.{most_ranks};
+ghost use Rattle.limits.specs.Limits.{most_ranks};
 
 use crate::same::same;
 use crate::scenes::Pick::{Miss, Next, Take};
@@ -9,7 +9,7 @@ use crate::scenes::{
     play, take,
 };
 use crash_free::{Choice, NotAllowed, Sim};
-use metered::Heap;
+use limits::Heap;
 use rank_language::Program;
 use std::alloc::AllocError;
 use std::process::Abort;

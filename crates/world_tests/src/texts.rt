@@ -1,7 +1,7 @@
 //! Texts of events, and of replies.
 use crate::same::same;
 use events_text::{EventsFault, EventsFaultKind, parse_events, world_text};
-use metered::Heap;
+use limits::Heap;
 use std::alloc::AllocError;
 use std::process::Abort;
 use std::test::*;

@@ -2,7 +2,7 @@
 use crate::same::same;
 use crate::scenes::ONE_MESSAGE;
 use events_text::parse_events;
-use metered::Heap;
+use limits::Heap;
 use rank_language::Program;
 use std::process::Abort;
 use std::test::*;

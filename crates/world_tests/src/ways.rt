@@ -1,6 +1,6 @@
 //! Ways on: whatever happened to a world, events without a crash bring each rank back to where it was.
 use crate::same::same;
-use metered::Heap;
+use limits::Heap;
 use rank_language::Program;
 use std::alloc::AllocError;
 use std::test::*;

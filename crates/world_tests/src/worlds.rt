@@ -1,7 +1,7 @@
 //! Whole texts of worlds: each event with its reply, and then the lines.
 use crate::same::same;
 use crate::scenes::{CHAIN, LONG_MESSAGE, MANY_MESSAGES, RING, Row, compare_world};
-use metered::Heap;
+use limits::Heap;
 use rank_language::Program;
 use std::alloc::AllocError;
 use std::process::Abort;

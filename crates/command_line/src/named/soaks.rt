@@ -5,7 +5,7 @@ ghost use Rattle.command_line.specs.Words.{texts};
 
 use crate::soaking::SoakJob;
 use crate::words::{count_if, limit_or, number_or, one_file, ranks_of, small_or};
-use metered::limits::MOST_SCRIPT_LINES;
+use limits::MOST_SCRIPT_LINES;
 
 /// The runs that the arguments ask for.
 pub fn soak_of<'a>(command: &str, arguments: &'a [String]) -> Option<SoakJob<'a>>

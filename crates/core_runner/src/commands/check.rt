@@ -8,7 +8,7 @@ use crate::commands::refusal::Refusal;
 use crate::commands::said::Said;
 use crate::files::Files;
 use command_line::CheckJob;
-use metered::Heap;
+use limits::Heap;
 use std::alloc::AllocError;
 
 /// The canonical text of the job's program, or why there is none.

@@ -6,7 +6,7 @@ ghost use Rattle.world_model.specs.declared.finish.FinishEnd.TheVariants.{Ended}
 
 use crate::commands::refusal::Refusal;
 use events_text::events_text;
-use metered::Heap;
+use limits::Heap;
 use world_model::{FinishEnd, World, WorldEvent};
 
 /// Makes the events, one after another, and answers events that lead from there

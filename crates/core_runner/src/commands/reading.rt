@@ -5,7 +5,7 @@ ghost use Rattle.core_runner.specs.Reading.{AreEventsIn, IsProgramIn, IsScriptBy
 use crate::commands::refusal::Refusal;
 use crate::files::Files;
 use events_text::parse_events;
-use metered::Heap;
+use limits::Heap;
 use rank_language::Program;
 use script_text::Script;
 use world_model::WorldEvent;

@@ -5,7 +5,7 @@ use crate::commands::said::Said;
 use crate::files::FileFault;
 use audit::AuditFault;
 use events_text::{EventsFault, EventsFaultKind};
-use metered::Heap;
+use limits::Heap;
 use rank_language::{ParseFault, ProgramFault};
 use rank_node::NodeFault;
 use rank_threads::RunFault;

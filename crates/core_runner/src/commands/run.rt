@@ -1,6 +1,6 @@
 //! A job's run, and its report.
 ghost use Rattle.std.specs.Prelude.{◌≡◌, ◌≤◌, ◌⊎◌, IfOk};
-ghost use Rattle.metered.specs.Limits.{most_ranks};
+ghost use Rattle.limits.specs.Limits.{most_ranks};
 ghost use Rattle.core_runner.specs.Answers.{IsReportText, IsRunAnswer};
 ghost use Rattle.core_runner.specs.Refusals.{IsRefusal};
 ghost use Rattle.core_runner.specs.Reports.{IsReportOf, IsReportUnder};
@@ -12,7 +12,7 @@ use crate::costs::print_costs;
 use crate::files::Files;
 use crate::output::{all_halted, print_report};
 use command_line::{CostForm, RunJob};
-use metered::Heap;
+use limits::Heap;
 use rank_language::Program;
 use rank_threads::{Hold, Report, RunFault, RunLimits, run};
 use script_text::Script;

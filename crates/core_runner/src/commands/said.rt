@@ -1,7 +1,7 @@
 //! What the program says.
 ghost use Rattle.std.specs.Prelude.{◌≡◌, ◌≤◌, [], string_bytes};
 
-use metered::Heap;
+use limits::Heap;
 
 /// The exit status and both texts, made whole before anything is written.
 #[derive(Drop)]

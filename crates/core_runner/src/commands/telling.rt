@@ -6,7 +6,7 @@ ghost use Rattle.core_runner.specs.Statuses.{status_left_out, status_without_job
 
 use crate::commands::said::Said;
 use command_line::NoJob;
-use metered::Heap;
+use limits::Heap;
 use std::alloc::AllocError;
 use std::io::Write;
 

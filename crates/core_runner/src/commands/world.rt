@@ -1,7 +1,7 @@
 //! A world under the events of a file, and from there a recovery schedule, or
 //! events up to the end.
 ghost use Rattle.std.specs.Prelude.{◌≤◌, ◌⊎◌, IfOk, List, string_bytes};
-ghost use Rattle.metered.specs.Limits.{most_ranks};
+ghost use Rattle.limits.specs.Limits.{most_ranks};
 ghost use Rattle.core_runner.specs.Reading.{AreEventsIn};
 ghost use Rattle.core_runner.specs.Refusals.{IsRefusal};
 ghost use Rattle.core_runner.specs.Worlds.{IsAnswer, IsTextOf, IsWorldAnswer, IsWorldText};
@@ -13,7 +13,7 @@ use crate::commands::said::Said;
 use crate::files::Files;
 use command_line::WorldJob;
 use events_text::{run_text, way_text};
-use metered::Heap;
+use limits::Heap;
 use rank_language::Program;
 use std::alloc::AllocError;
 use world_model::{World, WorldEvent};

@@ -3,8 +3,8 @@ ghost use Rattle.std.specs.Prelude.{◌≡◌, [], Some, IfOk, OnOk, OnErr, opti
 ghost use Rattle.crash_free.specs.Index.{kind_of, queue_number, queue_of, IsListed, IsListedTwice, IsIndex, HasQueues, ListsMore};
 
 use crate::mail::queue::Queue;
+use limits::Heap;
 use matching::{Context, Packet};
-use metered::Heap;
 use std::alloc::AllocError;
 use std::collections::BTreeMap;
 use std::marker::Model;

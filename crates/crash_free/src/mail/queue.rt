@@ -3,8 +3,8 @@ ghost use Rattle.std.specs.Prelude.{◌≡◌, [], ◌∷◌, ◌++◌, true, No
 ghost use Rattle.crash_free.specs.Slots.{passes};
 ghost use Rattle.crash_free.specs.Index.{passes_at, LosesEmpty, IsFrontEmpty};
 
+use limits::Heap;
 use matching::{Packet, Selector};
-use metered::Heap;
 use std::alloc::AllocError;
 use std::collections::VecDeque;
 use std::marker::Model;

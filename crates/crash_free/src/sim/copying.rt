@@ -2,7 +2,7 @@
 ghost use Rattle.std.specs.Prelude.{◌≡◌, IfOk};
 
 use crate::sim::Sim;
-use metered::Heap;
+use limits::Heap;
 use rank_machine::Machine;
 use std::alloc::AllocError;
 

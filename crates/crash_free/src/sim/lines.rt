@@ -5,7 +5,7 @@ ghost use Rattle.crash_free.specs.Seen.{line_of};
 
 use crate::act::Passed;
 use crate::sim::Sim;
-use metered::Heap;
+use limits::Heap;
 use std::alloc::AllocError;
 
 impl Sim<'_> {

@@ -2,7 +2,7 @@
 ghost use Rattle.std.specs.Prelude.{◌≡◌, IfOk, length};
 ghost use Rattle.crash_free.specs.Sim.{AreBegun};
 
-use metered::Heap;
+use limits::Heap;
 use rank_language::Program;
 use rank_machine::Machine;
 use std::alloc::AllocError;

@@ -1,12 +1,11 @@
 //! Damaged images: beginnings of other formats, each shorter beginning, and each byte another.
 ghost use Rattle.std.specs.Prelude.{◌<◌, ◌≤◌};
-ghost use Rattle.metered.specs.Limits.{most_ranks};
+ghost use Rattle.limits.specs.Limits.{most_ranks};
 
 use super::{IMAGES, Imaged, PRINTING, in_format_1, is_written, rewritten};
 use crate::same::same;
 use checkpoint::ImageFault;
-use metered::Heap;
-use metered::limits::MOST_RANKS;
+use limits::{Heap, MOST_RANKS};
 use rank_language::Program;
 use std::alloc::AllocError;
 use std::process::Abort;

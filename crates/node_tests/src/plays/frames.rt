@@ -4,7 +4,7 @@ ghost use Rattle.std.specs.Prelude.{◌≡◌, ◌<◌};
 use super::{ACCEPTED, Answer};
 use crate::outgoing::{next_packet, notes, passes};
 use crate::scenes::{Rank, packet};
-use metered::Heap;
+use limits::Heap;
 use rank_node::{Arrived, AskFrom, Frame, KeptUpto};
 use std::process::Abort;
 use std::test::*;

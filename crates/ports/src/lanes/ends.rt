@@ -3,7 +3,7 @@ ghost use Rattle.std.specs.Prelude.{◌≡◌, ◌≤◌, [], IfOk};
 ghost use Rattle.ports.specs.Lanes.{IsLane, IsCarried, lane_to, put_of, room_of, taken_of, counted};
 
 use super::{Carried, Rx, Tx};
-use metered::Heap;
+use limits::Heap;
 use rtrb::RingBuffer;
 use std::alloc::AllocError;
 

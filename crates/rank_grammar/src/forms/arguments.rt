@@ -8,7 +8,7 @@ use crate::form::{Pattern, Payload};
 use crate::name::Name;
 use crate::reader::{expression_at, whole_expression};
 use crate::token::Token;
-use metered::Heap;
+use limits::Heap;
 use std::alloc::AllocError;
 
 pub(super) fn after_comma(tokens: &[Token]) -> Option<&[Token]>

@@ -10,7 +10,7 @@ use super::arguments::{after_comma, only_name};
 use crate::form::Form;
 use crate::reader::expression_at;
 use crate::token::{Reduction, Token};
-use metered::Heap;
+use limits::Heap;
 use std::alloc::AllocError;
 
 pub(super) fn read_barrier(tokens: &[Token]) -> Option<Form>

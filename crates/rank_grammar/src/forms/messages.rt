@@ -11,7 +11,7 @@ use super::arguments::{
 use crate::form::Form;
 use crate::reader::expression_at;
 use crate::token::Token;
-use metered::Heap;
+use limits::Heap;
 use std::alloc::AllocError;
 
 #[tactic(auto, unfolding(crate::specs::Forms::send_of))]

@@ -12,7 +12,7 @@ use super::operands::joined;
 use super::{Bracket, Left, Level, Step, arrived};
 use crate::token::Token;
 use crate::written::Written;
-use metered::Heap;
+use limits::Heap;
 use std::alloc::AllocError;
 
 /// The expression of all that stands in the brackets.

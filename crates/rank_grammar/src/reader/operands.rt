@@ -7,7 +7,7 @@ ghost use Rattle.rank_grammar.specs.Seen.{left_of, level_of};
 
 use super::{Left, Level};
 use crate::written::Written;
-use metered::Heap;
+use limits::Heap;
 use std::alloc::AllocError;
 
 pub(super) fn joined(alloc: Heap, left: Left, right: Written) -> Result<Written, AllocError>

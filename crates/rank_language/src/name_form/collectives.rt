@@ -12,7 +12,7 @@ use super::{name, name_buffer};
 use crate::expression::Expression;
 use crate::resolve::Tables;
 use crate::statement::Collective;
-use metered::Heap;
+use limits::Heap;
 use rank_grammar::{Form, Reduction};
 use std::alloc::AllocError;
 

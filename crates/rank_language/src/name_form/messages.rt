@@ -13,7 +13,7 @@ use super::{name, name_buffer, name_pattern, name_payload};
 use crate::expression::Expression;
 use crate::resolve::Tables;
 use crate::statement::{Buffer, Pattern, Payload};
-use metered::Heap;
+use limits::Heap;
 use rank_grammar::Form;
 use std::alloc::AllocError;
 

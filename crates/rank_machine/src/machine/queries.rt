@@ -45,7 +45,7 @@ impl<'p> Machine<'p> {
         self.fault
     }
 
-    /// How many collectives it has finished, up to `GREATEST_CLOCK` of `metered::limits`.
+    /// How many collectives it has finished, up to `GREATEST_CLOCK` of `limits`.
     pub fn finished(&self) -> u32
         ensures { result ≡ self.now.store.finished }
     {

@@ -1,6 +1,6 @@
 //! What a message is given of a store, and what it leaves there.
 ghost use Rattle.std.specs.Prelude.{◌≡◌, ◌<◌, ◌≤◌, ◌-◌, IfOk, Ok, Some, length, map};
-ghost use Rattle.metered.specs.Limits.{most_items};
+ghost use Rattle.limits.specs.Limits.{most_items};
 ghost use Rattle.matching.specs.PacketValue.{IsPacketValue};
 ghost use Rattle.rank_language.specs.Seen.{payload_of, buffer_of};
 ghost use Rattle.rank_language.specs.Program.{IsPayloadWithin, IsBufferWithin};
@@ -10,8 +10,8 @@ ghost use Rattle.rank_machine.specs.Acts.{room, written, with_variable, with_sta
 
 use crate::status::Status;
 use crate::store::Store;
+use limits::Heap;
 use matching::{Packet, PacketItems};
-use metered::Heap;
 use rank_language::{Buffer, Payload};
 use std::alloc::AllocError;
 

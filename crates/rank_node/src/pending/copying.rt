@@ -2,7 +2,7 @@
 ghost use Rattle.std.specs.Prelude.{◌≡◌, IfOk};
 
 use crate::pending::Pending;
-use metered::Heap;
+use limits::Heap;
 use std::alloc::AllocError;
 use std::collections::VecDeque;
 

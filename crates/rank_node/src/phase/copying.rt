@@ -4,7 +4,7 @@ ghost use Rattle.rank_node.specs.Phases.{stable_in, phase_with};
 
 use crate::phase::Phase;
 use checkpoint::Shelf;
-use metered::Heap;
+use limits::Heap;
 
 impl<'p, S: Shelf, D> Phase<'p, S, D> {
     /// The shelf of the rank.

@@ -11,7 +11,7 @@ use crate::turn::EmptyLanes;
 use agreeing::agreed;
 pub use agreeing::{AllAtRest, Look};
 use crossbeam_utils::CachePadded;
-use metered::limits::MOST_RANKS;
+use limits::MOST_RANKS;
 use std::sync::atomic::{AtomicU64, Ordering};
 
 /// The mark of one rank.

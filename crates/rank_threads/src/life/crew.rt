@@ -7,7 +7,7 @@ use super::keeper::{keep, refuse_parcel};
 use super::parcel::{AfterLives, Parcel};
 use crate::hold::Hold;
 use crate::shared::Shared;
-use metered::Heap;
+use limits::Heap;
 use rank_node::NodeFault;
 use std::snapshot::Snapshot;
 use std::sync::Wait;

@@ -4,7 +4,7 @@ ghost use Rattle.rank_threads.specs.Dropping.{DroppedBelow, DroppedFrom, OnlyDro
 
 use super::station::Station;
 use crate::lanes_of::{LanesSeen, take_from};
-use metered::limits::MOST_FRAMES;
+use limits::MOST_FRAMES;
 
 /// At a crash the frames in the lanes into the rank are dropped, at most as
 /// many as they hold. They count as taken. Each lane is looked at.

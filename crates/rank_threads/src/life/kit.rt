@@ -2,7 +2,7 @@
 use crate::meter::Meter;
 use crate::plan::Plan;
 use crate::tally::Tally;
-use metered::Heap;
+use limits::Heap;
 use ports::{Rx, Tx};
 
 /// What a rank takes along from life to life, whether it lives or is down: its

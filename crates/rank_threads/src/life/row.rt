@@ -1,9 +1,9 @@
 //! What a rank fetched from its logger.
 ghost use Rattle.std.specs.Prelude.{◌≡◌, ◌≤◌, length};
-ghost use Rattle.metered.specs.Limits.{most_events};
+ghost use Rattle.limits.specs.Limits.{most_events};
 
-use metered::Heap;
-use plain_logger::Event;
+use limits::Heap;
+use sequential_logger::Event;
 
 /// The whole row of a rank.
 #[derive(Debug, Drop)]

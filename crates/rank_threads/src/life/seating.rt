@@ -1,6 +1,6 @@
 //! From lanes and desks to stations, and back.
 ghost use Rattle.std.specs.Prelude.{◌≡◌, ◌≤◌, [], vec_len, vec_capacity};
-ghost use Rattle.metered.specs.Limits.{most_ranks};
+ghost use Rattle.limits.specs.Limits.{most_ranks};
 ghost use Rattle.ports.specs.AllLanes.{to_names, from_names};
 ghost use Rattle.rank_threads.specs.Plans.{plans_below};
 ghost use Rattle.rank_threads.specs.Seating.{AreDesksFrom, ArePartsOf, AreNew, IsRoom};
@@ -14,7 +14,7 @@ use crate::costs::Costs;
 use crate::plan::Plan;
 use audit::End;
 use event_logger::{Desk, Logger};
-use metered::Heap;
+use limits::Heap;
 use ports::{Ends, Rx, Tx};
 use rank_node::NodeFault;
 use script_text::Script;

@@ -10,10 +10,10 @@ use super::Node;
 use super::releasing::release_all;
 use checkpoint::MemoryShelf;
 use event_logger::Desk;
-use metered::Heap;
-use plain_logger::Event;
+use limits::Heap;
 use ports::Console;
 use rank_node::{NodeFault, Phase};
+use sequential_logger::Event;
 use std::alloc::AllocError;
 use std::sync::Wait;
 

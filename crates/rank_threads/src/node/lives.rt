@@ -9,7 +9,7 @@ use super::Node;
 use crate::life::Row;
 use checkpoint::MemoryShelf;
 use event_logger::{Desk, Logger};
-use metered::Heap;
+use limits::Heap;
 use rank_language::Program;
 use rank_node::{Down, NodeFault, Phase, Running};
 

@@ -5,8 +5,8 @@ ghost use Rattle.rank_threads.specs.Costs.{bytes_from, image_size_in, log_in, lo
 use super::Node;
 use crate::costs::LogSize;
 use checkpoint::Shelf;
+use limits::Heap;
 use matching::Packet;
-use metered::Heap;
 use payload_log::Backlog;
 use rank_node::Phase;
 use std::alloc::AllocError;

@@ -1,14 +1,13 @@
 //! Why a rank is unfinished: a limit stopped it, or it still replayed when it left,
 //! as it had found all ranks at rest.
 ghost use Rattle.std.specs.Prelude.{◌≡◌, ◌≤◌, IfOk, length};
-ghost use Rattle.metered.specs.Limits.{most_ranks};
+ghost use Rattle.limits.specs.Limits.{most_ranks};
 ghost use Rattle.rank_threads.specs.Causes.{cause_met, cause_of, causes_from, events_at, lacks, limit_met, uncaused_from};
 
 use crate::life::Account;
 use audit::End;
 use event_logger::Ledger;
-use metered::Heap;
-use metered::limits::{GREATEST_CLOCK, MOST_EVENTS};
+use limits::{GREATEST_CLOCK, Heap, MOST_EVENTS};
 use std::alloc::AllocError;
 
 /// Why a rank is unfinished.

@@ -1,7 +1,7 @@
 //! What is left of a run as its report, if it can be validated, or why it has
 //! none.
 ghost use Rattle.std.specs.Prelude.{◌≡◌, ◌≤◌, None, IfOk, length, map, vec_len};
-ghost use Rattle.metered.specs.Limits.{most_ranks};
+ghost use Rattle.limits.specs.Limits.{most_ranks};
 ghost use Rattle.audit.specs.Reachable.{IsReachable};
 ghost use Rattle.event_logger.specs.Desks.{AreDesks};
 ghost use Rattle.rank_threads.specs.Causes.{AreCaused, uncaused_from};
@@ -17,7 +17,7 @@ use crate::running::RunLimits;
 use audit::{End, Outcome};
 use event_logger::{Counts, Desk, Ledger, Logger};
 use final_runs::confirm;
-use metered::Heap;
+use limits::Heap;
 use ports::Line;
 use rank_language::Program;
 use rank_node::NodeFault;

@@ -7,7 +7,7 @@ use crate::lanes_of::put_to;
 use crate::life::Life;
 use crate::node::PutResult;
 use crate::shared::Shared;
-use metered::limits::MOST_FRAMES;
+use limits::MOST_FRAMES;
 use std::alloc::AllocError;
 
 /// Puts what is outgoing, by rising destination, until each lane is full or

@@ -11,7 +11,7 @@ use crate::costs::{FrameKind, kind_of};
 use crate::lanes_of::{LanesSeen, take_from};
 use crate::life::Life;
 use crate::shared::{NoRing, Shared};
-use metered::limits::MOST_FRAMES;
+use limits::MOST_FRAMES;
 use std::alloc::AllocError;
 
 /// Takes what the lanes bring, by rising source, from each at most as many

@@ -1,7 +1,7 @@
 //! The messages.
 
 use crate::layout::{ARC, Arrow, Scene, Way};
-use metered::Heap;
+use limits::Heap;
 use std::alloc::AllocError;
 use std::fmt::Write;
 

@@ -6,7 +6,7 @@ ghost use Rattle.std.specs.Str.{chars};
 ghost use Rattle.std.specs.String.{string_bytes};
 ghost use Rattle.run_picture.specs.Escaped.{escaped, is_none_of_xml};
 
-use metered::Heap;
+use limits::Heap;
 use std::alloc::AllocError;
 
 /// Writes a text so that it is read back within XML, each letter that XML doesn't have as `?`.

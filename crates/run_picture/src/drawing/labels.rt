@@ -2,7 +2,7 @@
 
 use crate::drawing::escaped::put_escaped;
 use crate::layout::{Label, LabelKind, Scene};
-use metered::Heap;
+use limits::Heap;
 use std::alloc::AllocError;
 use std::fmt::Write;
 

@@ -4,7 +4,7 @@ use crate::drawing::arrows::put_arrow;
 use crate::drawing::marks::put_shape;
 use crate::drawing::replays::put_cross;
 use crate::layout::{Arrow, MarkKind, Place, Scene, Way};
-use metered::Heap;
+use limits::Heap;
 use std::alloc::AllocError;
 use std::fmt::Write;
 

@@ -1,7 +1,7 @@
 //! Crashes.
 
 use crate::layout::{Place, Replay, Scene};
-use metered::Heap;
+use limits::Heap;
 use std::alloc::AllocError;
 use std::fmt::Write;
 

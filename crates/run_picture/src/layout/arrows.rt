@@ -6,8 +6,8 @@ use crate::layout::scene::{Arrow, Label, LabelKind, Place, Scene, Seen, Way};
 use crate::layout::times::Moment;
 use crate::layout::values::message_text;
 use crash_free::{Act, Passed};
+use limits::Heap;
 use matching::Context;
-use metered::Heap;
 use std::alloc::AllocError;
 
 /// The parts of an arrow's way, in eighths, at which its text is tried.

@@ -6,7 +6,7 @@ use crate::layout::scene::{Band, Label, LabelKind, Place, Scene, Seen};
 use crate::layout::times::Moment;
 use crate::layout::values::{Collective, collective_of};
 use crash_free::Passed;
-use metered::Heap;
+use limits::Heap;
 use std::alloc::AllocError;
 
 /// What a rank does of a collective, from its first act to its last.

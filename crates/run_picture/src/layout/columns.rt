@@ -13,7 +13,7 @@ use crate::layout::widths::widths_of;
 use crate::request::Span;
 use crash_free::Passed;
 use laid::{Cut, laid_out};
-use metered::Heap;
+use limits::Heap;
 use std::alloc::AllocError;
 
 /// What stands for the times that are left out.

@@ -10,7 +10,7 @@ use crate::layout::scene::{Label, LabelKind, Mark, Place, Row, Scene, Seen, Tick
 use crate::layout::times::Moment;
 use crate::layout::values::message_text;
 use crash_free::{Act, Passed};
-use metered::Heap;
+use limits::Heap;
 use std::alloc::AllocError;
 use std::fmt::Write;
 

@@ -3,13 +3,12 @@
 mod indices;
 
 ghost use Rattle.std.specs.Prelude.{◌≡◌, ◌*◌, [], IfOk, OnOk, length, replicate};
-ghost use Rattle.metered.specs.Limits.{most_ranks};
+ghost use Rattle.limits.specs.Limits.{most_ranks};
 ghost use Rattle.run_picture.specs.Posts.{found_at, found_by, noted, noted_by, pair};
 
 use crash_free::{Act, Passed};
 use indices::Indices;
-use metered::Heap;
-use metered::limits::MOST_RANKS;
+use limits::{Heap, MOST_RANKS};
 use std::alloc::AllocError;
 use std::marker::Model;
 
@@ -21,7 +20,7 @@ pub struct Posted {
 
 impl Model for Posted {
     ghost use Rattle.std.specs.Prelude.{◌≡◌, ◌*◌, ℕ, List, length};
-    ghost use Rattle.metered.specs.Limits.{most_ranks};
+    ghost use Rattle.limits.specs.Limits.{most_ranks};
 
     ghost Value = { List (List ℕ) };
 

@@ -5,7 +5,7 @@ use crate::layout::columns::Column;
 use crate::layout::room::{Area, Room};
 use crate::layout::scene::{Label, LabelKind, Place, Replay, Scene, Seen};
 use crate::layout::times::Moment;
-use metered::Heap;
+use limits::Heap;
 use std::alloc::AllocError;
 
 /// How far behind the last act a crash stands, and a part begins.

@@ -1,7 +1,7 @@
 //! What room is taken, so that no text stands on another.
 
 use crate::layout::measures::{LETTER, width_of};
-use metered::Heap;
+use limits::Heap;
 use std::alloc::AllocError;
 
 /// A rectangle, without its right and its lower edge.

@@ -1,7 +1,7 @@
 //! The lines of the ranks.
 
 ghost use Rattle.std.specs.Prelude.{◌≡◌, IfOk, length, min};
-ghost use Rattle.metered.specs.Limits.{most_ranks};
+ghost use Rattle.limits.specs.Limits.{most_ranks};
 ghost use Rattle.run_picture.specs.Rows.{AreRows};
 
 use crate::layout::columns::Columns;
@@ -11,8 +11,7 @@ use crate::layout::scene::{Row, Seen};
 use crate::layout::tails::tail_of;
 use crate::layout::times::Times;
 use audit::End;
-use metered::Heap;
-use metered::limits::MOST_RANKS;
+use limits::{Heap, MOST_RANKS};
 use std::alloc::AllocError;
 
 /// A line for each rank that ended so, one below the other; at most `MOST_RANKS`.

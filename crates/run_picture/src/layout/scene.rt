@@ -1,7 +1,7 @@
 //! All that is drawn, each with where it stands.
 
 ghost use Rattle.std.specs.Prelude.{IfOk, length, min};
-ghost use Rattle.metered.specs.Limits.{most_ranks};
+ghost use Rattle.limits.specs.Limits.{most_ranks};
 ghost use Rattle.run_picture.specs.Shown.{ShowsRun};
 
 use crate::layout::arrows::set_arrows;
@@ -14,8 +14,7 @@ use crate::layout::room::Room;
 use crate::layout::rows::{rows_of, take_rows};
 use crate::layout::times::Times;
 use crate::request::Request;
-use metered::Heap;
-use metered::limits::MOST_RANKS;
+use limits::{Heap, MOST_RANKS};
 use std::alloc::AllocError;
 
 /// A point.

@@ -5,7 +5,7 @@ use crate::layout::measures::OVERHANG;
 use crate::layout::scene::{Tail, TailKind};
 use crate::layout::times::Times;
 use audit::End;
-use metered::Heap;
+use limits::Heap;
 use std::alloc::AllocError;
 use std::fmt::Write;
 

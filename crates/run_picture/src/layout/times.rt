@@ -10,7 +10,7 @@ ghost use Rattle.run_picture.specs.Times.{AreClocks, AreTimed, last_of, time_at}
 use crate::layout::posted::Posted;
 use crate::layout::scene::MarkKind;
 use crash_free::{Act, Passed};
-use metered::Heap;
+use limits::Heap;
 use std::alloc::AllocError;
 
 /// When and where an act is made.

@@ -1,8 +1,8 @@
 //! What is said of messages, in few letters.
 
 use crash_free::{Act, Passed};
+use limits::Heap;
 use matching::Context;
-use metered::Heap;
 use std::alloc::AllocError;
 use std::fmt::Write;
 

@@ -3,7 +3,7 @@
 use crate::layout::measures::{BOLD_LETTER, NARROW};
 use crate::layout::times::Times;
 use crash_free::{Act, Passed};
-use metered::Heap;
+use limits::Heap;
 use std::alloc::AllocError;
 use std::fmt::Write;
 

@@ -2,7 +2,7 @@
 ghost use Rattle.std.specs.Prelude.{◌≡◌, [], ◌∷◌, ◌++◌, OnOk};
 ghost use Rattle.crash_free.specs.Runs.{at_place};
 
-use metered::Heap;
+use limits::Heap;
 use std::alloc::AllocError;
 use std::marker::Model;
 

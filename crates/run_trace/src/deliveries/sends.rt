@@ -1,12 +1,11 @@
 //! The sends of all pairs of ranks.
 ghost use Rattle.std.specs.Prelude.{◌≡◌, ◌*◌, ◌<◌, [], IfOk, OnOk, length, replicate};
-ghost use Rattle.metered.specs.Limits.{most_ranks};
+ghost use Rattle.limits.specs.Limits.{most_ranks};
 ghost use Rattle.run_trace.specs.Pairs.{found_at, found_by, noted, noted_by, pair};
 
 use super::indices::Indices;
 use crash_free::{Act, Passed};
-use metered::Heap;
-use metered::limits::MOST_RANKS;
+use limits::{Heap, MOST_RANKS};
 use std::alloc::AllocError;
 use std::marker::Model;
 

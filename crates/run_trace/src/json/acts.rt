@@ -6,8 +6,8 @@ use crate::given::Told;
 use crate::message::{Message, call_items, call_name, call_number};
 use crate::place::Place;
 use crash_free::{Act, Passed};
+use limits::Heap;
 use matching::Context;
-use metered::Heap;
 use std::alloc::AllocError;
 
 /// Writes each act.

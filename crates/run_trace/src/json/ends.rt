@@ -6,7 +6,7 @@ use crate::circles::circle_from;
 use crate::ends::{line_of, other, statement_of, waits_for, why_unfinished};
 use crate::given::Told;
 use audit::End;
-use metered::Heap;
+use limits::Heap;
 use serde_json::Value;
 use std::alloc::AllocError;
 

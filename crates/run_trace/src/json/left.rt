@@ -7,7 +7,7 @@ use crate::fates::{Fate, Fated};
 use crate::given::Told;
 use crate::left::unreceived_by;
 use crate::orders::{put_reason, received_again, word_of};
-use metered::Heap;
+use limits::Heap;
 use script_text::Order;
 use std::alloc::AllocError;
 

@@ -6,7 +6,7 @@ ghost use Rattle.runner.specs.Translations.{IsCAnswer};
 use c_program::c_text;
 use command_line::CheckJob;
 use core_runner::{Files, Refusal, Said, text_in};
-use metered::Heap;
+use limits::Heap;
 use std::alloc::AllocError;
 
 /// The C text of the job's program, or why there is none.

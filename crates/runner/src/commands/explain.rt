@@ -6,7 +6,7 @@ use command_line::ExplainJob;
 use core_runner::{Files, Refusal, Said, text_in};
 use diagnostics::{explain_events, explain_program, explain_script, first_unmet};
 use events_text::{EventsFault, parse_events};
-use metered::Heap;
+use limits::Heap;
 use rank_language::{ParseFault, Program};
 use script_text::{Script, ScriptParseFault};
 use std::alloc::AllocError;

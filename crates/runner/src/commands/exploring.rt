@@ -13,10 +13,9 @@ use command_line::{ExploreForm, ExploreJob};
 use core_runner::{Files, Said, text_in};
 use crash_free::Sim;
 use explore::{Explored, Limits, Outcome, Watch, explore, marks_of, run_of};
-use metered::Heap;
-use rank_language::Program;
+use limits::Heap;
+use rank_language::{Program, statement_lines};
 use run_events::play_text;
-use statement_lines::statement_lines;
 use std::alloc::AllocError;
 
 /// What is found of the job's program, or the events of the outcome that the job

@@ -3,17 +3,17 @@ ghost use Rattle.std.specs.Prelude.{IfOk, string_bytes};
 ghost use Rattle.outcome_text.specs.Outcomes.{outcome_of};
 ghost use Rattle.runner.specs.Judgments.{IsJudgeAnswer, IsYesText, TellsVerdict, TellsVerdictOf};
 ghost use Rattle.runner.specs.Traces.{TracesReport};
-ghost use Rattle.statement_lines.specs.Standing.{IsLinedOf};
+ghost use Rattle.rank_language.specs.StandOn.{IsLinedOf};
 
 use crate::commands::tool_refusal::ToolRefusal;
 use audit::{Outcome, find_run};
 use command_line::JudgeJob;
 use core_runner::{Files, Said, text_in};
 use judge::{Asked, Verdict, judge, why_text};
-use metered::Heap;
+use limits::Heap;
 use outcome_text::OutcomeText;
 use run_trace::{Given, trace_text};
-use statement_lines::LinedProgram;
+use rank_language::LinedProgram;
 use std::alloc::AllocError;
 
 // The texts of the job's files.
@@ -34,7 +34,7 @@ pub fn judged<'a, F: Files>(
     ensures { IfOk result (λ said. IsJudgeAnswer (F.holds files.old) job.entry said.out.items said.status) }
 {
     let text = text_in(job.program, files)?;
-    let lined = statement_lines::parse(alloc, text.as_slice())?;
+    let lined = LinedProgram::parse(alloc, text.as_slice())?;
     let said = judged_by(alloc, job, &lined, text, files);
     drop(lined);
     said

@@ -1,7 +1,7 @@
 //! A job's run as a picture.
 use command_line::RunJob;
 use crash_free::Sim;
-use metered::Heap;
+use limits::Heap;
 use run_picture::{Crash, Request, Span, draw};
 use run_trace::{Given, last_due};
 use script_text::{Order, ScriptLine};

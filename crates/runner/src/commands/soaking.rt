@@ -10,7 +10,7 @@ use command_line::SoakJob;
 use core_runner::{Files, Refusal, Said, report_under, text_in};
 use crash_free::Sim;
 use explore::{Limits, Watch, explore};
-use metered::Heap;
+use limits::Heap;
 use rank_language::Program;
 use rank_threads::{RunFault, RunLimits};
 use script_text::Script;

@@ -2,7 +2,7 @@
 ghost use Rattle.std.specs.Prelude.{◌≡◌, [], IfOk};
 
 use core_runner::{Refusal, Said};
-use metered::Heap;
+use limits::Heap;
 use outcome_text::{OutcomeFault, OutcomeParseFault};
 use rank_language::ParseFault;
 use rank_threads::RunFault;

@@ -1,6 +1,6 @@
 //! A job's run, told act by act, drawn, or given as events.
 ghost use Rattle.std.specs.Prelude.{◌≡◌, ◌≢◌, ◌≤◌, ◌++◌, [], IfOk, reverse, string_bytes};
-ghost use Rattle.metered.specs.Limits.{most_ranks};
+ghost use Rattle.limits.specs.Limits.{most_ranks};
 ghost use Rattle.run_events.specs.Plays.{IsPlayText};
 ghost use Rattle.run_events.specs.Scripted.{IsScriptText};
 ghost use Rattle.run_trace.specs.Lines.{BeginsWithActs};
@@ -8,7 +8,7 @@ ghost use Rattle.core_runner.specs.Reading.{IsScriptBy, IsScriptIn};
 ghost use Rattle.core_runner.specs.Statuses.{HasStatus};
 ghost use Rattle.runner.specs.Events.{PlaysReport, PlaysScriptOf};
 ghost use Rattle.runner.specs.Traces.{IsTold, IsTraceAnswer, TracesReport};
-ghost use Rattle.statement_lines.specs.Standing.{IsLinedOf};
+ghost use Rattle.rank_language.specs.StandOn.{IsLinedOf};
 
 use crate::commands::picture::picture_text;
 use crate::commands::tool_refusal::ToolRefusal;
@@ -18,14 +18,13 @@ use core_runner::{
     Files, Refusal, Said, all_halted, calls_of, limits_of, print_cost, report_under, text_in,
 };
 use crash_free::Sim;
-use metered::Heap;
-use rank_language::Program;
+use limits::Heap;
+use rank_language::{LinedProgram, Program};
 use rank_threads::{Cause, Report, RunFault};
 use run_events::{PlayFault, play_script_text, play_text};
 use run_picture::Span;
 use run_trace::{Given, Why, trace_json, trace_text};
 use script_text::Script;
-use statement_lines::LinedProgram;
 use std::alloc::AllocError;
 use std::sync::Wait;
 use std::thread::Threads;
@@ -49,7 +48,7 @@ pub fn traced<'a, R: Threads + Wait + Sync + Copy + Send, F: Files>(
     ensures { IfOk result (λ said. IsTraceAnswer (F.holds files.old) job.entry said.out.items said.status) }
 {
     let text = text_in(job.run.program, files)?;
-    let lined = statement_lines::parse(alloc, text.as_slice())?;
+    let lined = LinedProgram::parse(alloc, text.as_slice())?;
     let asked = match asked_of(alloc, job.run, files) {
         Ok(asked) => asked,
         Err(refusal) => {

@@ -6,7 +6,7 @@ ghost use Rattle.runner.specs.Objects.{HasEvents, IsObjectsAnswer};
 use command_line::WorldJob;
 use core_runner::{Files, Refusal, Said, text_in};
 use events_text::parse_events;
-use metered::Heap;
+use limits::Heap;
 use rank_language::Program;
 use std::alloc::AllocError;
 use world_json::{Texts, world_json};

@@ -3,7 +3,7 @@
 use audit::End;
 use crash_free::Choice;
 use explore::{Explored, Noted, Outcome, Race, RankEnd};
-use metered::Heap;
+use limits::Heap;
 use serde_json::{Map, Value, put};
 use std::alloc::AllocError;
 

@@ -8,7 +8,7 @@ ghost use Rattle.runner.specs.Meanings.{states_text, steps_text, unhalted_text};
 
 use audit::End;
 use explore::{Explored, Outcome, RankEnd};
-use metered::Heap;
+use limits::Heap;
 use std::alloc::AllocError;
 use std::fmt::Write;
 

@@ -5,7 +5,7 @@ ghost use Rattle.runner.specs.Partings.{instead_words, other_words, parted_text,
 
 use crash_free::Choice;
 use explore::Noted;
-use metered::Heap;
+use limits::Heap;
 use std::alloc::AllocError;
 use std::fmt::Write;
 

@@ -5,7 +5,7 @@ ghost use Rattle.runner.specs.OutcomesText.{IsSummary};
 use crate::outcomes::meaning::print_meaning;
 use crate::outcomes::parting::print_place;
 use explore::{Explored, Limits, Race};
-use metered::Heap;
+use limits::Heap;
 use std::alloc::AllocError;
 use std::fmt::Write;
 

@@ -8,7 +8,7 @@ use crate::outcomes::print_outcome;
 use crate::soaked::Soaked;
 use audit::End;
 use explore::{Explored, Outcome};
-use metered::Heap;
+use limits::Heap;
 use soak::{Bar, Histogram};
 use std::alloc::AllocError;
 use std::fmt::Write;

@@ -5,7 +5,7 @@ use Rattle.std.specs.Prelude.{IsSomeAnd}
 use Rattle.std.proofs.lemmas.Bool.{cases_eq}
 use Rattle.std.proofs.lemmas.List.{length-set, length_push, take-append-drop}
 use Rattle.std.proofs.lemmas.Grind.{get_or_default_zero}
-use Rattle.metered.specs.Limits.{greatest_clock}
+use Rattle.limits.specs.Limits.{greatest_clock}
 use Rattle.rank_machine.specs.Acts.{Act}
 use Rattle.rank_machine.specs.Machine.{MachineValue, state_of}
 use Rattle.crash_free.specs.Runs.{Passed, history, sent, looked_up}

@@ -3,11 +3,11 @@
 use Rattle.std.proofs.Common.{◌≡◌, ℕ, [], ◌∷◌, ◌++◌, Option, Some, None, refl, sym, ap, subst, ◌∙◌, slice_set}
 use Rattle.checkpoint.specs.Shelf.{image_bytes}
 use Rattle.checkpoint.specs.declared.memory_shelf.MemoryShelf.{MemoryShelf}
-use Rattle.plain_logger.specs.Event.{EventValue}
-use Rattle.plain_logger.specs.Misses.{expand}
-use Rattle.plain_logger.specs.History.{row, append_reply, state_after, next_call}
-use Rattle.plain_logger.specs.declared.call.Call.TheVariants.{Append}
-use Rattle.plain_logger.specs.declared.call.Reply.TheVariants.{Length}
+use Rattle.sequential_logger.specs.Event.{EventValue}
+use Rattle.sequential_logger.specs.Misses.{expand}
+use Rattle.sequential_logger.specs.History.{row, append_reply, state_after, next_call}
+use Rattle.sequential_logger.specs.declared.call.Call.TheVariants.{Append}
+use Rattle.sequential_logger.specs.declared.call.Reply.TheVariants.{Length}
 use Rattle.rank_machine.specs.Acts.{Act}
 use Rattle.rank_node.specs.declared.waiting.Waiting.{Waiting}
 use Rattle.rank_node.specs.declared.waiting.Waiting.TheVariants as waits

@@ -2,9 +2,9 @@
 use Rattle.std.proofs.Common.{◌≡◌, ℕ, List, [], ◌∷◌, ◌++◌, Option, Some, length, refl, sym, ap}
 use Rattle.std.proofs.Common.{subst, ◌∙◌, arith, slice_get, slice_set}
 use Rattle.checkpoint.specs.Image.{ImageValue}
-use Rattle.plain_logger.specs.Event.{EventValue}
-use Rattle.plain_logger.specs.History.{above, row}
-use Rattle.plain_logger.specs.declared.call.Reply.TheVariants.{Events}
+use Rattle.sequential_logger.specs.Event.{EventValue}
+use Rattle.sequential_logger.specs.History.{above, row}
+use Rattle.sequential_logger.specs.declared.call.Reply.TheVariants.{Events}
 use Rattle.rank_machine.specs.Machine.{machine_want}
 use Rattle.rank_node.specs.Image.{begins_at}
 use Rattle.rank_node.specs.Frames.{outgoing_of}

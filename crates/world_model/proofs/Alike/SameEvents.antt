@@ -7,9 +7,9 @@ use Rattle.matching.specs.declared.packet.Context.{Context}
 use Rattle.matching.specs.PacketValue as packet
 use Rattle.matching.specs.Inbox.{after_arrival}
 use Rattle.matching.specs.Matching.{matches}
-use Rattle.plain_logger.specs.Event.{EventValue}
-use Rattle.plain_logger.specs.declared.kind.Kind.{Kind}
-use Rattle.plain_logger.specs.declared.kind.Kind.TheVariants as kind
+use Rattle.sequential_logger.specs.Event.{EventValue}
+use Rattle.sequential_logger.specs.declared.kind.Kind.{Kind}
+use Rattle.sequential_logger.specs.declared.kind.Kind.TheVariants as kind
 use Rattle.rank_machine.specs.declared.want.Want.{Want}
 use Rattle.rank_machine.specs.declared.want.Want.TheVariants as want
 use Rattle.rank_machine.specs.Wants.{payload}

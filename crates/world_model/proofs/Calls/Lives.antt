@@ -2,12 +2,12 @@
 use Rattle.std.proofs.Common.{◌≡◌, ℕ, ◌<◌, ◌≤◌, false, inr, List, [], Option, Some, None, length, refl, sym}
 use Rattle.std.proofs.Common.{ap, subst, ◌∙◌, arith, slice_get, slice_set, slice_index_or, IsSomeAnd}
 use Rattle.std.proofs.lemmas.Option.{slice_get_within, slice_get-get_or}
-use Rattle.metered.specs.Limits.{most_events}
+use Rattle.limits.specs.Limits.{most_events}
 use Rattle.checkpoint.specs.Image.{ImageValue}
-use Rattle.plain_logger.specs.Event.{EventValue}
-use Rattle.plain_logger.specs.History.{Answers, StateValue, above}
-use Rattle.plain_logger.specs.declared.call.Call.TheVariants.{Fetch}
-use Rattle.plain_logger.specs.declared.call.Reply.TheVariants.{Events}
+use Rattle.sequential_logger.specs.Event.{EventValue}
+use Rattle.sequential_logger.specs.History.{Answers, StateValue, above}
+use Rattle.sequential_logger.specs.declared.call.Call.TheVariants.{Fetch}
+use Rattle.sequential_logger.specs.declared.call.Reply.TheVariants.{Events}
 use Rattle.rank_node.specs.Image.{begins_at}
 use Rattle.rank_node.specs.Replay.{cuts, left_of}
 use Rattle.world_model.specs.World.{Live, WorldValue, size}

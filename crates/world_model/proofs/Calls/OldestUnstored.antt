@@ -6,14 +6,14 @@ use Rattle.std.proofs.Common.{slice_get, slice_index_or, replicate}
 use Rattle.std.proofs.lemmas.Bool.{cases_lt, lt-leb}
 use Rattle.std.proofs.lemmas.List.{append-nil, length_push}
 use Rattle.std.proofs.lemmas.Option.{slice_get_within, slice_get-get_or}
-use Rattle.metered.specs.Limits.{most_events}
-use Rattle.plain_logger.specs.Event.{EventValue, event_of, first_clock, first_of, count_of, finds_none}
-use Rattle.plain_logger.specs.Misses.{misses_after, parts_of, IsCounted, IsCountedAt}
-use Rattle.plain_logger.specs.History.{above, append_reply, last_clock}
-use Rattle.plain_logger.specs.declared.call.Reply.TheVariants.{Length}
-use Rattle.plain_logger.specs.declared.kind.Kind.{Kind}
-use Rattle.plain_logger.specs.declared.kind.Kind.TheVariants as kind
-use Rattle.plain_logger.proofs.Misses.{misses_push, parts_length}
+use Rattle.limits.specs.Limits.{most_events}
+use Rattle.sequential_logger.specs.Event.{EventValue, event_of, first_clock, first_of, count_of, finds_none}
+use Rattle.sequential_logger.specs.Misses.{misses_after, parts_of, IsCounted, IsCountedAt}
+use Rattle.sequential_logger.specs.History.{above, append_reply, last_clock}
+use Rattle.sequential_logger.specs.declared.call.Reply.TheVariants.{Length}
+use Rattle.sequential_logger.specs.declared.kind.Kind.{Kind}
+use Rattle.sequential_logger.specs.declared.kind.Kind.TheVariants as kind
+use Rattle.sequential_logger.proofs.Misses.{misses_push, parts_length}
 use Rattle.rank_machine.specs.States.{State}
 use Rattle.rank_machine.specs.Acts.{Act, Message, misses}
 use Rattle.rank_node.specs.declared.waiting.Waiting.{Waiting}

@@ -4,7 +4,7 @@ use Rattle.std.proofs.Common.{IsSomeAnd, Result, Ok, Err, OnOk, OnErr, Bool, tru
 use Rattle.std.specs.Bool.{OnTrue, OnFalse}
 use Rattle.std.proofs.lemmas.Option.{slice_get_within}
 use Rattle.checkpoint.specs.Image.{ImageValue}
-use Rattle.plain_logger.specs.History.{StateValue}
+use Rattle.sequential_logger.specs.History.{StateValue}
 use Rattle.rank_language.specs.Program.{ProgramValue}
 use Rattle.ports.specs.declared.line.Line.{Line}
 use Rattle.crash_free.specs.Runs.{Passed}

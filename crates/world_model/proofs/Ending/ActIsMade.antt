@@ -4,7 +4,7 @@ use Rattle.std.proofs.Common.{◌≡◌, ◌≢◌, ℕ, zero, suc, ◌+◌, ◌
 use Rattle.std.proofs.Common.{refl, sym, ap, subst, ◌∙◌, arith, position}
 use Rattle.std.proofs.lemmas.Bool.{lt-ltb, ne_eqb}
 use Rattle.std.specs.Prelude.{is_some, nat_lt}
-use Rattle.metered.specs.Limits.{greatest_clock, most_events}
+use Rattle.limits.specs.Limits.{greatest_clock, most_events}
 use Rattle.matching.specs.PacketValue as packet
 use Rattle.matching.specs.Inbox.{accepted_from}
 use Rattle.matching.specs.Matching.{matches}

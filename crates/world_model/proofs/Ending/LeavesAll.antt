@@ -9,9 +9,9 @@ use Rattle.matching.specs.Inbox.{Mailbox, accepted_from, answer_to, after_arriva
 use Rattle.matching.specs.Matching.{matches}
 use Rattle.matching.specs.declared.inbox.Accept.TheVariants as accept
 use Rattle.matching.specs.declared.selector.Selector.{Selector}
-use Rattle.plain_logger.specs.Event.{EventValue}
-use Rattle.plain_logger.specs.declared.kind.Kind.{Kind}
-use Rattle.plain_logger.specs.declared.kind.Kind.TheVariants as kind
+use Rattle.sequential_logger.specs.Event.{EventValue}
+use Rattle.sequential_logger.specs.declared.kind.Kind.{Kind}
+use Rattle.sequential_logger.specs.declared.kind.Kind.TheVariants as kind
 use Rattle.rank_machine.specs.declared.want.Want.{Want}
 use Rattle.rank_machine.specs.declared.want.Want.TheVariants as want
 use Rattle.rank_machine.specs.Machine.{MachineValue, machine_want}

@@ -4,9 +4,9 @@ use Rattle.std.proofs.Common.{Some, slice_index_or}
 use Rattle.std.proofs.lemmas.Bool.{cases_lt}
 use Rattle.std.proofs.lemmas.List.{length-append}
 use Rattle.std.proofs.lemmas.Option.{slice_get_within, slice_get-get_or}
-use Rattle.metered.specs.Limits.{greatest_clock, most_events}
-use Rattle.plain_logger.specs.Event.{EventValue}
-use Rattle.plain_logger.specs.Misses.{expand, parts_of}
+use Rattle.limits.specs.Limits.{greatest_clock, most_events}
+use Rattle.sequential_logger.specs.Event.{EventValue}
+use Rattle.sequential_logger.specs.Misses.{expand, parts_of}
 use Rattle.rank_node.specs.Waiting.{events_in}
 use Rattle.matching.specs.Inbox.{accepted_from}
 use Rattle.rank_language.specs.Program.{ProgramValue}

@@ -4,12 +4,12 @@ use Rattle.std.proofs.Common.{map, Option, Some, None, length, slice_get, refl, 
 use Rattle.std.proofs.lemmas.List.{append-nil, length_push}
 use Rattle.matching.specs.PacketValue as packet
 use Rattle.matching.specs.declared.packet.Context.{Context}
-use Rattle.metered.specs.Limits.{most_effects}
-use Rattle.plain_logger.specs.Event.{EventValue, event_of}
-use Rattle.plain_logger.specs.Misses.{parts_of, expand, IsCounted}
-use Rattle.plain_logger.specs.History.{above}
-use Rattle.plain_logger.specs.declared.kind.Kind.TheVariants as kind
-use Rattle.plain_logger.proofs.NextParts.{part, next_part}
+use Rattle.limits.specs.Limits.{most_effects}
+use Rattle.sequential_logger.specs.Event.{EventValue, event_of}
+use Rattle.sequential_logger.specs.Misses.{parts_of, expand, IsCounted}
+use Rattle.sequential_logger.specs.History.{above}
+use Rattle.sequential_logger.specs.declared.kind.Kind.TheVariants as kind
+use Rattle.sequential_logger.proofs.NextParts.{part, next_part}
 use Rattle.rank_machine.specs.declared.want.Want.{Want}
 use Rattle.rank_machine.specs.declared.want.Want.TheVariants as want
 use Rattle.rank_machine.specs.States.{State}

@@ -4,8 +4,8 @@ use Rattle.std.proofs.Common.{slice_get}
 use Rattle.std.proofs.lemmas.Bool.{cases_eq}
 use Rattle.matching.specs.declared.packet.Context.{Context}
 use Rattle.matching.specs.declared.selector.Selector.{Selector}
-use Rattle.plain_logger.specs.Event.{EventValue, event_of, first_clock}
-use Rattle.plain_logger.specs.declared.kind.Kind.TheVariants as kind
+use Rattle.sequential_logger.specs.Event.{EventValue, event_of, first_clock}
+use Rattle.sequential_logger.specs.declared.kind.Kind.TheVariants as kind
 use Rattle.rank_machine.specs.declared.fault.MachineFault.{MachineFault}
 use Rattle.rank_machine.specs.declared.want.Want.{Want}
 use Rattle.rank_machine.specs.declared.want.Want.TheVariants as want

@@ -4,7 +4,7 @@ use Rattle.std.proofs.Common.{◌++◌, Option, Some, None, length, take, drop, 
 use Rattle.std.proofs.Common.{position}
 use Rattle.std.proofs.lemmas.Bool.{cases_lt}
 use Rattle.std.proofs.lemmas.List.{length-set}
-use Rattle.plain_logger.specs.Event.{EventValue}
+use Rattle.sequential_logger.specs.Event.{EventValue}
 use Rattle.matching.specs.declared.packet.Context.{Context}
 use Rattle.matching.specs.Matching.{matches}
 use Rattle.payload_log.specs.Backlog.{BacklogValue, backlog, saved}

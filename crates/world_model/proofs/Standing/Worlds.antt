@@ -2,8 +2,8 @@
 use Rattle.std.proofs.Common.{◌≡◌, ℕ, ◌<◌, ◌⊎◌, inl, inr, ⊎_elim, List, [], ◌∷◌, ◌++◌, Option, Some, length, sym, ap, subst, ◌∙◌, slice_get}
 use Rattle.std.proofs.Common.{slice_set}
 use Rattle.std.proofs.lemmas.List.{length-set}
-use Rattle.plain_logger.specs.Event.{EventValue}
-use Rattle.plain_logger.specs.History.{StateValue}
+use Rattle.sequential_logger.specs.Event.{EventValue}
+use Rattle.sequential_logger.specs.History.{StateValue}
 use Rattle.ports.specs.declared.line.Line.{Line}
 use Rattle.rank_machine.specs.States.{State}
 use Rattle.rank_machine.specs.Acts.{Act, carried}

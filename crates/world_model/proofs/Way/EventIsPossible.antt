@@ -11,12 +11,12 @@ use Rattle.matching.specs.declared.selector.Selector.{Selector}
 use Rattle.matching.specs.Inbox.{answer_to}
 use Rattle.matching.specs.Matching.{matches}
 use Rattle.matching.specs.PacketValue as packet
-use Rattle.plain_logger.specs.Event.{EventValue}
-use Rattle.plain_logger.specs.History.{above, row, state_after, next_call}
-use Rattle.plain_logger.specs.declared.call.Call.TheVariants.{Fetch}
-use Rattle.plain_logger.specs.declared.call.Reply.TheVariants.{Events}
-use Rattle.plain_logger.specs.declared.kind.Kind.{Kind}
-use Rattle.plain_logger.specs.declared.kind.Kind.TheVariants as kind
+use Rattle.sequential_logger.specs.Event.{EventValue}
+use Rattle.sequential_logger.specs.History.{above, row, state_after, next_call}
+use Rattle.sequential_logger.specs.declared.call.Call.TheVariants.{Fetch}
+use Rattle.sequential_logger.specs.declared.call.Reply.TheVariants.{Events}
+use Rattle.sequential_logger.specs.declared.kind.Kind.{Kind}
+use Rattle.sequential_logger.specs.declared.kind.Kind.TheVariants as kind
 use Rattle.rank_language.specs.Block.{lines_at}
 use Rattle.rank_language.specs.Program.{ProgramValue, block_of}
 use Rattle.rank_machine.specs.declared.want.Want.{Want}

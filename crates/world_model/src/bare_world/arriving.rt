@@ -4,7 +4,7 @@ ghost use Rattle.world_model.specs.Follows.{arrived_as};
 
 use crate::bare_world::BareWorld;
 use crate::reply::Reply;
-use metered::Heap;
+use limits::Heap;
 use rank_node::{Arrived, Frame};
 use std::alloc::AllocError;
 

@@ -9,7 +9,7 @@ use crate::bare_world::BareWorld;
 use crate::reply::Reply;
 use checkpoint::MemoryShelf;
 use crash_free::Act;
-use metered::Heap;
+use limits::Heap;
 use rank_machine::Want;
 use rank_node::{Running, Turn};
 use std::alloc::AllocError;

@@ -10,7 +10,7 @@ mod making;
 use crate::bare_world::BareWorld;
 use crate::event::WorldEvent;
 use crate::reply::Reply;
-use metered::Heap;
+use limits::Heap;
 use std::alloc::AllocError;
 
 impl<'p> BareWorld<'p> {

@@ -3,7 +3,7 @@ ghost use Rattle.std.specs.Prelude.{◌≡◌, ℕ, ◌-◌, [], ◌∷◌, ◌+
 ghost use Rattle.crash_free.specs.Runs.{at_place};
 ghost use Rattle.world_model.specs.RunIndex.{Rising};
 
-use metered::Heap;
+use limits::Heap;
 use std::alloc::AllocError;
 use std::marker::Model;
 

@@ -6,7 +6,7 @@ ghost use Rattle.world_model.specs.RunIndex.{Rising, none_made, made_with, made_
 
 use crate::run::clocks::Clocks;
 use crash_free::Act;
-use metered::Heap;
+use limits::Heap;
 use std::alloc::AllocError;
 use std::marker::Model;
 

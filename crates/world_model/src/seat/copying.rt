@@ -4,7 +4,7 @@ ghost use Rattle.world_model.specs.Copied.{IsPhaseCopy, IsSeatCopy};
 
 use crate::seat::Seat;
 use checkpoint::MemoryShelf;
-use metered::Heap;
+use limits::Heap;
 use rank_node::Phase;
 use std::alloc::AllocError;
 

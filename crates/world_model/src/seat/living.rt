@@ -1,6 +1,6 @@
 //! How a rank goes down and comes up again.
 ghost use Rattle.std.specs.Prelude.{◌≡◌, ◌≤◌, ℕ, false, None, length, IfOk, IfErr, OnOk, OnErr};
-ghost use Rattle.metered.specs.Limits.{most_events};
+ghost use Rattle.limits.specs.Limits.{most_events};
 ghost use Rattle.rank_node.specs.Image.{begins_at, image_on};
 ghost use Rattle.rank_node.specs.Replay.{cuts, left_of};
 ghost use Rattle.world_model.specs.Seat.{bytes_of, live_of, shelf_of, HasLeft, IsOwn, IsStanding};
@@ -9,10 +9,10 @@ ghost use Rattle.world_model.specs.Seats.{with_live, IsRestarted};
 use crate::occupant::{put, take};
 use crate::seat::Seat;
 use checkpoint::MemoryShelf;
-use metered::Heap;
-use plain_logger::Event;
+use limits::Heap;
 use rank_language::Program;
 use rank_node::{Down, NodeFault, Phase};
+use sequential_logger::Event;
 use std::alloc::AllocError;
 
 impl<'p> Seat<'p> {

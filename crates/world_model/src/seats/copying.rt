@@ -6,7 +6,7 @@ ghost use Rattle.world_model.specs.Driven.{AreAlike};
 
 use crate::seat::Seat;
 use crate::seats::{Seats, end_all};
-use metered::Heap;
+use limits::Heap;
 use std::alloc::AllocError;
 
 impl<'p> Seats<'p> {

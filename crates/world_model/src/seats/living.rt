@@ -1,13 +1,13 @@
 //! How the ranks of a world go down and come up again.
 ghost use Rattle.std.specs.Prelude.{◌≡◌, ◌<◌, ◌≤◌, false, None, Some, length, slice_get, IfOk, OnErr, IsSomeAnd};
-ghost use Rattle.metered.specs.Limits.{most_events};
+ghost use Rattle.limits.specs.Limits.{most_events};
 ghost use Rattle.rank_node.specs.Image.{begins_at};
 ghost use Rattle.rank_node.specs.Replay.{cuts};
 ghost use Rattle.world_model.specs.Seats.{RestartsRank, SetsRank};
 
 use crate::seats::Seats;
-use metered::Heap;
-use plain_logger::Event;
+use limits::Heap;
+use sequential_logger::Event;
 use std::alloc::AllocError;
 
 impl<'p> Seats<'p> {

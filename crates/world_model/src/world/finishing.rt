@@ -19,7 +19,7 @@ use crate::event::WorldEvent;
 use crate::finish::{Finish, FinishEnd};
 use crate::reply::Reply;
 use crate::world::World;
-use metered::Heap;
+use limits::Heap;
 use rank_node::Frame;
 use std::alloc::AllocError;
 

@@ -3,7 +3,7 @@
 use crate::audits::Stored::Took;
 use crate::audits::{answer, compare, event_of};
 use crate::same::same;
-use metered::Heap;
+use limits::Heap;
 use ports::Line;
 use std::alloc::AllocError;
 use std::process::Abort;

@@ -2,7 +2,7 @@ use Rattle.std.proofs.Common.{◌+◌, ◌≤◌, [], ◌∙◌, ap}
 use Rattle.std.proofs.lemmas.Result.{err_from_is_err_and}
 use Rattle.std.proofs.lemmas.List.{length_push}
 use Rattle.std.proofs.lemmas.List.Elements.{All-push}
-use Rattle.metered.specs.Limits.{greatest_clock}
+use Rattle.limits.specs.Limits.{greatest_clock}
 use Rattle.checkpoint.specs.Reading.{many_at, count_at}
 use Rattle.checkpoint.proofs.Loop.{goes_on, ends, is_done}
 use Rattle.checkpoint.proofs.read_inbox.counts_of.Goals as goal

@@ -1,5 +1,5 @@
 use Rattle.std.proofs.Common.{◌≡◌, ◌-◌, ◌≤◌, [], length, All}
-use Rattle.metered.specs.Limits.{greatest_clock}
+use Rattle.limits.specs.Limits.{greatest_clock}
 use Rattle.checkpoint.specs.Reading.{many_at, count_at}
 use Rattle.checkpoint.proofs.read_inbox.counts_of.Given as goal
 

@@ -1,5 +1,5 @@
 use Rattle.std.proofs.Common.{◌≡◌, ◌≤◌, ◌+◌, length}
-use Rattle.metered.specs.Limits.{most_lines}
+use Rattle.limits.specs.Limits.{most_lines}
 use Rattle.text_lines.specs.Pieces.{pieces_of}
 use Rattle.rank_checker.specs.Verdict.{reading_of}
 use Rattle.rank_checker.specs.Progress.{IsLed, going, reader_seen}

@@ -1,7 +1,7 @@
 //! Packets of collectives: what a rank gives in them, and what it takes of one that comes.
 ghost use Rattle.std.specs.Prelude.{◌≡◌, ◌<◌, ◌≤◌, ◌+◌, ◌++◌, List, ℤ, pos, ◌&&◌, if◌then◌else◌, Ok, Err, Some, IfOk, length, map};
 ghost use Rattle.std.specs.Ordering.{int_eq};
-ghost use Rattle.metered.specs.Limits.{most_collective_items, most_items};
+ghost use Rattle.limits.specs.Limits.{most_collective_items, most_items};
 ghost use Rattle.rank_language.specs.Seen.{buffer_of, collective_of};
 ghost use Rattle.rank_language.specs.Program.{IsBufferWithin, IsCollectiveWithin};
 ghost use Rattle.rank_machine.specs.declared.fault.MachineFault.{MachineFault};
@@ -15,8 +15,8 @@ ghost use Rattle.rank_machine.specs.Machine.{HasStage};
 use crate::call::{Call, Kind};
 use crate::fault::MachineFault;
 use crate::store::Store;
+use limits::Heap;
 use matching::PacketItems;
-use metered::Heap;
 use rank_language::{Buffer, Collective};
 use std::alloc::AllocError;
 

@@ -2,7 +2,7 @@
 ghost use Rattle.std.specs.Prelude.{◌≡◌, ◌≢◌, true, false};
 ghost use Rattle.std.specs.Option.{is_none};
 
-use metered::limits::MOST_RANKS;
+use limits::MOST_RANKS;
 
 /// What one look at all marks saw, where all were set.
 #[derive(Clone, Copy)]

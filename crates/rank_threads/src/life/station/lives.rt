@@ -1,6 +1,6 @@
 //! From a station (a process slot) to a life (an incarnation) and back.
 ghost use Rattle.std.specs.Prelude.{◌≡◌, ◌<◌, ◌≤◌, None, IfErr, OnOk, OnErr};
-ghost use Rattle.metered.specs.Limits.{most_ranks};
+ghost use Rattle.limits.specs.Limits.{most_ranks};
 ghost use Rattle.rank_threads.specs.Costs.{after_log, log_size_in};
 ghost use Rattle.rank_threads.specs.Endings.{stood_at};
 ghost use Rattle.rank_threads.specs.Phases.{Begins, is_replaying};
@@ -18,7 +18,7 @@ use crate::tally::Tally;
 use audit::End;
 use checkpoint::MemoryShelf;
 use event_logger::{Desk, Logger};
-use metered::Heap;
+use limits::Heap;
 use ports::{Rx, Tx};
 use rank_language::Program;
 use rank_node::{Down, NodeFault, Phase, Stable};

@@ -5,7 +5,7 @@ ghost use Rattle.run_picture.specs.Columns.{AreLaid};
 
 use crate::layout::columns::{Column, sum_of};
 use crate::layout::measures::{GAP, GAP_EDGE, MARGIN, MOST_WIDTH, NARROW, OVERHANG};
-use metered::Heap;
+use limits::Heap;
 use std::alloc::AllocError;
 
 /// Where the columns are cut.

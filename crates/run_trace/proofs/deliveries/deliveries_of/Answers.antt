@@ -1,5 +1,5 @@
 use Rattle.std.proofs.Common.{rules, subst, sym, false, ◌≡◌, ◌++◌, ◌∷◌, [], ◌<◌, ◌+◌, Some, slice_get}
-use Rattle.metered.specs.Limits.{most_ranks}
+use Rattle.limits.specs.Limits.{most_ranks}
 use Rattle.run_trace.specs.Deliveries.{AreFoundUpTo, delivered, run_before, sent_at}
 use Rattle.run_trace.specs.Pairs.{AreNoted}
 use Rattle.run_trace.proofs.PairLemmas.{found_is_sent, none_noted, notes_act, stands_at}

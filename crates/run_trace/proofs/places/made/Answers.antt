@@ -1,5 +1,5 @@
 use Rattle.std.proofs.Common.{rules, subst, ◌≡◌, ◌<◌, ◌+◌, min, length, reverse, Some, slice_get, slice_index_or}
-use Rattle.metered.specs.Limits.{most_ranks}
+use Rattle.limits.specs.Limits.{most_ranks}
 use Rattle.crash_free.specs.Sim.{choice_of, Allows}
 use Rattle.crash_free.specs.Inside.{GoesInside}
 use Rattle.crash_free.specs.Wanted.{WantsAt}

@@ -1,5 +1,5 @@
 use Rattle.std.proofs.Common.{rules, subst, sym, ◌≡◌, ◌≤◌, ◌+◌, ◌++◌, ◌∷◌, [], length, take}
-use Rattle.metered.specs.Limits.{most_ranks}
+use Rattle.limits.specs.Limits.{most_ranks}
 use Rattle.run_trace.specs.Clocks.{AreCounted}
 use Rattle.run_trace.specs.Places.{IsMadeAt, ArePlaces}
 use Rattle.run_trace.proofs.PlacesLemmas.{next_made}

@@ -1,5 +1,5 @@
 use Rattle.std.proofs.Common.{◌≤◌, length, take}
-use Rattle.metered.specs.Limits.{most_ranks}
+use Rattle.limits.specs.Limits.{most_ranks}
 use Rattle.run_trace.specs.Clocks.{AreCounted}
 use Rattle.run_trace.specs.Places.{ArePlaces}
 use Rattle.run_trace.proofs.places.places_of.Given as goal

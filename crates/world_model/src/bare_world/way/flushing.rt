@@ -4,7 +4,7 @@ ghost use Rattle.world_model.specs.World.{size};
 
 use crate::bare_world::BareWorld;
 use crate::event::WorldEvent;
-use metered::Heap;
+use limits::Heap;
 use std::alloc::AllocError;
 
 impl<'p> BareWorld<'p> {

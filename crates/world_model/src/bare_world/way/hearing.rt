@@ -6,7 +6,7 @@ ghost use Rattle.world_model.specs.Wires.{HasWire, wire_of};
 
 use crate::bare_world::BareWorld;
 use crate::event::WorldEvent;
-use metered::Heap;
+use limits::Heap;
 use rank_node::Frame;
 use std::alloc::AllocError;
 

@@ -9,7 +9,7 @@ ghost use Rattle.world_model.specs.OneStop.{StopsAfter-prop};
 
 use crate::bare_world::BareWorld;
 use crate::event::WorldEvent;
-use metered::Heap;
+use limits::Heap;
 use std::alloc::AllocError;
 use std::marker::{Brand, PhantomData};
 

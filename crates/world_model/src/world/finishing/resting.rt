@@ -12,7 +12,7 @@ use crate::finish::FinishEnd;
 use crate::reply::Reply;
 use crate::world::World;
 use crate::world::finishing::arrive;
-use metered::Heap;
+use limits::Heap;
 use rank_node::NodeFault;
 use std::alloc::AllocError;
 

@@ -1,5 +1,5 @@
 use Rattle.std.proofs.Common.{◌∙◌, ◌+◌, ◌≤◌, sym, ap, subst, arith}
-use Rattle.metered.specs.Limits.{greatest_clock}
+use Rattle.limits.specs.Limits.{greatest_clock}
 use Rattle.crash_free.specs.Runs.{history}
 use Rattle.audit.specs.Audits.{Suits}
 use Rattle.audit.proofs.Counting.{events_few}

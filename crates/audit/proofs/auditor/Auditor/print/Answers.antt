@@ -1,5 +1,5 @@
 use Rattle.std.proofs.Common.{◌∙◌, ◌≤◌, sym, ap, subst, arith, w64}
-use Rattle.metered.specs.Limits.{greatest_clock}
+use Rattle.limits.specs.Limits.{greatest_clock}
 use Rattle.std.proofs.lemmas.Int.{to_z-of_z}
 use Rattle.audit.specs.Trace.{with_line}
 use Rattle.audit.proofs.Playing.{plays_print}

@@ -1,5 +1,5 @@
 use Rattle.std.proofs.Common.{◌∙◌, ◌≤◌, sym, subst, arith}
-use Rattle.metered.specs.Limits.{greatest_clock}
+use Rattle.limits.specs.Limits.{greatest_clock}
 use Rattle.audit.proofs.Steps.{on_ok, sent_one, trace_there}
 use Rattle.audit.proofs.Playing.{plays_send}
 use Rattle.audit.proofs.Refusing.{no_clock}

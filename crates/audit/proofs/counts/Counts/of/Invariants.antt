@@ -1,5 +1,5 @@
 use Rattle.std.proofs.Common.{◌≡◌, ◌≤◌, length, take}
-use Rattle.metered.specs.Limits.{greatest_clock}
+use Rattle.limits.specs.Limits.{greatest_clock}
 use Rattle.audit.specs.Rows.{expand}
 use Rattle.audit.specs.Counts.{ends_from}
 use Rattle.audit.proofs.counts.Counts.of.Given as goal

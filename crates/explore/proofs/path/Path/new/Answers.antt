@@ -1,4 +1,4 @@
-use Rattle.metered.specs.Limits.{most_ranks}
+use Rattle.limits.specs.Limits.{most_ranks}
 use Rattle.explore.proofs.Counting.{counts_begin}
 use Rattle.explore.proofs.path.Path.new.Goals as goal
 

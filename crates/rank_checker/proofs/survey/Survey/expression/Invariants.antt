@@ -1,6 +1,6 @@
 use Rattle.std.proofs.Common.{◌≡◌, ◌&&◌, ◌||◌}
 use Rattle.std.specs.Prelude.{nat_lt}
-use Rattle.metered.specs.Limits.{most_nodes}
+use Rattle.limits.specs.Limits.{most_nodes}
 use Rattle.rank_grammar.specs.Tree.{tree_of}
 use Rattle.rank_checker.specs.Scope.{all_declared, is_great, nodes}
 use Rattle.rank_checker.specs.SeenLines.{scope_seen}

@@ -1,4 +1,4 @@
-use Rattle.metered.specs.Limits.{most_ranks}
+use Rattle.limits.specs.Limits.{most_ranks}
 use Rattle.run_trace.proofs.PlacesLemmas.{of_ranks}
 use Rattle.run_trace.proofs.trace.Found.of.Goals as goal
 

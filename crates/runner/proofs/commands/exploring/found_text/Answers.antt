@@ -3,7 +3,7 @@ use Rattle.explore.specs.Shown.{AreMarked}
 use Rattle.runner.proofs.Traces.{answered}
 use Rattle.runner.proofs.Written.{is_lined, is_marked}
 use Rattle.runner.specs.OutcomesText.{IsExploredText}
-use Rattle.statement_lines.specs.Standing.{IsLinedOf}
+use Rattle.rank_language.specs.StandOn.{IsLinedOf}
 use Rattle.runner.proofs.commands.exploring.found_text.Goals as goal
 
 -- the text that was written has the marks and the lines of the program

@@ -1,5 +1,5 @@
 use Rattle.std.proofs.Common.{rules, ◌≡◌, ◌*◌, [], replicate, List}
-use Rattle.metered.specs.Limits.{most_ranks}
+use Rattle.limits.specs.Limits.{most_ranks}
 use Rattle.crash_free.specs.Runs.{Passed}
 use Rattle.run_picture.proofs.NotedLemmas.{none_noted, nowhere}
 use Rattle.run_picture.proofs.layout.times.Times.new.Goals as goal
