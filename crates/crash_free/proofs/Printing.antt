@@ -1,63 +1,101 @@
--- What a rank printed is what its prints among the acts give, the oldest first.
-use Rattle.std.proofs.Common.{◌≡◌, ℕ, ℤ, ◌+◌, ◌<◌, List, [], ◌∷◌, ◌++◌, Some, None, length, take, get_or, refl, sym, ap, ◌∙◌, subst, ◌⊎◌, inl, inr}
-use Rattle.std.specs.Prelude.{map, filter_map, reverse}
+-- The lines that a simulation keeps: a print adds its value to its rank's row, and all else leaves the rows.
+use Rattle.std.proofs.Common.{◌≡◌, ℕ, ℤ, ◌+◌, ◌<◌, ◌≤◌, List, [], ◌∷◌, ◌++◌, Some, None, length, refl, sym, ap, ◌∙◌, subst, ◌⊎◌, inl, inr, slice_get, zero, suc, arith}
+use Rattle.std.specs.Prelude.{map, replicate, slice_set, slice_index_or}
 use Rattle.std.proofs.lemmas.Bool.{cases_eq}
-use Rattle.std.proofs.lemmas.List.{map-append, append-nil, reverse-append, reverse-reverse, take_more}
-use Rattle.std.proofs.lemmas.List.Elements.{filter_map-append}
+use Rattle.std.proofs.lemmas.List.{map-append, append-nil, length-set}
+use Rattle.limits.specs.Limits.{most_ranks}
+use Rattle.rank_language.specs.Program.{ProgramValue}
+use Rattle.rank_machine.specs.Machine.{MachineValue}
 use Rattle.rank_machine.specs.Acts.{Act, sends, takes, hits, misses, prints}
 use Rattle.crash_free.specs.Runs.{Passed, history, printed, print_at}
-use Rattle.crash_free.specs.Seen.{line_of}
+use Rattle.crash_free.specs.Alike.{lines_in}
+use Rattle.crash_free.specs.Lines.{AreLines}
+use Rattle.crash_free.specs.Sim.{SimValue}
+use Rattle.crash_free.specs.Slots.{Slot, IsKept}
+use Rattle.crash_free.proofs.Choosing.{value_of}
+use Rattle.crash_free.proofs.Keeping.{set_cases}
 use Rattle.crash_free.proofs.Lists.{printed-own, printed-other}
-use Rattle.std.proofs.lemmas.Bool.{eq-eqb, ne_eqb}
 
--- what an act of its own gives a rank
-at_own : (r c : ℕ) (act : Act) → filter_map (line_of r) (record { rank = r; act = act } ∷ []) ≡ map (λ (line : ℕ × ℤ). line.1) (print_at c act [])
-at_own r c (prints v) = rw (eq-eqb r r refl) refl
-at_own r c (sends d k t items) = rw (eq-eqb r r refl) refl
-at_own r c (takes q i) = rw (eq-eqb r r refl) refl
-at_own r c (hits q i) = rw (eq-eqb r r refl) refl
-at_own r c misses = rw (eq-eqb r r refl) refl
+-- the values that an act prints
+abbrev pub printed_by : Act → List ℤ
+printed_by act = map (λ (line : ℕ × ℤ). line.1) (print_at 0 act [])
 
--- an act of another rank gives it nothing
-at_other : (r : ℕ) (p : Passed) → (p.rank ≡ r → ⊥) → filter_map (line_of r) (p ∷ []) ≡ []
-at_other r p ne = rw (ne_eqb p.rank r ne) refl
+-- whatever its clock is
+any_clock : (c : ℕ) (act : Act) → map (λ (line : ℕ × ℤ). line.1) (print_at c act []) ≡ printed_by act
+any_clock c (prints v) = refl
+any_clock c (sends d k t items) = refl
+any_clock c (takes q i) = refl
+any_clock c (hits q i) = refl
+any_clock c misses = refl
 
--- so one more act gives what it prints
-one_more : (r : ℕ) (p : Passed) (C : List Passed) → (p.rank ≡ r) ⊎ (p.rank ≡ r → ⊥)
-    → map (λ (line : ℕ × ℤ). line.1) (printed C r) ++ filter_map (line_of r) (p ∷ []) ≡ map (λ (line : ℕ × ℤ). line.1) (printed (p ∷ C) r)
-one_more r p C (inl e) =
-    let own : printed (p ∷ C) p.rank ≡ printed C p.rank ++ print_at (length (history C p.rank) + 1) p.act [] = printed-own C p.rank p.act in
-    subst
-    (λ q. map (λ (line : ℕ × ℤ). line.1) (printed C q) ++ filter_map (line_of q) (p ∷ []) ≡ map (λ (line : ℕ × ℤ). line.1) (printed (p ∷ C) q)) e
-    (ap (λ z. map (λ (line : ℕ × ℤ). line.1) (printed C p.rank) ++ z) (at_own p.rank (length (history C p.rank) + 1) p.act)
-    ∙ sym (map-append (λ (line : ℕ × ℤ). line.1) (printed C p.rank) (print_at (length (history C p.rank) + 1) p.act []))
-    ∙ sym (ap (map (λ (line : ℕ × ℤ). line.1)) own))
-one_more r p C (inr ne) =
-    ap (λ z. map (λ (line : ℕ × ℤ). line.1) (printed C r) ++ z) (at_other r p ne) ∙ append-nil (map (λ (line : ℕ × ℤ). line.1) (printed C r))
-    ∙ sym (ap (map (λ (line : ℕ × ℤ). line.1)) (printed-other C p r ne))
+-- they come behind the lines of the rank that makes it
+own_lines : (C : List Passed) (r : ℕ) (act : Act) → lines_in (record { rank = r; act = act } ∷ C) r ≡ lines_in C r ++ printed_by act
+own_lines C r act =
+    ap (map (λ (line : ℕ × ℤ). line.1)) (printed-own C r act)
+    ∙ map-append (λ (line : ℕ × ℤ). line.1) (printed C r) (print_at (length (history C r) + 1) act [])
+    ∙ ap (λ z. lines_in C r ++ z) (any_clock (length (history C r) + 1) act)
 
--- the run, read from its oldest act on
-by_run : (r : ℕ) (C : List Passed) → filter_map (line_of r) (reverse C) ≡ map (λ (line : ℕ × ℤ). line.1) (printed C r)
-by_run r [] = refl
-by_run r (p ∷ C) =
-    ap (filter_map (line_of r)) (reverse-append (p ∷ []) C) ∙ filter_map-append (line_of r) (reverse C) (p ∷ [])
-    ∙ ap (λ z. z ++ filter_map (line_of r) (p ∷ [])) (by_run r C) ∙ one_more r p C (cases_eq p.rank r)
+-- and leave those of the others
+other_lines : (C : List Passed) (p : Passed) (q : ℕ) → (p.rank ≡ q → ⊥) → lines_in (p ∷ C) q ≡ lines_in C q
+other_lines C p q ne = ap (map (λ (line : ℕ × ℤ). line.1)) (printed-other C p q ne)
 
--- what the prints among the acts give is what was printed
-pub lines_printed : (r : ℕ) (xs : List Passed) → filter_map (line_of r) xs ≡ map (λ (line : ℕ × ℤ). line.1) (printed (reverse xs) r)
-lines_printed r xs = ap (filter_map (line_of r)) (sym (reverse-reverse xs)) ∙ by_run r (reverse xs)
+-- an act that prints nothing leaves all rows
+pub lines_stay : (rows : List (List ℤ)) (C : List Passed) (r : ℕ) (act : Act) → printed_by act ≡ [] → AreLines rows C
+    → AreLines rows (record { rank = r; act = act } ∷ C)
+lines_stay rows C r act silent lines = record { size = lines.size; each = λ q row at. lines.each q row at ∙ same q (cases_eq r q) }
+  where
+    same : (q : ℕ) → (r ≡ q) ⊎ (r ≡ q → ⊥) → lines_in C q ≡ lines_in (record { rank = r; act = act } ∷ C) q
+    same q (inl e) =
+        subst (λ z. lines_in C z ≡ lines_in (record { rank = r; act = act } ∷ C) z) e
+        (sym (own_lines C r act ∙ ap (λ z. lines_in C r ++ z) silent ∙ append-nil (lines_in C r)))
+    same q (inr ne) = sym (other_lines C (record { rank = r; act = act }) q ne)
 
--- one more of the acts, with its value or without one
-pub more_some : (r : ℕ) (xs : List Passed) (i : ℕ) (x : Passed) (v : ℤ) → i < length xs → x ≡ get_or xs i x → line_of r x ≡ Some v
-    → filter_map (line_of r) (take (i + 1) xs) ≡ filter_map (line_of r) (take i xs) ++ v ∷ []
-more_some r xs i x v low is own =
-    ap (filter_map (line_of r)) (take_more xs i x low ∙ ap (λ z. take i xs ++ z ∷ []) (sym is)) ∙ filter_map-append (line_of r) (take i xs) (x ∷ [])
-    ∙ (let one : filter_map (line_of r) (x ∷ []) ≡ v ∷ [] = rw own refl in ap (λ z. filter_map (line_of r) (take i xs) ++ z) one)
+-- a row that is there is found
+row_there : (rows : List (List ℤ)) (r : ℕ) → r < length rows → slice_get rows r ≡ Some (slice_index_or rows r [])
+row_there [] r low = absurd (omega arith)
+row_there (x ∷ rows) zero low = refl
+row_there (x ∷ rows) (suc r) low = row_there rows r (omega arith)
 
--- and without one
-pub more_none : (r : ℕ) (xs : List Passed) (i : ℕ) (x : Passed) → i < length xs → x ≡ get_or xs i x → line_of r x ≡ None
-    → filter_map (line_of r) (take (i + 1) xs) ≡ filter_map (line_of r) (take i xs)
-more_none r xs i x low is other =
-    ap (filter_map (line_of r)) (take_more xs i x low ∙ ap (λ z. take i xs ++ z ∷ []) (sym is)) ∙ filter_map-append (line_of r) (take i xs) (x ∷ [])
-    ∙ (let one : filter_map (line_of r) (x ∷ []) ≡ [] = rw other refl in ap (λ z. filter_map (line_of r) (take i xs) ++ z) one)
-    ∙ append-nil (filter_map (line_of r) (take i xs))
+-- a print adds its value to the row of its rank
+pub lines_more : (rows : List (List ℤ)) (C : List Passed) (r : ℕ) (v : ℤ) → r < length rows → AreLines rows C
+    → AreLines (slice_set rows r (slice_index_or rows r [] ++ v ∷ [])) (record { rank = r; act = prints v } ∷ C)
+lines_more rows C r v low lines =
+    record { size = length-set rows r _ ∙ lines.size; each = λ q row at. same q row (set_cases rows r _ q row at) }
+  where
+    same : (q : ℕ) (row : List ℤ) → ((r ≡ q) × (row ≡ slice_index_or rows r [] ++ v ∷ [])) ⊎ ((r ≡ q → ⊥) × (slice_get rows q ≡ Some row))
+        → row ≡ lines_in (record { rank = r; act = prints v } ∷ C) q
+    same q row (inl own) =
+        own.1 ∙ ap (λ z. z ++ v ∷ []) (lines.each r (slice_index_or rows r []) (row_there rows r low))
+        ∙ sym (own_lines C r (prints v)) ∙ ap (λ z. lines_in (record { rank = r; act = prints v } ∷ C) z) own.0
+    same q row (inr other) = lines.each q row other.1 ∙ sym (other_lines C (record { rank = r; act = prints v }) q other.0)
+
+-- a row of nothing
+abbrev no_row : List ℤ
+no_row = []
+
+-- nobody has printed anything at the beginning
+pub no_lines : AreLines (replicate most_ranks []) []
+no_lines = record { size = long most_ranks; each = λ r row at. empty most_ranks r row at }
+  where
+    long : (k : ℕ) → length (replicate k no_row) ≡ k
+    long zero = refl
+    long (suc k) = ap suc (long k)
+
+    empty : (k r : ℕ) (row : List ℤ) → slice_get (replicate k no_row) r ≡ Some row → row ≡ []
+    empty zero r row at = absurd cc
+    empty (suc k) zero row at = cc
+    empty (suc k) (suc r) row at = empty k r row at
+
+-- the row of a rank is what it printed
+pub lines_there : (rows : List (List ℤ)) (C : List Passed) (r : ℕ) (row : List ℤ) → AreLines rows C → slice_get rows r ≡ Some row
+    → row ≡ map (λ (line : ℕ × ℤ). line.1) (printed C r)
+lines_there rows C r row lines at = lines.each r row at
+
+-- a rank that there is has a row
+pub row_of_rank : {program : ProgramValue} {machines : List MachineValue} {channels : List (List Slot)} {rows : List (List ℤ)} {C : List Passed} {now : SimValue}
+    (r : ℕ) → value_of program machines C ≡ now → IsKept program machines channels C → AreLines rows C → r < length now.machines → r < length rows
+row_of_rank {machines = machines} {now = now} r view kept lines low =
+    let same : length machines ≡ length now.machines = ap (λ (v : SimValue). length v.machines) view in
+    let few = kept.few in
+    let size = lines.size in
+    omega (arith, low, same, few, size)

@@ -83,20 +83,6 @@ impl Clone for Passed {
 
 impl Passed {
     ghost use Rattle.rank_machine.specs.Acts as acts;
-    ghost use Rattle.crash_free.specs.Seen.{line_of};
-
-    /// The value that this rank prints, if the act is a print of its own.
-    pub(crate) fn line(&self, rank: u8) -> Option<i64>
-        ensures { result ≡ line_of rank self.now }
-    {
-        if self.rank != rank {
-            return None;
-        }
-        match &self.act {
-            Act::Prints(value) => Some(*value),
-            Act::Sends { .. } | Act::Takes { .. } | Act::Hits { .. } | Act::Misses => None,
-        }
-    }
 
     pub(crate) fn sends(
         rank: u8,

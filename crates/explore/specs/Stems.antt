@@ -6,19 +6,12 @@ use Rattle.rank_language.specs.Program.{ProgramValue}
 use Rattle.rank_machine.specs.Acts.{Act}
 use Rattle.crash_free.specs.Runs.{Passed}
 use Rattle.crash_free.specs.Sim.{choice_of, start_of}
+pub use Rattle.crash_free.specs.Points.{first_acts, GoesBehind}
 use Rattle.explore.specs.declared.branch.Branch.{Branch}
 use Rattle.explore.specs.declared.moves.Move.{Move}
 use Rattle.final_runs.specs.Maximal.{MayFollow}
 use Rattle.explore.specs.Exploring.{and_then}
 use Rattle.explore.specs.Outcomes.{IsAmong}
-
--- the first acts of a run, so many, the newest of them first
-abbrev pub first_acts : ℕ → List Passed → List Passed
-first_acts k C = drop (length C - k) C
-
--- the second run goes on behind the first
-abbrev pub GoesBehind : List Passed → List Passed → Type 0
-GoesBehind C C' = (later : List Passed) × (C' ≡ later ++ C)
 
 -- a beginning of a run, and the move that is to be made there, if one is
 pub record Stem : Type 0 where

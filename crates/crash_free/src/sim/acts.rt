@@ -46,6 +46,7 @@ impl Sim<'_> {
         ensures err { OnErr result (self.new ≡ self.old) }
     {
         self.passed.reserve(1)?;
+        self.lines.push(rank, value)?;
         let machine = &mut self.machines[usize::from(rank)];
         law_makes_its_print(machine);
         machine.did_print();

@@ -18,12 +18,13 @@ impl<'p> Sim<'p> {
             machines: copied(self.alloc, &self.machines)?,
             passed: self.passed.as_slice().to_vec(self.alloc)?,
             mail: self.mail.copy(self.alloc)?,
+            lines: self.lines.copy(self.alloc)?,
         })
     }
 }
 
-// The same machines, in memory of their own.
-fn copied<'p>(alloc: Heap, machines: &[Machine<'p>]) -> Result<Vec<Machine<'p>, Heap>, AllocError>
+/// The same machines, in memory of their own.
+pub fn copied<'p>(alloc: Heap, machines: &[Machine<'p>]) -> Result<Vec<Machine<'p>, Heap>, AllocError>
     ensures { IfOk result (λ copies. copies.items ≡ machines.now) }
 {
     let mut copies = Vec::with_capacity(alloc, machines.len())?;

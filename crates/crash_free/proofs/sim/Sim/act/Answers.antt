@@ -4,4 +4,4 @@ use Rattle.crash_free.proofs.Agreeing.{agrees}
 use Rattle.crash_free.proofs.sim.Sim.act.Goals as goal
 
 pub returns-clause-collectives : goal.returns-clause-collectives
-returns-clause-collectives c = subst CollectivesAgree c.self.view_is (agrees _ c.self.invariant.simulates)
+returns-clause-collectives c = subst CollectivesAgree c.self.view_is (agrees _ c.self.invariant.0.simulates)

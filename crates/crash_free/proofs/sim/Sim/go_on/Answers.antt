@@ -7,7 +7,7 @@ use Rattle.crash_free.proofs.sim.Sim.go_on.Goals as goal
 pub invariant_of-self : goal.invariant_of-self
 invariant_of-self c =
     let at = found_machine Internal c.self.view_is c.from.ensures c.requires.there c.requires.wanted c.index_mut-machine.ensures.value in
-    rw c.from.ensures (kept_step _ _ _ _ c.args.rank _ _ c.self.invariant at.0 c.internal.ensures)
+    (rw c.from.ensures (kept_step _ _ _ _ c.args.rank _ _ c.self.invariant.0 at.0 c.internal.ensures), c.self.invariant.1)
 
 pub returns : goal.returns
 returns c =

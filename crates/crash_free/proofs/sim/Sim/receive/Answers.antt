@@ -1,5 +1,6 @@
 use Rattle.std.proofs.Common.{refl}
 use Rattle.rank_machine.specs.declared.want.Want.TheVariants.{Receive}
+use Rattle.crash_free.proofs.Printing.{lines_stay}
 use Rattle.crash_free.proofs.Choosing.{found_machine, run_push}
 use Rattle.crash_free.proofs.Finding.{sought, found_by}
 use Rattle.crash_free.proofs.Seeking.{receiving}
@@ -8,24 +9,24 @@ use Rattle.crash_free.proofs.sim.Sim.receive.Goals as goal
 
 pub returns-in_default-clause-refused : goal.returns-in_default-clause-refused
 returns-in_default-clause-refused c =
-    let known = sought c.args.rank (Receive c.args.selector.now) c.self.view_is c.self.invariant c.requires.there c.requires.wanted in
+    let known = sought c.args.rank (Receive c.args.selector.now) c.self.view_is c.self.invariant.0 c.requires.there c.requires.wanted in
     refuses_take c.args.source c.args.index (receiving c.args.selector.now) known c.ranks-ranks.ensures.value (c.in_default.ensures.none refl)
 
 pub returns-then-is_err-clause-refused : goal.returns-then-is_err-clause-refused
 returns-then-is_err-clause-refused c =
-    let known = sought c.args.rank (Receive c.args.selector.now) c.self.view_is c.self.invariant c.requires.there c.requires.wanted in
+    let known = sought c.args.rank (Receive c.args.selector.now) c.self.view_is c.self.invariant.0 c.requires.there c.requires.wanted in
     let found = found_by c.args.selector.now known c.ranks-ranks.ensures.value c.in-Some.ensures.source c.in-Some.ensures.index c.in-Some.ensures.first in
     refuses_memory (receiving c.args.selector.now) known found
 
 pub take-packet-requires-clause-there : goal.take-packet-requires-clause-there
 take-packet-requires-clause-there c =
-    let known = sought c.args.rank (Receive c.args.selector.now) c.self.view_is c.self.invariant c.requires.there c.requires.wanted in
+    let known = sought c.args.rank (Receive c.args.selector.now) c.self.view_is c.self.invariant.0 c.requires.there c.requires.wanted in
     let found = found_by c.args.selector.now known c.ranks-ranks.ensures.value c.in-Some.ensures.source c.in-Some.ensures.index c.in-Some.ensures.first in
     slot_there known found
 
 pub give-requires : goal.give-requires
 give-requires c =
-    let known = sought c.args.rank (Receive c.args.selector.now) c.self.view_is c.self.invariant c.requires.there c.requires.wanted in
+    let known = sought c.args.rank (Receive c.args.selector.now) c.self.view_is c.self.invariant.0 c.requires.there c.requires.wanted in
     let found = found_by c.args.selector.now known c.ranks-ranks.ensures.value c.in-Some.ensures.source c.in-Some.ensures.index c.in-Some.ensures.first in
     let at = found_machine (Receive c.args.selector.now) c.self.view_is c.from.ensures c.requires.there c.requires.wanted c.index_mut-machine.ensures.value in
     record {
@@ -35,24 +36,28 @@ give-requires c =
 
 pub invariant_of-self-2 : goal.invariant_of-self-2
 invariant_of-self-2 c =
-    let known = sought c.args.rank (Receive c.args.selector.now) c.self.view_is c.self.invariant c.requires.there c.requires.wanted in
+    let known = sought c.args.rank (Receive c.args.selector.now) c.self.view_is c.self.invariant.0 c.requires.there c.requires.wanted in
     let found = found_by c.args.selector.now known c.ranks-ranks.ensures.value c.in-Some.ensures.source c.in-Some.ensures.index c.in-Some.ensures.first in
     let at = found_machine (Receive c.args.selector.now) c.self.view_is c.from.ensures c.requires.there c.requires.wanted c.index_mut-machine.ensures.value in
-    let done = done_take c.self.invariant at.0 at.1 found c.take-packet.ensures.packet c.give.ensures.state c.give.ensures.position c.give.ensures.stays in
-    rw (
-      c.from.ensures,
-      c.take-packet.ensures.left,
-      c.push_reserved.ensures.items,
-      c.reserve.ensures.items,
-      c.takes.ensures,
-      run_push c.self.inside.passed.items _,
-    ) done.kept
+    let done = done_take c.self.invariant.0 at.0 at.1 found c.take-packet.ensures.packet c.give.ensures.state c.give.ensures.position c.give.ensures.stays in
+    (
+      rw (
+        c.from.ensures,
+        c.take-packet.ensures.left,
+        c.push_reserved.ensures.items,
+        c.reserve.ensures.items,
+        c.takes.ensures,
+        run_push c.self.inside.passed.items _,
+      ) done.kept,
+      rw (c.push_reserved.ensures.items, c.reserve.ensures.items, c.takes.ensures, run_push c.self.inside.passed.items _)
+      (lines_stay _ _ _ _ refl c.self.invariant.1),
+    )
 
 pub returns-clause-ok : goal.returns-clause-ok
 returns-clause-ok c =
-    let known = sought c.args.rank (Receive c.args.selector.now) c.self.view_is c.self.invariant c.requires.there c.requires.wanted in
+    let known = sought c.args.rank (Receive c.args.selector.now) c.self.view_is c.self.invariant.0 c.requires.there c.requires.wanted in
     let found = found_by c.args.selector.now known c.ranks-ranks.ensures.value c.in-Some.ensures.source c.in-Some.ensures.index c.in-Some.ensures.first in
     let at = found_machine (Receive c.args.selector.now) c.self.view_is c.from.ensures c.requires.there c.requires.wanted c.index_mut-machine.ensures.value in
-    let done = done_take c.self.invariant at.0 at.1 found c.take-packet.ensures.packet c.give.ensures.state c.give.ensures.position c.give.ensures.stays in
+    let done = done_take c.self.invariant.0 at.0 at.1 found c.take-packet.ensures.packet c.give.ensures.state c.give.ensures.position c.give.ensures.stays in
     rw (← c.self.view_is, c.from.ensures, c.push_reserved.ensures.items, c.reserve.ensures.items, c.takes.ensures, run_push c.self.inside.passed.items _)
     done.allowed

@@ -6,4 +6,4 @@ pub returns-clause-legal : goal.returns-clause-legal
 returns-clause-legal c =
     let s = c.self.inside in
     legal_there c.args.self.now s.program.now s.machines.items s.mail (reverse s.passed.items) c.from.result c.args.rank c.index-machine.result.now
-    c.wants.result c.self.view_is c.self.invariant c.from.ensures c.requires c.index-machine.ensures c.wants.ensures.legal
+    c.wants.result c.self.view_is c.self.invariant.0 c.from.ensures c.requires c.index-machine.ensures c.wants.ensures.legal

@@ -1,0 +1,110 @@
+//! What each rank printed.
+ghost use Rattle.std.specs.Prelude.{◌≡◌, ◌<◌, [], ◌∷◌, ◌++◌, Some, IfOk, OnOk, OnErr, length, replicate, slice_get, slice_index_or, slice_set};
+ghost use Rattle.limits.specs.Limits.{most_ranks};
+
+use limits::{Heap, MOST_RANKS};
+use std::alloc::AllocError;
+use std::marker::Model;
+
+/// The values that one rank printed, in order.
+#[derive(Drop)]
+pub struct Row {
+    values: Vec<i64, Heap>,
+}
+
+impl Model for Row {
+    ghost use Rattle.std.specs.Prelude.{List, ℤ};
+
+    ghost Value = { List ℤ };
+
+    ghost view = { λ row. row.values.items };
+}
+
+impl Clone for Row {
+    ghost is_clone = { λ row clone. clone ≡ row };
+
+    fn clone(&self) -> Result<Row, AllocError> {
+        Ok(Row {
+            values: self.values.as_slice().to_vec(*self.values.allocator())?,
+        })
+    }
+}
+
+impl Row {
+    fn new(alloc: Heap) -> Row
+        ensures { result ≡ [] }
+    {
+        Row {
+            values: Vec::new(alloc),
+        }
+    }
+
+    fn as_slice(&self) -> &[i64]
+        ensures { result.now ≡ self.now }
+    {
+        self.values.as_slice()
+    }
+
+    fn push(&mut self, value: i64) -> Result<(), AllocError>
+        ensures ok { OnOk result (self.new ≡ self.old ++ value ∷ []) }
+        ensures err { OnErr result (self.new ≡ self.old) }
+    {
+        self.values.push(value)?;
+        Ok(())
+    }
+}
+
+/// The lines of all ranks: a row for each rank that there may be.
+#[derive(Drop)]
+pub struct Lines {
+    rows: Vec<Row, Heap>,
+}
+
+impl Model for Lines {
+    ghost use Rattle.std.specs.Prelude.{List, ℤ};
+
+    ghost Value = { List (List ℤ) };
+
+    ghost view = { λ lines. lines.rows.items };
+}
+
+impl Lines {
+    /// No rank has printed anything.
+    pub fn new(alloc: Heap) -> Result<Lines, AllocError>
+        ensures { IfOk result (λ lines. lines ≡ replicate most_ranks []) }
+    {
+        let mut rows = Vec::new(alloc);
+        for _ in 0..MOST_RANKS {
+            rows.push(Row::new(alloc))?;
+        }
+        Ok(Lines { rows })
+    }
+
+    /// The same lines, in memory of their own.
+    pub fn copy(&self, alloc: Heap) -> Result<Lines, AllocError>
+        ensures { IfOk result (λ lines. lines ≡ self.now) }
+    {
+        Ok(Lines {
+            rows: self.rows.as_slice().to_vec(alloc)?,
+        })
+    }
+
+    /// What this rank printed.
+    pub fn of(&self, rank: u8) -> &[i64]
+        requires { rank < length self.now }
+        ensures { slice_get self.now rank ≡ Some result.now }
+    {
+        let row = &self.rows[usize::from(rank)];
+        row.as_slice()
+    }
+
+    /// The rank prints one value more.
+    pub fn push(&mut self, rank: u8, value: i64) -> Result<(), AllocError>
+        requires { rank < length self.old }
+        ensures ok { OnOk result (self.new ≡ slice_set self.old rank (slice_index_or self.old rank [] ++ value ∷ [])) }
+        ensures err { OnErr result (self.new ≡ self.old) }
+    {
+        let row = &mut self.rows[usize::from(rank)];
+        row.push(value)
+    }
+}
