@@ -14,7 +14,7 @@ ghost use Rattle.explore.specs.Shown.{AreMarked, IsMark, IsPast, MayMissShown, M
 
 use crate::again::{act_at, make};
 use crate::explored::Outcome;
-use crate::limits::Limits;
+use crate::bounds::Limits;
 use crate::replay::run_of;
 use crash_free::{Act, Passed, Sim};
 use limits::Heap;

@@ -7,7 +7,7 @@
 #[cfg(test)]
 mod answers;
 #[cfg(test)]
-mod limits;
+mod at_limits;
 #[cfg(test)]
 mod lines;
 #[cfg(test)]

@@ -17,7 +17,7 @@ mod expressions;
 #[cfg(test)]
 mod images;
 #[cfg(test)]
-mod limits;
+mod at_limits;
 #[cfg(test)]
 mod machines;
 #[cfg(test)]

@@ -30,7 +30,7 @@ mod judgments;
 #[cfg(test)]
 mod kills;
 #[cfg(test)]
-mod limits;
+mod at_limits;
 #[cfg(test)]
 mod lines;
 #[cfg(test)]
