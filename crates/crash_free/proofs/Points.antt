@@ -119,7 +119,7 @@ went_back {now = now} {p = p} {q = q} acts view same point =
     let size = length-reverse acts in
     let within : q.made ≤ length now.run = rw same point.within in
     let first : first_acts q.made now.run ≡ reverse (take q.made acts) =
-      ap (first_acts q.made) (sym run) ∙ first_kept q.made acts (omega (arith, long, size, within)) in
+    ap (first_acts q.made) (sym run) ∙ first_kept q.made acts (omega (arith, long, size, within)) in
     let kept : IsKept now.program q.machines q.channels (first_acts q.made now.run) = rw same point.kept in
     let lines : AreLines q.lines (first_acts q.made now.run) = rw same point.lines in
     record {

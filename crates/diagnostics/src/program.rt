@@ -3,8 +3,8 @@
 use crate::declared::{Before, Block, Declared, Sort};
 use crate::fitting::{STATEMENTS, first_misfit};
 use crate::foreign::{Aim, aim_of};
-use crate::passed_limits::limit_passed;
 use crate::near::put_nearest;
+use crate::passed_limits::limit_passed;
 use crate::piece::{Piece, pieces_of};
 use crate::shown::{line_of, put_bytes, put_marked, put_piece};
 use limits::Heap;

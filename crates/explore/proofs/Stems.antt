@@ -10,7 +10,6 @@ use Rattle.explore.specs.declared.branch.Branch.{Branch}
 use Rattle.explore.specs.Outcomes.{IsAmong}
 use Rattle.explore.specs.Stems.{first_acts, GoesBehind, Stem, stem_of, stems_of, IsAfter, IsRunOf, IsLeftTo, GoOff}
 use Rattle.explore.proofs.Among.{among_first, among_last, among_push}
-
 -- Beginnings of a run
 
 pub use Rattle.crash_free.proofs.Points.{behind_further, behind_longer, first_all, first_before, first_behind, first_long, first_of_first, first_taken}

@@ -13,8 +13,8 @@ ghost use Rattle.explore.specs.Searching.{IsAlike};
 ghost use Rattle.explore.specs.Shown.{AreMarked, IsMark, IsPast, MayMissShown, MissesShown, shows_to, was_shown};
 
 use crate::again::{act_at, make};
-use crate::explored::Outcome;
 use crate::bounds::Limits;
+use crate::explored::Outcome;
 use crate::replay::run_of;
 use crash_free::{Act, Passed, Sim};
 use limits::Heap;

@@ -8,6 +8,7 @@
 //! stands behind it can be changed in this one place; not so where arguments
 //! and files are read.
 #![tactic(auto)]
+
 ghost use Rattle.std.specs.Prelude.{◌≡◌};
 ghost use Rattle.limits.specs.Limits.{most_ranks, most_ranks_of_format_1, most_lines, most_line_bytes, most_blocks};
 ghost use Rattle.limits.specs.Limits.{most_variables, most_arrays, most_name_bytes, most_nodes, most_parentheses};

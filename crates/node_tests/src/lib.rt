@@ -7,6 +7,8 @@
 #[cfg(test)]
 mod arrays;
 #[cfg(test)]
+mod at_limits;
+#[cfg(test)]
 mod calls;
 #[cfg(test)]
 mod collectives;
@@ -16,8 +18,6 @@ mod desks;
 mod expressions;
 #[cfg(test)]
 mod images;
-#[cfg(test)]
-mod at_limits;
 #[cfg(test)]
 mod machines;
 #[cfg(test)]

@@ -9,8 +9,8 @@ mod marks;
 use crate::life::Life;
 use crate::shared::Shared;
 use crate::turn::{Stepped, drain_lanes};
-pub use marks::{AllAtRest, Mark};
 use limits::Heap;
+pub use marks::{AllAtRest, Mark};
 use marks::{first_look, second_look};
 use std::alloc::AllocError;
 

@@ -6,6 +6,8 @@
 #![tactic(auto)]
 
 #[cfg(test)]
+mod at_limits;
+#[cfg(test)]
 mod c_texts;
 #[cfg(test)]
 mod causes;
@@ -29,8 +31,6 @@ mod holding;
 mod judgments;
 #[cfg(test)]
 mod kills;
-#[cfg(test)]
-mod at_limits;
 #[cfg(test)]
 mod lines;
 #[cfg(test)]

@@ -7,8 +7,8 @@ use crate::message::{Message, put_mark};
 use audit::End;
 use limits::Heap;
 use matching::{Context, Selector};
-use rank_machine::Want;
 use rank_language::line_of_text;
+use rank_machine::Want;
 use std::alloc::AllocError;
 use std::fmt::Write;
 

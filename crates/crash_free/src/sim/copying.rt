@@ -24,7 +24,10 @@ impl<'p> Sim<'p> {
 }
 
 /// The same machines, in memory of their own.
-pub fn copied<'p>(alloc: Heap, machines: &[Machine<'p>]) -> Result<Vec<Machine<'p>, Heap>, AllocError>
+pub fn copied<'p>(
+    alloc: Heap,
+    machines: &[Machine<'p>],
+) -> Result<Vec<Machine<'p>, Heap>, AllocError>
     ensures { IfOk result (λ copies. copies.items ≡ machines.now) }
 {
     let mut copies = Vec::with_capacity(alloc, machines.len())?;

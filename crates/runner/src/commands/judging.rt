@@ -12,8 +12,8 @@ use core_runner::{Files, Said, text_in};
 use judge::{Asked, Verdict, judge, why_text};
 use limits::Heap;
 use outcome_text::OutcomeText;
-use run_trace::{Given, trace_text};
 use rank_language::LinedProgram;
+use run_trace::{Given, trace_text};
 use std::alloc::AllocError;
 
 // The texts of the job's files.

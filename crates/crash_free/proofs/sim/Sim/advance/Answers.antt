@@ -9,10 +9,9 @@ pub invariant_of-self : goal.invariant_of-self
 invariant_of-self c =
     let s = c.self.inside in
     let there = read_machine c.args.self.now s.program.now s.machines.items (reverse s.passed.items) c.from.result c.args.rank
-    c.index_mut-machine.result.now c.self.view_is c.from.ensures c.requires.there c.index_mut-machine.ensures.value in
-    (
+    c.index_mut-machine.result.now c.self.view_is c.from.ensures c.requires.there c.index_mut-machine.ensures.value in (
       rw c.from.ensures (kept_inside _ _ _ _ c.args.rank _ _ c.self.invariant.0 there c.advance-made.ensures.stays
-      (strides_are_inner _ _ _ c.advance-made.ensures.made)),
+          (strides_are_inner _ _ _ c.advance-made.ensures.made)),
       c.self.invariant.1,
     )
 

@@ -5,8 +5,7 @@ use Rattle.crash_free.proofs.sim.Sim.go_back.Goals as goal
 
 pub invariant_of-self-2 : goal.invariant_of-self-2
 invariant_of-self-2 c =
-    let went = went_back c.self.inside.passed.items c.self.view_is c.point.view_is c.requires in
-    (
+    let went = went_back c.self.inside.passed.items c.self.view_is c.point.view_is c.requires in (
       rw (c.in_ok-machines.ensures, c.deref.ensures.value, c.in_ok-mail.ensures, c.in_ok-since.ensures.items, ap (λ v. v.program) c.self.view_is) went.kept,
       rw (c.in_ok-lines.ensures, c.in_ok-since.ensures.items) went.lines,
     )

@@ -43,12 +43,11 @@ invariant_of-self-2 c =
     let known = sought c.args.rank p.want c.self.view_is c.self.invariant.0 c.requires.there p.wanted in
     let found = found_by c.args.selector.now known c.ranks-ranks.ensures.value c.in-Some.ensures.source c.in-Some.ensures.index c.in-Some.ensures.first in
     let at = found_machine p.want c.self.view_is c.from.ensures c.requires.there p.wanted c.index_mut-machine.ensures.value in
-    let done = done_hit p.seeks c.self.invariant.0 at.0 at.1 found c.look-packet.ensures c.show.ensures.state c.show.ensures.position c.show.ensures.stays in
-    (
+    let done = done_hit p.seeks c.self.invariant.0 at.0 at.1 found c.look-packet.ensures c.show.ensures.state c.show.ensures.position c.show.ensures.stays in (
       rw (c.from.ensures, c.push_reserved.ensures.items, c.reserve.ensures.items, c.hits.ensures, run_push c.self.inside.passed.items _)
-      done.kept,
+          done.kept,
       rw (c.push_reserved.ensures.items, c.reserve.ensures.items, c.hits.ensures, run_push c.self.inside.passed.items _)
-      (lines_stay _ _ _ _ refl c.self.invariant.1),
+          (lines_stay _ _ _ _ refl c.self.invariant.1),
     )
 
 pub returns-clause-ok : goal.returns-clause-ok

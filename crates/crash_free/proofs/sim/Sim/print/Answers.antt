@@ -13,11 +13,10 @@ invariant_of-self-2 c =
     let state = c.did_print.ensures.state (prints c.args.value) None made in
     let done = done_print c.self.invariant.0 at.0 at.1 made state c.did_print.ensures.position c.did_print.ensures.stays in
     let same = to_z-of_z w64 c.args.value c.ranges.value in
-    let low = row_of_rank c.args.rank c.self.view_is c.self.invariant.0 c.self.invariant.1 c.requires.there in
-    (
+    let low = row_of_rank c.args.rank c.self.view_is c.self.invariant.0 c.self.invariant.1 c.requires.there in (
       rw (c.from.ensures, c.push_reserved.ensures.items, c.in_ok-reserve.ensures.items, c.prints.ensures, run_push c.self.inside.passed.items _, same) done.kept,
       rw (c.in_ok-push.ensures.ok, c.push_reserved.ensures.items, c.in_ok-reserve.ensures.items, c.prints.ensures, run_push c.self.inside.passed.items _)
-      (lines_more _ _ _ _ low c.self.invariant.1),
+          (lines_more _ _ _ _ low c.self.invariant.1),
     )
 
 pub returns-clause-ok : goal.returns-clause-ok

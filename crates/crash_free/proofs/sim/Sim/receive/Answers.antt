@@ -39,8 +39,7 @@ invariant_of-self-2 c =
     let known = sought c.args.rank (Receive c.args.selector.now) c.self.view_is c.self.invariant.0 c.requires.there c.requires.wanted in
     let found = found_by c.args.selector.now known c.ranks-ranks.ensures.value c.in-Some.ensures.source c.in-Some.ensures.index c.in-Some.ensures.first in
     let at = found_machine (Receive c.args.selector.now) c.self.view_is c.from.ensures c.requires.there c.requires.wanted c.index_mut-machine.ensures.value in
-    let done = done_take c.self.invariant.0 at.0 at.1 found c.take-packet.ensures.packet c.give.ensures.state c.give.ensures.position c.give.ensures.stays in
-    (
+    let done = done_take c.self.invariant.0 at.0 at.1 found c.take-packet.ensures.packet c.give.ensures.state c.give.ensures.position c.give.ensures.stays in (
       rw (
         c.from.ensures,
         c.take-packet.ensures.left,
@@ -50,7 +49,7 @@ invariant_of-self-2 c =
         run_push c.self.inside.passed.items _,
       ) done.kept,
       rw (c.push_reserved.ensures.items, c.reserve.ensures.items, c.takes.ensures, run_push c.self.inside.passed.items _)
-      (lines_stay _ _ _ _ refl c.self.invariant.1),
+          (lines_stay _ _ _ _ refl c.self.invariant.1),
     )
 
 pub returns-clause-ok : goal.returns-clause-ok

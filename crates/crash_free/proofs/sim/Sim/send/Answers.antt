@@ -11,8 +11,7 @@ invariant_of-self-2 c =
     c.index_mut-machine.ensures.value in
     let legal : c.args.dest < length c.self.inside.machines.items = rw (ap (λ (v : SimValue). length v.machines) c.self.view_is) c.requires.legal.0 in
     let made = c.law_makes_its_send.ensures c.args.dest c.args.context c.args.tag at.1.at_want in
-    let done = done_send c.self.invariant.0 at.0 at.1 legal made (c.did_send.ensures.state _ None made) c.did_send.ensures.position c.did_send.ensures.stays in
-    (
+    let done = done_send c.self.invariant.0 at.0 at.1 legal made (c.did_send.ensures.state _ None made) c.did_send.ensures.position c.did_send.ensures.stays in (
       rw (
         c.from.ensures,
         c.in_ok-post.ensures.ok,
@@ -26,7 +25,7 @@ invariant_of-self-2 c =
         c.in_ok-payload.ensures.items,
       ) done.kept,
       rw (c.push_reserved.ensures.items, c.in_ok-reserve.ensures.items, c.sends-act.ensures, run_push c.self.inside.passed.items _)
-      (lines_stay _ _ _ _ refl c.self.invariant.1),
+          (lines_stay _ _ _ _ refl c.self.invariant.1),
     )
 
 pub returns-clause-ok : goal.returns-clause-ok
