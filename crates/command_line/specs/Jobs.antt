@@ -95,7 +95,7 @@ pub record IsExploreOf (command : List ℕ) (arguments : List (List ℕ)) (searc
   pub ranks : IsSomeAnd (value_of (codes "ranks") arguments) (λ text. Spells text search.ranks)
   pub runs : IsSpelledOr 100000 (value_of (codes "runs") arguments) search.runs
   pub steps : IsSpelledOr 100000 (value_of (codes "steps") arguments) search.steps
-  pub states : IsSpelledOr 100000 (value_of (codes "states") arguments) search.states
+  pub states : IsSpelledOr 1000000 (value_of (codes "states") arguments) search.states
   pub form : IsExploreFormOf arguments search.form
   pub files : files_of command arguments ≡ search.program.now ∷ []
 

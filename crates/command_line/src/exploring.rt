@@ -44,9 +44,19 @@ pub fn explore<'a>(alloc: Global) -> Result<Command<'a>, AllocError> {
         help::EXPLORE,
         &[
             Argument::ranks(true),
-            limit("runs", "M", "Runs looked at, 1 to 1000000000"),
-            limit("steps", "S", "Steps of a rank in a run, 1 to 1000000000"),
-            limit("states", "K", "States kept to merge runs, 1 to 1000000000"),
+            limit("runs", "M", "100000", "Runs looked at, 1 to 1000000000"),
+            limit(
+                "steps",
+                "S",
+                "100000",
+                "Steps of a rank in a run, 1 to 1000000000",
+            ),
+            limit(
+                "states",
+                "K",
+                "1000000",
+                "States kept to merge runs, 1 to 1000000000",
+            ),
             Argument::flag(
                 "summary",
                 "Prints which receives raced, and what outcomes mean",
@@ -58,8 +68,13 @@ pub fn explore<'a>(alloc: Global) -> Result<Command<'a>, AllocError> {
     )
 }
 
-fn limit(name: &'static str, value: &'static str, help: &'static str) -> Argument {
-    Argument::number(name, value, help, 1, Some("100000"))
+fn limit(
+    name: &'static str,
+    value: &'static str,
+    default: &'static str,
+    help: &'static str,
+) -> Argument {
+    Argument::number(name, value, help, 1, Some(default))
 }
 
 fn events() -> Argument {

@@ -15,7 +15,7 @@ pub fn explore_of<'a>(command: &str, arguments: &'a [String]) -> Option<ExploreJ
         ranks: ranks_of(arguments)?,
         runs: number_or(100000, "runs", arguments)?,
         steps: number_or(100000, "steps", arguments)?,
-        states: number_or(100000, "states", arguments)?,
+        states: number_or(1000000, "states", arguments)?,
         form: form_of(arguments)?,
         program: one_file(command, arguments)?,
     })
