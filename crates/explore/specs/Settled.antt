@@ -2,9 +2,11 @@
 -- other ranks go on, its choices are persistent. For receives of any source this is the condition of
 -- Siegel 2005, and of Vakkalanka, Gopalakrishnan and Kirby 2008, asked of each source by itself.
 use Rattle.std.specs.Prelude.{◌≡◌, ℕ, List, Some, length, slice_get}
+use Rattle.matching.specs.declared.packet.Context.{Context}
 use Rattle.matching.specs.declared.selector.Selector.{Selector}
+use Rattle.rank_machine.specs.Acts.{Message}
 use Rattle.rank_machine.specs.Machine.{MachineValue}
-use Rattle.crash_free.specs.Runs.{Passed, history, sent, IsEligible}
+use Rattle.crash_free.specs.Runs.{Passed, at_place, history, sent, IsEligible}
 use Rattle.crash_free.specs.Sim.{SimValue, inbound_of, start_of}
 use Rattle.explore.specs.Persistent.{GoesOnWithout}
 
@@ -22,6 +24,8 @@ IsSettled s r w source =
     (C : List Passed) (place : ℕ) → OthersGoOn s r C → IsEligible (inbound_of C r) (history C r) source place w
     → IsEligible (inbound_of s.run r) (history s.run r) source place w
 
--- however they do, rank q has sent no more than now
-abbrev pub HasSentAll : SimValue → ℕ → ℕ → Type 0
-HasSentAll s r q = (C : List Passed) → OthersGoOn s r C → (dest : ℕ) → sent C q dest ≡ sent s.run q dest
+-- however they do, each message of this context that rank q has sent then stands in its place now
+abbrev pub HasSentAll : SimValue → ℕ → Context → ℕ → Type 0
+HasSentAll s r context q =
+    (C : List Passed) (dest place : ℕ) (m : Message) → OthersGoOn s r C → m.context ≡ context → at_place (sent C q dest) place ≡ Some m
+    → at_place (sent s.run q dest) place ≡ Some m

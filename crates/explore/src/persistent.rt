@@ -8,13 +8,13 @@ ghost use Rattle.explore.specs.Settled.{AreOfProgram, HasSentAll, IsSettled};
 
 use crash_free::Sim;
 use later_sends::LaterSends;
-use matching::Selector;
+use matching::{Context, Selector};
 use rank_machine::Want;
 
 /// Whether the acts that this rank may make don't depend on what the other
 /// ranks do next, as far as can be seen: each rank of which it may take or hit a
-/// message has one there that is eligible, has ended, or sends no more. A no may
-/// be wrong.
+/// message has one there that is eligible, has ended, or has sent all that could
+/// match. A no may be wrong.
 #[tactic(auto, using(crate::proofs::Persisting::persists_receive, crate::proofs::Persisting::persists_probe, crate::proofs::Persisting::persists_try))]
 pub fn is_persistent(sim: &Sim<'_>, later: &LaterSends, rank: u8) -> bool
     requires stands { Simulates sim.now }
@@ -56,7 +56,7 @@ fn are_settled(sim: &Sim<'_>, later: &LaterSends, rank: u8, selector: &Selector)
 }
 
 // The same of this source: it is the rank itself, or another that isn't named, or one that has a
-// message there, in front of all that it may send yet, or it sends no more.
+// message there, in front of all that it may send yet, or it has sent all that could match.
 #[tactic(auto, using(crate::proofs::Persisting::itself_settled, crate::proofs::Persisting::first_settled, crate::proofs::Persisting::sent_settled))]
 fn is_settled(sim: &Sim<'_>, later: &LaterSends, rank: u8, selector: &Selector, source: u8) -> bool
     requires stands { Simulates sim.now }
@@ -74,7 +74,7 @@ fn is_settled(sim: &Sim<'_>, later: &LaterSends, rank: u8, selector: &Selector, 
     }
     match sim.eligible(rank, selector, source) {
         Some(_) => true,
-        None => sends_no_more(sim, later, source),
+        None => has_sent_all(sim, later, source, selector.context),
     }
 }
 
@@ -88,14 +88,15 @@ fn may_be_of(selector: &Selector, source: u8) -> bool
     }
 }
 
-// Whether the rank has ended, or stands where no send and no collective is behind.
-#[tactic(auto, using(crate::proofs::PersistingSilent::halted_silent, crate::proofs::PersistingSilent::faulted_silent, crate::proofs::PersistingSilent::claimed_silent))]
-fn sends_no_more(sim: &Sim<'_>, later: &LaterSends, rank: u8) -> bool
+// Whether the rank sends no more messages of this context: it has ended, or stands where no send is
+// behind. Of collectives the table says nothing.
+#[tactic(auto, using(crate::proofs::PersistingSilent::claimed_silent))]
+fn has_sent_all(sim: &Sim<'_>, later: &LaterSends, rank: u8, context: Context) -> bool
     requires stands { Simulates sim.now }
     requires programs { AreOfProgram sim.now }
     requires table { IsTableOf sim.now.program later.now }
     requires rank { rank < length sim.now.machines }
-    ensures { result ≡ true → (r : ℕ) → HasSentAll sim.now r rank }
+    ensures { result ≡ true → (r : ℕ) → HasSentAll sim.now r context rank }
 {
     match sim.wants(rank) {
         Want::Halted => true,
@@ -105,6 +106,9 @@ fn sends_no_more(sim: &Sim<'_>, later: &LaterSends, rank: u8) -> bool
         | Want::Receive(_)
         | Want::Probe(_)
         | Want::TryProbe(_)
-        | Want::Print(_) => later.sends_no_more(sim.machine(rank).position()),
+        | Want::Print(_) => match context {
+            Context::PointToPoint => later.sends_no_more(sim.machine(rank).position()),
+            Context::Collective => false,
+        },
     }
 }

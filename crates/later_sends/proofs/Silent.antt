@@ -1,19 +1,23 @@
--- A rank that sends no more stays so: none of the statements that it leads on to was missing before.
+-- A rank that sends no more stays so: none of the statements that it leads on to was missing before. A collective leads on to itself or
+-- to the statements behind it, and what it sends has the context of collectives.
 use Rattle.std.proofs.Common.{◌≡◌, ℕ, ℤ, Bool, true, false, not, ◌||◌, List, Ok, Err, Option, Some, None, refl, sym, subst, ◌∙◌, length, if◌then◌else◌}
 use Rattle.std.specs.Prelude.{nat_le, option_map}
 use Rattle.std.proofs.lemmas.Bool.{or_parts, or_from}
-use Rattle.matching.specs.declared.packet.Context.{Context}
-use Rattle.rank_language.specs.Placed.{Pattern, declare, declare_array, assign, assign_item, send, receive, probe, try_probe, print, Buffer, collect}
+use Rattle.matching.specs.declared.packet.Context.TheVariants.{PointToPoint}
+use Rattle.rank_language.specs.Placed.{Pattern, Buffer, Collective}
+use Rattle.rank_language.specs.Placed.{declare, declare_array, assign, assign_item, send, receive, probe, try_probe, print, collect}
 use Rattle.rank_language.specs.Block.{Block, done, plain, if_only, if_else, loop, ◌then◌, taken}
 use Rattle.rank_machine.specs.declared.fault.MachineFault.{MachineFault}
 use Rattle.rank_machine.specs.declared.fault.MachineFault.TheVariants.{TooLong}
 use Rattle.rank_machine.specs.declared.want.Want.{Want}
 use Rattle.rank_machine.specs.declared.want.Want.TheVariants as want
 use Rattle.rank_machine.specs.Values.{Store, Valued, ◌>>=◌, value, is_zero}
+use Rattle.rank_machine.specs.Collectives.{Call, called, Part, gives, gets, ends, part_of, is_last, ended, own_end}
 use Rattle.rank_machine.specs.States.{State, Inners, here, on, item_value, after_test, after_value, inner_rest, inner_store, inner_of, inner}
-use Rattle.rank_machine.specs.Wants.{or_fault, want_of, wants, payload, selector_of, IsSend}
+use Rattle.rank_machine.specs.Wants.{or_fault, want_of, wants, payload, selector_of, part_want}
 use Rattle.rank_machine.specs.Acts.{Message, Act, sends, takes, hits, misses, prints, Fits, Makes, room, written, with_status}
-use Rattle.rank_machine.specs.Acts.{goes_on, received, after_first, unless_faulted, next}
+use Rattle.rank_machine.specs.Acts.{goes_on, received, kept, part_made, part_sent, part_taken, items_taken, collected, after_collect}
+use Rattle.rank_machine.specs.Acts.{after_first, unless_faulted, next}
 use Rattle.later_sends.specs.Sending.{may_send, some_sends, SendsNoMore}
 
 -- Statements
@@ -64,6 +68,11 @@ test_silent : (b c : Block) (v : Valued ℤ) → after_test b v ≡ Some c → s
 test_silent b c (Ok z) e h = let same : taken (not (is_zero z)) b ≡ c = cc in subst (λ k. some_sends k ≡ false) same (taken_silent (not (is_zero z)) b h)
 test_silent b c (Err k) e h = absurd cc
 
+-- a collective leads behind itself
+ended_silent : (r c : Block) (o : Option Store) → option_map (λ s'. r) o ≡ Some c → some_sends r ≡ false → some_sends c ≡ false
+ended_silent r c None e h = absurd cc
+ended_silent r c (Some s') e h = let same : r ≡ c = cc in subst (λ k. some_sends k ≡ false) same h
+
 -- so what remains after an inner step sends nothing, if nothing did before
 rest_silent : (s : Store) (b c : Block) → inner_rest s b ≡ Some c → some_sends b ≡ false → some_sends c ≡ false
 rest_silent s done c e h = absurd cc
@@ -76,7 +85,7 @@ rest_silent s (plain (receive d t b) r) c e h = absurd cc
 rest_silent s (plain (probe d t) r) c e h = absurd cc
 rest_silent s (plain (try_probe d t x) r) c e h = absurd cc
 rest_silent s (plain (print v) r) c e h = absurd cc
-rest_silent s (plain (collect x) r) c e h = absurd cc
+rest_silent s (plain (collect x) r) c e h = ended_silent r c (own_end s x) e h
 rest_silent s (if_only v y r) c e h = test_silent (if_only v y r) c (value s v) e h
 rest_silent s (if_else v y o r) c e h = test_silent (if_else v y o r) c (value s v) e h
 rest_silent s (loop v y r) c e h = test_silent (loop v y r) c (value s v) e h
@@ -118,6 +127,41 @@ received_silent c t b r a source m is h = by_test (nat_le (length m.items) (room
     by_test true = h
     by_test false = still (plain (receive c t b) r) a is h
 
+-- after a part of a collective
+part_silent : (a : State) (s : Store) (r : Block) (call : Call) → SendsNoMore a → some_sends r ≡ false → SendsNoMore (part_made a s r call)
+part_silent a s r call before behind = by_last (is_last a.store call)
+  where
+    by_last : (last : Bool) → some_sends (if last then r else a.rest) ≡ false
+    by_last true = behind
+    by_last false = before
+
+-- that sends
+sent_silent : (a : State) (r : Block) (call : Valued Call) → SendsNoMore a → some_sends r ≡ false → SendsNoMore (part_sent a r call)
+sent_silent a r (Ok call) before behind = part_silent a a.store r call before behind
+sent_silent a r (Err k) before behind = before
+
+-- or that takes these items
+taken_part_silent : (a : State) (c : Collective) (r : Block) (call : Call) (items : Valued (List ℤ)) → SendsNoMore a → some_sends r ≡ false
+    → SendsNoMore (part_taken a c r call items)
+taken_part_silent a c r call (Ok items) before behind = part_silent a (kept c items a.store) r call before behind
+taken_part_silent a c r call (Err k) before behind = before
+
+-- of this packet
+collected_silent : (a : State) (c : Collective) (r : Block) (m : Message) (call : Valued Call) → SendsNoMore a → some_sends r ≡ false
+    → SendsNoMore (collected a c r m call)
+collected_silent a c r m (Ok call) before behind = taken_part_silent a c r call (items_taken a.store c call m.items) before behind
+collected_silent a c r m (Err k) before behind = before
+
+-- so after each act of a collective
+collect_silent : (c : Collective) (r : Block) (a : State) (act : Act) (m : Option Message) → a.rest ≡ plain (collect c) r → some_sends r ≡ false
+    → SendsNoMore (after_collect a c r act m)
+collect_silent c r a (sends dest context tag items) m is h = sent_silent a r (called a.store c) (still (plain (collect c) r) a is h) h
+collect_silent c r a (takes source j) (Some m) is h = collected_silent a c r m (called a.store c) (still (plain (collect c) r) a is h) h
+collect_silent c r a (takes source j) None is h = still (plain (collect c) r) a is h
+collect_silent c r a (hits source j) m is h = still (plain (collect c) r) a is h
+collect_silent c r a misses m is h = still (plain (collect c) r) a is h
+collect_silent c r a (prints v) m is h = still (plain (collect c) r) a is h
+
 -- by each first statement
 first_silent : (b : Block) (a : State) (act : Act) (m : Option Message) → a.rest ≡ b → some_sends b ≡ false → SendsNoMore (after_first a b act m)
 first_silent done a act m is h = still done a is h
@@ -149,7 +193,7 @@ first_silent (plain (print e) r) a (sends dest context tag items) m is h = still
 first_silent (plain (print e) r) a (takes source j) m is h = still (plain (print e) r) a is h
 first_silent (plain (print e) r) a (hits source j) m is h = still (plain (print e) r) a is h
 first_silent (plain (print e) r) a misses m is h = still (plain (print e) r) a is h
-first_silent (plain (collect c) r) a act m is h = absurd cc
+first_silent (plain (collect c) r) a act m is h = collect_silent c r a act m is h
 first_silent (if_only e y r) a act m is h = still (if_only e y r) a is h
 first_silent (if_else e y o r) a act m is h = still (if_else e y o r) a is h
 first_silent (loop e y r) a act m is h = still (loop e y r) a is h
@@ -165,18 +209,40 @@ next_stays a act m h = unless_silent a.fault a act m h
 
 -- Wants
 
+-- what is wanted is a send of a message between two ranks
+abbrev pub IsMessage : Want → Type 0
+IsMessage (want.Send dest context tag) = context ≡ PointToPoint
+IsMessage want.Internal = ⊥
+IsMessage (want.Receive selector) = ⊥
+IsMessage (want.Probe selector) = ⊥
+IsMessage (want.TryProbe selector) = ⊥
+IsMessage (want.Print value) = ⊥
+IsMessage want.Halted = ⊥
+IsMessage (want.Faulted fault) = ⊥
+
 -- a value that faults or is a step of its own sends nothing
-tested : {A : Type 0} (v : Valued A) → IsSend (or_fault (v >>= (λ z. Ok want.Internal))) → ⊥
+tested : {A : Type 0} (v : Valued A) → IsMessage (or_fault (v >>= (λ z. Ok want.Internal))) → ⊥
 tested (Ok z) h = h
 tested (Err k) h = h
 
 -- nor does one that asks for something else
-asked : {A : Type 0} (v : Valued A) (f : A → Want) → ((x : A) → IsSend (f x) → ⊥) → IsSend (or_fault (v >>= (λ z. Ok (f z)))) → ⊥
+asked : {A : Type 0} (v : Valued A) (f : A → Want) → ((x : A) → IsMessage (f x) → ⊥) → IsMessage (or_fault (v >>= (λ z. Ok (f z)))) → ⊥
 asked (Ok z) f none h = none z h
 asked (Err k) f none h = h
 
+-- a part of a collective sends no such message
+no_part : (s : Store) (c : Collective) (call : Call) (p : Part) → IsMessage (or_fault (part_want s c call p)) → ⊥
+no_part s c call (gives dest) h = absurd cc
+no_part s c call (gets source) h = h
+no_part s c call ends h = tested (ended s c call) h
+
+-- nor does the one that stands
+no_call : (s : Store) (c : Collective) (call : Valued Call) → IsMessage (or_fault (call >>= (λ x. part_want s c x (part_of s x)))) → ⊥
+no_call s c (Ok call) h = no_part s c call (part_of s call) h
+no_call s c (Err k) h = h
+
 -- by each first statement
-no_send : (s : Store) (b : Block) (k : Option MachineFault) → some_sends b ≡ false → IsSend (want_of s b k) → ⊥
+no_send : (s : Store) (b : Block) (k : Option MachineFault) → some_sends b ≡ false → IsMessage (want_of s b k) → ⊥
 no_send s b (Some k) h w = w
 no_send s done None h w = w
 no_send s (plain (declare p) r) None h w = w
@@ -188,29 +254,29 @@ no_send s (plain (receive c t b) r) None h w = asked (selector_of s c t) want.Re
 no_send s (plain (probe c t) r) None h w = asked (selector_of s c t) want.Probe (λ x e. e) w
 no_send s (plain (try_probe c t x) r) None h w = asked (selector_of s c t) want.TryProbe (λ x e. e) w
 no_send s (plain (print e) r) None h w = asked (value s e) want.Print (λ x e. e) w
-no_send s (plain (collect c) r) None h w = absurd cc
+no_send s (plain (collect c) r) None h w = no_call s c (called s c) w
 no_send s (if_only e y r) None h w = tested (value s e) w
 no_send s (if_else e y o r) None h w = tested (value s e) w
 no_send s (loop e y r) None h w = tested (value s e) w
 
--- so it wants no send
-pub wants_no_send : (a : State) → SendsNoMore a → IsSend (wants a) → ⊥
-wants_no_send a h w = no_send a.store a.rest a.fault h w
+-- so it wants no send of a message
+pub wants_no_send : (a : State) (dest tag : ℕ) → SendsNoMore a → wants a ≡ want.Send dest PointToPoint tag → ⊥
+wants_no_send a dest tag h is = no_send a.store a.rest a.fault h (subst IsMessage (sym is) refl)
 
--- a send is made where one is wanted
-send_wanted : (w : Want) (given : List ℤ) (dest : ℕ) (context : Context) (tag : ℕ) (items : List ℤ) (m : Option Message)
-    → Fits w given (sends dest context tag items) m → IsSend w
-send_wanted (want.Send d c t) given dest context tag items m f = tt
-send_wanted want.Internal given dest context tag items m f = f
-send_wanted (want.Receive w) given dest context tag items m f = f
-send_wanted (want.Probe w) given dest context tag items m f = f
-send_wanted (want.TryProbe w) given dest context tag items m f = f
-send_wanted (want.Print v) given dest context tag items m f = f
-send_wanted want.Halted given dest context tag items m f = f
-send_wanted (want.Faulted k) given dest context tag items m f = f
+-- a message is sent where one is wanted
+send_wanted : (w : Want) (given : List ℤ) (dest tag : ℕ) (items : List ℤ) (m : Option Message)
+    → Fits w given (sends dest PointToPoint tag items) m → IsMessage w
+send_wanted (want.Send d c t) given dest tag items None f = sym f.1
+send_wanted (want.Send d c t) given dest tag items (Some m) f = absurd f
+send_wanted want.Internal given dest tag items m f = f
+send_wanted (want.Receive w) given dest tag items m f = f
+send_wanted (want.Probe w) given dest tag items m f = f
+send_wanted (want.TryProbe w) given dest tag items m f = f
+send_wanted (want.Print v) given dest tag items m f = f
+send_wanted want.Halted given dest tag items m f = f
+send_wanted (want.Faulted k) given dest tag items m f = f
 
 -- and makes none
-pub makes_no_send : (a : State) (dest : ℕ) (context : Context) (tag : ℕ) (items : List ℤ) (m : Option Message) → SendsNoMore a
-    → Makes a (sends dest context tag items) m → ⊥
-makes_no_send a dest context tag items m h makes =
-    wants_no_send a h (send_wanted (wants a) (payload a) dest context tag items m makes)
+pub makes_no_send : (a : State) (dest tag : ℕ) (items : List ℤ) (m : Option Message) → SendsNoMore a
+    → Makes a (sends dest PointToPoint tag items) m → ⊥
+makes_no_send a dest tag items m h makes = no_send a.store a.rest a.fault h (send_wanted (wants a) (payload a) dest tag items m makes)

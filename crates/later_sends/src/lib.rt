@@ -1,5 +1,4 @@
-//! Where a rank sends no more: which positions of a program no send and no
-//! collective stands behind.
+//! Where a rank sends no more: which positions of a program no send stands behind.
 #![tactic(auto)]
 
 pub mod laws;

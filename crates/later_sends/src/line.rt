@@ -1,17 +1,17 @@
-//! Which lines send.
+//! Which lines send messages.
 ghost use Rattle.std.specs.Prelude.{◌≡◌};
 ghost use Rattle.rank_language.specs.Seen.{line_of};
 ghost use Rattle.later_sends.specs.LaterSends.{line_may_send};
 
 use rank_language::Statement;
 
-/// Whether the statement is a send, or a collective, which sends messages of its
-/// own.
+/// Whether the statement is a send. A collective isn't: no receive and no probe
+/// of a program meets its packets.
 pub fn may_send(statement: &Statement) -> bool
     ensures { result ≡ line_may_send (line_of statement.now) }
 {
     match statement {
-        Statement::Send { .. } | Statement::Collect(_) => true,
+        Statement::Send { .. } => true,
         Statement::Declare(_)
         | Statement::DeclareArray(_)
         | Statement::Assign(..)
@@ -24,6 +24,7 @@ pub fn may_send(statement: &Statement) -> bool
         | Statement::Receive { .. }
         | Statement::Probe { .. }
         | Statement::TryProbe { .. }
-        | Statement::Print(_) => false,
+        | Statement::Print(_)
+        | Statement::Collect(_) => false,
     }
 }

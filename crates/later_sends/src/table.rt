@@ -1,4 +1,4 @@
-//! The positions of a program behind which nothing is sent: claims that are
+//! The positions of a program behind which no message is sent: claims that are
 //! dropped until those that are left hold line by line.
 ghost use Rattle.std.specs.Prelude.{◌≡◌, ◌<◌, ◌-◌, ◌^◌, true, IfOk, Some, slice_get, ℕ};
 ghost use Rattle.rank_language.specs.Block.{Line};
@@ -52,7 +52,8 @@ impl LaterSends {
         })
     }
 
-    /// Whether a rank that stands at this position is known to send no more.
+    /// Whether a rank that stands at this position is known to send no more. It
+    /// may still send packets of collectives.
     pub fn sends_no_more(&self, position: usize) -> bool
         ensures { result ≡ claimed self.now position }
     {
