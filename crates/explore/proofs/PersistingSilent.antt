@@ -16,7 +16,8 @@ use Rattle.rank_machine.specs.Acts.{Act, Message, sends, takes, hits, misses, pr
 use Rattle.rank_machine.specs.Machine.{MachineValue, state_of}
 use Rattle.rank_machine.proofs.Determined.{still, inner_wants, same_runs}
 use Rattle.later_sends.specs.Sending.{some_sends, SendsNoMore}
-use Rattle.later_sends.specs.LaterSends.{claimed, IsTableOf}
+use Rattle.live_variables.specs.Live.{claimed}
+use Rattle.later_sends.specs.LaterSends.{IsTableOf}
 use Rattle.later_sends.proofs.Silent.{inners_stay, next_stays, makes_no_send}
 use Rattle.crash_free.specs.Runs.{Passed, History, at_place, cons_if, history, sent, send_at, looked_up, MayMake}
 use Rattle.crash_free.specs.Sim.{SimValue, Simulates, start_of}

@@ -1,15 +1,15 @@
 -- Claims that hold line by line are right: of each list of statements, first of the list itself and
 -- of the position behind it, then of what remains at each of its lines.
-use Rattle.std.proofs.Common.{◌≡◌, ℕ, zero, suc, ◌+◌, ◌<◌, ◌≤◌, List, [], ◌∷◌, ◌++◌, length, Bool, true, false, not, ◌||◌, Some, slice_get}
-use Rattle.std.proofs.Common.{refl, ap, sym, subst, arith, append_assoc, ◌⊎◌, inl, inr}
+use Rattle.std.proofs.Common.{◌≡◌, ℕ, zero, suc, ◌+◌, List, [], ◌∷◌, ◌++◌, length, Bool, true, false, not, ◌||◌, Some, slice_get}
+use Rattle.std.proofs.Common.{refl, ap, sym, subst, arith, append_assoc}
 use Rattle.std.specs.Prelude.{slice_index_or}
-use Rattle.std.proofs.lemmas.Bool.{and_parts, or_from, cases_lt}
-use Rattle.std.proofs.lemmas.Option.{slice_get_within}
+use Rattle.std.proofs.lemmas.Bool.{and_parts, or_from}
 use Rattle.rank_language.specs.Block.{Block, done, plain, if_only, if_else, loop, ◌then◌, Line, simple_line, if_line, else_line, end_line, while_line}
 use Rattle.rank_language.specs.Block.{back_line, size, lines_at, places, remaining, next_position}
 use Rattle.rank_language.proofs.Places.{length-lines_at}
+use Rattle.live_variables.specs.Live.{claimed}
 use Rattle.later_sends.specs.Sending.{may_send, some_sends}
-use Rattle.later_sends.specs.LaterSends.{line_may_send, holds_at, claimed, AllHold}
+use Rattle.later_sends.specs.LaterSends.{line_may_send, holds_at, AllHold}
 use Rattle.later_sends.proofs.Silent.{then_silent}
 
 -- the claims for lines, the first of them at position n, hold
@@ -185,22 +185,6 @@ checked c n (l ∷ ls) f = (
       (λ p k is e. subst (λ z. holds_at c z k ≡ true) (let q : n + suc p ≡ n + 1 + p = omega arith in q)
       (f (suc p) k is (at c (n + 1 + p) (n + suc p) (omega arith) e))),
 )
-
--- what holds of the first lines, and of one more
-pub one_more : (ls : List Line) (P : ℕ → Line → Type 0) (i : ℕ) → ((p : ℕ) (l : Line) → p < i → slice_get ls p ≡ Some l → P p l)
-    → ((l : Line) → slice_get ls i ≡ Some l → P i l) → (p : ℕ) (l : Line) → p < i + 1 → slice_get ls p ≡ Some l → P p l
-one_more ls P i before now p l low there = go (cases_lt p i)
-  where
-    go : (p < i) ⊎ (i ≤ p) → P p l
-    go (inl less) = before p l less there
-    go (inr more) =
-        let same : i ≡ p = omega (arith, low, more) in
-        subst (λ k. P k l) same (now l (subst (λ k. slice_get ls k ≡ Some l) (sym same) there))
-
--- what holds of as many as there are
-pub of_each : (ls : List Line) (P : ℕ → Line → Type 0) (n : ℕ) → length ls ≤ n → ((p : ℕ) (l : Line) → p < n → slice_get ls p ≡ Some l → P p l)
-    → (p : ℕ) (l : Line) → slice_get ls p ≡ Some l → P p l
-of_each ls P n all f p l there = f p l (let low = slice_get_within ls p l there in omega (arith, all, low)) there
 
 -- so each claim of a table that holds for each line of a tree is right
 pub table_is_right : (table : List Bool) (t : Block) (ls : List Line) → ls ≡ lines_at 0 t → AllHold table ls → (p : ℕ) → claimed table p ≡ true

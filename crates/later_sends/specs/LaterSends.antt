@@ -1,8 +1,9 @@
 -- A table of the positions of a program behind which no message is sent, and when it is right (data
 -- flow equations, backward: Aho, Lam, Sethi and Ullman 2006, section 9.2).
-use Rattle.std.specs.Prelude.{◌≡◌, ℕ, Bool, true, false, not, ◌&&◌, List, Some, slice_get, slice_index_or}
+use Rattle.std.specs.Prelude.{◌≡◌, ℕ, Bool, true, false, not, ◌&&◌, List, Some, slice_get}
 use Rattle.rank_language.specs.Block.{Line, simple_line, if_line, else_line, end_line, while_line, back_line, remaining, next_position}
 use Rattle.rank_language.specs.Program.{ProgramValue, block_of}
+use Rattle.live_variables.specs.Live.{claimed}
 use Rattle.later_sends.specs.Sending.{may_send, some_sends}
 
 -- a line is a send
@@ -18,10 +19,6 @@ line_may_send (back_line q) = false
 -- is no send, and it is claimed wherever the line leads.
 abbrev pub holds_at : (ℕ → Bool) → ℕ → Line → Bool
 holds_at claims p l = not (line_may_send l) && (claims (next_position l p true) && claims (next_position l p false))
-
--- what a table claims of a position; past its end it claims nothing
-abbrev pub claimed : List Bool → ℕ → Bool
-claimed table p = slice_index_or table p false
 
 -- each claim for one of these lines is right if the others are
 abbrev pub AllHold : List Bool → List Line → Type 0

@@ -3,10 +3,12 @@
 ghost use Rattle.std.specs.Prelude.{◌≡◌, ◌<◌, ◌-◌, ◌^◌, true, IfOk, Some, slice_get, ℕ};
 ghost use Rattle.rank_language.specs.Block.{Line};
 ghost use Rattle.rank_language.specs.Seen.{line_of};
-ghost use Rattle.later_sends.specs.LaterSends.{holds_at, claimed, AllHold, IsTableOf};
+ghost use Rattle.live_variables.specs.Live.{claimed};
+ghost use Rattle.later_sends.specs.LaterSends.{holds_at, AllHold, IsTableOf};
 
 use crate::line::may_send;
 use limits::Heap;
+use live_variables::Row;
 use rank_language::{Program, Statement};
 use std::alloc::AllocError;
 use std::marker::Model;
@@ -15,7 +17,7 @@ use std::marker::Model;
 /// lines takes 1 KB.
 #[derive(Drop)]
 pub struct LaterSends {
-    claims: Vec<bool, Heap>,
+    claims: Row,
 }
 
 impl Model for LaterSends {
@@ -23,7 +25,7 @@ impl Model for LaterSends {
 
     ghost Value = { List Bool };
 
-    ghost view = { λ t. t.claims.items };
+    ghost view = { λ t. t.claims };
 }
 
 impl LaterSends {
@@ -37,7 +39,7 @@ impl LaterSends {
         program.law_lines();
         let lines = program.len();
         let mut table = LaterSends {
-            claims: vec![in alloc; true; lines + 1]?,
+            claims: Row::full(alloc, lines + 1)?,
         };
         let mut rounds = 0;
         while rounds <= lines {
@@ -48,7 +50,7 @@ impl LaterSends {
             rounds += 1;
         }
         Ok(LaterSends {
-            claims: Vec::new(alloc),
+            claims: Row::empty(alloc),
         })
     }
 
@@ -57,10 +59,7 @@ impl LaterSends {
     pub fn sends_no_more(&self, position: usize) -> bool
         ensures { result ≡ claimed self.now position }
     {
-        match self.claims.get(position) {
-            Some(claim) => *claim,
-            None => false,
-        }
+        self.claims.claims(position)
     }
 
     // Whether the claim for the statement at a position is right, if those for the next ones are.
@@ -109,7 +108,7 @@ impl LaterSends {
         while position > 0 {
             position -= 1;
             if !self.is_right(program, position) {
-                self.claims[position] = false;
+                self.claims.deny(position);
             }
         }
     }

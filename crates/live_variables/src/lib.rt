@@ -10,3 +10,4 @@ mod row;
 mod unread;
 
 pub use live::Live;
+pub use row::Row;

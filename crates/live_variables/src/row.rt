@@ -1,4 +1,4 @@
-//! Claims for the positions of a program that a name is unread there.
+//! Claims for the positions of a program, such as that a name is unread there.
 ghost use Rattle.std.specs.Prelude.{◌≡◌, []};
 ghost use Rattle.live_variables.specs.Live.{claimed};
 
@@ -6,7 +6,7 @@ use limits::Heap;
 use std::alloc::AllocError;
 use std::marker::Model;
 
-/// For each position whether a name is claimed to be unread there.
+/// For each position a claim, such as that a name is unread there, or none.
 #[derive(Drop)]
 pub struct Row {
     claims: Vec<bool, Heap>,
@@ -21,7 +21,7 @@ impl Model for Row {
 }
 
 impl Row {
-    /// A claim for each of so many positions.
+    /// A claim for each of so many positions. An `Err` means out of memory.
     pub fn full(alloc: Heap, positions: usize) -> Result<Row, AllocError> {
         Ok(Row {
             claims: vec![in alloc; true; positions]?,

@@ -1,6 +1,7 @@
 use Rattle.std.proofs.Common.{◌≡◌, true, arith}
-use Rattle.later_sends.specs.LaterSends.{holds_at, claimed}
-use Rattle.later_sends.proofs.Sound.{one_more, of_each}
+use Rattle.live_variables.specs.Live.{claimed}
+use Rattle.later_sends.specs.LaterSends.{holds_at}
+use Rattle.live_variables.proofs.Sound.{one_more, of_each}
 use Rattle.later_sends.proofs.table.LaterSends.all_hold.Goals as goal
 
 pub loop-position-preserved : goal.loop-position-preserved

@@ -1,7 +1,8 @@
 use Rattle.std.proofs.Common.{◌≡◌, ℕ, ◌<◌, ◌-◌, true, Some}
 use Rattle.std.specs.Prelude.{slice_get}
 use Rattle.rank_language.specs.Block.{Line}
-use Rattle.later_sends.specs.LaterSends.{holds_at, claimed}
+use Rattle.live_variables.specs.Live.{claimed}
+use Rattle.later_sends.specs.LaterSends.{holds_at}
 use Rattle.later_sends.proofs.table.LaterSends.all_hold.Given as goal
 
 -- the claims so far hold
