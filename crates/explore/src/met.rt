@@ -1,14 +1,17 @@
 //! Where runs stood that a search met.
-ghost use Rattle.std.specs.Prelude.{◌≡◌, ◌⊎◌, ◌∷◌, ◌++◌, true, [], IfOk, Ok, OnOk};
+ghost use Rattle.std.specs.Prelude.{◌≡◌, ◌<◌, true, [], IfOk, IfSome, Ok, length};
 ghost use Rattle.live_variables.specs.Live.{IsTableOf};
+ghost use Rattle.crash_free.specs.Standing.{Rows, behind, and_rank, rows_of, StandsAt};
 ghost use Rattle.explore.specs.Met.{AddsAtMost, WasMet};
-ghost use Rattle.explore.specs.Outcomes.{IsAmong};
+ghost use Rattle.explore.specs.Parts.{KeepsParts, AreParts};
 
+use crate::parts::Parts;
+use crate::state::State;
+use crate::states::States;
 use crash_free::{Sim, Standing};
 use limits::Heap;
 use live_variables::Live;
 use std::alloc::AllocError;
-use std::collections::BTreeMap;
 use std::marker::Model;
 
 /// How many numbers, of 8 bytes each, are kept at most: 256 MiB. Vectors may
@@ -18,27 +21,29 @@ const MOST_NUMBERS: usize = 33_554_432;
 /// Where the runs of a search stood at which it would leave branches, so that it
 /// searches none twice that stands where one stood before.
 ///
-/// It keeps so many states as it may, if they fit in 256 MiB. Behind that it
-/// keeps no more, so that memory stays bounded, and what stands where none of
-/// those stands is searched again.
+/// It keeps so many states as it may, if they fit in 256 MiB. They share their
+/// parts (collapse compression: Holzmann 1997). Behind that it keeps no more, so
+/// that memory stays bounded, and what stands where none of those stands is
+/// searched again.
 #[derive(Drop)]
 pub struct Met {
-    // oldest first
-    kept: Vec<Standing, Heap>,
-    // where the last one of each hash is among them, so that no search walks them
-    by_hash: BTreeMap<u64, usize, Heap>,
-    numbers: usize,
-    most_states: u32,
-    kept_all: bool,
+    alloc: Heap,
+    parts: Parts,
+    states: States,
+    // where each part is written, so that one that is kept takes no more memory
+    part: Standing,
 }
 
 impl Model for Met {
-    ghost use Rattle.std.specs.Prelude.{List};
+    ghost use Rattle.std.specs.Prelude.{List, length};
     ghost use Rattle.crash_free.specs.Standing as standing;
+    ghost use Rattle.explore.specs.Parts.{all_joined, AllAreBelow};
 
     ghost Value = { List standing.Rows };
 
-    ghost view = { λ m. m.kept.items };
+    ghost view = { λ m. all_joined m.parts m.states };
+
+    ghost invariant = { λ m. AllAreBelow (length m.parts) m.states };
 }
 
 impl Met {
@@ -47,11 +52,10 @@ impl Met {
         ensures { result ≡ [] }
     {
         Met {
-            kept: Vec::new(alloc),
-            by_hash: BTreeMap::new(alloc),
-            numbers: 0,
-            most_states,
-            kept_all: true,
+            alloc,
+            parts: Parts::new(alloc, MOST_NUMBERS),
+            states: States::new(alloc, most_states),
+            part: Standing::new(alloc),
         }
     }
 
@@ -64,60 +68,86 @@ impl Met {
         ensures same { result ≡ Ok true → self.new ≡ self.old }
         ensures adds { IfOk result (λ _. AddsAtMost self.old sim.now self.new) }
     {
-        let standing = sim.standing(live)?;
-        let hash = standing.hash();
-        if self.has(hash, &standing) {
-            return Ok(true);
-        }
-        self.keep(hash, standing)?;
-        Ok(false)
-    }
-
-    // A yes is exact; a no may be wrong, if two have one hash.
-    fn has(&self, hash: u64, standing: &Standing) -> bool
-        ensures { result ≡ true → IsAmong self.now standing.now }
-    {
-        let Some(place) = self.by_hash.get(&hash) else {
-            return false;
+        let state = state_of(self.alloc, &mut self.parts, &mut self.part, sim, live)?;
+        let Some(state) = state else {
+            self.states.leave_out();
+            return Ok(false);
         };
-        has_at(&self.kept, *place, standing)
-    }
-
-    fn has_room(&self, size: usize) -> bool {
-        self.states() < self.most_states && self.numbers.saturating_add(size) <= MOST_NUMBERS
-    }
-
-    // Keeps this, if there is room.
-    fn keep(&mut self, hash: u64, standing: Standing) -> Result<(), AllocError>
-        ensures { OnOk result ((self.new ≡ self.old) ⊎ (self.new ≡ self.old ++ standing ∷ [])) }
-    {
-        if !self.has_room(standing.size()) {
-            self.kept_all = false;
-            return Ok(());
-        }
-        self.numbers = self.numbers.saturating_add(standing.size());
-        self.by_hash.insert(hash, self.kept.len())?;
-        self.kept.push(standing)?;
-        Ok(())
+        self.states.meets(state, &mut self.parts)
     }
 
     /// How many states are kept.
     pub fn states(&self) -> u32 {
-        u32::try_from(self.kept.len()).unwrap_or(u32::MAX)
+        self.states.len()
     }
 
     /// Whether none was left out for which there was no room.
     pub fn kept_all(&self) -> bool {
-        self.kept_all
+        self.states.kept_all()
     }
 }
 
-// Whether this stands at the place.
-fn has_at(kept: &[Standing], place: usize, standing: &Standing) -> bool
-    ensures { result ≡ true → IsAmong kept.now standing.now }
+// Where all ranks stand, by parts that are kept from now on. `None` if there is no room for one.
+fn state_of(
+    alloc: Heap,
+    parts: &mut Parts,
+    part: &mut Standing,
+    sim: &Sim<'_>,
+    live: &Live,
+) -> Result<Option<State>, AllocError>
+    requires { IsTableOf sim.now.program live.now }
+    ensures keeps { KeepsParts parts.old parts.new }
+    ensures parts { IfOk result (λ found. IfSome found (λ state. AreParts parts.new state (rows_of live.now sim.now))) }
+    ensures stands { StandsAt sim.now.program (length sim.now.machines) sim.now.run (rows_of live.now sim.now) }
 {
-    if place >= kept.len() {
-        return false;
+    part.clear();
+    sim.write_length(part)?;
+    let ranks = sim.ranks();
+    let mut state = State::with_capacity(alloc, 1 + 2 * usize::from(ranks))?;
+    if !add_part(parts, part, &mut state)? {
+        return Ok(None);
     }
-    kept[place].is_same(standing)
+    let mut rank = 0;
+    while rank < ranks {
+        if !add_rank(parts, part, sim, live, rank, &mut state)? {
+            return Ok(None);
+        }
+        rank += 1;
+    }
+    Ok(Some(state))
+}
+
+// Adds the parts of the rank to the state, and answers whether there is room for them.
+fn add_rank(
+    parts: &mut Parts,
+    part: &mut Standing,
+    sim: &Sim<'_>,
+    live: &Live,
+    rank: u8,
+    state: &mut State,
+) -> Result<bool, AllocError>
+    requires { rank < length sim.now.machines }
+    ensures keeps { KeepsParts parts.old parts.new }
+    ensures adds { result ≡ Ok true → (rows : Rows) → AreParts parts.old state.old rows → AreParts parts.new state.new (and_rank live.now sim.now rows rank) }
+{
+    part.clear();
+    sim.write_own(live, rank, part)?;
+    if !add_part(parts, part, state)? {
+        return Ok(false);
+    }
+    part.clear();
+    sim.write_mail(rank, part)?;
+    add_part(parts, part, state)
+}
+
+// Adds the part to the state, and answers whether there is room for it.
+fn add_part(parts: &mut Parts, part: &Standing, state: &mut State) -> Result<bool, AllocError>
+    ensures keeps { KeepsParts parts.old parts.new }
+    ensures adds { result ≡ Ok true → (rows : Rows) → AreParts parts.old state.old rows → AreParts parts.new state.new (behind rows part.now) }
+{
+    let Some(place) = parts.place_of(part)? else {
+        return Ok(false);
+    };
+    state.push(place)?;
+    Ok(true)
 }
