@@ -88,14 +88,22 @@ impl Parts {
         Ok(Some(place))
     }
 
-    /// Takes room for so many numbers, if there is so much. Where there isn't, no
-    /// room is left for others: parts of states that aren't kept are worth none.
+    /// Takes room for so many numbers, if there is so much.
     pub fn take_room(&mut self, numbers: usize) -> bool
         ensures { self.new ≡ self.old }
     {
-        let left = self.room.checked_sub(numbers);
-        self.room = left.unwrap_or(0);
-        left.is_some()
+        let Some(left) = self.room.checked_sub(numbers) else {
+            return false;
+        };
+        self.room = left;
+        true
+    }
+
+    /// Keeps no part more: once no state is kept more, new parts are of no use.
+    pub fn close(&mut self)
+        ensures { self.new ≡ self.old }
+    {
+        self.room = 0;
     }
 }
 

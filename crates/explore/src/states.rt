@@ -57,6 +57,7 @@ impl States {
             self.keep(hash, state)?;
         } else {
             self.leave_out();
+            parts.close();
         }
         Ok(false)
     }
