@@ -1,27 +1,9 @@
-//! Copies of a run.
+//! Copies of machines.
 ghost use Rattle.std.specs.Prelude.{◌≡◌, IfOk};
 
-use crate::sim::Sim;
 use limits::Heap;
 use rank_machine::Machine;
 use std::alloc::AllocError;
-
-impl<'p> Sim<'p> {
-    /// The same run of the same program, with each rank where it stands, in
-    /// memory of its own. An `Err` means out of memory.
-    pub fn copy(&self) -> Result<Sim<'p>, AllocError>
-        ensures { IfOk result (λ sim. sim ≡ self.now) }
-    {
-        Ok(Sim {
-            alloc: self.alloc,
-            program: self.program,
-            machines: copied(self.alloc, &self.machines)?,
-            passed: self.passed.as_slice().to_vec(self.alloc)?,
-            mail: self.mail.copy(self.alloc)?,
-            lines: self.lines.copy(self.alloc)?,
-        })
-    }
-}
 
 /// The same machines, in memory of their own.
 pub fn copied<'p>(
