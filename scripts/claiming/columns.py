@@ -10,9 +10,9 @@ from .places import Fault
 
 MOST = 100
 MOST_IN_FENCE = 120
-# a line that is one link or picture, or defines one
+# a line or a heading that is one link or picture, or a line that defines one
 LINK = r"!?\[[^\]]*\](?:\([^)]*\)|\[[^\]]*\])"
-UNBREAKABLE = re.compile(rf"^\s*(?:[-*+] |\d+\. |> )?(?:(?:{LINK}|\[{LINK}\]\([^)]*\))[.,;:]?|\[[^\]]+\]: \S+|<https?:[^>]+>)\s*$")
+UNBREAKABLE = re.compile(rf"^\s*(?:[-*+] |\d+\. |> |#+ )?(?:(?:{LINK}|\[{LINK}\]\([^)]*\))[.,;:]?|\[[^\]]+\]: \S+|<https?:[^>]+>)\s*$")
 
 
 def faults_of(document: str, text: str) -> Iterator[Fault]:
