@@ -137,7 +137,7 @@ probe_there s r now at miss =
     subst (λ w. WantsAt s.machines r w) is at.1
 
 -- the acts up to one are that one and those before it
-one_more : (acts : List Passed) (at : ℕ) (p : Passed) → slice_get acts at ≡ Some p → reverse (take (at + 1) acts) ≡ p ∷ reverse (take at acts)
+pub one_more : (acts : List Passed) (at : ℕ) (p : Passed) → slice_get acts at ≡ Some p → reverse (take (at + 1) acts) ≡ p ∷ reverse (take at acts)
 one_more acts at p there =
     let more : at + 1 ≡ suc at = omega arith in
     ap (λ k. reverse (take k acts)) more
@@ -145,7 +145,7 @@ one_more acts at p there =
     ∙ reverse-append (take at acts) (p ∷ [])
 
 -- and the whole goes on behind it
-goes_on : (acts : List Passed) (at : ℕ) (p : Passed) → slice_get acts at ≡ Some p
+pub goes_on : (acts : List Passed) (at : ℕ) (p : Passed) → slice_get acts at ≡ Some p
     → reverse acts ≡ reverse (drop (at + 1) acts) ++ p ∷ reverse (take at acts)
 goes_on acts at p there =
     ap reverse (sym (take-append-drop (at + 1) acts)) ∙ reverse-append (take (at + 1) acts) (drop (at + 1) acts)

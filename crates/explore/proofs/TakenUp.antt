@@ -1,23 +1,25 @@
--- A branch that is taken up: its run is made again, and it is the only one.
-use Rattle.std.proofs.Common.{◌≡◌, ℕ, ◌≤◌, List, [], ◌∷◌, Option, Some, None, length, sym, ap, subst, ◌∙◌, arith}
-use Rattle.std.specs.Prelude.{Err, IfOk, Ok, OnOk, Result, reverse, slice_index, take}
-use Rattle.std.proofs.lemmas.List.{length-reverse, reverse-reverse}
-use Rattle.rank_language.specs.Program.{ProgramValue}
+-- A branch that is taken up: its run is made again behind a stop, and it is the only one.
+use Rattle.std.proofs.Common.{◌≡◌, ℕ, ◌+◌, ◌≤◌, List, [], ◌∷◌, ◌++◌, Option, Some, None, length, slice_get, sym, ap, subst, ◌∙◌, arith}
+use Rattle.std.specs.Prelude.{Err, IfOk, Ok, OnOk, Result, drop, reverse, slice_index, take}
+use Rattle.std.proofs.lemmas.List.{append_assoc, length-append, length-reverse, length-take-le}
 use Rattle.rank_machine.specs.Acts.{Act}
 use Rattle.crash_free.specs.Runs.{Passed, IsRun}
 use Rattle.crash_free.specs.Sim.{SimValue, Simulates, Allows, choice_of, start_of}
 use Rattle.crash_free.specs.Wanted.{StandsAtAct}
+use Rattle.crash_free.proofs.Points.{cut_parts, first_all}
 use Rattle.explore.specs.declared.branch.Branch.{Branch}
 use Rattle.explore.specs.declared.moves.Move.{Move}
 use Rattle.final_runs.specs.Maximal.{MayFollow}
 use Rattle.explore.specs.Exploring.{and_then}
 use Rattle.explore.specs.Counting.{GoesBeyond}
-use Rattle.explore.specs.Counts.{Counts, KeepsCount}
+use Rattle.explore.specs.Counts.{Counts, KeepsCount, NeedsAtMost}
 use Rattle.explore.specs.Searching.{IsAlike}
 use Rattle.explore.specs.Stems.{first_acts, GoesBehind, stem_of, StandsFor, IsAfter, IsRunOf}
 use Rattle.explore.proofs.Beyond.{beyond_act, beyond_alike}
 use Rattle.explore.proofs.Choosing.{IsChosen, act_of_choice, goes_by, goes_there}
-use Rattle.explore.proofs.Stems.{behind_longer, first_behind, first_long, first_of_first, first_taken}
+use Rattle.explore.proofs.Shown.{goes_on, may_next, one_more}
+use Rattle.explore.proofs.Stems.{behind_longer, first_behind, first_long, first_of_first}
+use Rattle.explore.proofs.Within.{needs_before, needs_counted}
 
 -- The same ranks and the same run
 
@@ -49,14 +51,6 @@ after_back : (s t : SimValue) (C : List Passed) (o : Option Move) (P : List Pass
     → IsAfter s.program (length s.machines) C o P
 after_back s t C o P alike x =
     subst (λ n. IsAfter s.program n C o P) alike.ranks (subst (λ p. IsAfter p (length t.machines) C o P) alike.program x)
-
--- The acts of a run, in their order, are those of a run of other ranks of the same program.
-pub run_again : (s t : SimValue) (acts : List Passed) → Simulates s → acts ≡ reverse s.run → IsAlike s t
-    → IsRun (start_of t.program (length t.machines)) (length t.machines) (reverse acts)
-run_again s t acts stands same alike =
-    subst (λ C. IsRun (start_of t.program (length t.machines)) (length t.machines) C) (sym (ap reverse same ∙ reverse-reverse s.run))
-    (subst (λ n. IsRun (start_of t.program n) n s.run) (sym alike.ranks)
-    (subst (λ p. IsRun (start_of p (length s.machines)) (length s.machines) s.run) (sym alike.program) stands.is_run))
 
 -- A rank that has no steps left for an act that may follow goes beyond.
 pub beyond_there : (s t : SimValue) (left left' : List ℕ) (r : ℕ) (act : Act) → IsAlike s t → t.run ≡ s.run → Simulates t
@@ -99,23 +93,95 @@ module _ (s t s' : SimValue) (m : Move) (alike : IsAlike s t) (same : t.run ≡ 
       let allowed : Allows t m.rank (choice_of x.0) s' = subst (λ c. Allows t m.rank c s') (sym x.1.1) allows in
       x.2 ∙ ap (λ (C : List Passed). and_then C m.rank x.0) (sym same) ∙ sym (goes_there t s' m.rank x.0 now at may allowed)
 
--- the ranks of a program from its beginning on are those of a run of it
-pub alike_begun : (s begun t : SimValue) (program : ProgramValue) (n : ℕ) → s.program ≡ program → n ≡ length s.machines → begun.program ≡ program
-    → length begun.machines ≡ n → IsAlike begun t → IsAlike s t
-alike_begun s begun t program n same ranks begins as_many alike =
-    record { program = alike.program ∙ begins ∙ sym same; ranks = alike.ranks ∙ as_many ∙ ranks }
-
--- the acts that were made again are the first
-pub first_made : (s t : SimValue) (b : Branch) (acts : List Passed) → acts ≡ reverse s.run → t.run ≡ reverse (take b.shared acts) → b.shared ≤ length s.run
-    → t.run ≡ first_acts b.shared s.run
-first_made s t b acts same made within =
-    let size : length acts ≡ length s.run = ap length same ∙ length-reverse s.run in
-    made ∙ first_taken b.shared s.run acts same (omega (arith, within, size))
-
 -- what follows from what holds on a value holds on it
 pub if_value : {T E P Q : Type 0} (o : Result T E) → OnOk o P → (P → Q) → IfOk o (λ x. Q)
 if_value (Ok x) p f = f p
 if_value (Err y) p f = tt
+
+-- so what follows from each of three facts
+pub if_all : {T E P Q R S : Type 0} (o : Result T E) → OnOk o P → OnOk o Q → OnOk o R → (P → Q → R → S) → IfOk o (λ x. S)
+if_all (Ok x) p q r f = f p q r
+if_all (Err y) p q r f = tt
+
+-- where there is no value to speak of either
+pub on_value_too : {T E P Q : Type 0} (o : Result T E) → OnOk o P → (P → Q) → OnOk o Q
+on_value_too (Ok x) p f = f p
+on_value_too (Err y) p f = tt
+
+-- Acts of a run that are made again, behind a beginning of it
+
+-- The acts since a beginning of a run, and those before, are its acts, also by the ranks of another simulation
+module _ (s t : SimValue) (C : List Passed) (alike : IsAlike s t) (same : C ≡ s.run) where
+  pub run_since : Simulates s → IsRun (start_of t.program (length t.machines)) (length t.machines) C
+  run_since stands =
+      subst (λ X. IsRun (start_of t.program (length t.machines)) (length t.machines) X) (sym same)
+      (subst (λ n. IsRun (start_of t.program n) n s.run) (sym alike.ranks)
+      (subst (λ p. IsRun (start_of p (length s.machines)) (length s.machines) s.run) (sym alike.program) stands.is_run))
+
+  pub needs_since : (left : List ℕ) (steps : ℕ) → Counts steps s left → NeedsAtMost t.program (length t.machines) steps C
+  needs_since left steps counts =
+      subst (λ X. NeedsAtMost t.program (length t.machines) steps X) (sym same)
+      (subst (λ n. NeedsAtMost t.program n steps s.run) (sym alike.ranks)
+      (subst (λ p. NeedsAtMost p (length s.machines) steps s.run) (sym alike.program) (needs_counted s left steps counts)))
+
+-- one more of them
+pub made_again : (acts base : List Passed) (at : ℕ) (p : Passed) (run run' : List Passed) → slice_get acts at ≡ Some p
+    → run ≡ reverse (take at acts) ++ base → run' ≡ p ∷ run → run' ≡ reverse (take (at + 1) acts) ++ base
+made_again acts base at p run run' there before e =
+    e ∙ ap (λ (X : List Passed). p ∷ X) before ∙ sym (ap (λ (X : List Passed). X ++ base) (one_more acts at p there))
+
+-- the whole run goes on behind it
+whole_behind : (acts base : List Passed) (at : ℕ) (p : Passed) (run : List Passed) → slice_get acts at ≡ Some p → run ≡ reverse (take at acts) ++ base
+    → GoesBehind (p ∷ run) (reverse acts ++ base)
+whole_behind acts base at p run there before = (
+  reverse (drop (at + 1) acts),
+  ap (λ (X : List Passed). X ++ base) (goes_on acts at p there)
+      ∙ append_assoc (reverse (drop (at + 1) acts)) (p ∷ reverse (take at acts)) base
+      ∙ ap (λ (X : List Passed). reverse (drop (at + 1) acts) ++ p ∷ X) (sym before),
+)
+
+module _ (s t : SimValue) (acts : List Passed) (at : ℕ) (p : Passed) (there : slice_get acts at ≡ Some p)
+    (before : t.run ≡ reverse (take at acts) ++ s.run) (alike : IsAlike s t) where
+  -- it may follow
+  pub may_again : IsRun (start_of s.program (length s.machines)) (length s.machines) (reverse acts ++ s.run)
+      → MayFollow (start_of t.program (length t.machines)) (length t.machines) t.run p.rank p.act
+  may_again run =
+      let behind = whole_behind acts s.run at p t.run there before in
+      let may : MayFollow (start_of s.program (length s.machines)) (length s.machines) t.run p.rank p.act =
+      may_next (start_of s.program (length s.machines)) (length s.machines) behind.0 p t.run
+      (subst (λ (C : List Passed). IsRun (start_of s.program (length s.machines)) (length s.machines) C) behind.1 run) in
+      subst (λ n. MayFollow (start_of t.program n) n t.run p.rank p.act) (sym alike.ranks)
+      (subst (λ q. MayFollow (start_of q (length s.machines)) (length s.machines) t.run p.rank p.act) (sym alike.program) may)
+
+  -- and needs no more steps than the whole run
+  pub needs_again : (steps : ℕ) → NeedsAtMost s.program (length s.machines) steps (reverse acts ++ s.run)
+      → NeedsAtMost t.program (length t.machines) steps (p ∷ t.run)
+  needs_again steps needs =
+      subst (λ n. NeedsAtMost t.program n steps (p ∷ t.run)) (sym alike.ranks)
+      (subst (λ q. NeedsAtMost q (length s.machines) steps (p ∷ t.run)) (sym alike.program)
+      (needs_before s.program (length s.machines) steps (reverse acts ++ s.run) (p ∷ t.run) (whole_behind acts s.run at p t.run there before) needs))
+
+-- where so many acts in all were made again they are the first ones
+pub made_first : (C base acts : List Passed) (count shared : ℕ) → reverse acts ++ base ≡ C → length base + count ≡ shared → count ≤ length acts
+    → reverse (take count acts) ++ base ≡ first_acts shared C
+made_first C base acts count shared whole size few =
+    sym (first_all made) ∙ ap (λ k. first_acts k made) long ∙ sym (first_behind shared made C behind (omega (arith, long)))
+  where
+    made : List Passed
+    made = reverse (take count acts) ++ base
+
+    long : length made ≡ shared
+    long =
+        let both = length-append (reverse (take count acts)) base in
+        let one = length-reverse (take count acts) in
+        let some = length-take-le count acts few in
+        omega (arith, both, one, some, size)
+
+    behind : GoesBehind made C
+    behind = (
+      reverse (drop count acts),
+      sym whole ∙ ap (λ (X : List Passed). X ++ base) (sym (cut_parts count acts)) ∙ append_assoc (reverse (drop count acts)) (reverse (take count acts)) base,
+    )
 
 -- The first acts of a run that were made again, and then the move of a branch
 module _ (s t : SimValue) (b : Branch) (alike : IsAlike s t) (first : t.run ≡ first_acts b.shared s.run) (within : b.shared ≤ length s.run) where

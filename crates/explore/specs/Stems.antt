@@ -1,7 +1,7 @@
 -- What is left of a search, depth first: branches that share what is behind them with the run that
--- was played last, so that each of their runs is made again from the beginning (VeriSoft: Godefroid
--- 1997).
-use Rattle.std.specs.Prelude.{◌≡◌, ℕ, ◌-◌, ◌≤◌, ◌++◌, List, [], Option, Some, None, length, drop, map, slice_get}
+-- was played last, so that this much of their runs is made again (VeriSoft: Godefroid 1997), or taken
+-- from a stop.
+use Rattle.std.specs.Prelude.{◌≡◌, ℕ, ◌≤◌, List, [], Option, Some, None, length, map, slice_get}
 use Rattle.rank_language.specs.Program.{ProgramValue}
 use Rattle.rank_machine.specs.Acts.{Act}
 use Rattle.crash_free.specs.Runs.{Passed}

@@ -4,6 +4,7 @@ ghost use Rattle.limits.specs.Limits.{most_ranks};
 ghost use Rattle.explore.specs.Counting.{GoesBeyond};
 ghost use Rattle.explore.specs.Searching.{IsOn, NeedsFewer};
 ghost use Rattle.explore.specs.Stems.{stems_of, whole};
+ghost use Rattle.explore.specs.Stops.{CanGoBack, KeepsStops};
 ghost use Rattle.explore.specs.Tables.{AreTablesOf};
 
 use crate::branch::Branch;
@@ -13,6 +14,7 @@ use crate::met::Met;
 use crate::path::Path;
 use crate::play::{Played, play};
 use crate::races::Races;
+use crate::stops::Stops;
 use crate::tables::Tables;
 use crate::taking::take_up;
 use final_runs::outcome_of;
@@ -25,6 +27,8 @@ use std::alloc::AllocError;
 pub struct Search<'p> {
     /// The run that was played last, off which all branches go.
     path: Path<'p>,
+    /// Where it can be taken up again.
+    stops: Stops<'p>,
     /// The last one is next.
     pending: Vec<Branch, Heap>,
     found: Found,
@@ -48,8 +52,10 @@ impl<'p> Search<'p> {
         ensures on { IfOk result (λ s. IsOn program.entry.now ranks s.path.sim s.pending.items s.found s.met s.out_of_steps) }
         ensures all { IfOk result (λ s. stems_of s.path.sim.run s.pending.items ≡ whole ∷ []) }
         ensures uncut { IfOk result (λ s. s.out_of_steps ≡ false) }
+        ensures back { IfOk result (λ s. CanGoBack steps s.path.sim s.path.left s.stops) }
     {
         let path = Path::new(alloc, program, ranks, steps)?;
+        let stops = Stops::new(alloc, &path)?;
         let mut pending = Vec::new(alloc);
         pending.push(Branch {
             shared: 0,
@@ -58,6 +64,7 @@ impl<'p> Search<'p> {
         })?;
         Ok(Search {
             path,
+            stops,
             pending,
             found: Found::new(alloc),
             met: Met::new(alloc, states),
@@ -69,17 +76,10 @@ impl<'p> Search<'p> {
     /// Takes up branches, the last one first, until one comes to where no run
     /// stood, and looks at its run. Answers whether there was one. An `Err` means
     /// out of memory.
-    pub fn look_on(
-        &mut self,
-        alloc: Heap,
-        program: &'p Program,
-        tables: &Tables,
-        steps: u32,
-    ) -> Result<bool, AllocError>
-        requires some { 1 ≤ length self.old.path.sim.machines }
+    pub fn look_on(&mut self, alloc: Heap, tables: &Tables) -> Result<bool, AllocError>
         requires few { length self.old.path.sim.machines ≤ most_ranks }
-        requires program { self.old.path.sim.program ≡ program.now }
-        requires tables { AreTablesOf program.now tables.now }
+        requires tables { AreTablesOf self.old.path.sim.program tables.now }
+        requires back { (steps : ℕ) × CanGoBack steps self.old.path.sim self.old.path.left self.old.stops }
         requires on { IsOn self.old.path.sim.program (length self.old.path.sim.machines) self.old.path.sim self.old.pending.items
             self.old.found self.old.met self.old.out_of_steps }
         ensures on { IfOk result (λ _. IsOn self.old.path.sim.program (length self.old.path.sim.machines) self.new.path.sim self.new.pending.items
@@ -87,11 +87,13 @@ impl<'p> Search<'p> {
         ensures none { result ≡ Ok false → self.new.pending.items ≡ [] }
         ensures enough { result ≡ Ok true → NeedsFewer self.old.path.sim.program (length self.old.path.sim.machines) self.old.path.sim.run
             self.old.pending.items self.new.path.sim.run self.new.pending.items }
-        ensures beyond { IfOk result (λ _. (self.old.out_of_steps ≡ true → GoesBeyond self.old.path.sim.program (length self.old.path.sim.machines) steps)
+        ensures back { IfOk result (λ _. KeepsStops self.old.path.sim self.old.path.left self.old.stops self.new.path.sim self.new.path.left self.new.stops) }
+        ensures beyond { IfOk result (λ _. (steps : ℕ) → CanGoBack steps self.old.path.sim self.old.path.left self.old.stops
+            → (self.old.out_of_steps ≡ true → GoesBeyond self.old.path.sim.program (length self.old.path.sim.machines) steps)
             → self.new.out_of_steps ≡ true → GoesBeyond self.old.path.sim.program (length self.old.path.sim.machines) steps) }
     {
         while let Some(branch) = self.pending.pop() {
-            if self.look(alloc, program, tables, steps, branch)? {
+            if self.look(alloc, tables, branch)? {
                 return Ok(true);
             }
         }
@@ -101,18 +103,10 @@ impl<'p> Search<'p> {
     // Takes up one branch, goes on with its run to its end, or to where a run stood before, and
     // notes the outcome that it has at its end. Answers false if a run stood there before it left a
     // branch itself: then what may follow was looked at before.
-    fn look(
-        &mut self,
-        alloc: Heap,
-        program: &'p Program,
-        tables: &Tables,
-        steps: u32,
-        branch: Branch,
-    ) -> Result<bool, AllocError>
-        requires some { 1 ≤ length self.old.path.sim.machines }
+    fn look(&mut self, alloc: Heap, tables: &Tables, branch: Branch) -> Result<bool, AllocError>
         requires few { length self.old.path.sim.machines ≤ most_ranks }
-        requires program { self.old.path.sim.program ≡ program.now }
-        requires tables { AreTablesOf program.now tables.now }
+        requires tables { AreTablesOf self.old.path.sim.program tables.now }
+        requires back { (steps : ℕ) × CanGoBack steps self.old.path.sim self.old.path.left self.old.stops }
         requires on { IsOn self.old.path.sim.program (length self.old.path.sim.machines) self.old.path.sim (self.old.pending.items ++ branch ∷ [])
             self.old.found self.old.met self.old.out_of_steps }
         ensures on { IfOk result (λ _. IsOn self.old.path.sim.program (length self.old.path.sim.machines) self.new.path.sim self.new.pending.items
@@ -120,10 +114,12 @@ impl<'p> Search<'p> {
         ensures fewer { result ≡ Ok false → length self.new.pending.items ≤ length self.old.pending.items }
         ensures enough { IfOk result (λ _. NeedsFewer self.old.path.sim.program (length self.old.path.sim.machines) self.old.path.sim.run
             (self.old.pending.items ++ branch ∷ []) self.new.path.sim.run self.new.pending.items) }
-        ensures beyond { IfOk result (λ _. (self.old.out_of_steps ≡ true → GoesBeyond self.old.path.sim.program (length self.old.path.sim.machines) steps)
+        ensures back { IfOk result (λ _. KeepsStops self.old.path.sim self.old.path.left self.old.stops self.new.path.sim self.new.path.left self.new.stops) }
+        ensures beyond { IfOk result (λ _. (steps : ℕ) → CanGoBack steps self.old.path.sim self.old.path.left self.old.stops
+            → (self.old.out_of_steps ≡ true → GoesBeyond self.old.path.sim.program (length self.old.path.sim.machines) steps)
             → self.new.out_of_steps ≡ true → GoesBeyond self.old.path.sim.program (length self.old.path.sim.machines) steps) }
     {
-        if !take_up(alloc, program, steps, &mut self.path, branch)? {
+        if !take_up(&mut self.path, &mut self.stops, branch)? {
             self.out_of_steps = true;
             return Ok(true);
         }
@@ -131,6 +127,7 @@ impl<'p> Search<'p> {
         match play(
             alloc,
             &mut self.path,
+            &mut self.stops,
             &mut self.pending,
             tables,
             &mut self.met,
@@ -160,6 +157,7 @@ impl<'p> Search<'p> {
         let complete = self.is_complete();
         let Search {
             path: _,
+            stops: _,
             pending: _,
             found,
             met,

@@ -1,5 +1,5 @@
-//! Branches that are taken up: their runs are made again.
-ghost use Rattle.std.specs.Prelude.{◌≡◌, ◌<◌, ◌≤◌, ℕ, ◌∷◌, true, false, [], List, IfOk, Ok, OnOk, Some, length, reverse, slice_index, take};
+//! Branches that are taken up: their runs are made again from the closest stop.
+ghost use Rattle.std.specs.Prelude.{◌≡◌, ◌<◌, ◌≤◌, ℕ, ◌∷◌, ◌++◌, true, false, List, IfOk, Ok, OnOk, Some, length, reverse, slice_index, take};
 ghost use Rattle.limits.specs.Limits.{most_ranks};
 ghost use Rattle.rank_machine.specs.Acts.{Act};
 ghost use Rattle.crash_free.specs.Runs as runs;
@@ -7,36 +7,34 @@ ghost use Rattle.crash_free.specs.Runs.{IsRun};
 ghost use Rattle.crash_free.specs.Sim.{Simulates, start_of};
 ghost use Rattle.crash_free.specs.Wanted.{StandsAtAct};
 ghost use Rattle.explore.specs.Counting.{GoesBeyond};
-ghost use Rattle.explore.specs.Counts.{Counts, KeepsCount};
+ghost use Rattle.explore.specs.Counts.{Counts, KeepsCount, NeedsAtMost};
 ghost use Rattle.explore.specs.Searching.{IsAlike};
 ghost use Rattle.explore.specs.Stems.{GoesBehind, IsAfter, IsRunOf, StandsFor, first_acts, stem_of};
+ghost use Rattle.explore.specs.Stops.{AreStops, AreWithin, CanGoBack, KeepsStops};
 ghost use Rattle.final_runs.specs.Maximal.{MayFollow};
 
 use crate::again::{act_at, make};
 use crate::branch::Branch;
 use crate::moves::Move;
 use crate::path::Path;
+use crate::stops::Stops;
 use crash_free::{Passed, Sim};
 use limits::{Heap, MOST_RANKS};
-use rank_language::Program;
 use std::alloc::AllocError;
 
-/// Makes the run of a branch that goes off this path, which it is then: the
-/// acts that it shares once more, from the beginning of the program, and then
-/// its move. Each rank has so many steps for that. Answers whether they are
-/// enough. An `Err` means out of memory.
+/// Makes the run of a branch that goes off this path, which it is then: goes back
+/// to the closest stop that the two share, makes the acts that they share behind
+/// it once more, and then its move. Answers whether the rank of the move has
+/// steps enough. An `Err` means out of memory.
 pub fn take_up<'p>(
-    alloc: Heap,
-    program: &'p Program,
-    steps: u32,
     path: &mut Path<'p>,
+    stops: &mut Stops<'p>,
     branch: Branch,
 ) -> Result<bool, AllocError>
-    requires some { 1 ≤ length path.old.sim.machines }
     requires few { length path.old.sim.machines ≤ most_ranks }
-    requires program { path.old.sim.program ≡ program.now }
     requires within { branch.shared ≤ length path.old.sim.run }
     requires some_run { (P : List runs.Passed) × IsRunOf path.old.sim.program (length path.old.sim.machines) (stem_of path.old.sim.run branch) P }
+    requires back { (steps : ℕ) × CanGoBack steps path.old.sim path.old.left stops.old }
     ensures alike { IfOk result (λ _. IsAlike path.old.sim path.new.sim) }
     ensures stands { IfOk result (λ _. Simulates path.new.sim) }
     ensures made { result ≡ Ok true → IsRunOf path.old.sim.program (length path.old.sim.machines) (stem_of path.old.sim.run branch) path.new.sim.run }
@@ -44,20 +42,11 @@ pub fn take_up<'p>(
         → P ≡ path.new.sim.run }
     ensures shares { IfOk result (λ _. (k : ℕ) → k ≤ branch.shared → first_acts k path.new.sim.run ≡ first_acts k path.old.sim.run) }
     ensures long { IfOk result (λ _. branch.shared ≤ length path.new.sim.run) }
-    ensures counts { result ≡ Ok true → Counts steps path.new.sim path.new.left }
-    ensures beyond { result ≡ Ok false → GoesBeyond path.old.sim.program (length path.old.sim.machines) steps }
+    ensures back { IfOk result (λ _. KeepsStops path.old.sim path.old.left stops.old path.new.sim path.new.left stops.new) }
+    ensures beyond { result ≡ Ok false → (steps : ℕ) → CanGoBack steps path.old.sim path.old.left stops.old
+        → GoesBeyond path.old.sim.program (length path.old.sim.machines) steps }
 {
-    let ranks = path.sim.ranks();
-    let Path {
-        mut sim,
-        mut left,
-        choices: _,
-    } = Path::new(alloc, program, ranks, steps)?;
-    if !make_first(&mut sim, &mut left, path.sim.acts(), branch.shared)? {
-        return Ok(false);
-    }
-    path.sim = sim;
-    path.left = left;
+    make_first(path, stops, branch.shared)?;
     path.choices.truncate(branch.choices);
     match branch.chosen {
         Some(chosen) => go_off(path, chosen),
@@ -65,59 +54,93 @@ pub fn take_up<'p>(
     }
 }
 
-// Makes the first acts of a run, so many of them. Answers whether the steps were enough.
-fn make_first(
-    sim: &mut Sim<'_>,
-    left: &mut [u32; MOST_RANKS],
+// Cuts the run of the path to its first acts, so many: it goes back to a stop, and makes the acts
+// behind that once more.
+fn make_first<'p>(
+    path: &mut Path<'p>,
+    stops: &mut Stops<'p>,
+    shared: usize,
+) -> Result<(), AllocError>
+    requires few { length path.old.sim.machines ≤ most_ranks }
+    requires within { shared ≤ length path.old.sim.run }
+    requires back { (steps : ℕ) × CanGoBack steps path.old.sim path.old.left stops.old }
+    ensures alike { OnOk result (IsAlike path.old.sim path.new.sim) }
+    ensures stands { OnOk result (Simulates path.new.sim) }
+    ensures made { OnOk result (path.new.sim.run ≡ first_acts shared path.old.sim.run) }
+    ensures back { OnOk result (KeepsStops path.old.sim path.old.left stops.old path.new.sim path.new.left stops.new) }
+{
+    let _ = path.sim.ranks();
+    stops.drop_behind(shared);
+    let since = go_back(path, stops)?;
+    let count = shared - path.sim.acts().len();
+    make_again(path, stops, since.as_slice(), count)
+}
+
+// Goes back to the closest stop. Answers the acts that were made since, the oldest first.
+fn go_back<'p>(path: &mut Path<'p>, stops: &Stops<'p>) -> Result<Vec<Passed, Heap>, AllocError>
+    requires stops { (steps : ℕ) × AreStops path.old.sim.program (length path.old.sim.machines) steps path.old.sim.run stops.now }
+    ensures alike { OnOk result (IsAlike path.old.sim path.new.sim) }
+    ensures stands { OnOk result (Simulates path.new.sim) }
+    ensures since { IfOk result (λ acts. reverse acts.items ++ path.new.sim.run ≡ path.old.sim.run) }
+    ensures short { OnOk result ((k : ℕ) → AreWithin k stops.now → length path.new.sim.run ≤ k) }
+    ensures back { OnOk result ((steps : ℕ) → AreStops path.old.sim.program (length path.old.sim.machines) steps path.old.sim.run stops.now
+        → CanGoBack steps path.new.sim path.new.left stops.now) }
+{
+    let stop = stops.closest();
+    let since = path.sim.go_back(&stop.point)?;
+    path.left = stop.left;
+    Ok(since)
+}
+
+// Makes the first of these acts, so many, with stops on the way: the next branches go off near them.
+fn make_again<'p>(
+    path: &mut Path<'p>,
+    stops: &mut Stops<'p>,
     acts: &[Passed],
     count: usize,
-) -> Result<bool, AllocError>
-    requires few { length sim.old.machines ≤ most_ranks }
-    requires stands { Simulates sim.old }
-    requires begins { sim.old.run ≡ [] }
-    requires run { IsRun (start_of sim.old.program (length sim.old.machines)) (length sim.old.machines) (reverse acts.now) }
+) -> Result<(), AllocError>
+    requires few { length path.old.sim.machines ≤ most_ranks }
+    requires stands { Simulates path.old.sim }
     requires within { count ≤ length acts.now }
-    ensures alike { OnOk result (IsAlike sim.old sim.new) }
-    ensures stands { OnOk result (Simulates sim.new) }
-    ensures made { result ≡ Ok true → sim.new.run ≡ reverse (take count acts.now) }
-    ensures counts { result ≡ Ok true → KeepsCount sim.old left.old sim.new left.new }
-    ensures beyond { result ≡ Ok false → (steps : ℕ) → Counts steps sim.old left.old
-        → GoesBeyond sim.old.program (length sim.old.machines) steps }
+    requires run { IsRun (start_of path.old.sim.program (length path.old.sim.machines)) (length path.old.sim.machines) (reverse acts.now ++ path.old.sim.run) }
+    requires back { (steps : ℕ) × CanGoBack steps path.old.sim path.old.left stops.old
+        × NeedsAtMost path.old.sim.program (length path.old.sim.machines) steps (reverse acts.now ++ path.old.sim.run) }
+    ensures alike { OnOk result (IsAlike path.old.sim path.new.sim) }
+    ensures stands { OnOk result (Simulates path.new.sim) }
+    ensures made { OnOk result (path.new.sim.run ≡ reverse (take count acts.now) ++ path.old.sim.run) }
+    ensures back { OnOk result (KeepsStops path.old.sim path.old.left stops.old path.new.sim path.new.left stops.new) }
 {
     let mut at = 0;
     while at < count {
-        if !repeat(sim, left, act_at(acts, at))? {
-            return Ok(false);
-        }
+        repeat(&mut path.sim, &mut path.left, act_at(acts, at))?;
+        stops.note(path)?;
         at += 1;
     }
-    Ok(true)
+    Ok(())
 }
 
-// Makes this act, and before it the steps of its rank's own. Answers whether the rank had as many
-// steps left.
+// Makes this act, and before it the steps of its rank's own.
 fn repeat(
     sim: &mut Sim<'_>,
     left: &mut [u32; MOST_RANKS],
     passed: &Passed,
-) -> Result<bool, AllocError>
+) -> Result<(), AllocError>
     requires few { length sim.old.machines ≤ most_ranks }
     requires stands { Simulates sim.old }
     requires may { MayFollow (start_of sim.old.program (length sim.old.machines)) (length sim.old.machines) sim.old.run passed.now.rank passed.now.act }
+    requires enough { (steps : ℕ) × Counts steps sim.old left.old
+        × NeedsAtMost sim.old.program (length sim.old.machines) steps (passed.now ∷ sim.old.run) }
     ensures alike { OnOk result (IsAlike sim.old sim.new) }
     ensures stands { OnOk result (Simulates sim.new) }
-    ensures made { result ≡ Ok true → sim.new.run ≡ passed.now ∷ sim.old.run }
-    ensures counts { result ≡ Ok true → KeepsCount sim.old left.old sim.new left.new }
-    ensures beyond { result ≡ Ok false → (steps : ℕ) → Counts steps sim.old left.old
-        → GoesBeyond sim.old.program (length sim.old.machines) steps }
+    ensures made { OnOk result (sim.new.run ≡ passed.now ∷ sim.old.run) }
+    ensures counts { OnOk result (KeepsCount sim.old left.old sim.new left.new) }
 {
     let rank = passed.rank;
-    if !comes_to_act(sim, left, rank) {
-        return Ok(false);
-    }
+    // it does: the run that was played had steps for it
+    let _ = comes_to_act(sim, left, rank);
     make(sim, rank, &passed.act)?;
     left[usize::from(rank)] -= 1;
-    Ok(true)
+    Ok(())
 }
 
 // Makes steps of the rank's own until it asks for an act. Answers whether it has a step left for
@@ -151,7 +174,7 @@ fn go_off(path: &mut Path<'_>, chosen: Move) -> Result<bool, AllocError>
     ensures made { result ≡ Ok true → IsAfter path.old.sim.program (length path.old.sim.machines) path.old.sim.run (Some chosen) path.new.sim.run }
     ensures only { result ≡ Ok true → (P : List runs.Passed) → IsAfter path.old.sim.program (length path.old.sim.machines) path.old.sim.run (Some chosen) P
         → P ≡ path.new.sim.run }
-    ensures counts { result ≡ Ok true → KeepsCount path.old.sim path.old.left path.new.sim path.new.left }
+    ensures counts { OnOk result (KeepsCount path.old.sim path.old.left path.new.sim path.new.left) }
     ensures beyond { result ≡ Ok false → (steps : ℕ) → Counts steps path.old.sim path.old.left
         → GoesBeyond path.old.sim.program (length path.old.sim.machines) steps }
 {

@@ -1,10 +1,11 @@
-use Rattle.std.proofs.Common.{◌≡◌, true, false, length, refl, sym, subst, ◌∙◌, arith}
+use Rattle.std.proofs.Common.{◌≡◌, true, false, length, refl, sym, subst, arith}
 use Rattle.std.specs.Prelude.{Ok}
 use Rattle.explore.specs.Stems.{stems_of}
 use Rattle.explore.specs.Tables.{AreTablesOf}
 use Rattle.explore.proofs.Going.{fewer_cut, fewer_looked, off_now, on_cut, on_looked}
 use Rattle.explore.proofs.Looking.{looks_cut, looks_ended, looks_met}
 use Rattle.explore.proofs.Stems.{last_run, last_within}
+use Rattle.explore.proofs.TakenUp.{beyond_back}
 use Rattle.explore.proofs.ongoing.Search.look.Goals as goal
 
 pub take_up-requires-clause-within : goal.take_up-requires-clause-within
@@ -21,12 +22,12 @@ play-requires-clause-few c = (let alike = c.in_ok-take_up.ensures.alike in omega
 pub play-requires-clause-tables : goal.play-requires-clause-tables
 play-requires-clause-tables c =
     (let alike = c.in_ok-take_up.ensures.alike in
-    subst (λ p. AreTablesOf p c.args.tables.now) (sym (alike.program ∙ c.requires.program)) c.requires.tables)
+    subst (λ p. AreTablesOf p c.args.tables.now) (sym alike.program) c.requires.tables)
 
 pub play-requires-clause-counts : goal.play-requires-clause-counts
 play-requires-clause-counts c =
-    let yes : c.take_up.result ≡ Ok true = (let one = c.in_ok-take_up.was in let two = c.if-not-branch.false in cc) in
-    (c.args.steps, c.take_up.ensures.counts yes)
+    let back = c.requires.back in
+    (back.0, (c.in_ok-take_up.ensures.back back.0 back.1).counts)
 
 pub play-requires-clause-off : goal.play-requires-clause-off
 play-requires-clause-off c =
@@ -118,3 +119,17 @@ returns-in-Spent-clause-on c =
     c.play.new.path.sim.run c.play.new.pending.items) c.args.self.now.found
     c.args.self.now.met c.play.new.met c.in_ok-play.ensures.plays c.in_ok-play.ensures.remembers)
     (λ e. absurd (let z : true ≡ false = e in cc))
+
+pub returns-in_ok-note-in-Still-clause-back : goal.returns-in_ok-note-in-Still-clause-back
+returns-in_ok-note-in-Still-clause-back c = λ steps can. c.in_ok-play.ensures.back steps (c.in_ok-take_up.ensures.back steps can)
+
+pub returns-in-Met-clause-back : goal.returns-in-Met-clause-back
+returns-in-Met-clause-back c = λ steps can. c.in_ok-play.ensures.back steps (c.in_ok-take_up.ensures.back steps can)
+
+pub returns-in-Spent-clause-back : goal.returns-in-Spent-clause-back
+returns-in-Spent-clause-back c = λ steps can. c.in_ok-play.ensures.back steps (c.in_ok-take_up.ensures.back steps can)
+
+pub returns-in-Spent-clause-beyond : goal.returns-in-Spent-clause-beyond
+returns-in-Spent-clause-beyond c = λ steps can before cut.
+    beyond_back c.args.self.now.path.sim c.take_up.new.path.sim steps c.in_ok-take_up.ensures.alike
+    (c.in_ok-play.ensures.beyond c.in-Spent.is steps (c.in_ok-take_up.ensures.back steps can).counts)

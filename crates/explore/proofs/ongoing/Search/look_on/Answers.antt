@@ -1,23 +1,25 @@
-use Rattle.std.proofs.Common.{◌++◌, ◌∷◌, [], List, length, subst, ◌∙◌, arith}
+use Rattle.std.proofs.Common.{◌++◌, ◌∷◌, [], List, length, sym, subst, arith}
 use Rattle.explore.specs.declared.branch.Branch.{Branch}
 use Rattle.explore.specs.Searching.{IsOn}
 use Rattle.explore.specs.Small.{EnoughForAll}
 use Rattle.explore.specs.Stems.{stems_of}
+use Rattle.explore.specs.Tables.{AreTablesOf}
 use Rattle.explore.proofs.Among.{popped_some}
 use Rattle.explore.proofs.Going.{beyond_on, fewer_back, on_back, on_own}
 use Rattle.explore.proofs.ongoing.Search.look_on.Goals as goal
 
 pub loop-branch-init : goal.loop-branch-init
-loop-branch-init c = record { on = c.requires.on; enough = λ k e. (k, e, omega arith); beyond = λ before now. before now }
-
-pub look-requires-clause-some : goal.look-requires-clause-some
-look-requires-clause-some c = (let on = c.loop-branch.invariant.on in omega (arith, c.requires.some, on.ranks))
+loop-branch-init c = record { on = c.requires.on; enough = λ k e. (k, e, omega arith); back = λ steps can. can; beyond = λ steps can before now. before now }
 
 pub look-requires-clause-few : goal.look-requires-clause-few
 look-requires-clause-few c = (let on = c.loop-branch.invariant.on in omega (arith, c.requires.few, on.ranks))
 
-pub look-requires-clause-program : goal.look-requires-clause-program
-look-requires-clause-program c = (let on = c.loop-branch.invariant.on in on.program_same ∙ c.requires.program)
+pub look-requires-clause-tables : goal.look-requires-clause-tables
+look-requires-clause-tables c =
+    subst (λ p. AreTablesOf p c.args.tables.now) (sym c.loop-branch.invariant.on.program_same) c.requires.tables
+
+pub look-requires-clause-back : goal.look-requires-clause-back
+look-requires-clause-back c = (c.requires.back.0, c.loop-branch.invariant.back c.requires.back.0 c.requires.back.1)
 
 pub look-requires-clause-on : goal.look-requires-clause-on
 look-requires-clause-on c =
@@ -48,8 +50,20 @@ loop-branch-preserved c =
           last x.1) in
           let less = fewer.2 in
           (fewer.0, fewer.1, omega (arith, before, less)));
+      back = λ steps can. c.in_ok-look.ensures.back steps (c.loop-branch.invariant.back steps can);
       beyond =
-          λ start.
-          beyond_on c.args.self.now.path.sim.program (length c.args.self.now.path.sim.machines) s c.args.steps c.loop-branch.self.out_of_steps
-          c.look.new.self.out_of_steps on.program_same on.ranks (c.loop-branch.invariant.beyond start) c.in_ok-look.ensures.beyond;
+          λ steps can start.
+          beyond_on c.args.self.now.path.sim.program (length c.args.self.now.path.sim.machines) s steps c.loop-branch.self.out_of_steps
+          c.look.new.self.out_of_steps on.program_same on.ranks (c.loop-branch.invariant.beyond steps can start)
+          (c.in_ok-look.ensures.beyond steps (c.loop-branch.invariant.back steps can));
     }
+
+pub returns-then-branch-clause-back : goal.returns-then-branch-clause-back
+returns-then-branch-clause-back c = λ steps can. c.in_ok-look.ensures.back steps (c.loop-branch.invariant.back steps can)
+
+pub returns-then-branch-clause-beyond : goal.returns-then-branch-clause-beyond
+returns-then-branch-clause-beyond c = λ steps can start.
+    (let on = c.loop-branch.invariant.on in
+    beyond_on c.args.self.now.path.sim.program (length c.args.self.now.path.sim.machines) c.loop-branch.self.path.sim steps
+    c.loop-branch.self.out_of_steps c.look.new.self.out_of_steps on.program_same on.ranks (c.loop-branch.invariant.beyond steps can start)
+    (c.in_ok-look.ensures.beyond steps (c.loop-branch.invariant.back steps can)))

@@ -3,6 +3,7 @@ use Rattle.explore.specs.Counting.{GoesBeyond}
 use Rattle.explore.specs.Searching.{IsOn}
 use Rattle.explore.specs.Small.{EnoughForAll}
 use Rattle.explore.specs.Stems.{stems_of}
+use Rattle.explore.specs.Stops.{CanGoBack, KeepsStops}
 use Rattle.explore.proofs.ongoing.Search.look_on.Given as goal
 
 -- how far it has come, with fewer branches left
@@ -14,8 +15,10 @@ invariant-loop-branch l = record {
       (stems_of l.initial.self.path.sim.run l.initial.self.pending.items)
       → (i : ℕ) × EnoughForAll l.initial.self.path.sim.program (length l.initial.self.path.sim.machines) i (stems_of l.self.path.sim.run l.self.pending.items)
       × (i ≤ k);
-  beyond : (l.initial.self.out_of_steps ≡ true → GoesBeyond l.initial.self.path.sim.program (length l.initial.self.path.sim.machines) l.steps)
-      → l.self.out_of_steps ≡ true → GoesBeyond l.initial.self.path.sim.program (length l.initial.self.path.sim.machines) l.steps;
+  back : KeepsStops l.initial.self.path.sim l.initial.self.path.left l.initial.self.stops l.self.path.sim l.self.path.left l.self.stops;
+  beyond : (steps : ℕ) → CanGoBack steps l.initial.self.path.sim l.initial.self.path.left l.initial.self.stops
+      → (l.initial.self.out_of_steps ≡ true → GoesBeyond l.initial.self.path.sim.program (length l.initial.self.path.sim.machines) steps)
+      → l.self.out_of_steps ≡ true → GoesBeyond l.initial.self.path.sim.program (length l.initial.self.path.sim.machines) steps;
 }
 
 abbrev pub decreases-loop-branch : goal.decreases-loop-branch

@@ -1,0 +1,17 @@
+use Rattle.std.proofs.Common.{refl}
+use Rattle.explore.proofs.Stopping.{back_point, back_short, back_there}
+use Rattle.explore.proofs.taking.go_back.Goals as goal
+
+pub go_back-requires : goal.go_back-requires
+go_back-requires c =
+    back_point c.args.path.now.sim c.args.stops.now c.closest-stop.result.now c.closest-stop.ensures c.requires.stops.0 c.requires.stops.1
+
+pub returns-clause-short : goal.returns-clause-short
+returns-clause-short c =
+    back_short c.args.path.now.sim c.args.stops.now c.closest-stop.result.now c.closest-stop.ensures c.requires.stops.0 c.requires.stops.1
+    c.go_back.new.self c.in_ok-since.ensures.back
+
+pub returns-clause-back : goal.returns-clause-back
+returns-clause-back c = λ steps are.
+    back_there c.args.path.now.sim c.args.stops.now c.closest-stop.result.now c.closest-stop.ensures steps are c.go_back.new.self
+    c.closest-stop.result.now.left c.in_ok-since.ensures.back refl
