@@ -1,7 +1,8 @@
 -- A run that is made again needs no more steps than it needed before. For what a rank has made with a history is determined: its
 -- machine, and of each number of steps which of them are acts. So a rank that has made all its steps, with an act of the run still to
 -- make, would need more for the run.
-use Rattle.std.proofs.Common.{◌≡◌, ℕ, zero, suc, ◌+◌, ◌<◌, ◌≤◌, Bool, true, false, List, [], ◌∷◌, ◌++◌, Option, length, slice_get, ◌⊎◌, inl, inr, refl, sym, ap, subst, ◌∙◌, arith}
+use Rattle.std.proofs.Common.{◌≡◌, ℕ, zero, suc, ◌+◌, ◌<◌, ◌≤◌, Bool, true, false, List, [], ◌∷◌}
+use Rattle.std.proofs.Common.{◌++◌, Option, length, slice_get, ◌⊎◌, inl, inr, refl, sym, ap, subst, ◌∙◌, arith}
 use Rattle.std.specs.Prelude.{slice_index, take}
 use Rattle.std.proofs.lemmas.Bool.{cases_eq}
 use Rattle.std.proofs.lemmas.List.{append-nil, append_assoc, append_cancel_left, length-append, take-append-le}
@@ -82,18 +83,20 @@ one_made program n r H h g j k a b (acts {k = j'} act message x fits after) (beg
 one_made program n r H h g j k a b (inside {k = j'} {m = a'} x wants goes) (inside {k = k'} {m = b'} y wants' goes') same later more e f =
     let before = one_made program n r H h g j' k' a' b' x y (omega (arith, same)) later more e f in
     (before.0, one_inside b' a b (subst (λ m. GoesOn m a) before.1 goes) goes')
-one_made program n r H h g j k a b (inside {k = j'} {m = a'} x wants goes) (acts {h = g'} {k = k'} {m = b'} act message y fits after) same later more e f =
+one_made program n r H h g j k a b (inside {k = j'} {m = a'} x wants goes)
+    (acts {h = g'} {k = k'} {m = b'} act message y fits after) same later more e f =
     let before =
     one_made program n r H h g' j' k' a' b' x y (omega (arith, same)) later ((act, message) ∷ more) e
     (f ∙ append_assoc g' ((act, message) ∷ []) more) in
     absurd (no_act a' b' (act, message) before.1 wants fits)
-one_made program n r H h g j k a b (acts {h = h'} {k = j'} {m = a'} act message x fits after) (inside {k = k'} {m = b'} y wants goes) same later more e f =
+one_made program n r H h g j k a b (acts {h = h'} {k = j'} {m = a'} act message x fits after)
+    (inside {k = k'} {m = b'} y wants goes) same later more e f =
     let before =
     one_made program n r H h' g j' k' a' b' x y (omega (arith, same)) ((act, message) ∷ later) more
     (e ∙ append_assoc h' ((act, message) ∷ []) later) f in
     absurd (no_act b' a' (act, message) (sym before.1) wants fits)
-one_made program n r H h g j k a b (acts {h = h'} {k = j'} {m = a'} act message x fits after) (acts {h = g'} {k = k'} {m = b'} act' message' y fits' after') same
-    later more e f =
+one_made program n r H h g j k a b (acts {h = h'} {k = j'} {m = a'} act message x fits after)
+    (acts {h = g'} {k = k'} {m = b'} act' message' y fits' after') same later more e f =
     let one = e ∙ append_assoc h' ((act, message) ∷ []) later in
     let two = f ∙ append_assoc g' ((act', message') ∷ []) more in
     let before = one_made program n r H h' g' j' k' a' b' x y (omega (arith, same)) ((act, message) ∷ later) ((act', message') ∷ more) one two in
@@ -154,10 +157,11 @@ record Sooner (program : ProgramValue) (n r : ℕ) (h : History) (k : ℕ) : Typ
   made : HasMade program n r h steps machine
   few : steps ≤ k
 
--- there are no acts of none
+-- no acts
 abbrev none : History
 none = []
 
+-- the first of none are none
 first_none : (i : ℕ) → none ≡ take i none
 first_none zero = refl
 first_none (suc i) = refl

@@ -91,9 +91,9 @@ impl<'p> Stops<'p> {
         }
     }
 
-    // Which of the later stops is needed least. They are to be the denser the nearer they are to the
-    // end of the run, since the next branches go off there: none whose neighbors are closer to each
-    // other than they need be so far from the end.
+    // Which of the later stops is needed least. The next branches go off near the end of the run, so
+    // the stops are to be the denser the nearer they are to it. Of those whose neighbors are closer to
+    // each other than half the way from there to the end this is the last one.
     fn least_needed(&self) -> usize
         requires { 0 < length self.now.later.items }
         ensures { result < length self.now.later.items }

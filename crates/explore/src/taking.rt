@@ -92,7 +92,8 @@ fn go_back<'p>(path: &mut Path<'p>, stops: &Stops<'p>) -> Result<Vec<Passed, Hea
     Ok(since)
 }
 
-// Makes the first of these acts, so many, with stops on the way: the next branches go off near them.
+// Makes the first of these acts, so many, with stops on the way: the next branches go off near
+// them.
 fn make_again<'p>(
     path: &mut Path<'p>,
     stops: &mut Stops<'p>,
