@@ -6,8 +6,10 @@ ghost use Rattle.crash_free.specs.Runs.{history, sent};
 ghost use Rattle.world_model.specs.RunIndex.{clock_at, none_made, with_misses, IsNext};
 
 mod clocks;
+mod copying;
 mod made;
 
+use copying::copied;
 use crash_free::{Act, Passed};
 use limits::Heap;
 use made::Made;
@@ -55,7 +57,7 @@ impl Run {
     {
         Ok(Run {
             ranks: self.ranks,
-            acts: self.acts.as_slice().to_vec(alloc)?,
+            acts: copied(alloc, &self.acts)?,
             index: self.index.as_slice().to_vec(alloc)?,
         })
     }
