@@ -41,18 +41,21 @@ const RUNS: [(&str, &str); 24] = [
         "ftmpi trace --events --ranks 2 p",
         "2 1000000 1000000 p Events",
     ),
-    ("ftmpi explore --ranks 3 p", "3 100000 100000 100000 p Text"),
+    (
+        "ftmpi explore --ranks 3 p",
+        "3 100000 100000 1000000 p Text",
+    ),
     (
         "ftmpi explore --states 7 --ranks 3 --summary p",
         "3 100000 100000 7 p Summary",
     ),
     (
         "ftmpi explore --json --runs 5 --steps 6 --ranks 2 p",
-        "2 5 6 100000 p Json",
+        "2 5 6 1000000 p Json",
     ),
     (
         "ftmpi explore --ranks 2 --events 4 p",
-        "2 100000 100000 100000 p Events(4)",
+        "2 100000 100000 1000000 p Events(4)",
     ),
     ("ftmpi catch-up --to-the-end --ranks 2 p e", "2 100000 p e"),
     (
@@ -71,7 +74,7 @@ const RUNS: [(&str, &str); 24] = [
     ),
     (
         "ftmpi explore --events=4 --ranks 2 -- --json",
-        "2 100000 100000 100000 --json Events(4)",
+        "2 100000 100000 1000000 --json Events(4)",
     ),
     ("ftmpi catch-up p --to-the-end --ranks 2 -", "2 100000 p -"),
     (
