@@ -55,7 +55,7 @@ pub fn explore<'a>(alloc: Global) -> Result<Command<'a>, AllocError> {
                 "states",
                 "K",
                 "1000000",
-                "States kept to merge runs, 1 to 1000000000",
+                "States kept to merge, 1 to 1000000000",
             ),
             Argument::flag(
                 "summary",

@@ -1,10 +1,11 @@
 //! Acts, and the runs that are made of them.
-ghost use Rattle.std.specs.Prelude.{◌≡◌};
+ghost use Rattle.std.specs.Prelude.{◌≡◌, IfOk};
 ghost use Rattle.crash_free.specs.Seen.{act_of};
 
 use crate::choice::Choice;
 use limits::Heap;
 use matching::Context;
+use std::alloc::AllocError;
 use std::marker::Model;
 
 /// What a rank does that another can see.
@@ -68,6 +69,18 @@ impl Model for Passed {
     ghost view = { λ p. record { rank = p.rank; act = act_of p.act } };
 }
 
+// Runs are copied by the calls of `std`.
+impl Clone for Passed {
+    ghost is_clone = { λ passed clone. clone ≡ passed };
+
+    fn clone(&self) -> Result<Passed, AllocError> {
+        Ok(Passed {
+            rank: self.rank,
+            act: copied(&self.act)?,
+        })
+    }
+}
+
 impl Passed {
     ghost use Rattle.rank_machine.specs.Acts as acts;
 
@@ -126,4 +139,33 @@ impl Passed {
             act: Act::Prints(value),
         }
     }
+}
+
+// The same act, in memory of its own.
+fn copied(act: &Act) -> Result<Act, AllocError>
+    ensures { IfOk result (λ copy. act_of copy ≡ act_of act.now) }
+{
+    Ok(match act {
+        Act::Sends {
+            dest,
+            context,
+            tag,
+            items,
+        } => Act::Sends {
+            dest: *dest,
+            context: *context,
+            tag: *tag,
+            items: items.as_slice().to_vec(*items.allocator())?,
+        },
+        Act::Takes { source, place } => Act::Takes {
+            source: *source,
+            place: *place,
+        },
+        Act::Hits { source, place } => Act::Hits {
+            source: *source,
+            place: *place,
+        },
+        Act::Misses => Act::Misses,
+        Act::Prints(value) => Act::Prints(*value),
+    })
 }

@@ -49,12 +49,12 @@ fn say_all<R: Threads + Wait + Sync + Copy + Send + AllocGlobal + Abort>(
     Ok(())
 }
 
-// This was printed, in lines that aren't too long: 80 columns, and one more for `--states`.
+// This was printed, in lines that aren't too long.
 fn is_help<'a>(rt: &impl Abort, words: &'a str, answer: &'a Answer, want: &'a str) {
     let found = (answer.status, answer.out(), answer.err());
     same(rt, words, &found, &(0, want, ""));
     assert!(rt;
-        answer.out().lines().all(|line| line.len() <= 81),
+        answer.out().lines().all(|line| line.len() <= 80),
         "a line of {words} is too long"
     );
 }

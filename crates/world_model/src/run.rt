@@ -6,10 +6,8 @@ ghost use Rattle.crash_free.specs.Runs.{history, sent};
 ghost use Rattle.world_model.specs.RunIndex.{clock_at, none_made, with_misses, IsNext};
 
 mod clocks;
-mod copying;
 mod made;
 
-use copying::copied;
 use crash_free::{Act, Passed};
 use limits::Heap;
 use made::Made;
@@ -57,7 +55,7 @@ impl Run {
     {
         Ok(Run {
             ranks: self.ranks,
-            acts: copied(alloc, &self.acts)?,
+            acts: self.acts.as_slice().to_vec(alloc)?,
             index: self.index.as_slice().to_vec(alloc)?,
         })
     }
