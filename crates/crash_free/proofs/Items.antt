@@ -22,6 +22,7 @@ have_index [] i h = tt
 have_index (m ∷ ms) zero h = h.0
 have_index (m ∷ ms) (suc i) h = have_index ms i h.1
 
+-- nor is the one at a place
 have_at : (ms : List Message) (j : ℕ) → AllHave ms → HasItem (at_place ms j)
 have_at ms zero h = tt
 have_at ms (suc i) h = have_index ms i h

@@ -31,6 +31,7 @@ first_later k (p ∷ later) C low =
     let one : length (p ∷ (later ++ C)) - k ≡ suc (length (later ++ C) - k) = omega (arith, sum, size, low) in
     ap (λ j. drop j (p ∷ (later ++ C))) one ∙ first_later k later C low
 
+-- so they are of a run that goes behind
 pub first_behind : (k : ℕ) (C C' : List Passed) → GoesBehind C C' → k ≤ length C → first_acts k C' ≡ first_acts k C
 first_behind k C C' b low = ap (first_acts k) b.1 ∙ first_later k b.0 C low
 

@@ -30,6 +30,7 @@ pub record IsWithout (start : ℕ → State) (n r : ℕ) (P C : List Passed) : T
   pub part : IsPartOf P C
   pub same : history C r ≡ history P r
 
+-- a run that goes on without a rank has what it went on from as a part
 pub without_part : (start : ℕ → State) (n r : ℕ) (P C : List Passed) → IsRun start n P → GoesOnWithout start n r P C → IsWithout start n r P C
 without_part start n r P C run there = record { is_run = run; part = part_of_itself P; same = refl }
 without_part start n r P C run (further q act other may on) =
@@ -87,6 +88,7 @@ within start n r C whole (suc k) P run part few =
             }
         by (inr other) = one_before start n r P C next.0 next.1 other next.2 (more next.0 next.1 next.2 next.3)
 
+-- from any part of a run one comes to where the rank acts next, or to all of the run
 go_without : (start : ℕ → State) (n r : ℕ) (P C : List Passed) → IsRun start n P → IsRun start n C → IsPartOf P C → Without start n r P C
 go_without start n r P C run whole part = within start n r C whole (length C) P run part (omega arith)
 

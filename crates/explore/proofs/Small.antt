@@ -144,6 +144,7 @@ enough_by s s' k P alike x =
     subst (λ n. AreEnough (start_of s.program n) n k P) alike.ranks
     (subst (λ p. AreEnough (start_of p (length s'.machines)) (length s'.machines) k P) alike.program x)
 
+-- and for all stems
 pub all_by : (s s' : SimValue) (k : ℕ) (xs : List Stem) → IsAlike s s' → EnoughForAll s'.program (length s'.machines) k xs
     → EnoughForAll s.program (length s.machines) k xs
 all_by s s' k xs alike x =

@@ -47,6 +47,7 @@ after_there : (s t : SimValue) (C : List Passed) (o : Option Move) (P : List Pas
 after_there s t C o P alike x =
     subst (λ n. IsAfter t.program n C o P) (sym alike.ranks) (subst (λ p. IsAfter p (length s.machines) C o P) (sym alike.program) x)
 
+-- and the other way
 after_back : (s t : SimValue) (C : List Passed) (o : Option Move) (P : List Passed) → IsAlike s t → IsAfter t.program (length t.machines) C o P
     → IsAfter s.program (length s.machines) C o P
 after_back s t C o P alike x =

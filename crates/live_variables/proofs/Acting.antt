@@ -27,6 +27,7 @@ use Rattle.live_variables.proofs.Stepping.{behind, unwritten, counted_same}
 pub agrees_self : (a : State) → Agrees a a
 agrees_self a = record { rest = refl; fault = refl; stored = where_self (λ x. reads_first x a.rest) a.store }
 
+-- then the other agrees with it
 pub agrees_back : (a b : State) → Agrees a b → Agrees b a
 agrees_back a b h =
     record {
@@ -35,6 +36,7 @@ agrees_back a b h =
       stored = where_back (λ x. reads_first x b.rest) a.store b.store (subst (λ k. SameWhere (λ x. reads_first x k) a.store b.store) h.rest h.stored);
     }
 
+-- and with all that the other agrees with
 pub agrees_further : (a b c : State) → Agrees a b → Agrees b c → Agrees a c
 agrees_further a b c h k =
     record {
@@ -221,6 +223,7 @@ fitting_same barrier items among s s' h = refl
 fitting_same (broadcast root b) items among s s' h = rw (room_same b among s s' h) refl
 fitting_same (reduce f root e p) items among s s' h = refl
 
+-- what a packet of a collective gives doesn't depend on the rest of the store
 items_taken_same : (c : Collective) (call : Call) (packet : List ℤ) (among : Name → Bool) (s s' : Store) → SameWhere among s s'
     → items_taken s c call packet ≡ items_taken s' c call packet
 items_taken_same c call packet among s s' h = by_given (given_by call packet)
@@ -236,6 +239,7 @@ part_taken_same c r call (Ok items) a a' h is k =
     part_made_same c r call a a' (kept c items a.store) (kept c items a'.store) h is (kept_same c items (λ n. reads_first n (plain (collect c) r)) a.store a'.store k)
 part_taken_same c r call (Err f) a a' h is k = record { rest = h.rest; fault = refl; stored = h.stored }
 
+-- states that agree do so behind a packet of a collective
 collected_same : (c : Collective) (r : Block) (m : Message) (v : Valued Call) (a a' : State) → Agrees a a' → a.rest ≡ plain (collect c) r
     → SameWhere (λ n. reads_first n (plain (collect c) r)) a.store a'.store → Agrees (collected a c r m v) (collected a' c r m v)
 collected_same c r m (Ok call) a a' h is k =

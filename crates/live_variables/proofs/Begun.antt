@@ -20,6 +20,7 @@ front : (v a : ℕ) (xs ys : List Line) → AllPlaced v a (xs ++ ys) → AllPlac
 front v a [] ys h = tt
 front v a (l ∷ ls) ys h = (h.0, front v a ls ys h.1)
 
+-- so are those behind them
 back : (v a : ℕ) (xs ys : List Line) → AllPlaced v a (xs ++ ys) → AllPlaced v a ys
 back v a [] ys h = h
 back v a (l ∷ ls) ys h = back v a ls ys h.1

@@ -108,15 +108,18 @@ value_fewer : {A : Type 0} (x : Simple) (r c : Block) (v : Valued A) → after_v
 value_fewer x r c (Ok z) e = let same : r ≡ c = cc in subst (λ k. Fewer (plain x r) k) same (fewer_behind x r)
 value_fewer x r c (Err k) e = absurd cc
 
+-- a statement that may fail leaves those behind it
 end_fewer : (x : Simple) (r c : Block) (o : Option Store) → option_map (λ s. r) o ≡ Some c → Fewer (plain x r) c
 end_fewer x r c (Some t) e = let same : r ≡ c = cc in subst (λ k. Fewer (plain x r) k) same (fewer_behind x r)
 end_fewer x r c None e = absurd cc
 
+-- a test leaves statements of those that stood there
 test_fewer : (b c : Block) (v : Valued ℤ) → after_test b v ≡ Some c → Fewer b c
 test_fewer b c (Ok z) e =
     let same : taken (not (is_zero z)) b ≡ c = cc in subst (λ k. Fewer b k) same (λ p h. taken_sends p (not (is_zero z)) b h)
 test_fewer b c (Err k) e = absurd cc
 
+-- so does each step of a rank's own
 inner_fewer : (s : Store) (b c : Block) → inner_rest s b ≡ Some c → Fewer b c
 inner_fewer s done c e = absurd cc
 inner_fewer s (plain (declare p) r) c e = let same : r ≡ c = cc in subst (λ k. Fewer (plain (declare p) r) k) same (fewer_behind (declare p) r)
@@ -166,14 +169,17 @@ over_some [] [] some = some
 over_some [] (x ∷ xs) some = λ e. absurd cc
 over_some (z ∷ zs) xs some = λ e. absurd cc
 
+-- an item that is set takes none from its array
 item_keeps : (s : Store) (p : ℕ) (v : Valued (ℕ × ℤ)) → Keeps s.arrays (item_assigned s p v).arrays
 item_keeps s p (Ok x) = set_keeps s.arrays p (slice_set (slice_index_or s.arrays p []) x.0 x.1) (λ k. set_some (slice_index_or s.arrays p []) x.0 x.1 k)
 item_keeps s p (Err k) = λ q h. h
 
+-- a variable that is set takes none from any array
 assigned_keeps : (s : Store) (p : ℕ) (v : Valued ℤ) → Keeps s.arrays (assigned s p v).arrays
 assigned_keeps s p (Ok z) = λ q h. h
 assigned_keeps s p (Err k) = λ q h. h
 
+-- nor does what is received
 pub written_keeps : (b : Buffer) (items : List ℤ) (s : Store) → Keeps s.arrays (written b items s).arrays
 written_keeps (into_variable p) [] s = λ q h. h
 written_keeps (into_variable p) (z ∷ zs) s = λ q h. h
@@ -202,6 +208,7 @@ end_keeps s c = by_call (called s c)
     by_call (Ok call) = by_part call (part_of s call)
     by_call (Err k) = λ q h. h
 
+-- nor does a step of a rank's own
 inner_keeps : (s : Store) (b : Block) → Keeps s.arrays (inner_store s b).arrays
 inner_keeps s done = λ q h. h
 inner_keeps s (plain (declare p) r) = λ q h. h
@@ -235,9 +242,11 @@ step_gives s b None c e = by_rest (inner_rest s b) refl e
         subst (λ (z : State). Fewer b z.rest × Keeps s.arrays z.store.arrays) same (inner_fewer s b r is, inner_keeps s b)
 step_gives s b (Some k) c e = absurd cc
 
+-- whose sends have items has it so behind a step of its own
 pub inner_gives : (a b : State) → inner a ≡ Some b → GivesItems a → GivesItems b
 inner_gives a b e h = let k = step_gives a.store a.rest a.fault b e in gives_on a b k.0 k.1 h
 
+-- and behind several
 pub inners_give : {a b : State} → Inners a b → GivesItems a → GivesItems b
 inners_give here h = h
 inners_give {a = a} (on {b = b} e r) h = inners_give r (inner_gives a b e h)

@@ -48,6 +48,7 @@ done_keeps s call = by_test (is_last s call)
     by_test true = λ p h. h
     by_test false = λ p h. h
 
+-- a call of a collective is one packet further, or made
 made_goes : (c : Collective) (r : Block) (call : Call) (a : State) (s : Store) → a.rest ≡ plain (collect c) r → Keeps a.store.arrays s.arrays
     → Goes (plain (collect c) r) a (part_made a s r call)
 made_goes c r call a s is keeps = (by_test (is_last a.store call), λ p h. done_keeps s call p (keeps p h))
@@ -56,21 +57,25 @@ made_goes c r call a s is keeps = (by_test (is_last a.store call), λ p h. done_
     by_test true = fewer_behind (collect c) r
     by_test false = λ p h. subst (λ k. some_sends_all p k ≡ true) is h
 
+-- what it keeps takes no item from an array
 kept_keeps : (c : Collective) (items : List ℤ) (s : Store) → Keeps s.arrays (kept c items s).arrays
 kept_keeps barrier items s = λ p h. h
 kept_keeps (broadcast root b) items s = written_keeps b items s
 kept_keeps (reduce f root e p) items s = λ q h. h
 
+-- so behind the items of a packet
 taken_goes : (c : Collective) (r : Block) (call : Call) (v : Valued (List ℤ)) (a : State) → a.rest ≡ plain (collect c) r
     → Goes (plain (collect c) r) a (part_taken a c r call v)
 taken_goes c r call (Ok items) a is = made_goes c r call a (kept c items a.store) is (kept_keeps c items a.store)
 taken_goes c r call (Err k) a is = (λ p h. subst (λ z. some_sends_all p z ≡ true) is h, λ p h. h)
 
+-- so behind a packet that it receives
 collected_goes : (c : Collective) (r : Block) (m : Message) (v : Valued Call) (a : State) → a.rest ≡ plain (collect c) r
     → Goes (plain (collect c) r) a (collected a c r m v)
 collected_goes c r m (Ok call) a is = taken_goes c r call (items_taken a.store c call m.items) a is
 collected_goes c r m (Err k) a is = still (plain (collect c) r) a is
 
+-- and behind one that it sends
 sent_goes : (c : Collective) (r : Block) (v : Valued Call) (a : State) → a.rest ≡ plain (collect c) r → Goes (plain (collect c) r) a (part_sent a r v)
 sent_goes c r (Ok call) a is = made_goes c r call a a.store is (λ p h. h)
 sent_goes c r (Err k) a is = still (plain (collect c) r) a is
@@ -120,6 +125,7 @@ first_goes (if_only e y r) a act m is = still (if_only e y r) a is
 first_goes (if_else e y o r) a act m is = still (if_else e y o r) a is
 first_goes (loop e y r) a act m is = still (loop e y r) a is
 
+-- at a fault or not
 unless_goes : (fault : Option MachineFault) (a : State) (act : Act) (m : Option Message) → Goes a.rest a (unless_faulted fault a act m)
 unless_goes None a act m = first_goes a.rest a act m refl
 unless_goes (Some k) a act m = (λ p h. h, λ p h. h)
@@ -133,6 +139,7 @@ tested : {A : Type 0} (v : Valued A) → IsSend (or_fault (v >>= (λ z. Ok want.
 tested (Ok z) h = h
 tested (Err k) h = h
 
+-- a value that may be a fault asks for no send if no value does
 asked : {A : Type 0} (v : Valued A) (f : A → Want) → ((x : A) → IsSend (f x) → ⊥) → IsSend (or_fault (v >>= (λ z. Ok (f z)))) → ⊥
 asked (Ok z) f none h = none z h
 asked (Err k) f none h = h

@@ -41,6 +41,7 @@ isnt : (b : Bool) → (b ≡ true → ⊥) → b ≡ false
 isnt true f = absurd (f refl)
 isnt false f = refl
 
+-- what is denied doesn't hold
 denied : (b : Bool) → not b ≡ true → b ≡ false
 denied true e = absurd cc
 denied false e = refl
@@ -65,6 +66,7 @@ record Whole (x : Name) (c : ℕ → Bool) (n : ℕ) (b : Block) : Type 0 where
 read_not : (x : Name) (c : ℕ → Bool) (n : ℕ) (l : Line) → holds_at x c n l ≡ true → line_reads x l ≡ false
 read_not x c n l h = denied (line_reads x l) (and_parts (not (line_reads x l)) _ h).0
 
+-- and it is written there, or unread in both places that may come next
 leads : (x : Name) (c : ℕ → Bool) (n : ℕ) (l : Line) → holds_at x c n l ≡ true
     → (line_writes x l ≡ true) ⊎ ((c (next_position l n true) ≡ true) × (c (next_position l n false) ≡ true))
 leads x c n l h = go (or_cases (line_writes x l) _ (and_parts (not (line_reads x l)) _ h).1)
@@ -188,6 +190,7 @@ abbrev Right : Name → (ℕ → Bool) → ℕ → List Block → Type 0
 Right x c n [] = Unit {0}
 Right x c n (b ∷ bs) = (c n ≡ true → reads_first x b ≡ false) × Right x c (n + 1) bs
 
+-- at a position that is the same
 right_at : (x : Name) (c : ℕ → Bool) (m n : ℕ) (bs : List Block) → m ≡ n → Right x c m bs → Right x c n bs
 right_at x c m n bs q h = subst (λ k. Right x c k bs) q h
 

@@ -226,6 +226,7 @@ step_of s s' b None c h e = by_rest (inner_rest s b) refl e
         )
 step_of s s' b (Some k) c h e = absurd cc
 
+-- states that agree make the same step of their own, and agree behind it
 pub inner_same : (a b c : State) → Agrees a b → inner a ≡ Some c → (c' : State) × (inner b ≡ Some c') × Agrees c c'
 inner_same a b c h e =
     subst (λ (k : Block × Option MachineFault). (c' : State) × (inner_of b.store k.0 k.1 ≡ Some c') × Agrees c c')

@@ -98,6 +98,7 @@ first_same (if_only e y r) s s' h = rw (tested_here e _ s s' h) refl
 first_same (if_else e y o r) s s' h = rw (tested_here e _ s s' h) refl
 first_same (loop e y r) s s' h = rw (tested_here e _ s s' h) refl
 
+-- so they ask for the same act
 want_same : (b : Block) (k : Option MachineFault) (s s' : Store) → SameWhere (λ n. reads_first n b) s s' → want_of s b k ≡ want_of s' b k
 want_same b None s s' h = ap or_fault (first_same b s s' h)
 want_same b (Some k) s s' h = refl

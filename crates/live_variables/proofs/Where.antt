@@ -13,6 +13,7 @@ pub or_left : (a b : Bool) → a ≡ true → (a || b) ≡ true
 or_left true b e = refl
 or_left false b e = absurd cc
 
+-- so with the second of the two
 pub or_right : (a b : Bool) → b ≡ true → (a || b) ≡ true
 or_right true b e = refl
 or_right false b e = e
@@ -22,6 +23,7 @@ pub first_false : (a b : Bool) → (a || b) ≡ false → a ≡ false
 first_false true b e = e
 first_false false b e = refl
 
+-- nor does the second
 pub second_false : (a b : Bool) → (a || b) ≡ false → b ≡ false
 second_false true b e = absurd cc
 second_false false b e = e
@@ -44,6 +46,7 @@ fewer among less s s' f h =
 pub left_of : (f g : Name → Bool) (s s' : Store) → SameWhere (λ x. f x || g x) s s' → SameWhere f s s'
 left_of f g s s' h = fewer (λ x. f x || g x) f s s' (λ x e. or_left (f x) (g x) e) h
 
+-- and on those of the second
 pub right_of : (f g : Name → Bool) (s s' : Store) → SameWhere (λ x. f x || g x) s s' → SameWhere g s s'
 right_of f g s s' h = fewer (λ x. f x || g x) g s s' (λ x e. or_right (f x) (g x) e) h
 
@@ -52,6 +55,7 @@ pub same_self : (x : Name) (s : Store) → Same x s s
 same_self (place p) s = refl
 same_self status s = (refl, refl, refl)
 
+-- so does a store
 pub where_self : (among : Name → Bool) (s : Store) → SameWhere among s s
 where_self among s =
     record {
@@ -70,6 +74,7 @@ pub same_back : (x : Name) (s s' : Store) → Same x s s' → Same x s' s
 same_back (place p) s s' h = sym h
 same_back status s s' h = (sym h.0, sym h.1, sym h.2)
 
+-- so of stores
 pub where_back : (among : Name → Bool) (s s' : Store) → SameWhere among s s' → SameWhere among s' s
 where_back among s s' h =
     record {
@@ -88,6 +93,7 @@ pub same_further : (x : Name) (s s' s'' : Store) → Same x s s' → Same x s' s
 same_further (place p) s s' s'' h k = h ∙ k
 same_further status s s' s'' h k = (h.0 ∙ k.0, h.1 ∙ k.1, h.2 ∙ k.2)
 
+-- so of stores
 pub where_further : (among : Name → Bool) (s s' s'' : Store) → SameWhere among s s' → SameWhere among s' s'' → SameWhere among s s''
 where_further among s s' s'' h k =
     record {
@@ -131,6 +137,7 @@ written_same p z s s' (place q) b long h e = by_place (cases_eq q p)
         kept (inl t) = t
         kept (inr t) = absurd (differ (eqb-true q p t))
 
+-- stores are the same on one variable more, which both are given
 pub variable_same : (among : Name → Bool) (p : ℕ) (z : ℤ) (s s' : Store) → SameWhere among s s'
     → SameWhere (λ x. among x || is_place p x) (with_variable p z s) (with_variable p z s')
 variable_same among p z s s' h =
@@ -155,6 +162,7 @@ status_kept n m s s' (place q) b h e = h (only b e)
     only true e = refl
     only false e = e
 
+-- so with the words of a status
 pub status_same : (among : Name → Bool) (n : ℕ) (m : Message) (s s' : Store) → SameWhere among s s'
     → SameWhere (λ x. among x || is_status x) (with_status n m s) (with_status n m s')
 status_same among n m s s' h =

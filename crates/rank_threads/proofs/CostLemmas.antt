@@ -24,6 +24,7 @@ past count (suc k) [] none = refl
 past count zero (q ∷ ps) none = absurd cc
 past count (suc k) (q ∷ ps) none = past (plus count (8 * length q.items)) k ps none
 
+-- so past the last packet nothing is added
 pub payload_past : (count k : ℕ) (ps : List PacketValue) → None ≡ slice_get ps k
     → payload_from count (take (k + 1) ps) ≡ payload_from count (take k ps)
 payload_past count k ps none = rw (add-one k) (past count k ps none)

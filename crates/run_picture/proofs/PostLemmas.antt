@@ -22,6 +22,7 @@ both false false is = absurd cc
 few_source : (s d : ℕ) → (nat_lt s most_ranks && nat_lt d most_ranks) ≡ true → s < most_ranks
 few_source s d is = ltb-true s most_ranks (both (nat_lt s most_ranks) (nat_lt d most_ranks) is).0
 
+-- so is the destination
 few_dest : (s d : ℕ) → (nat_lt s most_ranks && nat_lt d most_ranks) ≡ true → d < most_ranks
 few_dest s d is = ltb-true d most_ranks (both (nat_lt s most_ranks) (nat_lt d most_ranks) is).1
 
@@ -164,10 +165,12 @@ index_low (p ∷ run) s d k i there = go (index_low run s d k i) (p.rank == s &&
     ]
     go before false is = let low = before is in omega (arith, low)
 
+-- the send at a place among them is in the run
 placed_low : (run : List Passed) (s d place i : ℕ) → at_place (posts_of run s d) place ≡ Some i → i < length run
 placed_low run s d zero i there = absurd cc
 placed_low run s d (suc k) i there = index_low run s d k i there
 
+-- so is the one that is looked up
 post_low : (run : List Passed) (s d place i : ℕ) → post_at run s d place ≡ Some i → i < length run
 post_low run s d place i there = go (nat_lt s most_ranks && nat_lt d most_ranks) refl
   where

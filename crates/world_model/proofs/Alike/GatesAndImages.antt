@@ -53,9 +53,11 @@ events_one x y o e f = cc
 effects_one : (x y : Waiting) (o : Option Waiting) → o ≡ Some x → o ≡ Some y → x ≡ y
 effects_one x y o e f = cc
 
+-- nor two clocks
 clocks_one : (x y : ℕ) (o : Option ℕ) → o ≡ Some x → o ≡ Some y → x ≡ y
 clocks_one x y o e f = cc
 
+-- nor two acts
 acts_one : (x y : Act) (o : Option Act) → o ≡ Some x → o ≡ Some y → x ≡ y
 acts_one x y o e f = cc
 

@@ -109,6 +109,7 @@ drain_on n w x s d again l i k all ls ld = go r.2.1
         let q = again r.0 r.1 (omega (arith, l, less)) f.advanced.is_world r.3 (f.keeps.all_live all) (omega (arith, ls, m)) (omega (arith, ld, m)) in
         (q.0, q.1, (flushed_more w r.0 q.0 x r.1 q.1 f q.2.0, q.2.1), q.3)
 
+-- all packets of a wire can be given to its rank, one after another, until none is left
 drain : (n : ℕ) (w : WorldValue) (x : List WorldEvent) (s d : ℕ) → outstanding_at s d w < n → IsWorld w → IsStocked w → AllLive w → s < size w → d < size w
     → Reach (λ w' z. Flushed w x w' z × IsGone s d w')
 drain zero w x s d l i k all ls ld = absurd (omega (arith, l))
