@@ -5,7 +5,6 @@ use Rattle.std.proofs.Math.Seq.{take-suc}
 use Rattle.std.proofs.lemmas.Option.{slice_get_within, get_or_from_slice_get}
 use Rattle.std.proofs.lemmas.Bool.{cases_eq, cases_lt}
 use Rattle.std.proofs.lemmas.List.{reverse-append, reverse-reverse, take-append-drop}
-use Rattle.std.proofs.lemmas.List.Sorted.{IsPermutation-reverse, list_any-IsPermutation}
 use Rattle.matching.specs.declared.selector.Selector.{Selector}
 use Rattle.rank_machine.specs.declared.want.Want.{Want}
 use Rattle.rank_machine.specs.declared.want.Want.TheVariants as want
@@ -25,7 +24,7 @@ use Rattle.explore.specs.Chosen.{MakesChoices}
 use Rattle.explore.specs.Explored.{OutcomeValue, noted_choices, rank_outcomes}
 use Rattle.explore.specs.Exploring.{and_then}
 use Rattle.explore.specs.Searching.{IsAlike}
-use Rattle.explore.specs.Shown.{IsMark, was_shown, shows_to, IsPast, MayMissShown, MissesShown}
+use Rattle.explore.specs.Shown.{IsMark, was_shown, IsPast, MayMissShown, MissesShown}
 use Rattle.rank_language.specs.Program.{ProgramValue}
 use Rattle.explore.proofs.Choosing.{there_is, goes_there, goes_by}
 use Rattle.explore.proofs.SeenOf.{choices_at, seen_at}
@@ -46,10 +45,6 @@ pub misses_later : (start : ℕ → State) (late early : List Passed) → Misses
 misses_later start [] early m = m
 misses_later start (p ∷ late) early m = inr (misses_later start late early m)
 
--- what was shown was so in whatever order the acts stand
-pub shown_reversed : (acts : List Passed) (r source index : ℕ) → was_shown (reverse acts) r source index ≡ was_shown acts r source index
-shown_reversed acts r source index = sym (list_any-IsPermutation (shows_to r source index) acts (reverse acts) (IsPermutation-reverse acts))
-
 -- of a source one message at most is eligible
 eligible_once : (inbound : ℕ → List Message) (h : History) (s i j : ℕ) (w : Selector) → IsEligible inbound h s (suc i) w → IsEligible inbound h s (suc j) w
     → i ≡ j
@@ -68,19 +63,18 @@ eligible_once inbound h s i j w a b = go (cases_lt i j) (cases_lt j i)
 
 -- the message that is eligible of this source was shown
 pub past_there : (P : List Passed) (r source index : ℕ) (w : Selector) → IsEligible (inbound_of P r) (history P r) source (suc index) w
-    → was_shown (reverse P) r source index ≡ true → IsPast P r w
-past_there P r source index w eligible shown =
-    record { source = source; index = index; eligible = eligible; shown = sym (shown_reversed P r source index) ∙ shown }
+    → was_shown P r source index ≡ true → IsPast P r w
+past_there P r source index w eligible shown = record { source = source; index = index; eligible = eligible; shown = shown }
 
 -- none of the source was, where the one that is eligible wasn't
 pub past_nowhere : (P : List Passed) (r source index : ℕ) (w : Selector) → IsEligible (inbound_of P r) (history P r) source (suc index) w
-    → was_shown (reverse P) r source index ≡ false → (past : IsPast P r w) → past.source ≡ source → ⊥
+    → was_shown P r source index ≡ false → (past : IsPast P r w) → past.source ≡ source → ⊥
 past_nowhere P r source index w eligible none past same =
     let here : IsEligible (inbound_of P r) (history P r) source (suc past.index) w =
     subst (λ s. IsEligible (inbound_of P r) (history P r) s (suc past.index) w) same past.eligible in
     let at : past.index ≡ index = eligible_once (inbound_of P r) (history P r) source past.index index w here eligible in
     let was : was_shown P r source index ≡ true = subst (λ i. was_shown P r source i ≡ true) at (subst (λ s. was_shown P r s past.index ≡ true) same past.shown) in
-    let e : true ≡ false = sym was ∙ sym (shown_reversed P r source index) ∙ none in
+    let e : true ≡ false = sym was ∙ none in
     cc
 
 -- a message is eligible of a rank that there is alone

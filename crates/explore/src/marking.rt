@@ -9,12 +9,14 @@ ghost use Rattle.crash_free.specs.Wanted.{WantsAt, StandsAtAct};
 ghost use Rattle.final_runs.specs.Maximal.{MayFollow};
 ghost use Rattle.explore.specs.Explored.{noted_choices, rank_outcomes};
 ghost use Rattle.explore.specs.Exploring.{and_then};
+ghost use Rattle.explore.specs.LastShown.{KnowsShown};
 ghost use Rattle.explore.specs.Searching.{IsAlike};
-ghost use Rattle.explore.specs.Shown.{AreMarked, IsMark, IsPast, MayMissShown, MissesShown, shows_to, was_shown};
+ghost use Rattle.explore.specs.Shown.{AreMarked, IsMark, IsPast, MayMissShown, MissesShown};
 
 use crate::again::{act_at, make};
 use crate::bounds::Limits;
 use crate::explored::Outcome;
+use crate::last_shown::LastShown;
 use crate::replay::run_of;
 use crash_free::{Act, Passed, Sim};
 use limits::Heap;
@@ -89,8 +91,9 @@ fn misses_shown(
     ensures no { result ≡ Ok (Some false) → MissesShown (start_of program.now ranks) (reverse acts.now) → ⊥ }
 {
     let mut sim = Sim::new(alloc, program, ranks)?;
+    let mut shown = LastShown::new(alloc);
     for at in 0..acts.len() {
-        let Some(past) = follow(&mut sim, act_at(acts, at), steps)? else {
+        let Some(past) = follow(&mut sim, &mut shown, act_at(acts, at), steps)? else {
             return Ok(None);
         };
         if past {
@@ -102,12 +105,19 @@ fn misses_shown(
 
 // Makes the act, and answers whether it misses a message that its rank was shown.
 #[tactic(auto, using(crate::proofs::Shown::may_inside, crate::proofs::Shown::miss_before, crate::proofs::Shown::miss_behind))]
-fn follow(sim: &mut Sim<'_>, passed: &Passed, steps: u32) -> Result<Option<bool>, AllocError>
+fn follow(
+    sim: &mut Sim<'_>,
+    shown: &mut LastShown,
+    passed: &Passed,
+    steps: u32,
+) -> Result<Option<bool>, AllocError>
     requires stands { Simulates sim.old }
+    requires knows { KnowsShown sim.old.run shown.old.last }
     requires may { MayFollow (start_of sim.old.program (length sim.old.machines)) (length sim.old.machines) sim.old.run passed.now.rank passed.now.act }
     ensures alike { IfOk result (λ _. IsAlike sim.old sim.new) }
     ensures stands { IfOk result (λ _. Simulates sim.new) }
     ensures run { IfOk result (λ past. IfSome past (λ _. sim.new.run ≡ passed.now ∷ sim.old.run)) }
+    ensures knows { IfOk result (λ past. IfSome past (λ _. KnowsShown sim.new.run shown.new.last)) }
     ensures yes { IfOk result (λ past. past ≡ Some true → (passed.now.act ≡ acts.misses)
         × MayMissShown (start_of sim.old.program (length sim.old.machines)) sim.old.run passed.now.rank) }
     ensures no { IfOk result (λ past. past ≡ Some false → passed.now.act ≡ acts.misses
@@ -117,15 +127,17 @@ fn follow(sim: &mut Sim<'_>, passed: &Passed, steps: u32) -> Result<Option<bool>
     if sim.stride(rank, steps) == steps {
         return Ok(None);
     }
-    let past = misses_past(sim, rank, &passed.act);
+    let past = misses_past(sim, shown, rank, &passed.act);
     make(sim, rank, &passed.act)?;
+    shown.note(passed)?;
     Ok(Some(past))
 }
 
 // Whether the act, which the rank may make now, misses a message that the rank was shown.
 #[tactic(auto, using(crate::proofs::Shown::miss_there, crate::proofs::Shown::probe_there))]
-fn misses_past(sim: &Sim<'_>, rank: u8, act: &Act) -> bool
+fn misses_past(sim: &Sim<'_>, shown: &LastShown, rank: u8, act: &Act) -> bool
     requires stands { Simulates sim.now }
+    requires knows { KnowsShown sim.now.run shown.now.last }
     requires at { StandsAtAct sim.now.machines rank }
     requires may { MayFollow (start_of sim.now.program (length sim.now.machines)) (length sim.now.machines) sim.now.run rank (act_of act.now) }
     ensures yes { result ≡ true → (act_of act.now ≡ acts.misses) × MayMissShown (start_of sim.now.program (length sim.now.machines)) sim.now.run rank }
@@ -135,7 +147,7 @@ fn misses_past(sim: &Sim<'_>, rank: u8, act: &Act) -> bool
     if !is_miss(act) {
         return false;
     }
-    is_past(sim, rank)
+    is_past(sim, shown, rank)
 }
 
 fn is_miss(act: &Act) -> bool
@@ -150,14 +162,15 @@ fn is_miss(act: &Act) -> bool
 
 // Whether the rank stands at a probe that doesn't wait and matches a message that it was shown.
 #[tactic(auto, using(crate::proofs::Shown::wants_once, crate::proofs::Shown::no_probe))]
-fn is_past(sim: &Sim<'_>, rank: u8) -> bool
+fn is_past(sim: &Sim<'_>, shown: &LastShown, rank: u8) -> bool
     requires there { rank < length sim.now.machines }
     requires stands { Simulates sim.now }
+    requires knows { KnowsShown sim.now.run shown.now.last }
     ensures yes { result ≡ true → (selector : Selector) × WantsAt sim.now.machines rank (Want.TryProbe selector) × IsPast sim.now.run rank selector }
     ensures no { result ≡ false → (selector : Selector) → WantsAt sim.now.machines rank (Want.TryProbe selector) → IsPast sim.now.run rank selector → ⊥ }
 {
     match sim.wants(rank) {
-        Want::TryProbe(selector) => matches_shown(sim, rank, &selector),
+        Want::TryProbe(selector) => matches_shown(sim, shown, rank, &selector),
         Want::Internal
         | Want::Send { .. }
         | Want::Receive(_)
@@ -168,16 +181,17 @@ fn is_past(sim: &Sim<'_>, rank: u8) -> bool
     }
 }
 
-fn matches_shown(sim: &Sim<'_>, rank: u8, selector: &Selector) -> bool
+fn matches_shown(sim: &Sim<'_>, shown: &LastShown, rank: u8, selector: &Selector) -> bool
     requires there { rank < length sim.now.machines }
     requires stands { Simulates sim.now }
+    requires knows { KnowsShown sim.now.run shown.now.last }
     ensures yes { result ≡ true → IsPast sim.now.run rank selector.now }
     ensures no { result ≡ false → IsPast sim.now.run rank selector.now → ⊥ }
 {
     let ranks = sim.ranks();
     let mut source = 0;
     while source < ranks {
-        if is_shown(sim, rank, selector, source) {
+        if is_shown(sim, shown, rank, selector, source) {
             return true;
         }
         source += 1;
@@ -186,37 +200,15 @@ fn matches_shown(sim: &Sim<'_>, rank: u8, selector: &Selector) -> bool
 }
 
 // Whether a message of this source is eligible that the rank was shown.
-fn is_shown(sim: &Sim<'_>, rank: u8, selector: &Selector, source: u8) -> bool
+fn is_shown(sim: &Sim<'_>, shown: &LastShown, rank: u8, selector: &Selector, source: u8) -> bool
     requires there { rank < length sim.now.machines }
     requires source { source < length sim.now.machines }
+    requires knows { KnowsShown sim.now.run shown.now.last }
     ensures yes { result ≡ true → IsPast sim.now.run rank selector.now }
     ensures no { result ≡ false → (past : IsPast sim.now.run rank selector.now) → past.source ≡ source → ⊥ }
 {
     let Some(index) = sim.eligible(rank, selector, source) else {
         return false;
     };
-    was_shown(sim.acts(), rank, source, index)
-}
-
-fn was_shown(acts: &[Passed], rank: u8, source: u8, index: usize) -> bool
-    ensures { result ≡ was_shown acts.now rank source index }
-{
-    acts.iter()
-        .any(|passed| shows_to(passed, rank, source, index))
-}
-
-fn shows_to(passed: &Passed, rank: u8, source: u8, index: usize) -> bool
-    ensures { result ≡ shows_to rank source index passed.now }
-{
-    match &passed.act {
-        Act::Takes {
-            source: from,
-            place,
-        }
-        | Act::Hits {
-            source: from,
-            place,
-        } => passed.rank == rank && *from == source && (index as u64) < *place,
-        Act::Sends { .. } | Act::Misses | Act::Prints(_) => false,
-    }
+    shown.has(rank, source, index)
 }

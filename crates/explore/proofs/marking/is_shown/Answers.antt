@@ -1,7 +1,6 @@
-use Rattle.std.proofs.Common.{◌≡◌, suc, true, false, refl, sym, subst, ◌∙◌}
+use Rattle.std.proofs.Common.{suc, refl, sym, subst, ◌∙◌}
 use Rattle.crash_free.specs.Runs.{history, IsEligible}
 use Rattle.crash_free.specs.Sim.{inbound_of}
-use Rattle.explore.specs.Shown.{was_shown}
 use Rattle.explore.proofs.Shown.{past_there, past_nowhere}
 use Rattle.explore.proofs.marking.is_shown.Goals as goal
 
@@ -14,9 +13,9 @@ returns-in_default-clause-no c = λ e past same.
 pub returns-clause-yes : goal.returns-clause-yes
 returns-clause-yes c = λ e.
     past_there c.args.sim.now.run c.args.rank c.args.source c.in-Some.index c.args.selector.now (rw c.in-Some.is at c.eligible.ensures.some)
-    (subst (λ acts. was_shown acts c.args.rank c.args.source c.in-Some.index ≡ true) c.acts.ensures (sym c.was_shown.ensures ∙ e))
+    (sym (c.has.ensures c.args.sim.now.run c.requires.knows) ∙ e)
 
 pub returns-clause-no : goal.returns-clause-no
 returns-clause-no c = λ e past same.
     past_nowhere c.args.sim.now.run c.args.rank c.args.source c.in-Some.index c.args.selector.now (rw c.in-Some.is at c.eligible.ensures.some)
-    (subst (λ acts. was_shown acts c.args.rank c.args.source c.in-Some.index ≡ false) c.acts.ensures (sym c.was_shown.ensures ∙ e)) past same
+    (sym (c.has.ensures c.args.sim.now.run c.requires.knows) ∙ e) past same

@@ -25,6 +25,7 @@ loop-at-preserved c =
       program = c.in_ok-past.ensures.alike.program ∙ c.loop-at.invariant.program;
       ranks = c.in_ok-past.ensures.alike.ranks ∙ c.loop-at.invariant.ranks;
       stands = c.in_ok-past.ensures.stands;
+      knows = rw c.in-Some.is at c.in_ok-past.ensures.knows;
       none =
           λ x.
           misses_none (start_of c.args.program.now c.args.ranks) c.loop-at.sim.run c.act_at.result.now c.loop-at.invariant.none

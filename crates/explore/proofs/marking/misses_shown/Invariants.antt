@@ -1,6 +1,7 @@
 use Rattle.std.proofs.Common.{◌≡◌, length}
 use Rattle.std.specs.Prelude.{reverse, take}
 use Rattle.crash_free.specs.Sim.{Simulates, start_of}
+use Rattle.explore.specs.LastShown.{KnowsShown}
 use Rattle.explore.specs.Shown.{MissesShown}
 use Rattle.explore.proofs.marking.misses_shown.Given as goal
 
@@ -11,5 +12,6 @@ invariant-loop-at l = record {
   program : l.sim.program ≡ l.program;
   ranks : length l.sim.machines ≡ l.ranks;
   stands : Simulates l.sim;
+  knows : KnowsShown l.sim.run l.shown.last;
   none : MissesShown (start_of l.program l.ranks) l.sim.run → ⊥;
 }
