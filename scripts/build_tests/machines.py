@@ -4,13 +4,14 @@ from __future__ import annotations
 
 import os
 import queue
+import signal
 import subprocess
 import threading
 from unittest import mock
 
 from building import machine, schedule
 from building.costs import Cost, Costs, calculation_time
-from building.proof import children_of
+from building.proof import children_of, held_by
 from building.weights import MEASURED, Weights
 
 from .stage import Stage, text_of
@@ -104,6 +105,22 @@ def anew_a_process_that_another_thread_started_is_a_child(stage: Stage) -> None:
         child.wait()
         seen.set()
         thread.join()
+
+
+def memory_that_processes_share_counts_once(stage: Stage) -> None:
+    text = "import os, time; shared = b'1' * 80_000_000; os.fork(); print(flush=True); time.sleep(60)"
+    parent = subprocess.Popen(["python3", "-c", text], stdout=subprocess.PIPE)
+    try:
+        for _ in range(2):
+            parent.stdout.readline()
+        (child,) = children_of(parent.pid)
+        held = held_by(parent.pid) + held_by(child)
+        assert 80_000_000 < held < 150_000_000, held
+        os.kill(child, signal.SIGKILL)
+    finally:
+        parent.kill()
+        parent.wait()
+        parent.stdout.close()
 
 
 def what_a_build_measured_counts_first(stage: Stage) -> None:

@@ -19,12 +19,17 @@ from .room import Group
 from .weights import share_with
 
 
+# Between two looks at the memory of a proof: each takes some 50 ms for a process of 2 GB.
+SECONDS_BETWEEN = 10
+
+
 class Proof:
     """A crate while rattle proves it."""
 
     def __init__(self, crate: Any, jobs: int, niceness: int, group: Group) -> None:
         self.crate, self.jobs, self.started = crate, jobs, time.monotonic()
-        self.seen, self.alone, self.resident = 0.0, 0.0, 0
+        self.seen, self.alone = 0.0, 0.0
+        self.held, self.weighed = 0, self.started
         os.makedirs(f"{crate.folder}/out/rlib", exist_ok=True)
         self.file = f"{crate.folder}/out/output"
         with open(self.file, "w", encoding="utf-8") as out:
@@ -52,14 +57,16 @@ class Proof:
         now, children = self.seconds(), children_of(self.process.pid)
         self.alone += 0 if children else max(now - self.seen, 0)
         self.seen = now
-        self.resident = max(self.resident, sum(resident_of(pid) for pid in [self.process.pid, *children]))
+        if time.monotonic() - self.weighed >= SECONDS_BETWEEN or not self.held:
+            self.held = max(self.held, sum(held_by(pid) for pid in [self.process.pid, *children]))
+            self.weighed = time.monotonic()
 
     def cost(self, expected_alone: float) -> Cost:
         """What the proof took, when it has ended. With one job it has only one process. Then
         nothing was seen of what more jobs can't shorten, and what was expected stays."""
         _, seconds = self.took
         alone = self.alone if self.jobs > 1 else expected_alone
-        return Cost(seconds, min(alone, seconds), self.resident / MEGABYTE / share_with(self.jobs))
+        return Cost(seconds, min(alone, seconds), self.held / MEGABYTE / share_with(self.jobs))
 
     def is_killed(self) -> bool:
         return self.status == -signal.SIGKILL
@@ -122,10 +129,12 @@ def ticks_of(pid: int) -> int:
     return 0
 
 
-def resident_of(pid: int) -> int:
-    """The bytes of memory that a process holds."""
+def held_by(pid: int) -> int:
+    """The bytes of memory that a process holds. Of what several share each counts its share: the
+    processes of a proof are copies of the first."""
     with contextlib.suppress(OSError):
-        return int(text_of(f"/proc/{pid}/statm").split()[1]) * os.sysconf("SC_PAGE_SIZE")
+        found = re.search(r"^Pss: +(\d+) kB$", text_of(f"/proc/{pid}/smaps_rollup"), re.MULTILINE)
+        return 1024 * int(found[1]) if found else 0
     return 0
 
 
