@@ -8,7 +8,7 @@ use Rattle.final_runs.specs.Maximal.{IsPossible, RankOutcome}
 use Rattle.rank_language.specs.Correct.{IsProgramOf}
 use Rattle.rank_language.specs.Program.{ProgramValue}
 use Rattle.runner.specs.Events.{PlaysOutcome}
-use Rattle.runner.specs.OutcomesText.{IsMarkedSummary, IsMarkedText}
+use Rattle.runner.specs.OutcomesText.{IsMarkedObject, IsMarkedSummary, IsMarkedText}
 use Rattle.runner.specs.Searches.{HasSearchStatus, IsExploreAnswer, IsFoundBy, IsPrinted, IsSearchAnswer}
 
 -- what a search found within the job's limits
@@ -26,6 +26,7 @@ text_printed source program job found out is text =
     record {
       text = λ _. text;
       summary = λ other. (let e : form.Text ≡ form.Summary = sym is ∙ other in absurd cc);
+      json = λ other. (let e : form.Text ≡ form.Json = sym is ∙ other in absurd cc);
       events = λ number other. (let e : form.Text ≡ form.Events number = sym is ∙ other in absurd cc);
     }
 
@@ -36,16 +37,18 @@ summary_printed source program job found out is text =
     record {
       text = λ other. (let e : form.Summary ≡ form.Text = sym is ∙ other in absurd cc);
       summary = λ _. text;
+      json = λ other. (let e : form.Summary ≡ form.Json = sym is ∙ other in absurd cc);
       events = λ number other. (let e : form.Summary ≡ form.Events number = sym is ∙ other in absurd cc);
     }
 
--- whatever is printed as JSON
+-- so is the object of JSON
 pub json_printed : (source : List ℕ) (program : ProgramValue) (job : ExploreJob) (found : ExploredValue) (out : List ℕ)
-    → job.form ≡ form.Json → IsPrinted source program job found out
-json_printed source program job found out is =
+    → job.form ≡ form.Json → IsMarkedObject source program job.ranks found out → IsPrinted source program job found out
+json_printed source program job found out is text =
     record {
       text = λ other. (let e : form.Json ≡ form.Text = sym is ∙ other in absurd cc);
       summary = λ other. (let e : form.Json ≡ form.Summary = sym is ∙ other in absurd cc);
+      json = λ _. text;
       events = λ number other. (let e : form.Json ≡ form.Events number = sym is ∙ other in absurd cc);
     }
 
@@ -55,6 +58,7 @@ pub events_printed : (source : List ℕ) (program : ProgramValue) (job : Explore
 events_printed source program job found out number is played = record {
   text = λ other. (let e : form.Events number ≡ form.Text = sym is ∙ other in absurd cc);
   summary = λ other. (let e : form.Events number ≡ form.Summary = sym is ∙ other in absurd cc);
+  json = λ other. (let e : form.Events number ≡ form.Json = sym is ∙ other in absurd cc);
   events = λ another other. let e : form.Events number ≡ form.Events another = sym is ∙ other in
       let same : number ≡ another = cc in
       subst (λ (n : ℕ). PlaysOutcome program job.ranks found.outcomes n out) same played;

@@ -9,8 +9,9 @@ use Rattle.final_runs.specs.Maximal.{RankOutcome}
 use Rattle.rank_language.specs.Correct.{IsProgramOf}
 use Rattle.rank_language.specs.Program.{ProgramValue}
 use Rattle.runner.specs.Meanings.{meaning_text}
-use Rattle.runner.specs.OutcomesText.{AreWritten, IsExploredText, IsMarkedSummary, IsMarkedText, IsSummary, one_text}
+use Rattle.runner.specs.OutcomesText.{AreWritten, IsExploredText, IsMarkedObject, IsMarkedSummary, IsMarkedText, IsSummary, one_text}
 use Rattle.runner.specs.Partings.{ArePartings}
+use Rattle.runner.specs.SearchObject.{IsSearchObject}
 use Rattle.runner.specs.declared.outcomes.parting.Parted.{Parted}
 use Rattle.rank_language.specs.StandOn.{IsLinedOf, StandOn}
 
@@ -38,6 +39,13 @@ pub is_marked : (source : List ℕ) (program : ProgramValue) (ranks : ℕ) (foun
     → IsExploredText found marks runs lines text → IsMarkedText source program ranks found runs text
 is_marked source program ranks found marks runs lines text marked lined printed =
     record { marks = marks; marked = marked; lines = lines; lined = lined; printed = printed }
+
+-- so they are as an object
+pub is_marked_object : (source : List ℕ) (program : ProgramValue) (ranks : ℕ) (found : ExploredValue) (marks : List (Option Bool))
+    (lines text : List ℕ) → AreMarked program ranks found.outcomes found.choices marks → IsLinedOf source program lines
+    → IsSearchObject found marks lines text → IsMarkedObject source program ranks found text
+is_marked_object source program ranks found marks lines text marked lined written =
+    record { marks = marks; marked = marked; lines = lines; lined = lined; written = written }
 
 -- the statements of a program that was read from a text stand on its lines
 pub is_lined : (source : List ℕ) (program : ProgramValue) (lines : List ℕ) (read : IsProgramOf source program) → StandOn source read.forms lines

@@ -4,6 +4,7 @@ pub mod Traces
 pub mod Answers
 pub mod Partings
 pub mod Meanings
+pub mod SearchObject
 pub mod OutcomesText
 pub mod Searches
 pub mod Judgments

@@ -10,6 +10,7 @@ use Rattle.final_runs.specs.Maximal.{RankOutcome}
 use Rattle.rank_language.specs.Program.{ProgramValue}
 use Rattle.runner.specs.Meanings.{meaning_text}
 use Rattle.runner.specs.Partings.{ArePartings, choices_text}
+use Rattle.runner.specs.SearchObject.{IsSearchObject}
 use Rattle.core_runner.specs.ReportText.{end_text}
 use Rattle.runner.specs.declared.outcomes.parting.Parted.{Parted}
 use Rattle.rank_language.specs.StandOn.{IsLinedOf}
@@ -74,6 +75,16 @@ pub record IsMarkedSummary (program : ProgramValue) (ranks : ℕ) (found : Explo
   pub marks : List (Option Bool)
   pub marked : AreMarked program ranks found.outcomes found.choices marks
   pub printed : IsSummary found marks runs text
+
+-- The outcomes of the program of this text on so many ranks are an object of JSON, with marks of
+-- their own and with the lines of the text on which its statements stand. Nothing is said of the
+-- races.
+pub record IsMarkedObject (source : List ℕ) (program : ProgramValue) (ranks : ℕ) (found : ExploredValue) (text : List ℕ) : Type 0 where
+  pub marks : List (Option Bool)
+  pub marked : AreMarked program ranks found.outcomes found.choices marks
+  pub lines : List ℕ
+  pub lined : IsLinedOf source program lines
+  pub written : IsSearchObject found marks lines text
 
 -- each rank halts in this outcome
 abbrev pub Halts : List RankOutcome → Type 0

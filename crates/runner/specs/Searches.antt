@@ -8,7 +8,7 @@ use Rattle.explore.specs.Outcomes.{AreAll, AreDistinct, IsAmong}
 use Rattle.final_runs.specs.Maximal.{IsPossible, RankOutcome}
 use Rattle.rank_language.specs.Program.{ProgramValue}
 use Rattle.runner.specs.Events.{PlaysOutcome}
-use Rattle.runner.specs.OutcomesText.{AllHalt, IsMarkedSummary, IsMarkedText}
+use Rattle.runner.specs.OutcomesText.{AllHalt, IsMarkedObject, IsMarkedSummary, IsMarkedText}
 use Rattle.core_runner.specs.Reading.{IsProgramIn}
 
 -- What a search found: the program may have each outcome, and has no other if it is complete. None
@@ -25,11 +25,13 @@ pub record HasSearchStatus (found : ExploredValue) (status : ℕ) : Type 0 where
   pub halts : (status ≡ 0) ↔ ((found.complete ≡ true) × AllHalt found.outcomes)
   pub else_one : status ≤ 1
 
--- Standard output has the text of what was found, or the short one, or a run of the outcome that the
--- job names, as events, of the program of this text. Nothing is said of JSON.
+-- Standard output has the text of what was found, or the short one, or the object of JSON, or a run of
+-- the outcome that the job names, as events, of the program of this text. Of JSON nothing is said of
+-- the races.
 pub record IsPrinted (source : List ℕ) (program : ProgramValue) (job : ExploreJob) (found : ExploredValue) (out : List ℕ) : Type 0 where
   pub text : job.form ≡ form.Text → IsMarkedText source program job.ranks found job.runs out
   pub summary : job.form ≡ form.Summary → IsMarkedSummary program job.ranks found job.runs out
+  pub json : job.form ≡ form.Json → IsMarkedObject source program job.ranks found out
   pub events : (number : ℕ) → job.form ≡ form.Events number → PlaysOutcome program job.ranks found.outcomes number out
 
 -- What was found by a search of the program of this text is printed, with its status.

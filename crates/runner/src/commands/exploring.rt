@@ -4,7 +4,7 @@ ghost use Rattle.run_events.specs.Plays.{IsPlayText};
 ghost use Rattle.runner.specs.Events.{PlaysOutcome};
 ghost use Rattle.explore.specs.Shown.{AreMarked};
 ghost use Rattle.rank_language.specs.Correct.{IsProgramOf};
-ghost use Rattle.runner.specs.OutcomesText.{IsMarkedSummary, IsMarkedText};
+ghost use Rattle.runner.specs.OutcomesText.{IsMarkedObject, IsMarkedSummary, IsMarkedText};
 ghost use Rattle.runner.specs.Searches.{HasSearchStatus, IsExploreAnswer, IsFoundBy, IsPrinted, IsSearchAnswer};
 
 use crate::commands::tool_refusal::ToolRefusal;
@@ -140,7 +140,10 @@ fn json_text(
     text: &[u8],
     program: &Program,
     found: &Explored,
-) -> Result<String<Heap>, AllocError> {
+) -> Result<String<Heap>, AllocError>
+    requires { IsProgramOf text.now program.now }
+    ensures { IfOk result (λ answer. IsMarkedObject text.now program.now job.entry.ranks found.now (string_bytes answer)) }
+{
     let lines = statement_lines(alloc, text)?;
     let marks = marks_in(alloc, job, program, found)?;
     explored_json(alloc, found, marks.as_slice(), lines.as_slice())

@@ -1,0 +1,164 @@
+-- No number in what a search found is a float, so its text is that of its parts.
+use Rattle.std.proofs.Common.{◌≡◌, ℕ, ◌+◌, ℤ, pos, negsuc, Bool, true, false, ◌||◌, List, [], ◌∷◌, ◌++◌, Option, Some, None, map, codes, refl, ap, ◌∙◌, slice_get, Ordering, Less, Equal, Greater, nat_cmp}
+use Rattle.std.specs.Cmp.Lexicographic.{slice_cmp}
+use Rattle.std.specs.Ordering.{match_ordering}
+use Rattle.audit.specs.declared.outcome.End.{End}
+use Rattle.audit.specs.declared.outcome.End.TheVariants as end
+use Rattle.crash_free.specs.declared.choice.Choice.{Choice}
+use Rattle.crash_free.specs.declared.choice.Choice.TheVariants as choice
+use Rattle.explore.specs.declared.moves.Noted.{Noted}
+use Rattle.explore.specs.Explored.{ExploredValue}
+use Rattle.final_runs.specs.Maximal.{RankOutcome}
+use Rattle.serde_json.specs.Data.{Data, Items, Members, put}
+use Rattle.serde_json.specs.Data as json
+use Rattle.serde_json.specs.View.{items_of, items_view, view}
+use Rattle.serde_json.specs.declared.value.Value.{Value}
+use Rattle.serde_json.specs.Written.{compact_text, has_float, items_have_float, members_have_float}
+use Rattle.runner.specs.SearchObject.{IsSearchObject, array_of, choice_members, choice_object, count, count_members, end_members, mark_at, mark_value, object_of, outcome_object, outcome_objects, place_members, rank_object, rank_objects, search_object, value, with_members}
+
+neither : (a b : Bool) → a ≡ false → b ≡ false → (a || b) ≡ false
+neither true b x y = x
+neither false b x y = y
+
+not_first : (a b : Bool) → (a || b) ≡ false → a ≡ false
+not_first true b x = x
+not_first false b x = refl
+
+not_second : (a b : Bool) → (a || b) ≡ false → b ≡ false
+not_second true b x = absurd cc
+not_second false b x = x
+
+-- members to which one without a float is put have none either
+no_float-put_at : (o : Ordering) (a b c : Members) → members_have_float a ≡ false → members_have_float b ≡ false → members_have_float c ≡ false
+    → members_have_float (match_ordering o a b c) ≡ false
+no_float-put_at Less a b c x y z = x
+no_float-put_at Equal a b c x y z = y
+no_float-put_at Greater a b c x y z = z
+
+pub no_float-put : (k : List ℕ) (d : Data) (members : Members) → has_float d ≡ false → members_have_float members ≡ false
+    → members_have_float (put k d members) ≡ false
+no_float-put k d json.no_members clean rest = neither (has_float d) false clean refl
+no_float-put k d (json.member l e members) clean rest =
+    let first = not_first (has_float e) (members_have_float members) rest in
+    let others = not_second (has_float e) (members_have_float members) rest in
+    no_float-put_at (slice_cmp nat_cmp k l) (json.member k d (json.member l e members)) (json.member l d members) (json.member l e (put k d members))
+    (neither (has_float d) (has_float e || members_have_float members) clean rest)
+    (neither (has_float d) (members_have_float members) clean others)
+    (neither (has_float e) (members_have_float (put k d members)) first (no_float-put k d members clean others))
+
+-- none of these members has a float
+abbrev pub HaveNoFloat : List (List ℕ × Data) → Type 0
+HaveNoFloat [] = Unit {0}
+HaveNoFloat (first ∷ others) = (has_float first.1 ≡ false) × HaveNoFloat others
+
+-- put one after another they leave none
+pub no_float-with_members : (more : List (List ℕ × Data)) (held : Members) → HaveNoFloat more → members_have_float held ≡ false
+    → members_have_float (with_members more held) ≡ false
+no_float-with_members [] held clean rest = rest
+no_float-with_members (first ∷ others) held clean rest =
+    no_float-with_members others (put first.0 first.1 held) clean.1 (no_float-put first.0 first.1 held clean.0 rest)
+
+-- so an object of them has none
+no_float-object_of : (members : List (List ℕ × Data)) → HaveNoFloat members → has_float (object_of members) ≡ false
+no_float-object_of members clean = no_float-with_members members json.no_members clean refl
+
+-- two lists of members one after the other
+both_clean : (xs ys : List (List ℕ × Data)) → HaveNoFloat xs → HaveNoFloat ys → HaveNoFloat (xs ++ ys)
+both_clean [] ys x y = y
+both_clean (first ∷ others) ys x y = (x.0, both_clean others ys x.1 y)
+
+-- a value that a rank printed is no float
+no_float-value : (z : ℤ) → has_float (value z) ≡ false
+no_float-value (pos n) = refl
+no_float-value (negsuc n) = refl
+
+no_float-values : (zs : List ℤ) → items_have_float (items_of (map value zs)) ≡ false
+no_float-values [] = refl
+no_float-values (z ∷ zs) = neither (has_float (value z)) (items_have_float (items_of (map value zs))) (no_float-value z) (no_float-values zs)
+
+-- how a rank ended
+no_float-end : (e : End) → HaveNoFloat (end_members e)
+no_float-end end.Halted = (refl, tt)
+no_float-end end.Stalled = (refl, tt)
+no_float-end end.Unfinished = (refl, tt)
+no_float-end (end.Faulted fault) = (refl, (refl, (refl, tt)))
+
+no_float-rank : (rank : ℕ) (seen : RankOutcome) → has_float (rank_object rank seen) ≡ false
+no_float-rank rank seen = no_float-object_of
+    ((codes "rank", count rank) ∷ (codes "lines", array_of (map value seen.lines)) ∷ end_members seen.end)
+    (refl, (no_float-values seen.lines, no_float-end seen.end))
+
+no_float-ranks : (rank : ℕ) (seen : List RankOutcome) → items_have_float (items_of (rank_objects rank seen)) ≡ false
+no_float-ranks rank [] = refl
+no_float-ranks rank (first ∷ others) =
+    neither (has_float (rank_object rank first)) (items_have_float (items_of (rank_objects (rank + 1) others))) (no_float-rank rank first) (no_float-ranks (rank + 1) others)
+
+pub no_float-place : (rank : ℕ) (line : Option ℕ) → HaveNoFloat (place_members rank line)
+no_float-place rank (Some line) = (refl, (refl, tt))
+no_float-place rank None = (refl, tt)
+
+no_float-chosen : (chosen : Choice) (probes : Bool) → HaveNoFloat (choice_members chosen probes)
+no_float-chosen (choice.Take source index) probes = (refl, (refl, tt))
+no_float-chosen choice.Miss probes = (refl, tt)
+no_float-chosen choice.Next probes = tt
+
+no_float-choice : (lines : List ℕ) (noted : Noted) → has_float (choice_object lines noted) ≡ false
+no_float-choice lines noted =
+    let place = place_members noted.chosen.rank (slice_get lines noted.position) in
+    let chosen = choice_members noted.chosen.choice noted.probes in
+    no_float-object_of (place ++ chosen) (both_clean place chosen (no_float-place _ _) (no_float-chosen _ _))
+
+no_float-choices : (lines : List ℕ) (choices : List Noted) → items_have_float (items_of (map (choice_object lines) choices)) ≡ false
+no_float-choices lines [] = refl
+no_float-choices lines (first ∷ others) =
+    neither (has_float (choice_object lines first)) (items_have_float (items_of (map (choice_object lines) others))) (no_float-choice lines first) (no_float-choices lines others)
+
+no_float-mark : (mark : Option Bool) → has_float (mark_value mark) ≡ false
+no_float-mark (Some mark) = refl
+no_float-mark None = refl
+
+no_float-outcome : (lines : List ℕ) (number : ℕ) (outcome : List RankOutcome) (choices : List Noted) (mark : Option Bool)
+    → has_float (outcome_object lines number outcome choices mark) ≡ false
+no_float-outcome lines number outcome choices mark =
+    no_float-object_of
+    ((codes "outcome", count number) ∷ (codes "ranks", array_of (rank_objects 0 outcome))
+    ∷ (codes "choices", array_of (map (choice_object lines) choices)) ∷ (codes "misses_shown", mark_value mark) ∷ [])
+    (refl, (no_float-ranks 0 outcome, (no_float-choices lines choices, (no_float-mark mark, tt))))
+
+no_float-outcomes : (lines : List ℕ) (marks : List (Option Bool)) (index : ℕ) (outcomes : List (List RankOutcome)) (choices : List (List Noted))
+    → items_have_float (items_of (outcome_objects lines marks index outcomes choices)) ≡ false
+no_float-outcomes lines marks index [] choices = refl
+no_float-outcomes lines marks index (outcome ∷ outcomes) [] =
+    neither _ _ (no_float-outcome lines (index + 1) outcome [] (mark_at marks index)) (no_float-outcomes lines marks (index + 1) outcomes [])
+no_float-outcomes lines marks index (outcome ∷ outcomes) (own ∷ choices) =
+    neither _ _ (no_float-outcome lines (index + 1) outcome own (mark_at marks index)) (no_float-outcomes lines marks (index + 1) outcomes choices)
+
+-- nor is there one in all that was found, if there is none in the races
+pub no_float-search : (found : ExploredValue) (marks : List (Option Bool)) (lines : List ℕ) (races : Items) → items_have_float races ≡ false
+    → has_float (search_object found marks lines races) ≡ false
+no_float-search found marks lines races clean =
+    no_float-object_of
+    ((codes "outcomes", array_of (outcome_objects lines marks 0 found.outcomes found.choices)) ∷ (codes "races", json.array races)
+    ∷ count_members found)
+    (no_float-outcomes lines marks 0 found.outcomes found.choices, (clean, (refl, (refl, (refl, (refl, (refl, tt)))))))
+
+-- a value without a float is pushed to some without
+pub pushed : (list : List Value) (one : Value) → items_have_float (items_view list) ≡ false → has_float (view one) ≡ false
+    → items_have_float (items_view (list ++ one ∷ [])) ≡ false
+pushed [] one rest clean = neither (has_float (view one)) false clean refl
+pushed (first ∷ others) one rest clean =
+    neither (has_float (view first)) (items_have_float (items_view (others ++ one ∷ [])))
+    (not_first (has_float (view first)) (items_have_float (items_view others)) rest)
+    (pushed others one (not_second (has_float (view first)) (items_have_float (items_view others)) rest) clean)
+
+-- the object's text and a line feed
+pub is_search_object : (found : ExploredValue) (marks : List (Option Bool)) (lines : List ℕ) (races : Items) (all : Data) (written text : List ℕ)
+    → items_have_float races ≡ false → all ≡ search_object found marks lines races
+    → (has_float all ≡ false → written ≡ compact_text all) → text ≡ written ++ 10 ∷ [] → IsSearchObject found marks lines text
+is_search_object found marks lines races all written text clean is says whole =
+    let none : has_float all ≡ false = ap has_float is ∙ no_float-search found marks lines races clean in
+    record {
+      races = races;
+      no_fractions = clean;
+      whole = whole ∙ ap (λ xs. xs ++ 10 ∷ []) (says none ∙ ap compact_text is);
+    }

@@ -1,0 +1,115 @@
+-- What a search found, as an object of JSON (RFC 8259; docs/FORMATS.md, "Standard output of
+-- `explore`"). The object's text has its members sorted by their names.
+use Rattle.std.specs.Prelude.{◌≡◌, ℕ, ℤ, ◌+◌, Bool, false, if◌then◌else◌, List, [], ◌∷◌, ◌++◌, Option, Some, None, map, slice_get, codes}
+use Rattle.std.specs.Option.{option_flatten}
+use Rattle.audit.specs.declared.outcome.End.{End}
+use Rattle.audit.specs.declared.outcome.End.TheVariants as end
+use Rattle.crash_free.specs.declared.choice.Choice.{Choice}
+use Rattle.crash_free.specs.declared.choice.Choice.TheVariants as choice
+use Rattle.explore.specs.declared.moves.Noted.{Noted}
+use Rattle.explore.specs.Explored.{ExploredValue}
+use Rattle.final_runs.specs.Maximal.{RankOutcome}
+use Rattle.rank_machine.specs.Faults.{fault_name, fault_number}
+use Rattle.serde_json.specs.Data.{Data, Items, Members, put}
+use Rattle.serde_json.specs.Data as json
+use Rattle.serde_json.specs.Find.{of_integer}
+use Rattle.serde_json.specs.View.{items_of}
+use Rattle.serde_json.specs.Written.{compact_text, items_have_float}
+
+-- these members, put to others one after another
+abbrev pub with_members : List (List ℕ × Data) → Members → Members
+with_members [] members = members
+with_members (first ∷ others) members = with_members others (put first.0 first.1 members)
+
+-- the object with these members
+abbrev pub object_of : List (List ℕ × Data) → Data
+object_of members = json.object (with_members members json.no_members)
+
+-- an array of these
+abbrev pub array_of : List Data → Data
+array_of items = json.array (items_of items)
+
+-- a number from 0 on
+abbrev pub count : ℕ → Data
+count number = json.number (json.unsigned number)
+
+-- a value that a rank printed
+abbrev pub value : ℤ → Data
+value printed = json.number (of_integer printed)
+
+-- how a rank ended; with a fault its number and its name
+abbrev pub end_members : End → List (List ℕ × Data)
+end_members end.Halted = (codes "end", json.string (codes "halted")) ∷ []
+end_members end.Stalled = (codes "end", json.string (codes "stalled")) ∷ []
+end_members end.Unfinished = (codes "end", json.string (codes "unfinished")) ∷ []
+end_members (end.Faulted fault) =
+    (codes "end", json.string (codes "fault")) ∷ (codes "fault", count (fault_number fault)) ∷ (codes "name", json.string (fault_name fault)) ∷ []
+
+-- the rank of this number: the values that it printed, and how it ended
+abbrev pub rank_object : ℕ → RankOutcome → Data
+rank_object rank seen =
+    object_of ((codes "rank", count rank) ∷ (codes "lines", array_of (map value seen.lines)) ∷ end_members seen.end)
+
+-- the ranks from this one on
+abbrev pub rank_objects : ℕ → List RankOutcome → List Data
+rank_objects rank [] = []
+rank_objects rank (seen ∷ others) = rank_object rank seen ∷ rank_objects (rank + 1) others
+
+-- a rank, and the line of the program where it stands, if that is known
+abbrev pub place_members : ℕ → Option ℕ → List (List ℕ × Data)
+place_members rank (Some line) = (codes "rank", count rank) ∷ (codes "line", count line) ∷ []
+place_members rank None = (codes "rank", count rank) ∷ []
+
+-- what was chosen, by a receive or by a probe; of a step of the rank's own nothing is said
+abbrev pub choice_members : Choice → Bool → List (List ℕ × Data)
+choice_members (choice.Take source index) probes =
+    (codes "act", json.string (if probes then codes "hit" else codes "reception")) ∷ (codes "source", count source) ∷ []
+choice_members choice.Miss probes = (codes "act", json.string (codes "miss")) ∷ []
+choice_members choice.Next probes = []
+
+-- a choice: a rank, where it stands, and what it chose; the statement at position K stands on line K of these
+abbrev pub choice_object : List ℕ → Noted → Data
+choice_object lines noted =
+    object_of (place_members noted.chosen.rank (slice_get lines noted.position) ++ choice_members noted.chosen.choice noted.probes)
+
+-- a mark, null for none
+abbrev pub mark_value : Option Bool → Data
+mark_value (Some mark) = json.boolean mark
+mark_value None = json.null
+
+-- the outcome of this number: what is seen of its ranks, the choices that lead there, and its mark
+abbrev pub outcome_object : List ℕ → ℕ → List RankOutcome → List Noted → Option Bool → Data
+outcome_object lines number outcome choices mark =
+    object_of ((codes "outcome", count number) ∷ (codes "ranks", array_of (rank_objects 0 outcome))
+    ∷ (codes "choices", array_of (map (choice_object lines) choices)) ∷ (codes "misses_shown", mark_value mark) ∷ [])
+
+-- the mark of the outcome at this index, if there is one
+abbrev pub mark_at : List (Option Bool) → ℕ → Option Bool
+mark_at marks index = option_flatten (slice_get marks index)
+
+-- the outcomes from this index on, with their choices, none where these are too few; numbers are from 1
+abbrev pub outcome_objects : List ℕ → List (Option Bool) → ℕ → List (List RankOutcome) → List (List Noted) → List Data
+outcome_objects lines marks index [] choices = []
+outcome_objects lines marks index (outcome ∷ outcomes) [] =
+    outcome_object lines (index + 1) outcome [] (mark_at marks index) ∷ outcome_objects lines marks (index + 1) outcomes []
+outcome_objects lines marks index (outcome ∷ outcomes) (own ∷ choices) =
+    outcome_object lines (index + 1) outcome own (mark_at marks index) ∷ outcome_objects lines marks (index + 1) outcomes choices
+
+-- how the search ended, and how many runs it looked at and states it kept
+abbrev pub count_members : ExploredValue → List (List ℕ × Data)
+count_members found =
+    (codes "complete", json.boolean found.complete) ∷ (codes "out_of_steps", json.boolean found.out_of_steps)
+    ∷ (codes "runs", count found.runs) ∷ (codes "states", count found.states) ∷ (codes "all_states_kept", json.boolean found.kept_all) ∷ []
+
+-- all that a search found, with these marks and these races
+abbrev pub search_object : ExploredValue → List (Option Bool) → List ℕ → Items → Data
+search_object found marks lines races =
+    object_of ((codes "outcomes", array_of (outcome_objects lines marks 0 found.outcomes found.choices))
+    ∷ (codes "races", json.array races) ∷ count_members found)
+
+-- The text is this object on a line of its own. Of the races it only says that they are an array in
+-- which no number has a fraction or an exponent.
+pub record IsSearchObject (found : ExploredValue) (marks : List (Option Bool)) (lines text : List ℕ) : Type 0 where
+  pub races : Items
+  pub no_fractions : items_have_float races ≡ false
+  pub whole : text ≡ compact_text (search_object found marks lines races) ++ codes "\n"
