@@ -259,7 +259,6 @@ fn race_value(alloc: Heap, race: &Race, lines: &[usize]) -> Result<Value, AllocE
     Ok(Value::from(one))
 }
 
-#[tactic(auto, using(crate::proofs::SearchObjects::pushed))]
 fn sources_of(alloc: Heap, race: &Race) -> Result<Vec<Value, Heap>, AllocError>
     ensures { IfOk result (λ list. items_have_float (items_view list.items) ≡ false) }
 {
