@@ -67,7 +67,8 @@ choice_members (choice.Take source index) probes =
 choice_members choice.Miss probes = (codes "act", json.string (codes "miss")) ∷ []
 choice_members choice.Next probes = []
 
--- a choice: a rank, where it stands, and what it chose; the statement at position K stands on line K of these
+-- a choice: a rank, where it stands, and what it chose; the statement at position K stands on line K
+-- of these
 abbrev pub choice_object : List ℕ → Noted → Data
 choice_object lines noted =
     object_of (place_members noted.chosen.rank (slice_get lines noted.position) ++ choice_members noted.chosen.choice noted.probes)
@@ -77,7 +78,8 @@ abbrev pub mark_value : Option Bool → Data
 mark_value (Some mark) = json.boolean mark
 mark_value None = json.null
 
--- the outcome of this number: what is seen of its ranks, the choices that lead there, and its mark
+-- the outcome of this number: what is seen of its ranks, the choices that are noted with it, and its
+-- mark
 abbrev pub outcome_object : List ℕ → ℕ → List RankOutcome → List Noted → Option Bool → Data
 outcome_object lines number outcome choices mark =
     object_of ((codes "outcome", count number) ∷ (codes "ranks", array_of (rank_objects 0 outcome))
@@ -87,7 +89,8 @@ outcome_object lines number outcome choices mark =
 abbrev pub mark_at : List (Option Bool) → ℕ → Option Bool
 mark_at marks index = option_flatten (slice_get marks index)
 
--- the outcomes from this index on, with their choices, none where these are too few; numbers are from 1
+-- the outcomes from this index on, with their choices, none where these are too few; numbers are from
+-- 1, an index from 0
 abbrev pub outcome_objects : List ℕ → List (Option Bool) → ℕ → List (List RankOutcome) → List (List Noted) → List Data
 outcome_objects lines marks index [] choices = []
 outcome_objects lines marks index (outcome ∷ outcomes) [] =
