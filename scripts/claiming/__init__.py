@@ -11,6 +11,7 @@
     pages      docs/reference/CLAUSES.md and DEFINITIONS.md
     naming     whether each name of a claim exists, and fits the contract it is named for
     mutants    whether each mutant stands at a claim
+    lemmas     whether each lemma is used, and stands once
     links      whether each link leads somewhere
     mentions   whether paths and names in the documents exist
     pairs      whether the clauses that documents name belong to the function beside them

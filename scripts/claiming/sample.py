@@ -44,10 +44,20 @@ FILES = {
     ),
     "crates/post/specs/Inbox.antt": (
         "-- The inbox as contracts see it.\nuse Rattle.std.specs.Prelude.{ℕ}\n\n"
-        "-- the letters are counted\npub record IsInbox (b : ℕ) : Type 0 where\n  pub count : b ≡ b\n\n"
+        "-- the letters are counted\npub record IsInbox\n    (b : ℕ) : Type 0 where\n  pub count : b ≡ b\n\n"
         "-- the inbox after a letter\nabbrev pub after_arrival : ℕ → ℕ → ℕ\nafter_arrival b n = n\n\n"
         "-- the inbox without letters\nabbrev pub empty : ℕ\nempty = 0\n"
     ),
+    "crates/post/proofs/Letters.antt": (
+        "-- Letters are counted.\nuse Rattle.std.proofs.Common.{◌≡◌, ℕ, ◌+◌, refl}\n\n"
+        "-- none is counted twice\npub counted : (n m : ℕ) → n ≡ m → n + 1 ≡ m + 1\ncounted n m e = rw e refl\n"
+    ),
+    "crates/post/proofs/Lib.antt": "pub mod Letters\n",
+    "crates/office/proofs/Opening.antt": (
+        "-- An office is open.\nuse Rattle.post.proofs.Letters.{counted}\n\n"
+        "-- so from letter to letter\npub stays : (k : ℕ) → k ≡ k → k + 1 + 1 ≡ k + 1 + 1\nstays k e = counted (k + 1) (k + 1) (counted k k e)\n"
+    ),
+    "crates/office/proofs/open/Answers.antt": "pub returns-clause-0 = stays\n",
     "crates/post/must-fail/accepts_a_gap.edit": "file: src/inbox.rt\nold: true\nnew: false\n",
     "crates/post/wrong/2/accepts_a_repeat.edit": "file: src/inbox.rt\nold: true\nnew: false\n",
     "crates/office/README.md": (
@@ -78,6 +88,8 @@ WRONG = "crates/post/wrong"
 README = "README.md"
 GLOSSARY = "docs/GLOSSARY.md"
 THEOREMS = "docs/THEOREMS.md"
+OPENING = "crates/office/proofs/Opening.antt"
+SAME_AS_BELOW = "(i j : ℕ) → i ≡ j → i + 1 ≡ j + 1"
 CASES = (
     Case("a function that isn't there", POST, "`Inbox::accept`", "`Inbox::admit`", POST, "`Inbox::admit` names no function"),
     Case("a function of another type", POST, "`Inbox::accept`", "`Outbox::accept`", POST, "`Outbox::accept` names no function"),
@@ -108,6 +120,8 @@ CASES = (
     Case("a clause of another function in a document", THEOREMS, "`ok`", "`back`", THEOREMS, "`back` is no clause of `Inbox::accept`"),
     Case("a long line", README, "stands in", "stands in" + " as you see" * 5, README, "columns, more than 100"),
     Case("a long line in a fenced block", README, "[no link]", "[no link]" + " as you see" * 9, README, "columns, more than 120"),
+    Case("a lemma that nothing uses", "crates/office/proofs/open/Answers.antt", "stays", "holds", OPENING, "nothing uses the lemma `stays`"),
+    Case("a lemma that stands below", OPENING, "(k : ℕ) → k ≡ k → k + 1 + 1 ≡ k + 1 + 1", SAME_AS_BELOW, OPENING, "`stays` says what `counted` of"),
     Case("a page that isn't up to date", CLAUSES, "post", "mail", CLAUSES, "isn't what scripts/claims --write writes"),
 )
 

@@ -114,7 +114,9 @@ def last_of(lines: list[str], head: Head, heads: list[Head]) -> int:
 def members_of(lines: list[str], head: Head, last: int) -> list[Definition]:
     """The fields of a record, or the constructors of a `data`."""
     sentences, found, column = sentences_above(lines), [], None
-    for number in range(head.number + 1, last):
+    # (the head of a definition with many parameters goes on in lines below)
+    begins = next((it for it in range(head.number, last) if lines[it].endswith(" where")), head.number)
+    for number in range(begins + 1, last):
         line = lines[number]
         members = NAMES_MEMBERS.match(line)
         if not line.strip() or COMMENT.match(line):

@@ -8,12 +8,13 @@ from typing import Iterator
 from . import columns, links, mutants, pages, pairs
 from .claims import Claims, claims_of
 from .code import items_of_code
-from .items import Item
+from .items import Item, segments_of
+from .lemmas import Lemmas, exported_by
 from .markdown import spans_of
 from .mentions import DOCUMENTS, Mentions, is_checked
 from .naming import Naming
 from .pages import Written
-from .places import Crate, Fault, crates_of, documents, files_below, libraries_of, text_of, write
+from .places import Crate, Fault, crate_lines, crates_of, documents, files_below, libraries_of, text_of, write
 from .reach import Reach, imports_of
 from .specs import items_of_antt, page_of
 
@@ -26,6 +27,7 @@ class Whole:
         self.crates = crates_of(top)
         self.sources = {it.name: self.texts(it, "src", ".rt") for it in self.crates}
         self.specs = {it.name: self.texts(it, "specs", ".antt") for it in self.crates}
+        self.proofs = {it.name: self.texts(it, "proofs", ".antt") for it in self.crates}
         self.items = {it.name: self.items_of(it) for it in self.crates}
         self.reach = self.reach_of()
         self.pages = {name: [page_of(path, text) for path, text in found.items()] for name, found in self.specs.items()}
@@ -42,7 +44,7 @@ class Whole:
 
     def items_of(self, crate: Crate) -> list[Item]:
         found = [it for path, text in self.sources[crate.name].items() for it in items_of_code(crate.name, path, text)]
-        below = {**self.specs[crate.name], **self.texts(crate, "proofs", ".antt")}
+        below = {**self.specs[crate.name], **self.proofs[crate.name]}
         return found + [it for path, text in below.items() for it in items_of_antt(crate.name, path, text)]
 
     def reach_of(self) -> Reach:
@@ -90,6 +92,19 @@ class Whole:
         scripts = {os.path.basename(it) for it in files_below(self.top, "scripts", ("",))}
         return clauses | edits | imported | scripts | set(self.items) | libraries_of(self.top)
 
+    def names_in_documents(self) -> set[str]:
+        """The last words of all code spans."""
+        return {segments_of(span.text)[-1] for it in self.links for span in spans_of(self.text(it))}
+
+    def faults_of_lemmas(self) -> Iterator[Fault]:
+        texts = [text for found in (self.sources, self.specs, self.proofs) for of_crate in found.values() for text in of_crate.values()]
+        named_below = {name: {*libraries} for name, libraries in crate_lines(self.top)}
+        exported = {it.name: exported_by(self.proofs[it.name].get(f"{it.folder()}/proofs/Lib.antt", "")) for it in self.crates}
+        lemmas = Lemmas(self.items, named_below, exported, texts)
+        named = self.names_in_documents()
+        for crate in self.crates:
+            yield from lemmas.faults(crate, named)
+
     def faults_of_documents(self) -> Iterator[Fault]:
         items = [it for found in self.items.values() for it in found]
         sources = "\n".join(text for found in self.sources.values() for text in found.values())
@@ -106,7 +121,7 @@ class Whole:
 
     def faults(self) -> list[Fault]:
         found = [it for crate in self.crates for it in self.faults_of_crate(crate)]
-        return sorted({*self.faults_of_pages(), *found, *self.faults_of_documents()})
+        return sorted({*self.faults_of_pages(), *found, *self.faults_of_lemmas(), *self.faults_of_documents()})
 
     def counts(self) -> str:
         claims = sum(len(it.claims) for it in self.claims.values())

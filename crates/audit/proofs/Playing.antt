@@ -15,6 +15,7 @@ use Rattle.rank_machine.specs.declared.want.Want.TheVariants as want
 use Rattle.rank_machine.specs.Wants.{payload}
 use Rattle.rank_machine.specs.Acts.{Act, Message, prints, Fits}
 use Rattle.rank_machine.specs.Machine.{MachineValue, state_of, Strides}
+use Rattle.rank_machine.proofs.Striding.{no_stride}
 use Rattle.crash_free.specs.declared.choice.Choice.{Choice}
 use Rattle.crash_free.specs.declared.choice.Choice.TheVariants as choice
 use Rattle.crash_free.specs.Runs.{Passed, history, printed, looked_up}
@@ -25,7 +26,7 @@ use Rattle.crash_free.specs.Parts.{IsBeginning}
 use Rattle.crash_free.specs.Advances.{Advances, first_machine}
 use Rattle.crash_free.proofs.Lists.{history-own, history-other, printed-own, printed-other}
 use Rattle.crash_free.proofs.Keeping.{set_there, set_apart}
-use Rattle.crash_free.proofs.Advancing.{Advances-act, Advances-stride, no_stride}
+use Rattle.crash_free.proofs.Advancing.{Advances-act, Advances-stride}
 use Rattle.audit.specs.Outcome.{OutcomeValue, lines_of}
 use Rattle.audit.specs.Rows.{row, event_at, expand}
 use Rattle.audit.specs.Audits.{IsSendTo, Suits, Repeats}
@@ -136,10 +137,6 @@ plays_stride o s s' r made inside k = record {
     clocked = rw inside.run has.clocked;
   };
 }
-
--- nothing happens
-pub plays_none : (o : OutcomeValue) (r k : ℕ) (s : SimValue) → Plays o r k k s s
-plays_none o r k s = record { within = λ w. w; own = λ total h. h; others = λ q total i apart h. h }
 
 -- one after another
 pub plays_on : (o : OutcomeValue) (r k j i : ℕ) (s mid s' : SimValue) → Plays o r k j s mid → Plays o r j i mid s' → Plays o r k i s s'

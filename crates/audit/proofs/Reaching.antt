@@ -7,14 +7,14 @@ use Rattle.std.specs.Prelude.{IsSomeAnd}
 use Rattle.std.proofs.lemmas.Bool.{cases_lt}
 use Rattle.std.proofs.lemmas.List.{append-nil, length-append}
 use Rattle.std.proofs.lemmas.Option.{slice_get-get_or}
-use Rattle.rank_language.specs.Block.{Line, if_line, simple_line, else_line, end_line, while_line, back_line}
 use Rattle.rank_machine.specs.declared.fault.MachineFault.{MachineFault}
 use Rattle.rank_machine.specs.declared.want.Want.{Want}
 use Rattle.rank_machine.specs.declared.want.Want.TheVariants as want
 use Rattle.rank_machine.specs.States.{State}
 use Rattle.rank_machine.specs.Wants.{wants, payload}
 use Rattle.rank_machine.specs.Acts.{Act, Message, Fits}
-use Rattle.rank_machine.specs.Machine.{MachineValue, state_of, line_at, machine_want, machine_want_at}
+use Rattle.rank_machine.specs.Machine.{MachineValue, state_of, line_at, machine_want}
+use Rattle.rank_machine.proofs.Making.{asked_or}
 use Rattle.crash_free.specs.Runs.{Passed, History, history, sent, printed, prints_from, print_at, looked_up}
 use Rattle.crash_free.specs.Sim.{SimValue, Simulates, start_of}
 use Rattle.crash_free.specs.Wanted.{Wants, WantsAt}
@@ -61,22 +61,9 @@ both_begin {A} xs ys a b = go b.0 b.1
         let sum' = length-append xs a.0 in
         absurd (omega arith)
 
--- a machine asks for a step of its own, or for what its state wants
-from_line : (l : Option Line) (k : Option MachineFault) (w : Want) → (machine_want_at l k w ≡ want.Internal) ⊎ (machine_want_at l k w ≡ w)
-from_line None k w = inr refl
-from_line (Some (simple_line x)) k w = inr refl
-from_line (Some (if_line e q)) k w = inr refl
-from_line (Some (else_line q)) None w = inl refl
-from_line (Some (else_line q)) (Some k) w = inr refl
-from_line (Some end_line) None w = inl refl
-from_line (Some end_line) (Some k) w = inr refl
-from_line (Some (while_line e q)) k w = inr refl
-from_line (Some (back_line q)) None w = inl refl
-from_line (Some (back_line q)) (Some k) w = inr refl
-
 -- a machine asks for what it wants
 asks : (m : MachineValue) → Wants m (machine_want m)
-asks m = record { at_want = refl; from_state = from_line (line_at m) m.fault (wants (state_of m)) }
+asks m = record { at_want = refl; from_state = asked_or (line_at m) m.fault (wants (state_of m)) }
 
 -- a rank that waits makes no send
 waits_no_send : (w : Want) (items : List ℤ) (a : Act) (o : Option Message) → IsWaiting w → IsSendAct a → Fits w items a o → ⊥

@@ -12,16 +12,6 @@ use Rattle.audit.specs.Outcome.{OutcomeValue}
 use Rattle.audit.specs.Playing.{HasLeft, Plays, PlayAll, IsStuck}
 use Rattle.audit.proofs.Reaching.{there_is}
 
--- nothing happens to any rank
-pub all_play_none : (o : OutcomeValue) (left : List ℕ) (s : SimValue) → PlayAll o left left s s
-all_play_none o left s = record {
-  within = λ w. w;
-  each = λ r total k j at at' has.
-      let both : Some k ≡ Some j = sym at ∙ at' in
-      let same : k ≡ j = cc in
-      subst (λ i. HasLeft s r total i) same has;
-}
-
 -- one more rank goes on
 pub all_play_one : (o : OutcomeValue) (first left : List ℕ) (start s s' : SimValue) (r before after : ℕ) → PlayAll o first left start s
     → slice_get left r ≡ Some before

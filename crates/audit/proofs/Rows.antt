@@ -1,10 +1,9 @@
 -- The rows of a run after one more act: an act that is an event adds it to its rank's row, and any other leaves all rows.
 -- The receiver's clock of each event of a row is at most the number of the rank's acts.
-use Rattle.std.proofs.Common.{◌≡◌, ℕ, suc, ◌+◌, ◌≤◌, false, List, [], ◌∷◌, ◌++◌, Option, Some, None, length, refl, ap, subst, ◌∙◌, arith, ◌⊎◌, inl, inr}
-use Rattle.std.proofs.lemmas.List.{append-nil, length_push}
+use Rattle.std.proofs.Common.{◌≡◌, ℕ, suc, ◌+◌, false, List, [], ◌∷◌, ◌++◌, Option, Some, None, length, refl, ap, subst, ◌∙◌, arith, ◌⊎◌, inl, inr}
+use Rattle.std.proofs.lemmas.List.{append-nil}
 use Rattle.std.proofs.lemmas.Bool.{cases_eq}
 use Rattle.sequential_logger.specs.Event.{EventValue}
-use Rattle.sequential_logger.specs.History.{last_clock}
 use Rattle.rank_machine.specs.Acts.{Act, Message, sends, takes, hits, misses, prints}
 use Rattle.crash_free.specs.Runs.{Passed, History, history, sent, send_at, print_at, looked_up, takes_it}
 use Rattle.crash_free.proofs.Lists.{history-own, history-other}
@@ -109,32 +108,3 @@ event_clock c (hits s j) (Some y) x e = cc
 event_clock c (hits s j) None x e = absurd cc
 event_clock c misses m x e = cc
 event_clock c (prints v) m x e = absurd cc
-
--- the last event of a row is the one that came last
-last_clock-push : (es : List EventValue) (x : EventValue) → last_clock (es ++ x ∷ []) ≡ x.receiver_clock
-last_clock-push [] x = refl
-last_clock-push (e ∷ []) x = refl
-last_clock-push (e ∷ (f ∷ es)) x = last_clock-push (f ∷ es) x
-
--- the last event of a row has a clock that isn't above the number of the rank's acts
-pub last_clock_low : (C : List Passed) (r : ℕ) → last_clock (row C r) ≤ length (history C r)
-last_clock_low [] r = omega arith
-last_clock_low (p ∷ C) r = go (last_clock_low C p.rank) (last_clock_low C r) (cases_eq p.rank r)
-  where
-    own : (q : ℕ) → last_clock (row C q) ≤ length (history C q)
-        → last_clock (row (record { rank = q; act = p.act } ∷ C) q) ≤ length (history (record { rank = q; act = p.act } ∷ C) q)
-    own q low =
-        rw (row-own C q p.act, history-own C q p.act, length_push (history C q) (p.act, looked_up (λ s. sent C s q) p.act))
-        (more (event_at (length (history C q) + 1) p.act (looked_up (λ s. sent C s q) p.act)) refl)
-      where
-        more : (o : Option EventValue) → event_at (length (history C q) + 1) p.act (looked_up (λ s. sent C s q) p.act) ≡ o
-            → last_clock (row C q ++ cons_some o []) ≤ length (history C q) + 1
-        more None e = rw (append-nil (row C q)) (omega (arith, low))
-        more (Some x) e =
-            let clock = event_clock (length (history C q) + 1) p.act (looked_up (λ s. sent C s q) p.act) x e in
-            rw (last_clock-push (row C q) x, clock) (omega arith)
-
-    go : last_clock (row C p.rank) ≤ length (history C p.rank) → last_clock (row C r) ≤ length (history C r) → (p.rank ≡ r) ⊎ (p.rank ≡ r → ⊥)
-        → last_clock (row (p ∷ C) r) ≤ length (history (p ∷ C) r)
-    go of_p of_r (inl z) = subst (λ y. last_clock (row (p ∷ C) y) ≤ length (history (p ∷ C) y)) z (own p.rank of_p)
-    go of_p of_r (inr ne) = rw (row-other C p r ne, history-other C p r ne) of_r

@@ -1,8 +1,8 @@
 -- Lines sorted by rank, after one more line.
-use Rattle.std.proofs.Common.{◌≡◌, ℕ, ℤ, zero, suc, ◌+◌, ◌<◌, ◌==◌, Bool, true, false, List, [], ◌∷◌, ◌++◌, length, take, replicate}
-use Rattle.std.proofs.Common.{slice_get, slice_set, get_or, Some, ◌⊎◌, inl, inr, refl, sym, ap, subst, ◌∙◌, arith, length-set, eq-eqb, ne_eqb}
-use Rattle.std.proofs.lemmas.List.{append-nil, length-replicate, get_or-replicate, take_more}
-use Rattle.std.proofs.lemmas.Option.{slice_get_within, slice_get-get_or, get_or_from_slice_get, slice_get_read}
+use Rattle.std.proofs.Common.{◌≡◌, ℕ, ℤ, zero, suc, ◌+◌, ◌<◌, ◌==◌, Bool, true, false, List, [], ◌∷◌, ◌++◌, length, take}
+use Rattle.std.proofs.Common.{slice_get, slice_set, get_or, Some, ◌⊎◌, inl, inr, refl, sym, ap, ◌∙◌, arith, length-set, eq-eqb, ne_eqb}
+use Rattle.std.proofs.lemmas.List.{append-nil, take_more}
+use Rattle.std.proofs.lemmas.Option.{slice_get-get_or, get_or_from_slice_get, slice_get_read}
 use Rattle.ports.specs.declared.line.Line.{Line}
 use Rattle.crash_free.specs.Runs.{cons_if}
 use Rattle.crash_free.proofs.Keeping.{set_cases}
@@ -27,18 +27,6 @@ lines_of-own q lines x own = lines_of-push q lines x ∙ ap (λ b. lines_of q li
 lines_of-other : (q : ℕ) (lines : List Line) (x : Line) → (x.rank ≡ q → ⊥) → lines_of q (lines ++ x ∷ []) ≡ lines_of q lines
 lines_of-other q lines x other =
     lines_of-push q lines x ∙ ap (λ b. lines_of q lines ++ cons_if b (x.clock, x.value) []) (ne_eqb x.rank q other) ∙ append-nil (lines_of q lines)
-
--- no line
-pub IsSorted-none : (n : ℕ) (sorted : List (List (ℕ × ℤ))) → sorted ≡ replicate n [] → IsSorted n [] sorted
-IsSorted-none n sorted none = record {
-  width = ap length none ∙ length-replicate n [];
-  each = λ r xs there.
-      let at : slice_get (replicate n []) r ≡ Some xs = ap (λ s. slice_get s r) (sym none) ∙ there in
-      let low : r < length (replicate n []) = slice_get_within (replicate n []) r xs at in
-      let few : r < n = subst (λ k. r < k) (length-replicate n []) low in
-      sym (get_or_from_slice_get (replicate n []) r xs [] at) ∙ get_or-replicate n r [] [] few;
-  no_more = λ r beyond. refl;
-}
 
 -- one more line
 pub IsSorted-push : (n : ℕ) (lines : List Line) (x : Line) (sorted : List (List (ℕ × ℤ))) → IsSorted n lines sorted → x.rank < n

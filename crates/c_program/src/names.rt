@@ -1,6 +1,7 @@
 //! Names of a rank program as names in C.
 ghost use Rattle.std.specs.Prelude.{◌≡◌, ◌++◌, OnOk, map};
-ghost use Rattle.c_program.specs.Names.{c_name, ending_of, is_among, is_reserved};
+ghost use Rattle.rank_checker.specs.Scope.{is_name_in};
+ghost use Rattle.c_program.specs.Names.{c_name, ending_of, is_reserved};
 
 use limits::Heap;
 use rank_grammar::Name;
@@ -59,7 +60,7 @@ pub(crate) const C_WORDS: [&str; 46] = [
 
 /// Whether the word is one of these.
 fn is_among(words: &[&str], word: &[u8]) -> bool
-    ensures { result ≡ is_among (map (λ w. w.now) words.now) word.now }
+    ensures { result ≡ is_name_in (map (λ w. w.now) words.now) word.now }
 {
     for known in words {
         if known.as_bytes() == word {

@@ -6,17 +6,13 @@ use Rattle.std.proofs.lemmas.List.{drop_more, take_more, take_all, map_push, fla
 use Rattle.limits.specs.Limits.{most_items}
 use Rattle.rank_checker.specs.declared.scope.Array.{Array}
 use Rattle.rank_checker.specs.SeenLines.{arrays_seen}
+use Rattle.rank_checker.proofs.ScopeLaws.{arrays_push}
 use Rattle.rank_language.specs.Program.{AllSized}
 use Rattle.checkpoint.specs.declared.fault.ImageFault.{ImageFault}
 use Rattle.checkpoint.specs.declared.fault.ImageFault.TheVariants.{Version, Short, Long, Field, WrongProgram, Memory}
 use Rattle.byteorder.specs.Endian.{big_bytes}
 use Rattle.checkpoint.specs.Spelling.{lengths}
 use Rattle.checkpoint.specs.Reading.{Read, ◌>>=◌, Fails, field, lengths_at}
-
--- as many arrays are seen
-pub seen_length : (xs : List Array) → length (arrays_seen xs) ≡ length xs
-seen_length [] = refl
-seen_length (a ∷ xs) = ap suc (seen_length xs)
 
 -- the length of one array more was read
 pub lengths_on : (xs : List Array) (i : ℕ) (d a : Array) (bytes after : List ℕ) (total : Read (Unit {0})) → i < length xs
@@ -99,11 +95,6 @@ pub all_arrays : (xs : List Array) (i : ℕ) (found : List (List ℤ)) → lengt
     → map length found ≡ lengths_in xs
 all_arrays xs i found le e = e ∙ take_all i (lengths_in xs) (omega (arith, lengths_length xs, le))
 
--- one array more is seen
-seen_push : (ys : List Array) (a : Array) → arrays_seen (ys ++ a ∷ []) ≡ arrays_seen ys ++ (a.name, a.length) ∷ []
-seen_push [] a = refl
-seen_push (y ∷ ys) a = ap (λ (zs : List (List ℕ × ℕ)). (y.name, y.length) ∷ zs) (seen_push ys a)
-
 -- one length more was written
 pub lengths_more : (xs : List Array) (i : ℕ) (d a : Array) (out old : List ℕ) → i < length xs → a ≡ get_or xs i d
     → out ≡ old ++ lengths (arrays_seen (take i xs)) → out ++ big_bytes 2 a.length ≡ old ++ lengths (arrays_seen (take (i + 1) xs))
@@ -111,4 +102,4 @@ lengths_more xs i d a out old lt e so_far =
     let k : take (i + 1) xs ≡ take i xs ++ a ∷ [] = take_more xs i d lt ∙ ap (λ (x : Array). take i xs ++ x ∷ []) (sym e) in
     ap (λ (o : List ℕ). o ++ big_bytes 2 a.length) so_far ∙ flat_map_more (λ (x : List ℕ × ℕ). big_bytes 2 x.1) old
     (arrays_seen (take i xs)) (a.name, a.length)
-    ∙ ap (λ (zs : List (List ℕ × ℕ)). old ++ lengths zs) (sym (ap arrays_seen k ∙ seen_push (take i xs) a))
+    ∙ ap (λ (zs : List (List ℕ × ℕ)). old ++ lengths zs) (sym (ap arrays_seen k ∙ arrays_push (take i xs) a))

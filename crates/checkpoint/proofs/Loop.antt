@@ -1,9 +1,8 @@
 -- Reading items one after the other, as a loop does.
-use Rattle.std.proofs.Common.{◌≡◌, ℕ, zero, suc, ◌-◌, ◌+◌, ◌≤◌, ◌<◌, List, [], ◌∷◌, ◌++◌, length, Ok, Err, refl, sym, ◌∙◌, arith}
+use Rattle.std.proofs.Common.{◌≡◌, ℕ, suc, ◌-◌, ◌+◌, ◌≤◌, ◌<◌, List, [], ◌∷◌, ◌++◌, Ok, Err, refl, sym, ◌∙◌, arith}
 use Rattle.checkpoint.specs.declared.fault.ImageFault.{ImageFault}
 use Rattle.checkpoint.specs.declared.fault.ImageFault.TheVariants.{Version, Short, Long, Field, WrongProgram, Memory}
 use Rattle.matching.specs.PacketValue.{PacketValue}
-use Rattle.payload_log.specs.Backlog.{AreNumbered}
 use Rattle.checkpoint.specs.Reading.{Read, Fails, many_at, last_clock}
 
 -- an item more was read
@@ -51,14 +50,3 @@ pub last_clock-push : (ms : List PacketValue) (m : PacketValue) → last_clock (
 last_clock-push [] m = refl
 last_clock-push (n ∷ []) m = refl
 last_clock-push (n ∷ o ∷ ms) m = last_clock-push (o ∷ ms) m
-
--- one message more has the next number
-pub numbered_push : (base : ℕ) (ms : List PacketValue) (m : PacketValue) → AreNumbered base ms → m.number ≡ base + length ms + 1
-    → AreNumbered base (ms ++ m ∷ [])
-numbered_push base [] m all e zero d lt = omega (arith, e)
-numbered_push base [] m all e (suc k) d lt = absurd (omega (arith, lt))
-numbered_push base (n ∷ ms) m all e zero d lt = all zero d (omega arith)
-numbered_push base (n ∷ ms) m all e (suc k) d lt =
-    let rest : AreNumbered (base + 1) ms = λ j f l. let h = all (suc j) f (omega (arith, l)) in omega (arith, h) in
-    let h = numbered_push (base + 1) ms m rest (omega (arith, e)) k d (omega (arith, lt)) in
-    omega (arith, h)

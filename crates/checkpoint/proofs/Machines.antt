@@ -20,10 +20,6 @@ use Rattle.checkpoint.proofs.Fields.{field_reader}
 
 -- ---- the header
 
--- a number that must be this one
-abbrev pub Only : ℕ → ℕ → Type 0
-Only n x = x ≡ n
-
 -- the version of event words that a format names, if it does
 events_reader : (format : Format) → IsReader (events_at format) events (λ read. read ≡ format)
 events_reader One = record {

@@ -192,7 +192,7 @@ unfolding text_in origin heading
 texts_apart i j same = absurd (omega (arith, ap (λ (bytes : List ℕ). slice_index bytes 0) same))
 
 -- the cursors of lanes aren't in the bytes
-lanes_rest : (log : List BacklogValue) → flat_map lane (map rewound log) ≡ flat_map lane log
+pub lanes_rest : (log : List BacklogValue) → flat_map lane (map rewound log) ≡ flat_map lane log
 unfolding lane
 lanes_rest [] = refl
 lanes_rest (b ∷ bs) = ap (λ (rest : List ℕ). lane b ++ rest) (lanes_rest bs)

@@ -87,7 +87,7 @@ fn lengths_of<'b>(arrays: &[Array], bytes: &'b [u8]) -> Result<&'b [u8], ImageFa
 }
 
 /// How many arrays the program declares.
-#[tactic(auto, using(crate::proofs::Arrays::seen_length))]
+#[tactic(auto, using(rank_checker::proofs::ScopeLaws::arrays_length))]
 pub fn array_count(program: &Program) -> usize
     ensures { result ≡ length program.now.arrays }
 {

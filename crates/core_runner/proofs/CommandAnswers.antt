@@ -1,12 +1,10 @@
 -- How what is said to words is an answer.
-use Rattle.std.proofs.Common.{◌≡◌, ◌≢◌, ℕ, List, [], Option, inl, inr, refl}
+use Rattle.std.proofs.Common.{◌≡◌, ◌≢◌, ℕ, List, [], Option, refl}
 use Rattle.std.specs.Io.KnownBytes.{Appends}
 use Rattle.std.proofs.KnownBytes.{Appends-nil}
-use Rattle.command_line.specs.Jobs.{IsJobOf}
-use Rattle.command_line.specs.declared.job.Job.{Job}
 use Rattle.command_line.specs.declared.no_job.NoJob.{NoJob}
 use Rattle.command_line.specs.declared.no_job.NoJob.TheVariants as no_job
-use Rattle.core_runner.specs.Commands.{IsCommandAnswer, IsWithoutJob}
+use Rattle.core_runner.specs.Commands.{IsWithoutJob}
 use Rattle.core_runner.specs.Statuses.{help_in, status_without_job}
 
 -- what is said instead of a job
@@ -21,17 +19,3 @@ without_memory = record { no_job = no_job.Memory; text = refl; code = refl }
 -- A stream holds what it did and this answer, unless the status is 5.
 abbrev pub Answers : (List ℕ → ℕ → Type 0) → Option (List ℕ) → Option (List ℕ) → ℕ → Type 0
 Answers is_answer before after status = status ≢ 5 → (out : List ℕ) × Appends before after out × is_answer out status
-
--- the answer to the job that the words name is one to the words
-pub of_job : (answers : Job → List ℕ → ℕ → Type 0) (words : List (List ℕ)) (job : Job) (before after : Option (List ℕ)) (status : ℕ)
-    → IsJobOf words job → Answers (answers job) before after status → Answers (IsCommandAnswer answers words) before after status
-of_job answers words job before after status named answered written =
-    let said = answered written in
-    (said.0, said.1, inr (record { job = job; named = named; answered = said.2 }))
-
--- what is said instead of a job is an answer to words
-pub of_no_job : (answers : Job → List ℕ → ℕ → Type 0) (words : List (List ℕ)) (before after : Option (List ℕ)) (status : ℕ)
-    → Answers IsWithoutJob before after status → Answers (IsCommandAnswer answers words) before after status
-of_no_job answers words before after status answered written =
-    let said = answered written in
-    (said.0, said.1, inl said.2)

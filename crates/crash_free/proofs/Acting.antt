@@ -9,15 +9,16 @@ use Rattle.rank_language.specs.Placed.{barrier, broadcast, reduce, collect}
 use Rattle.rank_language.specs.Block.{Block, plain}
 use Rattle.rank_machine.specs.declared.fault.MachineFault.{MachineFault}
 use Rattle.rank_machine.specs.Values.{Store, Valued, ◌>>=◌}
-use Rattle.rank_machine.specs.Collectives.{Kind, barriers, broadcasts, folds, Call, called, Part, gives, gets, ends, parts, part_of, parts_of, is_last}
+use Rattle.rank_machine.specs.Collectives.{Kind, barriers, broadcasts, folds, Call, called, gives, gets, parts, part_of, parts_of, is_last}
 use Rattle.rank_machine.specs.Collectives.{counted, given_by}
 use Rattle.rank_machine.specs.States.{State}
 use Rattle.rank_machine.specs.Wants.{payload, want_of, or_fault, part_want}
 use Rattle.rank_machine.specs.Acts.{Message, Act, takes, Fits, Makes, Runs, next, written, with_gathered}
-use Rattle.rank_machine.proofs.CollectiveParts.{longer_at, found_or}
+use Rattle.rank_machine.proofs.CollectiveParts.{longer_at}
 use Rattle.rank_machine.proofs.Calls.{is_call, called_same, gives_one, at_part}
 use Rattle.rank_machine.proofs.Places.{broadcast_gets, reduce_gives}
 use Rattle.rank_machine.proofs.Outcomes.{standing, gone, Gave, Took, Outcome, made}
+use Rattle.rank_machine.proofs.Stages.{stands_at}
 use Rattle.crash_free.specs.Runs.{History}
 use Rattle.crash_free.specs.Laws.{first_collective}
 use Rattle.crash_free.proofs.OtherSteps.{split, stands_there, written_keeps, act_keeps}
@@ -36,11 +37,6 @@ weaker h x call g g' i q w c =
       agrees = c.agrees;
       stored = w c.items c.stored;
     }
-
--- the part that stands, by its place
-pub part_there : (s : Store) (call : Call) (p : Part) → s.done < length (parts_of s call) → part_of s call ≡ p
-    → slice_get (parts_of s call) s.done ≡ Some p
-part_there s call p w e = found_or (parts_of s call) s.done ends w ∙ ap Some e
 
 -- one more part is done
 next_under : (h : History) (x : Act × Option Message) (s : Store) (call : Call) (g' : List ℤ) → IsUnder h s call
@@ -94,7 +90,7 @@ gave_sound r n h s c t call act m b l er es e u o =
     subst (Sound r n (h ++ (act, m) ∷ [])) (sym o.after) (pass_sound r n (h ++ (act, m) ∷ []) s s c t call l er es refl more)
   where
     there : slice_get (parts_of s call) s.done ≡ Some (gives o.dest)
-    there = part_there s call (gives o.dest) u.within o.part
+    there = stands_at s call (gives o.dest) u.within o.part
 
     no_gets : (q : ℕ) → slice_get (parts_of s call) s.done ≡ Some (gets q) → ⊥
     no_gets q f = (let g : Some (gives o.dest) ≡ Some (gets q) = sym there ∙ f in cc)
@@ -149,7 +145,7 @@ took_new : (h : History) (s : Store) (c : statements.Collective) (t : Block) (ca
     → (o : Took s c t call act m b) → s.done < length (parts_of s call) → IsStored call.kind g' s.done o.items
     → (q : ℕ) → slice_get (parts_of s call) s.done ≡ Some (gets q) → Checked (h ++ (act, m) ∷ []) call g' s.done q
 took_new h s c t call act m b g' o w stored q f =
-    let there = part_there s call (gets o.source) w o.part in
+    let there = stands_at s call (gets o.source) w o.part in
     let e : Some (gets o.source) ≡ Some (gets q) = sym there ∙ f in
     let same : o.source ≡ q = cc in
     let own : Act × Option Message = (takes o.source o.place, Some o.message) in
@@ -184,7 +180,7 @@ took_sound r n h s barrier t call act m b l er es e u o =
     (next_under h (act, m) s call s.gathered u ne (λ i vs k. k) new z.1)))
 took_sound r n h s (broadcast x buffer) t call act m b l er es e u o =
     let k = (is_call s (broadcast x buffer) call (omega (arith, l, es)) e).kind in
-    let there = part_there s call (gets o.source) u.within o.part in
+    let there = stands_at s call (gets o.source) u.within o.part in
     let last = took_last call.kind call.root s.size s.rank s.done o.source k there in
     let w = written_keeps buffer o.items s in
     subst (Sound r n (h ++ (act, m) ∷ [])) (sym o.after)

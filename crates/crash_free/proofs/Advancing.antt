@@ -26,12 +26,12 @@ same_machine a b p q s f =
     one
 
 -- a step of its own leads a machine to one
-same_step : (a b c : MachineValue) → GoesOn a b → GoesOn a c → b ≡ c
+pub same_step : (a b c : MachineValue) → GoesOn a b → GoesOn a c → b ≡ c
 same_step a b c g h =
     same_machine b c (g.program ∙ sym h.program) (g.position ∙ sym h.position) (g.store ∙ sym h.store) (g.fault ∙ sym h.fault)
 
 -- so does an act with its message
-same_act : (a b c : MachineValue) (x : Act) (m : Option Message) → IsAfter a x m b → IsAfter a x m c → b ≡ c
+pub same_act : (a b c : MachineValue) (x : Act) (m : Option Message) → IsAfter a x m b → IsAfter a x m c → b ≡ c
 same_act a b c x m g h =
     let states = g.state ∙ sym h.state in
     let fault : b.fault ≡ c.fault = ap (λ s. s.fault) states in
@@ -124,11 +124,6 @@ Advances-stride k n a b c h u machine.still = let z : k + 0 ≡ k = omega arith 
 Advances-stride k n a b c h u (machine.on {n = i} {b = d} strides w g) =
     let z : k + (i + 1) ≡ suc (k + i) = omega arith in
     rw z (Advances-own (k + i) a d c h (Advances-stride k i a b d h u strides) w g)
-
--- a stride of no steps
-pub no_stride : (n : ℕ) (a b : MachineValue) → Strides n a b → n ≡ 0 → b ≡ a
-no_stride n a b machine.still none = refl
-no_stride n a c (machine.on strides w g) none = absurd (omega (arith, none))
 
 -- where a machine begins
 pub begun_there : (program : ProgramValue) (n r : ℕ) (m : MachineValue) → Begins program n r m → m ≡ first_machine program n r

@@ -7,10 +7,11 @@ use Rattle.rank_machine.specs.States.{State, Inners, here, inner, opening}
 use Rattle.rank_machine.specs.Acts.{Message, Act, Runs, next}
 use Rattle.rank_machine.specs.Machine.{MachineValue, state_of}
 use Rattle.rank_machine.proofs.CollectiveParts.{within_at}
+use Rattle.rank_machine.proofs.Striding.{Inners-push}
 use Rattle.crash_free.specs.Runs.{Passed, History, history, IsRun}
 use Rattle.crash_free.specs.Laws.{Moment, IsFirst, Finished, HasFinished, CollectiveLaws}
 use Rattle.crash_free.specs.Sim.{SimValue, start_of, Simulates, CollectivesAgree}
-use Rattle.crash_free.proofs.Steps.{Inners-push, Runs-push}
+use Rattle.crash_free.proofs.Steps.{Runs-push}
 use Rattle.crash_free.proofs.Sound.{Sound, sound_inner}
 use Rattle.crash_free.proofs.Acting.{sound_act}
 use Rattle.crash_free.proofs.Collecting.{opens}

@@ -10,10 +10,10 @@ use Rattle.rank_machine.specs.States.{State}
 use Rattle.rank_machine.specs.Acts.{takes}
 use Rattle.rank_machine.proofs.Places.{barrier_gets, barrier_other}
 use Rattle.rank_machine.proofs.Calls.{IsCall}
+use Rattle.rank_machine.proofs.Stages.{stands_at}
 use Rattle.crash_free.specs.Runs.{Passed, History, history, IsRun}
 use Rattle.crash_free.specs.Laws.{Began, Finished, BeganBarrier, BarrierLaw}
 use Rattle.crash_free.proofs.Sound.{Has, IsUnder}
-use Rattle.crash_free.proofs.Acting.{part_there}
 use Rattle.crash_free.proofs.Finishing.{under_of, GaveLast, TookLast, EndedLast}
 use Rattle.crash_free.proofs.Collecting.{Opens, Other, other, other_began, of_checked, has_first, Scene, scene, self_began, known_parts}
 
@@ -70,7 +70,7 @@ barrier_law start n C w o = λ r k call from to l f kind s m. law r k call from 
             let same = x.agrees.kind ∙ kind in
             let ps = known_parts a.store p.call barriers 0 n 0 same (x.agrees.root ∙ zero_root) x.sender.sound.size x.sender.sound.rank in
             let there : slice_get (parts barriers 0 n 0) a.store.done ≡ Some (gives r) =
-            ap (λ y. slice_get y a.store.done) (sym ps) ∙ part_there a.store p.call (gives r) u.within p.part in
+            ap (λ y. slice_get y a.store.done) (sym ps) ∙ stands_at a.store p.call (gives r) u.within p.part in
             at_zero start n C w o k s p.call a.store x.sender.moment.before x.sender.moment.later ne m nz same (x.agrees.ordinal ∙ f.ordinal) ps
             x.sender.moment.whole u (λ i b g. g a.store.done r there)
 

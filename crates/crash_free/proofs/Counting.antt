@@ -12,11 +12,12 @@ use Rattle.rank_machine.specs.States.{State, inner, inner_of}
 use Rattle.rank_machine.specs.Acts.{Message, Act, Makes, next, written, with_gathered}
 use Rattle.rank_machine.proofs.Calls.{is_call, called_same}
 use Rattle.rank_machine.proofs.Outcomes.{standing, gone, Took, Outcome, made, ended_so}
+use Rattle.rank_machine.proofs.Stages.{stands_at}
 use Rattle.crash_free.specs.Runs.{History}
 use Rattle.crash_free.specs.Laws.{call_in, call_now, call_unless, first_collective}
 use Rattle.crash_free.proofs.OtherSteps.{split, stands_there, written_keeps, inner_keeps, act_keeps}
 use Rattle.crash_free.proofs.Sound.{IsUnder, IsProgress, IsWay, Sound, ended_store}
-use Rattle.crash_free.proofs.Acting.{part_there, took_last, no_call, no_fault}
+use Rattle.crash_free.proofs.Acting.{took_last, no_call, no_fault}
 
 -- an act left a fault
 abbrev pub IsFaulted : Option MachineFault → Type 0
@@ -59,7 +60,7 @@ took_effect s barrier t call act m b h z e u o =
     part_effect s s barrier t call b refl refl (λ ne. called_same s (s.done + 1) s.gathered barrier ∙ e) o.after
 took_effect s (broadcast x buffer) t call act m b h z e u o =
     let kind = (is_call s (broadcast x buffer) call z e).kind in
-    let last = took_last call.kind call.root s.size s.rank s.done o.source kind (part_there s call (gets o.source) u.within o.part) in
+    let last = took_last call.kind call.root s.size s.rank s.done o.source kind (stands_at s call (gets o.source) u.within o.part) in
     let w = written_keeps buffer o.items s in
     part_effect s (written buffer o.items s) (broadcast x buffer) t call b (rw (w.done, w.size, w.rank) refl) w.finished (λ ne. absurd (ne last)) o.after
 took_effect s (reduce f x v p) t call act m b h z e u o =

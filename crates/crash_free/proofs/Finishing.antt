@@ -13,11 +13,11 @@ use Rattle.rank_machine.specs.States.{State, inner}
 use Rattle.rank_machine.specs.Acts.{Message, Act, takes, kept}
 use Rattle.rank_machine.proofs.Outcomes.{standing, Gave, Took, Outcome, made, unfaulted_ok, ended_so}
 use Rattle.rank_machine.proofs.Places.{ends_is_last}
+use Rattle.rank_machine.proofs.Stages.{stands_at}
 use Rattle.crash_free.specs.Runs.{History}
 use Rattle.crash_free.specs.Laws.{IsFirst, call_in, call_now, call_unless, first_collective}
 use Rattle.crash_free.proofs.OtherSteps.{split, stands_there, written_keeps}
 use Rattle.crash_free.proofs.Sound.{IsUnder, IsWay, IsProgress, Sound}
-use Rattle.crash_free.proofs.Acting.{part_there}
 
 -- a state that stands at a collective
 pub record Stood (a : State) (call : Call) : Type 0 where
@@ -117,7 +117,7 @@ gave_last s c t call act m more to w f o = by_last (cases_eq (s.done + 1) (lengt
     by_last (inl e) =
         let yes : is_last s call ≡ true = eq-eqb (s.done + 1) (length (parts_of s call)) e in
         let after = ap (λ z. z.store) o.after ∙ passed_last s call yes in
-        record { last = e; how = inl (record { dest = o.dest; part = part_there s call (gives o.dest) w o.part; after = after }) }
+        record { last = e; how = inl (record { dest = o.dest; part = stands_at s call (gives o.dest) w o.part; after = after }) }
     by_last (inr ne) =
         let not_yet : is_last s call ≡ false = ne_eqb (s.done + 1) (length (parts_of s call)) ne in
         absurd (not_next s.finished (sym (ap (λ z. z.store.finished) o.after ∙ passed_on s call not_yet) ∙ f))
@@ -145,7 +145,7 @@ took_it s c t call act m more to w f o = by_last (cases_eq (s.done + 1) (length 
             message = o.message;
             items = o.items;
             more = more;
-            part = part_there s call (gets o.source) w o.part;
+            part = stands_at s call (gets o.source) w o.part;
             first = rw (o.taken, o.there) refl;
             context = o.context;
             agrees = o.agrees;
@@ -169,7 +169,7 @@ by_step : (s : Store) (c : statements.Collective) (t : Block) (call : Call) (lat
     → (inner (standing s c t) ≡ Some to) ⊎ IsFirst (standing s c t) later to → Finishing s c call later to.store
 by_step s c t call later to e w f (inl i) =
     let o = ended_so s c t call e to i in
-    let there = part_there s call ends w o.part in
+    let there = stands_at s call ends w o.part in
     record {
       last = ends_is_last call.kind call.root s.size s.rank s.done there;
       how = inr (inr (record { part = there; folded = o.folded ∙ ap Ok (sym (ap (λ z. z.store) o.after)) }));

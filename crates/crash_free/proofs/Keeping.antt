@@ -10,10 +10,11 @@ use Rattle.rank_machine.specs.States.{State, Inners, here, inner, opening}
 use Rattle.rank_machine.specs.Wants.{wants}
 use Rattle.rank_machine.specs.Acts.{Act, Makes, Runs}
 use Rattle.rank_machine.specs.Machine.{MachineValue, state_of, GoesOn, KeepsRank}
+use Rattle.rank_machine.proofs.Striding.{Inners-push}
 use Rattle.crash_free.specs.Runs.{Passed, history, looked_up, IsFree, IsRun}
 use Rattle.crash_free.specs.Sim.{start_of, inbound_of, IsAfter, Begins, AreBegun}
 use Rattle.crash_free.specs.Slots.{Slot, IsMail, IsRanks, IsKept}
-use Rattle.crash_free.proofs.Steps.{Inners-push, Inners-append, Runs-push}
+use Rattle.crash_free.proofs.Steps.{Inners-append, Runs-push}
 use Rattle.crash_free.proofs.Lists.{history-own, history-other, push_cases}
 
 -- what stands in a list after a write: what was written, or what was there

@@ -1,16 +1,14 @@
 -- The lists that are made of a rank's acts, after one more act.
-use Rattle.std.proofs.Common.{◌≡◌, ℕ, ℤ, zero, suc, ◌+◌, ◌<◌, Bool, true, false, ◌==◌, ◌||◌, List, [], ◌∷◌, ◌++◌, Option, Some, length, refl}
-use Rattle.std.proofs.Common.{ap, ◌∙◌, arith, slice_get, ◌⊎◌, inl, inr}
+use Rattle.std.proofs.Common.{◌≡◌, ℕ, ℤ, zero, suc, ◌+◌, ◌<◌, ◌≤◌, Bool, true, false, ◌==◌, ◌||◌, List, [], ◌∷◌, ◌++◌, Option, Some, length, refl}
+use Rattle.std.proofs.Common.{sym, ap, ◌∙◌, arith, slice_get, get_or, take, reverse, ◌⊎◌, inl, inr}
 use Rattle.std.proofs.lemmas.Bool.{eq-eqb, ne_eqb}
+use Rattle.std.proofs.lemmas.List.{length-reverse, length-take-le, reverse-append, take_more}
+use Rattle.std.proofs.lemmas.Option.{slice_get_within, slice_get-get_or}
 use Rattle.rank_machine.specs.Acts.{Act, Message, sends, takes, hits, misses, prints}
+use Rattle.rank_machine.specs.States.{State}
+use Rattle.rank_machine.proofs.CollectiveParts.{longer_at}
 use Rattle.crash_free.specs.Runs.{Passed, History, at_place, history, sent, printed, sends_from, send_at, prints_from, print_at, cons_if}
-use Rattle.crash_free.specs.Runs.{looked_up, taken, takes_it}
-
--- what stands in a list stands in a longer one
-pub slice_get-append : {A : Type 0} (xs ys : List A) (i : ℕ) (x : A) → slice_get xs i ≡ Some x → slice_get (xs ++ ys) i ≡ Some x
-slice_get-append [] ys i x e = cc
-slice_get-append (y ∷ xs) ys zero x e = e
-slice_get-append (y ∷ xs) ys (suc i) x e = slice_get-append xs ys i x e
+use Rattle.crash_free.specs.Runs.{looked_up, taken, takes_it, IsRun}
 
 -- what stands in a longer list, before something of the shorter one, stands in the shorter one
 pub slice_get-append_before : {A : Type 0} (xs ys : List A) (i j : ℕ) (x y : A) → i < j → slice_get xs j ≡ Some y → slice_get (xs ++ ys) i ≡ Some x
@@ -23,7 +21,7 @@ slice_get-append_before (z ∷ xs) ys (suc i) (suc j) x y l e f = slice_get-appe
 -- the same of places
 pub at_place-append : {A : Type 0} (xs ys : List A) (i : ℕ) (x : A) → at_place xs i ≡ Some x → at_place (xs ++ ys) i ≡ Some x
 at_place-append xs ys zero x e = absurd cc
-at_place-append xs ys (suc i) x e = slice_get-append xs ys i x e
+at_place-append xs ys (suc i) x e = longer_at xs ys i x e
 
 -- and of places before something of the shorter list
 pub at_place-append_before : {A : Type 0} (xs ys : List A) (i j : ℕ) (x y : A) → i < j → at_place xs j ≡ Some y → at_place (xs ++ ys) i ≡ Some x
@@ -31,6 +29,22 @@ pub at_place-append_before : {A : Type 0} (xs ys : List A) (i j : ℕ) (x y : A)
 at_place-append_before xs ys zero j x y l e f = absurd cc
 at_place-append_before xs ys (suc i) zero x y l e f = absurd (omega arith)
 at_place-append_before xs ys (suc i) (suc j) x y l e f = slice_get-append_before xs ys i j x y (omega arith) e f
+
+-- what is read at an index stands there
+pub stands_at : {A : Type 0} (xs : List A) (index : ℕ) (x d : A) → index < length xs → x ≡ get_or xs index d → slice_get xs index ≡ Some x
+stands_at xs index x d low is = slice_get-get_or xs index d low ∙ ap Some (sym is)
+
+-- as many stand before an index as it says
+pub as_many_before : {A : Type 0} (xs : List A) (index : ℕ) → index ≤ length xs → length (reverse (take index xs)) ≡ index
+as_many_before xs index low = length-reverse (take index xs) ∙ length-take-le index xs low
+
+-- the first of a list, the last of them first, with one more
+pub one_more : {A : Type 0} (xs : List A) (index : ℕ) (x : A) → slice_get xs index ≡ Some x → reverse (take (index + 1) xs) ≡ x ∷ reverse (take index xs)
+one_more xs index x there =
+    let within = slice_get_within xs index x there in
+    let both : Some (get_or xs index x) ≡ Some x = sym (slice_get-get_or xs index x within) ∙ there in
+    let is : get_or xs index x ≡ x = cc in
+    ap reverse (take_more xs index x within ∙ ap (λ z. take index xs ++ z ∷ []) is) ∙ reverse-append (take index xs) (x ∷ [])
 
 -- what stands in a list with one more element stood there before, or is that element
 pub push_cases : {A : Type 0} (xs : List A) (y : A) (k : ℕ) (x : A) → slice_get (xs ++ y ∷ []) k ≡ Some x
@@ -120,3 +134,8 @@ printed-own C r a =
 -- what the other ranks have printed stays
 pub printed-other : (C : List Passed) (p : Passed) (q : ℕ) → (p.rank ≡ q → ⊥) → printed (p ∷ C) q ≡ printed C q
 printed-other C p q ne = ap (λ h. prints_from 0 h) (history-other C p q ne)
+
+-- the first part of a run is a run
+pub run_begins : (start : ℕ → State) (n : ℕ) (late early : List Passed) → IsRun start n (late ++ early) → IsRun start n early
+run_begins start n [] early run = run
+run_begins start n (p ∷ late) early run = run_begins start n late early run.0

@@ -36,7 +36,7 @@ stands_there a c r e f =
     ap (λ k. record { store = a.store; rest = a.rest; fault = k }) e ∙ ap (λ b. record { store = a.store; rest = b; fault = None }) f
 
 -- rank, size and what is counted of collectives stay
-pub record Keeps (s s' : Store) : Type 0 where
+pub record KeepsCalls (s s' : Store) : Type 0 where
   pub rank : s'.rank ≡ s.rank
   pub size : s'.size ≡ s.size
   pub finished : s'.finished ≡ s.finished
@@ -44,28 +44,28 @@ pub record Keeps (s s' : Store) : Type 0 where
   pub gathered : s'.gathered ≡ s.gathered
 
 -- they stay where all does
-pub all_kept : (s : Store) → Keeps s s
+pub all_kept : (s : Store) → KeepsCalls s s
 all_kept s = record { rank = refl; size = refl; finished = refl; done = refl; gathered = refl }
 
 -- a buffer is written
-pub written_keeps : (b : Buffer) (items : List ℤ) (s : Store) → Keeps s (written b items s)
+pub written_keeps : (b : Buffer) (items : List ℤ) (s : Store) → KeepsCalls s (written b items s)
 written_keeps (into_variable p) [] s = all_kept s
 written_keeps (into_variable p) (z ∷ zs) s = record { rank = refl; size = refl; finished = refl; done = refl; gathered = refl }
 written_keeps (into_array p) items s = record { rank = refl; size = refl; finished = refl; done = refl; gathered = refl }
 
 -- a variable is set
-assigned_keeps : (s : Store) (p : ℕ) (v : Valued ℤ) → Keeps s (assigned s p v)
+assigned_keeps : (s : Store) (p : ℕ) (v : Valued ℤ) → KeepsCalls s (assigned s p v)
 assigned_keeps s p (Ok z) = record { rank = refl; size = refl; finished = refl; done = refl; gathered = refl }
 assigned_keeps s p (Err k) = all_kept s
 
 -- an item is set
-item_keeps : (s : Store) (p : ℕ) (v : Valued (ℕ × ℤ)) → Keeps s (item_assigned s p v)
+item_keeps : (s : Store) (p : ℕ) (v : Valued (ℕ × ℤ)) → KeepsCalls s (item_assigned s p v)
 item_keeps s p (Ok x) = record { rank = refl; size = refl; finished = refl; done = refl; gathered = refl }
 item_keeps s p (Err k) = all_kept s
 
 -- the state after an inner step that stored this
-mapped_keeps : (s s' : Store) (o : Option Block) (c : State) → Keeps s s'
-    → option_map (λ r. record { store = s'; rest = r; fault = None }) o ≡ Some c → Keeps s c.store
+mapped_keeps : (s s' : Store) (o : Option Block) (c : State) → KeepsCalls s s'
+    → option_map (λ r. record { store = s'; rest = r; fault = None }) o ≡ Some c → KeepsCalls s c.store
 mapped_keeps s s' (Some r) c k e =
     let same : record { store = s'; rest = r; fault = None } ≡ c = cc in
     let stored : s' ≡ c.store = ap (λ x. x.store) same in
@@ -73,7 +73,7 @@ mapped_keeps s s' (Some r) c k e =
 mapped_keeps s s' None c k e = absurd cc
 
 -- an inner step of another statement
-pub inner_keeps : (s : Store) (b : Block) (k : Option MachineFault) (c : State) → first_collective b ≡ None → inner_of s b k ≡ Some c → Keeps s c.store
+pub inner_keeps : (s : Store) (b : Block) (k : Option MachineFault) (c : State) → first_collective b ≡ None → inner_of s b k ≡ Some c → KeepsCalls s c.store
 inner_keeps s b (Some k) c n e = absurd cc
 inner_keeps s done None c n e = absurd cc
 inner_keeps s (plain (declare p) r) None c n e = mapped_keeps s s (Some r) c (all_kept s) e
@@ -92,7 +92,7 @@ inner_keeps s (if_else x y o r) None c n e = mapped_keeps s s _ c (all_kept s) e
 inner_keeps s (loop x y r) None c n e = mapped_keeps s s _ c (all_kept s) e
 
 -- a send
-send_keeps : (a : State) (r : Block) (act : Act) → Keeps a.store (after_send a r act).store
+send_keeps : (a : State) (r : Block) (act : Act) → KeepsCalls a.store (after_send a r act).store
 send_keeps a r (sends d c t items) = all_kept a.store
 send_keeps a r (takes s j) = all_kept a.store
 send_keeps a r (hits s j) = all_kept a.store
@@ -100,11 +100,11 @@ send_keeps a r misses = all_kept a.store
 send_keeps a r (prints z) = all_kept a.store
 
 -- the status is set
-status_keeps : (s s' : Store) (source : ℕ) (m : Message) → Keeps s s' → Keeps s (with_status source m s')
+status_keeps : (s s' : Store) (source : ℕ) (m : Message) → KeepsCalls s s' → KeepsCalls s (with_status source m s')
 status_keeps s s' source m k = record { rank = k.rank; size = k.size; finished = k.finished; done = k.done; gathered = k.gathered }
 
 -- a reception, of a message that fits or of one that is too long
-received_keeps : (a : State) (b : Buffer) (r : Block) (source : ℕ) (m : Message) → Keeps a.store (received a b r source m).store
+received_keeps : (a : State) (b : Buffer) (r : Block) (source : ℕ) (m : Message) → KeepsCalls a.store (received a b r source m).store
 received_keeps a b r source m = by_test (nat_le (length m.items) (room a.store b))
   where
     fits : State
@@ -113,12 +113,12 @@ received_keeps a b r source m = by_test (nat_le (length m.items) (room a.store b
     fails : State
     fails = record a { fault = Some MachineFault.TooLong }
 
-    by_test : (t : Bool) → Keeps a.store (if t then fits else fails).store
+    by_test : (t : Bool) → KeepsCalls a.store (if t then fits else fails).store
     by_test true = status_keeps a.store (written b m.items a.store) source m (written_keeps b m.items a.store)
     by_test false = all_kept a.store
 
 -- a receive
-receive_keeps : (a : State) (b : Buffer) (r : Block) (act : Act) (m : Option Message) → Keeps a.store (after_receive a b r act m).store
+receive_keeps : (a : State) (b : Buffer) (r : Block) (act : Act) (m : Option Message) → KeepsCalls a.store (after_receive a b r act m).store
 receive_keeps a b r (takes s j) (Some m) = received_keeps a b r s m
 receive_keeps a b r (takes s j) None = all_kept a.store
 receive_keeps a b r (sends d c t items) m = all_kept a.store
@@ -127,7 +127,7 @@ receive_keeps a b r misses m = all_kept a.store
 receive_keeps a b r (prints z) m = all_kept a.store
 
 -- a probe that waits
-probe_keeps : (a : State) (r : Block) (act : Act) (m : Option Message) → Keeps a.store (after_probe a r act m).store
+probe_keeps : (a : State) (r : Block) (act : Act) (m : Option Message) → KeepsCalls a.store (after_probe a r act m).store
 probe_keeps a r (hits s j) (Some m) = status_keeps a.store a.store s m (all_kept a.store)
 probe_keeps a r (hits s j) None = all_kept a.store
 probe_keeps a r (sends d c t items) m = all_kept a.store
@@ -136,7 +136,7 @@ probe_keeps a r misses m = all_kept a.store
 probe_keeps a r (prints z) m = all_kept a.store
 
 -- a probe that doesn't
-try_keeps : (a : State) (flag : ℕ) (r : Block) (act : Act) (m : Option Message) → Keeps a.store (after_try_probe a flag r act m).store
+try_keeps : (a : State) (flag : ℕ) (r : Block) (act : Act) (m : Option Message) → KeepsCalls a.store (after_try_probe a flag r act m).store
 try_keeps a flag r (hits s j) (Some m) = record { rank = refl; size = refl; finished = refl; done = refl; gathered = refl }
 try_keeps a flag r (hits s j) None = all_kept a.store
 try_keeps a flag r misses m = record { rank = refl; size = refl; finished = refl; done = refl; gathered = refl }
@@ -145,7 +145,7 @@ try_keeps a flag r (takes s j) m = all_kept a.store
 try_keeps a flag r (prints z) m = all_kept a.store
 
 -- a print
-print_keeps : (a : State) (r : Block) (act : Act) → Keeps a.store (after_print a r act).store
+print_keeps : (a : State) (r : Block) (act : Act) → KeepsCalls a.store (after_print a r act).store
 print_keeps a r (prints z) = all_kept a.store
 print_keeps a r (sends d c t items) = all_kept a.store
 print_keeps a r (takes s j) = all_kept a.store
@@ -153,7 +153,7 @@ print_keeps a r (hits s j) = all_kept a.store
 print_keeps a r misses = all_kept a.store
 
 -- an act of another first statement
-first_keeps : (a : State) (b : Block) (act : Act) (m : Option Message) → first_collective b ≡ None → Keeps a.store (after_first a b act m).store
+first_keeps : (a : State) (b : Block) (act : Act) (m : Option Message) → first_collective b ≡ None → KeepsCalls a.store (after_first a b act m).store
 first_keeps a done act m n = all_kept a.store
 first_keeps a (plain (declare p) r) act m n = all_kept a.store
 first_keeps a (plain (declare_array p) r) act m n = all_kept a.store
@@ -170,9 +170,9 @@ first_keeps a (if_else e y o r) act m n = all_kept a.store
 first_keeps a (loop e y r) act m n = all_kept a.store
 
 -- an act of a rank at which no collective stands
-pub act_keeps : (a : State) (act : Act) (m : Option Message) → first_collective a.rest ≡ None → Keeps a.store (next a act m).store
+pub act_keeps : (a : State) (act : Act) (m : Option Message) → first_collective a.rest ≡ None → KeepsCalls a.store (next a act m).store
 act_keeps a act m n = by_fault a.fault
   where
-    by_fault : (k : Option MachineFault) → Keeps a.store (unless_faulted k a act m).store
+    by_fault : (k : Option MachineFault) → KeepsCalls a.store (unless_faulted k a act m).store
     by_fault None = first_keeps a a.rest act m n
     by_fault (Some k) = all_kept a.store

@@ -95,13 +95,6 @@ pub same_point : (program : ProgramValue) (n : ℕ) (C D : List Passed) (p : Poi
 same_point program n C D p point within same =
     record { within = within; ranks = point.ranks; kept = rw same point.kept; lines = rw same point.lines }
 
--- so it is one of a longer run
-pub later_point : (program : ProgramValue) (n : ℕ) (C D : List Passed) (p : PointValue) → IsPointOf program n C p → GoesBehind C D → IsPointOf program n D p
-later_point program n C D p point behind =
-    let long = behind_longer C D behind in
-    let low = point.within in
-    same_point program n C D p point (omega (arith, long, low)) (first_behind p.made C D behind point.within)
-
 -- a simulation stands at a point where it is, once its run is made as long
 pub record WentBack (now : SimValue) (p : PointValue) (machines : List MachineValue) (channels : List (List Slot)) (rows : List (List ℤ))
     (C later : List Passed) : Type 0 where

@@ -13,10 +13,11 @@ use Rattle.std.proofs.lemmas.Option.{slice_get_within}
 use Rattle.crash_free.specs.Slots.{Slot}
 use Rattle.crash_free.specs.Index.{IndexValue, queue_number, AreThere, IsListed, IsRising, IsIndex}
 use Rattle.crash_free.specs.Index.{HasQueues, ListsMore}
-use Rattle.crash_free.proofs.Lists.{slice_get-append, push_cases}
+use Rattle.crash_free.proofs.Lists.{push_cases}
 use Rattle.crash_free.proofs.Keeping.{set_cases, set_there}
 use Rattle.crash_free.proofs.Searching.{one_there}
 use Rattle.crash_free.proofs.Indexing.{with_queue, still_listed, queue_read}
+use Rattle.rank_machine.proofs.CollectiveParts.{longer_at}
 
 -- an index whose queues are those of another and perhaps an empty one has what that lists
 listed_on : (i i' : IndexValue) (kind place : ℕ) → HasQueues i i' → IsListed i kind place → IsListed i' kind place
@@ -31,7 +32,7 @@ listed_on i i' kind place has l = record {
   where
     go : (i'.queues ≡ i.queues) ⊎ (i'.queues ≡ i.queues ++ [] ∷ []) → slice_get i'.queues l.queue ≡ Some l.places
     go (inl e) = ap (λ qs. slice_get qs l.queue) e ∙ l.there
-    go (inr e) = ap (λ qs. slice_get qs l.queue) e ∙ slice_get-append i.queues ([] ∷ []) l.queue l.places l.there
+    go (inr e) = ap (λ qs. slice_get qs l.queue) e ∙ longer_at i.queues ([] ∷ []) l.queue l.places l.there
 
 -- nothing rises
 none_rise : (n : ℕ) → IsRising n []
@@ -93,7 +94,7 @@ put_lists_more i mid q place before after has there put =
   where
     kept : (other : ℕ) → IsPut before place after → (j : ℕ) → slice_get before j ≡ Some other → (k : ℕ) × (slice_get after k ≡ Some other)
     kept other (inl e) j at = (j, subst (λ xs. slice_get xs j ≡ Some other) (sym e) at)
-    kept other (inr e) j at = (j, subst (λ xs. slice_get xs j ≡ Some other) (sym e) (slice_get-append before (place ∷ []) j other at))
+    kept other (inr e) j at = (j, subst (λ xs. slice_get xs j ≡ Some other) (sym e) (longer_at before (place ∷ []) j other at))
 
     more : (kind other : ℕ) → IsListed mid kind other → IsListed (with_queue mid q after) kind other
     more kind other l = still_listed mid q before after kind other there (kept other put) l

@@ -2,9 +2,9 @@
 -- all of it, can go on: the oldest act of the other run that isn't made yet is one that its rank may make. For all that was done
 -- before it in the other run is done, so what it takes or hits is there, at the same place, as places are counted by the
 -- source's sends; and its rank's history is the same, so what is taken of it is the same.
-use Rattle.std.proofs.Common.{◌≡◌, ℕ, ◌+◌, ◌<◌, List, [], ◌∷◌, ◌++◌, Option, Some, length, slice_get, ◌⊎◌, inl, inr, refl, sym, ap, subst, ◌∙◌, arith}
+use Rattle.std.proofs.Common.{◌≡◌, ℕ, ◌+◌, List, [], ◌∷◌, ◌++◌, Option, Some, length, slice_get, ◌⊎◌, inl, inr, refl, sym, ap, subst, ◌∙◌}
 use Rattle.std.proofs.lemmas.Bool.{cases_eq}
-use Rattle.std.proofs.lemmas.List.{append-nil, append_assoc, append_cancel_left, length-append}
+use Rattle.std.proofs.lemmas.List.{append-nil, append_assoc, append_cancel_left}
 use Rattle.rank_machine.specs.States.{State}
 use Rattle.rank_machine.specs.Wants.{wants, payload}
 use Rattle.rank_machine.specs.Acts.{Act, Message, sends, takes, hits, misses, prints}
@@ -173,20 +173,3 @@ further_along start n P C r act run part next = ((run, next.low, next.may), λ q
         (next.later, next.whole ∙ sym (append_assoc (history P r) ((act, looked_up (λ s. sent P s r) act) ∷ []) next.later)))
     go q (inr other) =
         subst (λ h. IsBeginning h (history C q)) (sym (history-other P (record { rank = r; act = act }) q other)) (part q)
-
--- A run that is a part of another, and of some rank has less, can go on by an act of some rank, and is a part of it still.
-pub goes_further : (start : ℕ → State) (n : ℕ) (P C : List Passed) → IsRun start n P → IsRun start n C → IsPartOf P C
-    → (r : ℕ) → length (history P r) < length (history C r)
-    → (q : ℕ) × (act : Act) × IsRun start n (record { rank = q; act = act } ∷ P) × IsPartOf (record { rank = q; act = act } ∷ P) C
-goes_further start n P C run whole part r less =
-    go (next_act start n P (λ q. history C q) C whole (λ q. ([], sym (append-nil (history C q)))) (λ q. inl (part q)))
-  where
-    go : ((q : ℕ) → IsBeginning (history C q) (history P q)) ⊎ ((q : ℕ) × (act : Act) × IsNext start n P (λ q. history C q) q act)
-        → (q : ℕ) × (act : Act) × IsRun start n (record { rank = q; act = act } ∷ P) × IsPartOf (record { rank = q; act = act } ∷ P) C
-    go (inl all) =
-        let long = ap length (all r).1 in
-        let sum = length-append (history C r) (all r).0 in
-        absurd (omega (arith, long, sum, less))
-    go (inr next) =
-        let both = further_along start n P C next.0 next.1 run part next.2 in
-        (next.0, next.1, both.0, both.1)

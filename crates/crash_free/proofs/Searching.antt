@@ -3,7 +3,7 @@
 use Rattle.std.proofs.Common.{◌≡◌, ℕ, zero, suc, ◌<◌, ◌≤◌, Bool, true, false, List, [], ◌∷◌, Option, Some, None, length, refl, sym, ap, ◌∙◌, subst, arith}
 use Rattle.std.proofs.Common.{slice_get, get_or, ◌&&◌, ◌⊎◌, inl, inr}
 use Rattle.std.specs.Prelude.{position, option_and_then}
-use Rattle.std.proofs.lemmas.Bool.{eqb-true, false≢true, cases_eq, cases_lt}
+use Rattle.std.proofs.lemmas.Bool.{eqb-true, false≢true, cases_eq, cases_lt, and_parts}
 use Rattle.std.proofs.lemmas.List.Quantifiers.{position-Some}
 use Rattle.std.proofs.lemmas.Option.{slice_get_within, get_or_from_slice_get, slice_get-get_or}
 use Rattle.matching.specs.PacketValue as packet
@@ -11,7 +11,8 @@ use Rattle.matching.specs.Matching.{matches, same_context, allows}
 use Rattle.matching.specs.declared.selector.Selector.{Selector}
 use Rattle.crash_free.specs.Slots.{Slot, passes}
 use Rattle.crash_free.specs.Index.{IndexValue, kind_of, passes_at, queue_number, queue_of, IsListed, IsListedTwice, IsRising, IsIndex}
-use Rattle.crash_free.proofs.SlotLemmas.{both, same_contexts, is_position, no_position}
+use Rattle.crash_free.proofs.SlotLemmas.{is_position, no_position}
+use Rattle.rank_machine.proofs.Making.{same_contexts}
 
 -- what a place of a list holds is one thing
 pub one_there : {A : Type 0} {o : Option A} (x y : A) → o ≡ Some x → o ≡ Some y → x ≡ y
@@ -26,10 +27,10 @@ named_kind : (w : Selector) (i : IndexValue) (m : packet.PacketValue) (place : �
 named_kind w i m place e twice = by_tag w.tag r.1
   where
     r : ((same_context w.context m.context && allows w.source m.source) ≡ true) × (allows w.tag m.tag ≡ true)
-    r = both (same_context w.context m.context && allows w.source m.source) (allows w.tag m.tag) e
+    r = and_parts (same_context w.context m.context && allows w.source m.source) (allows w.tag m.tag) e
 
     context : m.context ≡ w.context
-    context = same_contexts w.context m.context (both (same_context w.context m.context) (allows w.source m.source) r.0).0
+    context = same_contexts w.context m.context (and_parts (same_context w.context m.context) (allows w.source m.source) r.0).0
 
     by_tag : (t : Option ℕ) → allows t m.tag ≡ true → IsListed i (kind_of w.context t) place
     by_tag None f = subst (λ c. IsListed i (kind_of c None) place) context twice.0

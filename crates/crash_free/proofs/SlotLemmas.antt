@@ -3,7 +3,7 @@
 use Rattle.std.proofs.Common.{◌≡◌, ℕ, zero, suc, ◌+◌, ◌<◌, ◌==◌, ◌&&◌, ◌||◌, Bool, true, false, List, [], ◌∷◌, ◌++◌, Option, Some, None, length, refl}
 use Rattle.std.proofs.Common.{sym, ap, ◌∙◌, subst, arith, slice_get, get_or, cond}
 use Rattle.std.specs.Prelude.{slice_set, position, nat_lt}
-use Rattle.std.proofs.lemmas.Bool.{eq-eqb, ne_eqb, eqb-true, false≢true}
+use Rattle.std.proofs.lemmas.Bool.{eq-eqb, ne_eqb, false≢true, and_parts}
 use Rattle.std.proofs.lemmas.List.Quantifiers.{position-Some}
 use Rattle.std.proofs.lemmas.List.Sums.{position_or_len_is}
 use Rattle.std.proofs.lemmas.Option.{slice_get_within, get_or_from_slice_get}
@@ -12,24 +12,13 @@ use Rattle.matching.specs.declared.packet.Context.{Context}
 use Rattle.matching.specs.declared.packet.Context.TheVariants.{PointToPoint, Collective}
 use Rattle.matching.specs.declared.selector.Selector.{Selector}
 use Rattle.rank_machine.specs.Acts.{Message, Matches, IsNamed}
+use Rattle.rank_machine.proofs.Making.{same_contexts, allowed}
 use Rattle.crash_free.specs.Runs.{History, at_place, taken, IsEligible}
 use Rattle.crash_free.specs.Slots.{packet_of, slot_of, slots_from, passes}
 
 -- a packet's test and the definition's agree
 
--- two tests that are passed together are each passed
-pub both : (a b : Bool) → (a && b) ≡ true → (a ≡ true) × (b ≡ true)
-both true b h = (refl, h)
-both false b h = (cc, cc)
-
--- contexts that pass the test are the same
-pub same_contexts : (a b : Context) → same_context a b ≡ true → b ≡ a
-same_contexts PointToPoint PointToPoint h = refl
-same_contexts PointToPoint Collective h = cc
-same_contexts Collective PointToPoint h = cc
-same_contexts Collective Collective h = refl
-
--- and the same contexts pass it
+-- the same contexts pass the test
 contexts_same : (a b : Context) → b ≡ a → same_context a b ≡ true
 contexts_same a b e = subst (λ z. same_context a z ≡ true) (sym e) (own a)
   where
@@ -37,21 +26,16 @@ contexts_same a b e = subst (λ z. same_context a z ≡ true) (sym e) (own a)
     own PointToPoint = refl
     own Collective = refl
 
--- a number that the test allows is one that the selector names
-allowed : (o : Option ℕ) (n : ℕ) → allows o n ≡ true → IsNamed o n
-allowed None n h = tt
-allowed (Some x) n h = sym (eqb-true x n h)
-
--- and one that it names is allowed
-named : (o : Option ℕ) (n : ℕ) → IsNamed o n → allows o n ≡ true
+-- and one that the selector names is allowed
+pub named : (o : Option ℕ) (n : ℕ) → IsNamed o n → allows o n ≡ true
 named None n h = refl
 named (Some x) n h = eq-eqb x n (sym h)
 
 -- a message whose packet passes the test matches by the definition
 pub matching_packet : (w : Selector) (s : ℕ) (m : Message) → matches w (packet_of s m) ≡ true → Matches w s m
 matching_packet w s m h =
-    let r = both (same_context w.context m.context && allows w.source s) (allows w.tag m.tag) h in
-    let q = both (same_context w.context m.context) (allows w.source s) r.0 in
+    let r = and_parts (same_context w.context m.context && allows w.source s) (allows w.tag m.tag) h in
+    let q = and_parts (same_context w.context m.context) (allows w.source s) r.0 in
     (same_contexts w.context m.context q.0, allowed w.source s q.1, allowed w.tag m.tag r.1)
 
 -- and one that matches by the definition passes the test

@@ -17,7 +17,7 @@ use Rattle.rank_machine.proofs.Calls.{bound_ok}
 use Rattle.rank_machine.proofs.Outcomes.{standing, Ended, ended_so}
 use Rattle.crash_free.specs.Runs.{History}
 use Rattle.crash_free.specs.Laws.{first_collective}
-use Rattle.crash_free.proofs.OtherSteps.{split, stands_there, Keeps, all_kept, inner_keeps}
+use Rattle.crash_free.proofs.OtherSteps.{split, stands_there, KeepsCalls, all_kept, inner_keeps}
 
 -- a history has this act with this message
 abbrev pub Has : History → Act × Option Message → Type 0
@@ -99,7 +99,7 @@ fresh h s (Some c) l z = by_call (called s c)
     }
 
 -- from what was stored with no collective under way to another state
-pub moved : (r n : ℕ) (h : History) (s : Store) (b : State) → r < n → s.rank ≡ r → s.size ≡ n → IsNone s → Keeps s b.store → Sound r n h b
+pub moved : (r n : ℕ) (h : History) (s : Store) (b : State) → r < n → s.rank ≡ r → s.size ≡ n → IsNone s → KeepsCalls s b.store → Sound r n h b
 moved r n h s b l er es z k =
     let a = k.rank ∙ er in
     let d = k.size ∙ es in
@@ -112,7 +112,7 @@ closed r n h s b f l er es = record { rank = er; size = es; way = fresh h (count
 
 -- the own step of a collective counts it
 pub ended_store : (s : Store) (c : statements.Collective) (call : Call) (s' : Store) → ended s c call ≡ Ok s'
-    → (x : Store) × (s' ≡ counted x) × Keeps s x
+    → (x : Store) × (s' ≡ counted x) × KeepsCalls s x
 ended_store s barrier call s' e = (s, (let q : counted s ≡ s' = cc in sym q), all_kept s)
 ended_store s (broadcast x b) call s' e = (s, (let q : counted s ≡ s' = cc in sym q), all_kept s)
 ended_store s (reduce f x v p) call s' e =

@@ -1,12 +1,7 @@
 -- A rank's steps and acts, one more at their end.
-use Rattle.std.proofs.Common.{◌≡◌, List, [], ◌∷◌, ◌++◌, Option, Some, refl}
-use Rattle.rank_machine.specs.States.{State, Inners, here, on, inner}
+use Rattle.std.proofs.Common.{List, [], ◌∷◌, ◌++◌, Option, refl}
+use Rattle.rank_machine.specs.States.{State, Inners, here, on}
 use Rattle.rank_machine.specs.Acts.{Act, Message, Does, Runs}
-
--- one more inner step
-pub Inners-push : {a b c : State} → Inners a b → inner b ≡ Some c → Inners a c
-Inners-push here e = on e here
-Inners-push (on e r) f = on e (Inners-push r f)
 
 -- inner steps after inner steps
 pub Inners-append : {a b c : State} → Inners a b → Inners b c → Inners a c

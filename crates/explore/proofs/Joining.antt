@@ -2,7 +2,7 @@
 -- behind the others.
 use Rattle.std.proofs.Common.{◌≡◌, ℕ, ◌<◌, ◌+◌, List, [], ◌∷◌, ◌++◌, Some, length, refl, sym, ap, ◌∙◌, subst, arith, slice_get, ◌⊎◌, inl, inr}
 use Rattle.std.specs.Prelude.{slice_index_or, option_map}
-use Rattle.std.proofs.lemmas.List.{append-nil, append_assoc, length-append, get_or_append_left}
+use Rattle.std.proofs.lemmas.List.{append_assoc, length-append, get_or_append_left}
 use Rattle.std.proofs.lemmas.Option.{get_or_from_slice_get, slice_get_within, slice_get-map}
 use Rattle.std.proofs.Math.Numerals.{add-one}
 use Rattle.live_variables.specs.Live.{Table}
@@ -63,10 +63,6 @@ all_joined_push parts (js ∷ states) is = ap (λ z. joined parts js ∷ z) (all
 -- parts that keep parts that keep others keep those
 pub keeps_both : (a b c : List Rows) → KeepsParts a b → KeepsParts b c → KeepsParts a c
 keeps_both a b c x y = (x.0 ++ y.0, y.1 ∙ ap (λ z. z ++ y.0) x.1 ∙ append_assoc a x.0 y.0)
-
--- parts keep themselves
-pub keeps_itself : (a : List Rows) → KeepsParts a a
-keeps_itself a = ([], sym (append-nil a))
 
 -- the states are the same in parts that keep theirs
 pub kept_states : (old new : List Rows) (states : List (List ℕ)) → KeepsParts old new → AllAreBelow (length old) states

@@ -1,20 +1,20 @@
 -- The choices of a rank are persistent where of each source the same stays eligible for it: of the rank itself, as it makes no act; of one
 -- that has a message there, as others come behind it; of one that has sent all of the context; and of one that isn't named, or isn't
 -- there, none is.
-use Rattle.std.proofs.Common.{◌≡◌, ◌≢◌, ℕ, suc, ◌+◌, ◌<◌, ◌≤◌, List, [], ◌++◌, Option, Some, None, length}
+use Rattle.std.proofs.Common.{◌≡◌, ◌≢◌, ℕ, suc, ◌+◌, ◌<◌, ◌≤◌, List, [], Some, length}
 use Rattle.std.proofs.Common.{slice_get, ◌⊎◌, inl, inr, refl, sym, ap, subst, ◌∙◌, arith}
 use Rattle.std.specs.Prelude.{Bool, true, false, IsSomeAnd}
 use Rattle.std.proofs.lemmas.Bool.{cases_eq, cases_lt}
-use Rattle.std.proofs.lemmas.List.{append-nil, append_assoc}
+use Rattle.std.proofs.lemmas.List.{append-nil}
 use Rattle.std.proofs.lemmas.Option.{slice_get_within}
 use Rattle.matching.specs.declared.selector.Selector.{Selector}
 use Rattle.rank_machine.specs.declared.want.Want.{Want}
 use Rattle.rank_machine.specs.declared.want.Want.TheVariants as want
 use Rattle.rank_machine.specs.States.{State, Inners, inner}
 use Rattle.rank_machine.specs.Wants.{wants}
-use Rattle.rank_machine.specs.Acts.{Act, Message, sends, takes, hits, misses, prints, IsNamed, Makes}
+use Rattle.rank_machine.specs.Acts.{Act, Message, sends, takes, hits, misses, prints, Makes}
 use Rattle.rank_machine.specs.Machine.{MachineValue, state_of}
-use Rattle.rank_machine.proofs.Determined.{still, inner_wants, same_stop, same_runs}
+use Rattle.rank_machine.proofs.Determined.{still, same_stop, same_runs}
 use Rattle.crash_free.specs.Grows.{Grows, Extends}
 use Rattle.crash_free.specs.Runs.{Passed, History, at_place, history, sent, sends_from, looked_up, taken, receives, probes, IsEligible, IsFree, MayMake, IsRun}
 use Rattle.crash_free.specs.Sim.{SimValue, Simulates, start_of, inbound_of}
@@ -27,8 +27,10 @@ use Rattle.explore.specs.Counting.{HasMade, begins, inside, acts}
 use Rattle.explore.specs.Counts.{Counts}
 use Rattle.explore.specs.Persistent.{GoesOnWithout, there, further, IsPersistent}
 use Rattle.explore.specs.Settled.{AreOfProgram, OthersGoOn, HasSentAll, IsSettled}
-use Rattle.explore.proofs.Choosing.{there_is}
 use Rattle.explore.proofs.Fixed.{one_eligible}
+use Rattle.explore.proofs.Same.{grows_on}
+use Rattle.audit.proofs.Offering.{no_inner}
+use Rattle.audit.proofs.Reaching.{some_there}
 
 -- How other ranks go on
 
@@ -36,10 +38,6 @@ use Rattle.explore.proofs.Fixed.{one_eligible}
 run_on : (start : ℕ → State) (n r : ℕ) {P C : List Passed} → GoesOnWithout start n r P C → IsRun start n P → IsRun start n C
 run_on start n r there run = run
 run_on start n r (further q act apart may more) run = run_on start n r more (run, may.0, may.1)
-
--- lists that grow twice
-grows_further : (xs ys zs : List Message) → Grows xs ys → Grows ys zs → Grows xs zs
-grows_further xs ys zs g k = (g.0 ++ k.0, k.1 ∙ ap (λ z. z ++ k.0) g.1 ∙ append_assoc xs g.0 k.0)
 
 -- that extends the one before, as this rank makes no act
 extends_on : (start : ℕ → State) (n r : ℕ) {P C : List Passed} → GoesOnWithout start n r P C → Extends r P C
@@ -49,7 +47,7 @@ extends_on start n r {P = P} {C = C} (further q act apart may more) =
     let rest = extends_on start n r more in
     record {
       same = rest.same ∙ one.same;
-      grows = λ s. grows_further (sent P s r) (sent (and_then P q act) s r) (sent C s r) (one.grows s) (rest.grows s);
+      grows = λ s. grows_on (sent P s r) (sent (and_then P q act) s r) (sent C s r) (one.grows s) (rest.grows s);
     }
 
 -- What is eligible
@@ -105,10 +103,6 @@ module _ (s : SimValue) (r : ℕ) where
         subst (λ k. IsEligible (inbound_of s.run r) (history s.run r) q k w)
         (one_eligible (inbound_of C r) (history s.run r) q (suc i) place w still_first then) first
 
-    -- of one that isn't named
-    pub unnamed_settled : (q : ℕ) → (IsNamed w.source q → ⊥) → IsSettled s r w q
-    unnamed_settled q never C place way e = absurd (never e.matching.1)
-
     -- of one source more, if the answer says so
     pub settled_further : (k : ℕ) (answer : Bool) → ((q : ℕ) → q < k → IsSettled s r w q) → (answer ≡ true → IsSettled s r w k) → answer ≡ true
         → (q : ℕ) → q < k + 1 → IsSettled s r w q
@@ -137,13 +131,13 @@ freed : (w : Want) (act : Act) (inbound inbound' : ℕ → List Message) (h : Hi
     → ((x : Selector) → (receives w ≡ Some x) ⊎ (probes w ≡ Some x) → (q j : ℕ) → IsEligible inbound' h q j x → IsEligible inbound h q j x)
     → IsFree w act inbound' h → IsFree w act inbound h × (looked_up inbound' act ≡ looked_up inbound act)
 freed w (takes q j) inbound inbound' h g settled f =
-    let o = there_is (receives w) (λ x. IsEligible inbound' h q j x) f in
+    let o = some_there (receives w) (λ x. IsEligible inbound' h q j x) f in
     let e = settled o.0 (inl o.1) q j o.2 in (
       subst (λ z. IsSomeAnd z (λ x. IsEligible inbound h q j x)) (sym o.1) e,
       subst (λ xs. at_place xs j ≡ Some e.message) (sym (g q).1) (at_place-append (inbound q) (g q).0 j e.message e.there) ∙ sym e.there,
     )
 freed w (hits q j) inbound inbound' h g settled f =
-    let o = there_is (probes w) (λ x. IsEligible inbound' h q j x) f in
+    let o = some_there (probes w) (λ x. IsEligible inbound' h q j x) f in
     let e = settled o.0 (inr o.1) q j o.2 in (
       subst (λ z. IsSomeAnd z (λ x. IsEligible inbound h q j x)) (sym o.1) e,
       subst (λ xs. at_place xs j ≡ Some e.message) (sym (g q).1) (at_place-append (inbound q) (g q).0 j e.message e.there) ∙ sym e.there,
@@ -151,14 +145,6 @@ freed w (hits q j) inbound inbound' h g settled f =
 freed w (sends dest context tag items) inbound inbound' h g settled f = (free_silent w (sends dest context tag items) inbound h tt, refl)
 freed w misses inbound inbound' h g settled f = (free_silent w misses inbound h tt, refl)
 freed w (prints value) inbound inbound' h g settled f = (free_silent w (prints value) inbound h tt, refl)
-
--- a state that wants no step of its own makes none
-no_inner : (a : State) → wants a ≢ want.Internal → inner a ≡ None
-no_inner a apart = go (inner a) refl
-  where
-    go : (o : Option State) → inner a ≡ o → inner a ≡ None
-    go None e = e
-    go (Some b) e = absurd (apart (inner_wants a b e))
 
 -- the selector for which a rank that wants this takes or hits a message
 abbrev pub Selects : Want → Selector → Type 0
@@ -187,7 +173,7 @@ persists s r w now asked apart settled C act way may = (
     k = subst (λ h. MayMake (start_of s.program (length s.machines) r) (inbound_of C r) h act) x.same may.1
 
     m : (m : MachineValue) × (slice_get s.machines r ≡ Some m) × Wants m w
-    m = there_is (slice_get s.machines r) (λ y. Wants y w) asked
+    m = some_there (slice_get s.machines r) (λ y. Wants y w) asked
 
     here : wants (state_of m.0) ≡ w
     here = wanted s r m.0 w now m.1 m.2 apart

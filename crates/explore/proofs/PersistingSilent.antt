@@ -1,6 +1,6 @@
 -- A rank that has ended sends no more, and one behind which no send stands sends no more but packets of collectives: so its messages of
 -- a context stay as they are, however the ranks go on.
-use Rattle.std.proofs.Common.{◌≡◌, ◌≢◌, ℕ, zero, suc, ℤ, ◌+◌, List, [], ◌∷◌, ◌++◌, Option, Some, None, length, slice_get}
+use Rattle.std.proofs.Common.{◌≡◌, ◌≢◌, ℕ, zero, suc, ℤ, ◌+◌, List, [], ◌∷◌, ◌++◌, Option, Some, length, slice_get}
 use Rattle.std.proofs.Common.{◌⊎◌, inl, inr, refl, sym, ap, subst, ◌∙◌}
 use Rattle.std.specs.Prelude.{Bool, true, false, ◌==◌}
 use Rattle.std.proofs.lemmas.Bool.{cases_eq}
@@ -10,11 +10,12 @@ use Rattle.rank_language.specs.Block.{remaining}
 use Rattle.rank_language.specs.Program.{block_of}
 use Rattle.rank_machine.specs.declared.want.Want.{Want}
 use Rattle.rank_machine.specs.declared.want.Want.TheVariants as want
-use Rattle.rank_machine.specs.States.{State, Inners, here, on, inner}
+use Rattle.rank_machine.specs.States.{State, Inners, here, on}
 use Rattle.rank_machine.specs.Wants.{wants, payload}
 use Rattle.rank_machine.specs.Acts.{Act, Message, sends, takes, hits, misses, prints, Fits, Makes, Runs, next}
 use Rattle.rank_machine.specs.Machine.{MachineValue, state_of}
 use Rattle.rank_machine.proofs.Determined.{still, inner_wants, same_runs}
+use Rattle.rank_machine.proofs.Striding.{on_the_way}
 use Rattle.later_sends.specs.Sending.{some_sends, SendsNoMore}
 use Rattle.live_variables.specs.Live.{claimed}
 use Rattle.later_sends.specs.LaterSends.{IsTableOf}
@@ -28,7 +29,7 @@ use Rattle.final_runs.proofs.Simulating.{wanted}
 use Rattle.explore.specs.Exploring.{and_then}
 use Rattle.explore.specs.Persistent.{GoesOnWithout, there, further}
 use Rattle.explore.specs.Settled.{AreOfProgram, HasSentAll}
-use Rattle.explore.proofs.Choosing.{there_is}
+use Rattle.audit.proofs.Reaching.{some_there}
 
 -- what is wanted is nothing more
 abbrev pub HasEnded : Want → Type 0
@@ -56,12 +57,6 @@ ended_fits_none (want.Print v) items act m h f = h
 ended_makes_none : {a mid : State} (act : Act) (m : Option Message) → Inners a mid → HasEnded (wants a) → Makes mid act m → ⊥
 ended_makes_none {a = a} act m here h makes = ended_fits_none (wants a) (payload a) act m h makes
 ended_makes_none {a = a} act m (on {b = b} e r) h makes = (let z : HasEnded want.Internal = subst HasEnded (inner_wants a b e) h in z)
-
--- inner steps lead over each state on their way to one that has none
-beyond : {a b c : State} → Inners a b → Inners a c → inner c ≡ None → Inners b c
-beyond here q stop = q
-beyond (on e r) here stop = absurd cc
-beyond {c = c} (on {b = x} e r) (on {b = y} e' r') stop = (let same : y ≡ x = cc in beyond r (subst (λ z. Inners z c) same r') stop)
 
 -- Messages of a context
 
@@ -150,7 +145,7 @@ module _ (context : Context) where
       after = same_runs start may.after x.after h may.reached x.reached
 
       on_from_there : Inners x.stands may.stands
-      on_from_there = beyond x.steps (subst (λ a. Inners a may.stands) after may.inner) (still may.stands act (looked_up inbound act) may.makes)
+      on_from_there = on_the_way x.steps (subst (λ a. Inners a may.stands) after may.inner) (still may.stands act (looked_up inbound act) may.makes)
 
       stays : Stays act (next may.stands act (looked_up inbound act))
       stays = silent_act x.stands may.stands act (looked_up inbound act) x.silent on_from_there may.makes
@@ -191,7 +186,7 @@ module _ (context : Context) where
   -- so has who has ended
   pub ended_silent : (s : SimValue) (q : ℕ) (w : Want) → Simulates s → WantsAt s.machines q w → HasEnded w → (r : ℕ) → HasSentAll s r context q
   ended_silent s q w now asked ended r =
-      let m = there_is (slice_get s.machines q) (λ x. Wants x w) asked in
+      let m = some_there (slice_get s.machines q) (λ x. Wants x w) asked in
       let apart : w ≢ want.Internal = λ e. (let z : HasEnded want.Internal = subst HasEnded e ended in z) in
       let is : wants (state_of m.0) ≡ w = wanted s q m.0 w now m.1 m.2 apart in
       machine_silent s q m.0 now m.1 (inr (subst HasEnded (sym is) ended)) r

@@ -35,7 +35,7 @@ told-push inbound [] a = refl
 told-push inbound (b ∷ acts) a = ap (λ z. (b, looked_up inbound b) ∷ z) (told-push inbound acts a)
 
 -- what grows twice grows
-grows_on : (xs ys zs : List Message) → Grows xs ys → Grows ys zs → Grows xs zs
+pub grows_on : (xs ys zs : List Message) → Grows xs ys → Grows ys zs → Grows xs zs
 grows_on xs ys zs a b = (a.0 ++ b.0, b.1 ∙ ap (λ z. z ++ b.0) a.1 ∙ append_assoc xs a.0 b.0)
 
 -- in a run each act of a rank has what it finds among what was sent to it, and among more than that too

@@ -17,7 +17,7 @@ use Rattle.crash_free.specs.declared.choice.Choice.{Choice}
 use Rattle.crash_free.specs.Inside.{GoesInside}
 use Rattle.crash_free.specs.Sim.{SimValue, Simulates, Allows, choice_of, inbound_of, start_of}
 use Rattle.crash_free.specs.Wanted.{Wants, WantsAt, StandsAtAct}
-use Rattle.crash_free.proofs.Lists.{push_cases}
+use Rattle.crash_free.proofs.Lists.{push_cases, run_begins}
 use Rattle.final_runs.specs.Maximal.{IsOutcomeOf, MayFollow, RankOutcome}
 use Rattle.explore.specs.declared.moves.Noted.{Noted}
 use Rattle.explore.specs.Chosen.{MakesChoices}
@@ -26,14 +26,10 @@ use Rattle.explore.specs.Exploring.{and_then}
 use Rattle.explore.specs.Searching.{IsAlike}
 use Rattle.explore.specs.Shown.{IsMark, was_shown, IsPast, MayMissShown, MissesShown}
 use Rattle.rank_language.specs.Program.{ProgramValue}
-use Rattle.explore.proofs.Choosing.{there_is, goes_there, goes_by}
+use Rattle.explore.proofs.Choosing.{goes_there, goes_by}
 use Rattle.explore.proofs.SeenOf.{choices_at, seen_at}
 use Rattle.final_runs.proofs.Simulating.{sender_there, stands_there, wanted}
-
--- what a run begins with is one
-run_begins : (start : ℕ → State) (n : ℕ) (late early : List Passed) → IsRun start n (late ++ early) → IsRun start n early
-run_begins start n [] early run = run
-run_begins start n (p ∷ late) early run = run_begins start n late early run.0
+use Rattle.audit.proofs.Reaching.{some_there}
 
 -- the act behind a part of a run may follow it
 pub may_next : (start : ℕ → State) (n : ℕ) (late : List Passed) (p : Passed) (early : List Passed) → IsRun start n (late ++ p ∷ early)
@@ -95,7 +91,7 @@ past_more P r k w before here past low = go (cases_eq past.source k)
 -- a rank wants one thing
 pub wants_once : (machines : List MachineValue) (r : ℕ) (v w : Want) → WantsAt machines r v → WantsAt machines r w → v ≡ w
 wants_once machines r v w a b =
-    let m = there_is (slice_get machines r) (λ x. Wants x v) a in
+    let m = some_there (slice_get machines r) (λ x. Wants x v) a in
     let n : Wants m.0 w = subst (λ o. IsSomeAnd o (λ x. Wants x w)) m.1 b in
     sym m.2.at_want ∙ n.at_want
 
@@ -109,7 +105,7 @@ pub miss_there : (s : SimValue) (r : ℕ) (act : Act) (w : Selector) → Simulat
     → MayFollow (start_of s.program (length s.machines)) (length s.machines) s.run r act → act ≡ misses
     → MayMissShown (start_of s.program (length s.machines)) s.run r
 miss_there s r act w now wants_it past may same =
-    let m = there_is (slice_get s.machines r) (λ x. Wants x (want.TryProbe w)) wants_it in
+    let m = some_there (slice_get s.machines r) (λ x. Wants x (want.TryProbe w)) wants_it in
     let miss : MayFollow (start_of s.program (length s.machines)) (length s.machines) s.run r misses =
     subst (λ a. MayFollow (start_of s.program (length s.machines)) (length s.machines) s.run r a) same may in
     record {
@@ -125,7 +121,7 @@ miss_there s r act w now wants_it past may same =
 pub probe_there : (s : SimValue) (r : ℕ) → Simulates s → StandsAtAct s.machines r
     → (miss : MayMissShown (start_of s.program (length s.machines)) s.run r) → WantsAt s.machines r (want.TryProbe miss.selector)
 probe_there s r now at miss =
-    let m = there_is (slice_get s.machines r) (λ x. Wants x at.0) at.1 in
+    let m = some_there (slice_get s.machines r) (λ x. Wants x at.0) at.1 in
     let is : at.0 ≡ want.TryProbe miss.selector =
     sym (wanted s r m.0 at.0 now m.1 m.2 at.2) ∙ ap wants (sym (stands_there s r m.0 at.0 now m.1 m.2 at.2 misses miss.may)) ∙ miss.probes in
     subst (λ w. WantsAt s.machines r w) is at.1

@@ -12,7 +12,7 @@ use Rattle.crash_free.specs.Sim.{SimValue, choice_of, start_of}
 use Rattle.crash_free.specs.Parts.{IsPartOf}
 use Rattle.crash_free.proofs.Lists.{history-other}
 use Rattle.crash_free.proofs.Reorder.{history_grows}
-use Rattle.final_runs.specs.Maximal.{MayFollow, IsMaximal}
+use Rattle.final_runs.specs.Maximal.{MayFollow}
 use Rattle.explore.specs.Exploring.{and_then, IsFixed}
 use Rattle.explore.specs.Moves.{move_of}
 use Rattle.explore.specs.Outcomes.{IsAmong, AreDistinct}
@@ -82,11 +82,6 @@ one_of f xs x a =
 pub one_enough : (start : ℕ → State) (n k : ℕ) (P : List Passed) → AreEnough start n k P → 0 < k
 one_enough start n k P (at_once r act fix rest) = one_enough start n k (and_then P r act) rest
 one_enough start n k P (tree moves needs among each few some) = some
-
--- where no act may be made one is enough
-pub maximal_enough : (start : ℕ → State) (n k : ℕ) (P : List Passed) → IsMaximal start n P → 0 < k → AreEnough start n k P
-maximal_enough start n k P maximal some =
-    tree [] (λ m. 0) (λ r act may. absurd (maximal r act may)) (λ r act may. absurd (maximal r act may)) (omega arith) some
 
 -- more are enough too
 pub more_enough : (start : ℕ → State) (n k l : ℕ) (P : List Passed) → k ≤ l → AreEnough start n k P → AreEnough start n l P

@@ -3,11 +3,12 @@ use Rattle.std.proofs.Common.{◌≡◌, ℕ, zero, suc, ◌≤◌, List, [], �
 use Rattle.std.proofs.lemmas.Option.{slice_get_within}
 use Rattle.rank_language.specs.Program.{ProgramValue}
 use Rattle.crash_free.specs.Runs.{Passed}
-use Rattle.crash_free.proofs.Lists.{slice_get-append, push_cases}
+use Rattle.crash_free.proofs.Lists.{push_cases}
 use Rattle.explore.specs.declared.branch.Branch.{Branch}
 use Rattle.explore.specs.Outcomes.{IsAmong}
 use Rattle.explore.specs.Stems.{first_acts, GoesBehind, Stem, stem_of, stems_of, IsAfter, IsRunOf, IsLeftTo, GoOff}
 use Rattle.explore.proofs.Among.{among_first, among_last, among_push}
+use Rattle.rank_machine.proofs.CollectiveParts.{longer_at}
 -- Beginnings of a run
 
 pub use Rattle.crash_free.proofs.Points.{behind_further, behind_longer, first_all, first_before, first_behind, first_long, first_of_first, first_taken}
@@ -134,7 +135,7 @@ module _ (program : ProgramValue) (n : ℕ) (C : List Passed) (pending : List Br
   share_less x a =
       let last = at_end pending in
       let low = slice_get_within pending a.0 x a.1 in
-      off.rising a.0 (length pending) x b (omega (arith, low)) (slice_get-append pending (b ∷ []) a.0 x a.1) last
+      off.rising a.0 (length pending) x b (omega (arith, low)) (longer_at pending (b ∷ []) a.0 x a.1) last
     where
       at_end : (xs : List Branch) → slice_get (xs ++ b ∷ []) (length xs) ≡ Some b
       at_end [] = refl
@@ -144,7 +145,7 @@ module _ (program : ProgramValue) (n : ℕ) (C : List Passed) (pending : List Br
   front =
       record {
         within = λ x a. off.within x (among_first pending (b ∷ []) x a);
-        rising = λ i j x y low e f. off.rising i j x y low (slice_get-append pending (b ∷ []) i x e) (slice_get-append pending (b ∷ []) j y f);
+        rising = λ i j x y low e f. off.rising i j x y low (longer_at pending (b ∷ []) i x e) (longer_at pending (b ∷ []) j y f);
         some_run = λ x a. off.some_run x (among_first pending (b ∷ []) x a);
       }
 

@@ -1,6 +1,5 @@
 -- Stops of a run: they are stops of each run that begins with the same acts, so a search that goes back to one keeps those before it.
-use Rattle.std.proofs.Common.{◌≡◌, ℕ, zero, suc, ◌+◌, ◌<◌, ◌≤◌, List, [], ◌∷◌, ◌++◌, Some, length, slice_get, ◌⊎◌, inl, inr, refl, sym, ap, subst, ◌∙◌, arith}
-use Rattle.std.specs.List.{remove}
+use Rattle.std.proofs.Common.{◌≡◌, ℕ, ◌+◌, ◌<◌, ◌≤◌, List, [], ◌∷◌, ◌++◌, Some, length, slice_get, ◌⊎◌, inl, inr, refl, sym, ap, subst, ◌∙◌, arith}
 use Rattle.std.proofs.lemmas.Bool.{cases_eq}
 use Rattle.std.proofs.lemmas.Option.{slice_get_within}
 use Rattle.rank_language.specs.Program.{ProgramValue}
@@ -88,21 +87,6 @@ pub all_within : (program : ProgramValue) (n steps : ℕ) (C : List Passed) (sto
 all_within program n steps C stops k are later stop (inl e) =
     (let none = ap (λ (x : Stop). x.point.made) e in let first = are.begins in omega (arith, none, first))
 all_within program n steps C stops k are later stop (inr a) = later stop a
-
--- all are some of them
-pub some_all : (stops : Stops) → AreSomeOf stops stops
-some_all stops = record { first = refl; later = λ stop a. a }
-
--- what is left when one is taken out was there before
-pub among_removed : {A : Type 0} (xs : List A) (i : ℕ) (x : A) → IsAmong (remove xs i) x → IsAmong xs x
-among_removed [] zero x a = a
-among_removed [] (suc i) x a = a
-among_removed (y ∷ xs) zero x a = (suc a.0, a.1)
-among_removed (y ∷ xs) (suc i) x a = go (λ k e. among_removed xs i x (k, e)) a.0 a.1
-  where
-    go : ((k : ℕ) → slice_get (remove xs i) k ≡ Some x → IsAmong xs x) → (k : ℕ) → slice_get (y ∷ remove xs i) k ≡ Some x → IsAmong (y ∷ xs) x
-    go rest zero e = (zero, e)
-    go rest (suc k) e = (let there = rest k e in (suc there.0, there.1))
 
 -- One more
 

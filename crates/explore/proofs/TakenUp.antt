@@ -18,7 +18,7 @@ use Rattle.explore.specs.Stems.{first_acts, GoesBehind, stem_of, StandsFor, IsAf
 use Rattle.explore.proofs.Beyond.{beyond_act, beyond_alike}
 use Rattle.explore.proofs.Choosing.{IsChosen, act_of_choice, goes_by, goes_there}
 use Rattle.explore.proofs.Shown.{goes_on, may_next, one_more}
-use Rattle.explore.proofs.Stems.{behind_longer, first_behind, first_long, first_of_first}
+use Rattle.explore.proofs.Stems.{first_behind, first_long, first_of_first}
 use Rattle.explore.proofs.Within.{needs_before, needs_counted}
 
 -- The same ranks and the same run
@@ -113,12 +113,6 @@ on_value_too (Err y) p f = tt
 
 -- The acts since a beginning of a run, and those before, are its acts, also by the ranks of another simulation
 module _ (s t : SimValue) (C : List Passed) (alike : IsAlike s t) (same : C ≡ s.run) where
-  pub run_since : Simulates s → IsRun (start_of t.program (length t.machines)) (length t.machines) C
-  run_since stands =
-      subst (λ X. IsRun (start_of t.program (length t.machines)) (length t.machines) X) (sym same)
-      (subst (λ n. IsRun (start_of t.program n) n s.run) (sym alike.ranks)
-      (subst (λ p. IsRun (start_of p (length s.machines)) (length s.machines) s.run) (sym alike.program) stands.is_run))
-
   pub needs_since : (left : List ℕ) (steps : ℕ) → Counts steps s left → NeedsAtMost t.program (length t.machines) steps C
   needs_since left steps counts =
       subst (λ X. NeedsAtMost t.program (length t.machines) steps X) (sym same)
@@ -230,9 +224,3 @@ module _ (s t : SimValue) (b : Branch) (alike : IsAlike s t) (first : t.run ≡ 
   shares_on R behind k low =
       let size : length t.run ≡ b.shared = ap length first ∙ first_long b.shared s.run within in
       first_behind k t.run R behind (omega (arith, low, size)) ∙ ap (first_acts k) first ∙ first_of_first k b.shared s.run low within
-
-  pub long_on : (R : List Passed) → GoesBehind t.run R → b.shared ≤ length R
-  long_on R behind =
-      let size : length t.run ≡ b.shared = ap length first ∙ first_long b.shared s.run within in
-      let more = behind_longer t.run R behind in
-      omega (arith, size, more)

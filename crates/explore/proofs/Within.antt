@@ -1,14 +1,13 @@
 -- A run that is made again needs no more steps than it needed before. For what a rank has made with a history is determined: its
 -- machine, and of each number of steps which of them are acts. So a rank that has made all its steps, with an act of the run still to
 -- make, would need more for the run.
-use Rattle.std.proofs.Common.{◌≡◌, ℕ, zero, suc, ◌+◌, ◌<◌, ◌≤◌, Bool, true, false, List, [], ◌∷◌}
+use Rattle.std.proofs.Common.{◌≡◌, ℕ, zero, suc, ◌+◌, ◌<◌, ◌≤◌, List, [], ◌∷◌}
 use Rattle.std.proofs.Common.{◌++◌, Option, length, slice_get, ◌⊎◌, inl, inr, refl, sym, ap, subst, ◌∙◌, arith}
 use Rattle.std.specs.Prelude.{slice_index, take}
 use Rattle.std.proofs.lemmas.Bool.{cases_eq}
 use Rattle.std.proofs.lemmas.List.{append-nil, append_assoc, append_cancel_left, length-append, take-append-le}
 use Rattle.std.proofs.Math.Seq.{take-append_seam, take-length}
 use Rattle.rank_language.specs.Program.{ProgramValue}
-use Rattle.rank_machine.specs.declared.fault.MachineFault.{MachineFault}
 use Rattle.rank_machine.specs.declared.want.Want.TheVariants as want
 use Rattle.rank_machine.specs.States.{State}
 use Rattle.rank_machine.specs.Wants.{payload}
@@ -17,43 +16,23 @@ use Rattle.rank_machine.specs.Machine.{MachineValue, state_of, machine_want, Goe
 use Rattle.crash_free.specs.Parts.{IsBeginning}
 use Rattle.crash_free.specs.Points.{GoesBehind}
 use Rattle.crash_free.specs.Runs.{Passed, History, history, looked_up}
-use Rattle.crash_free.specs.Sim.{SimValue, Begins, IsAfter, inbound_of, position_after_act}
+use Rattle.crash_free.specs.Sim.{SimValue, Begins, IsAfter, inbound_of}
 use Rattle.crash_free.proofs.Lists.{history-own}
 use Rattle.crash_free.proofs.Reorder.{IsBeginning-trans, history_grows}
+use Rattle.crash_free.proofs.Advancing.{same_machine, same_step, same_act}
 use Rattle.explore.specs.Counting.{HasMade, begins, inside, acts}
 use Rattle.explore.specs.Counts.{Counts, NeedsAtMost}
 use Rattle.explore.specs.Searching.{IsAlike}
 use Rattle.explore.proofs.Beyond.{all_made}
-use Rattle.explore.proofs.Choosing.{there_is}
+use Rattle.audit.proofs.Reaching.{some_there}
 
 -- One machine
-
--- a machine is given by what it consists of
-same_machine : (a b : MachineValue) → a.program ≡ b.program → a.position ≡ b.position → a.store ≡ b.store → a.fault ≡ b.fault → a ≡ b
-same_machine a b p q s f =
-    ap (λ x. record { program = x; position = a.position; store = a.store; fault = a.fault }) p
-    ∙ ap (λ x. record { program = b.program; position = x; store = a.store; fault = a.fault }) q
-    ∙ ap (λ x. record { program = b.program; position = b.position; store = x; fault = a.fault }) s
-    ∙ ap (λ x. record { program = b.program; position = b.position; store = b.store; fault = x }) f
 
 -- a rank begins with one
 one_begins : (program : ProgramValue) (n r : ℕ) (a b : MachineValue) → Begins program n r a → Begins program n r b → a ≡ b
 one_begins program n r a b x y =
     same_machine a b (x.program_same ∙ sym y.program_same) (x.position ∙ sym y.position) (x.store ∙ sym y.store)
     (ap (λ (s : State). s.fault) (x.state ∙ sym y.state))
-
--- a step of its own leads to one
-one_inside : (m a b : MachineValue) → GoesOn m a → GoesOn m b → a ≡ b
-one_inside m a b x y =
-    same_machine a b (x.program ∙ sym y.program) (x.position ∙ sym y.position) (x.store ∙ sym y.store) (x.fault ∙ sym y.fault)
-
--- so does an act
-one_act : (m a b : MachineValue) (act : Act) (message : Option Message) → IsAfter m act message a → IsAfter m act message b → a ≡ b
-one_act m a b act message x y =
-    let state : state_of a ≡ state_of b = x.state ∙ sym y.state in
-    let fault : a.fault ≡ b.fault = ap (λ (s : State). s.fault) state in
-    same_machine a b (x.stays.program ∙ sym y.stays.program)
-    (x.position ∙ ap (λ (f : Option MachineFault). position_after_act m act f) fault ∙ sym y.position) (ap (λ (s : State). s.store) state) fault
 
 -- What a rank has made
 
@@ -82,7 +61,7 @@ one_made program n r H h g j k a b (inside {k = j'} x wants goes) (begins y) sam
 one_made program n r H h g j k a b (acts {k = j'} act message x fits after) (begins y) same later more e f = absurd (omega (arith, same))
 one_made program n r H h g j k a b (inside {k = j'} {m = a'} x wants goes) (inside {k = k'} {m = b'} y wants' goes') same later more e f =
     let before = one_made program n r H h g j' k' a' b' x y (omega (arith, same)) later more e f in
-    (before.0, one_inside b' a b (subst (λ m. GoesOn m a) before.1 goes) goes')
+    (before.0, same_step b' a b (subst (λ m. GoesOn m a) before.1 goes) goes')
 one_made program n r H h g j k a b (inside {k = j'} {m = a'} x wants goes)
     (acts {h = g'} {k = k'} {m = b'} act message y fits after) same later more e f =
     let before =
@@ -103,7 +82,7 @@ one_made program n r H h g j k a b (acts {h = h'} {k = j'} {m = a'} act message 
     let next : (act, message) ≡ (act', message') = same_next h' g' later more (act, message) (act', message') before.0 (sym one ∙ two) in
     let there = subst (λ m. IsAfter m act message a) before.1 after in (
       ap (λ (z : History). z ++ (act, message) ∷ []) before.0 ∙ ap (λ (z : Done). g' ++ z ∷ []) next,
-      one_act b' a b act' message' (subst (λ (z : Done). IsAfter b' z.0 z.1 a) next there) after',
+      same_act b' a b act' message' (subst (λ (z : Done). IsAfter b' z.0 z.1 a) next there) after',
     )
 
 -- what a rank had made by fewer steps
@@ -225,7 +204,7 @@ pub needs_counted : (s : SimValue) (left : List ℕ) (steps : ℕ) → Counts st
 needs_counted s left steps counts r low =
     let it = counts r low in
     let all = it.2 in
-    let m = there_is (slice_get s.machines r) (λ x. HasMade s.program (length s.machines) r (history s.run r) it.0 x) it.1 in
+    let m = some_there (slice_get s.machines r) (λ x. HasMade s.program (length s.machines) r (history s.run r) it.0 x) it.1 in
     (it.0, m.0, m.2, omega (arith, all))
 
 -- a rank that has made so many steps has made all acts of a run that needs no more
@@ -255,8 +234,3 @@ has_steps s t left steps p alike same low counts needs none =
     (subst (λ (C : List Passed). HasMade s.program (length s.machines) p.rank (history C p.rank) steps all.0) same
     (subst (λ n. HasMade s.program n p.rank (history t.run p.rank) steps all.0) alike.ranks
     (subst (λ q. HasMade q (length t.machines) p.rank (history t.run p.rank) steps all.0) alike.program all.2))) needs
-
--- what isn't false is true
-pub truly : (b : Bool) → (b ≡ false → ⊥) → b ≡ true
-truly true never = refl
-truly false never = absurd (never refl)

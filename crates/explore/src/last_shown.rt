@@ -1,7 +1,7 @@
 //! What ranks were shown of messages.
 ghost use Rattle.std.specs.Prelude.{◌≡◌, List, [], ◌∷◌, OnOk};
 ghost use Rattle.crash_free.specs.Runs as runs;
-ghost use Rattle.explore.specs.LastShown.{key_of, last_of, KnowsShown, Raises};
+ghost use Rattle.explore.specs.LastShown.{last_of, KnowsShown, Raises};
 ghost use Rattle.explore.specs.Shown.{was_shown};
 
 use crash_free::{Act, Passed};
@@ -13,8 +13,8 @@ use std::collections::BTreeMap;
 /// run for it.
 #[derive(Drop)]
 pub struct LastShown {
-    // for a rank and a source (`key_of`) the place of the last message that the rank was shown of it
-    last: BTreeMap<u16, u64, Heap>,
+    // for a rank and a source the place of the last message that the rank was shown of it
+    last: BTreeMap<(u8, u8), u64, Heap>,
 }
 
 impl LastShown {
@@ -34,19 +34,19 @@ impl LastShown {
     {
         match &passed.act {
             Act::Takes { source, place } | Act::Hits { source, place } => {
-                self.raise(key_of(passed.rank, *source), *place)
+                self.raise(passed.rank, *source, *place)
             }
             Act::Sends { .. } | Act::Misses | Act::Prints(_) => Ok(()),
         }
     }
 
-    // The message at this place was shown.
-    #[tactic(auto, using(crate::proofs::LastShown::raised, crate::proofs::LastShown::raised_before))]
-    fn raise(&mut self, key: u16, place: u64) -> Result<(), AllocError>
-        ensures { OnOk result (Raises self.old.last key place self.new.last) }
+    // The rank was shown the message of the source at this place.
+    #[tactic(auto, using(crate::proofs::LastShown::raised_before))]
+    fn raise(&mut self, rank: u8, source: u8, place: u64) -> Result<(), AllocError>
+        ensures { OnOk result (Raises self.old.last rank source place self.new.last) }
     {
-        if self.last_of(key) < place {
-            self.last.insert(key, place)?;
+        if self.last_of(rank, source) < place {
+            self.last.insert((rank, source), place)?;
         }
         Ok(())
     }
@@ -56,21 +56,15 @@ impl LastShown {
     pub fn has(&self, rank: u8, source: u8, index: usize) -> bool
         ensures { (acts : List runs.Passed) → KnowsShown acts self.now.last → result ≡ was_shown acts rank source index }
     {
-        (index as u64) < self.last_of(key_of(rank, source))
+        (index as u64) < self.last_of(rank, source)
     }
 
-    fn last_of(&self, key: u16) -> u64
-        ensures { result ≡ last_of self.now.last key }
+    fn last_of(&self, rank: u8, source: u8) -> u64
+        ensures { result ≡ last_of self.now.last rank source }
     {
-        match self.last.get(&key) {
+        match self.last.get(&(rank, source)) {
             Some(place) => *place,
             None => 0,
         }
     }
-}
-
-fn key_of(rank: u8, source: u8) -> u16
-    ensures { result ≡ key_of rank source }
-{
-    u16::from(rank) * 256 + u16::from(source)
 }

@@ -8,6 +8,7 @@ use Rattle.rank_language.specs.Block.{Block, done, plain, if_only, if_else, loop
 use Rattle.rank_language.specs.Block.{back_line, size, lines_at, places, remaining, next_position}
 use Rattle.rank_language.proofs.Places.{length-lines_at}
 use Rattle.live_variables.specs.Live.{claimed}
+use Rattle.live_variables.proofs.Sound.{denied, at}
 use Rattle.later_sends.specs.Sending.{may_send, some_sends}
 use Rattle.later_sends.specs.LaterSends.{line_may_send, holds_at, AllHold}
 use Rattle.later_sends.proofs.Silent.{then_silent}
@@ -26,15 +27,6 @@ front c n (l ∷ ls) ys h = (h.0, front c (n + 1) ls ys h.1)
 back : (c : ℕ → Bool) (n m : ℕ) (xs ys : List Line) → n + length xs ≡ m → Checked c n (xs ++ ys) → Checked c m ys
 back c n m [] ys q h = subst (λ k. Checked c k ys) (let e : n ≡ m = omega (arith, q) in e) h
 back c n m (l ∷ ls) ys q h = back c (n + 1) m ls ys (omega (arith, q)) h.1
-
--- what isn't true is false
-denied : (b : Bool) → not b ≡ true → b ≡ false
-denied true e = absurd cc
-denied false e = refl
-
--- claimed at an equal position
-at : (c : ℕ → Bool) (m n : ℕ) → m ≡ n → c m ≡ true → c n ≡ true
-at c m n q h = subst (λ k. c k ≡ true) q h
 
 -- what a line's claim says: the line doesn't send
 no_send : (c : ℕ → Bool) (n : ℕ) (l : Line) → holds_at c n l ≡ true → line_may_send l ≡ false

@@ -3,7 +3,7 @@
 use Rattle.std.proofs.Common.{◌≡◌, ◌≢◌, ℕ, ℤ, ◌<◌, ◌≤◌, Bool, true, false, not, ◌||◌, List, [], ◌∷◌, Ok, Err, Option, Some, None, refl, sym, ap, ◌∙◌, subst}
 use Rattle.std.proofs.Common.{◌⊎◌, inl, inr, length, arith, if◌then◌else◌}
 use Rattle.std.specs.Prelude.{slice_set, slice_index_or, option_map}
-use Rattle.std.proofs.lemmas.Bool.{or_cases, cases_eq, cases_lt}
+use Rattle.std.proofs.lemmas.Bool.{or_cases, cases_eq, cases_lt, or_left, or_right}
 use Rattle.std.proofs.lemmas.List.{get_or-set_same, get_or-set_other, length-set, get_or_past}
 use Rattle.rank_language.specs.Placed.{Simple, declare, declare_array, assign, assign_item, send, receive, probe, try_probe}
 use Rattle.rank_language.specs.Placed.{print, Collective, Buffer, into_variable, into_array, barrier, broadcast, reduce, collect}
@@ -15,7 +15,6 @@ use Rattle.rank_machine.specs.Collectives.{folded, with_at}
 use Rattle.rank_machine.specs.States.{State, Inners, here, on, item_value, assigned, item_assigned, after_test, after_value, inner_rest, inner_store, inner_of, inner}
 use Rattle.rank_machine.specs.Acts.{overwritten, written}
 use Rattle.live_variables.specs.Given.{sends_all, some_sends_all, GivesItems}
-use Rattle.live_variables.proofs.Where.{or_left, or_right}
 
 -- What one list of statements behind another sends.
 then_sends : (p : ℕ) (b k : Block) → some_sends_all p (b then k) ≡ true → (some_sends_all p b ≡ true) ⊎ (some_sends_all p k ≡ true)

@@ -1,7 +1,7 @@
 -- What remains after an act gives items too, and what is sent has one.
 use Rattle.std.proofs.Common.{◌≡◌, ◌≢◌, ℕ, ℤ, ◌+◌, ◌==◌, Bool, true, false, List, [], ◌∷◌, ◌++◌, Ok, Err, Option, Some, None, refl, sym, subst, if◌then◌else◌, length}
 use Rattle.std.specs.Prelude.{nat_le, slice_index_or}
-use Rattle.std.proofs.lemmas.Bool.{eq-eqb}
+use Rattle.std.proofs.lemmas.Bool.{eq-eqb, or_left}
 use Rattle.matching.specs.declared.packet.Context.{Context}
 use Rattle.matching.specs.declared.packet.Context.TheVariants.{PointToPoint}
 use Rattle.rank_language.specs.Placed.{Placed, Pattern, Payload, one, all_of, declare, declare_array, assign, assign_item, send, receive, probe, try_probe}
@@ -18,7 +18,6 @@ use Rattle.rank_machine.specs.Wants.{or_fault, want_of, wants, or_nothing, first
 use Rattle.rank_machine.specs.Acts.{Message, Act, sends, takes, hits, misses, prints, Fits, Makes, Does, room, written, with_status}
 use Rattle.rank_machine.specs.Acts.{goes_on, received, kept, part_made, part_sent, part_taken, items_taken, collected, after_first, unless_faulted, next}
 use Rattle.live_variables.specs.Given.{some_sends_all, GivesItems}
-use Rattle.live_variables.proofs.Where.{or_left}
 use Rattle.live_variables.proofs.Giving.{Fewer, Keeps, fewer_behind, written_keeps, gives_on, inners_give}
 
 -- What an act leaves: what remains sends only what was sent, and each array has an item that had

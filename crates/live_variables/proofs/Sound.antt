@@ -3,7 +3,7 @@
 use Rattle.std.proofs.Common.{◌≡◌, ℕ, zero, suc, ◌+◌, ◌<◌, ◌≤◌, List, [], ◌∷◌, ◌++◌, length, Bool, true, false, not, ◌||◌, ◌&&◌, Some, slice_get}
 use Rattle.std.proofs.Common.{refl, ap, sym, subst, arith, append_assoc, ◌⊎◌, inl, inr}
 use Rattle.std.specs.Prelude.{slice_index_or}
-use Rattle.std.proofs.lemmas.Bool.{or_cases, and_parts, cases_lt}
+use Rattle.std.proofs.lemmas.Bool.{or_cases, and_parts, cases_lt, false_from_ne_true, or_from}
 use Rattle.std.proofs.lemmas.Option.{slice_get_within}
 use Rattle.rank_language.specs.Placed.{Simple}
 use Rattle.rank_language.specs.Block.{Block, done, plain, if_only, if_else, loop, ◌then◌, Line, simple_line, if_line, else_line, end_line, while_line}
@@ -36,20 +36,10 @@ back : (x : Name) (c : ℕ → Bool) (n m : ℕ) (xs ys : List Line) → n + len
 back x c n m [] ys q h = moved x c n m ys (omega (arith, q)) h
 back x c n m (l ∷ ls) ys q h = back x c (n + 1) m ls ys (omega (arith, q)) h.1
 
--- what isn't true is false
-isnt : (b : Bool) → (b ≡ true → ⊥) → b ≡ false
-isnt true f = absurd (f refl)
-isnt false f = refl
-
 -- what is denied doesn't hold
-denied : (b : Bool) → not b ≡ true → b ≡ false
+pub denied : (b : Bool) → not b ≡ true → b ≡ false
 denied true e = absurd cc
 denied false e = refl
-
--- neither of two, none of three
-neither : (a b : Bool) → a ≡ false → b ≡ false → (a || b) ≡ false
-neither true b e f = e
-neither false b e f = f
 
 -- not where both would have to be
 not_both : (p r : Bool) → (p ≡ true → r ≡ false) → (p && r) ≡ false
@@ -87,7 +77,7 @@ leads_on x c n l none h = go (leads x c n l h)
     go (inr b) = b
 
 -- claimed at an equal position
-at : (c : ℕ → Bool) (m n : ℕ) → m ≡ n → c m ≡ true → c n ≡ true
+pub at : (c : ℕ → Bool) (m n : ℕ) → m ≡ n → c m ≡ true → c n ≡ true
 at c m n q h = subst (λ k. c k ≡ true) q h
 
 -- a statement, in front of others
@@ -101,7 +91,7 @@ whole_plain x c n s r h more = go (leads x c n (simple_line s) h)
     go : (writes x s ≡ true) ⊎ ((c (n + 1) ≡ true) × (c (n + 1) ≡ true)) → Whole x c n (plain s r)
     go (inl w) =
         record {
-          unread = neither (reads x s) (not (writes x s) && reads_first x r) unread (rw w refl);
+          unread = or_from (reads x s) (not (writes x s) && reads_first x r) unread (rw w refl);
           after = λ e. absurd (let k = (and_parts (not (writes x s)) (passes x r) e).0 in denied_too (writes x s) w k);
         }
       where
@@ -111,7 +101,7 @@ whole_plain x c n s r h more = go (leads x c n (simple_line s) h)
     go (inr k) =
         let m = more k.0 in
         record {
-          unread = neither (reads x s) (not (writes x s) && reads_first x r) unread (not_both (not (writes x s)) (reads_first x r) (λ e. m.unread));
+          unread = or_from (reads x s) (not (writes x s) && reads_first x r) unread (not_both (not (writes x s)) (reads_first x r) (λ e. m.unread));
           after = λ e. at c (n + 1 + size r) (n + size (plain s r)) (omega arith) (m.after (and_parts (not (writes x s)) (passes x r) e).1);
         }
 
@@ -127,8 +117,8 @@ whole x c n (if_only v y r) h e =
     let r' = whole x c (m + 1) r behind.1 l.1 in
     record {
       unread =
-          neither (mentions x v) (reads_first x y || reads_first x r) (read_not x c n (if_line v (m + 1)) (h.0 e))
-          (neither (reads_first x y) (reads_first x r) y'.unread r'.unread);
+          or_from (mentions x v) (reads_first x y || reads_first x r) (read_not x c n (if_line v (m + 1)) (h.0 e))
+          (or_from (reads_first x y) (reads_first x r) y'.unread r'.unread);
       after = λ f. at c (m + 1 + size r) (n + size (if_only v y r)) (omega arith) (r'.after f);
     }
 whole x c n (if_else v y o r) h e =
@@ -148,10 +138,10 @@ whole x c n (if_else v y o r) h e =
     (or_cases (passes x y) (passes x o) p)) in
     record {
       unread =
-          neither (mentions x v) ((reads_first x y || reads_first x o) || ((passes x y || passes x o) && reads_first x r))
+          or_from (mentions x v) ((reads_first x y || reads_first x o) || ((passes x y || passes x o) && reads_first x r))
           (read_not x c n (if_line v (m + 1)) (h.0 e))
-          (neither (reads_first x y || reads_first x o) ((passes x y || passes x o) && reads_first x r)
-          (neither (reads_first x y) (reads_first x o) y'.unread o'.unread)
+          (or_from (reads_first x y || reads_first x o) ((passes x y || passes x o) && reads_first x r)
+          (or_from (reads_first x y) (reads_first x o) y'.unread o'.unread)
           (not_both (passes x y || passes x o) (reads_first x r) (λ p. (r' p).unread)));
       after =
           λ f.
@@ -171,15 +161,15 @@ whole x c n (loop v y r) h e =
     let r' = whole x c (m + 1) r behind.1 l.1 in
     record {
       unread =
-          neither (mentions x v) (reads_first x y || reads_first x r) (read_not x c n (while_line v (m + 1)) (h.0 e))
-          (neither (reads_first x y) (reads_first x r) y'.unread r'.unread);
+          or_from (mentions x v) (reads_first x y || reads_first x r) (read_not x c n (while_line v (m + 1)) (h.0 e))
+          (or_from (reads_first x y) (reads_first x r) y'.unread r'.unread);
       after = λ f. at c (m + 1 + size r) (n + size (loop v y r)) (omega arith) (r'.after f);
     }
 
 -- a list in front of others that don't read the name first where it is claimed
 unread_then : (x : Name) (c : ℕ → Bool) (n : ℕ) (b k : Block) → (c n ≡ true → Whole x c n b) → (c (n + size b) ≡ true → reads_first x k ≡ false)
     → c n ≡ true → reads_first x (b then k) ≡ false
-unread_then x c n b k w after e = isnt (reads_first x (b then k)) (λ f. go (w e) (then_reads x b k f))
+unread_then x c n b k w after e = false_from_ne_true (reads_first x (b then k)) (λ f. go (w e) (then_reads x b k f))
   where
     go : Whole x c n b → Either x b k → ⊥
     go w (inl f) = let g = w.unread in cc

@@ -1,30 +1,10 @@
 -- What one list of statements behind another reads: so what remains after a test reads nothing
 -- first that what stood there didn't.
 use Rattle.std.proofs.Common.{◌≡◌, Bool, true, false, not, ◌||◌, ◌&&◌, refl, ◌⊎◌, inl, inr}
-use Rattle.std.proofs.lemmas.Bool.{or_cases, and_parts}
+use Rattle.std.proofs.lemmas.Bool.{or_cases, and_parts, and_from, or_left, or_right}
 use Rattle.rank_language.specs.Block.{Block, done, plain, if_only, if_else, loop, ◌then◌, taken}
 use Rattle.live_variables.specs.Names.{Name, mentions, reads, writes}
 use Rattle.live_variables.specs.Unread.{passes, reads_first}
-use Rattle.live_variables.proofs.Where.{or_left, or_right}
-
--- both of two are true
-pub both : (a b : Bool) → a ≡ true → b ≡ true → (a && b) ≡ true
-both true b e f = f
-both false b e f = absurd cc
-
--- a way through both goes through each
-pub then_passes : (x : Name) (b k : Block) → passes x (b then k) ≡ true → (passes x b ≡ true) × (passes x k ≡ true)
-then_passes x done k e = (refl, e)
-then_passes x (plain s r) k e =
-    let p = and_parts (not (writes x s)) (passes x (r then k)) e in
-    let q = then_passes x r k p.1 in
-    (both (not (writes x s)) (passes x r) p.0 q.0, q.1)
-then_passes x (if_only e y r) k f = then_passes x r k f
-then_passes x (if_else e y o r) k f =
-    let p = and_parts (passes x y || passes x o) (passes x (r then k)) f in
-    let q = then_passes x r k p.1 in
-    (both (passes x y || passes x o) (passes x r) p.0 q.0, q.1)
-then_passes x (loop e y r) k f = then_passes x r k f
 
 -- It is read first by the one list, or a way goes through that and it is read first by the other.
 abbrev pub Either : Name → Block → Block → Type 0
@@ -36,8 +16,8 @@ then_reads x done k e = inr (refl, e)
 then_reads x (plain s r) k e = go (λ f. then_reads x r k f) (or_cases (reads x s) (not (writes x s) && reads_first x (r then k)) e)
   where
     later : (not (writes x s) ≡ true) → Either x r k → Either x (plain s r) k
-    later n (inl f) = inl (or_right (reads x s) (not (writes x s) && reads_first x r) (both (not (writes x s)) (reads_first x r) n f))
-    later n (inr p) = inr (both (not (writes x s)) (passes x r) n p.0, p.1)
+    later n (inl f) = inl (or_right (reads x s) (not (writes x s) && reads_first x r) (and_from (not (writes x s)) (reads_first x r) n f))
+    later n (inr p) = inr (and_from (not (writes x s)) (passes x r) n p.0, p.1)
 
     go : (reads_first x (r then k) ≡ true → Either x r k) → (reads x s ≡ true) ⊎ ((not (writes x s) && reads_first x (r then k)) ≡ true)
         → Either x (plain s r) k
@@ -70,8 +50,8 @@ then_reads x (if_else e y o r) k f =
     later p (inl g) =
         inside
         (or_right (reads_first x y || reads_first x o) ((passes x y || passes x o) && reads_first x r)
-        (both (passes x y || passes x o) (reads_first x r) p g))
-    later p (inr q) = inr (both (passes x y || passes x o) (passes x r) p q.0, q.1)
+        (and_from (passes x y || passes x o) (reads_first x r) p g))
+    later p (inr q) = inr (and_from (passes x y || passes x o) (passes x r) p q.0, q.1)
 
     second : (reads_first x (r then k) ≡ true → Either x r k)
         → ((reads_first x y || reads_first x o) ≡ true) ⊎ (((passes x y || passes x o) && reads_first x (r then k)) ≡ true) → Either x (if_else e y o r) k
@@ -120,7 +100,7 @@ taken_reads x true (if_else e y o r) h = go (then_reads x y r h)
     go (inr p) =
         or_right (mentions x e) ((reads_first x y || reads_first x o) || ((passes x y || passes x o) && reads_first x r))
         (or_right (reads_first x y || reads_first x o) ((passes x y || passes x o) && reads_first x r)
-        (both (passes x y || passes x o) (reads_first x r) (or_left (passes x y) (passes x o) p.0) p.1))
+        (and_from (passes x y || passes x o) (reads_first x r) (or_left (passes x y) (passes x o) p.0) p.1))
 taken_reads x false (if_else e y o r) h = go (then_reads x o r h)
   where
     go : Either x o r → reads_first x (if_else e y o r) ≡ true
@@ -130,7 +110,7 @@ taken_reads x false (if_else e y o r) h = go (then_reads x o r h)
     go (inr p) =
         or_right (mentions x e) ((reads_first x y || reads_first x o) || ((passes x y || passes x o) && reads_first x r))
         (or_right (reads_first x y || reads_first x o) ((passes x y || passes x o) && reads_first x r)
-        (both (passes x y || passes x o) (reads_first x r) (or_right (passes x y) (passes x o) p.0) p.1))
+        (and_from (passes x y || passes x o) (reads_first x r) (or_right (passes x y) (passes x o) p.0) p.1))
 taken_reads x true (loop e y r) h = go (then_reads x y (loop e y r) h)
   where
     go : Either x y (loop e y r) → reads_first x (loop e y r) ≡ true

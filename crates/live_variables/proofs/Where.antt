@@ -1,32 +1,12 @@
 -- States that agree on some names: on fewer too, and after a write also on what was written.
 use Rattle.std.proofs.Common.{◌≡◌, ℕ, ℤ, pos, ◌==◌, ◌<◌, ◌≤◌, Bool, true, false, ◌||◌, refl, sym, ◌∙◌, ◌⊎◌, inl, inr, length}
 use Rattle.std.specs.Prelude.{slice_set, slice_index_or}
-use Rattle.std.proofs.lemmas.Bool.{eqb-true, or_cases, cases_lt, cases_eq}
+use Rattle.std.proofs.lemmas.Bool.{eqb-true, or_cases, cases_lt, cases_eq, or_left, or_right}
 use Rattle.std.proofs.lemmas.List.{get_or-set_same, get_or-set_other, length-set, get_or_past}
 use Rattle.rank_machine.specs.Values.{Store}
 use Rattle.rank_machine.specs.Acts.{Message, with_variable, with_status}
 use Rattle.live_variables.specs.Names.{Name, place, status, is_place, is_status}
 use Rattle.live_variables.specs.Agrees.{Same, SameWhere}
-
--- one of two is true
-pub or_left : (a b : Bool) → a ≡ true → (a || b) ≡ true
-or_left true b e = refl
-or_left false b e = absurd cc
-
--- so with the second of the two
-pub or_right : (a b : Bool) → b ≡ true → (a || b) ≡ true
-or_right true b e = refl
-or_right false b e = e
-
--- one of two isn't, where the other is
-pub first_false : (a b : Bool) → (a || b) ≡ false → a ≡ false
-first_false true b e = e
-first_false false b e = refl
-
--- nor does the second
-pub second_false : (a b : Bool) → (a || b) ≡ false → b ≡ false
-second_false true b e = absurd cc
-second_false false b e = e
 
 -- what agrees on names agrees on fewer
 pub fewer : (among less : Name → Bool) (s s' : Store) → ((x : Name) → less x ≡ true → among x ≡ true) → SameWhere among s s' → SameWhere less s s'

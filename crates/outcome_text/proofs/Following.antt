@@ -1,9 +1,7 @@
 -- What the lines so far have of each rank, after one line more.
-use Rattle.std.proofs.Common.{◌≡◌, ℕ, zero, suc, ◌+◌, ◌<◌, ◌==◌, ◌&&◌, Bool, true, false, List, [], ◌∷◌, ◌++◌, length, replicate}
-use Rattle.std.proofs.Common.{slice_get, slice_set, get_or, Some, ◌⊎◌, inl, inr, refl, sym, ap, subst, ◌∙◌, arith, length-set, eq-eqb, ne_eqb, if◌then◌else◌, nat_eq}
-use Rattle.std.proofs.lemmas.List.{length-replicate, get_or-replicate}
+use Rattle.std.proofs.Common.{◌≡◌, ℕ, zero, suc, ◌+◌, ◌<◌, ◌==◌, ◌&&◌, Bool, true, false, List, [], ◌∷◌, ◌++◌}
+use Rattle.std.proofs.Common.{slice_get, slice_set, get_or, Some, ◌⊎◌, inl, inr, refl, sym, ap, ◌∙◌, arith, length-set, eq-eqb, ne_eqb, if◌then◌else◌, nat_eq}
 use Rattle.std.proofs.lemmas.Bool.Decides.{nat_tests}
-use Rattle.std.proofs.lemmas.Option.{slice_get_within, get_or_from_slice_get}
 use Rattle.outcome_text.specs.declared.form.Entry.{Entry}
 use Rattle.outcome_text.specs.declared.form.Form.{Form}
 use Rattle.outcome_text.specs.declared.form.Part.{Part}
@@ -38,18 +36,6 @@ of_own r es e own =
 of_other : (r : ℕ) (es : List Entry) (e : Entry) → (rank_of e ≡ r → ⊥) → progress_of r (es ++ e ∷ []) ≡ progress_of r es
 of_other r es e other =
     progress_from-push r _ es e ∙ ap (λ b. if b then after (progress_of r es) e else progress_of r es) (ne_eqb (rank_of e) r other)
-
--- no entry
-pub are_none : (n : ℕ) (ps : List Progress) → ps ≡ replicate n (record { clock = 0; ended = false }) → AreProgress n [] ps
-are_none n ps none = record {
-  width = ap length none ∙ length-replicate n _;
-  each = λ r p there.
-      let at : slice_get (replicate n (record { clock = 0; ended = false })) r ≡ Some p = ap (λ s. slice_get s r) (sym none) ∙ there in
-      let low : r < length (replicate n (record { clock = 0; ended = false })) = slice_get_within (replicate n (record { clock = 0; ended = false })) r p at in
-      let few : r < n = subst (λ k. r < k) (length-replicate n (record { clock = 0; ended = false })) low in
-      sym (get_or_from_slice_get (replicate n (record { clock = 0; ended = false })) r p (record { clock = 0; ended = false }) at)
-      ∙ get_or-replicate n r (record { clock = 0; ended = false }) (record { clock = 0; ended = false }) few;
-}
 
 -- one entry more
 pub one_more : (n k : ℕ) (es : List Entry) (e : Entry) (ps : List Progress) (p : Progress) → AreProgress n es ps → rank_of e ≡ k

@@ -1,8 +1,8 @@
 -- A number is kept in 64 bits digit by digit, and comes out as if it were kept at the end alone.
-use Rattle.std.specs.Prelude.{◌≡◌, ℕ, ◌+◌, ◌-◌, ◌*◌, ◌^◌, ◌<◌, ◌≤◌, min, List, [], ◌∷◌, length, Some, None, take, drop}
+use Rattle.std.specs.Prelude.{◌≡◌, ℕ, ◌+◌, ◌*◌, ◌^◌, ◌<◌, ◌≤◌, min, List, [], ◌∷◌, length, Some, None}
 use Rattle.std.proofs.Common.{arith, refl, ap, ◌∙◌, get_or}
-use Rattle.std.proofs.Math.Seq.{take-length}
 use Rattle.text_lines.specs.Numbers.{digit_of, value_behind}
+use Rattle.text_lines.proofs.NumberLaws.{left, left_all}
 use Rattle.outcome_text.specs.Numbers.{wide, wide_of}
 
 -- behind the last digit a number that 64 bits hold stands as it is
@@ -25,16 +25,6 @@ behind_alike v w (b ∷ bs) h =
     elim (digit_of b) as (λ o. wide_of (elim o [ None ↦ None | Some d ↦ value_behind (v * 10 + d) bs ])
     ≡ wide_of (elim o [ None ↦ None | Some d ↦ value_behind (w * 10 + d) bs ]))
     [ None ↦ refl | Some d ↦ behind_alike (v * 10 + d) (w * 10 + d) bs (more_alike v w d h) ]
-
--- what is left behind a digit
-abbrev pub left : List ℕ → List ℕ
-left rest = take (length rest - 1) (drop 1 rest)
-
--- it is all but the digit
-left_all : (b : ℕ) (bs : List ℕ) → left (b ∷ bs) ≡ bs
-left_all b bs =
-    let e : length (b ∷ bs) - 1 ≡ length bs = omega arith in
-    ap (λ n. take n bs) e ∙ take-length bs
 
 -- the number goes on with a digit
 pub value_more : (rest : List ℕ) (v d m w : ℕ) → m ≡ min (v * 10) 18446744073709551615 → w ≡ min (m + d) 18446744073709551615

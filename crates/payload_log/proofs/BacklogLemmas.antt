@@ -14,7 +14,7 @@ use Rattle.matching.specs.PacketValue.{PacketValue}
 use Rattle.payload_log.specs.Backlog.{BacklogValue, AreNumbered, IsBacklog, backlog_of, saved, hold, freed_of, next_number, pruned}
 
 -- one more with the next number
-numbered_push : (base : ℕ) (ms : List PacketValue) (m : PacketValue) → AreNumbered base ms → m.number ≡ base + length ms + 1 → AreNumbered base (ms ++ m ∷ [])
+pub numbered_push : (base : ℕ) (ms : List PacketValue) (m : PacketValue) → AreNumbered base ms → m.number ≡ base + length ms + 1 → AreNumbered base (ms ++ m ∷ [])
 numbered_push base ms m each next = λ k d low. grind (arith, common_steps, each)
 
 -- all but the first

@@ -3,7 +3,7 @@
 -- that passes rules its fault out for the tests behind it.
 use Rattle.std.specs.Prelude.{◌≡◌, ℕ, ◌<◌, ◌≤◌, List, [], ◌∷◌, Bool, true, false, ◌||◌, not, nat_lt, length, Option, Some, None, Result, Ok, Err, if◌then◌else◌}
 use Rattle.std.proofs.Common.{◌⊎◌, inl, inr, refl, sym, ap, subst, ◌∙◌, arith}
-use Rattle.std.proofs.lemmas.Bool.{ltb-true}
+use Rattle.std.proofs.lemmas.Bool.{ltb-true, or_left, or_right, or_cases}
 use Rattle.std.proofs.lemmas.Bool.Decides.{nat_tests}
 use Rattle.limits.specs.Limits.{most_lines, most_line_bytes}
 use Rattle.rank_checker.specs.declared.fault.FaultKind.{FaultKind}
@@ -110,16 +110,6 @@ none_is_picked false false false false true q j r = cc
 abbrev picked : Scope → ℕ → List Token → Form → FaultKind → Bool
 picked s n ts f j = pick (not (declared_in s f)) (is_twice s f) (is_stray s f) (nat_lt most_lines n || is_over s ts f) (has_great_number f) j
 
--- a test that gives true decides an `or`
-or_left : (a b : Bool) → a ≡ true → (a || b) ≡ true
-or_left true b q = refl
-or_left false b q = absurd cc
-
--- so does the other
-or_right : (a b : Bool) → b ≡ true → (a || b) ≡ true
-or_right true b q = refl
-or_right false b q = q
-
 -- a fault of a line that has its form is one of the five, and its test gives true
 holds_picked : {s : Scope} {n : ℕ} {line : List ℕ} {ts : List Token} {f : Form}
     → IsFormed line ts f → is_statement line ≡ true → (j : FaultKind) → Holds s n line j → picked s n ts f j ≡ true
@@ -135,11 +125,6 @@ holds_picked {s = s} {n = n} {ts = ts} {f = f} d w _ (over {ts = us} b q) =
     let e = form_one d b in
     or_right (nat_lt most_lines n) (is_over s ts f) (ap (λ z. is_over s z f) e.0 ∙ ap (λ z. is_over s us z) e.1 ∙ q)
 holds_picked d w _ (great_number b q) = ap has_great_number (form_one d b).1 ∙ q
-
--- an `or` is true by one of its tests
-or_cases : (a b : Bool) → (a || b) ≡ true → (a ≡ true) ⊎ (b ≡ true)
-or_cases true b q = inl refl
-or_cases false b q = inr q
 
 -- a late line and one over a limit both have fault 8
 limit_holds : {s : Scope} {n : ℕ} {line : List ℕ} {ts : List Token} {f : Form}

@@ -109,11 +109,11 @@ tokens_named (is_number ds line h s d) = (tt, tokens_named d)
 tokens_named (is_symbol w line y s d) = (symbol_named y, tokens_named d)
 
 -- a table that has room for a variable has it for a short name
-short_variable : (s : Scope) (x : List ℕ) → is_past_table s (var_form x) ≡ false → length x ≤ most_name_bytes
+pub short_variable : (s : Scope) (x : List ℕ) → is_past_table s (var_form x) ≡ false → length x ≤ most_name_bytes
 short_variable s x q = grind (arith, nat_tests)
 
 -- and one for an array
-short_array : (s : Scope) (x : List ℕ) (n : ℕ) → is_past_table s (array_form x n) ≡ false → length x ≤ most_name_bytes
+pub short_array : (s : Scope) (x : List ℕ) (n : ℕ) → is_past_table s (array_form x n) ≡ false → length x ≤ most_name_bytes
 short_array s x n q = grind (arith, nat_tests)
 
 -- what a statement of such tokens declares has a name

@@ -25,11 +25,6 @@ pub forms_push : (fs : List source_form.Form) (f : source_form.Form) → forms_s
 forms_push [] f = refl
 forms_push (g ∷ fs) f = ap (λ z. form_seen g ∷ z) (forms_push fs f)
 
--- nothing in front changes nothing
-pub front_nothing : (x : Result (List Form) (ℕ × FaultKind)) → with_front [] x ≡ x
-front_nothing (Ok fs) = refl
-front_nothing (Err e) = refl
-
 -- a skipped line adds no statement
 front_skipped : (fs : List Form) (x : Result (List Form) (ℕ × FaultKind)) → with_front fs x ≡ with_front fs (onto_forms None x)
 front_skipped fs (Ok gs) = refl

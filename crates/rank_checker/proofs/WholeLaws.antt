@@ -1,7 +1,8 @@
 -- The statements of a text are whole: each may stand where it does, and their blocks are closed.
 -- A line without fault shows each fact that its statement needs, since the fault of the opposite would hold.
-use Rattle.std.specs.Prelude.{◌≡◌, ℕ, ◌+◌, ◌<◌, ◌≤◌, List, Bool, true, false, length, Option, Some}
+use Rattle.std.specs.Prelude.{◌≡◌, ℕ, ◌+◌, ◌<◌, ◌≤◌, List, true, false, length, Option, Some}
 use Rattle.std.proofs.Common.{refl, sym, ap, ◌∙◌, arith}
+use Rattle.std.proofs.lemmas.Bool.{false_from_ne_true, true_from_ne_false}
 use Rattle.limits.specs.Limits.{most_lines}
 use Rattle.rank_grammar.specs.declared.token.Token.{Token}
 use Rattle.rank_grammar.specs.Forms.{Form}
@@ -11,16 +12,6 @@ use Rattle.rank_checker.proofs.NameLaws.{tokens_named, form_named}
 use Rattle.rank_checker.specs.Faults.{IsFormed, unknown_name, known_name, no_block, late_line, over}
 use Rattle.rank_checker.specs.Faults.{great_number, IsClean, IsLine, skipped, stated, AreLines, none, skipped_line}
 use Rattle.rank_checker.specs.Faults.{taken, IsText}
-
--- what can't be true is false
-not_true : (b : Bool) → (b ≡ true → ⊥) → b ≡ false
-not_true true h = absurd (h refl)
-not_true false h = refl
-
--- what can't be false is true
-not_false : (b : Bool) → (b ≡ false → ⊥) → b ≡ true
-not_false true h = refl
-not_false false h = absurd (h refl)
 
 -- a statement with a large expression is over a limit
 large_is_over : (s : Scope) (ts : List Token) (f : Form) → has_large f ≡ true → is_over s ts f ≡ true
@@ -33,14 +24,14 @@ full_is_over s ts f q = grind arith
 -- a statement without fault may stand where it does
 stands : {s : Scope} {n : ℕ} {l : List ℕ} {ts : List Token} {f : Form} → IsFormed l ts f → IsClean s n l → MayStand s f
 stands {s = s} {ts = ts} {f = f} d c =
-    let room : is_past_table s f ≡ false = not_true (is_past_table s f) (λ q. c _ (over d (full_is_over s ts f q))) in record {
-      declared = not_false (declared_in s f) (λ q. c _ (unknown_name d q));
-      once = not_true (is_twice s f) (λ q. c _ (known_name d q));
-      placed = not_true (is_stray s f) (λ q. c _ (no_block d q));
+    let room : is_past_table s f ≡ false = false_from_ne_true (is_past_table s f) (λ q. c _ (over d (full_is_over s ts f q))) in record {
+      declared = true_from_ne_false (declared_in s f) (λ q. c _ (unknown_name d q));
+      once = false_from_ne_true (is_twice s f) (λ q. c _ (known_name d q));
+      placed = false_from_ne_true (is_stray s f) (λ q. c _ (no_block d q));
       within = room;
       named = form_named s d.form (tokens_named d.tokens) room;
-      sized = not_true (has_large f) (λ q. c _ (over d (large_is_over s ts f q)));
-      fitting = not_true (has_great_number f) (λ q. c _ (great_number d q));
+      sized = false_from_ne_true (has_large f) (λ q. c _ (over d (large_is_over s ts f q)));
+      fitting = false_from_ne_true (has_great_number f) (λ q. c _ (great_number d q));
     }
 
 -- the statement of a line without fault may stand there

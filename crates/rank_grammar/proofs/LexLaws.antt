@@ -4,12 +4,12 @@
 -- fresh start up to its end, and the rest likewise. What is read is what the grammar has
 -- (`spelled`): what is pending stands for the bytes since its token began (`Stands`), and
 -- where it stops those bytes are a token as long as it can be.
-use Rattle.std.proofs.Common.{◌≡◌, ℕ, ◌+◌, ◌-◌, ◌*◌, ◌^◌, min, Bool, true, false, ◌&&◌, ◌||◌, List, [], ◌∷◌, ◌++◌, take, Option, Some, None}
+use Rattle.std.proofs.Common.{◌≡◌, ℕ, ◌+◌, ◌-◌, ◌*◌, ◌^◌, min, Bool, true, false, ◌||◌, List, [], ◌∷◌, ◌++◌, take, Option, Some, None}
 use Rattle.std.proofs.Common.{Result, Ok, Err, IfOk, IfSome, refl, ap, ◌∙◌, sym, subst, append_assoc, arith, inl, inr}
 use Rattle.std.specs.Prelude.{nat_eq, if◌then◌else◌}
 use Rattle.std.specs.declared.alloc.AllocError.{AllocError}
 use Rattle.std.specs.Global.{Vec}
-use Rattle.std.proofs.lemmas.Bool.{eqb-true}
+use Rattle.std.proofs.lemmas.Bool.{eqb-true, and_right}
 use Rattle.std.proofs.lemmas.Bool.Decides.{nat_tests, eqb_tells}
 use Rattle.rank_grammar.specs.declared.token.Operator.TheVariants.{Add, Subtract, Multiply, Divide, Remainder}
 use Rattle.rank_grammar.specs.declared.token.Operator.TheVariants.{Equal, NotEqual, Less, LessEqual, Greater, GreaterEqual}
@@ -223,14 +223,9 @@ grows_standing (sign c) front b h =
 grows_standing (whole token) front b h = tt
 
 -- a test that always fails stops at once
-never : (test : ℕ → Bool) → ((b : ℕ) → test b ≡ false) → (line : List ℕ) → StopsAt test line
-never test h [] = tt
-never test h (b ∷ bs) = h b
-
--- two tests of which the second fails
-and_failed : (x y : Bool) → y ≡ false → (x && y) ≡ false
-and_failed true y e = e
-and_failed false y e = refl
+pub stops_never : (test : ℕ → Bool) → ((b : ℕ) → test b ≡ false) → (line : List ℕ) → StopsAt test line
+stops_never test h [] = tt
+stops_never test h (b ∷ bs) = h b
 
 -- a word that doesn't grow is as long as it can be
 word_ends : (w line : List ℕ) → Stops (word w) line → StopsAt is_word_byte line
@@ -245,7 +240,7 @@ number_ends n (b ∷ bs) h = failed_where (is_digit b) (digits (with_digit n b))
 -- a sign that doesn't grow is as long as it can be
 sign_ends : (c : ℕ) (line : List ℕ) → Stops (sign c) line → StopsAt (extends (c ∷ [])) line
 sign_ends c [] h = tt
-sign_ends c (b ∷ bs) h = and_failed (nat_eq c 61 || nat_eq c 60 || nat_eq c 62) (nat_eq b 61) (failed_where (nat_eq b 61) (whole (with_equal c)) h)
+sign_ends c (b ∷ bs) h = and_right (nat_eq c 61 || nat_eq c 60 || nat_eq c 62) (nat_eq b 61) (failed_where (nat_eq b 61) (whole (with_equal c)) h)
 
 -- a symbol, and the tokens of the rest
 symbol_ends : (o : Option Token) (front line : List ℕ) (ts : List Token) → SymbolIs o front → StopsAt (extends front) line → Lexes line ts
@@ -264,7 +259,7 @@ finishes (digits n) front line ts h s d =
 finishes (sign c) front line ts h s d =
     subst (λ f. LexedIs (and_after (listed (lone_sign c)) (Some ts)) (f ++ line)) (sym h.1)
     (symbol_ends (lone_sign c) (c ∷ []) line ts (lone_is c) (sign_ends c line s) d)
-finishes (whole token) front line ts h s d = is_symbol front line h.0 (never (extends front) h.1 line) d
+finishes (whole token) front line ts h s d = is_symbol front line h.0 (stops_never (extends front) h.1 line) d
 
 -- the same, where the rest may have no tokens
 finished : (p : Pending) (front line : List ℕ) (o : Option (List Token)) → Stands p front → Stops p line → LexedIs o line

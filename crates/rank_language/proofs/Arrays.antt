@@ -1,12 +1,13 @@
 -- The arrays of a whole program stand at their places: an array is put last where none of its name stands yet, and later ones
 -- stand behind it.
-use Rattle.std.proofs.Common.{◌≡◌, ℕ, suc, ◌+◌, List, [], ◌∷◌, ◌++◌, length, map, Bool, true, false}
+use Rattle.std.proofs.Common.{◌≡◌, ℕ, suc, ◌+◌, List, [], ◌∷◌, ◌++◌, length, map, true, false}
 use Rattle.std.proofs.Common.{cond, ◌||◌, Some, refl, ap, ◌∙◌, sym, arith, append_assoc, append-nil}
 use Rattle.std.specs.Prelude.{slice_index_or}
 use Rattle.std.specs.List.{position_from}
 use Rattle.std.specs.Str.{bytes_eq}
 use Rattle.std.proofs.lemmas.Slice.Eq.{bytes_eq-Decides}
 use Rattle.std.proofs.lemmas.Iterator.Adapters.{position_from-zero}
+use Rattle.std.proofs.lemmas.Bool.{or_parts}
 use Rattle.rank_grammar.specs.Forms.{Form, var_form, array_form, let_form, item_form, if_form, else_form, end_form, while_form}
 use Rattle.rank_grammar.specs.Forms.{send_form, recv_form, probe_form, try_probe_form, print_form, barrier_form, bcast_form, reduce_form}
 use Rattle.rank_checker.specs.Scope.{Scope, nothing_yet, is_name_in, is_variable, is_array, after, after_all, MayStand, AllMayStand, IsWhole}
@@ -77,11 +78,6 @@ arrays_go_on s (f ∷ fs) =
     let (bs, q) = arrays_go_on (after s f) fs in
     (added f ++ bs, q ∙ ap (λ z. z ++ bs) (after_arrays s f) ∙ append_assoc s.arrays (added f) bs)
 
--- what is no part of a disjunction that fails
-neither : (a b : Bool) → (a || b) ≡ false → b ≡ false
-neither true b h = cc
-neither false b h = h
-
 -- an array that is declared where none of its name is stands at its place behind all statements
 declared_there : (s : Scope) (x : List ℕ) (n : ℕ) (fs : List Form) → MayStand s (array_form x n) → (p : ℕ)
     → array_place (after_all (after s (array_form x n)) fs) x ≡ Some p → array_at (after_all (after s (array_form x n)) fs) p ≡ (x, n)
@@ -92,7 +88,7 @@ declared_there s x n fs h p q =
     let found : place_in (map (λ a. a.0) end.arrays) x ≡ Some (length s.arrays) =
     ap (λ z. place_in (map (λ a. a.0) z) x) all
     ∙ position_from-zero (λ y. bytes_eq y x) (map (λ a. a.0) (s.arrays ++ (x, n) ∷ bs))
-    ∙ behind_from s.arrays bs x n 0 (neither (is_variable s x) (is_array s x) h.once)
+    ∙ behind_from s.arrays bs x n 0 (or_parts (is_variable s x) (is_array s x) h.once).1
     ∙ ap Some (let k : 0 + length s.arrays ≡ length s.arrays = omega arith in k) in
     let same : Some (length s.arrays) ≡ Some p = sym found ∙ q in
     let place : length s.arrays ≡ p = cc in

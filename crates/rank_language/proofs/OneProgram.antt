@@ -1,6 +1,7 @@
 -- A text has one program at the most: it has one list of statements, those have one list of resolved ones, and these
 -- have one tree, which says where each line leads.
-use Rattle.std.proofs.Common.{◌≡◌, ℕ, List, Some, map, ap, ◌∙◌, sym, subst}
+use Rattle.std.proofs.Common.{◌≡◌, ℕ, List, map, ap, ◌∙◌, sym, subst}
+use Rattle.std.proofs.lemmas.Option.{same_Some}
 use Rattle.rank_grammar.specs.Forms.{Form}
 use Rattle.rank_language.specs.Block.{Line, lines_at}
 use Rattle.rank_language.specs.Shape.{step_of, block_of_steps}
@@ -10,10 +11,6 @@ use Rattle.rank_checker.specs.Faults.{IsFaultOf}
 use Rattle.rank_checker.proofs.TextLaws.{one_program as one_list, program_or_fault as list_or_fault}
 use Rattle.rank_language.specs.Correct.{IsOfForms, IsProgramOf}
 
--- options with equal values have one value
-same_some : {A : Type 0} (a b : A) → Some a ≡ Some b → a ≡ b
-same_some a b h = cc
-
 -- a program of these parts
 abbrev value_with : List Line → List (List ℕ) → List (List ℕ × ℕ) → ProgramValue
 value_with ls xs as' = record { statements = ls; variables = xs; arrays = as' }
@@ -21,7 +18,7 @@ value_with ls xs as' = record { statements = ls; variables = xs; arrays = as' }
 -- the program of some statements is one
 pub one_of_forms : (fs : List Form) (p q : ProgramValue) → IsOfForms fs p → IsOfForms fs q → p ≡ q
 one_of_forms fs p q g h =
-    let steps : map step_of p.statements ≡ map step_of q.statements = same_some _ _ (sym g.statements ∙ h.statements) in
+    let steps : map step_of p.statements ≡ map step_of q.statements = same_Some _ _ (sym g.statements ∙ h.statements) in
     let lines : p.statements ≡ q.statements = g.targets ∙ ap (λ ss. lines_at 0 (block_of_steps ss)) steps ∙ sym h.targets in
     let variables : p.variables ≡ q.variables = g.variables ∙ sym h.variables in
     let arrays : p.arrays ≡ q.arrays = g.arrays ∙ sym h.arrays in

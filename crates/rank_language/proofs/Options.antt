@@ -1,5 +1,5 @@
 -- What a value that came through options says of them.
-use Rattle.std.proofs.Common.{◌≡◌, ℕ, Bool, true, false, ◌&&◌, ◌||◌, Option, Some, None, option_map, refl, subst}
+use Rattle.std.proofs.Common.{◌≡◌, ℕ, Bool, true, false, ◌||◌, Option, Some, None, option_map, refl, subst}
 use Rattle.rank_grammar.specs.Forms.{◌>>=◌}
 use Rattle.rank_language.specs.Resolved.{either_place}
 
@@ -12,18 +12,6 @@ mapped f (Some a) b h = (a, refl, cc)
 pub gone_on : {A B : Type 0} (f : A → Option B) (o : Option A) (b : B) → (o >>= f) ≡ Some b → (a : A) × (o ≡ Some a) × (f a ≡ Some b)
 gone_on f None b h = cc
 gone_on f (Some a) b h = (a, refl, h)
-
--- both parts of a conjunction hold
-pub both : (a b : Bool) → (a && b) ≡ true → (a ≡ true) × (b ≡ true)
-both true true h = (refl, refl)
-both true false h = cc
-both false b h = cc
-
--- a conjunction of what holds holds
-pub joined : (a b : Bool) → a ≡ true → b ≡ true → (a && b) ≡ true
-joined true true h k = refl
-joined true false h k = k
-joined false b h k = h
 
 -- one part of a disjunction holds, so one part of another holds
 pub either : (a b c d : Bool) → (a ≡ true → c ≡ true) → (b ≡ true → d ≡ true) → (a || b) ≡ true → (c || d) ≡ true

@@ -36,7 +36,7 @@ stands_back at n [] ys h = moved at n (n + 0) ys (omega arith) h
 stands_back at n (x ∷ xs) ys h = moved at (n + 1 + length xs) (n + length (x ∷ xs)) ys (omega arith) (stands_back at (n + 1) xs ys h.1)
 
 -- a list has as many places as lines
-length-places : (b k : Block) → length (places b k) ≡ size b
+pub length-places : (b k : Block) → length (places b k) ≡ size b
 length-places done k = refl
 length-places (plain s r) k = omega (arith, length-places r k)
 length-places (if_only e y r) k =

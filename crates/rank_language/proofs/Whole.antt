@@ -5,6 +5,7 @@ use Rattle.std.proofs.Common.{◌≡◌, ℕ, ◌≤◌, List, [], ◌∷◌, �
 use Rattle.std.specs.Str.{bytes_eq}
 use Rattle.std.proofs.lemmas.Slice.Eq.{bytes_eq-Decides}
 use Rattle.std.proofs.lemmas.Bool.Decides.{nat_tests}
+use Rattle.std.proofs.lemmas.Bool.{and_parts, and_from}
 use Rattle.rank_grammar.specs.Tree.{Tree, number, variable, item, reading, negation, operation}
 use Rattle.rank_grammar.specs.Forms.{Pattern, any, value, Payload, lone, one}
 use Rattle.rank_grammar.specs.Forms.{Form, var_form, array_form, let_form, item_form, if_form, else_form, end_form, while_form}
@@ -16,7 +17,7 @@ use Rattle.rank_language.specs.Program.{AllSized}
 use Rattle.rank_language.specs.Resolved.{form_resolved, all_resolved}
 use Rattle.rank_language.specs.Resolvable.{AllResolvable, declares_in}
 use Rattle.rank_language.specs.Ends.{kind_of}
-use Rattle.rank_language.proofs.Options.{gone_on, both, joined, either}
+use Rattle.rank_language.proofs.Options.{gone_on, either}
 use Rattle.rank_language.proofs.Spread.{blocks_after, strays, Balanced}
 use Rattle.rank_language.proofs.Resolving.{becomes}
 
@@ -39,13 +40,13 @@ tree_grows : (s t : Scope) → Grows s t → (e : Tree) → all_declared s e ≡
 tree_grows s t g (number n) h = refl
 tree_grows s t g (variable x) h = g.variables x h
 tree_grows s t g (item x e) h =
-    let (a, b) = both (is_array s x) (all_declared s e) h in
-    joined (is_array t x) (all_declared t e) (g.arrays x a) (tree_grows s t g e b)
+    let (a, b) = and_parts (is_array s x) (all_declared s e) h in
+    and_from (is_array t x) (all_declared t e) (g.arrays x a) (tree_grows s t g e b)
 tree_grows s t g (reading r) h = refl
 tree_grows s t g (negation e) h = tree_grows s t g e h
 tree_grows s t g (operation o d e) h =
-    let (a, b) = both (all_declared s d) (all_declared s e) h in
-    joined (all_declared t d) (all_declared t e) (tree_grows s t g d a) (tree_grows s t g e b)
+    let (a, b) = and_parts (all_declared s d) (all_declared s e) h in
+    and_from (all_declared t d) (all_declared t e) (tree_grows s t g d a) (tree_grows s t g e b)
 
 -- a pattern's names stay declared
 pattern_grows : (s t : Scope) → Grows s t → (c : Pattern) → pattern_declared s c ≡ true → pattern_declared t c ≡ true
@@ -61,46 +62,46 @@ payload_grows s t g (one e) h = tree_grows s t g e h
 form_grows : (s t : Scope) → Grows s t → (f : Form) → declared_in s f ≡ true → declared_in t f ≡ true
 form_grows s t g (var_form x) h = refl
 form_grows s t g (let_form x e) h =
-    let (a, b) = both (is_variable s x) (all_declared s e) h in
-    joined (is_variable t x) (all_declared t e) (g.variables x a) (tree_grows s t g e b)
+    let (a, b) = and_parts (is_variable s x) (all_declared s e) h in
+    and_from (is_variable t x) (all_declared t e) (g.variables x a) (tree_grows s t g e b)
 form_grows s t g (array_form x n) h = refl
 form_grows s t g (item_form x i e) h =
-    let (ab, c) = both (is_array s x && all_declared s i) (all_declared s e) h in
-    let (a, b) = both (is_array s x) (all_declared s i) ab in
-    joined (is_array t x && all_declared t i) (all_declared t e)
-    (joined (is_array t x) (all_declared t i) (g.arrays x a) (tree_grows s t g i b)) (tree_grows s t g e c)
+    let (ab, c) = and_parts (is_array s x && all_declared s i) (all_declared s e) h in
+    let (a, b) = and_parts (is_array s x) (all_declared s i) ab in
+    and_from (is_array t x && all_declared t i) (all_declared t e)
+    (and_from (is_array t x) (all_declared t i) (g.arrays x a) (tree_grows s t g i b)) (tree_grows s t g e c)
 form_grows s t g (if_form e) h = tree_grows s t g e h
 form_grows s t g (while_form e) h = tree_grows s t g e h
 form_grows s t g else_form h = refl
 form_grows s t g end_form h = refl
 form_grows s t g (send_form d e p) h =
-    let (ab, c) = both (all_declared s d && all_declared s e) (payload_declared s p) h in
-    let (a, b) = both (all_declared s d) (all_declared s e) ab in
-    joined (all_declared t d && all_declared t e) (payload_declared t p)
-    (joined (all_declared t d) (all_declared t e) (tree_grows s t g d a) (tree_grows s t g e b)) (payload_grows s t g p c)
+    let (ab, c) = and_parts (all_declared s d && all_declared s e) (payload_declared s p) h in
+    let (a, b) = and_parts (all_declared s d) (all_declared s e) ab in
+    and_from (all_declared t d && all_declared t e) (payload_declared t p)
+    (and_from (all_declared t d) (all_declared t e) (tree_grows s t g d a) (tree_grows s t g e b)) (payload_grows s t g p c)
 form_grows s t g (recv_form r e x) h =
-    let (ab, c) = both (pattern_declared s r && pattern_declared s e) (is_declared s x) h in
-    let (a, b) = both (pattern_declared s r) (pattern_declared s e) ab in
-    joined (pattern_declared t r && pattern_declared t e) (is_declared t x)
-    (joined (pattern_declared t r) (pattern_declared t e) (pattern_grows s t g r a) (pattern_grows s t g e b)) (declared_grows s t g x c)
+    let (ab, c) = and_parts (pattern_declared s r && pattern_declared s e) (is_declared s x) h in
+    let (a, b) = and_parts (pattern_declared s r) (pattern_declared s e) ab in
+    and_from (pattern_declared t r && pattern_declared t e) (is_declared t x)
+    (and_from (pattern_declared t r) (pattern_declared t e) (pattern_grows s t g r a) (pattern_grows s t g e b)) (declared_grows s t g x c)
 form_grows s t g (probe_form r e) h =
-    let (a, b) = both (pattern_declared s r) (pattern_declared s e) h in
-    joined (pattern_declared t r) (pattern_declared t e) (pattern_grows s t g r a) (pattern_grows s t g e b)
+    let (a, b) = and_parts (pattern_declared s r) (pattern_declared s e) h in
+    and_from (pattern_declared t r) (pattern_declared t e) (pattern_grows s t g r a) (pattern_grows s t g e b)
 form_grows s t g (try_probe_form r e x) h =
-    let (ab, c) = both (pattern_declared s r && pattern_declared s e) (is_variable s x) h in
-    let (a, b) = both (pattern_declared s r) (pattern_declared s e) ab in
-    joined (pattern_declared t r && pattern_declared t e) (is_variable t x)
-    (joined (pattern_declared t r) (pattern_declared t e) (pattern_grows s t g r a) (pattern_grows s t g e b)) (g.variables x c)
+    let (ab, c) = and_parts (pattern_declared s r && pattern_declared s e) (is_variable s x) h in
+    let (a, b) = and_parts (pattern_declared s r) (pattern_declared s e) ab in
+    and_from (pattern_declared t r && pattern_declared t e) (is_variable t x)
+    (and_from (pattern_declared t r) (pattern_declared t e) (pattern_grows s t g r a) (pattern_grows s t g e b)) (g.variables x c)
 form_grows s t g (print_form e) h = tree_grows s t g e h
 form_grows s t g barrier_form h = refl
 form_grows s t g (bcast_form r x) h =
-    let (a, b) = both (all_declared s r) (is_declared s x) h in
-    joined (all_declared t r) (is_declared t x) (tree_grows s t g r a) (declared_grows s t g x b)
+    let (a, b) = and_parts (all_declared s r) (is_declared s x) h in
+    and_from (all_declared t r) (is_declared t x) (tree_grows s t g r a) (declared_grows s t g x b)
 form_grows s t g (reduce_form o r e x) h =
-    let (ab, c) = both (all_declared s r && all_declared s e) (is_variable s x) h in
-    let (a, b) = both (all_declared s r) (all_declared s e) ab in
-    let parts = joined (all_declared t r) (all_declared t e) (tree_grows s t g r a) (tree_grows s t g e b) in
-    joined (all_declared t r && all_declared t e) (is_variable t x) parts (g.variables x c)
+    let (ab, c) = and_parts (all_declared s r && all_declared s e) (is_variable s x) h in
+    let (a, b) = and_parts (all_declared s r) (all_declared s e) ab in
+    let parts = and_from (all_declared t r) (all_declared t e) (tree_grows s t g r a) (tree_grows s t g e b) in
+    and_from (all_declared t r && all_declared t e) (is_variable t x) parts (g.variables x c)
 
 -- a name that stands in a table stands in a longer one
 named_longer : (xs ys : List (List ℕ)) (x : List ℕ) → is_name_in xs x ≡ true → is_name_in (xs ++ ys) x ≡ true

@@ -1,6 +1,6 @@
 -- What an act leaves of a machine: the limits, and at which part of a collective it stands. And what a machine asks for that
 -- stands at a collective: a part of the call, which doesn't fault.
-use Rattle.std.proofs.Common.{◌≡◌, ℕ, ℤ, ◌+◌, ◌<◌, ◌≤◌, Bool, true, false, not, Ok, Err, Option, Some}
+use Rattle.std.proofs.Common.{◌≡◌, ℕ, ℤ, ◌+◌, ◌<◌, ◌≤◌, Bool, true, false, Ok, Err, Option, Some}
 use Rattle.std.proofs.Common.{None, length, map, refl, sym, ap, subst, ◌∙◌, arith, slice_get, if◌then◌else◌}
 use Rattle.std.proofs.lemmas.List.{length-map, length-set}
 use Rattle.limits.specs.Limits.{greatest_tag, most_items}
@@ -14,7 +14,7 @@ use Rattle.rank_machine.specs.Values.{Store, Valued, ◌>>=◌}
 use Rattle.rank_machine.specs.Collectives.{Call, called, part_of, is_last, counted, part_done, greatest_ordinal}
 use Rattle.rank_machine.specs.Acts.{Message, with_variable, with_status}
 use Rattle.rank_machine.specs.Wants.{part_want, collective_want, or_fault, want_of}
-use Rattle.rank_machine.specs.Machine.{MachineValue, line_at, machine_want_at, machine_want, next_of, call_at, HasStage, IsAtLine, IsWithinLimits, IsMachine}
+use Rattle.rank_machine.specs.Machine.{MachineValue, line_at, machine_want_at, machine_want, call_at, HasStage, IsAtLine, IsWithinLimits, IsMachine}
 use Rattle.rank_machine.proofs.Going.{IsNoCollectiveLine, after_part}
 use Rattle.rank_machine.proofs.Stages.{fresh}
 
@@ -50,15 +50,6 @@ pub call_stage : (s : Store) (c : Collective) (o : Option Line) (call : Call) �
 call_stage s c o call at e h =
     let f : call_at s o ≡ Some call = rw (at, e) refl in
     subst (HasStage s) f h
-
--- where a machine goes from a collective that stands
-pub goes_from : (m : MachineValue) (c : Collective) (call : Call) → line_at m ≡ Some (simple_line (collect c)) → called m.store c ≡ Ok call
-    → after_part (is_last m.store call) m.position ≡ next_of m
-goes_from m c call at e = rw (at, e) (turned (is_last m.store call))
-  where
-    turned : (t : Bool) → after_part t m.position ≡ (if not t then m.position else m.position + 1)
-    turned true = refl
-    turned false = refl
 
 -- what holds of what a collective asks for, and of no fault, holds of the part of a call
 pub record IsCalling (P : Want → Type 0) (m : MachineValue) (c : Collective) : Type 0 where

@@ -129,7 +129,7 @@ kept_last s (broadcast e (into_array p)) call items = refl
 kept_last s (reduce f e v p) call items = refl
 
 -- so the rank stays below the size
-kept_below : (s : Store) (c : Collective) (items : List ℤ) → s.rank < s.size → (kept c items s).rank < (kept c items s).size
+pub kept_below : (s : Store) (c : Collective) (items : List ℤ) → s.rank < s.size → (kept c items s).rank < (kept c items s).size
 kept_below s barrier items l = l
 kept_below s (broadcast e (into_variable p)) [] l = l
 kept_below s (broadcast e (into_variable p)) (x ∷ items) l = l

@@ -1,5 +1,5 @@
 -- What a send that is made again keeps: nothing waits, so nothing is held, and its packet is counted like any other.
-use Rattle.std.specs.Prelude.{◌≡◌, ℕ, zero, suc, true, ◌+◌, ◌<◌, ◌≢◌, List, [], ◌∷◌, length, slice_set, slice_index_or, drop}
+use Rattle.std.specs.Prelude.{◌≡◌, ℕ, zero, suc, true, ◌+◌, ◌<◌, ◌≢◌, List, [], ◌∷◌, length, slice_index_or, drop}
 use Rattle.std.proofs.Common.{refl, ap, ◌∙◌, arith}
 use Rattle.std.proofs.lemmas.List.{nil_from_length}
 use Rattle.payload_log.specs.Backlog.{BacklogValue, backlog}
@@ -17,15 +17,6 @@ none_held log waiting held settled d = nil_from_length (backlog log d).held (hel
 pub settled_nil : (waiting : List Waiting) → is_settled waiting ≡ true → waiting ≡ []
 settled_nil [] settled = refl
 settled_nil (x ∷ xs) settled = absurd cc
-
--- a backlog that holds what stood at its place before leaves what is held for each destination
-pub held_stays : (log : List BacklogValue) (dest : ℕ) (b : BacklogValue) → b.held ≡ (backlog log dest).held
-    → (d : ℕ) → (backlog (slice_set log dest b) d).held ≡ (backlog log d).held
-held_stays [] dest b same d = refl
-held_stays (x ∷ log) zero b same zero = same
-held_stays (x ∷ log) zero b same (suc d) = refl
-held_stays (x ∷ log) (suc dest) b same zero = refl
-held_stays (x ∷ log) (suc dest) b same (suc d) = held_stays log dest b same d
 
 -- the events that are left begin with the next one
 pub left_is : (n : ℕ) (es : List EventValue) (e : EventValue) (rest : List EventValue) → drop n es ≡ e ∷ rest → (d : EventValue) → slice_index_or es n d ≡ e

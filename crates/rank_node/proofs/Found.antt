@@ -1,11 +1,10 @@
 -- What a receive takes and a probe is shown is what was found: the first packet that the selector names is found at its
 -- index, and the machine was given or shown just that one.
-use Rattle.std.specs.Prelude.{◌≡◌, ℕ, ◌<◌, Bool, List, length, Option, Some, None, is_some, IfSome, slice_get, slice_index_or, option_and_then, position}
-use Rattle.std.proofs.Common.{Bor, ap, refl, sym, subst, ◌∙◌}
+use Rattle.std.specs.Prelude.{◌≡◌, ℕ, ◌<◌, Bool, List, length, Option, Some, slice_get, slice_index_or, option_and_then, position}
+use Rattle.std.proofs.Common.{ap, sym, subst, ◌∙◌}
 use Rattle.std.proofs.lemmas.Option.{slice_get-get_or, slice_get_within}
 use Rattle.matching.specs.Inbox.{Mailbox, IsMailbox}
 use Rattle.matching.specs.PacketValue.{PacketValue}
-use Rattle.matching.specs.Queue.{first_place}
 use Rattle.rank_machine.specs.Acts as acts
 use Rattle.rank_machine.specs.Machine.{MachineValue, state_of, next_of, received_at, KeepsRank}
 use Rattle.rank_node.specs.Steps.{at_index, TakesFound, IsShownFound, TriesFound, WasShown}
@@ -36,12 +35,6 @@ was_shown test ms i m old new first there state position stays =
     let P : Option (ℕ × PacketValue) → Type 0 = λ f. IsShownFound f old new × TriesFound f old new in
     let shown : WasShown m old new = record { state = state; position = position; stays = stays } in
     subst P (sym (found-at test ms i m first there)) (shown, shown)
-
--- a packet is shown exactly where one passes the test
-pub shown-position : (test : PacketValue → Bool) (ms : List PacketValue) (shown : Option (Bor PacketValue)) → (shown ≡ None → position test ms ≡ None)
-    → IfSome shown (λ _. position test ms ≡ Some (first_place test ms)) → is_some shown ≡ is_some (position test ms)
-shown-position test ms None none first = ap is_some (sym (none refl))
-shown-position test ms (Some m) none first = ap is_some (sym first)
 
 -- a packet that lies in the inbox was sent by one of the ranks
 pub accepted_source : (box : Mailbox) (i : ℕ) (m : PacketValue) → IsMailbox box → slice_get box.packets i ≡ Some m → m.source < length box.accepted

@@ -1,12 +1,11 @@
 -- What waits at the gate, as it grows at its end and shrinks at its front: how many effects there are, how many sends to a
 -- rank, and that the first of it are events.
 use Rattle.std.proofs.Common.{◌≡◌, ℕ, zero, suc, ◌+◌, ◌-◌, ◌<◌, ◌≤◌, Bool, true, false, ◌==◌, if◌then◌else◌, List, [], ◌∷◌, ◌++◌}
-use Rattle.std.proofs.Common.{length, drop, slice_get, option_and_then, refl, subst, arith}
+use Rattle.std.proofs.Common.{length, drop, slice_get, option_and_then, subst, arith}
 use Rattle.std.specs.Prelude.{IsSome}
 use Rattle.rank_node.specs.declared.waiting.Waiting.{Waiting}
 use Rattle.rank_node.specs.declared.waiting.Waiting.TheVariants.{Event, Send, Line}
 use Rattle.rank_node.specs.Waiting.{effects, sends_to, event_in, BeginsWithEvents}
-use Rattle.rank_node.specs.Releasing.{effect_of}
 
 -- ---- how many effects wait
 
@@ -18,13 +17,6 @@ effects_push (Send d c ∷ xs) y =
     (let z = effects_push xs y in let q : suc (effects (xs ++ y ∷ [])) ≡ suc (effects xs) + effects (y ∷ []) = omega (arith, z) in q)
 effects_push (Line c v ∷ xs) y =
     (let z = effects_push xs y in let q : suc (effects (xs ++ y ∷ [])) ≡ suc (effects xs) + effects (y ∷ []) = omega (arith, z) in q)
-
--- where an effect stands first there is one more than behind it
-pub effects_release : (xs : List Waiting) → IsSome (option_and_then effect_of (slice_get xs 0)) → effects xs ≡ effects (drop 1 xs) + 1
-effects_release [] some = absurd cc
-effects_release (Event e ∷ xs) some = absurd cc
-effects_release (Send d c ∷ xs) some = (let z : suc (effects xs) ≡ effects xs + 1 = omega arith in z)
-effects_release (Line c v ∷ xs) some = (let z : suc (effects xs) ≡ effects xs + 1 = omega arith in z)
 
 -- ---- how many sends to a rank wait
 
@@ -79,12 +71,6 @@ begins_more (suc k) (Event x ∷ xs) b f =
 begins_more (suc k) (Send d c ∷ xs) b f = absurd b
 begins_more (suc k) (Line c v ∷ xs) b f = absurd b
 
--- there is one more behind them, where there is an event right behind them
-pub unstored_within : (k : ℕ) (xs : List Waiting) → IsSome (option_and_then event_in (slice_get xs k)) → k < length xs
-unstored_within k [] f = absurd cc
-unstored_within zero (x ∷ xs) f = omega arith
-unstored_within (suc k) (x ∷ xs) f = (let z = unstored_within k xs f in omega (arith, z))
-
 -- the first of them goes
 pub begins_less : (k : ℕ) (xs : List Waiting) → BeginsWithEvents k xs → BeginsWithEvents (k - 1) (drop 1 xs)
 begins_less zero xs b = tt
@@ -93,27 +79,3 @@ begins_less (suc k) (Event e ∷ []) b = subst (λ z. BeginsWithEvents z []) (le
 begins_less (suc k) (Event e ∷ (y ∷ xs)) b = subst (λ z. BeginsWithEvents z (y ∷ xs)) (let z : k ≡ suc k - 1 = omega arith in z) b
 begins_less (suc k) (Send d c ∷ xs) b = absurd b
 begins_less (suc k) (Line c v ∷ xs) b = absurd b
-
--- where there is one of them an event stands first, so that as many effects stand behind it
-pub effects_acked : (k : ℕ) (xs : List Waiting) → 0 < k → BeginsWithEvents k xs → effects (drop 1 xs) ≡ effects xs
-effects_acked zero xs l b = absurd (omega (arith, l))
-effects_acked (suc k) [] l b = absurd b
-effects_acked (suc k) (Event e ∷ xs) l b = refl
-effects_acked (suc k) (Send d c ∷ xs) l b = absurd b
-effects_acked (suc k) (Line c v ∷ xs) l b = absurd b
-
--- and as many sends to each rank
-pub sends_to_acked : (d k : ℕ) (xs : List Waiting) → 0 < k → BeginsWithEvents k xs → sends_to d (drop 1 xs) ≡ sends_to d xs
-sends_to_acked d zero xs l b = absurd (omega (arith, l))
-sends_to_acked d (suc k) [] l b = absurd b
-sends_to_acked d (suc k) (Event e ∷ xs) l b = refl
-sends_to_acked d (suc k) (Send e c ∷ xs) l b = absurd b
-sends_to_acked d (suc k) (Line c v ∷ xs) l b = absurd b
-
--- where an effect stands first there is none of them
-pub begins_release : (k : ℕ) (xs : List Waiting) → IsSome (option_and_then effect_of (slice_get xs 0)) → BeginsWithEvents k xs → BeginsWithEvents k (drop 1 xs)
-begins_release zero xs f b = tt
-begins_release (suc k) [] f b = absurd b
-begins_release (suc k) (Event e ∷ xs) f b = absurd cc
-begins_release (suc k) (Send d c ∷ xs) f b = absurd b
-begins_release (suc k) (Line c v ∷ xs) f b = absurd b

@@ -1,8 +1,7 @@
 -- What an image says of a rank, and where a rank that starts again stands.
 use Rattle.std.proofs.Common.{◌≡◌, ℕ, zero, suc, ◌+◌, ◌<◌, ◌≤◌, ◌⊎◌, inl, inr, List, [], ◌∷◌, ◌++◌}
-use Rattle.std.proofs.Common.{length, map, take, slice_set, slice_index, slice_index_or, Option, refl, sym, ap, subst, ◌∙◌, arith}
+use Rattle.std.proofs.Common.{length, take, slice_set, slice_index, slice_index_or, Option, refl, sym, ap, subst, ◌∙◌, arith}
 use Rattle.std.specs.Prelude.{All}
-use Rattle.std.specs.List.{flat_map}
 use Rattle.std.proofs.lemmas.Bool.{cases_lt}
 use Rattle.std.proofs.Math.Numerals.{add-one}
 use Rattle.std.proofs.lemmas.List.{length-replicate, get_or_past}
@@ -12,9 +11,10 @@ use Rattle.matching.specs.PacketValue.{PacketValue}
 use Rattle.payload_log.specs.Backlog.{BacklogValue, backlog, new_backlog}
 use Rattle.payload_log.specs.Sender.{IsSentBy}
 use Rattle.rank_language.specs.Program.{ProgramValue}
-use Rattle.checkpoint.specs.Image.{ImageValue, rewound, at_rest}
+use Rattle.checkpoint.specs.Image.{ImageValue, at_rest}
 use Rattle.checkpoint.specs.Savable.{IsSavable}
 use Rattle.checkpoint.specs.Spelling.{spelling, text_in, lane}
+use Rattle.checkpoint.proofs.Whole.{lanes_rest}
 use Rattle.rank_node.specs.declared.due.Due.{Due}
 use Rattle.rank_node.specs.Stored.{Stored}
 use Rattle.rank_node.specs.Node.{Node, IsNode}
@@ -56,12 +56,6 @@ savable_held log settled d = go (cases_lt d (length log))
     go (inr past) = ap (λ (b : BacklogValue). length b.held) (get_or_past log d new_backlog past)
 
 -- ---- the bytes
-
--- cursors aren't in the bytes, nor is what is held
-lanes_rest : (log : List BacklogValue) → flat_map lane (map rewound log) ≡ flat_map lane log
-unfolding lane
-lanes_rest [] = refl
-lanes_rest (b ∷ log) = ap (λ bytes. lane b ++ bytes) (lanes_rest log)
 
 -- so an image is spelled as it will be read
 pub spelling_rest : (i : ImageValue) → spelling (at_rest i) ≡ spelling i

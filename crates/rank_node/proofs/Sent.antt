@@ -10,7 +10,7 @@ use Rattle.std.proofs.Math.Seq.{drop-append_seam}
 use Rattle.std.proofs.lemmas.List.Elements.{All-append, All-drop, All-get_or, All-nil, All-push, All-replicate, All-set, All-take, All-weaker}
 use Rattle.std.proofs.lemmas.List.Quantifiers.{all_pairs_push, all_pairs_remove}
 use Rattle.matching.specs.PacketValue.{PacketValue}
-use Rattle.payload_log.specs.Backlog.{BacklogValue, backlog, new_backlog, saved, hold, freed, freed_of, passed, asked, pruned}
+use Rattle.payload_log.specs.Backlog.{BacklogValue, backlog, new_backlog, saved, hold, freed, freed_of, pruned}
 use Rattle.payload_log.specs.Sender.{IsSentBy, WasBefore}
 
 -- ---- lists of packets
@@ -148,10 +148,6 @@ pruned_sent rank c b upto is = go (nat_lt b.base upto)
     go true = is_sent_by rank c (record b { base = upto; cursor = max b.cursor (upto + 1); kept = drop (upto - b.base) b.kept }) (fewer (upto - b.base)) is.acts
     go false = is
 
--- a cursor elsewhere
-at_cursor_sent : (rank c : ℕ) (b : BacklogValue) (cursor : ℕ) → IsSentBy rank c b → IsSentBy rank c (record b { cursor = cursor })
-at_cursor_sent rank c b cursor is = is_sent_by rank c (record b { cursor = cursor }) (are_sent rank c b is) is.acts
-
 -- ---- the whole payload log
 
 -- nothing was sent to any rank
@@ -190,17 +186,3 @@ pub log_pruned : (rank c : ℕ) (log : List BacklogValue) (dest upto : ℕ) → 
 log_pruned rank c log dest upto below all =
     All-set (IsSentBy rank c) log dest (pruned (backlog log dest) upto)
     (pruned_sent rank c (backlog log dest) upto (All-get_or (IsSentBy rank c) log dest new_backlog below all)) all
-
--- packets are asked for again
-pub log_asked : (rank c : ℕ) (log : List BacklogValue) (dest from : ℕ) → dest < length log → All (IsSentBy rank c) log
-    → All (IsSentBy rank c) (slice_set log dest (asked (backlog log dest) from))
-log_asked rank c log dest from below all =
-    All-set (IsSentBy rank c) log dest (asked (backlog log dest) from)
-    (at_cursor_sent rank c (backlog log dest) (asked (backlog log dest) from).cursor (All-get_or (IsSentBy rank c) log dest new_backlog below all)) all
-
--- the packet at the cursor has gone
-pub log_passed : (rank c : ℕ) (log : List BacklogValue) (dest : ℕ) → dest < length log → All (IsSentBy rank c) log
-    → All (IsSentBy rank c) (slice_set log dest (passed (backlog log dest)))
-log_passed rank c log dest below all =
-    All-set (IsSentBy rank c) log dest (passed (backlog log dest))
-    (at_cursor_sent rank c (backlog log dest) (passed (backlog log dest)).cursor (All-get_or (IsSentBy rank c) log dest new_backlog below all)) all

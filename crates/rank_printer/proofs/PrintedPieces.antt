@@ -2,10 +2,11 @@
 --
 -- A piece of text has its tokens in each line where what follows doesn't go on with its last word, number or sign
 -- (`Reads`), or in each line at all (`Closed`); pieces are put together from the left.
-use Rattle.std.proofs.Common.{◌≡◌, ℕ, Bool, true, false, ◌||◌, List, [], ◌∷◌, ◌++◌, take, codes}
+use Rattle.std.proofs.Common.{◌≡◌, ℕ, Bool, false, ◌||◌, List, [], ◌∷◌, ◌++◌, take, codes}
 use Rattle.std.proofs.Common.{Some, None, refl, ap, ◌∙◌, sym, subst, append_assoc, arith}
 use Rattle.std.specs.Prelude.{nat_eq}
 use Rattle.std.proofs.lemmas.List.{take_all}
+use Rattle.std.proofs.lemmas.Bool.{or_parts}
 use Rattle.rank_grammar.specs.declared.token.Operator.{Operator}
 use Rattle.rank_grammar.specs.declared.token.Operator.TheVariants.{Add, Subtract, Multiply, Divide, Remainder}
 use Rattle.rank_grammar.specs.declared.token.Operator.TheVariants.{Equal, NotEqual, Less, LessEqual, Greater, GreaterEqual}
@@ -18,6 +19,7 @@ use Rattle.rank_grammar.specs.Lexes.{is_add, is_subtract, is_multiply, is_divide
 use Rattle.rank_grammar.specs.Lexes.{is_open_parenthesis, is_close_parenthesis, is_open_bracket, is_close_bracket, is_comma, is_assign}
 use Rattle.rank_grammar.specs.Lexes.{is_less, is_greater, is_equal, is_not_equal, is_less_equal, is_greater_equal}
 use Rattle.rank_grammar.specs.Grammar.{minus}
+use Rattle.rank_grammar.proofs.LexLaws.{stops_never}
 use Rattle.rank_printer.specs.Canonical.{operator_text}
 use Rattle.rank_printer.proofs.Fitting.{IsShortName}
 
@@ -60,30 +62,15 @@ pub between : (a m b : List ℕ) (xs ms ys : List Token) → Reads a xs → Clos
 between a m b xs ms ys p q e r =
     subst (λ z. Reads (a ++ m ++ b) z) (append_assoc xs ms ys) (closed_then (a ++ m) b (xs ++ ms) ys (then_closed a m xs ms p q e) r)
 
--- where an `or` fails, its first test fails
-or_left_fails : (x y : Bool) → (x || y) ≡ false → x ≡ false
-or_left_fails true y q = q
-or_left_fails false y q = refl
-
--- and so does its second
-or_right_fails : (x y : Bool) → (x || y) ≡ false → y ≡ false
-or_right_fails true y q = absurd cc
-or_right_fails false y q = q
-
 -- what doesn't go on with anything doesn't go on with a word
 ends_word : (line : List ℕ) → Ends line → StopsAt is_word_byte line
 ends_word [] e = tt
-ends_word (b ∷ bs) e = or_left_fails (is_word_byte b) (nat_eq b 61) e
+ends_word (b ∷ bs) e = (or_parts (is_word_byte b) (nat_eq b 61) e).0
 
 -- nor with a number
 pub ends_number : (line : List ℕ) → Ends line → StopsAt is_digit line
 ends_number [] e = tt
-ends_number (b ∷ bs) e = or_right_fails (is_letter b) (is_digit b) (or_left_fails (is_word_byte b) (nat_eq b 61) e)
-
--- no byte goes on with what none goes on with
-stops_never : (test : ℕ → Bool) → ((b : ℕ) → test b ≡ false) → (line : List ℕ) → StopsAt test line
-stops_never test never [] = tt
-stops_never test never (b ∷ bs) = never b
+ends_number (b ∷ bs) e = (or_parts (is_letter b) (is_digit b) (or_parts (is_word_byte b) (nat_eq b 61) e).0).1
 
 -- a symbol that no byte makes longer
 symbol_closed : (w : List ℕ) (token : Token) → Symbol w token → ((b : ℕ) → extends w b ≡ false) → Closed w (token ∷ [])

@@ -1,13 +1,13 @@
 -- A statement that may stand where it does fits: its names are declared, so they are names that aren't too long, and its
 -- numbers and expressions are within their limits. No fault holds of a line that has it.
-use Rattle.std.proofs.Common.{◌≡◌, ℕ, ◌-◌, ◌^◌, ◌<◌, ◌≤◌, ◌⊎◌, inl, inr, Bool, true, false, ◌&&◌, ◌||◌, List, [], ◌∷◌, ◌++◌, length, map}
+use Rattle.std.proofs.Common.{◌≡◌, ℕ, ◌-◌, ◌^◌, ◌<◌, ◌≤◌, inl, inr, Bool, true, false, ◌&&◌, ◌||◌, List, [], ◌∷◌, ◌++◌, length, map}
 use Rattle.std.proofs.Common.{refl, sym, ap, subst, ◌∙◌, arith}
 use Rattle.std.specs.Prelude.{nat_le, nat_lt}
 use Rattle.std.specs.Str.{bytes_eq}
 use Rattle.std.proofs.lemmas.Slice.Eq.{bytes_eq-Decides}
-use Rattle.std.proofs.lemmas.Bool.{and_parts}
+use Rattle.std.proofs.lemmas.Bool.{and_parts, or_cases, or_parts}
 use Rattle.std.proofs.lemmas.Bool.Decides.{nat_tests}
-use Rattle.limits.specs.Limits.{most_lines, most_blocks, most_name_bytes, most_nodes, most_parentheses}
+use Rattle.limits.specs.Limits.{most_lines, most_blocks, most_nodes, most_parentheses}
 use Rattle.rank_grammar.specs.declared.token.Token.{Token}
 use Rattle.rank_grammar.specs.Tree.{Tree, number, variable, item, reading, negation, operation}
 use Rattle.rank_grammar.specs.Forms.{Pattern, any, value, Payload, lone, one}
@@ -22,6 +22,7 @@ use Rattle.rank_checker.specs.Scope.{all_declared, pattern_declared, payload_dec
 use Rattle.rank_checker.specs.Scope.{is_twice, is_stray, nodes, is_large, pattern_is_large, payload_is_large, has_large, deepest, is_past_table, is_over}
 use Rattle.rank_checker.specs.Scope.{is_great, pattern_is_great, payload_is_great, has_great_number, other_branch, outer, after, MayStand}
 use Rattle.rank_checker.proofs.LineLaws.{form_one}
+use Rattle.rank_checker.proofs.NameLaws.{short_variable, short_array}
 use Rattle.rank_printer.specs.Canonical.{depth_of, depth_after}
 use Rattle.rank_printer.proofs.Fitting.{IsShortName, IsPlain, IsFit, PatternFits, PayloadFits, FormFits}
 
@@ -33,16 +34,6 @@ AllShort (x ∷ xs) = IsShortName x × AllShort xs
 -- each declared name is one
 abbrev pub IsNamedWell : Scope → Type 0
 IsNamedWell s = AllShort s.variables × AllShort (map (λ a. a.0) s.arrays)
-
--- an `or` is true by one of its tests
-or_cases : (a b : Bool) → (a || b) ≡ true → (a ≡ true) ⊎ (b ≡ true)
-or_cases true b q = inl refl
-or_cases false b q = inr q
-
--- and false by both
-or_fails : (a b : Bool) → (a || b) ≡ false → (a ≡ false) × (b ≡ false)
-or_fails true b q = absurd cc
-or_fails false b q = (refl, q)
 
 -- a name among such names is one
 short_in : (ys : List (List ℕ)) (x : List ℕ) → AllShort ys → is_name_in ys x ≡ true → IsShortName x
@@ -81,7 +72,7 @@ plain_of s (reading r) h d g = tt
 plain_of s (negation e) h d g = plain_of s e h d g
 plain_of s (operation o a b) h d g =
     let p = and_parts (all_declared s a) (all_declared s b) d in
-    let q = or_fails (is_great a) (is_great b) g in
+    let q = or_parts (is_great a) (is_great b) g in
     (plain_of s a h p.0 q.0, plain_of s b h p.1 q.1)
 
 -- what isn't too large has no more nodes than an expression may have
@@ -104,14 +95,6 @@ payload_fits : (s : Scope) (p : Payload) → IsNamedWell s → payload_declared 
 payload_fits s (lone x) h d l g = declared_short s x h d
 payload_fits s (one e) h d l g = fit_of s e h d l g
 
--- a table that has room has it for a short name
-short_variable : (s : Scope) (x : List ℕ) → is_past_table s (var_form x) ≡ false → length x ≤ most_name_bytes
-short_variable s x q = grind (arith, nat_tests)
-
--- and for that of an array
-short_array : (s : Scope) (x : List ℕ) (n : ℕ) → is_past_table s (array_form x n) ≡ false → length x ≤ most_name_bytes
-short_array s x n q = grind (arith, nat_tests)
-
 -- a statement that may stand where it does fits
 pub fits_of : (s : Scope) (f : Form) → IsNamedWell s → MayStand s f → FormFits f
 fits_of s (var_form x) h m = (m.named, short_variable s x m.within)
@@ -122,8 +105,8 @@ fits_of s (let_form x e) h m =
 fits_of s (item_form x i e) h m =
     let p = and_parts (is_array s x && all_declared s i) (all_declared s e) m.declared in
     let q = and_parts (is_array s x) (all_declared s i) p.0 in
-    let l = or_fails (is_large i) (is_large e) m.sized in
-    let g = or_fails (is_great i) (is_great e) m.fitting in
+    let l = or_parts (is_large i) (is_large e) m.sized in
+    let g = or_parts (is_great i) (is_great e) m.fitting in
     (array_short s x h q.0, fit_of s i h q.1 l.0 g.0, fit_of s e h p.1 l.1 g.1)
 fits_of s (if_form e) h m = fit_of s e h m.declared m.sized m.fitting
 fits_of s else_form h m = tt
@@ -132,27 +115,27 @@ fits_of s (while_form e) h m = fit_of s e h m.declared m.sized m.fitting
 fits_of s (send_form d g p) h m =
     let a = and_parts (all_declared s d && all_declared s g) (payload_declared s p) m.declared in
     let b = and_parts (all_declared s d) (all_declared s g) a.0 in
-    let l = or_fails (is_large d || is_large g) (payload_is_large p) m.sized in
-    let k = or_fails (is_large d) (is_large g) l.0 in
-    let i = or_fails (is_great d || is_great g) (payload_is_great p) m.fitting in
-    let j = or_fails (is_great d) (is_great g) i.0 in
+    let l = or_parts (is_large d || is_large g) (payload_is_large p) m.sized in
+    let k = or_parts (is_large d) (is_large g) l.0 in
+    let i = or_parts (is_great d || is_great g) (payload_is_great p) m.fitting in
+    let j = or_parts (is_great d) (is_great g) i.0 in
     (fit_of s d h b.0 k.0 j.0, fit_of s g h b.1 k.1 j.1, payload_fits s p h a.1 l.1 i.1)
 fits_of s (recv_form c g x) h m =
     let a = and_parts (pattern_declared s c && pattern_declared s g) (is_declared s x) m.declared in
     let b = and_parts (pattern_declared s c) (pattern_declared s g) a.0 in
-    let l = or_fails (pattern_is_large c) (pattern_is_large g) m.sized in
-    let j = or_fails (pattern_is_great c) (pattern_is_great g) m.fitting in
+    let l = or_parts (pattern_is_large c) (pattern_is_large g) m.sized in
+    let j = or_parts (pattern_is_great c) (pattern_is_great g) m.fitting in
     (pattern_fits s c h b.0 l.0 j.0, pattern_fits s g h b.1 l.1 j.1, declared_short s x h a.1)
 fits_of s (probe_form c g) h m =
     let a = and_parts (pattern_declared s c) (pattern_declared s g) m.declared in
-    let l = or_fails (pattern_is_large c) (pattern_is_large g) m.sized in
-    let j = or_fails (pattern_is_great c) (pattern_is_great g) m.fitting in
+    let l = or_parts (pattern_is_large c) (pattern_is_large g) m.sized in
+    let j = or_parts (pattern_is_great c) (pattern_is_great g) m.fitting in
     (pattern_fits s c h a.0 l.0 j.0, pattern_fits s g h a.1 l.1 j.1)
 fits_of s (try_probe_form c g x) h m =
     let a = and_parts (pattern_declared s c && pattern_declared s g) (is_variable s x) m.declared in
     let b = and_parts (pattern_declared s c) (pattern_declared s g) a.0 in
-    let l = or_fails (pattern_is_large c) (pattern_is_large g) m.sized in
-    let j = or_fails (pattern_is_great c) (pattern_is_great g) m.fitting in
+    let l = or_parts (pattern_is_large c) (pattern_is_large g) m.sized in
+    let j = or_parts (pattern_is_great c) (pattern_is_great g) m.fitting in
     (pattern_fits s c h b.0 l.0 j.0, pattern_fits s g h b.1 l.1 j.1, variable_short s x h a.1)
 fits_of s (print_form e) h m = fit_of s e h m.declared m.sized m.fitting
 fits_of s barrier_form h m = tt
@@ -162,8 +145,8 @@ fits_of s (bcast_form r x) h m =
 fits_of s (reduce_form o r e x) h m =
     let a = and_parts (all_declared s r && all_declared s e) (is_variable s x) m.declared in
     let b = and_parts (all_declared s r) (all_declared s e) a.0 in
-    let l = or_fails (is_large r) (is_large e) m.sized in
-    let j = or_fails (is_great r) (is_great e) m.fitting in
+    let l = or_parts (is_large r) (is_large e) m.sized in
+    let j = or_parts (is_great r) (is_great e) m.fitting in
     (fit_of s r h b.0 l.0 j.0, fit_of s e h b.1 l.1 j.1, variable_short s x h a.1)
 
 -- a name more

@@ -16,6 +16,7 @@ use Rattle.matching.specs.declared.selector.Selector.{Selector}
 use Rattle.rank_machine.specs.Machine.{MachineValue, Strides, still, on, machine_want}
 use Rattle.rank_machine.specs.declared.want.Want.{Want}
 use Rattle.rank_machine.specs.declared.want.Want.TheVariants as want
+use Rattle.rank_machine.proofs.Striding.{no_stride}
 use Rattle.rank_node.specs.Node.{Node}
 use Rattle.rank_node.specs.Replay.{Replay, after_replay, left_after, is_before, is_now, named}
 use Rattle.rank_node.specs.Replay.{named_turn, probe_turn, receive_turn, replay_turn_at, replay_turn_of, replayed_at, shown_named}
@@ -193,11 +194,6 @@ again_ok_clocks old new (Ok t) some does after = again_clocks old new old.left t
 again_ok_clocks old new (Err e) some does after = tt
 
 -- ---- strides
-
--- no stride leaves the machine as it was
-no_stride : (n : ℕ) (a b : MachineValue) → Strides n a b → n ≡ 0 → b ≡ a
-no_stride n a b still none = refl
-no_stride n a c (on first wants goes) none = absurd (omega (arith, none))
 
 -- so a machine that wants a step of its own makes one, where it may make any
 pub some_stride : (n most : ℕ) (a b : MachineValue) → Strides n a b → (n < most → machine_want b ≢ want.Internal) → 0 < most

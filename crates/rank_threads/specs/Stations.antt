@@ -15,7 +15,8 @@ use Rattle.rank_threads.specs.Tally.{new_tally}
 
 -- the rank, its desk and its lanes are the same
 abbrev pub SameStation : Station → Station → Type 0
-SameStation a b = (b.kit.rank ≡ a.kit.rank) × SameStable a.down b.down × (b.size ≡ a.size) × SameTxs a.kit.to.items b.kit.to.items × SameRxs a.kit.from.items b.kit.from.items
+SameStation a b = (b.kit.rank ≡ a.kit.rank) × SameStable a.down b.down × (b.size ≡ a.size)
+    × SameTxs a.kit.to.items b.kit.to.items × SameRxs a.kit.from.items b.kit.from.items
 
 -- the lines of the script that are left, the row that was fetched, how the rank left and how it
 -- stood then are the same
@@ -25,7 +26,8 @@ SameRest a b = (b.kit.plan ≡ a.kit.plan) × (b.row ≡ a.row) × (b.end ≡ a.
 -- this is a life of that station's rank: it has the same rank, desk and lanes
 abbrev pub IsLifeOf : Station → Life → Type 0
 IsLifeOf a s =
-    (s.kit.rank ≡ a.kit.rank) × SameStable a.down (stable_in s.node.phase) × (s.node.size ≡ a.size) × SameTxs a.kit.to.items s.kit.to.items × SameRxs a.kit.from.items s.kit.from.items
+    (s.kit.rank ≡ a.kit.rank) × SameStable a.down (stable_in s.node.phase) × (s.node.size ≡ a.size)
+    × SameTxs a.kit.to.items s.kit.to.items × SameRxs a.kit.from.items s.kit.from.items
 
 -- The station has fetched its row: all the events that its desk has stored.
 pub record HasRow (s : Station) : Type 0 where

@@ -23,11 +23,7 @@ use Rattle.events_text.specs.Written.{events_text}
 use Rattle.explore.specs.Own.{own}
 use Rattle.run_events.specs.Scripted.{IsBack, IsScriptText, PlaysScript, PlaysScriptFrom, Takes, ends, goes, before, behind, line_at, line_of, used_lines}
 use Rattle.run_events.proofs.Played.{all_there}
-
--- no list with items has none
-no_items : {X : Type 0} (xs : List X) → length xs ≡ 0 → xs ≡ []
-no_items [] none = refl
-no_items (x ∷ xs) none = absurd cc
+use Rattle.ports.proofs.SumLemmas.{nothing_is}
 
 -- false isn't true
 no_true : false ≡ true → ⊥
@@ -92,7 +88,7 @@ is_back w r view is_view live left acts = go (slice_get w.ranks r) refl is_view
     go (Some (Some v)) at shown = record {
       rank = v;
       live = at;
-      none_left = no_items v.left (sym (ap (λ (z : View). z.left) shown) ∙ left);
+      none_left = nothing_is v.left (sym (ap (λ (z : View). z.left) shown) ∙ left);
       made = subst (λ k. k ≤ v.rank.clock) (ap (λ (z : View). z.acts) shown) (subst (λ k. view.acts ≤ k) (ap (λ (z : View). z.clock) shown) acts);
     }
 

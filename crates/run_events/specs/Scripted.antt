@@ -75,7 +75,8 @@ pub data Takes (last : WorldValue) : WorldValue → List WorldEvent → List Scr
 -- the images of each rank are the lines for it that the run used, in their order and each at its
 -- clock. After the last event each rank has come back, the world stands for a run without crashes,
 -- and each rank is where this run is.
-pub record PlaysScriptFrom (first : WorldValue) (n : ℕ) (C : List Passed) (script : List ScriptLine) (unused : List ℕ) (events : List WorldEvent) (last : WorldValue) : Type 0 where
+pub record PlaysScriptFrom (first : WorldValue) (n : ℕ) (C : List Passed) (script : List ScriptLine) (unused : List ℕ)
+    (events : List WorldEvent) (last : WorldValue) : Type 0 where
   pub lines : List ScriptLine
   pub takes : Takes last first events lines
   pub used : (r : ℕ) → r < n → orders_of r lines ≡ used_lines script unused r

@@ -9,7 +9,8 @@ use Rattle.run_picture.specs.declared.layout.columns.Column.TheVariants.{At, Lef
 use Rattle.run_picture.specs.declared.layout.columns.Columns.{Columns}
 use Rattle.run_picture.specs.declared.layout.columns.laid.Laid.{Laid}
 use Rattle.run_picture.specs.Columns.{AreColumns, AreLaid, column_of}
-use Rattle.run_picture.proofs.ListLemmas.{element, of_push}
+use Rattle.run_picture.proofs.ListLemmas.{of_push}
+use Rattle.audit.proofs.Reaching.{there_is}
 
 -- no column is laid
 pub none_laid : (l : Laid) → l.centers.items ≡ [] → AreLaid l
@@ -93,7 +94,7 @@ pub are_columns : (c : Columns) (l : Laid) → c.centers.items ≡ l.centers.ite
 are_columns c l same gap each kept = record {
   each = ap length same ∙ each;
   rising = λ time later x y low at of. rises time later x y low (at_column c time x at) (at_column c later y of);
-  drawn = λ time whole from to. draws time whole from (element c.centers.items (time - c.from) (omega (arith, ap length same, each, from, to)));
+  drawn = λ time whole from to. draws time whole from (there_is c.centers.items (time - c.from) (omega (arith, ap length same, each, from, to)));
 }
   where
     rises : (time later x y : ℕ) → time < later → (c.from ≤ time) × (slice_get c.centers.items (time - c.from) ≡ Some (At x))

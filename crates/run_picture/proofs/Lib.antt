@@ -1,5 +1,4 @@
 mod ListLemmas
-mod PostLemmas
 mod TimeLemmas
 mod NotedLemmas
 mod ColumnLemmas

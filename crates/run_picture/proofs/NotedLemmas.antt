@@ -8,15 +8,16 @@ use Rattle.std.proofs.lemmas.Bool.{cases_eq, ltb-true, ltb-false}
 use Rattle.std.proofs.lemmas.List.{get_or_past, get_or-replicate, get_or-set_same, get_or-set_other, length-set, length_push, map-append, take-append-le, take_all, take_more}
 use Rattle.limits.specs.Limits.{most_ranks}
 use Rattle.crash_free.specs.Runs.{Passed}
+use Rattle.crash_free.proofs.Lists.{one_more, as_many_before}
 use Rattle.run_picture.specs.declared.layout.times.Moment.{Moment}
 use Rattle.run_picture.specs.declared.layout.times.Reached.{Reached}
 use Rattle.run_picture.specs.declared.layout.times.Times.{Times}
 use Rattle.run_picture.specs.Marks.{made_of, told_of}
-use Rattle.run_picture.specs.Posts.{ArePosted, found_by, noted_by}
+use Rattle.send_index.specs.Posts.{ArePosted, found_by, noted_by, run_before}
 use Rattle.run_picture.specs.Noted.{IsNext, IsNoted, next_moment, reached_at, reached_in}
-use Rattle.run_picture.specs.Times.{AreTimedUpTo, IsMomentOf, latest, latest_of, last_of, run_before, time_at, time_in}
-use Rattle.run_picture.proofs.ListLemmas.{as_many_before, of_push, one_more, same_element}
-use Rattle.run_picture.proofs.PostLemmas.{found_is, none_posted, notes_act}
+use Rattle.run_picture.specs.Times.{AreTimedUpTo, IsMomentOf, latest, latest_of, last_of, time_at, time_in}
+use Rattle.run_picture.proofs.ListLemmas.{of_push, same_element}
+use Rattle.send_index.proofs.PostLemmas.{found_is, none_posted, notes_act}
 use Rattle.run_picture.proofs.TimeLemmas.{last_more, latest_other, latest_own}
 
 -- how far a rank has come that has made no act

@@ -5,11 +5,13 @@ use Rattle.std.specs.Prelude.{◌==◌, if◌then◌else◌}
 use Rattle.std.proofs.lemmas.Bool.{eq-eqb, ne_eqb, lt-ltb}
 use Rattle.std.proofs.lemmas.Option.{slice_get_within}
 use Rattle.crash_free.specs.Runs.{Passed}
+use Rattle.crash_free.proofs.Lists.{as_many_before}
 use Rattle.run_picture.specs.declared.layout.times.Moment.{Moment}
-use Rattle.run_picture.specs.Posts.{sender_of}
-use Rattle.run_picture.specs.Times.{AreTimed, AreClocks, HappenedBefore, by_rank, by_message, by_both, IsMomentOf, last_of, latest, latest_of, run_before, time_at, time_in}
-use Rattle.run_picture.proofs.ListLemmas.{as_many_before, element, in_take, same_element}
-use Rattle.run_picture.proofs.PostLemmas.{sender_low}
+use Rattle.send_index.specs.Posts.{run_before, sender_of}
+use Rattle.run_picture.specs.Times.{AreTimed, AreClocks, HappenedBefore, by_rank, by_message, by_both, IsMomentOf, last_of, latest, latest_of, time_at, time_in}
+use Rattle.run_picture.proofs.ListLemmas.{in_take, same_element}
+use Rattle.send_index.proofs.PostLemmas.{sender_low}
+use Rattle.audit.proofs.Reaching.{there_is}
 
 -- the greatest time of a rank with one more moment of its own
 pub latest_own : (r : ℕ) (ms : List Moment) (m : Moment) → m.rank ≡ r → latest r (ms ++ m ∷ []) ≡ max (latest r ms) m.time
@@ -96,7 +98,7 @@ clock_condition ranks acts moments timed i j m n (by_message q there sent) at_i 
     message_condition ranks acts moments timed i j q m n there sent at_i at_j
 clock_condition ranks acts moments timed i k m n (by_both {j = j} first second) at_i at_k =
     let made = was_made second in
-    let found = element moments j (omega (arith, made, timed.as_many)) in
+    let found = there_is moments j (omega (arith, made, timed.as_many)) in
     let one = clock_condition ranks acts moments timed i j m found.0 first at_i found.1 in
     let other = clock_condition ranks acts moments timed j k found.0 n second found.1 at_k in
     omega (arith, one, other)

@@ -2,7 +2,6 @@ pub mod Columns
 pub mod Escaped
 pub mod Marks
 pub mod Noted
-pub mod Posts
 pub mod Rows
 pub mod Shown
 pub mod Times

@@ -5,8 +5,8 @@ use Rattle.run_picture.specs.declared.layout.times.Moment.{Moment}
 use Rattle.run_picture.specs.declared.layout.times.Reached.{Reached}
 use Rattle.run_picture.specs.declared.layout.times.Times.{Times}
 use Rattle.run_picture.specs.Marks.{sign_of}
-use Rattle.run_picture.specs.Posts.{ArePosted, found_by, noted_by}
-use Rattle.run_picture.specs.Times.{AreTimedUpTo, last_of, latest, run_before, time_at}
+use Rattle.send_index.specs.Posts.{ArePosted, found_by, noted_by, run_before}
+use Rattle.run_picture.specs.Times.{AreTimedUpTo, last_of, latest, time_at}
 
 -- one more, as far as a number of the machine goes
 abbrev pub next_number : ℕ → ℕ

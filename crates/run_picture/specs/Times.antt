@@ -2,15 +2,11 @@
 -- of events in a distributed system", Communications of the ACM 21(7), 1978). An act's time is one
 -- more than the greater of two: that of its rank's act before, and that of the send whose message it
 -- takes or finds. The acts of a run stand here the oldest first, each at its index.
-use Rattle.std.specs.Prelude.{◌≡◌, ℕ, ◌+◌, ◌<◌, ◌==◌, max, nat_lt, List, [], ◌∷◌, length, reverse, take, slice_get, Option, Some, None, if◌then◌else◌}
+use Rattle.std.specs.Prelude.{◌≡◌, ℕ, ◌+◌, ◌<◌, ◌==◌, max, nat_lt, List, [], ◌∷◌, length, take, slice_get, Option, Some, None, if◌then◌else◌}
 use Rattle.crash_free.specs.Runs.{Passed}
 use Rattle.run_picture.specs.declared.layout.times.Moment.{Moment}
 use Rattle.run_picture.specs.Marks.{sign_of}
-use Rattle.run_picture.specs.Posts.{sender_of}
-
--- the acts before the one of this index, the newest first
-abbrev pub run_before : List Passed → ℕ → List Passed
-run_before acts index = reverse (take index acts)
+use Rattle.send_index.specs.Posts.{run_before, sender_of}
 
 -- the greatest time of a rank; 0 if it has made no act
 abbrev pub latest : ℕ → List Moment → ℕ

@@ -5,7 +5,6 @@ mod bands;
 mod columns;
 mod marks;
 mod measures;
-mod posted;
 mod replays;
 mod room;
 mod rows;

@@ -1,9 +1,9 @@
 -- Clocks of ranks, counted act by act.
-use Rattle.std.proofs.Common.{◌≡◌, ℕ, ◌+◌, ◌<◌, List, [], ◌∷◌, ◌++◌, ◌⊎◌, inl, inr, refl, sym, ap, ◌∙◌, arith, length, min, replicate}
+use Rattle.std.proofs.Common.{◌≡◌, ℕ, ◌+◌, ◌<◌, List, [], ◌∷◌, ◌++◌, ◌⊎◌, inl, inr, refl, sym, ap, ◌∙◌, arith, length, min}
 use Rattle.std.proofs.lemmas.Bool.{cases_eq}
 use Rattle.std.specs.Prelude.{slice_index_or, slice_set}
 use Rattle.std.proofs.lemmas.Bool.{eq-eqb, ne_eqb}
-use Rattle.std.proofs.lemmas.List.{length_push, get_or-set_same, get_or-set_other, get_or-replicate}
+use Rattle.std.proofs.lemmas.List.{length_push, get_or-set_same, get_or-set_other}
 use Rattle.limits.specs.Limits.{most_ranks}
 use Rattle.crash_free.specs.Runs.{Passed, history, looked_up, sends_from}
 use Rattle.run_trace.specs.Places.{clock_of, greatest_told}
@@ -41,7 +41,3 @@ counts_on C run clocks now p clock counted few long more is set r lt =
     go : (r ≡ p.rank) ⊎ (r ≡ p.rank → ⊥) → slice_index_or (slice_set clocks p.rank clock) r 0 ≡ clock_of (p ∷ C) r
     go (inl same) = rw (same) (get_or-set_same clocks p.rank clock 0 (omega (arith, long)) ∙ is ∙ ap (λ z. clock_of z p.rank) more)
     go (inr ne) = get_or-set_other clocks p.rank r clock 0 ne ∙ counted r lt ∙ sym (clock_other p C r (λ e. ne (sym e)))
-
--- at the beginning all are 0
-pub none_counted : (run : List Passed) (clocks : List ℕ) → run ≡ [] → clocks ≡ replicate most_ranks 0 → AreCounted run clocks
-none_counted run clocks none zeros r lt = rw (none, zeros) (get_or-replicate most_ranks r 0 0 lt)

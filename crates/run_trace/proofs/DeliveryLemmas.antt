@@ -9,7 +9,8 @@ use Rattle.std.proofs.lemmas.Option.{slice_get_within}
 use Rattle.rank_machine.specs.Acts.{Act, sends, takes, hits, misses, prints}
 use Rattle.crash_free.specs.Runs.{Passed, history}
 use Rattle.run_trace.specs.Places.{greatest_told}
-use Rattle.run_trace.specs.Deliveries.{AreClocked, AreDelivered, AreFoundUpTo, as_told, delivered, made_by, run_before, sends_found, sent_as, sent_at, sent_by}
+use Rattle.send_index.specs.Posts.{run_before}
+use Rattle.run_trace.specs.Deliveries.{AreClocked, AreDelivered, AreFoundUpTo, as_told, delivered, made_by, sends_found, sent_as, sent_at, sent_by}
 use Rattle.run_trace.specs.declared.deliveries.Delivery.{Delivery}
 use Rattle.run_trace.specs.declared.place.Place.{Place}
 

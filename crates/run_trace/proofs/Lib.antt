@@ -3,5 +3,5 @@ mod ColumnLemmas
 mod DeliveryLemmas
 mod DueLemmas
 mod LineLemmas
-mod PairLemmas
+mod SentLemmas
 mod PlacesLemmas

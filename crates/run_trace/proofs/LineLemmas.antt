@@ -7,12 +7,13 @@ use Rattle.rank_language.specs.Program.{ProgramValue}
 use Rattle.rank_language.specs.StandOn.{IsLinedOf}
 use Rattle.rank_machine.specs.Acts.{Message}
 use Rattle.crash_free.specs.Runs.{Passed}
-use Rattle.run_trace.specs.Deliveries.{as_told, delivered, run_before}
+use Rattle.crash_free.proofs.Lists.{one_more}
+use Rattle.send_index.specs.Posts.{run_before}
+use Rattle.run_trace.specs.Deliveries.{as_told, delivered}
 use Rattle.run_trace.specs.Columns.{head_text}
 use Rattle.run_trace.specs.Lines.{BeginsWithActs, acts_text, clock_width, line_text, lines_text, order_text}
 use Rattle.run_trace.specs.Places.{AreFound}
 use Rattle.run_trace.specs.declared.place.Place.{Place}
-use Rattle.run_trace.proofs.PairLemmas.{one_more}
 
 -- the lines of the acts before the one of an index
 abbrev pub lines_before : ℕ → List ℕ → List Passed → List Place → ℕ → List ℕ

@@ -1,10 +1,11 @@
 -- Which message an act takes or hits, and which act sent it (MPI 1.1, section 3.5). The acts of a
 -- run are the newest first, as `crash_free` has them, where they are called a run, and the oldest
 -- first where an act is told by its index.
-use Rattle.std.specs.Prelude.{◌≡◌, ℕ, ◌+◌, ◌<◌, min, List, length, map, take, reverse, slice_get, slice_index_or, Option, Some, None}
+use Rattle.std.specs.Prelude.{◌≡◌, ℕ, ◌+◌, ◌<◌, min, List, length, map, slice_get, slice_index_or, Option, Some, None}
 use Rattle.rank_machine.specs.Acts.{Message, Act, sends, takes, hits, misses, prints}
 use Rattle.crash_free.specs.Runs.{Passed, history, looked_up}
 use Rattle.crash_free.specs.Sim.{inbound_of}
+use Rattle.send_index.specs.Posts.{run_before}
 use Rattle.run_trace.specs.Places.{clock_of, greatest_told}
 use Rattle.run_trace.specs.declared.deliveries.Delivery.{Delivery}
 use Rattle.run_trace.specs.declared.place.Place.{Place}
@@ -20,10 +21,6 @@ sent_by (takes source place) clock = None
 sent_by (hits source place) clock = None
 sent_by misses clock = None
 sent_by (prints value) clock = None
-
--- the acts before the one of this index, newest first
-abbrev pub run_before : List Passed → ℕ → List Passed
-run_before acts index = reverse (take index acts)
 
 -- the message of an act that is the one of this index, by its clock the last of its rank's up to
 -- there

@@ -3,7 +3,6 @@ pub mod Columns
 pub mod Deliveries
 pub mod Due
 pub mod Lines
-pub mod Pairs
 pub mod Places
 pub mod Seen
 pub mod Words

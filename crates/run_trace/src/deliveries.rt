@@ -3,12 +3,9 @@ ghost use Rattle.std.specs.Prelude.{◌≡◌, IfOk};
 ghost use Rattle.limits.specs.Limits.{most_ranks};
 ghost use Rattle.run_trace.specs.Deliveries.{AreDelivered, AreOfRanks, sends_found};
 
-mod indices;
-mod sends;
-
 use crash_free::{Act, Passed};
 use limits::Heap;
-use sends::Sends;
+use send_index::Sends;
 use std::alloc::AllocError;
 
 /// What became of an act's message.

@@ -1,6 +1,6 @@
 -- Where the choices of one outcome part from those before it, brought up to date from the outcome before.
 use Rattle.std.proofs.Common.{◌≡◌, ◌≢◌, ℕ, zero, suc, ◌<◌, ◌≤◌, ◌+◌, List, [], ◌∷◌, ◌++◌, Option, Some, None, length, slice_get, ◌⊎◌, inl, inr, refl, sym, ap, subst, ◌∙◌, arith}
-use Rattle.std.specs.Prelude.{Err, Ok, OnOk, Result, take}
+use Rattle.std.specs.Prelude.{take}
 use Rattle.std.proofs.lemmas.Bool.{cases_lt}
 use Rattle.std.proofs.lemmas.Option.{slice_get_within}
 use Rattle.crash_free.proofs.Lists.{push_cases}
@@ -54,11 +54,6 @@ same_parted x y place chosen before =
 -- past its end a list has none
 pub past_end : {A : Type 0} (xs : List A) (k : ℕ) (x : A) → length xs ≤ k → slice_get xs k ≡ Some x → ⊥
 past_end xs k x past there = (let low = slice_get_within xs k x there in omega (arith, low, past))
-
--- what follows from what holds if there is a value holds then
-pub on_ok : {T E P Q : Type 0} (o : Result T E) → (P → Q) → OnOk o P → OnOk o Q
-on_ok (Ok x) f p = f p
-on_ok (Err y) f p = tt
 
 -- Two lists of choices that are the same before this place, and not there
 module _ (last own : List Noted) (at : ℕ) (same : (i : ℕ) → i < at → slice_get own i ≡ slice_get last i)

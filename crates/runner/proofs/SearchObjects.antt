@@ -1,5 +1,7 @@
 -- No number in what a search found is a float, so its text is that of its parts.
-use Rattle.std.proofs.Common.{◌≡◌, ℕ, ◌+◌, ℤ, pos, negsuc, Bool, true, false, ◌||◌, List, [], ◌∷◌, ◌++◌, Option, Some, None, map, codes, refl, ap, ◌∙◌, slice_get, Ordering, Less, Equal, Greater, nat_cmp}
+use Rattle.std.proofs.Common.{◌≡◌, ℕ, ◌+◌, ℤ, pos, negsuc, Bool, false, ◌||◌, List, [], ◌∷◌, ◌++◌, Option, Some, None, map, codes, refl, ap, ◌∙◌}
+use Rattle.std.proofs.Common.{slice_get, Ordering, Less, Equal, Greater, nat_cmp}
+use Rattle.std.proofs.lemmas.Bool.{or_from, or_parts}
 use Rattle.std.specs.Cmp.Lexicographic.{slice_cmp}
 use Rattle.std.specs.Ordering.{match_ordering}
 use Rattle.audit.specs.declared.outcome.End.{End}
@@ -14,37 +16,27 @@ use Rattle.serde_json.specs.Data as json
 use Rattle.serde_json.specs.View.{items_of, items_view, view}
 use Rattle.serde_json.specs.declared.value.Value.{Value}
 use Rattle.serde_json.specs.Written.{compact_text, has_float, items_have_float, members_have_float}
-use Rattle.runner.specs.SearchObject.{IsSearchObject, array_of, choice_members, choice_object, count, count_members, end_members, mark_at, mark_value, object_of, outcome_object, outcome_objects, place_members, rank_object, rank_objects, search_object, value, with_members}
+use Rattle.runner.specs.SearchObject.{IsSearchObject, array_of, choice_members, choice_object, count, count_members, end_members, mark_at}
+use Rattle.runner.specs.SearchObject.{mark_value, object_of, outcome_object, outcome_objects, place_members, rank_object, rank_objects}
+use Rattle.runner.specs.SearchObject.{search_object, value, with_members}
 
-neither : (a b : Bool) → a ≡ false → b ≡ false → (a || b) ≡ false
-neither true b x y = x
-neither false b x y = y
-
-not_first : (a b : Bool) → (a || b) ≡ false → a ≡ false
-not_first true b x = x
-not_first false b x = refl
-
-not_second : (a b : Bool) → (a || b) ≡ false → b ≡ false
-not_second true b x = absurd cc
-not_second false b x = x
-
--- members to which one without a float is put have none either
+-- of three lists of members without a float the order picks one
 no_float-put_at : (o : Ordering) (a b c : Members) → members_have_float a ≡ false → members_have_float b ≡ false → members_have_float c ≡ false
     → members_have_float (match_ordering o a b c) ≡ false
 no_float-put_at Less a b c x y z = x
 no_float-put_at Equal a b c x y z = y
 no_float-put_at Greater a b c x y z = z
 
+-- members to which one without a float is put have none either
 pub no_float-put : (k : List ℕ) (d : Data) (members : Members) → has_float d ≡ false → members_have_float members ≡ false
     → members_have_float (put k d members) ≡ false
-no_float-put k d json.no_members clean rest = neither (has_float d) false clean refl
+no_float-put k d json.no_members clean rest = or_from (has_float d) false clean refl
 no_float-put k d (json.member l e members) clean rest =
-    let first = not_first (has_float e) (members_have_float members) rest in
-    let others = not_second (has_float e) (members_have_float members) rest in
+    let held = or_parts (has_float e) (members_have_float members) rest in
     no_float-put_at (slice_cmp nat_cmp k l) (json.member k d (json.member l e members)) (json.member l d members) (json.member l e (put k d members))
-    (neither (has_float d) (has_float e || members_have_float members) clean rest)
-    (neither (has_float d) (members_have_float members) clean others)
-    (neither (has_float e) (members_have_float (put k d members)) first (no_float-put k d members clean others))
+    (or_from (has_float d) (has_float e || members_have_float members) clean rest)
+    (or_from (has_float d) (members_have_float members) clean held.1)
+    (or_from (has_float e) (members_have_float (put k d members)) held.0 (no_float-put k d members clean held.1))
 
 -- none of these members has a float
 abbrev pub HaveNoFloat : List (List ℕ × Data) → Type 0
@@ -72,9 +64,10 @@ no_float-value : (z : ℤ) → has_float (value z) ≡ false
 no_float-value (pos n) = refl
 no_float-value (negsuc n) = refl
 
+-- nor is one of the values of its lines
 no_float-values : (zs : List ℤ) → items_have_float (items_of (map value zs)) ≡ false
 no_float-values [] = refl
-no_float-values (z ∷ zs) = neither (has_float (value z)) (items_have_float (items_of (map value zs))) (no_float-value z) (no_float-values zs)
+no_float-values (z ∷ zs) = or_from (has_float (value z)) (items_have_float (items_of (map value zs))) (no_float-value z) (no_float-values zs)
 
 -- how a rank ended
 no_float-end : (e : End) → HaveNoFloat (end_members e)
@@ -83,40 +76,48 @@ no_float-end end.Stalled = (refl, tt)
 no_float-end end.Unfinished = (refl, tt)
 no_float-end (end.Faulted fault) = (refl, (refl, (refl, tt)))
 
+-- what a rank printed, and how it ended
 no_float-rank : (rank : ℕ) (seen : RankOutcome) → has_float (rank_object rank seen) ≡ false
 no_float-rank rank seen = no_float-object_of
     ((codes "rank", count rank) ∷ (codes "lines", array_of (map value seen.lines)) ∷ end_members seen.end)
     (refl, (no_float-values seen.lines, no_float-end seen.end))
 
+-- so of all ranks
 no_float-ranks : (rank : ℕ) (seen : List RankOutcome) → items_have_float (items_of (rank_objects rank seen)) ≡ false
 no_float-ranks rank [] = refl
 no_float-ranks rank (first ∷ others) =
-    neither (has_float (rank_object rank first)) (items_have_float (items_of (rank_objects (rank + 1) others))) (no_float-rank rank first) (no_float-ranks (rank + 1) others)
+    or_from (has_float (rank_object rank first)) (items_have_float (items_of (rank_objects (rank + 1) others))) (no_float-rank rank first) (no_float-ranks (rank + 1) others)
 
+-- at which rank and line a choice was made
 pub no_float-place : (rank : ℕ) (line : Option ℕ) → HaveNoFloat (place_members rank line)
 no_float-place rank (Some line) = (refl, (refl, tt))
 no_float-place rank None = (refl, tt)
 
+-- what was chosen there
 no_float-chosen : (chosen : Choice) (probes : Bool) → HaveNoFloat (choice_members chosen probes)
 no_float-chosen (choice.Take source index) probes = (refl, (refl, tt))
 no_float-chosen choice.Miss probes = (refl, tt)
 no_float-chosen choice.Next probes = tt
 
+-- both are one choice
 no_float-choice : (lines : List ℕ) (noted : Noted) → has_float (choice_object lines noted) ≡ false
 no_float-choice lines noted =
     let place = place_members noted.chosen.rank (slice_get lines noted.position) in
     let chosen = choice_members noted.chosen.choice noted.probes in
     no_float-object_of (place ++ chosen) (both_clean place chosen (no_float-place _ _) (no_float-chosen _ _))
 
+-- so of all choices of a run
 no_float-choices : (lines : List ℕ) (choices : List Noted) → items_have_float (items_of (map (choice_object lines) choices)) ≡ false
 no_float-choices lines [] = refl
 no_float-choices lines (first ∷ others) =
-    neither (has_float (choice_object lines first)) (items_have_float (items_of (map (choice_object lines) others))) (no_float-choice lines first) (no_float-choices lines others)
+    or_from (has_float (choice_object lines first)) (items_have_float (items_of (map (choice_object lines) others))) (no_float-choice lines first) (no_float-choices lines others)
 
+-- an outcome's mark is a truth value, or null
 no_float-mark : (mark : Option Bool) → has_float (mark_value mark) ≡ false
 no_float-mark (Some mark) = refl
 no_float-mark None = refl
 
+-- an outcome, with its choices and its mark
 no_float-outcome : (lines : List ℕ) (number : ℕ) (outcome : List RankOutcome) (choices : List Noted) (mark : Option Bool)
     → has_float (outcome_object lines number outcome choices mark) ≡ false
 no_float-outcome lines number outcome choices mark =
@@ -125,13 +126,14 @@ no_float-outcome lines number outcome choices mark =
     ∷ (codes "choices", array_of (map (choice_object lines) choices)) ∷ (codes "misses_shown", mark_value mark) ∷ [])
     (refl, (no_float-ranks 0 outcome, (no_float-choices lines choices, (no_float-mark mark, tt))))
 
+-- so of all outcomes
 no_float-outcomes : (lines : List ℕ) (marks : List (Option Bool)) (index : ℕ) (outcomes : List (List RankOutcome)) (choices : List (List Noted))
     → items_have_float (items_of (outcome_objects lines marks index outcomes choices)) ≡ false
 no_float-outcomes lines marks index [] choices = refl
 no_float-outcomes lines marks index (outcome ∷ outcomes) [] =
-    neither _ _ (no_float-outcome lines (index + 1) outcome [] (mark_at marks index)) (no_float-outcomes lines marks (index + 1) outcomes [])
+    or_from _ _ (no_float-outcome lines (index + 1) outcome [] (mark_at marks index)) (no_float-outcomes lines marks (index + 1) outcomes [])
 no_float-outcomes lines marks index (outcome ∷ outcomes) (own ∷ choices) =
-    neither _ _ (no_float-outcome lines (index + 1) outcome own (mark_at marks index)) (no_float-outcomes lines marks (index + 1) outcomes choices)
+    or_from _ _ (no_float-outcome lines (index + 1) outcome own (mark_at marks index)) (no_float-outcomes lines marks (index + 1) outcomes choices)
 
 -- nor is there one in all that was found, if there is none in the races
 pub no_float-search : (found : ExploredValue) (marks : List (Option Bool)) (lines : List ℕ) (races : Items) → items_have_float races ≡ false
@@ -145,11 +147,10 @@ no_float-search found marks lines races clean =
 -- a value without a float is pushed to some without
 pub pushed : (list : List Value) (one : Value) → items_have_float (items_view list) ≡ false → has_float (view one) ≡ false
     → items_have_float (items_view (list ++ one ∷ [])) ≡ false
-pushed [] one rest clean = neither (has_float (view one)) false clean refl
+pushed [] one rest clean = or_from (has_float (view one)) false clean refl
 pushed (first ∷ others) one rest clean =
-    neither (has_float (view first)) (items_have_float (items_view (others ++ one ∷ [])))
-    (not_first (has_float (view first)) (items_have_float (items_view others)) rest)
-    (pushed others one (not_second (has_float (view first)) (items_have_float (items_view others)) rest) clean)
+    let list = or_parts (has_float (view first)) (items_have_float (items_view others)) rest in
+    or_from (has_float (view first)) (items_have_float (items_view (others ++ one ∷ []))) list.0 (pushed others one list.1 clean)
 
 -- the object's text and a line feed
 pub is_search_object : (found : ExploredValue) (marks : List (Option Bool)) (lines : List ℕ) (races : Items) (all : Data) (written text : List ℕ)

@@ -1,7 +1,6 @@
 -- A text that begins with the acts of the run that was found, and goes on; and how what is told of
 -- a run is an answer.
-use Rattle.std.proofs.Common.{◌≡◌, ◌≢◌, ℕ, List, [], ◌++◌, Option, Some, None, Result, Ok, Err, ap, ◌∙◌, reverse, subst}
-use Rattle.std.specs.Prelude.{IfOk}
+use Rattle.std.proofs.Common.{◌≡◌, ◌≢◌, ℕ, List, [], ◌++◌, Option, Some, None, ap, ◌∙◌, reverse, subst}
 use Rattle.std.specs.Borrow.{Bor}
 use Rattle.std.proofs.lemmas.List.{append_assoc}
 use Rattle.audit.specs.Found.{IsFound}
@@ -79,8 +78,3 @@ is_trace_answer holds held job source program numbers script out status has line
   given = script_held_before holds held job.run.ranks job.run.script script kept given;
   answer = told;
 }
-
--- where what is answered has one thing, it has another that follows
-pub answered : {A B : Type 0} (r : Result A B) (P Q : A → Type 0) → ((a : A) → P a → Q a) → IfOk r P → IfOk r Q
-answered (Ok a) P Q follows has = follows a has
-answered (Err e) P Q follows has = tt

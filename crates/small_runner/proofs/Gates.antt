@@ -1,5 +1,5 @@
 -- What waits first is an event or an effect, and passes as such.
-use Rattle.std.proofs.Common.{◌≡◌, ℕ, zero, suc, ◌<◌, true, false, List, [], ◌∷◌, drop, length, refl, ap, subst, ◌∙◌, arith}
+use Rattle.std.proofs.Common.{◌≡◌, ℕ, zero, suc, ◌<◌, false, List, [], ◌∷◌, drop, length, refl, ap, subst, ◌∙◌, arith}
 use Rattle.std.specs.Prelude.{Option, Some, None, slice_get, option_and_then, IsSome}
 use Rattle.std.proofs.lemmas.List.{length-set}
 use Rattle.sequential_logger.specs.Event.{EventValue}
@@ -28,11 +28,6 @@ pub some_stored : (xs : List Waiting) (stored : ℕ) → IsSome (first_event xs)
     → option_and_then event_in (slice_get xs stored) ≡ None → 0 < stored
 some_stored xs zero first none = (let q : IsSome {T = EventValue} None = subst IsSome none first in absurd cc)
 some_stored xs (suc k) first none = omega arith
-
--- where nothing waits the list is empty
-pub nothing_waits : (xs : List Waiting) → is_settled xs ≡ true → xs ≡ []
-nothing_waits [] settled = refl
-nothing_waits (x ∷ xs) settled = absurd cc
 
 -- after an effect has passed there is one less
 pub effect_passes : (v : Node MemoryShelf (Unit {0})) (clock : ℕ) → Some clock ≡ option_and_then effect_clock (next_effect v)

@@ -1,20 +1,11 @@
 -- What a logger answers of a row.
-use Rattle.std.proofs.Common.{◌≡◌, ℕ, suc, ◌≤◌, Bool, true, false, cond, List, [], ◌∷◌, length, subst, arith, sym}
-use Rattle.std.specs.Prelude.{nat_lt}
+use Rattle.std.proofs.Common.{◌≡◌, ℕ, ◌≤◌, List, [], length, subst, arith, sym}
 use Rattle.limits.specs.Limits.{most_events}
 use Rattle.sequential_logger.specs.Event.{EventValue}
 use Rattle.sequential_logger.specs.History.{StateValue, Answers, IsRow, above, row}
 use Rattle.sequential_logger.specs.declared.call.Call.TheVariants.{Fetch}
 use Rattle.sequential_logger.specs.declared.call.Reply.TheVariants.{Events}
-
--- what of a row is above a clock is no longer than the row
-length_above : (after : ℕ) (es : List EventValue) → length (above after es) ≤ length es
-length_above after [] = (let z : 0 ≤ 0 = omega arith in z)
-length_above after (e ∷ es) = go (nat_lt after e.receiver_clock) (length_above after es)
-  where
-    go : (b : Bool) → length (above after es) ≤ length es → length (cond b (e ∷ above after es) (above after es)) ≤ suc (length es)
-    go true z = (let q : suc (length (above after es)) ≤ suc (length es) = omega (arith, z) in q)
-    go false z = (let q : length (above after es) ≤ suc (length es) = omega (arith, z) in q)
+use Rattle.rank_node.proofs.Rows.{length_above}
 
 -- a fetch answers what the row has above the clock
 pub fetched : (s new : StateValue) (rank after : ℕ) (events : List EventValue) → Answers s rank (Fetch after) (Events events) new

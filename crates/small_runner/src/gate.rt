@@ -9,7 +9,7 @@ use rank_node::{NodeFault, Running};
 use sequential_logger::LoggerState;
 
 /// Stores and acknowledges each event that waits, and releases each send and line, in their order.
-#[tactic(auto, using(crate::proofs::Gates::nothing_waits, crate::proofs::Gates::less))]
+#[tactic(auto, using(rank_node::proofs::Again::settled_nil, crate::proofs::Gates::less))]
 pub fn clear(
     rank: &mut Running<'_, MemoryShelf, ()>,
     logger: &mut LoggerState,

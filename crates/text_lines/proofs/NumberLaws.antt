@@ -30,7 +30,7 @@ abbrev pub left : List ℕ → List ℕ
 left rest = take (length rest - 1) (drop 1 rest)
 
 -- it is all but the digit
-left_all : (b : ℕ) (bs : List ℕ) → left (b ∷ bs) ≡ bs
+pub left_all : (b : ℕ) (bs : List ℕ) → left (b ∷ bs) ≡ bs
 left_all b bs =
     let e : length (b ∷ bs) - 1 ≡ length bs = omega arith in
     ap (λ n. take n bs) e ∙ take-length bs

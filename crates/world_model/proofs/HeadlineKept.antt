@@ -30,9 +30,10 @@ use Rattle.world_model.specs.declared.reply.Reply.{Reply}
 use Rattle.checkpoint.specs.Image.{ImageValue}
 use Rattle.rank_node.specs.Image.{first_image, begins_at}
 use Rattle.world_model.specs.Stands.{ImageStands, RankStands, start_at, StandsAt, DueCovered, RankCovers, Stands}
-use Rattle.world_model.proofs.Lists.Beginnings.{replicate_get, replicate_length, get_map, map_length}
+use Rattle.world_model.proofs.Lists.Beginnings.{replicate_length, get_map, map_length}
 use Rattle.world_model.proofs.Plain.Ranks.{none_waits, none_left}
 use Rattle.world_model.proofs.Plain.Worlds.{IsPlain, is_plain, rank_of}
+use Rattle.audit.proofs.Traces.{replicate_each}
 
 -- ---- refused memory
 
@@ -165,16 +166,16 @@ stands_fresh program n w f =
     }
   where
     of_wires : (s : ℕ) (x : List (List Frame)) → slice_get w.wires s ≡ Some x → x ≡ replicate n []
-    of_wires s x e = replicate_get n (replicate n []) s x (subst (λ z. slice_get z s ≡ Some x) f.wires e)
+    of_wires s x e = replicate_each n (replicate n []) s x (subst (λ z. slice_get z s ≡ Some x) f.wires e)
 
     nothing_put : (s d k : ℕ) (frames : List Frame) (g : Frame) → IsWire w s d frames → slice_get frames k ≡ Some g → ⊥
     nothing_put s d k frames g there e =
-        let none : frames ≡ [] = replicate_get n [] d frames (subst (λ z. slice_get z d ≡ Some frames) (of_wires s there.0 there.1) there.2) in
+        let none : frames ≡ [] = replicate_each n [] d frames (subst (λ z. slice_get z d ≡ Some frames) (of_wires s there.0 there.1) there.2) in
         let bad : slice_get [] k ≡ Some g = subst (λ z. slice_get z k ≡ Some g) none e in
         cc
 
     of_images : (r : ℕ) (o : Option ImageValue) → slice_get w.images r ≡ Some o → o ≡ None
-    of_images r o e = replicate_get n None r o (subst (λ z. slice_get z r ≡ Some o) f.images e)
+    of_images r o e = replicate_each n None r o (subst (λ z. slice_get z r ≡ Some o) f.images e)
 
     no_image : (r : ℕ) (i : ImageValue) → slice_get w.images r ≡ Some (Some i) → ⊥
     no_image r i e = (let q : Some i ≡ None = of_images r (Some i) e in cc)
@@ -192,10 +193,10 @@ stands_fresh program n w f =
     empty_plainly : (r : ℕ) (events : List EventValue) → slice_get (map expand w.logger.rows) r ≡ Some events → events ≡ []
     empty_plainly r events e =
         (let z = get_map expand w.logger.rows r events e in
-        z.2 ∙ ap (λ y. expand y) (replicate_get n [] r z.0 (subst (λ y. slice_get y r ≡ Some z.0) f.rows z.1)))
+        z.2 ∙ ap (λ y. expand y) (replicate_each n [] r z.0 (subst (λ y. slice_get y r ≡ Some z.0) f.rows z.1)))
 
     empty : (r : ℕ) (events : List EventValue) → slice_get w.logger.rows r ≡ Some events → events ≡ []
-    empty r events e = replicate_get n [] r events (subst (λ z. slice_get z r ≡ Some events) f.rows e)
+    empty r events e = replicate_each n [] r events (subst (λ z. slice_get z r ≡ Some events) f.rows e)
 
     rank_counts : (r : ℕ) (v : Live) (events : List EventValue) → IsOpened program n r (Some v) → events ≡ [] → RankCounts v events
     rank_counts r v events h none =
@@ -215,8 +216,8 @@ stands_fresh program n w f =
     rank_covers r v h =
         subst (λ z. RankCovers w.images r z) (sym h.0)
         (record {
-          bases = λ d b e. subst (λ z. z.base ≤ covered w.images d r) (sym (replicate_get n new_backlog d b e)) (omega arith);
-          dues = λ d due e. subst (λ (z : Due). DueCovered w.images r d z.kept) (sym (replicate_get n node.no_due d due e)) tt;
+          bases = λ d b e. subst (λ z. z.base ≤ covered w.images d r) (sym (replicate_each n new_backlog d b e)) (omega arith);
+          dues = λ d due e. subst (λ (z : Due). DueCovered w.images r d z.kept) (sym (replicate_each n node.no_due d due e)) tt;
           since = λ s. (let z = ap (λ y. covered y r s) f.images ∙ none_covered n r s in omega (arith, z));
         })
 

@@ -5,4 +5,5 @@ pub mod KeptByPasses
 pub mod KeptBySteps
 pub mod KeptByImages
 pub mod KeptByEvents
+pub mod KeepsNoMore
 pub mod OnItsWire

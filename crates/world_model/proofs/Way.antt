@@ -11,9 +11,14 @@ pub mod AsksAreHeard
 pub mod EachAskIsHeard
 pub mod OutstandingFalls
 pub mod CollectiveStages
+pub mod StepOfItsOwn
+pub mod WhereActsLead
 pub mod MachineHasStep
 pub mod EventIsPossible
 pub mod CallTakesCourse
 pub mod EventIsAnswered
 pub mod AllIsAtHand
+pub mod AllIsDelivered
+pub mod AsksAreAnswered
+pub mod ActsAreMade
 pub mod ThereIsOne

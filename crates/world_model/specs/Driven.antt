@@ -18,7 +18,7 @@ use Rattle.world_model.specs.declared.reply.Reply.TheVariants as reply
 use Rattle.world_model.specs.World.{Rank, Live, WorldValue, size, IsLive, IsWire}
 use Rattle.world_model.specs.Follows.{CanNot, Happens}
 use Rattle.world_model.specs.Onward.{Behind, IsWorld}
-use Rattle.world_model.specs.RunIndex.{earliest}
+use Rattle.crash_free.specs.Points.{first_acts}
 use Rattle.world_model.specs.Measures.{RankNears}
 use Rattle.world_model.specs.Way.{IsOwn}
 
@@ -256,12 +256,12 @@ pub record Listened (w : WorldValue) (events : List WorldEvent) (w' : WorldValue
 
 -- the act after the first k of a run, which is of this rank, was made
 abbrev pub MadeAt : List Passed → ℕ → ℕ → WorldValue → Type 0
-MadeAt C k r w = (a : Act) × (earliest (k + 1) C ≡ record { rank = r; act = a } ∷ earliest k C) × Made w (record { rank = r; act = a }) (earliest k C)
+MadeAt C k r w = (a : Act) × (first_acts (k + 1) C ≡ record { rank = r; act = a } ∷ first_acts k C) × Made w (record { rank = r; act = a }) (first_acts k C)
 
 -- the act after the first k of a run was made, or is the next, fewer steps of its rank's own ahead
 -- than n
 abbrev pub IsNear : List Passed → ℕ → ℕ → ℕ → WorldValue → Type 0
-IsNear C k r n w = (Ready w (earliest k C) × RankNears n r w) ⊎ MadeAt C k r w
+IsNear C k r n w = (Ready w (first_acts k C) × RankNears n r w) ⊎ MadeAt C k r w
 
 -- these count the acts of each of n ranks in the earlier part of a run
 pub record IsCounted (n : ℕ) (early : List Passed) (counts : List ℕ) : Type 0 where

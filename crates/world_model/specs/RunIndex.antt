@@ -1,9 +1,10 @@
 -- The run that a world keeps, and its index: for each rank how many acts it made, and the clocks of
 -- what it sent to each rank, so that no look-up walks the run.
-use Rattle.std.specs.Prelude.{◌≡◌, ℕ, zero, suc, ◌+◌, ◌-◌, ◌<◌, ◌≤◌, List, [], ◌∷◌, ◌++◌, length, map, take, drop, replicate, slice_get, slice_set}
+use Rattle.std.specs.Prelude.{◌≡◌, ℕ, zero, suc, ◌+◌, ◌-◌, ◌<◌, List, [], ◌∷◌, ◌++◌, length, map, take, replicate, slice_get, slice_set}
 use Rattle.std.specs.Prelude.{slice_index_or}
 use Rattle.std.specs.Prelude.{Option, Some, option_map}
 use Rattle.rank_machine.specs.Acts.{Act, sends, takes, hits, misses, prints}
+use Rattle.crash_free.specs.Points.{first_acts}
 use Rattle.crash_free.specs.Runs.{Passed, at_place, history, sent}
 
 -- a run of so many ranks, the newest act first
@@ -24,17 +25,9 @@ clocks C s d = map (λ m. m.clock) (sent C s d)
 abbrev pub clock_at : List Passed → ℕ → ℕ → ℕ → Option ℕ
 clock_at C s d j = option_map (λ m. m.clock) (at_place (sent C s d) j)
 
--- no number stands before a smaller one
-abbrev pub Rising : List ℕ → Type 0
-Rising xs = (i j : ℕ) → i ≤ j → j < length xs → slice_index_or xs i 0 ≤ slice_index_or xs j 0
-
--- the first k acts of a run, which is newest act first
-abbrev pub earliest : ℕ → List Passed → List Passed
-earliest k C = drop (length C - k) C
-
 -- after the first k acts of a run comes one of this rank
 abbrev pub IsNext : List Passed → ℕ → ℕ → Type 0
-IsNext C k r = (a : Act) × (earliest (k + 1) C ≡ record { rank = r; act = a } ∷ earliest k C) × (k < length C)
+IsNext C k r = (a : Act) × (first_acts (k + 1) C ≡ record { rank = r; act = a } ∷ first_acts k C) × (k < length C)
 
 -- of one rank, how many acts it made, and for each rank the clocks of what it sent there
 pub record MadeValue : Type 0 where

@@ -16,7 +16,8 @@ use std::alloc::AllocError;
 /// then, nothing is outgoing to any rank.
 #[tactic(auto, using(crate::proofs::PuttingLemmas::nothing_next))]
 pub fn put_out<H>(shared: &Shared<'_, H>, life: &mut Life<'_, '_>) -> Result<bool, AllocError>
-    ensures nothing { OnOk result (life.old.kit.tally.may_owe ≡ true → life.new.kit.tally.may_owe ≡ false → NothingBelow life.new.node.size life.new.node.phase) }
+    ensures nothing { OnOk result (life.old.kit.tally.may_owe ≡ true → life.new.kit.tally.may_owe ≡ false
+        → NothingBelow life.new.node.size life.new.node.phase) }
     ensures kept { KeepsGate life.old life.new }
 {
     if !life.kit.tally.may_owe {

@@ -42,7 +42,8 @@ pub fn step<W: Wait, H: Hold>(
     life: &mut Life<'_, '_>,
 ) -> Result<Stepped, NodeFault>
     ensures answer { result ≢ Err NodeFault.Memory → result ≡ step_of life.old.kit.tally life.old.node.phase }
-    ensures counts { IfOk result (λ stepped. Counts shared.now.limits.steps life.old.node.phase life.new.node.phase stepped life.old.kit.tally life.new.kit.tally) }
+    ensures counts { IfOk result (λ stepped. Counts shared.now.limits.steps life.old.node.phase life.new.node.phase stepped
+        life.old.kit.tally life.new.kit.tally) }
     ensures clock { IfOk result (λ stepped. clock_in life.new.node.phase ≡ clock_in life.old.node.phase + acts_of stepped) }
     ensures waits { life.old.kit.tally.is_blocked ≡ true → life.old.kit.tally.is_spent ≡ false → (result ≡ Ok Stepped.Blocked) × (life.new ≡ life.old) }
     ensures kept { KeepsCosts life.old life.new }

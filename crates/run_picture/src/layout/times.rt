@@ -4,13 +4,13 @@ ghost use Rattle.std.specs.Prelude.{◌≡◌, ◌++◌, ◌∷◌, [], IfOk, Li
 ghost use Rattle.crash_free.specs.Runs.{Passed};
 ghost use Rattle.run_picture.specs.Marks.{made_of, sign_of, told_of};
 ghost use Rattle.run_picture.specs.Noted.{IsNext, IsNoted, next_moment, reached_at, reached_in};
-ghost use Rattle.run_picture.specs.Posts.{noted_by};
+ghost use Rattle.send_index.specs.Posts.{noted_by};
 ghost use Rattle.run_picture.specs.Times.{AreClocks, AreTimed, last_of, time_at};
 
-use crate::layout::posted::Posted;
 use crate::layout::scene::MarkKind;
 use crash_free::{Act, Passed};
 use limits::Heap;
+use send_index::Sends;
 use std::alloc::AllocError;
 
 /// When and where an act is made.
@@ -45,7 +45,7 @@ pub struct Times {
     pub reached: Vec<Reached, Heap>,
     /// The last time of all.
     pub last: usize,
-    posted: Posted,
+    posted: Sends,
     // act by act, whether it sends a message that is taken
     taken: Vec<bool, Heap>,
 }
@@ -78,7 +78,7 @@ impl Times {
             moments: Vec::new(alloc),
             reached,
             last: 0,
-            posted: Posted::new(alloc)?,
+            posted: Sends::new(alloc)?,
             taken: Vec::new(alloc),
         })
     }
@@ -117,7 +117,7 @@ impl Times {
     fn moment_of(&self, passed: &Passed) -> Moment
         ensures { result ≡ next_moment self.now passed.now }
     {
-        let sender = self.posted.sender(passed);
+        let sender = self.posted.send_for(passed);
         let rank = usize::from(passed.rank);
         let before = self.reached_by(rank);
         Moment {

@@ -17,9 +17,10 @@ use Rattle.world_model.specs.declared.reply.Reply.TheVariants as reply
 use Rattle.world_model.specs.declared.view.View.{View}
 use Rattle.world_model.specs.World.{Live, WorldValue, size, IsLive}
 use Rattle.world_model.specs.View.{shown_of, IsView}
-use Rattle.world_model.specs.RunIndex.{earliest, IsNext}
+use Rattle.crash_free.specs.Points.{first_acts}
+use Rattle.world_model.specs.RunIndex.{IsNext}
 use Rattle.world_model.specs.Follows.{Follows}
-use Rattle.world_model.specs.Measures.{StopsAfter, steps_of, RankNears, HasLines, machine_of, machine_of_newest}
+use Rattle.world_model.specs.Measures.{StopsAfter, steps_of, RankNears, HasLines}
 use Rattle.world_model.specs.Driven.{Advanced, Flushed, Emptied, MadeAt, IsNear, IsCounted, Ready, listed}
 use Rattle.world_model.proofs.Lists.Beginnings.{drop_beyond}
 use Rattle.world_model.proofs.Again.NextActIsMade.{act_ahead, make_next, made_already, ready_after}
@@ -28,16 +29,16 @@ use Rattle.world_model.proofs.Again.Calls.{advanced_by, advanced_more}
 -- ---- the earlier acts
 
 -- an act of a run stands between later ones and earlier ones
-pub run_parts : (C : List Passed) (k : ℕ) (p : Passed) → earliest (k + 1) C ≡ p ∷ earliest k C → C ≡ take (length C - (k + 1)) C ++ p ∷ earliest k C
+pub run_parts : (C : List Passed) (k : ℕ) (p : Passed) → first_acts (k + 1) C ≡ p ∷ first_acts k C → C ≡ take (length C - (k + 1)) C ++ p ∷ first_acts k C
 run_parts C k p e = sym (take-append-drop (length C - (k + 1)) C) ∙ ap (λ z. take (length C - (k + 1)) C ++ z) e
 
 -- none
-pub earliest_none : (C : List Passed) → earliest 0 C ≡ []
-earliest_none C = drop_beyond (length C - 0) C (omega arith)
+pub no_first_acts : (C : List Passed) → first_acts 0 C ≡ []
+no_first_acts C = drop_beyond (length C - 0) C (omega arith)
 
 -- all
-pub earliest_all : (C : List Passed) (k : ℕ) → length C ≤ k → earliest k C ≡ C
-earliest_all C k l = ap (λ z. drop z C) (let e : length C - k ≡ 0 = omega (arith, l) in e) ∙ whole C
+pub all_first_acts : (C : List Passed) (k : ℕ) → length C ≤ k → first_acts k C ≡ C
+all_first_acts C k l = ap (λ z. drop z C) (let e : length C - k ≡ 0 = omega (arith, l) in e) ∙ whole C
   where
     whole : (xs : List Passed) → drop 0 xs ≡ xs
     whole [] = refl
@@ -65,12 +66,12 @@ listed_moved events event answer e =
     omega (arith, q, n)
 
 module _ (a b : WorldValue) (x y : List WorldEvent) (k r count : ℕ) (view : View) (next : IsNext a.run k r)
-    (is : count ≡ length (history (earliest k a.run) r) + 1) (lr : r < size b)
+    (is : count ≡ length (history (first_acts k a.run) r) + 1) (lr : r < size b)
     (f : Advanced a x b y) (seen : IsView b r view) where
   abbrev p : Passed
   p = record { rank = r; act = next.0 }
 
-  run : b.run ≡ take (length a.run - (k + 1)) a.run ++ p ∷ earliest k a.run
+  run : b.run ≡ take (length a.run - (k + 1)) a.run ++ p ∷ first_acts k a.run
   run = f.same_run ∙ run_parts a.run k p next.1
 
   -- the next act is nearer by a step, which goes on the list: fewer steps are left of those that were left when it began
@@ -92,7 +93,7 @@ module _ (a b : WorldValue) (x y : List WorldEvent) (k r count : ℕ) (view : Vi
           let few = (near.1 v.0 v.1).few in
           let shown = clock_of b r v.0 view seen v.1 in
           let s =
-          make_next b (earliest k a.run) (take (length a.run - (k + 1)) a.run) r next.0 v.0 answer c ready run v.1 (omega (arith, low, shown, is)) g in
+          make_next b (first_acts k a.run) (take (length a.run - (k + 1)) a.run) r next.0 v.0 answer c ready run v.1 (omega (arith, low, shown, is)) g in
           let more : length z ≡ length y + 1 = subst (λ q. length q ≡ length y + 1) ez (listed_moved y (Step r) answer s.moved) in
           let left : bound - length y - 1 ≡ bound - length z = omega (arith, more) in (
             advanced_more a b c x y z f
@@ -104,7 +105,7 @@ module _ (a b : WorldValue) (x y : List WorldEvent) (k r count : ℕ) (view : Vi
           let v = made.2.all_live r lr in
           let shown = clock_of b r v.0 view seen v.1 in
           let there = made.2.through.made r v.0 v.1 in
-          let n = one_more (earliest k a.run) r made.0 in
+          let n = one_more (first_acts k a.run) r made.0 in
           absurd (omega (arith, low, shown, is, there, n))
 
   -- a rank whose clock has come so far has made it
@@ -114,36 +115,31 @@ module _ (a b : WorldValue) (x y : List WorldEvent) (k r count : ℕ) (view : Vi
       let ready = near.0 in
       let v = ready.all_live r lr in
       let shown = clock_of b r v.0 view seen v.1 in
-      (next.0, next.1, made_already b (earliest k a.run) (take (length a.run - (k + 1)) a.run) p v.0 ready run v.1 (omega (arith, l, shown, is)))
+      (next.0, next.1, made_already b (first_acts k a.run) (take (length a.run - (k + 1)) a.run) p v.0 ready run v.1 (omega (arith, l, shown, is)))
 
 -- so has the rank of the next act, where its clock is shown to have come so far
-pub made_before : (w : WorldValue) (k r count : ℕ) (view : View) → IsNext w.run k r → count ≡ length (history (earliest k w.run) r) + 1 → r < size w
-    → IsView w r view → Ready w (earliest k w.run) → count ≤ view.clock → MadeAt w.run k r w
+pub made_before : (w : WorldValue) (k r count : ℕ) (view : View) → IsNext w.run k r → count ≡ length (history (first_acts k w.run) r) + 1 → r < size w
+    → IsView w r view → Ready w (first_acts k w.run) → count ≤ view.clock → MadeAt w.run k r w
 made_before w k r count view next is lr seen ready l =
     let v = ready.all_live r lr in
     let shown = clock_of w r v.0 view seen v.1 in
     let parts = run_parts w.run k (record { rank = r; act = next.0 }) next.1 in (
       next.0,
       next.1,
-      made_already w (earliest k w.run) (take (length w.run - (k + 1)) w.run) (record { rank = r; act = next.0 }) v.0 ready parts v.1
+      made_already w (first_acts k w.run) (take (length w.run - (k + 1)) w.run) (record { rank = r; act = next.0 }) v.0 ready parts v.1
           (omega (arith, l, shown, is)),
     )
 
 -- else its machine comes to the act by so many inner steps
-pub next_ahead : (w : WorldValue) (k r count : ℕ) (view : View) (m : MachineValue) → IsNext w.run k r → count ≡ length (history (earliest k w.run) r) + 1
-    → r < size w → IsView w r view → Ready w (earliest k w.run) → view.clock < count → ((v : Live) → IsLive w r v → m ≡ v.rank.machine)
+pub next_ahead : (w : WorldValue) (k r count : ℕ) (view : View) (m : MachineValue) → IsNext w.run k r → count ≡ length (history (first_acts k w.run) r) + 1
+    → r < size w → IsView w r view → Ready w (first_acts k w.run) → view.clock < count → ((v : Live) → IsLive w r v → m ≡ v.rank.machine)
     → (j : ℕ) × StopsAfter j (state_of m)
 next_ahead w k r count view m next is lr seen ready low same =
     let v = ready.all_live r lr in
     let shown = clock_of w r v.0 view seen v.1 in
     let parts = run_parts w.run k (record { rank = r; act = next.0 }) next.1 in
-    let there = act_ahead w (earliest k w.run) (take (length w.run - (k + 1)) w.run) r next.0 v.0 ready parts v.1 (omega (arith, low, shown, is)) in
+    let there = act_ahead w (first_acts k w.run) (take (length w.run - (k + 1)) w.run) r next.0 v.0 ready parts v.1 (omega (arith, low, shown, is)) in
     (there.0, subst (λ z. StopsAfter there.0 (state_of z)) (sym (same v.0 v.1)) there.1)
-
--- where the rank of the next act stands
-pub newest_machine : (w : WorldValue) (k r : ℕ) (v : Live) → IsNext w.run k r → IsLive w r v
-    → machine_of_newest w (earliest (k + 1) w.run) ≡ v.rank.machine
-newest_machine w k r v next live = ap (λ C. machine_of_newest w C) next.1 ∙ ap (λ o. machine_of o) live
 
 -- a rank that is behind has its act ahead, and makes fewer steps of its own than these before it
 pub nears_first : (w : WorldValue) (r length_before steps : ℕ) (m : MachineValue) → StopsAfter steps (state_of m)
@@ -175,30 +171,30 @@ index_other (x ∷ xs) (suc i) zero y ne = refl
 index_other (x ∷ xs) (suc i) (suc k) y ne = index_other xs i k y (λ e. ne (ap suc e))
 
 -- the counts of a run's first acts, with one more for the rank of the next act, are those of one act more
-pub counted_next : (n : ℕ) (C : List Passed) (k r : ℕ) (counts : List ℕ) → r < n → IsNext C k r → IsCounted n (earliest k C) counts
-    → IsCounted n (earliest (k + 1) C) (slice_set counts r (slice_index_or counts r 0 + 1))
+pub counted_next : (n : ℕ) (C : List Passed) (k r : ℕ) (counts : List ℕ) → r < n → IsNext C k r → IsCounted n (first_acts k C) counts
+    → IsCounted n (first_acts (k + 1) C) (slice_set counts r (slice_index_or counts r 0 + 1))
 counted_next n C k r counts l next c =
     subst (λ z. IsCounted n z (slice_set counts r (slice_index_or counts r 0 + 1))) (sym next.1)
     (record { width = length-set counts r (slice_index_or counts r 0 + 1) ∙ c.width; count = λ q m. count q m (cases_eq q r) })
   where
     count : (q : ℕ) → q < n → (q ≡ r) ⊎ (q ≡ r → ⊥)
-        → slice_index_or (slice_set counts r (slice_index_or counts r 0 + 1)) q 0 ≡ length (history (record { rank = r; act = next.0 } ∷ earliest k C) q)
+        → slice_index_or (slice_set counts r (slice_index_or counts r 0 + 1)) q 0 ≡ length (history (record { rank = r; act = next.0 } ∷ first_acts k C) q)
     count q m (inl e) =
         let w = c.width in
         let h = ap (λ z. slice_index_or (slice_set counts r (slice_index_or counts r 0 + 1)) z 0) e in
         let s = index_same counts r (slice_index_or counts r 0 + 1) (omega (arith, l, w)) in
         let o = c.count r l in
-        let t = one_more (earliest k C) r next.0 in
-        let u = ap (λ z. length (history (record { rank = r; act = next.0 } ∷ earliest k C) z)) e in
+        let t = one_more (first_acts k C) r next.0 in
+        let u = ap (λ z. length (history (record { rank = r; act = next.0 } ∷ first_acts k C) z)) e in
         omega (arith, h, s, o, t, u)
     count q m (inr ne) =
         index_other counts r q (slice_index_or counts r 0 + 1) ne ∙ c.count q m
-        ∙ sym (ap length (history-other (earliest k C) (record { rank = r; act = next.0 }) q (λ e. ne (sym e))))
+        ∙ sym (ap length (history-other (first_acts k C) (record { rank = r; act = next.0 }) q (λ e. ne (sym e))))
 
 -- before the first act each rank's count is 0
-pub counted_first : (n : ℕ) (C : List Passed) → IsCounted n (earliest 0 C) (replicate n 0)
+pub counted_first : (n : ℕ) (C : List Passed) → IsCounted n (first_acts 0 C) (replicate n 0)
 counted_first n C =
-    subst (λ z. IsCounted n z (replicate n 0)) (sym (earliest_none C)) (record { width = width n; count = λ r l. nothing n r })
+    subst (λ z. IsCounted n z (replicate n 0)) (sym (no_first_acts C)) (record { width = width n; count = λ r l. nothing n r })
   where
     width : (m : ℕ) → length {A = ℕ} (replicate m 0) ≡ m
     width zero = refl
@@ -216,11 +212,11 @@ old_count n r f old early counts e l c is =
     is ∙ ap (λ z. get_or counts z old) e ∙ get_or_default_zero counts r old (let w = c.width in omega (arith, l, w))
 
 -- the count of the rank of the next act, with one more, says how many acts the rank has made once it makes that one
-pub new_count : (n k r f g old new : ℕ) (C : List Passed) (counts : List ℕ) → f ≡ r → g ≡ r → r < n → IsCounted n (earliest k C) counts
+pub new_count : (n k r f g old new : ℕ) (C : List Passed) (counts : List ℕ) → f ≡ r → g ≡ r → r < n → IsCounted n (first_acts k C) counts
     → old ≡ get_or counts f old
-    → new ≡ get_or (slice_set counts f (old + 1)) g new → new ≡ length (history (earliest k C) r) + 1
+    → new ≡ get_or (slice_set counts f (old + 1)) g new → new ≡ length (history (first_acts k C) r) + 1
 new_count n k r f g old new C counts e1 e2 l c is now =
-    let o = old_count n r f old (earliest k C) counts e1 l c is in
+    let o = old_count n r f old (first_acts k C) counts e1 l c is in
     let w = c.width in
     let set = length-set counts r (old + 1) in
     let at = now ∙ ap (λ z. get_or (slice_set counts z (old + 1)) g new) e1 ∙ ap (λ z. get_or (slice_set counts r (old + 1)) z new) e2
@@ -229,16 +225,16 @@ new_count n k r f g old new C counts e1 e2 l c is now =
     omega (arith, at, o, h)
 
 -- counts stay those of the run's first acts where the rank of the next act gets one more
-pub counted_set : (n k r f old : ℕ) (C : List Passed) (counts : List ℕ) → f ≡ r → r < n → IsNext C k r → IsCounted n (earliest k C) counts
+pub counted_set : (n k r f old : ℕ) (C : List Passed) (counts : List ℕ) → f ≡ r → r < n → IsNext C k r → IsCounted n (first_acts k C) counts
     → old ≡ get_or counts f old
-    → IsCounted n (earliest (k + 1) C) (slice_set counts f (old + 1))
+    → IsCounted n (first_acts (k + 1) C) (slice_set counts f (old + 1))
 counted_set n k r f old C counts e l next c is =
-    let o = old_count n r f old (earliest k C) counts e l c is in
-    subst (λ z. IsCounted n (earliest (k + 1) C) (slice_set counts z (old + 1))) (sym e)
-    (subst (λ z. IsCounted n (earliest (k + 1) C) (slice_set counts r (z + 1))) (sym o) (counted_next n C k r counts l next c))
+    let o = old_count n r f old (first_acts k C) counts e l c is in
+    subst (λ z. IsCounted n (first_acts (k + 1) C) (slice_set counts z (old + 1))) (sym e)
+    (subst (λ z. IsCounted n (first_acts (k + 1) C) (slice_set counts r (z + 1))) (sym o) (counted_next n C k r counts l next c))
 
 -- a count is a clock, or less
-pub count_low : (w : WorldValue) (k r : ℕ) (counts : List ℕ) → Ready w (earliest k w.run) → r < size w → IsCounted (size w) (earliest k w.run) counts
+pub count_low : (w : WorldValue) (k r : ℕ) (counts : List ℕ) → Ready w (first_acts k w.run) → r < size w → IsCounted (size w) (first_acts k w.run) counts
     → slice_index_or counts r 0 ≤ greatest_clock
 count_low w k r counts ready l c =
     let v = ready.all_live r l in
@@ -248,11 +244,11 @@ count_low w k r counts ready l c =
     omega (arith, made, most, is)
 
 -- what is counted is within the limit of clocks
-pub low_count : (w : WorldValue) (k r f old : ℕ) (counts : List ℕ) → Ready w (earliest k w.run) → f ≡ r → r < size w
-    → IsCounted (size w) (earliest k w.run) counts
+pub low_count : (w : WorldValue) (k r f old : ℕ) (counts : List ℕ) → Ready w (first_acts k w.run) → f ≡ r → r < size w
+    → IsCounted (size w) (first_acts k w.run) counts
     → old ≡ get_or counts f old → old ≤ greatest_clock
 low_count w k r f old counts ready e l c is =
-    let o = old_count (size w) r f old (earliest k w.run) counts e l c is in
+    let o = old_count (size w) r f old (first_acts k w.run) counts e l c is in
     let m = count_low w k r counts ready l c in
     omega (arith, o, m)
 
@@ -260,31 +256,31 @@ low_count w k r f old counts ready e l c is =
 
 -- after one more act of the run is made and what is outgoing is flushed, the world is ready for the act after that, and the counts are right
 pub make_all_next : (a b c d : WorldValue) (x y z u : List WorldEvent) (k r : ℕ) (counts : List ℕ) → Advanced a x b y → Advanced b y c z → MadeAt b.run k r c
-    → IsCounted (size b) (earliest (k + 1) b.run) counts → Flushed c z d u → ((t : ℕ) → t < size d → Emptied r t c d)
-    → Advanced a x d u × Ready d (earliest (k + 1) a.run) × IsCounted (size a) (earliest (k + 1) a.run) counts
+    → IsCounted (size b) (first_acts (k + 1) b.run) counts → Flushed c z d u → ((t : ℕ) → t < size d → Emptied r t c d)
+    → Advanced a x d u × Ready d (first_acts (k + 1) a.run) × IsCounted (size a) (first_acts (k + 1) a.run) counts
 make_all_next a b c d x y z u k r counts f g made counted h emptied = (
   advanced_more a c d x z u (advanced_more a b c x y z f g) h.advanced,
-  subst (λ C. Ready d (earliest (k + 1) C)) f.same_run
+  subst (λ C. Ready d (first_acts (k + 1) C)) f.same_run
       (subst (λ early. Ready d early) (sym made.1)
-      (ready_after c d (record { rank = r; act = made.0 }) (earliest k b.run) made.2 h.advanced.is_world h.keeps
+      (ready_after c d (record { rank = r; act = made.0 }) (first_acts k b.run) made.2 h.advanced.is_world h.keeps
       (λ t l. (emptied t l).drained made.2.no_gaps))),
-  subst (λ n. IsCounted n (earliest (k + 1) a.run) counts) f.same_size (subst (λ C. IsCounted (size b) (earliest (k + 1) C) counts) f.same_run counted),
+  subst (λ n. IsCounted n (first_acts (k + 1) a.run) counts) f.same_size (subst (λ C. IsCounted (size b) (first_acts (k + 1) C) counts) f.same_run counted),
 )
 
 -- what the next call wants
-pub ready_at : (a b : WorldValue) (x y : List WorldEvent) (k : ℕ) → Advanced a x b y → Ready b (earliest k a.run) → Ready b (earliest k b.run)
-ready_at a b x y k f g = subst (λ C. Ready b (earliest k C)) (sym f.same_run) g
+pub ready_at : (a b : WorldValue) (x y : List WorldEvent) (k : ℕ) → Advanced a x b y → Ready b (first_acts k a.run) → Ready b (first_acts k b.run)
+ready_at a b x y k f g = subst (λ C. Ready b (first_acts k C)) (sym f.same_run) g
 
 -- counts of the first acts of a run are right in a world that advanced, as its run and its size are the same
-pub counted_at : (a b : WorldValue) (x y : List WorldEvent) (k : ℕ) (counts : List ℕ) → Advanced a x b y → IsCounted (size a) (earliest k a.run) counts
-    → IsCounted (size b) (earliest k b.run) counts
+pub counted_at : (a b : WorldValue) (x y : List WorldEvent) (k : ℕ) (counts : List ℕ) → Advanced a x b y → IsCounted (size a) (first_acts k a.run) counts
+    → IsCounted (size b) (first_acts k b.run) counts
 counted_at a b x y k counts f g =
-    subst (λ n. IsCounted n (earliest k b.run) counts) (sym f.same_size) (subst (λ C. IsCounted (size a) (earliest k C) counts) (sym f.same_run) g)
+    subst (λ n. IsCounted n (first_acts k b.run) counts) (sym f.same_size) (subst (λ C. IsCounted (size a) (first_acts k C) counts) (sym f.same_run) g)
 
 -- before the first
-pub make_first : (w : WorldValue) → Ready w [] → Ready w (earliest 0 w.run)
-make_first w g = subst (λ z. Ready w z) (sym (earliest_none w.run)) g
+pub make_first : (w : WorldValue) → Ready w [] → Ready w (first_acts 0 w.run)
+make_first w g = subst (λ z. Ready w z) (sym (no_first_acts w.run)) g
 
 -- after the last
-pub make_last : (a b : WorldValue) (x y : List WorldEvent) (k : ℕ) → Advanced a x b y → length a.run ≤ k → Ready b (earliest k a.run) → Ready b b.run
-make_last a b x y k f l g = subst (λ z. Ready b z) (earliest_all a.run k l ∙ sym f.same_run) g
+pub make_last : (a b : WorldValue) (x y : List WorldEvent) (k : ℕ) → Advanced a x b y → length a.run ≤ k → Ready b (first_acts k a.run) → Ready b b.run
+make_last a b x y k f l g = subst (λ z. Ready b z) (all_first_acts a.run k l ∙ sym f.same_run) g

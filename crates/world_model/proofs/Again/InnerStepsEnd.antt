@@ -2,6 +2,7 @@
 use Rattle.std.proofs.Common.{◌≡◌, ℕ, suc, None, sym, ap, subst}
 use Rattle.std.specs.Prelude.{is_none, IsSomeAnd}
 use Rattle.rank_machine.specs.States.{State, inner, Inners, here, on}
+use Rattle.rank_machine.proofs.Striding.{on_the_way}
 use Rattle.world_model.specs.Measures.{StopsAfter}
 
 -- inner steps that come to an end are so many
@@ -10,14 +11,6 @@ stops_after here e = (0, ap is_none e)
 stops_after (on e r) stop =
     let k = stops_after r stop in
     (suc k.0, subst (λ o. IsSomeAnd o (λ b. StopsAfter k.0 b)) (sym e) k.1)
-
--- what some inner steps lead to is on the way to where they come to an end
-pub on_the_way : {a b c : State} → Inners a b → Inners a c → inner c ≡ None → Inners b c
-on_the_way here r stop = r
-on_the_way (on e r) here stop = absurd cc
-on_the_way (on {b = x} e r) (on {b = y} e' r') stop =
-    let same : y ≡ x = cc in
-    on_the_way r (rw same at r') stop
 
 -- so there are so many from there
 pub stops_from : (a b c : State) → Inners a b → Inners a c → inner c ≡ None → (k : ℕ) × StopsAfter k b

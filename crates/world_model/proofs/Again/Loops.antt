@@ -1,5 +1,5 @@
 -- What the loops of the way keep: all that goes from a rank to another, and an Ask that is heard.
-use Rattle.std.proofs.Common.{◌≡◌, ◌≢◌, ℕ, ◌+◌, ◌<◌, ◌≤◌, ◌⊎◌, inl, inr, Bool, true, false, MatchBool, List, Option, Some}
+use Rattle.std.proofs.Common.{◌≡◌, ◌≢◌, ℕ, ◌+◌, ◌<◌, ◌≤◌, ◌⊎◌, inl, inr, Bool, true, false, MatchBool, List, Some}
 use Rattle.std.proofs.Common.{None, sym, ap, subst, ◌∙◌, arith, slice_get}
 use Rattle.std.proofs.lemmas.Bool.{cases_lt}
 use Rattle.rank_node.specs.declared.frame.Frame.{Frame}
@@ -15,6 +15,7 @@ use Rattle.world_model.specs.Way.{IsOwn}
 use Rattle.world_model.specs.Measures.{outstanding_at}
 use Rattle.world_model.specs.Driven.{AllLive, LiveTo, HeardTo, is_refused, listed, index_of, Advanced, Flushed, IsGone}
 use Rattle.world_model.specs.Driven.{Emptied, Listened}
+use Rattle.world_model.proofs.Lists.Places.{one_there}
 use Rattle.world_model.proofs.Alike.OneEventMore.{happened}
 use Rattle.world_model.proofs.Way.PairIsDrained.{gone_asks, gone_drained}
 use Rattle.world_model.proofs.Way.AsksAreHeard.{hear_keeps, hear_next}
@@ -51,20 +52,14 @@ listened_next w events r s i frames n answer w' world all lr ls wire there f hea
     live : (v : Live) × IsLive w s v
     live = all s ls
 
-    lists_one : {A : Type 0} (x y : List A) (o : Option (List A)) → o ≡ Some x → o ≡ Some y → x ≡ y
-    lists_one x y o e f = cc
-
-    frames_one : (x y : Frame) (o : Option Frame) → o ≡ Some x → o ≡ Some y → x ≡ y
-    frames_one x y o e f = cc
-
     same : (fs : List Frame) → IsWire w r s fs → fs ≡ frames
     same fs is =
-        let of : is.0 ≡ wire.0 = lists_one is.0 wire.0 (slice_get w.wires r) is.1 wire.1 in
-        lists_one fs frames (slice_get wire.0 s) (ap (λ z. slice_get z s) (sym of) ∙ is.2) wire.2
+        let of : is.0 ≡ wire.0 = one_there is.0 wire.0 (slice_get w.wires r) is.1 wire.1 in
+        one_there fs frames (slice_get wire.0 s) (ap (λ z. slice_get z s) (sym of) ∙ is.2) wire.2
 
     own : (start : WorldValue) → IsOwn start w (Arrive r s i)
     own start x fs old is at was =
-        inr (n, frames_one x (frame.Ask n) (slice_get frames i) (ap (λ z. slice_get z i) (sym (same fs is)) ∙ at) there)
+        inr (n, one_there x (frame.Ask n) (slice_get frames i) (ap (λ z. slice_get z i) (sym (same fs is)) ∙ at) there)
 
     go : (answer ≡ reply.Refused) ⊎ ((answer ≢ reply.Refused) × (is_refused answer ≡ false))
         → Listened w events w' (listed events (Arrive r s i) answer) × HeardTo (i + 1) r s w'
@@ -72,7 +67,7 @@ listened_next w events r s i frames n answer w' world all lr ls wire there f hea
     go (inr ne) =
         let h : ArriveFollows w r s i answer w' = happened w (Arrive r s i) answer w' ne.0 f in
         let is : h.frame ≡ frame.Ask n =
-        frames_one h.frame (frame.Ask n) (slice_get frames i) (ap (λ z. slice_get z i) (sym (same h.frames h.wire)) ∙ h.there) there in (
+        one_there h.frame (frame.Ask n) (slice_get frames i) (ap (λ z. slice_get z i) (sym (same h.frames h.wire)) ∙ h.there) there in (
           record {
             advanced = advanced_by w events (Arrive r s i) answer w' world tt (λ start d. own start) (λ q. ap (λ z. z.run) h.after) f;
             keeps = hear_keeps w r s i answer w' h n is world;

@@ -28,7 +28,7 @@ use Rattle.world_model.proofs.Again.StepsToNextAct.{ahead}
 use Rattle.world_model.proofs.Again.PartsOfAct.{next_drained, through_none}
 use Rattle.world_model.specs.Way.{IsWayOn}
 use Rattle.world_model.proofs.Alike.LeadsToo.{way_on}
-use Rattle.world_model.proofs.Alike.OneEventMore.{happened, world_after, driven_push}
+use Rattle.world_model.proofs.Alike.OneEventMore.{happened, world_after}
 
 -- what a step of the rank of the next act comes to
 pub record Stepped (w : WorldValue) (r : ℕ) (a : Act) (early : List Passed) (answer : Reply) (w' : WorldValue) : Type 0 where
@@ -144,15 +144,6 @@ ready_after w w' p early m i k own =
         k.drained s d (λ x y a c ok la lc e. m.drained x y a c (λ q. ne (sym ok.0 ∙ q)) la lc e) s d u v (refl, refl) lu lv b
 
 -- ---- a step goes last on the list
-
--- the step that makes an act is one more event that drives the world
-pub driven_step : (start : WorldValue) (events : List WorldEvent) (w : WorldValue) (r : ℕ) (a : Act) (early : List Passed) (answer : Reply) (w' : WorldValue)
-    → Stepped w r a early answer w' → Follows w (Step r) answer w' → Driven start events w → Driven start (events ++ Step r ∷ []) w'
-driven_step start events w r a early answer w' s f d =
-    driven_push start events w (Step r) answer w' d tt tt (λ e. never (sym s.moved ∙ e)) f s.same_run
-  where
-    never : reply.Moved ≡ reply.Refused → ⊥
-    never q = cc
 
 -- the way begins: nothing was gone through yet
 pub ready_first : (w : WorldValue) → IsWorld w → AllLive w → NoGaps w → ((s d : ℕ) → s < size w → d < size w → DrainedFrom s d w) → Ready w []

@@ -11,8 +11,9 @@ use Rattle.rank_machine.specs.declared.want.Want.TheVariants as want
 use Rattle.rank_machine.specs.States.{State}
 use Rattle.rank_machine.specs.Wants.{wants}
 use Rattle.rank_machine.specs.Acts.{Act, Message, sends, takes, hits, misses, prints, carried}
+use Rattle.rank_machine.proofs.CollectiveParts.{longer_at}
 use Rattle.crash_free.specs.Runs.{Passed, History, at_place, history, sent, sends_from, send_at, cons_if, add_if, looked_up, taken, IsFree, IsRun}
-use Rattle.crash_free.proofs.Lists.{history-own, history-other, slice_get-append}
+use Rattle.crash_free.proofs.Lists.{history-own, run_begins}
 use Rattle.world_model.specs.World.{Live}
 use Rattle.world_model.specs.World.{WorldValue, size, IsLive}
 use Rattle.world_model.specs.Stands.{LogStands, sends_of, StandsIn, RankStands, Stands, start_at}
@@ -23,7 +24,9 @@ use Rattle.world_model.proofs.Lists.Beginnings.{take_append, take_whole}
 use Rattle.world_model.proofs.Standing.LiveRanks.{RankStands-settled, at_run}
 use Rattle.world_model.proofs.Onward.OneRankChanges.{settled_in}
 use Rattle.world_model.proofs.Runs.ActFitsWant.{history_looks_up}
+use Rattle.world_model.proofs.Lists.Places.{get_last}
 use Rattle.world_model.specs.Driven.{AllLive, Drained}
+use Rattle.audit.proofs.Outcomes.{history_beyond}
 
 -- ---- a run begins with its earlier acts
 
@@ -39,21 +42,6 @@ history_begins (p ∷ late) early r =
     more true h x = (x ∷ [], refl)
     more false h x = ([], sym (append-nil h))
 
--- the first part of a run is a run
-pub run_begins : (start : ℕ → State) (n : ℕ) (late early : List Passed) → IsRun start n (late ++ early) → IsRun start n early
-run_begins start n [] early i = i
-run_begins start n (p ∷ late) early i = run_begins start n late early i.0
-
--- ranks that aren't there have made nothing
-pub far_none : (start : ℕ → State) (n : ℕ) (C : List Passed) (s : ℕ) → IsRun start n C → n ≤ s → history C s ≡ []
-far_none start n [] s i l = refl
-far_none start n (p ∷ C) s i l = history-other C p s (λ e. (let m = i.1 in omega (arith, l, m, e))) ∙ far_none start n C s i.0 l
-
--- the last element stands behind all others
-get_last : {A : Type 0} (xs : List A) (x : A) → slice_get (xs ++ x ∷ []) (length xs) ≡ Some x
-get_last [] x = refl
-get_last (y ∷ xs) x = get_last xs x
-
 -- the first act of a rank after the earlier ones, with what it took or hit among what was sent by then
 pub act_there : (late early : List Passed) (r : ℕ) (a : Act)
     → slice_get (history (late ++ record { rank = r; act = a } ∷ early) r) (length (history early r)) ≡ Some (a, looked_up (λ s. sent early s r) a)
@@ -62,7 +50,7 @@ act_there late early r a =
     let begins = history_begins late (record { rank = r; act = a } ∷ early) r in
     let own : history (record { rank = r; act = a } ∷ early) r ≡ history early r ++ x ∷ [] = history-own early r a in
     subst (λ z. slice_get z (length (history early r)) ≡ Some x) (sym (begins.1 ∙ ap (λ z. z ++ begins.0) own))
-    (slice_get-append (history early r ++ x ∷ []) begins.0 (length (history early r)) x (get_last (history early r) x))
+    (longer_at (history early r ++ x ∷ []) begins.0 (length (history early r)) x (get_last (history early r) x))
 
 -- ---- how much was sent
 
@@ -91,7 +79,7 @@ take_more zero (x ∷ xs) ys l = absurd (omega arith)
 take_more (suc c) (x ∷ xs) ys l = (let z = take_more c xs ys (omega (arith, l)) in (z.0, ap (λ y. x ∷ y) z.1))
 
 -- a place that holds a message is from 1 to the length
-at_place_within : (xs : List Message) (j : ℕ) (m : Message) → at_place xs j ≡ Some m → (1 ≤ j) × (j ≤ length xs)
+pub at_place_within : (xs : List Message) (j : ℕ) (m : Message) → at_place xs j ≡ Some m → (1 ≤ j) × (j ≤ length xs)
 at_place_within xs zero m e = absurd cc
 at_place_within xs (suc j) m e = (let z = slice_get_within xs j m e in (omega arith, omega (arith, z)))
 
@@ -232,7 +220,7 @@ module _ (w : WorldValue) (late early : List Passed) (r : ℕ) (a : Act) (v : Li
           go (inr l) =
               let i : IsRun (start_at w (size w)) (size w) early =
               (run_begins (start_at w (size w)) (size w) late (record { rank = r; act = a } ∷ early) is_run).0 in
-              let none : sent early s r ≡ [] = ap (λ z. sends_from 0 r z) (far_none (start_at w (size w)) (size w) early s i l) in
+              let none : sent early s r ≡ [] = ap (λ z. sends_from 0 r z) (history_beyond (start_at w (size w)) (size w) early s i l) in
               let z = at_place_within (sent early s r) j m place in
               let c = ap length none in
               let z0 = z.0 in

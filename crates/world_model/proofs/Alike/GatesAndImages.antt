@@ -1,14 +1,12 @@
 -- A store, an acknowledgment, an image, a crash and a release leave worlds alike that are alike, and what happens in the one of them may happen
 -- in the other: no gate asks for a shelf, and an image asks for one that holds it.
-use Rattle.std.proofs.Common.{◌≡◌, ℕ, [], ◌∷◌, ◌++◌, Option, Some, None, refl, sym, ap, subst, ◌∙◌, slice_set}
+use Rattle.std.proofs.Common.{◌≡◌, ℕ, [], ◌∷◌, ◌++◌, Some, None, refl, sym, ap, subst, ◌∙◌, slice_set}
 use Rattle.checkpoint.specs.Shelf.{image_bytes}
 use Rattle.checkpoint.specs.declared.memory_shelf.MemoryShelf.{MemoryShelf}
-use Rattle.sequential_logger.specs.Event.{EventValue}
 use Rattle.sequential_logger.specs.Misses.{expand}
 use Rattle.sequential_logger.specs.History.{row, append_reply, state_after, next_call}
 use Rattle.sequential_logger.specs.declared.call.Call.TheVariants.{Append}
 use Rattle.sequential_logger.specs.declared.call.Reply.TheVariants.{Length}
-use Rattle.rank_machine.specs.Acts.{Act}
 use Rattle.rank_node.specs.declared.waiting.Waiting.{Waiting}
 use Rattle.rank_node.specs.declared.waiting.Waiting.TheVariants as waits
 use Rattle.rank_node.specs.Waiting.{effect_clock}
@@ -29,6 +27,7 @@ use Rattle.world_model.proofs.Calls.RankOfEvent.{one_live}
 use Rattle.world_model.proofs.Runs.EventNamesOneAct.{noted_acts}
 use Rattle.world_model.proofs.Alike.ListLeadsToo.{alike_set, alike_size, alike_live}
 use Rattle.world_model.proofs.Alike.MayHappenToo.{HasCourse}
+use Rattle.world_model.proofs.Lists.Places.{one_there}
 
 -- ---- one rank of each
 
@@ -45,22 +44,6 @@ set_alike a b a' b' r u v k f g s =
     subst (λ z. AreAlike z b'.ranks) (sym f)
     (subst (λ z. AreAlike (slice_set a.ranks r (Some u)) z) (sym g) (alike_set a.ranks b.ranks r (Some u) (Some v) k.ranks s))
 
--- one place holds one event
-events_one : (x y : EventValue) (o : Option EventValue) → o ≡ Some x → o ≡ Some y → x ≡ y
-events_one x y o e f = cc
-
--- one effect, one clock and one act are found
-effects_one : (x y : Waiting) (o : Option Waiting) → o ≡ Some x → o ≡ Some y → x ≡ y
-effects_one x y o e f = cc
-
--- nor two clocks
-clocks_one : (x y : ℕ) (o : Option ℕ) → o ≡ Some x → o ≡ Some y → x ≡ y
-clocks_one x y o e f = cc
-
--- nor two acts
-acts_one : (x y : Act) (o : Option Act) → o ≡ Some x → o ≡ Some y → x ≡ y
-acts_one x y o e f = cc
-
 -- ---- a store
 
 -- the rank after it
@@ -72,7 +55,7 @@ pub store_alike : (a b : WorldValue) (r : ℕ) (x y : Reply) (a' b' : WorldValue
 store_alike a b r x y a' b' k f g =
     let s = on_other a b r f.before g.before k f.live g.live in
     let event : g.event ≡ f.event =
-    events_one g.event f.event (next_unstored f.before.rank) (ap (λ (z : Live). next_unstored z.rank) (sym s.1) ∙ g.oldest) f.oldest in
+    one_there g.event f.event (next_unstored f.before.rank) (ap (λ (z : Live). next_unstored z.rank) (sym s.1) ∙ g.oldest) f.oldest in
     let noted : Noted a.run r g.acts f.event = subst (λ z. Noted a.run r g.acts z) event (subst (λ C. Noted C r g.acts g.event) k.run g.noted) in
     let acts : g.acts ≡ f.acts =
     noted_acts a.run r g.acts f.acts (expand (f.event ∷ [])) noted.row_grows noted.as_many f.noted.row_grows f.noted.as_many in
@@ -244,10 +227,10 @@ pub release_alike : (a b : WorldValue) (r : ℕ) (x y : Reply) (a' b' : WorldVal
 release_alike a b r x y a' b' k f g =
     let s = on_other a b r f.before g.before k f.live g.live in
     let effect : g.effect ≡ f.effect =
-    effects_one g.effect f.effect (next_effect f.before.rank) (ap (λ (z : Live). next_effect z.rank) (sym s.1) ∙ g.oldest) f.oldest in
-    let clock : g.clock ≡ f.clock = clocks_one g.clock f.clock (effect_clock f.effect) (ap effect_clock (sym effect) ∙ g.of_it) f.of_it in
+    one_there g.effect f.effect (next_effect f.before.rank) (ap (λ (z : Live). next_effect z.rank) (sym s.1) ∙ g.oldest) f.oldest in
+    let clock : g.clock ≡ f.clock = one_there g.clock f.clock (effect_clock f.effect) (ap effect_clock (sym effect) ∙ g.of_it) f.of_it in
     let act : g.act ≡ f.act =
-    acts_one g.act f.act (released_act f.before.rank f.effect)
+    one_there g.act f.act (released_act f.before.rank f.effect)
     (sym (act_shelf f.before.rank s.0 f.effect) ∙ ap (λ (z : Live). released_act z.rank f.effect) (sym s.1)
     ∙ ap (λ z. released_act g.before.rank z) (sym effect) ∙ g.passes) f.passes in
     record {

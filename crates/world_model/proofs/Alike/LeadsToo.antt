@@ -1,7 +1,6 @@
 -- A restart, and so any event of the way, leaves alike worlds alike; the list leads the other world on too.
-use Rattle.std.proofs.Common.{◌≡◌, ℕ, List, [], ◌∷◌, ◌++◌, Option, Some, length, refl, sym, ap}
+use Rattle.std.proofs.Common.{◌≡◌, ℕ, List, [], ◌∷◌, ◌++◌, Some, length, refl, sym, ap}
 use Rattle.std.proofs.Common.{subst, ◌∙◌, arith, slice_get, slice_set}
-use Rattle.checkpoint.specs.Image.{ImageValue}
 use Rattle.sequential_logger.specs.Event.{EventValue}
 use Rattle.sequential_logger.specs.History.{above, row}
 use Rattle.sequential_logger.specs.declared.call.Reply.TheVariants.{Events}
@@ -23,6 +22,7 @@ use Rattle.world_model.specs.Driven.{shelved, AreAlike, Alike, IsUsed, Drove, Dr
 use Rattle.world_model.proofs.Alike.SameEvents.{refusal_shelf}
 use Rattle.world_model.proofs.Alike.MayHappenToo.{happens_too}
 use Rattle.world_model.proofs.Alike.ListLeadsToo.{alike_set, alike_size, alike_live, alike_down, step_alike, put_alike, arrive_alike}
+use Rattle.world_model.proofs.Lists.Places.{one_there}
 
 -- ---- a restart
 
@@ -30,17 +30,13 @@ use Rattle.world_model.proofs.Alike.ListLeadsToo.{alike_set, alike_size, alike_l
 events_one : (x y : List EventValue) → Events x ≡ Events y → x ≡ y
 events_one x y e = cc
 
--- one place holds one image, or none
-images_one : (x y : Option ImageValue) (o : Option (Option ImageValue)) → o ≡ Some x → o ≡ Some y → x ≡ y
-images_one x y o e f = cc
-
 -- a restart leaves worlds alike, as the same image and the same events are read
 restart_alike : (a b : WorldValue) (r : ℕ) (x y : Reply) (a' b' : WorldValue) → Alike a b → RestartFollows a r x a' → RestartFollows b r y b' → Alike a' b'
 restart_alike a b r x y a' b' k f g =
     let n : size b ≡ size a = alike_size a b k in
     let events : g.events ≡ f.events = events_one g.events f.events (g.fetches.replied ∙ ap (λ z. Events (above 0 (row z r))) k.rows ∙ sym f.fetches.replied) in
     let on : g.begins.0 ≡ f.begins.0 =
-    images_one g.begins.0 f.begins.0 (slice_get a.images r) (ap (λ z. slice_get z r) (sym k.images) ∙ g.begins.1) f.begins.1 in
+    one_there g.begins.0 f.begins.0 (slice_get a.images r) (ap (λ z. slice_get z r) (sym k.images) ∙ g.begins.1) f.begins.1 in
     let image : g.image ≡ f.image =
     g.begins.2 ∙ ap (λ z. begins_at z r (size b) g.begins.0) k.program ∙ ap (λ z. begins_at a.program r z g.begins.0) n
     ∙ ap (λ z. begins_at a.program r (size a) z) on ∙ sym f.begins.2 in

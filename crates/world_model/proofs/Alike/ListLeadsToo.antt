@@ -17,6 +17,7 @@ use Rattle.world_model.specs.Follows.{effect_at, lines_after, passed_at, after_t
 use Rattle.world_model.specs.Driven.{on_shelf, shelved, IsAlike, AreAlike, Alike}
 use Rattle.world_model.proofs.Alike.SameEvents.{step_one, replay_one, step_shelf, replay_shelf, turn_shelf, replay_turn_shelf, stepped_shelf}
 use Rattle.world_model.proofs.Alike.SameEvents.{replayed_shelf, effect_shelf, lines_shelf, sent_shelf, frame_shelf}
+use Rattle.world_model.proofs.Lists.Places.{one_there}
 
 -- ---- ranks that are alike
 
@@ -28,15 +29,6 @@ alike_at [] (z ∷ ys) r y a e = absurd a
 alike_at (x ∷ xs) [] r y a e = absurd a
 alike_at (x ∷ xs) (z ∷ ys) zero y a e = (x, refl, (let q : z ≡ y = cc in subst (λ k. IsAlike x k) q a.0))
 alike_at (x ∷ xs) (z ∷ ys) (suc r) y a e = alike_at xs ys r y a.1 e
-
--- what stands at a place of the first list has its like at that place of the second
-alike_to : (xs ys : List (Option Live)) (r : ℕ) (x : Option Live) → AreAlike xs ys → slice_get xs r ≡ Some x
-    → (y : Option Live) × (slice_get ys r ≡ Some y) × IsAlike x y
-alike_to [] [] r x a e = absurd cc
-alike_to [] (z ∷ ys) r x a e = absurd a
-alike_to (z ∷ xs) [] r x a e = absurd a
-alike_to (z ∷ xs) (y ∷ ys) zero x a e = (y, refl, (let q : z ≡ x = cc in subst (λ k. IsAlike k y) q a.0))
-alike_to (z ∷ xs) (y ∷ ys) (suc r) x a e = alike_to xs ys r x a.1 e
 
 -- lists of ranks stay alike where the same place of both is set to ranks alike
 pub alike_set : (xs ys : List (Option Live)) (r : ℕ) (x y : Option Live) → AreAlike xs ys → IsAlike x y → AreAlike (slice_set xs r x) (slice_set ys r y)
@@ -73,17 +65,6 @@ alike_live a b r v k live = go (alike_at a.ranks b.ranks r (Some v) k.ranks live
     of (Some u) e i = record { rank = u; live = e; shelf = i.0; same = i.1 }
 
     go : (x : Option Live) × (slice_get a.ranks r ≡ Some x) × IsAlike x (Some v) → Was a r v
-    go f = of f.0 f.1 f.2
-
--- and the other way round
-alike_live_to : (a b : WorldValue) (r : ℕ) (u : Live) → Alike a b → IsLive a r u → (shelf : MemoryShelf) × IsLive b r (shelved u shelf)
-alike_live_to a b r u k live = go (alike_to a.ranks b.ranks r (Some u) k.ranks live)
-  where
-    of : (o : Option Live) → slice_get b.ranks r ≡ Some o → IsAlike (Some u) o → (shelf : MemoryShelf) × IsLive b r (shelved u shelf)
-    of None e i = absurd i
-    of (Some v) e i = (i.0, subst (λ z. slice_get b.ranks r ≡ Some (Some z)) i.1 e)
-
-    go : (y : Option Live) × (slice_get b.ranks r ≡ Some y) × IsAlike (Some u) y → (shelf : MemoryShelf) × IsLive b r (shelved u shelf)
     go f = of f.0 f.1 f.2
 
 -- a rank that is down in the second world is down in the first
@@ -216,14 +197,6 @@ step_alike a b r x y a' b' k (inr f) (inl g) =
 
 -- ---- frames
 
--- one place holds one list
-lists_one : {A : Type 0} (x y : List A) (o : Option (List A)) → o ≡ Some x → o ≡ Some y → x ≡ y
-lists_one x y o e f = cc
-
--- one place holds one frame
-frames_one : (x y : Frame) (o : Option Frame) → o ≡ Some x → o ≡ Some y → x ≡ y
-frames_one x y o e f = cc
-
 -- a put leaves worlds alike
 pub put_alike : (a b : WorldValue) (s d : ℕ) (x y : Reply) (a' b' : WorldValue) → Alike a b → PutFollows a s d x a' → PutFollows b s d y b' → Alike a' b'
 put_alike a b s d x y a' b' k f g = go (alike_live a b s g.before k g.live)
@@ -233,9 +206,9 @@ put_alike a b s d x y a' b' k f g = go (alike_live a b s g.before k g.live)
         let u : Live = f.before in
         let h = was.shelf in
         let same : g.before ≡ shelved u h = was.same ∙ ap (λ z. shelved z h) (one_rank a.ranks s u was.rank f.live was.live) in
-        let frame : g.frame ≡ f.frame = frames_one g.frame f.frame (outgoing_of u.rank d) (ap (λ z. outgoing_of z.rank d) (sym same) ∙ g.next) f.next in
-        let of : g.of_s ≡ f.of_s = lists_one g.of_s f.of_s (slice_get a.wires s) (ap (λ z. slice_get z s) (sym k.wires) ∙ g.wires) f.wires in
-        let frames : g.frames ≡ f.frames = lists_one g.frames f.frames (slice_get f.of_s d) (ap (λ z. slice_get z d) (sym of) ∙ g.wire) f.wire in
+        let frame : g.frame ≡ f.frame = one_there g.frame f.frame (outgoing_of u.rank d) (ap (λ z. outgoing_of z.rank d) (sym same) ∙ g.next) f.next in
+        let of : g.of_s ≡ f.of_s = one_there g.of_s f.of_s (slice_get a.wires s) (ap (λ z. slice_get z s) (sym k.wires) ∙ g.wires) f.wires in
+        let frames : g.frames ≡ f.frames = one_there g.frames f.frames (slice_get f.of_s d) (ap (λ z. slice_get z d) (sym of) ∙ g.wire) f.wire in
         let rank : after_passed (on_shelf u.rank h) d ≡ on_shelf (after_passed u.rank d) h = sent_shelf u.rank h d (outgoing_of u.rank d) in
         let ranks : b'.ranks ≡ slice_set b.ranks s (Some (shelved (record { rank = after_passed u.rank d; left = u.left }) h)) =
         ap (λ z. z.ranks) g.after ∙ ap (λ z. slice_set b.ranks s (Some (record { rank = after_passed z.rank d; left = z.left }))) same
@@ -262,8 +235,8 @@ put_alike a b s d x y a' b' k f g = go (alike_live a b s g.before k g.live)
 -- one wire goes from the one to the other
 wire_one : (w w' : WorldValue) (s d : ℕ) (x y : List Frame) → w'.wires ≡ w.wires → IsWire w s d x → IsWire w' s d y → y ≡ x
 wire_one w w' s d x y e f g =
-    let of : g.0 ≡ f.0 = lists_one g.0 f.0 (slice_get w.wires s) (ap (λ z. slice_get z s) (sym e) ∙ g.1) f.1 in
-    lists_one y x (slice_get f.0 d) (ap (λ z. slice_get z d) (sym of) ∙ g.2) f.2
+    let of : g.0 ≡ f.0 = one_there g.0 f.0 (slice_get w.wires s) (ap (λ z. slice_get z s) (sym e) ∙ g.1) f.1 in
+    one_there y x (slice_get f.0 d) (ap (λ z. slice_get z d) (sym of) ∙ g.2) f.2
 
 -- an arrival leaves worlds alike
 pub arrive_alike : (a b : WorldValue) (s d i : ℕ) (x y : Reply) (a' b' : WorldValue) → Alike a b → ArriveFollows a s d i x a' → ArriveFollows b s d i y b'
@@ -276,7 +249,7 @@ arrive_alike a b s d i x y a' b' k f g = go (alike_live a b d g.before k g.live)
         let h = was.shelf in
         let same : g.before ≡ shelved u h = was.same ∙ ap (λ z. shelved z h) (one_rank a.ranks d u was.rank f.live was.live) in
         let frames : g.frames ≡ f.frames = wire_one a b s d f.frames g.frames k.wires f.wire g.wire in
-        let frame : g.frame ≡ f.frame = frames_one g.frame f.frame (slice_get f.frames i) (ap (λ z. slice_get z i) (sym frames) ∙ g.there) f.there in
+        let frame : g.frame ≡ f.frame = one_there g.frame f.frame (slice_get f.frames i) (ap (λ z. slice_get z i) (sym frames) ∙ g.there) f.there in
         let ranks : b'.ranks ≡ slice_set b.ranks d (Some (shelved (record { rank = after_frame u.rank s f.frame; left = u.left }) h)) =
         ap (λ z. z.ranks) g.after ∙ ap (λ z. slice_set b.ranks d (Some (record { rank = after_frame z.rank s g.frame; left = z.left }))) same
         ∙ ap (λ z. slice_set b.ranks d (Some (record { rank = after_frame (on_shelf u.rank h) s z; left = u.left }))) frame

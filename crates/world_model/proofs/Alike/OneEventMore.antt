@@ -1,5 +1,5 @@
 -- A world that is driven by one event more.
-use Rattle.std.proofs.Common.{◌≡◌, ◌≢◌, ℕ, ◌≤◌, ◌⊎◌, inl, inr, List, [], ◌∷◌, ◌++◌, Option, Some, length, refl, sym, ap, ◌∙◌}
+use Rattle.std.proofs.Common.{◌≡◌, ◌≢◌, ℕ, ◌≤◌, ◌⊎◌, inl, inr, List, [], ◌∷◌, ◌++◌, length, refl, sym, ap, ◌∙◌}
 use Rattle.std.proofs.Common.{arith, slice_get, slice_set}
 use Rattle.std.proofs.lemmas.Bool.{cases_eq}
 use Rattle.std.proofs.lemmas.List.{length-set, length-append}
@@ -16,7 +16,7 @@ use Rattle.world_model.proofs.Onward.KeptByEvents.{onward_after}
 use Rattle.world_model.proofs.Onward.OnItsWire.{wired_after}
 use Rattle.world_model.specs.Way.{IsOwn}
 use Rattle.world_model.specs.Driven.{IsUsed, AreLonger, Driven}
-use Rattle.world_model.proofs.Lists.Places.{set_get_same, set_get_other}
+use Rattle.world_model.proofs.Lists.Places.{set_get_same, set_get_other, one_there}
 use Rattle.world_model.proofs.Alike.LeadsToo.{drove_push}
 
 -- an event that wasn't refused happened
@@ -67,10 +67,6 @@ size_after w (Release r) answer w' used f = absurd used
 
 -- ---- wires
 
--- one place holds one list
-lists_one : {A : Type 0} (x y : List A) (o : Option (List A)) → o ≡ Some x → o ≡ Some y → x ≡ y
-lists_one x y o e f = cc
-
 -- wires that stay as they are hold what they held at the start
 same_longer : (start w w' : WorldValue) → w'.wires ≡ w.wires → AreLonger start w → AreLonger start w'
 same_longer start w w' e l s d old frames was is = l s d old frames was (is.0, ap (λ z. slice_get z s) (sym e) ∙ is.1, is.2)
@@ -92,7 +88,7 @@ put_longer start w s d answer w' f l q k old frames was is = go (cases_eq q s)
     go (inl e) = here (cases_eq k d)
       where
         of : is.0 ≡ slice_set f.of_s d (f.frames ++ f.frame ∷ [])
-        of = lists_one is.0 (slice_set f.of_s d (f.frames ++ f.frame ∷ [])) (slice_get w'.wires q) is.1
+        of = one_there is.0 (slice_set f.of_s d (f.frames ++ f.frame ∷ [])) (slice_get w'.wires q) is.1
             (ap (λ z. slice_get w'.wires z) e ∙ ap (λ z. slice_get z s) after
             ∙ set_get_same w.wires s f.of_s (slice_set f.of_s d (f.frames ++ f.frame ∷ [])) f.wires)
 
@@ -105,7 +101,7 @@ put_longer start w s d answer w' f l q k old frames was is = go (cases_eq q s)
             )
         here (inl j) =
             let new : frames ≡ f.frames ++ f.frame ∷ [] =
-            lists_one frames (f.frames ++ f.frame ∷ []) (slice_get is.0 k) is.2
+            one_there frames (f.frames ++ f.frame ∷ []) (slice_get is.0 k) is.2
             (ap (λ z. slice_get is.0 z) j ∙ ap (λ z. slice_get z d) of ∙ set_get_same f.of_s d f.frames (f.frames ++ f.frame ∷ []) f.wire) in
             let before = l q k old f.frames was (f.of_s, ap (λ z. slice_get w.wires z) e ∙ f.wires, ap (λ z. slice_get f.of_s z) j ∙ f.wire) in
             let a = ap length new in

@@ -1,7 +1,7 @@
 -- Worlds that are alike stay so under the same events of the way: a step fixes the machine, and no call looks at a shelf but
 -- by its image, or at the logger's history.
 use Rattle.std.proofs.Common.{◌≡◌, ℕ, ℤ, Bool, true, false, ◌==◌, if◌then◌else◌, List, MatchBool}
-use Rattle.std.proofs.Common.{Option, Some, None, refl, sym, ap, subst, ◌∙◌, position}
+use Rattle.std.proofs.Common.{Option, Some, None, refl, sym, ap, ◌∙◌, position}
 use Rattle.checkpoint.specs.declared.memory_shelf.MemoryShelf.{MemoryShelf}
 use Rattle.matching.specs.declared.packet.Context.{Context}
 use Rattle.matching.specs.PacketValue as packet
@@ -13,8 +13,9 @@ use Rattle.sequential_logger.specs.declared.kind.Kind.TheVariants as kind
 use Rattle.rank_machine.specs.declared.want.Want.{Want}
 use Rattle.rank_machine.specs.declared.want.Want.TheVariants as want
 use Rattle.rank_machine.specs.Wants.{payload}
-use Rattle.rank_machine.specs.Acts.{Act, sends, prints, Fits, Makes}
+use Rattle.rank_machine.specs.Acts.{Act, sends, prints, Makes}
 use Rattle.rank_machine.specs.Machine.{MachineValue, state_of, machine_want, GoesOn, received_at}
+use Rattle.rank_machine.proofs.Making.{makes_sent, makes_printed}
 use Rattle.rank_node.specs.declared.frame.Frame.{Frame}
 use Rattle.rank_node.specs.declared.frame.Frame.TheVariants as frame
 use Rattle.rank_node.specs.declared.turn.Turn.{Turn}
@@ -28,7 +29,6 @@ use Rattle.rank_node.specs.Steps.{received, probed, tried, DidAct, Took, WasShow
 use Rattle.ports.specs.declared.line.Line.{Line}
 use Rattle.world_model.specs.World.{Rank}
 use Rattle.world_model.specs.Follows.{effect_at, lines_after}
-use Rattle.world_model.proofs.Runs.ActFitsWant.{wanted}
 use Rattle.world_model.specs.Driven.{on_shelf}
 
 -- ---- a step fixes the machine
@@ -90,17 +90,6 @@ tries_named_one o kind.Hit v m n f g = shows_one o v m n f g
 tries_named_one o kind.Miss v m n f g = missed_one v m n f g
 tries_named_one o kind.Misses v m n f g = missed_one v m n f g
 
--- the act that a send or a print makes
-makes_send : (m : MachineValue) (d : ℕ) (c : Context) (t : ℕ) → machine_want m ≡ want.Send d c t → Makes (state_of m) (sends d c t (payload (state_of m))) None
-makes_send m d c t is =
-    subst (λ z. Fits z (payload (state_of m)) (sends d c t (payload (state_of m))) None) (sym (wanted m (want.Send d c t) is (λ z. cc)))
-    (refl, refl, refl, refl)
-
--- a machine that wants to print makes the print
-makes_print : (m : MachineValue) (x : ℤ) → machine_want m ≡ want.Print x → Makes (state_of m) (prints x) None
-makes_print m x is =
-    subst (λ z. Fits z (payload (state_of m)) (prints x) None) (sym (wanted m (want.Print x) is (λ z. cc))) refl
-
 -- one machine comes of an effect, both where there is room for it and where there is none
 where_one : (b : Bool) (v m n : MachineValue) (a : Act) → Makes (state_of v) a None → MatchBool b (DidAct v m) (m ≡ v)
     → MatchBool b (DidAct v n) (n ≡ v) → n ≡ m
@@ -111,22 +100,22 @@ where_one false v m n a makes f g = g ∙ sym f
 pub step_one : (v : Rank) (x : Want) (m n : MachineValue) → machine_want v.machine ≡ x → MachineStepAt v x m → MachineStepAt v x n → n ≡ m
 step_one v want.Internal m n is f g = goes_one v.machine m n f g
 step_one v (want.Send d c t) m n is f g =
-    where_one (has_room v.pending) v.machine m n (sends d c t (payload (state_of v.machine))) (makes_send v.machine d c t is) f g
+    where_one (has_room v.pending) v.machine m n (sends d c t (payload (state_of v.machine))) (makes_sent v.machine d c t is) f g
 step_one v (want.Receive s) m n is f g = takes_one (found s v.inbox.packets) v.machine m n f g
 step_one v (want.Probe s) m n is f g = shows_one (found s v.inbox.packets) v.machine m n f g
 step_one v (want.TryProbe s) m n is f g = tries_one (found s v.inbox.packets) v.machine m n f g
-step_one v (want.Print x) m n is f g = where_one (has_room v.pending) v.machine m n (prints x) (makes_print v.machine x is) f g
+step_one v (want.Print x) m n is f g = where_one (has_room v.pending) v.machine m n (prints x) (makes_printed v.machine x is) f g
 step_one v want.Halted m n is f g = g ∙ sym f
 step_one v (want.Faulted k) m n is f g = g ∙ sym f
 
 -- and one that is
 pub replay_one : (v : Rank) (e : EventValue) (x : Want) (m n : MachineValue) → machine_want v.machine ≡ x → ReplayStepAt v e x m → ReplayStepAt v e x n → n ≡ m
 replay_one v e want.Internal m n is f g = goes_one v.machine m n f g
-replay_one v e (want.Send d c t) m n is f g = did_one v.machine m n (sends d c t (payload (state_of v.machine))) (makes_send v.machine d c t is) f g
+replay_one v e (want.Send d c t) m n is f g = did_one v.machine m n (sends d c t (payload (state_of v.machine))) (makes_sent v.machine d c t is) f g
 replay_one v e (want.Receive s) m n is f g = takes_one (named v e) v.machine m n f g
 replay_one v e (want.Probe s) m n is f g = shows_one (named v e) v.machine m n f g
 replay_one v e (want.TryProbe s) m n is f g = tries_named_one (named v e) e.kind v.machine m n f g
-replay_one v e (want.Print x) m n is f g = did_one v.machine m n (prints x) (makes_print v.machine x is) f g
+replay_one v e (want.Print x) m n is f g = did_one v.machine m n (prints x) (makes_printed v.machine x is) f g
 replay_one v e want.Halted m n is f g = g ∙ sym f
 replay_one v e (want.Faulted k) m n is f g = g ∙ sym f
 

@@ -7,6 +7,7 @@ use Rattle.rank_node.specs.declared.waiting.Waiting.{Waiting}
 use Rattle.rank_node.specs.Waiting.{is_settled}
 use Rattle.rank_node.specs.Image.{after_image, with_shelf}
 use Rattle.rank_node.specs.Stored.{Stored}
+use Rattle.rank_node.proofs.Again.{settled_nil}
 use Rattle.world_model.specs.World.{Rank, Live, WorldValue, size}
 use Rattle.world_model.specs.Headline.{stable_of}
 use Rattle.world_model.specs.Seats.{at_work, AtRank, IsImaged, IsNotAtWork}
@@ -30,11 +31,6 @@ waits : (xs : List Waiting) → is_settled xs ≡ false → xs ≢ []
 waits [] e = absurd cc
 waits (x ∷ xs) e = λ z. cc
 
--- where nothing waits, the list of it is empty
-none_waits : (xs : List Waiting) → is_settled xs ≡ true → xs ≡ []
-none_waits [] e = refl
-none_waits (x ∷ xs) e = absurd cc
-
 -- a rank where something waits takes none
 pub image_unsettled : (w : WorldValue) (r : ℕ) (x : Rank) → slice_get w.ranks r ≡ Some (at_work x) → is_settled x.pending ≡ false
     → Follows w (Image r) reply.Refused w
@@ -44,7 +40,7 @@ image_unsettled w r x at e =
 -- nothing waits at the rank
 pub image_settled : (ranks : List (Option Live)) (r : ℕ) (x : Rank) → slice_get ranks r ≡ Some (at_work x) → is_settled x.pending ≡ true
     → AtRank ranks r (λ v. v.rank.pending ≡ [])
-image_settled ranks r x at e = value_at ranks r x (λ v. v.rank.pending ≡ []) at (none_waits x.pending e)
+image_settled ranks r x at e = value_at ranks r x (λ v. v.rank.pending ≡ []) at (settled_nil x.pending e)
 
 -- what is stable of the rank r of n, with another shelf
 on_shelf : (n r : ℕ) (stable : Stored MemoryShelf (Unit {0})) (shelf : MemoryShelf) → stable.rank ≡ r → stable.size ≡ n
@@ -82,7 +78,7 @@ image_some w w' r x s at settled took program logger wires lines run = follows
       before = record { rank = x; left = [] };
       live = at;
       running = refl;
-      settled = none_waits x.pending settled;
+      settled = settled_nil x.pending settled;
       shelf = is.2.shelf;
       held = is.2.held ∙ is.2.taken;
       answered = refl;
@@ -95,7 +91,7 @@ image_some w w' r x s at settled took program logger wires lines run = follows
 -- where memory ends an image could be taken
 pub image_possible : (w : WorldValue) (r : ℕ) (x : Rank) → slice_get w.ranks r ≡ Some (at_work x) → is_settled x.pending ≡ true
     → CanNot w (Image r) → ⊥
-image_possible w r x at e cannot = cannot (record { rank = x; left = [] }) at refl (none_waits x.pending e)
+image_possible w r x at e cannot = cannot (record { rank = x; left = [] }) at refl (settled_nil x.pending e)
 
 -- what an image comes to, and what its calls ask for
 pub ruleset image_laws = (image_nowhere, image_idle, image_unsettled, image_settled, image_some, image_possible)

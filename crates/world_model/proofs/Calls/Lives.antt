@@ -21,6 +21,7 @@ use Rattle.world_model.proofs.Calls.RankOfEvent.{none_live, live_at, not_down, s
 use Rattle.world_model.proofs.Plain.ActsOfEvents.{cuts_none}
 use Rattle.world_model.proofs.Plain.Worlds.{as_many_rows}
 use Rattle.world_model.proofs.Standing.KeptByRestarts.{row_whole}
+use Rattle.audit.proofs.Reaching.{some_there}
 
 -- no rank is there to crash
 pub crash_nowhere : (w : WorldValue) (r : ℕ) → size w ≤ r → Follows w (Crash r) reply.Refused w
@@ -86,11 +87,6 @@ restart_uncut w r events logger s l fetched = go (slice_get w.images r) refl
     go (Some image) e =
         cuts_none (begins_at w.program r (length w.ranks) image).clock events
         (λ k x at. s.runs.uncut r k (slice_index_or w.logger.rows r []) x image there (ap (λ z. slice_get z k) (sym is) ∙ at) e)
-
--- what holds of what stands at a place, and that it stands there
-some_there : {A : Type 0} (o : Option A) (P : A → Type 0) → IsSomeAnd o P → (x : A) × (o ≡ Some x) × P x
-some_there None P h = absurd h
-some_there (Some x) P h = (x, refl, h)
 
 -- a rank starts again
 pub restart_some : (w w' : WorldValue) (r count : ℕ) (events : List EventValue)

@@ -52,11 +52,6 @@ module _ (w : WorldValue) (r : ℕ) (v : Live) (x : EventValue) (s : Stands w) (
   pub oldest_counted : IsCounted x
   oldest_counted = (s.runs.ranks r v live).unstored 0 x (ap (λ z. slice_get (events_in z) 0) first)
 
-  -- of which the first is pending
-  pub oldest_part : (p : EventValue) × (ps : List EventValue) × (parts_of x ≡ p ∷ ps) × (p.receiver_clock ≡ first_clock x)
-  oldest_part =
-      (let z = first_part x ((s.runs.ranks r v live).unstored 0 x (ap (λ y. slice_get (events_in y) 0) first)) in (z.first, z.others, z.parts, z.clock))
-
   pub oldest_act : (a : Act) × (p : EventValue) × (ps : List EventValue) × (parts_of x ≡ p ∷ ps) × (p.receiver_clock ≡ first_clock x)
       × (event_at (length (history w.run r) + 1) a (looked_up (λ q. sent w.run q r) a) ≡ Some p)
   oldest_act =

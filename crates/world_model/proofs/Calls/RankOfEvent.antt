@@ -1,6 +1,6 @@
 -- What the calls on a world's parts come to, as events: what holds of the rank that an event names.
 use Rattle.std.proofs.Common.{◌≡◌, ◌≢◌, ℕ, ◌<◌, ◌≤◌, List, [], Option, Some, None, length, refl, sym, ap, subst, ◌∙◌, arith, slice_get}
-use Rattle.std.proofs.Common.{IsSomeAnd, Result, Ok, Err, OnOk, OnErr, Bool, true, false}
+use Rattle.std.proofs.Common.{IsSomeAnd, Result, Ok, Err, OnErr, Bool, true, false}
 use Rattle.std.specs.Bool.{OnTrue, OnFalse}
 use Rattle.std.proofs.lemmas.Option.{slice_get_within}
 use Rattle.checkpoint.specs.Image.{ImageValue}
@@ -94,8 +94,3 @@ on_true false f h = tt
 pub on_false : {P Q : Type 0} (b : Bool) → (P → Q) → OnFalse b P → OnFalse b Q
 on_false true f h = tt
 on_false false f h = f h
-
--- and from one about an `Ok`
-pub on_ok : {A E P Q : Type 0} (r : Result A E) → (P → Q) → OnOk r P → OnOk r Q
-on_ok (Ok x) f h = f h
-on_ok (Err e) f h = tt

@@ -1,10 +1,10 @@
 -- What a call on a rank leaves of its seat: the machine keeps its program, and what is stable stays, but for the shelf
 -- where an image is taken.
 use Rattle.std.proofs.Common.{◌≡◌, ◌≢◌, ℕ, Bool, true, false, ◌==◌, length, List, [], ◌∷◌, Option, Some, None, Result, Ok, Err}
-use Rattle.std.proofs.Common.{refl, sym, ap, subst, ◌∙◌, ◌⊎◌, inl, inr, arith}
+use Rattle.std.proofs.Common.{refl, sym, ap, subst, ◌∙◌, ◌⊎◌, inl, inr}
 use Rattle.checkpoint.specs.Image.{ImageValue}
 use Rattle.checkpoint.specs.Reading.{reading}
-use Rattle.checkpoint.specs.Shelf.{image_bytes, Grew}
+use Rattle.checkpoint.specs.Shelf.{image_bytes}
 use Rattle.checkpoint.specs.declared.fault.ImageFault.{ImageFault}
 use Rattle.checkpoint.specs.declared.memory_shelf.MemoryShelf.{MemoryShelf}
 use Rattle.matching.specs.PacketValue as packet
@@ -18,14 +18,13 @@ use Rattle.rank_machine.specs.declared.want.Want.{Want}
 use Rattle.rank_machine.specs.declared.want.Want.TheVariants as want
 use Rattle.rank_machine.specs.Machine.{MachineValue, machine_want}
 use Rattle.rank_node.specs.declared.fault.NodeFault.{NodeFault}
-use Rattle.rank_node.specs.Fault.{MayRefuseRestart}
 use Rattle.rank_node.specs.declared.fault.NodeFault.TheVariants.{NotSettled, Shelf, Image, Replay, ClockSpent, Log, Memory}
 use Rattle.rank_node.specs.Image.{image_of, image_on, begins_at, where_read, IsImaged, BeginsAgain, Reads}
 use Rattle.rank_node.specs.Stored.{Stored}
 use Rattle.rank_node.specs.Steps.{DidAct, found, TakesFound, IsShownFound, TriesFound, MachineStepAt}
 use Rattle.rank_node.specs.Waiting.{has_room}
 use Rattle.rank_node.specs.Replay as replay
-use Rattle.rank_node.specs.Replay.{named, cuts, left_of, restarted, ReplayStep, ReplayStepAt, TriesNamed}
+use Rattle.rank_node.specs.Replay.{named, left_of, restarted, ReplayStep, ReplayStepAt, TriesNamed}
 use Rattle.world_model.specs.World.{Rank, Live}
 use Rattle.rank_node.specs.declared.phase.Phase.TheVariants.{Running, Replaying, Down}
 use Rattle.matching.specs.Inbox.{after_arrival}
@@ -35,8 +34,8 @@ use Rattle.rank_node.specs.declared.frame.Frame.TheVariants as frame
 use Rattle.rank_node.specs.Phases.{arrived_in, settled_in, stable_in}
 use Rattle.world_model.specs.Measures.{HasLines}
 use Rattle.world_model.specs.Stocked.{IsSeatStocked}
-use Rattle.world_model.specs.Seat.{bytes_of, live_of, seat_of, shelf_of, HasLeft, IsKept, IsOf, IsOwn, IsSeated, IsStanding, Phase}
-use Rattle.world_model.specs.Seats.{in_replay, with_live, IsRestarted}
+use Rattle.world_model.specs.Seat.{live_of, seat_of, shelf_of, HasLeft, IsKept, IsOf, IsOwn, IsSeated, IsStanding, Phase}
+use Rattle.world_model.specs.Seats.{in_replay, IsRestarted}
 use Rattle.world_model.proofs.Alike.ImageIsOfProgram.{read_program}
 use Rattle.world_model.proofs.Calls.SettlesAtTheEnd.{settled_left, settled_standing}
 
@@ -245,61 +244,6 @@ own_down p r n occupant x down seated is crashed = subst (λ z. IsOwn p r n z) (
 pub seated_down : (p : ProgramValue) (r n : ℕ) (occupant : Option Phase) (down : Stored MemoryShelf (Unit {0})) → IsOwn p r n down → occupant ≡ Some (Down down)
     → IsSeated p r n occupant
 seated_down p r n occupant down own is = seated_there p r n occupant (Down down) (record { standing = own; left = tt }) is
-
--- a seat whose rank was taken, and put back down with the bytes on its shelf, has the same image
-pub seat_down : (p : ProgramValue) (r n : ℕ) (old new : Option Phase) (x : Phase) (down : Stored MemoryShelf (Unit {0})) → old ≡ Some x
-    → shelf_of down ≡ bytes_of x → new ≡ Some (Down down) → seat_of p r n new ≡ with_live (seat_of p r n old) None
-seat_down p r n old new x down was bytes is =
-    ap (seat_of p r n) is ∙ ap (λ z. record { program = p; rank = r; size = n; live = None; image = image_on p r n z }) bytes
-    ∙ sym (ap (λ z. with_live (seat_of p r n z) None) was)
-
--- the image of a rank that is down cuts no event of a row, whatever rank it is said to be
-pub uncut_then : (p : ProgramValue) (r n : ℕ) (stable : Stored MemoryShelf (Unit {0})) (row : List EventValue) → IsOwn p r n stable
-    → cuts (begins_at p r n (image_on p r n (shelf_of stable))).clock row ≡ false
-    → (q k : ℕ) → IsOwn p q k stable → cuts (begins_at p q k (image_on p q k (shelf_of stable))).clock row ≡ false
-uncut_then p r n stable row s u q k h =
-    subst (λ z. cuts (begins_at p z k (image_on p z k (shelf_of stable))).clock row ≡ false) (sym s.rank ∙ h.rank)
-    (subst (λ z. cuts (begins_at p r z (image_on p r z (shelf_of stable))).clock row ≡ false) (sym s.size ∙ h.size) u)
-
--- a rank whose image cuts no event isn't refused for that
-not_cut : (p : ProgramValue) (r n : ℕ) (stable : Stored MemoryShelf (Unit {0})) (row : List EventValue) (fault : NodeFault)
-    → (fault ≡ Replay → cuts (begins_at p stable.rank stable.size (image_on p stable.rank stable.size (shelf_of stable))).clock row ≡ true)
-    → ((q k : ℕ) → IsOwn p q k stable → cuts (begins_at p q k (image_on p q k (shelf_of stable))).clock row ≡ false)
-    → IsOwn p r n stable → fault ≡ Replay → ⊥
-not_cut p r n stable row fault cut uncut s is =
-    let u : cuts (begins_at p stable.rank stable.size (image_on p stable.rank stable.size (shelf_of stable))).clock row ≡ false =
-    subst (λ z. cuts (begins_at p z stable.size (image_on p z stable.size (shelf_of stable))).clock row ≡ false) (sym s.rank)
-    (subst (λ z. cuts (begins_at p r z (image_on p r z (shelf_of stable))).clock row ≡ false) (sym s.size) (uncut r n s)) in
-    let q : true ≡ false = sym (cut is) ∙ u in
-    cc
-
--- a shelf in memory never fails
-none_grew : Grew 0 0 → ⊥
-none_grew (inl low) = omega (arith, low)
-none_grew (inr same) = omega (arith, same)
-
--- where nothing else may refuse a restart, memory does
-memory_alone : (fault : NodeFault) → MayRefuseRestart fault → (fault ≡ Shelf → Grew 0 0) → (fault ≡ Image → ⊥) → (fault ≡ Replay → ⊥) → fault ≡ Memory
-memory_alone NotSettled may shelf image replay = absurd may
-memory_alone Shelf may shelf image replay = absurd (none_grew (shelf refl))
-memory_alone Image may shelf image replay = absurd (image refl)
-memory_alone Replay may shelf image replay = absurd (replay refl)
-memory_alone ClockSpent may shelf image replay = absurd may
-memory_alone Log may shelf image replay = absurd may
-memory_alone Memory may shelf image replay = refl
-
--- a rank whose shelf holds an image of it, which cuts no event, is refused when out of memory alone
-pub refused_alone : (p : ProgramValue) (r n : ℕ) (stable : Stored MemoryShelf (Unit {0})) (row : List EventValue) (fault : NodeFault) → MayRefuseRestart fault
-    → (fault ≡ Shelf → Grew 0 0) → (fault ≡ Image → Reads p stable.rank stable.size (shelf_of stable) → ⊥)
-    → (fault ≡ Replay → cuts (begins_at p stable.rank stable.size (image_on p stable.rank stable.size (shelf_of stable))).clock row ≡ true)
-    → ((q k : ℕ) → IsOwn p q k stable → cuts (begins_at p q k (image_on p q k (shelf_of stable))).clock row ≡ false)
-    → IsOwn p r n stable → fault ≡ Memory
-refused_alone p r n stable row fault may shelf image cut uncut s =
-    memory_alone fault may shelf (λ is. image is reads) (not_cut p r n stable row fault cut uncut s)
-  where
-    reads : Reads p stable.rank stable.size (shelf_of stable)
-    reads = subst (λ z. Reads p z stable.size (shelf_of stable)) (sym s.rank)
-        (subst (λ z. Reads p r z (shelf_of stable)) (sym s.size) s.reads)
 
 -- that is no other fault
 pub is_memory : (fault : NodeFault) → fault ≡ Memory

@@ -28,6 +28,7 @@ use Rattle.world_model.proofs.Headline.{nothing_in_replay}
 use Rattle.world_model.proofs.Calls.RankOfEvent.{none_live, same_live, at_value, value_at, live_at, live_in_replay, same_world}
 use Rattle.world_model.proofs.Plain.Worlds.{rank_of, as_many_rows}
 use Rattle.world_model.proofs.Calls.OldestUnstored.{oldest_act, oldest_counted, oldest_first, accepts, sender_below, misses_noted, misses_run, copies}
+use Rattle.world_model.proofs.Runs.EventNamesOneAct.{takes_event, hits_event}
 
 -- no rank is there to acknowledge anything
 pub ack_nowhere : (w : WorldValue) (r : ℕ) → size w ≤ r → Follows w (Ack r) reply.Refused w
@@ -56,18 +57,6 @@ ack_some w w' r h program images logger wires lines run =
       after = same_world w' _ program (x.2.2 ∙ ap (λ z. slice_set w.ranks r z) x.2.1.1) images logger wires lines run;
     }
 
--- what the oldest unstored event of a rank says of the run
-takes_of : (c s j : ℕ) (o : Option Message) (x : EventValue) → event_at c (takes s j) o ≡ Some x
-    → (m : Message) × (o ≡ Some m) × (x ≡ event_of kind.Reception s m.clock c)
-takes_of c s j None x e = absurd cc
-takes_of c s j (Some m) x e = (m, refl, cc)
-
--- the event of a hit
-hits_of : (c s j : ℕ) (o : Option Message) (x : EventValue) → event_at c (hits s j) o ≡ Some x
-    → (m : Message) × (o ≡ Some m) × (x ≡ event_of kind.Hit s m.clock c)
-hits_of c s j None x e = absurd cc
-hits_of c s j (Some m) x e = (m, refl, cc)
-
 -- the event of a miss
 misses_of : (c : ℕ) (o : Option Message) (x : EventValue) → event_at c misses o ≡ Some x → x ≡ event_of kind.Miss 0 0 c
 misses_of c o x e = cc
@@ -83,7 +72,7 @@ pub record Names (w : WorldValue) (r : ℕ) (x : EventValue) : Type 0 where
 named_by : (w : WorldValue) (r : ℕ) (x : EventValue) (a : Act) → event_at (length (history w.run r) + 1) a (looked_up (λ q. sent w.run q r) a) ≡ Some x
     → x.kind ≢ kind.Miss → Names w r x
 named_by w r x (takes s j) e ne =
-    let h = takes_of (length (history w.run r) + 1) s j (at_place (sent w.run s r) j) x e in
+    let h = takes_event (length (history w.run r) + 1) s j (at_place (sent w.run s r) j) x e in
     record {
       place = j;
       message = h.0;
@@ -91,7 +80,7 @@ named_by w r x (takes s j) e ne =
       clock = sym (ap (λ z. z.sender_clock) h.2);
     }
 named_by w r x (hits s j) e ne =
-    let h = hits_of (length (history w.run r) + 1) s j (at_place (sent w.run s r) j) x e in
+    let h = hits_event (length (history w.run r) + 1) s j (at_place (sent w.run s r) j) x e in
     record {
       place = j;
       message = h.0;

@@ -20,8 +20,10 @@ use Rattle.world_model.specs.Stands.{Stands}
 use Rattle.world_model.specs.Plain.{plain}
 use Rattle.world_model.proofs.Plain.Worlds.{rank_of}
 use Rattle.world_model.specs.Retained.{Needed, Retains, Holds, NothingGone}
-use Rattle.world_model.proofs.Lists.Beginnings.{replicate_get, get_dropped, packets_there}
+use Rattle.world_model.proofs.Lists.Beginnings.{get_dropped, packets_there}
 use Rattle.world_model.proofs.Headline.{stands_for, stands_acts}
+use Rattle.world_model.proofs.Standing.KeptByFrames.{send_more}
+use Rattle.audit.proofs.Traces.{replicate_each}
 
 -- ---- what the first acts sent
 
@@ -48,28 +50,13 @@ sends_late j d [] k m e = absurd cc
 sends_late j d (x ∷ h) k m e =
     send_late j d x.0 (sends_from (j + 1) d h) k m (λ i f. (let b = sends_late (j + 1) d h i m f in omega (arith, b))) e
 
--- what one act sent is there still where the rest has the message at the same place
-send_early : (j d : ℕ) (a : Act) (rest rest' : List Message) (k : ℕ) (m : Message) → ((i : ℕ) → slice_get rest i ≡ Some m → slice_get rest' i ≡ Some m)
-    → slice_get (send_at (j + 1) d a rest) k ≡ Some m → slice_get (send_at (j + 1) d a rest') k ≡ Some m
-send_early j d (sends d' context t items) rest rest' k m f e = go (d' == d) k e
-  where
-    go : (b : Bool) (k : ℕ) → slice_get (cons_if b (record { clock = j + 1; context = context; tag = t; items = items }) rest) k ≡ Some m
-        → slice_get (cons_if b (record { clock = j + 1; context = context; tag = t; items = items }) rest') k ≡ Some m
-    go false k e = f k e
-    go true zero e = e
-    go true (suc k) e = f k e
-send_early j d (takes s i) rest rest' k m f e = f k e
-send_early j d (hits s i) rest rest' k m f e = f k e
-send_early j d misses rest rest' k m f e = f k e
-send_early j d (prints v) rest rest' k m f e = f k e
-
 -- a message with a clock up to c is among what the first c acts sent, at its place
 sent_early : (j d c : ℕ) (h : History) (k : ℕ) (m : Message) → slice_get (sends_from j d h) k ≡ Some m → m.clock ≤ j + c
     → slice_get (sends_from j d (take c h)) k ≡ Some m
 sent_early j d c [] k m e l = absurd cc
 sent_early j d zero (x ∷ h) k m e l = absurd (let b = sends_late j d (x ∷ h) k m e in omega (arith, l, b))
 sent_early j d (suc c) (x ∷ h) k m e l =
-    send_early j d x.0 (sends_from (j + 1) d h) (sends_from (j + 1) d (take c h)) k m (λ i f. sent_early (j + 1) d c h i m f (omega (arith, l))) e
+    send_more j d x.0 (sends_from (j + 1) d h) (sends_from (j + 1) d (take c h)) k m (λ i f. sent_early (j + 1) d c h i m f (omega (arith, l))) e
 
 -- the same by its number
 placed_early : (d c : ℕ) (h : History) (k : ℕ) (m : Message) → at_place (sends_from 0 d h) k ≡ Some m → m.clock ≤ c
@@ -155,7 +142,7 @@ module _ (w : WorldValue) (s : Stands w) where
   image_bases r i b = subst (λ z. BasesCovered w.images r z.log) (sym b.2) (go b.0 b.1)
     where
       go : (o : Option ImageValue) → slice_get w.images r ≡ Some o → BasesCovered w.images r (begins_at w.program r (size w) o).log
-      go None e d x at = subst (λ z. z.base ≤ covered w.images d r) (sym (replicate_get (size w) new_backlog d x at)) (omega arith)
+      go None e d x at = subst (λ z. z.base ≤ covered w.images d r) (sym (replicate_each (size w) new_backlog d x at)) (omega arith)
       go (Some i) e d x at = s.covers.images r i e d x at
 
   -- a live rank retains what is needed

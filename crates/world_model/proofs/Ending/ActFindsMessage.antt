@@ -1,9 +1,9 @@
 -- A rank that may make an act next, and has all messages that were sent to it: what its machine wants fits the act, and what it may take or
 -- be shown stands in its inbox.
-use Rattle.std.proofs.Common.{◌≡◌, ℕ, zero, suc, ◌≤◌, List, [], Option, Some, None, length, sym, ap, subst, ◌∙◌, arith}
+use Rattle.std.proofs.Common.{◌≡◌, ℕ, ◌≤◌, List, [], Some, length, sym, ap, subst, ◌∙◌, arith}
 use Rattle.std.proofs.Common.{slice_index_or, take, option_and_then, position}
 use Rattle.std.proofs.lemmas.List.Quantifiers.{position-Some}
-use Rattle.std.proofs.lemmas.Option.{slice_get_within, slice_get-get_or}
+use Rattle.std.proofs.lemmas.Option.{slice_get-get_or}
 use Rattle.matching.specs.PacketValue as packet
 use Rattle.matching.specs.Inbox.{Mailbox, accepted_from}
 use Rattle.matching.specs.Matching.{matches}
@@ -28,13 +28,9 @@ use Rattle.world_model.proofs.Standing.LiveRanks.{RankStands-settled, at_run}
 use Rattle.world_model.proofs.Plain.Ranks.{none_waits_plainly}
 use Rattle.world_model.proofs.Plain.Worlds.{rank_of}
 use Rattle.world_model.proofs.Again.StepBehindRun.{position_found}
+use Rattle.world_model.proofs.Again.PacketIsInInbox.{at_place_within}
 
 -- ---- what is eligible is found
-
--- a message stands at a place above 0, of those that there are
-placed : (ms : List Message) (j : ℕ) (m : Message) → at_place ms j ≡ Some m → (1 ≤ j) × (j ≤ length ms)
-placed ms zero m e = (let q : ◌≡◌ {A = Option Message} None (Some m) = e in absurd cc)
-placed ms (suc k) m e = (let l = slice_get_within ms k m e in (omega arith, omega (arith, l)))
 
 -- what stands at the first place that is named is found
 found_first : (x : Selector) (ms : List packet.PacketValue) (i : ℕ) (d : packet.PacketValue) → position (matches x) ms ≡ Some i
@@ -50,7 +46,7 @@ in_inbox : (box : Mailbox) (inbound : ℕ → List Message) (h : History) (s j :
     → length (inbound s) ≤ accepted_from box s → IsEligible inbound h s j x
     → (f : ℕ × packet.PacketValue) × (found x box.packets ≡ Some f)
 in_inbox box inbound h s j x stands all e =
-    let l = placed (inbound s) j e.message e.there in
+    let l = at_place_within (inbound s) j e.message e.there in
     let low = l.0 in
     let high = l.1 in
     let p = stands.each s j (omega (arith, low)) (omega (arith, high, all)) e.untaken in

@@ -48,10 +48,6 @@ Stays turn.Blocked = Unit {0}
 Stays turn.Held = Unit {0}
 Stays turn.Ended = Unit {0}
 
--- a turn that is another
-stays_as : (t u : Turn) → t ≡ u → Stays u → Stays t
-stays_as t u e s = subst Stays (sym e) s
-
 -- a turn that stays isn't a move
 not_moved : (t : Turn) → Stays t → t ≢ turn.Moved
 not_moved t s e = subst Stays e s

@@ -1,6 +1,6 @@
 -- Events that need nothing that may be lost when they begin: no wire gets shorter by them, and those that follow need nothing either that may
 -- have been lost before them.
-use Rattle.std.proofs.Common.{◌≡◌, ℕ, ◌<◌, ◌≤◌, ◌⊎◌, inl, inr, List, [], ◌∷◌, ◌++◌, length, Option, Some, sym, ap, subst, ◌∙◌, arith, slice_get, slice_set}
+use Rattle.std.proofs.Common.{◌≡◌, ℕ, ◌<◌, ◌≤◌, ◌⊎◌, inl, inr, List, [], ◌∷◌, ◌++◌, length, Some, sym, ap, subst, ◌∙◌, arith, slice_get, slice_set}
 use Rattle.std.proofs.lemmas.Bool.{cases_eq}
 use Rattle.std.proofs.lemmas.List.{length-append}
 use Rattle.std.proofs.lemmas.Option.{slice_get_within}
@@ -15,7 +15,7 @@ use Rattle.world_model.specs.Onward.{IsWorld}
 use Rattle.world_model.specs.Way.{IsOwn}
 use Rattle.world_model.specs.Driven.{Alike}
 use Rattle.world_model.specs.ToTheEnd.{IsNoCrash, Leads, MayBeLost, NeedsNothingLost}
-use Rattle.world_model.proofs.Lists.Places.{set_get_same, set_get_other}
+use Rattle.world_model.proofs.Lists.Places.{set_get_same, set_get_other, one_there}
 
 -- ---- no wire gets shorter
 
@@ -40,10 +40,6 @@ longer_more a b c f g s d old is =
 longer_same : (w w' : WorldValue) → w'.wires ≡ w.wires → Longer w w'
 longer_same w w' e s d old is = (old, (is.0, ap (λ z. slice_get z s) e ∙ is.1, is.2), omega arith)
 
--- one place holds one list
-lists_one : {A : Type 0} (x y : List A) (o : Option (List A)) → o ≡ Some x → o ≡ Some y → x ≡ y
-lists_one x y o e f = cc
-
 -- where a frame is put
 longer_put : (w : WorldValue) (s d : ℕ) (answer : Reply) (w' : WorldValue) → PutFollows w s d answer w' → Longer w w'
 longer_put w s d answer w' f q k old is = go (cases_eq q s)
@@ -59,7 +55,7 @@ longer_put w s d answer w' f q k old is = go (cases_eq q s)
     go (inl e) = here (cases_eq k d)
       where
         of : is.0 ≡ f.of_s
-        of = lists_one is.0 f.of_s (slice_get w.wires s) (ap (λ z. slice_get w.wires z) (sym e) ∙ is.1) f.wires
+        of = one_there is.0 f.of_s (slice_get w.wires s) (ap (λ z. slice_get w.wires z) (sym e) ∙ is.1) f.wires
 
         row : slice_get w'.wires q ≡ Some new
         row = ap (λ z. slice_get w'.wires z) e ∙ ap (λ z. slice_get z s) after ∙ set_get_same w.wires s f.of_s new f.wires
@@ -69,7 +65,7 @@ longer_put w s d answer w' f q k old is = go (cases_eq q s)
             (old, (new, row, set_get_other f.of_s d k (f.frames ++ f.frame ∷ []) ne ∙ ap (λ z. slice_get z k) (sym of) ∙ is.2), omega arith)
         here (inl j) =
             let same : old ≡ f.frames =
-            lists_one old f.frames (slice_get f.of_s d) (ap (λ z. slice_get f.of_s z) (sym j) ∙ ap (λ z. slice_get z k) (sym of) ∙ is.2) f.wire in
+            one_there old f.frames (slice_get f.of_s d) (ap (λ z. slice_get f.of_s z) (sym j) ∙ ap (λ z. slice_get z k) (sym of) ∙ is.2) f.wire in
             let a = ap length same in
             let b = length-append f.frames (f.frame ∷ []) in (
               f.frames ++ f.frame ∷ [],

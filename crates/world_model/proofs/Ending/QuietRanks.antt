@@ -1,21 +1,16 @@
 -- Ranks that are quiet, and those whose next act is refused.
-use Rattle.std.proofs.Common.{◌≡◌, ℕ, ◌+◌, ◌<◌, ◌⊎◌, inl, inr, true, List, [], ◌∷◌, length, Some, None, refl, sym, ap, subst, ◌∙◌, arith, slice_get}
+use Rattle.std.proofs.Common.{◌≡◌, ℕ, ◌+◌, ◌<◌, ◌⊎◌, inl, inr, true, [], length, Some, None, refl, sym, ap, subst, ◌∙◌, arith, slice_get}
 use Rattle.std.proofs.lemmas.Bool.{cases_eq}
 use Rattle.std.specs.Prelude.{IsSomeAnd}
 use Rattle.rank_node.specs.declared.fault.NodeFault.{NodeFault}
-use Rattle.rank_node.specs.declared.waiting.Waiting.{Waiting}
 use Rattle.rank_node.specs.Waiting.{is_settled}
 use Rattle.rank_node.specs.Steps.{turn_of, refusal_of}
+use Rattle.rank_node.proofs.Again.{settled_nil}
 use Rattle.crash_free.specs.Runs.{history}
 use Rattle.world_model.specs.World.{Rank, Live, WorldValue}
 use Rattle.world_model.specs.Seats.{at_work, IsNotAtWork}
 use Rattle.world_model.specs.Finished.{is_idle, IsQuiet, IsSpent}
 use Rattle.world_model.proofs.Calls.RankOfEvent.{same_live}
-
--- where nothing waits the list is empty
-nothing : (xs : List Waiting) → is_settled xs ≡ true → xs ≡ []
-nothing [] e = refl
-nothing (x ∷ xs) e = absurd cc
 
 -- a rank at work where nothing waits, which has made its acts and is idle, is quiet
 pub quiet_is : (w : WorldValue) (r : ℕ) (v : Rank) → slice_get w.ranks r ≡ Some (at_work v) → is_settled v.pending ≡ true
@@ -25,7 +20,7 @@ quiet_is w r v live settled made idle =
       rank = record { rank = v; left = [] };
       live = live;
       left = refl;
-      none = nothing v.pending settled;
+      none = settled_nil v.pending settled;
       made = made;
       idle = idle;
     }

@@ -29,6 +29,7 @@ use Rattle.rank_node.specs.Releasing.{effect_of, next_effect}
 use Rattle.rank_node.specs.Steps.{turn_of, turn_at, refusal_of}
 use Rattle.rank_node.specs.Storing.{next_unstored}
 use Rattle.crash_free.specs.Runs.{Passed, history, sent, sends_from, IsRun}
+use Rattle.crash_free.proofs.Lists.{run_begins}
 use Rattle.world_model.specs.declared.event.WorldEvent.{WorldEvent}
 use Rattle.world_model.specs.declared.event.WorldEvent.TheVariants.{Step, Put, Arrive, Store, Ack, Restart, Release}
 use Rattle.world_model.specs.declared.reply.Reply.{Reply}
@@ -56,7 +57,6 @@ use Rattle.world_model.proofs.Way.Cursors.{nothing_next}
 use Rattle.world_model.proofs.Again.GoesOn.{caught_up_at_end}
 use Rattle.world_model.proofs.Again.NextActIsMade.{make_next, made_already, ready_first}
 use Rattle.world_model.proofs.Way.FramesPassNoRank.{none_next, log_of, above_of, base_of}
-use Rattle.world_model.proofs.Again.PacketIsInInbox.{run_begins}
 use Rattle.world_model.proofs.Way.AllAreLive.{live_or_down}
 use Rattle.world_model.proofs.Ending.RestIsEnd.{all_rest}
 

@@ -1,5 +1,5 @@
 -- A world in which events are tried: where the list of what happened gets no longer, each was tried in vain.
-use Rattle.std.proofs.Common.{◌≡◌, ℕ, ◌+◌, ◌<◌, ◌≤◌, ◌⊎◌, inl, inr, true, List, [], ◌∷◌, ◌++◌, length, refl, sym, ap, subst, ◌∙◌, arith}
+use Rattle.std.proofs.Common.{◌≡◌, ℕ, ◌+◌, ◌≤◌, ◌⊎◌, inl, inr, true, List, [], ◌∷◌, ◌++◌, length, refl, sym, ap, subst, ◌∙◌, arith}
 use Rattle.std.proofs.lemmas.Bool.{cases_eq}
 use Rattle.std.proofs.lemmas.List.{length-append}
 use Rattle.world_model.specs.declared.event.WorldEvent.{WorldEvent}
@@ -33,10 +33,6 @@ tried_none w events event answer w' events' l f e =
 
 -- ---- one after another
 
--- a list that got longer
-pub tried_longer : (P : WorldValue → Type 0) (u v : WorldValue) (x y : List WorldEvent) → length x < length y → Tried P u x v y
-tried_longer P u v x y l = record { longer = omega (arith, l); quiet = λ m. absurd (omega (arith, l, m)) }
-
 -- nothing was tried yet
 pub tried_nothing : (P : ℕ → WorldValue → Type 0) (w : WorldValue) (events : List WorldEvent) → Tried (EachBelow 0 P) w events w events
 tried_nothing P w events = record { longer = omega arith; quiet = λ m. (refl, λ r l. absurd (omega (arith, l))) }
@@ -58,10 +54,6 @@ tried_both P Q u v w x y z f g =
           let n = g.quiet (omega (arith, l, a)) in
           (n.0 ∙ m.0, (subst P (sym n.0) m.1, n.1)));
     }
-
--- the first of both
-pub tried_first : (P Q : WorldValue → Type 0) (u v w : WorldValue) (x y z : List WorldEvent) → Tried P u x v y → Tried Q v y w z → Tried P u x w z
-tried_first P Q u v w x y z f g = tried_as (λ k. P k × Q k) P u w x z (λ k h. h.0) (tried_both P Q u v w x y z f g)
 
 -- ---- so for each
 

@@ -154,15 +154,3 @@ map_length f (x ∷ xs) = ap suc (map_length f xs)
 pub replicate_length : {A : Type 0} (n : ℕ) (x : A) → length (replicate n x) ≡ n
 replicate_length zero x = refl
 replicate_length (suc n) x = ap suc (replicate_length n x)
-
--- each is the same
-pub replicate_get : {A : Type 0} (n : ℕ) (x : A) (k : ℕ) (y : A) → slice_get (replicate n x) k ≡ Some y → y ≡ x
-replicate_get zero x k y e = absurd cc
-replicate_get (suc n) x zero y e = (let q : x ≡ y = cc in sym q)
-replicate_get (suc n) x (suc k) y e = replicate_get n x k y e
-
--- and each is there
-pub replicate_there : {A : Type 0} (n : ℕ) (x : A) (k : ℕ) → k < n → slice_get (replicate n x) k ≡ Some x
-replicate_there zero x k l = absurd (omega (arith, l))
-replicate_there (suc n) x zero l = refl
-replicate_there (suc n) x (suc k) l = replicate_there n x k (omega (arith, l))

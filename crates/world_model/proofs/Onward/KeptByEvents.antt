@@ -12,13 +12,13 @@ use Rattle.world_model.specs.Stands.{Stands}
 use Rattle.world_model.specs.Follows.{Happens, Follows}
 use Rattle.world_model.specs.Memory.{Fetched, Unchanged}
 use Rattle.world_model.specs.Onward.{AreAbove, RankOnward, Onward}
-use Rattle.world_model.proofs.Lists.Beginnings.{replicate_get}
 use Rattle.world_model.proofs.Headline.{stands_after}
 use Rattle.world_model.proofs.Onward.OneRankChanges.{Onward-crash, Onward-ack}
 use Rattle.world_model.proofs.Onward.KeptByFrames.{Onward-arrive, Onward-put}
 use Rattle.world_model.proofs.Onward.KeptByPasses.{above_new, Onward-restart, Onward-store, Onward-release}
 use Rattle.world_model.proofs.Onward.KeptBySteps.{Onward-step, Onward-replay}
 use Rattle.world_model.proofs.Onward.KeptByImages.{Onward-image}
+use Rattle.audit.proofs.Traces.{replicate_each}
 
 -- ---- each event
 
@@ -92,7 +92,7 @@ fresh_onward program n w f =
     record {
       acts = λ r. (let e = none r in omega (arith, e));
       images = λ r d i b e is.
-          absurd (let q : Some i ≡ None = replicate_get n None r (Some i) (subst (λ z. slice_get z r ≡ Some (Some i)) f.images e) in cc);
+          absurd (let q : Some i ≡ None = replicate_each n None r (Some i) (subst (λ z. slice_get z r ≡ Some (Some i)) f.images e) in cc);
       ranks = λ r v live. rank r v live;
     }
   where

@@ -13,7 +13,6 @@ use Rattle.rank_node.specs.declared.frame.Frame.TheVariants as frame
 use Rattle.rank_node.specs.Node.{no_due}
 use Rattle.rank_node.specs.Frames.{with_inbox, with_log, with_dues, due_to, first_of, sent_off, after_passed, after_frame}
 use Rattle.crash_free.proofs.Keeping.{set_there}
-use Rattle.crash_free.proofs.Lists.{slice_get-append}
 use Rattle.world_model.specs.declared.reply.Reply.{Reply}
 use Rattle.world_model.specs.World.{WorldValue}
 use Rattle.world_model.specs.Stands.{Stands}
@@ -21,6 +20,8 @@ use Rattle.world_model.specs.Follows.{PutFollows, ArriveFollows}
 use Rattle.world_model.specs.Onward.{OnWire, AreAbove, RankOnward, Onward}
 use Rattle.world_model.proofs.Covers.KeptByEvents.{arrival_more}
 use Rattle.world_model.proofs.Onward.OneRankChanges.{WiresGrow, same_wires, valued, OneChanged, GetsOn, onward_gets_on, one_changed, same_behind}
+use Rattle.world_model.proofs.Lists.Places.{set_get_other, get_last, one_there}
+use Rattle.rank_machine.proofs.CollectiveParts.{longer_at}
 
 -- ---- a frame arrives
 
@@ -94,23 +95,6 @@ Onward-arrive w s d i answer w' t f k =
 
 -- ---- a frame is put
 
--- what was pushed stands last
-get_last : {A : Type 0} (xs : List A) (x : A) → slice_get (xs ++ x ∷ []) (length xs) ≡ Some x
-get_last [] x = refl
-get_last (y ∷ xs) x = get_last xs x
-
--- a replacement leaves what stands elsewhere
-set_elsewhere : {A : Type 0} (xs : List A) (i k : ℕ) (y : A) → (k ≡ i → ⊥) → slice_get (slice_set xs i y) k ≡ slice_get xs k
-set_elsewhere [] i k y ne = refl
-set_elsewhere (z ∷ xs) zero zero y ne = absurd (ne refl)
-set_elsewhere (z ∷ xs) zero (suc k) y ne = refl
-set_elsewhere (z ∷ xs) (suc i) zero y ne = refl
-set_elsewhere (z ∷ xs) (suc i) (suc k) y ne = set_elsewhere xs i k y (λ e. ne (ap suc e))
-
--- one list stands at a place
-one_there : {A : Type 0} (xs ys : List A) (o : Option (List A)) → o ≡ Some xs → o ≡ Some ys → xs ≡ ys
-one_there xs ys o e f = cc
-
 -- a frame last on one wire: it is on that, and each frame that was on a wire is on it still
 module _ (w w' : WorldValue) (s d : ℕ) (of_s : List (List Frame)) (frames : List Frame) (x : Frame)
     (has_s : slice_get w.wires s ≡ Some of_s) (has_d : slice_get of_s d ≡ Some frames)
@@ -131,7 +115,7 @@ module _ (w w' : WorldValue) (s d : ℕ) (of_s : List (List Frame)) (frames : Li
   grow_from : (k : ℕ) (f : Frame) → OnWire w s k f → (k ≡ d) ⊎ (k ≡ d → ⊥) → OnWire w' s k f
   grow_from k f on (inr ne) =
       let is : on.2.0 ≡ of_s = one_there on.2.0 of_s (slice_get w.wires s) on.2.1 has_s in
-      let there = set_elsewhere of_s d k (frames ++ x ∷ []) ne ∙ ap (λ z. slice_get z k) (sym is) ∙ on.2.2 in
+      let there = set_get_other of_s d k (frames ++ x ∷ []) ne ∙ ap (λ z. slice_get z k) (sym is) ∙ on.2.2 in
       (on.0, on.1, (slice_set of_s d (frames ++ x ∷ []), from_s, there), on.3)
   grow_from k f on (inl j) =
       let is : on.2.0 ≡ of_s = one_there on.2.0 of_s (slice_get w.wires s) on.2.1 has_s in
@@ -140,7 +124,7 @@ module _ (w w' : WorldValue) (s d : ℕ) (of_s : List (List Frame)) (frames : Li
         frames ++ x ∷ [],
         on.1,
         (slice_set of_s d (frames ++ x ∷ []), from_s, ap (λ z. slice_get (slice_set of_s d (frames ++ x ∷ [])) z) j ∙ to_d),
-        slice_get-append frames (x ∷ []) on.1 f (subst (λ z. slice_get z on.1 ≡ Some f) same on.3),
+        longer_at frames (x ∷ []) on.1 f (subst (λ z. slice_get z on.1 ≡ Some f) same on.3),
       )
 
   -- a frame from any rank
@@ -150,7 +134,7 @@ module _ (w w' : WorldValue) (s d : ℕ) (of_s : List (List Frame)) (frames : Li
       go : (q ≡ s) ⊎ (q ≡ s → ⊥) → OnWire w' q k f
       go (inl h) = subst (λ z. OnWire w' z k f) (sym h) (grow_from k f (subst (λ z. OnWire w z k f) h on) (cases_eq k d))
       go (inr ne) =
-          let there = ap (λ z. slice_get z q) after ∙ set_elsewhere w.wires s q (slice_set of_s d (frames ++ x ∷ [])) ne ∙ on.2.1 in
+          let there = ap (λ z. slice_get z q) after ∙ set_get_other w.wires s q (slice_set of_s d (frames ++ x ∷ [])) ne ∙ on.2.1 in
           (on.0, on.1, (on.2.0, there, on.2.2), on.3)
 
 -- an Ask that is due goes next

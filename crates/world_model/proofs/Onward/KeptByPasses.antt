@@ -33,7 +33,6 @@ use Rattle.world_model.proofs.Standing.Pending.{begins_effect}
 use Rattle.world_model.proofs.Standing.LiveRanks.{nothing_unpassed}
 use Rattle.world_model.specs.Plain.{plainly, plain}
 use Rattle.world_model.proofs.Standing.KeptByAcks.{some_pending, event_there}
-use Rattle.world_model.proofs.Standing.KeptByStores.{set_there}
 use Rattle.world_model.proofs.Plain.EffectsAndLeft.{unpassed_plain}
 use Rattle.world_model.proofs.Plain.Ranks.{none_waits}
 use Rattle.world_model.proofs.Plain.SameEvents.{effect_plainly}
@@ -41,6 +40,7 @@ use Rattle.world_model.proofs.Plain.Worlds.{rank_of, stored_first}
 use Rattle.world_model.proofs.Standing.KeptByReleases.{effect_there}
 use Rattle.world_model.proofs.Onward.OneRankChanges.{same_wires, valued, OneChanged, GetsOn, onward_changed, onward_gets_on, one_changed, live_is}
 use Rattle.world_model.proofs.Onward.KeptByFrames.{above_set}
+use Rattle.world_model.proofs.Lists.Places.{set_get_same}
 
 -- ---- a restart
 
@@ -173,7 +173,7 @@ Onward-store w r answer w' t t' f k =
     stored_live : IsLive w' r (valued f.before (after_store f.before.rank))
     stored_live =
         subst (λ z. slice_get z.ranks r ≡ Some (Some (valued f.before (after_store f.before.rank)))) (sym f.after)
-        (set_there w.ranks r (Some f.before) (Some (valued f.before (after_store f.before.rank))) f.live)
+        (set_get_same w.ranks r (Some f.before) (Some (valued f.before (after_store f.before.rank))) f.live)
 
     made : length (history w'.run r) ≤ f.before.rank.clock
     made =

@@ -17,14 +17,10 @@ use Rattle.crash_free.specs.Runs.{History}
 use Rattle.world_model.specs.Rows.{event_at, events_from, cons_some}
 use Rattle.world_model.specs.Plain.{AllCounted}
 use Rattle.world_model.proofs.Rows.{event_clock}
+use Rattle.world_model.proofs.Lists.Places.{get_last}
+use Rattle.rank_machine.proofs.CollectiveParts.{longer_at}
 
 -- ---- places in a list
-
--- what stands in the first part stands in the whole
-pub get_left : {A : Type 0} (xs ys : List A) (i : ℕ) (x : A) → slice_get xs i ≡ Some x → slice_get (xs ++ ys) i ≡ Some x
-get_left [] ys i x e = absurd cc
-get_left (y ∷ xs) ys zero x e = e
-get_left (y ∷ xs) ys (suc i) x e = get_left xs ys i x e
 
 -- what stands in the second part stands behind the first
 pub get_right : {A : Type 0} (xs ys : List A) (i : ℕ) (y : A) → slice_get ys i ≡ Some y → slice_get (xs ++ ys) (length xs + i) ≡ Some y
@@ -32,11 +28,6 @@ get_right [] ys i y e = (let z : i ≡ 0 + i = omega arith in subst (λ j. slice
 get_right (x ∷ xs) ys i y e =
     (let z : suc (length xs + i) ≡ suc (length xs) + i = omega arith in
     subst (λ j. slice_get (x ∷ (xs ++ ys)) j ≡ Some y) z (get_right xs ys i y e))
-
--- what goes last stands last
-pub get_last : {A : Type 0} (xs : List A) (x : A) → slice_get (xs ++ x ∷ []) (length xs) ≡ Some x
-get_last [] x = refl
-get_last (y ∷ xs) x = get_last xs x
 
 -- ---- the parts of an event
 
@@ -122,7 +113,7 @@ part_above c (x ∷ es) zero e counted at l =
     let n = last_above c x (counted 0 x refl) (subst (λ z. c < z.receiver_clock) (sym q) l) in (
       n.0,
       n.1,
-      ap (λ z. slice_get z n.0) (above_append c (parts_of x) (expand es)) ∙ get_left (above c (parts_of x)) (above c (expand es)) n.0 n.1 n.2,
+      ap (λ z. slice_get z n.0) (above_append c (parts_of x) (expand es)) ∙ longer_at (above c (parts_of x)) (above c (expand es)) n.0 n.1 n.2,
       n.3 ∙ ap (λ z. z.receiver_clock) q,
     )
 part_above c (x ∷ es) (suc k) e counted at l =
@@ -197,7 +188,7 @@ part_in (x ∷ es) zero e counted at =
     let z = last_part x (counted 0 x refl) in (
       length z.front,
       z.last,
-      get_left (parts_of x) (expand es) (length z.front) z.last (ap (λ y. slice_get y (length z.front)) z.parts ∙ get_last z.front z.last),
+      longer_at (parts_of x) (expand es) (length z.front) z.last (ap (λ y. slice_get y (length z.front)) z.parts ∙ get_last z.front z.last),
       z.clock ∙ ap (λ y. y.receiver_clock) q,
     )
 part_in (x ∷ es) (suc k) e counted at =

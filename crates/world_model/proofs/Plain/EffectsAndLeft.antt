@@ -15,7 +15,7 @@ use Rattle.rank_node.specs.Waiting.{with_joined}
 use Rattle.world_model.specs.World.{Rank, unpassed}
 use Rattle.world_model.specs.Plain.{plainly, plain_rank, AllCounted}
 use Rattle.world_model.proofs.Lists.Beginnings.{drop_zero}
-use Rattle.world_model.proofs.Plain.ActsOfEvents.{get_last}
+use Rattle.world_model.proofs.Lists.Places.{get_last}
 
 -- ---- what waits, one for each act
 

@@ -32,7 +32,7 @@ use Rattle.world_model.specs.Plain.{plainly, plain_rank, plain, RankRuns}
 use Rattle.world_model.specs.Stands.{Pending, RankStands}
 use Rattle.world_model.specs.Follows.{effect_at, lines_after}
 use Rattle.world_model.proofs.Rows.{event_clock}
-use Rattle.world_model.proofs.Standing.LiveRanks.{nothing_unpassed, stands_otherwise}
+use Rattle.world_model.proofs.Standing.LiveRanks.{nothing_unpassed}
 use Rattle.world_model.proofs.Plain.ActsOfEvents.{LastPart, last_part}
 use Rattle.world_model.proofs.Plain.EffectsAndLeft.{expanded_append, unpassed_plain, plainly_effects, plainly_push, plainly_settled, plainly_none, none_plainly}
 use Rattle.world_model.proofs.Plain.EffectsAndLeft.{plainly_joined, LastMiss, last_miss, last_counted}
@@ -67,11 +67,6 @@ none_left v k e = go v.left refl
     go : (es : List EventValue) → v.left ≡ es → es ≡ []
     go [] is = refl
     go (x ∷ rest) is = absurd (let n = next_left v x rest k is in let q : [] ≡ part v.rank.clock x ∷ n.0 = sym e ∙ n.1 in cc)
-
--- what waits passes one for each act
-pub made_otherwise : (start : ℕ → State) (n : ℕ) (C : List Passed) (r : ℕ) (v : Rank) (left : List EventValue) (made : ℕ)
-    → RankStands start n C r (record { rank = v; left = left }) → RankStands start n C r (record { rank = record v { made = made }; left = left })
-made_otherwise start n C r v left made k = stands_otherwise start n C r (record { rank = v; left = left }) v.stable.shelf made k
 
 -- ---- the event that waits last
 

@@ -4,22 +4,17 @@ use Rattle.std.proofs.Common.{slice_set}
 use Rattle.sequential_logger.specs.Event.{EventValue}
 use Rattle.sequential_logger.specs.Misses.{expand}
 use Rattle.rank_node.specs.Waiting.{BeginsWithEvents}
+use Rattle.rank_node.proofs.Gates.{begins_within}
 use Rattle.world_model.specs.Rows.{row}
-use Rattle.world_model.specs.World.{Live, WorldValue, size, IsLive, IsDown}
+use Rattle.world_model.specs.World.{Live, WorldValue, size, IsLive}
 use Rattle.world_model.specs.Plain.{plain, without_runs}
 use Rattle.world_model.specs.Stands.{start_at, RankStands, StandsAt, RankCovers, Covers, Stands}
 use Rattle.world_model.proofs.Lists.Beginnings.{get_map, map_length}
-use Rattle.world_model.proofs.Standing.Pending.{begins_within}
 use Rattle.world_model.proofs.Plain.EffectsAndLeft.{begins_plainly}
 use Rattle.world_model.proofs.Standing.Worlds.{Goes}
+use Rattle.rank_machine.proofs.CollectiveParts.{mapped_at}
 
 -- ---- its ranks
-
--- what stands in a list stands in its image
-pub map_get : {A B : Type 0} (f : A → B) (xs : List A) (k : ℕ) (x : A) → slice_get xs k ≡ Some x → slice_get (map f xs) k ≡ Some (f x)
-map_get f [] k x e = absurd cc
-map_get f (y ∷ xs) zero x e = (let q : y ≡ x = cc in ap (λ z. Some (f z)) q)
-map_get f (y ∷ xs) (suc k) x e = map_get f xs k x e
 
 -- what is put in a list is put in its image
 pub map_set : {A B : Type 0} (f : A → B) (xs : List A) (k : ℕ) (x : A) → map f (slice_set xs k x) ≡ slice_set (map f xs) k (f x)
@@ -33,11 +28,7 @@ same_size w = map_length (option_map plain) w.ranks
 
 -- a live rank is live
 pub live_plainly : (w : WorldValue) (r : ℕ) (v : Live) → IsLive w r v → IsLive (without_runs w) r (plain v)
-live_plainly w r v live = map_get (option_map plain) w.ranks r (Some v) live
-
--- a rank that is down is down
-pub down_plainly : (w : WorldValue) (r : ℕ) → IsDown w r → IsDown (without_runs w) r
-down_plainly w r down = map_get (option_map plain) w.ranks r None down
+live_plainly w r v live = mapped_at (option_map plain) w.ranks r (Some v) live
 
 -- a live rank is one of the world's
 pub record IsPlain (w : WorldValue) (r : ℕ) (v : Live) : Type 0 where
@@ -107,7 +98,7 @@ as_many_rows {w = w} s = sym (map_length expand w.logger.rows) ∙ s.run.as_many
 
 -- it is the rank's in the run
 pub row_of : {w : WorldValue} → Stands w → (r : ℕ) (events : List EventValue) → slice_get w.logger.rows r ≡ Some events → expand events ≡ row w.run r
-row_of {w = w} s r events at = s.run.rows r (expand events) (map_get expand w.logger.rows r events at)
+row_of {w = w} s r events at = s.run.rows r (expand events) (mapped_at expand w.logger.rows r events at)
 
 -- its stored events are the first of what waits
 pub stored_first : (w : WorldValue) (r : ℕ) → Stands w → (v : Live) → IsLive w r v → BeginsWithEvents v.rank.stored v.rank.pending

@@ -2,7 +2,6 @@
 use Rattle.std.proofs.Common.{◌≡◌, ℕ, ℤ, ◌+◌, ◌<◌, ◌⊎◌, inl, inr, ⊎_elim, List, [], ◌∷◌, ◌++◌, Option, Some, None, refl, sym, ap, subst, ◌∙◌, arith}
 use Rattle.std.proofs.Common.{slice_get}
 use Rattle.std.proofs.lemmas.Bool.{cases_eq}
-use Rattle.matching.specs.declared.packet.Context.{Context}
 use Rattle.matching.specs.declared.selector.Selector.{Selector}
 use Rattle.sequential_logger.specs.Event.{EventValue, event_of, first_clock}
 use Rattle.sequential_logger.specs.declared.kind.Kind.TheVariants as kind
@@ -20,25 +19,6 @@ use Rattle.crash_free.proofs.Lists.{history-own, history-other, push_cases}
 use Rattle.crash_free.proofs.Going.{looked_up_longer, sent_grows}
 use Rattle.world_model.specs.Rows.{event_at, events_from, cons_some}
 use Rattle.world_model.proofs.Rows.{event_clock}
-
--- only the send itself fits a send
-pub fits_send : (d : ℕ) (c : Context) (t : ℕ) (items : List ℤ) (a : Act) (o : Option Message) → Fits (want.Send d c t) items a o
-    → (a ≡ sends d c t items) × (o ≡ None)
-fits_send d c t items (sends d' c' t' items') None f = (rw (f.0, f.1, f.2, f.3) refl, refl)
-fits_send d c t items (sends d' c' t' items') (Some m) f = absurd f
-fits_send d c t items (takes s j) o f = absurd f
-fits_send d c t items (hits s j) o f = absurd f
-fits_send d c t items misses o f = absurd f
-fits_send d c t items (prints v) o f = absurd f
-
--- only the print itself fits a print
-pub fits_print : (v : ℤ) (items : List ℤ) (a : Act) (o : Option Message) → Fits (want.Print v) items a o → (a ≡ prints v) × (o ≡ None)
-fits_print v items (prints v') None f = (ap prints f, refl)
-fits_print v items (prints v') (Some m) f = absurd f
-fits_print v items (sends d' c' t' items') o f = absurd f
-fits_print v items (takes s j) o f = absurd f
-fits_print v items (hits s j) o f = absurd f
-fits_print v items misses o f = absurd f
 
 pub record FitsTakes (w : Selector) (a : Act) (o : Option Message) : Type 0 where
   pub source : ℕ

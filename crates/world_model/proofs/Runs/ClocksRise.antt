@@ -1,25 +1,26 @@
 -- The clocks of what a rank sent to another in a run.
 --
 -- They rise, so that a binary search finds each, and the place of a clock is that of one message.
-use Rattle.std.proofs.Common.{◌≡◌, ℕ, zero, suc, ◌+◌, ◌<◌, ◌≤◌, ◌==◌, Bool, true, false, List, [], ◌∷◌, length, map, Option, Some, None, refl, sym}
+use Rattle.std.proofs.Common.{◌≡◌, ℕ, zero, suc, ◌+◌, ◌<◌, ◌≤◌, ◌==◌, Bool, true, false, List, [], ◌∷◌, length, map, Some, refl, sym}
 use Rattle.std.proofs.Common.{ap, ◌∙◌, arith, get_or, add-one}
-use Rattle.std.specs.Prelude.{Ok, Err, option_map}
+use Rattle.std.specs.Prelude.{Ok, Err}
 use Rattle.std.specs.List.Sorted.{IsBinarySearchResult}
 use Rattle.std.specs.Ordering.{nat_cmp}
 use Rattle.std.proofs.lemmas.List.Sorted.{searched}
 use Rattle.std.proofs.lemmas.Option.{slice_get_within, get_or_from_slice_get, slice_get-get_or, slice_get-map}
 use Rattle.rank_machine.specs.Acts.{Act, Message, sends, takes, hits, misses, prints}
 use Rattle.crash_free.specs.Runs.{Passed, History, at_place, history, sent, sends_from, send_at, cons_if}
-use Rattle.world_model.specs.RunIndex.{Rising, clocks, clock_at}
+use Rattle.audit.specs.Trace.{AreInOrder}
+use Rattle.world_model.specs.RunIndex.{clocks, clock_at}
 
 -- what a binary search found is there
-pub found_there : (xs : List ℕ) (x i : ℕ) → Rising xs → IsBinarySearchResult (λ y. nat_cmp y x) xs (Ok i) → at_place xs (i + 1) ≡ Some x
+pub found_there : (xs : List ℕ) (x i : ℕ) → AreInOrder xs → IsBinarySearchResult (λ y. nat_cmp y x) xs (Ok i) → at_place xs (i + 1) ≡ Some x
 found_there xs x i up h =
     let there = searched xs x (Ok i) h up in
     rw (add-one i) (slice_get-get_or xs i 0 there.0 ∙ ap Some there.1)
 
 -- what a binary search didn't find is nowhere
-pub found_nowhere : (xs : List ℕ) (x i : ℕ) → Rising xs → IsBinarySearchResult (λ y. nat_cmp y x) xs (Err i) → (j : ℕ) → at_place xs j ≡ Some x → ⊥
+pub found_nowhere : (xs : List ℕ) (x i : ℕ) → AreInOrder xs → IsBinarySearchResult (λ y. nat_cmp y x) xs (Err i) → (j : ℕ) → at_place xs j ≡ Some x → ⊥
 found_nowhere xs x i up h zero there = cc
 found_nowhere xs x i up h (suc k) there =
     let parted = searched xs x (Err i) h up in
@@ -67,7 +68,7 @@ above_each k (m ∷ ms) (suc j) a l =
     let z : k < m.clock = a.0 in omega (arith, more)
 
 -- where each message is above the ones before, the clocks rise
-above_rising : (k : ℕ) (ms : List Message) → Above k ms → Rising (map (λ m. m.clock) ms)
+above_rising : (k : ℕ) (ms : List Message) → Above k ms → AreInOrder (map (λ m. m.clock) ms)
 unfolding Above
 above_rising k [] a i j le l = absurd (omega arith)
 above_rising k (m ∷ ms) a zero zero le l = omega arith
@@ -76,23 +77,10 @@ above_rising k (m ∷ ms) a (suc i) zero le l = absurd (omega arith)
 above_rising k (m ∷ ms) a (suc i) (suc j) le l = above_rising m.clock ms a.1 i j (omega arith) (omega arith)
 
 -- the clocks of what was sent rise
-pub clocks-rise : (C : List Passed) (s d : ℕ) → Rising (clocks C s d)
+pub clocks-rise : (C : List Passed) (s d : ℕ) → AreInOrder (clocks C s d)
 clocks-rise C s d = above_rising 0 (sent C s d) (sends-above 0 d (history C s))
 
 -- the clock at a place is that of the message there
 pub clock_at-place : (C : List Passed) (s d j : ℕ) → clock_at C s d j ≡ at_place (clocks C s d) j
 clock_at-place C s d zero = refl
 clock_at-place C s d (suc k) = sym (slice_get-map (λ m. m.clock) (sent C s d) k)
-
--- a place with a clock is that of a message with this clock
-pub clock_at_message : (C : List Passed) (s d j c : ℕ) → clock_at C s d j ≡ Some c → (m : Message) × (at_place (sent C s d) j ≡ Some m) × (m.clock ≡ c)
-clock_at_message C s d j c e = read (at_place (sent C s d) j) refl e
-  where
-    read : (found : Option Message) → at_place (sent C s d) j ≡ found → option_map (λ m. m.clock) found ≡ Some c
-        → (m : Message) × (at_place (sent C s d) j ≡ Some m) × (m.clock ≡ c)
-    read None is e = absurd cc
-    read (Some m) is e = (m, is, cc)
-
--- a message at a place gives its clock there
-pub message-clock_at : (C : List Passed) (s d j : ℕ) (m : Message) → at_place (sent C s d) j ≡ Some m → clock_at C s d j ≡ Some m.clock
-message-clock_at C s d j m e = ap (option_map (λ m. m.clock)) e

@@ -119,12 +119,6 @@ Counts-ack w r answer w' c f =
     one_back zero ne = absurd (ne refl)
     one_back (suc m) ne = omega arith
 
--- the logger itself keeps a row within its limit
-not_full : (n : ℕ) (b c : Bool) → nat_le most_events n ≡ b → (if b then Full else (if c then Order else Length (n + 1))) ≡ Full → b ≡ true
-not_full n true c e f = refl
-not_full n false true e f = absurd cc
-not_full n false false e f = absurd cc
-
 -- an append that was answered by a length had room
 accepted_few : (n count : ℕ) (c : Bool) → Length count ≡ (if nat_le most_events n then Full else (if c then Order else Length (n + 1))) → n < most_events
 accepted_few n count c e = go (cases_lt n most_events)

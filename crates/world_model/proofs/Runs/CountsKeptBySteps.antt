@@ -26,6 +26,7 @@ use Rattle.rank_node.specs.Replay.{replayed_at, taken_named, shown_named, tried_
 use Rattle.world_model.specs.Counts.{RankCounts, Counts}
 use Rattle.world_model.proofs.Runs.CountsKept.{Counts-rank, one}
 use Rattle.world_model.proofs.Lists.Beginnings.{drop_zero}
+use Rattle.world_model.proofs.Plain.EffectsAndLeft.{events_append}
 
 -- with a miss more in the last of them there are as many events
 joined_length : (xs : List Waiting) → length (events_in (with_joined xs)) ≡ length (events_in xs)
@@ -44,13 +45,6 @@ joined_drop zero xs =
 joined_drop (suc k) [] = refl
 joined_drop (suc k) (x ∷ []) = refl
 joined_drop (suc k) (x ∷ (y ∷ xs)) = joined_drop k (y ∷ xs)
-
--- the events of two lists
-events_append : (xs ys : List Waiting) → events_in (xs ++ ys) ≡ events_in xs ++ events_in ys
-events_append [] ys = refl
-events_append (waits.Event e ∷ xs) ys = ap (λ z. e ∷ z) (events_append xs ys)
-events_append (waits.Send d c ∷ xs) ys = events_append xs ys
-events_append (waits.Line c v ∷ xs) ys = events_append xs ys
 
 module _ (v : Live) (m : MachineValue) (left : List EventValue)
     (events : List EventValue) (k : RankCounts v events) (low : v.rank.stored ≤ length v.rank.pending) where

@@ -11,13 +11,13 @@ use Rattle.world_model.specs.Rows.{row, event_at, cons_some}
 use Rattle.world_model.proofs.Rows.{row-own}
 
 -- the event of a reception names the source and the clock of the message that was taken
-takes_event : (c s j : ℕ) (o : Option Message) (x : EventValue) → event_at c (takes s j) o ≡ Some x
+pub takes_event : (c s j : ℕ) (o : Option Message) (x : EventValue) → event_at c (takes s j) o ≡ Some x
     → (m : Message) × (o ≡ Some m) × (x ≡ event_of kind.Reception s m.clock c)
 takes_event c s j None x e = absurd cc
 takes_event c s j (Some m) x e = (m, refl, cc)
 
 -- the event of a hit names the source and the clock of the message that was seen
-hits_event : (c s j : ℕ) (o : Option Message) (x : EventValue) → event_at c (hits s j) o ≡ Some x
+pub hits_event : (c s j : ℕ) (o : Option Message) (x : EventValue) → event_at c (hits s j) o ≡ Some x
     → (m : Message) × (o ≡ Some m) × (x ≡ event_of kind.Hit s m.clock c)
 hits_event c s j None x e = absurd cc
 hits_event c s j (Some m) x e = (m, refl, cc)

@@ -11,7 +11,8 @@ use Rattle.std.proofs.Math.Seq.{take-append_seam}
 use Rattle.rank_machine.specs.Acts.{Act, Message, sends, takes, hits, misses, prints}
 use Rattle.crash_free.specs.Runs.{Passed, at_place, history, send_at, cons_if}
 use Rattle.crash_free.proofs.Lists.{history-own, history-other, sent-own, sent-other}
-use Rattle.world_model.specs.RunIndex.{Rising, clocks, clock_at, MadeValue, RunValue, made_with, made_without, clocks_with, clocks_without, IsMade, AreOf}
+use Rattle.audit.specs.Trace.{AreInOrder}
+use Rattle.world_model.specs.RunIndex.{clocks, clock_at, MadeValue, RunValue, made_with, made_without, clocks_with, clocks_without, IsMade, AreOf}
 use Rattle.world_model.specs.RunIndex.{IsIndexed, IsNext}
 use Rattle.world_model.proofs.Lists.Replaced.{slice_set-get, replaced_keeps}
 use Rattle.world_model.proofs.Runs.ClocksRise.{clocks-rise, clock_at-place}
@@ -37,13 +38,13 @@ made_there n C index r m kept low is = kept.made r m (slice_get_read index n r m
 -- the index has the clocks of what a rank sent to another, and they rise
 pub sent_there : (n : ℕ) (C : List Passed) (index : List MadeValue) (r d k : ℕ) (m : MadeValue) → IsIndexed n C index → r < n → d < n → k ≡ r
     → m ≡ get_or index k m
-    → (d < length m.clocks) × (get_or m.clocks d [] ≡ clocks C r d) × Rising (get_or m.clocks d [])
+    → (d < length m.clocks) × (get_or m.clocks d [] ≡ clocks C r d) × AreInOrder (get_or m.clocks d [])
 sent_there n C index r d k m kept low dest at is =
     let made = made_there n C index r m kept low (is ∙ ap (λ q. get_or index q m) at) in
     let wide = made.width in
     let there : d < length m.clocks = omega (arith, wide) in
     let same = made.clocks d (get_or m.clocks d []) (slice_get-get_or m.clocks d [] there) in
-    (there, same, subst Rising (sym same) (clocks-rise C r d))
+    (there, same, subst AreInOrder (sym same) (clocks-rise C r d))
 
 -- the place of a clock in the index is that of its message
 pub placed : (C : List Passed) (r d c k : ℕ) (ks : List ℕ) (found : Option ℕ) → ks ≡ clocks C r d → k ≡ c → IfSome found (λ j. at_place ks j ≡ Some k)

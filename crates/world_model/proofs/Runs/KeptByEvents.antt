@@ -11,6 +11,7 @@ use Rattle.sequential_logger.proofs.Misses.{counted_joined}
 use Rattle.rank_machine.specs.Machine.{MachineValue, machine_want}
 use Rattle.rank_machine.specs.declared.want.Want.{Want}
 use Rattle.rank_machine.specs.declared.want.Want.TheVariants as want
+use Rattle.rank_machine.proofs.CollectiveParts.{longer_at}
 use Rattle.rank_node.specs.declared.frame.Frame.{Frame}
 use Rattle.rank_node.specs.declared.frame.Frame.TheVariants as frame
 use Rattle.rank_node.specs.declared.waiting.Waiting.{Waiting}
@@ -31,10 +32,10 @@ use Rattle.world_model.specs.Follows.{ReleaseFollows}
 use Rattle.world_model.proofs.Lists.Beginnings.{drop_zero, drop_more}
 use Rattle.world_model.proofs.Lists.Replaced.{slice_set-get}
 use Rattle.world_model.proofs.Standing.KeptByReleases.{effect_there}
-use Rattle.world_model.proofs.Plain.ActsOfEvents.{get_left, get_last}
 use Rattle.world_model.proofs.Plain.EffectsAndLeft.{events_append, joined_append, last_miss}
 use Rattle.world_model.proofs.Plain.ReplaySteps.{replayed_runs}
 use Rattle.world_model.proofs.Plain.Worlds.{stored_low}
+use Rattle.world_model.proofs.Lists.Places.{get_last}
 
 -- ---- a change of one rank
 
@@ -72,7 +73,7 @@ same_runs v u k events left clock =
 
 -- the first of them are
 all_left : (xs ys : List EventValue) → AllCounted (xs ++ ys) → AllCounted xs
-all_left xs ys k j e at = k j e (get_left xs ys j e at)
+all_left xs ys k j e at = k j e (longer_at xs ys j e at)
 
 -- one more
 pub all_push : (xs : List EventValue) (x : EventValue) → AllCounted xs → IsCounted x → AllCounted (xs ++ x ∷ [])

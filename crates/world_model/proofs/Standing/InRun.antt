@@ -7,9 +7,10 @@ use Rattle.rank_machine.specs.States.{State, Inners, here, inner}
 use Rattle.rank_machine.specs.Acts.{Act, Message, Makes, Does, Runs, next}
 use Rattle.rank_machine.specs.Machine.{MachineValue, state_of}
 use Rattle.rank_machine.proofs.Determined.{still, same_stop, same_runs}
+use Rattle.rank_machine.proofs.Striding.{Inners-push}
 use Rattle.crash_free.specs.Runs.{Passed, History, history, sent, looked_up, IsRun}
 use Rattle.crash_free.specs.Grows.{Grows}
-use Rattle.crash_free.proofs.Steps.{Inners-push, Runs-push}
+use Rattle.crash_free.proofs.Steps.{Runs-push}
 use Rattle.crash_free.proofs.Lists.{history-own, history-other}
 use Rattle.std.proofs.lemmas.Bool.{cases_eq}
 use Rattle.std.proofs.lemmas.List.{take-append-drop}

@@ -7,14 +7,11 @@ use Rattle.std.proofs.lemmas.Option.{slice_get_within}
 use Rattle.matching.specs.PacketValue as packet
 use Rattle.matching.specs.Inbox.{Mailbox, accepted_from, with_packet, after_arrival}
 use Rattle.rank_machine.specs.Acts.{Message, carried}
+use Rattle.rank_machine.proofs.CollectiveParts.{longer_at}
 use Rattle.crash_free.specs.Runs.{History, at_place, taken}
-use Rattle.crash_free.proofs.Lists.{slice_get-append, push_cases}
+use Rattle.crash_free.proofs.Lists.{push_cases}
 use Rattle.world_model.specs.Stands.{InboxStands}
-
--- an element put at a list's end stands at the place of the old length
-get_last : {A : Type 0} (xs : List A) (x : A) → slice_get (xs ++ x ∷ []) (length xs) ≡ Some x
-get_last [] x = refl
-get_last (y ∷ xs) x = get_last xs x
+use Rattle.world_model.proofs.Lists.Places.{get_last}
 
 -- a place where a message stands is at most the number of messages: places count from 1
 place_within : (xs : List Message) (j : ℕ) (m : Message) → at_place xs j ≡ Some m → j ≤ length xs
@@ -78,7 +75,7 @@ InboxStands-accepted box inbound h p within next_one real i =
 
     each : (s j : ℕ) → 1 ≤ j → taken h s j ≡ false → (j ≤ accepted_from box s) ⊎ ((s ≡ p.source) × (j ≡ p.number))
         → (k : ℕ) × (q : packet.PacketValue) × (slice_get (box.packets ++ p ∷ []) k ≡ Some q) × (q.source ≡ s) × (q.number ≡ j)
-    each s j one t (inl l) = let x = i.each s j one l t in (x.0, x.1, slice_get-append box.packets (p ∷ []) x.0 x.1 x.2, x.3, x.4)
+    each s j one t (inl l) = let x = i.each s j one l t in (x.0, x.1, longer_at box.packets (p ∷ []) x.0 x.1 x.2, x.3, x.4)
     each s j one t (inr e) = (length box.packets, p, get_last box.packets p, sym e.0, sym e.1)
 
     rising : (k l : ℕ) (q q' : packet.PacketValue) → k < l → q.source ≡ q'.source → (slice_get box.packets k ≡ Some q) ⊎ ((k ≡ length box.packets) × (q ≡ p))

@@ -1,19 +1,19 @@
 -- What an inbox stands for, after a packet is taken, shown or accepted; and that the packet which `find` gives is eligible.
-use Rattle.std.proofs.Common.{◌≡◌, ℕ, zero, suc, ◌<◌, ◌≤◌, ◌⊎◌, inl, inr, ⊎_elim, Bool, true, false, ◌&&◌, ◌||◌, eqb, List, [], ◌∷◌, ◌++◌, Option}
-use Rattle.std.proofs.Common.{Some, None, refl, sym, ap, subst, ◌∙◌, arith, slice_get, remove, position, length-append}
-use Rattle.std.proofs.lemmas.Bool.{eq-eqb, eqb-true, cases_order, cases_lt, cases_Bool, both_ways, or_cases, and_parts}
+use Rattle.std.proofs.Common.{◌≡◌, ℕ, zero, suc, ◌<◌, ◌≤◌, ◌⊎◌, inl, inr, ⊎_elim, Bool, true, false, ◌||◌, eqb, List, [], ◌∷◌, ◌++◌, Option}
+use Rattle.std.proofs.Common.{Some, refl, sym, ap, subst, ◌∙◌, arith, slice_get, remove, position, length-append}
+use Rattle.std.proofs.lemmas.Bool.{eq-eqb, eqb-true, cases_order, cases_lt, cases_Bool, both_ways, or_cases, and_parts, or_parts}
 use Rattle.std.proofs.lemmas.Option.{get_or_from_slice_get}
 use Rattle.std.proofs.lemmas.List.Quantifiers.{position-Some}
-use Rattle.matching.specs.declared.packet.Context.{Context}
-use Rattle.matching.specs.declared.packet.Context.TheVariants.{PointToPoint, Collective}
 use Rattle.matching.specs.declared.selector.Selector.{Selector}
 use Rattle.matching.specs.PacketValue as packet
-use Rattle.matching.specs.Matching.{matches, same_context, allows}
+use Rattle.matching.specs.Matching.{matches}
 use Rattle.matching.specs.Inbox.{Mailbox, accepted_from, without}
-use Rattle.rank_machine.specs.Acts.{Act, Message, carried, takes, IsNamed, Matches}
+use Rattle.rank_machine.specs.Acts.{Act, Message, carried, takes, Matches}
+use Rattle.rank_machine.proofs.Making.{named}
 use Rattle.crash_free.specs.Runs.{History, at_place, taken, takes_it, IsEligible}
 use Rattle.crash_free.specs.Grows.{Grows}
 use Rattle.crash_free.proofs.Lists.{at_place-append, taken-push}
+use Rattle.crash_free.proofs.SlotLemmas.{packet_matching}
 use Rattle.world_model.specs.Stands.{InboxStands}
 
 -- what is at k after a removal was at k or at the place above it
@@ -41,46 +41,9 @@ get-kept (y ∷ xs) (suc i) (suc k) x e ne =
 same_element : {A : Type 0} (xs : List A) (k l : ℕ) (x y : A) → k ≡ l → slice_get xs k ≡ Some x → slice_get xs l ≡ Some y → x ≡ y
 same_element xs k l x y q e f = let g : slice_get xs l ≡ Some x = rw q at e in cc
 
--- the machine's test of two contexts accepts equal ones
-same_contexts : (a b : Context) → a ≡ b → same_context b a ≡ true
-same_contexts PointToPoint PointToPoint e = refl
-same_contexts PointToPoint Collective e = absurd cc
-same_contexts Collective PointToPoint e = absurd cc
-same_contexts Collective Collective e = refl
-
--- the machine's test of a source or a tag accepts what the selector names there
-allowed : (o : Option ℕ) (x : ℕ) → IsNamed o x → allows o x ≡ true
-allowed None x i = refl
-allowed (Some y) x i = eq-eqb y x (sym i)
-
 -- a message that a selector names is one whose packet the machine's test accepts
 pub matches_if_named : (w : Selector) (p : packet.PacketValue) → Matches w p.source (carried p) → matches w p ≡ true
-matches_if_named w p m =
-    rw (same_contexts p.context w.context m.0, allowed w.source p.source m.1, allowed w.tag p.tag m.2) refl
-
--- two tests that accept together accept each by itself
-both : (a b : Bool) → (a && b) ≡ true → (a ≡ true) × (b ≡ true)
-both true b h = (refl, h)
-both false b h = absurd cc
-
--- two contexts that the machine's test accepts are equal
-contexts_same : (a b : Context) → same_context a b ≡ true → b ≡ a
-contexts_same PointToPoint PointToPoint h = refl
-contexts_same PointToPoint Collective h = absurd cc
-contexts_same Collective PointToPoint h = absurd cc
-contexts_same Collective Collective h = refl
-
--- a source or a tag that the machine's test accepts is one that the selector names there
-named : (o : Option ℕ) (n : ℕ) → allows o n ≡ true → IsNamed o n
-named None n h = tt
-named (Some x) n h = sym (eqb-true x n h)
-
--- and the selector names the message of each packet that the test accepts
-pub named_if_matches : (w : Selector) (p : packet.PacketValue) → matches w p ≡ true → Matches w p.source (carried p)
-named_if_matches w p h =
-    let r = both (same_context w.context p.context && allows w.source p.source) (allows w.tag p.tag) h in
-    let q = both (same_context w.context p.context) (allows w.source p.source) r.0 in
-    (contexts_same w.context p.context q.0, named w.source p.source q.1, named w.tag p.tag r.1)
+matches_if_named w p m = packet_matching w p.source (carried p) m
 
 -- what `find` gives: the first packet that the selector names, at its index
 pub record Found (w : Selector) (packets : List packet.PacketValue) (k : ℕ) (p : packet.PacketValue) : Type 0 where
@@ -95,7 +58,7 @@ found_at w packets k p e at =
     let f = position-Some (matches w) packets k p e in
     record {
       at = at;
-      matching = named_if_matches w p (subst (λ z. matches w z ≡ true) (get_or_from_slice_get packets k p p at) f.1);
+      matching = named w p (subst (λ z. matches w z ≡ true) (get_or_from_slice_get packets k p p at) f.1);
       first = λ l q lt g m.
           let no : matches w q ≡ false = subst (λ z. matches w z ≡ false) (get_or_from_slice_get packets l q p g) (f.2 l lt) in
           both_ways (matches w q) no (matches_if_named w q m);
@@ -183,11 +146,6 @@ InboxStands-noted box inbound h x none i =
     same : (s j : ℕ) → taken (h ++ x ∷ []) s j ≡ taken h s j
     same s j = taken-push h x s j ∙ or_none (taken h s j) (takes_it s j x.0) (none s j)
 
--- where neither of two tests accepts, each by itself refuses
-or_false_parts : (b c : Bool) → (b || c) ≡ false → (b ≡ false) × (c ≡ false)
-or_false_parts true c e = absurd cc
-or_false_parts false c e = (refl, e)
-
 -- the act that takes the packet at k
 pub InboxStands-taken : (box : Mailbox) (inbound : ℕ → List Message) (h : History) (k : ℕ) (p : packet.PacketValue) (o : Option Message)
     → slice_get box.packets k ≡ Some p → InboxStands box inbound h
@@ -234,7 +192,7 @@ InboxStands-taken box inbound h k p o at i =
         → (l : ℕ) × (q : packet.PacketValue) × (slice_get (remove box.packets k) l ≡ Some q) × (q.source ≡ s) × (q.number ≡ j)
     each s j one lt t =
         let t' : (taken h s j || takes_it s j (takes p.source p.number)) ≡ false = sym (taken-push h (takes p.source p.number, o) s j) ∙ t in
-        let parts = or_false_parts (taken h s j) (takes_it s j (takes p.source p.number)) t' in
+        let parts = or_parts (taken h s j) (takes_it s j (takes p.source p.number)) t' in
         let x = i.each s j one lt parts.0 in
         let ne : x.0 ≡ k → ⊥ = λ z.
         (let pq : p ≡ x.1 = same_element box.packets k x.0 p x.1 (sym z) at x.2 in

@@ -11,10 +11,10 @@ use Rattle.world_model.specs.World.{WorldValue, size}
 use Rattle.rank_node.specs.declared.waiting.Waiting.{Waiting}
 use Rattle.rank_node.specs.Waiting.{event_in}
 use Rattle.rank_node.specs.declared.waiting.Waiting.TheVariants as waits
+use Rattle.rank_node.proofs.Gates.{begins_within, begins_less}
 use Rattle.world_model.specs.Follows.{AckFollows}
 use Rattle.world_model.proofs.Rows.{event_sends_none}
 use Rattle.world_model.specs.declared.reply.Reply.{Reply}
-use Rattle.world_model.proofs.Standing.Pending.{begins_less, begins_within}
 use Rattle.world_model.specs.Stands.{RankStands, start_at}
 use Rattle.world_model.proofs.Lists.Beginnings.{drop_zero, drop_more}
 use Rattle.world_model.proofs.Covers.KeptByEvents.{Covers-rank}

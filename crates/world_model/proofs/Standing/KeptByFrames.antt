@@ -31,7 +31,7 @@ use Rattle.world_model.proofs.Standing.Worlds.{Goes, changed, put_on, Stands-ran
 use Rattle.world_model.proofs.Standing.KeptByCrashes.{resized}
 
 -- what is sent later stands after what an act sends, if it sends anything
-send_more : (j d : ℕ) (a : Act) (rest rest' : List Message) (k : ℕ) (m : Message)
+pub send_more : (j d : ℕ) (a : Act) (rest rest' : List Message) (k : ℕ) (m : Message)
     → ((i : ℕ) → slice_get rest i ≡ Some m → slice_get rest' i ≡ Some m)
     → slice_get (send_at (j + 1) d a rest) k ≡ Some m → slice_get (send_at (j + 1) d a rest') k ≡ Some m
 send_more j d (sends d' context t items) rest rest' k m f e = go (d' == d) k e

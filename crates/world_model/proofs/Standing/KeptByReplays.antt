@@ -18,13 +18,14 @@ use Rattle.world_model.specs.Stands.{RankStands, start_at, StandsAt, RankCovers}
 use Rattle.world_model.specs.declared.reply.Reply.{Reply}
 use Rattle.rank_node.specs.Replay.{replayed_at, left_after}
 use Rattle.world_model.proofs.Lists.Beginnings.{next_of_drop}
-use Rattle.world_model.proofs.Runs.ActFitsWant.{fits_print, wanted, stopped}
+use Rattle.world_model.proofs.Runs.ActFitsWant.{wanted, stopped}
 use Rattle.world_model.proofs.Standing.ReplayGoesOn.{replays, next_is, behind, settled as settled_in, Goes as StepGoes}
 use Rattle.world_model.proofs.Standing.PassesOnce.{passed_again, print_again}
 use Rattle.world_model.proofs.Covers.KeptByEvents.{Covers-rank}
 use Rattle.world_model.proofs.Standing.Worlds.{Goes, changed, Stands-rank}
 use Rattle.world_model.proofs.Standing.KeptByCrashes.{resized}
 use Rattle.world_model.proofs.Covers.KeptBySteps.{replay_covers}
+use Rattle.audit.proofs.Fitting.{print_fits}
 
 -- a step of a rank that replays
 pub Stands-replay : (w : WorldValue) (r : ℕ) (answer : Reply) (w' : WorldValue) → Goes w → ReplayFollows w r answer w' → Goes w'
@@ -90,7 +91,7 @@ Stands-replay w r answer w' s f =
     printed_again z is =
         let x = next_is (start_at w (size w)) (size w) w.run r f.before s.run.is_run k f.event f.rest f.replaying
         (stopped f.before.rank.machine (want.Print z) is (λ y. cc)) in
-        let g = fits_print z (payload (state_of f.before.rank.machine)) x.act x.message
+        let g = print_fits z (payload (state_of f.before.rank.machine)) x.act x.message
         (subst (λ y. Fits y (payload (state_of f.before.rank.machine)) x.act x.message)
         (wanted f.before.rank.machine (want.Print z) is (λ y. cc)) x.makes) in
         print_again w.run r f.before.rank.clock w.lines z x.message (s.run.lines r)

@@ -21,12 +21,12 @@ use Rattle.rank_node.specs.Replay.{restarted, left_of}
 use Rattle.world_model.specs.Plain.{plain, without_runs, AllCounted}
 use Rattle.world_model.specs.Stands.{start_at, ImageStands, RankStands, StandsAt, BasesCovered, RankCovers, Stands}
 use Rattle.world_model.specs.Follows.{RestartFollows}
-use Rattle.world_model.proofs.Lists.Beginnings.{replicate_get}
 use Rattle.world_model.proofs.Standing.LiveRanks.{RankStands-restarted}
 use Rattle.world_model.proofs.Covers.KeptByEvents.{Covers-rank, RankCovers-restarted}
 use Rattle.world_model.proofs.Standing.Worlds.{Stands-rank}
 use Rattle.world_model.proofs.Plain.ActsOfEvents.{above_all, row_late}
 use Rattle.world_model.proofs.Plain.Worlds.{GoesOn, set_plainly, as_many_rows, row_of}
+use Rattle.audit.proofs.Traces.{replicate_each}
 
 -- a row has no event before the first act
 pub row_whole : (w : WorldValue) (r : ℕ) → Stands w → (events : List EventValue) → slice_get w.logger.rows r ≡ Some events → above 0 events ≡ events
@@ -98,7 +98,7 @@ Stands-restart w r answer w' s f =
     bases = subst (λ z. BasesCovered w.images r z.log) (sym f.begins.2) (go f.begins.0 f.begins.1)
       where
         go : (o : Option ImageValue) → slice_get w.images r ≡ Some o → BasesCovered w.images r (begins_at w.program r (size w) o).log
-        go None e d x at = subst (λ z. z.base ≤ covered w.images d r) (sym (replicate_get (size w) new_backlog d x at)) (omega arith)
+        go None e d x at = subst (λ z. z.base ≤ covered w.images d r) (sym (replicate_each (size w) new_backlog d x at)) (omega arith)
         go (Some i) e d x at = s.covers.images r i e d x at
 
     since : (q : ℕ) → covered w.images r q ≤ accepted_from f.image.inbox q

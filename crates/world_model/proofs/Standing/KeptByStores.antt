@@ -34,14 +34,9 @@ use Rattle.world_model.proofs.Standing.KeptByAcks.{event_there, drop_first, even
 use Rattle.world_model.proofs.Plain.ActsOfEvents.{FirstPart, first_part}
 use Rattle.world_model.proofs.Plain.EffectsAndLeft.{unpassed_plain, plainly_drop, plainly_begins}
 use Rattle.world_model.proofs.Plain.Worlds.{GoesOn, map_set, live_plainly, set_plainly, stored_first}
+use Rattle.world_model.proofs.Lists.Places.{set_get_same}
 
 -- ---- what was put in a list
-
--- is there
-pub set_there : {A : Type 0} (xs : List A) (i : ℕ) (x y : A) → slice_get xs i ≡ Some x → slice_get (slice_set xs i y) i ≡ Some y
-set_there [] i x y e = absurd cc
-set_there (z ∷ xs) zero x y e = refl
-set_there (z ∷ xs) (suc i) x y e = set_there xs i x y e
 
 -- also where it is looked up with a default
 set_index : {A : Type 0} (xs : List A) (i : ℕ) (y d : A) → i < length xs → slice_index_or (slice_set xs i y) i d ≡ y
@@ -165,7 +160,7 @@ all_pass n w r v e (f ∷ es) rest pending stored logger s lt live is same low r
     (changed w r (Some (record { rank = after_passing v.rank (map waits.Event (f ∷ es) ++ rest) 0 v.rank.log; left = v.left })) w.images
     (record { rows = slice_set w.logger.rows r (slice_index_or w.logger.rows r [] ++ e ∷ []); history = w.logger.history }) w.lines (continue w.run r one.acts))
     r (record { rank = after_passing v.rank (map waits.Event (f ∷ es) ++ rest) 0 v.rank.log; left = v.left }) f es rest pending stored logger
-    one.stands lt (set_there w.ranks r (Some v) _ live) (drop_zero (map waits.Event (f ∷ es) ++ rest)) same low
+    one.stands lt (set_get_same w.ranks r (Some v) _ live) (drop_zero (map waits.Event (f ∷ es) ++ rest)) same low
     (rows ∙ rows_then w.logger.rows r e (f ∷ es) (subst (λ z. r < z) (sym s.as_many_rows) lt)))
 
 -- ---- the oldest event is stored

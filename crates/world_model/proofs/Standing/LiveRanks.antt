@@ -26,8 +26,9 @@ use Rattle.world_model.proofs.Standing.Pending.{Pending-extended, none_pending}
 use Rattle.checkpoint.specs.Image.{ImageValue}
 use Rattle.rank_node.specs.Image.{first_image}
 use Rattle.rank_node.specs.Replay.{restarted, left_of}
-use Rattle.world_model.proofs.Lists.Beginnings.{Next, next_of_drop, take_append, drop_append, drop_beyond, drop_none, replicate_get, replicate_length}
+use Rattle.world_model.proofs.Lists.Beginnings.{Next, next_of_drop, take_append, drop_append, drop_beyond, drop_none, replicate_length}
 use Rattle.world_model.proofs.Standing.InRun.{StandsIn-longer, StandsIn-later, StandsIn-next}
+use Rattle.audit.proofs.Traces.{replicate_each}
 
 -- ---- the payload log
 
@@ -116,7 +117,7 @@ pub first_image_stands : (start : ℕ → State) (n : ℕ) (C : List Passed) (r 
 first_image_stands start n C r program starts opens =
     record {
       at = begins;
-      logs = λ d b e. (let z = replicate_get n new_backlog d b e in rw z (record { sent = refl; kept = refl; held = refl }));
+      logs = λ d b e. (let z = replicate_each n new_backlog d b e in rw z (record { sent = refl; kept = refl; held = refl }));
     }
   where
     nothing : (n s : ℕ) → slice_index (replicate n 0) s ≡ 0

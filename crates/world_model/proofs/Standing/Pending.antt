@@ -1,6 +1,6 @@
 -- What a rank has made that hasn't passed: acts of other ranks keep it, an act more goes to its end, and with it the run
 -- goes on as a run. What waits may send, so the run that goes on sends more.
-use Rattle.std.proofs.Common.{◌≡◌, ℕ, zero, suc, ◌+◌, ◌-◌, ◌<◌, ◌≤◌, List, [], ◌∷◌, ◌++◌, Some, None, length, drop, refl, sym, ap, subst, ◌∙◌}
+use Rattle.std.proofs.Common.{◌≡◌, ℕ, zero, suc, ◌+◌, ◌<◌, List, [], ◌∷◌, ◌++◌, Some, None, length, refl, sym, ap, subst, ◌∙◌}
 use Rattle.std.proofs.Common.{append_assoc, arith, slice_get}
 use Rattle.std.proofs.lemmas.List.{append-nil}
 use Rattle.sequential_logger.specs.Event.{EventValue}
@@ -138,14 +138,6 @@ sends_of-push k d (b ∷ acts) a =
 
 -- ---- the events that stand first
 
--- what goes last changes nothing
-pub begins_push : (k : ℕ) (xs : List Waiting) (y : Waiting) → BeginsWithEvents k xs → BeginsWithEvents k (xs ++ y ∷ [])
-begins_push zero xs y b = tt
-begins_push (suc k) [] y b = absurd b
-begins_push (suc k) (waits.Event e ∷ xs) y b = begins_push k xs y b
-begins_push (suc k) (waits.Send d c ∷ xs) y b = absurd b
-begins_push (suc k) (waits.Line c v ∷ xs) y b = absurd b
-
 -- the event right behind them is one of them then
 pub begins_more : (k : ℕ) (xs : List Waiting) (e : EventValue) → BeginsWithEvents k xs → slice_get xs k ≡ Some (waits.Event e) → BeginsWithEvents (k + 1) xs
 begins_more zero [] e b f = absurd cc
@@ -155,23 +147,6 @@ begins_more (suc k) (waits.Event x ∷ xs) e b f =
     (let z : suc (k + 1) ≡ suc k + 1 = omega arith in subst (λ y. BeginsWithEvents y (waits.Event x ∷ xs)) z (begins_more k xs e b f))
 begins_more (suc k) (waits.Send d c ∷ xs) e b f = absurd b
 begins_more (suc k) (waits.Line c v ∷ xs) e b f = absurd b
-
--- the first of them goes
-pub begins_less : (k : ℕ) (xs : List Waiting) → BeginsWithEvents k xs → BeginsWithEvents (k - 1) (drop 1 xs)
-begins_less zero xs b = tt
-begins_less (suc k) [] b = absurd b
-begins_less (suc k) (waits.Event e ∷ []) b = subst (λ z. BeginsWithEvents z []) (let z : k ≡ suc k - 1 = omega arith in z) b
-begins_less (suc k) (waits.Event e ∷ (y ∷ xs)) b = subst (λ z. BeginsWithEvents z (y ∷ xs)) (let z : k ≡ suc k - 1 = omega arith in z) b
-begins_less (suc k) (waits.Send d c ∷ xs) b = absurd b
-begins_less (suc k) (waits.Line c v ∷ xs) b = absurd b
-
--- so many are there
-pub begins_within : (k : ℕ) (xs : List Waiting) → BeginsWithEvents k xs → k ≤ length xs
-begins_within zero xs b = omega arith
-begins_within (suc k) [] b = absurd b
-begins_within (suc k) (waits.Event e ∷ xs) b = (let z = begins_within k xs b in omega (arith, z))
-begins_within (suc k) (waits.Send d c ∷ xs) b = absurd b
-begins_within (suc k) (waits.Line c v ∷ xs) b = absurd b
 
 -- where an effect stands first nothing is stored
 pub begins_effect : (k : ℕ) (x : Waiting) (xs : List Waiting) → event_in x ≡ None → BeginsWithEvents k (x ∷ xs) → k ≡ 0

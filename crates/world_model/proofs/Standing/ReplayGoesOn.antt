@@ -32,10 +32,11 @@ use Rattle.rank_node.specs.Replay.{try_turn, tried_named, TriesNamed}
 use Rattle.world_model.proofs.Lists.Beginnings.{next_of_drop}
 use Rattle.world_model.proofs.Standing.InRun.{StandsIn-moved, NextAct, next_act, run_reaches}
 use Rattle.world_model.proofs.Standing.LiveRanks.{at_run, left_run, logs_run, settled_behind, RankStands-settled, RankStands-same_clock, RankStands-again, after_again}
-use Rattle.world_model.proofs.Runs.ActFitsWant.{fits_send, fits_print, FitsTakes, fits_receive, FitsHits, fits_probe, fits_try, fits_ended, wanted, stopped}
+use Rattle.world_model.proofs.Runs.ActFitsWant.{FitsTakes, fits_receive, FitsHits, fits_probe, fits_try, fits_ended, wanted, stopped}
 use Rattle.world_model.proofs.Runs.ActFitsWant.{history_looks_up, first_event_late, first_event_first}
 use Rattle.world_model.proofs.Standing.ReplayFindsPacket.{is_now_true, names_it, packet_is, receive_turned, probe_turned, try_turned, IsOf}
 use Rattle.world_model.proofs.Standing.ReplayParts.{logs_saved, logs_quiet, not_past}
+use Rattle.audit.proofs.Fitting.{send_fits, print_fits}
 
 module _ (start : ℕ → State) (n : ℕ) (C : List Passed) (r : ℕ) (v : Live)
     (run : IsRun start n C) (s : RankStands start n C r v) (e : EventValue) (rest : List EventValue) (left : v.left ≡ e ∷ rest) where
@@ -127,7 +128,7 @@ module _ (start : ℕ → State) (n : ℕ) (C : List Passed) (r : ℕ) (v : Live
   sending : (d : ℕ) (c : Context) (t : ℕ) → machine_want v.rank.machine ≡ want.Send d c t → Goes (want.Send d c t)
   sending d c t is =
       let x = next_is (stopped v.rank.machine (want.Send d c t) is (λ z. cc)) in
-      let f = fits_send d c t (payload (state_of v.rank.machine)) x.act x.message (fits (want.Send d c t) is (λ z. cc) x) in
+      let f = send_fits d c t (payload (state_of v.rank.machine)) x.act x.message (fits (want.Send d c t) is (λ z. cc) x) in
       let b = before x (ap (λ z. event_at (v.rank.clock + 1) z x.message) f.0) in
       record {
         turn = Moved;
@@ -146,7 +147,7 @@ module _ (start : ℕ → State) (n : ℕ) (C : List Passed) (r : ℕ) (v : Live
   printing : (z : ℤ) → machine_want v.rank.machine ≡ want.Print z → Goes (want.Print z)
   printing z is =
       let x = next_is (stopped v.rank.machine (want.Print z) is (λ y. cc)) in
-      let f = fits_print z (payload (state_of v.rank.machine)) x.act x.message (fits (want.Print z) is (λ y. cc) x) in
+      let f = print_fits z (payload (state_of v.rank.machine)) x.act x.message (fits (want.Print z) is (λ y. cc) x) in
       let b = before x (ap (λ y. event_at (v.rank.clock + 1) y x.message) f.0) in
       record {
         turn = Moved;

@@ -23,13 +23,14 @@ use Rattle.world_model.specs.Stands.{InboxStands, LogStands, LogsStand, IsFor, P
 use Rattle.rank_node.specs.declared.waiting.Waiting.{Waiting}
 use Rattle.rank_node.specs.declared.waiting.Waiting.TheVariants as waits
 use Rattle.rank_node.specs.Steps.{message_of, after_hold, after_wait}
+use Rattle.rank_node.proofs.Gates.{begins_push, begins_within}
 use Rattle.matching.specs.declared.packet.Context.{Context}
 use Rattle.matching.specs.PacketValue as packet
 use Rattle.world_model.proofs.Rows.{IsEffect, event_sends_none, effect_takes_none}
 use Rattle.world_model.proofs.Standing.Inboxes.{InboxStands-noted}
 use Rattle.world_model.proofs.Lists.Replaced.{replaced_keeps}
 use Rattle.std.proofs.lemmas.Option.{get_or_from_slice_get}
-use Rattle.world_model.proofs.Standing.Pending.{Pending-push, sent_continued, sends_of-push, begins_push, begins_within}
+use Rattle.world_model.proofs.Standing.Pending.{Pending-push, sent_continued, sends_of-push}
 use Rattle.world_model.proofs.Lists.Beginnings.{take_append, take_whole, drop_beyond, drop_own}
 use Rattle.world_model.proofs.Standing.InRun.{StandsIn-later, StandsIn-next, next_act, run_reaches}
 use Rattle.world_model.proofs.Standing.LiveRanks.{at_run, left_run, RankStands-settled}

@@ -30,6 +30,7 @@ use Rattle.world_model.specs.World.{Live, WorldValue, IsLive}
 use Rattle.world_model.specs.Headline.{lines_of}
 use Rattle.world_model.specs.Follows.{passed_at, lines_after, effect_at}
 use Rattle.rank_node.specs.declared.waiting.Waiting.{Waiting}
+use Rattle.rank_node.proofs.Again.{settled_nil}
 use Rattle.world_model.specs.Stands.{InboxStands, LogStands, LogsStand, StandsIn, RankStands, start_at, StandsAt}
 use Rattle.world_model.proofs.Rows.{IsEffect, row_of_effect, effect_finds, effect_takes_none}
 use Rattle.world_model.proofs.Standing.Inboxes.{InboxStands-noted, InboxStands-longer}
@@ -38,17 +39,13 @@ use Rattle.world_model.proofs.Lists.Beginnings.{take_whole, take_append, next_of
 use Rattle.world_model.proofs.Standing.InRun.{StandsIn-moved, next_act, run_reaches}
 use Rattle.world_model.proofs.Standing.LiveRanks.{at_run, left_run, logs_run, RankStands-settled, RankStands-same_clock, RankStands-again, RankStands-passed_by}
 use Rattle.world_model.proofs.Standing.LiveRanks.{after_again}
-use Rattle.world_model.proofs.Runs.ActFitsWant.{fits_send, fits_print, wanted, stopped}
+use Rattle.world_model.proofs.Runs.ActFitsWant.{wanted, stopped}
 use Rattle.world_model.proofs.Standing.ReplayParts.{logs_saved, logs_quiet}
 use Rattle.world_model.proofs.Standing.StepsAtWork.{RankStands-line, RankStands-hold}
 use Rattle.world_model.proofs.Standing.PassesOnce.{passed_again, passed_first, print_again}
 use Rattle.world_model.proofs.Standing.Worlds.{changed, Stands-passed}
 use Rattle.world_model.proofs.Standing.KeptByNewEvents.{plain_step_at, alone, stays, Stands-still, finding, probing, trying}
-
--- nothing waits
-settled_none : (pending : List Waiting) → is_settled pending ≡ true → pending ≡ []
-settled_none [] e = refl
-settled_none (x ∷ xs) e = absurd cc
+use Rattle.audit.proofs.Fitting.{send_fits, print_fits}
 
 -- or something does
 unsettled : (pending : List Waiting) → is_settled pending ≡ false → pending ≡ [] → ⊥
@@ -181,7 +178,7 @@ module _ (n : ℕ) (w : WorldValue) (r : ℕ) (v : Live) (m : MachineValue) (s :
       (passed_at w.run r (v.rank.clock + 1) (Some (sends d c t (payload (state_of v.rank.machine))))))
   sending d c t e did settled =
       effect (sends d c t (payload (state_of v.rank.machine))) (slice_set v.rank.log d (saved (backlog v.rank.log d) (message_of v.rank d c t))) w.lines settled
-      (λ a' o' h. fits_send d c t (payload (state_of v.rank.machine)) a' o'
+      (λ a' o' h. send_fits d c t (payload (state_of v.rank.machine)) a' o'
       (subst (λ z. Fits z (payload (state_of v.rank.machine)) a' o') (wanted v.rank.machine (want.Send d c t) e (λ z. cc)) h))
       (stopped v.rank.machine (want.Send d c t) e (λ z. cc))
       (makes_sent v.rank.machine d c t e) tt
@@ -196,7 +193,7 @@ module _ (n : ℕ) (w : WorldValue) (r : ℕ) (v : Live) (m : MachineValue) (s :
       (after_line w.lines r (v.rank.clock + 1) x) (passed_at w.run r (v.rank.clock + 1) (Some (prints x))))
   printing x e did settled =
       effect (prints x) v.rank.log (after_line w.lines r (v.rank.clock + 1) x) settled
-      (λ a' o' h. fits_print x (payload (state_of v.rank.machine)) a' o'
+      (λ a' o' h. print_fits x (payload (state_of v.rank.machine)) a' o'
       (subst (λ z. Fits z (payload (state_of v.rank.machine)) a' o') (wanted v.rank.machine (want.Print x) e (λ z. cc)) h))
       (stopped v.rank.machine (want.Print x) e (λ z. cc))
       (makes_printed v.rank.machine x e) tt
@@ -248,7 +245,7 @@ module _ (n : ℕ) (w : WorldValue) (r : ℕ) (v : Live) (m : MachineValue) (s :
           → StandsAt n (changed w r (Some (record { rank = if b then after_send v.rank m d c t else after_hold v.rank m d c t; left = [] }))
           w.images w.logger w.lines
           (passed_at w.run r (v.rank.clock + 1) (if b then Some (sends d c t (payload (state_of v.rank.machine))) else None)))
-      gate true q did = sending d c t e did (settled_none v.rank.pending q)
+      gate true q did = sending d c t e did (settled_nil v.rank.pending q)
       gate false q did = holding d c t e did (unsettled v.rank.pending q)
 
       room : (b : Bool) → MatchBool b (DidAct v.rank.machine m) (m ≡ v.rank.machine)
@@ -263,7 +260,7 @@ module _ (n : ℕ) (w : WorldValue) (r : ℕ) (v : Live) (m : MachineValue) (s :
           → StandsAt n (changed w r (Some (record { rank = if b then after_print v.rank m else after_wait v.rank m x; left = [] })) w.images w.logger
           (if b then after_line w.lines r (v.rank.clock + 1) x else w.lines)
           (passed_at w.run r (v.rank.clock + 1) (if b then Some (prints x) else None)))
-      gate true q did = printing x e did (settled_none v.rank.pending q)
+      gate true q did = printing x e did (settled_nil v.rank.pending q)
       gate false q did = waiting x e did (unsettled v.rank.pending q)
 
       room : (b : Bool) → MatchBool b (DidAct v.rank.machine m) (m ≡ v.rank.machine)

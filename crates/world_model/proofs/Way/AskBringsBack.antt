@@ -6,7 +6,7 @@ use Rattle.std.proofs.lemmas.List.{get_or-set_same, get_or-set_other}
 use Rattle.std.proofs.lemmas.Option.{slice_get_within}
 use Rattle.matching.specs.PacketValue as packet
 use Rattle.matching.specs.Inbox.{accepted_from, after_arrival}
-use Rattle.payload_log.specs.Backlog.{backlog, passed, asked, next_of, new_backlog}
+use Rattle.payload_log.specs.Backlog.{backlog, passed, next_of, new_backlog}
 use Rattle.rank_node.specs.declared.frame.Frame.TheVariants as frame
 use Rattle.rank_node.specs.Frames.{with_inbox, with_log, due_to, outgoing_of, sent_off, after_frame}
 use Rattle.crash_free.specs.Runs.{history, sends_from}
@@ -18,61 +18,13 @@ use Rattle.world_model.proofs.Plain.Worlds.{rank_of}
 use Rattle.world_model.specs.Follows.{PutFollows, ArriveFollows}
 use Rattle.world_model.proofs.Covers.KeptByEvents.{arrival_more}
 use Rattle.world_model.specs.Onward.{Behind, Onward}
-use Rattle.world_model.specs.Driven.{NoGaps, NoGapsIn}
-use Rattle.world_model.proofs.Way.Cursors.{asked_reaches, next_number, arrival_reaches}
-use Rattle.world_model.proofs.Way.FramesPassNoRank.{who, packet_next, log_of, above_of, base_of, arrived_no_gaps}
+use Rattle.world_model.specs.Driven.{NoGaps}
+use Rattle.world_model.proofs.Way.Cursors.{next_number, arrival_reaches}
+use Rattle.world_model.proofs.Way.FramesPassNoRank.{who, packet_next, log_of, above_of}
 
 -- ---- an ask brings the cursor back
 
--- After an ask that its rank can go on from has arrived, that rank isn't passed by.
-pub ask_no_gaps : (P : ℕ → ℕ → Type 0) (w w' : WorldValue) (d s i : ℕ) (answer : Reply) (f : ArriveFollows w d s i answer w') (from : ℕ) → Stands w
-    → f.frame ≡ frame.Ask from
-    → ((v : Live) → IsLive w d v → Behind w.run d v → from ≤ accepted_from v.rank.inbox s + 1)
-    → NoGapsIn P w → NoGapsIn (λ a b. P a b ⊎ ((a ≡ s) × (b ≡ d))) w'
-ask_no_gaps P w w' d s i answer f from t is can g a b u v (inl ok) lu lv behind =
-    arrived_no_gaps P w w' d s i answer f t (λ p e. (let q : frame.Data p ≡ frame.Ask from = sym e ∙ is in cc)) g a b u v ok lu lv behind
-ask_no_gaps P w w' d s i answer f from t is can g a b u v (inr ok) lu lv behind = go (who w w' s y ranks a u lu)
-  where
-    y : Live
-    y = record { rank = with_log f.before.rank (slice_set f.before.rank.log d (asked (backlog f.before.rank.log d) from)); left = f.before.left }
-
-    ranks : w'.ranks ≡ slice_set w.ranks s (Some y)
-    ranks = ap (λ z. z.ranks) f.after ∙ ap (λ x. slice_set w.ranks s (Some (record { rank = after_frame f.before.rank d x; left = f.before.left }))) is
-
-    run : w'.run ≡ w.run
-    run = ap (λ z. z.run) f.after
-
-    -- the rank that asked, as it was: its own ask changes no inbox
-    asker : (z : Live) → IsLive w' b z → (x : Live) × IsLive w d x × (x.rank.inbox ≡ z.rank.inbox) × (x.rank.clock ≡ z.rank.clock)
-    asker z l = here (who w w' s y ranks b z l)
-      where
-        here : ((b ≡ s) × (z ≡ y)) ⊎ ((b ≡ s → ⊥) × IsLive w b z) → (x : Live) × IsLive w d x × (x.rank.inbox ≡ z.rank.inbox) × (x.rank.clock ≡ z.rank.clock)
-        here (inl h) = (f.before, subst (λ k. IsLive w k f.before) (sym h.0 ∙ ok.1) f.live, ap (λ k. k.rank.inbox) (sym h.1), ap (λ k. k.rank.clock) (sym h.1))
-        here (inr h) = (z, subst (λ k. IsLive w k z) ok.1 h.1, refl, refl)
-
-    go : ((a ≡ s) × (u ≡ y)) ⊎ ((a ≡ s → ⊥) × IsLive w a u) → (backlog u.rank.log b).cursor ≤ accepted_from v.rank.inbox a + 1
-    go (inr h) = absurd (h.0 ok.0)
-    go (inl h) =
-        let x = asker v lv in
-        let n : d < size w = slice_get_within w.ranks d (Some x.0) x.1 in
-        let e1 = (rank_of t s f.before f.live).at.logged in
-        let before : Behind w.run d x.0 =
-        subst (λ k. Behind w.run k x.0) ok.1 (subst (λ k. k < length (history w.run b)) (sym x.3) (subst (λ C. Behind C b v) run behind)) in
-        let c : (backlog u.rank.log b).cursor ≡ (asked (backlog f.before.rank.log d) from).cursor =
-        ap (λ z. (backlog z.rank.log b).cursor) h.1
-        ∙ ap (λ z. (backlog (slice_set f.before.rank.log d (asked (backlog f.before.rank.log d) from)) z).cursor) ok.1
-        ∙ ap (λ z. z.cursor) (get_or-set_same f.before.rank.log d (asked (backlog f.before.rank.log d) from) new_backlog (omega (arith, n, e1))) in
-        let l =
-        asked_reaches (backlog f.before.rank.log d) from (accepted_from x.0.rank.inbox s) (base_of w s d f.before x.0 t f.live x.1) (can x.0 x.1 before) in
-        let q : accepted_from v.rank.inbox a ≡ accepted_from x.0.rank.inbox s =
-        ap (λ z. accepted_from v.rank.inbox z) ok.0 ∙ ap (λ z. accepted_from z s) (sym x.2) in
-        omega (arith, c, l, q)
-
 -- ---- a packet is put and arrives at once
-
--- a packet that a rank is to put is the next of its log
-packet_put : (v : Rank) (d : ℕ) (p : packet.PacketValue) → outgoing_of v d ≡ Some (frame.Data p) → next_of (backlog v.log d) ≡ Some p
-packet_put v d p e = packet_next (due_to v d).ask (due_to v d).kept (next_of (backlog v.log d)) p e
 
 -- a packet from its own source goes to the inbox
 packet_from : (v : Rank) (s : ℕ) (p : packet.PacketValue) → p.source ≡ s → after_frame v s (frame.Data p) ≡ with_inbox v (after_arrival v.inbox p)

@@ -17,6 +17,7 @@ use Rattle.world_model.proofs.Way.FramesPassNoRank.{who, base_of}
 use Rattle.world_model.proofs.Way.AllSentIsAccepted.{ask_there}
 use Rattle.world_model.proofs.Way.PairIsDrained.{asks_kept, arrive_asks}
 use Rattle.world_model.proofs.Again.PartsOfAct.{all_live_kept}
+use Rattle.world_model.proofs.Lists.Places.{one_there}
 
 -- nothing changes
 pub hear_none : (w : WorldValue) → HearKeeps w w
@@ -31,14 +32,6 @@ hear_more a b c f g =
       asks = λ r s x. g.asks r s (f.asks r s x);
       heard = λ k r s x. g.heard k r s (f.heard k r s x);
     }
-
--- an Ask leaves the bases, and brings no cursor up but to the first that is kept
-asked_base : (log : List BacklogValue) (r q n : ℕ) → (backlog (slice_set log r (asked (backlog log r) n)) q).base ≡ (backlog log q).base
-asked_base [] r q n = refl
-asked_base (b ∷ log) zero zero n = refl
-asked_base (b ∷ log) zero (suc q) n = refl
-asked_base (b ∷ log) (suc r) zero n = refl
-asked_base (b ∷ log) (suc r) (suc q) n = asked_base log r q n
 
 -- a cursor that isn't beyond what its receiver asked for isn't so after another ask
 lower : (b : BacklogValue) (n from : ℕ) → b.cursor ≤ max (b.base + 1) from → (asked b n).cursor ≤ max ((asked b n).base + 1) from
@@ -64,15 +57,11 @@ asked_reached [] r n l = absurd (omega (arith, l))
 asked_reached (b ∷ log) zero n l = reached b n
 asked_reached (b ∷ log) (suc r) n l = asked_reached log r n (omega (arith, l))
 
--- one place holds one list
-lists_one : {A : Type 0} (x y : List A) (o : Option (List A)) → o ≡ Some x → o ≡ Some y → x ≡ y
-lists_one x y o e f = cc
-
 -- one pair of ranks has one wire
 pub same_wire : (w : WorldValue) (r s : ℕ) (x y : List Frame) → IsWire w r s x → IsWire w r s y → y ≡ x
 same_wire w r s x y f g =
-    let of : g.0 ≡ f.0 = lists_one g.0 f.0 (slice_get w.wires r) g.1 f.1 in
-    lists_one y x (slice_get f.0 s) (ap (λ z. slice_get z s) (sym of) ∙ g.2) f.2
+    let of : g.0 ≡ f.0 = one_there g.0 f.0 (slice_get w.wires r) g.1 f.1 in
+    one_there y x (slice_get f.0 s) (ap (λ z. slice_get z s) (sym of) ∙ g.2) f.2
 
 module _ (w : WorldValue) (r s i : ℕ) (answer : Reply) (w' : WorldValue) (f : ArriveFollows w r s i answer w') (n : ℕ) (is : f.frame ≡ frame.Ask n)
     (world : IsWorld w) where

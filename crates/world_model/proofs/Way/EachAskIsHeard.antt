@@ -18,11 +18,6 @@ use Rattle.world_model.proofs.Again.Loops.{hear_ask}
 pub wire_kept : (a b : WorldValue) (x y : List WorldEvent) (r s : ℕ) → r < size a → s < size a → Listened a x b y → HasWire b.wires r s
 wire_kept a b x y r s lr ls f = (let n = f.advanced.same_size in has_wire b r s f.advanced.is_world.stands (omega (arith, lr, n)) (omega (arith, ls, n)))
 
--- an index within a wire before a hearing is within it afterwards
-pub wire_within : (a b : WorldValue) (x y : List WorldEvent) (r s i n : ℕ) → Listened a x b y → n ≡ length (wire_of a.wires r s) → i < n
-    → i < length (wire_of b.wires r s)
-wire_within a b x y r s i n f e l = (let q = ap (λ z. length (wire_of z r s)) f.keeps.wires in omega (arith, q, e, l))
-
 -- a frame that is an Ask arrives
 pub hear_true : (a b c : WorldValue) (x y z : List WorldEvent) (r s r1 s1 i j : ℕ) (answer : Reply) → r1 ≡ r → s1 ≡ s → j ≡ i → IsWorld a → AllLive a
     → r < size a → s < size a

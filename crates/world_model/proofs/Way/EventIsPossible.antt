@@ -49,7 +49,8 @@ use Rattle.world_model.specs.Follows.{arrived_as, stepped, put_as, after_turn, w
 use Rattle.world_model.proofs.Calls.Frames.{has_wire, the_wire}
 use Rattle.world_model.proofs.Plain.ReplaySteps.{fitting}
 use Rattle.world_model.proofs.Plain.Worlds.{rank_of}
-use Rattle.world_model.proofs.Way.MachineHasStep.{InLines, internal_goes, sent_goes, printed_goes, taken_goes, hit_goes, tried_goes, missed_goes}
+use Rattle.world_model.proofs.Way.StepOfItsOwn.{InLines, internal_goes}
+use Rattle.world_model.proofs.Way.MachineHasStep.{sent_goes, printed_goes, taken_goes, hit_goes, tried_goes, missed_goes}
 use Rattle.world_model.proofs.Way.CollectiveStages.{Staged, staged_opening, staged_inners, staged_runs}
 
 -- ---- a machine's step

@@ -1,317 +1,26 @@
 -- A machine has a step where it wants one: the state after it stands at a position of its program.
-use Rattle.std.proofs.Common.{◌≡◌, ◌≢◌, ℕ, ◌+◌, ◌<◌, ◌≤◌, ◌⊎◌, inl, inr, Bool, true, false, not, if◌then◌else◌, ℤ, List, [], ◌∷◌, ◌++◌, Option, Some}
-use Rattle.std.proofs.Common.{None, Ok, Err, length, refl, sym, ap, subst, ◌∙◌, arith, length-append}
-use Rattle.std.proofs.lemmas.Bool.{cases_lt}
-use Rattle.std.proofs.lemmas.List.{get_or_past}
-use Rattle.std.proofs.lemmas.Option.{slice_get-get_or}
+use Rattle.std.proofs.Common.{◌≡◌, ℕ, true, ℤ, Option, Some}
+use Rattle.std.proofs.Common.{None, refl, sym, ap, subst, ◌∙◌}
 use Rattle.matching.specs.declared.packet.Context.{Context}
 use Rattle.matching.specs.declared.selector.Selector.{Selector}
 use Rattle.matching.specs.PacketValue as packet
 use Rattle.matching.specs.Matching.{matches}
-use Rattle.rank_language.specs.Placed.{Buffer, into_variable, into_array, Simple, declare, declare_array, assign, assign_item, send, receive}
-use Rattle.rank_language.specs.Placed.{probe, try_probe, print, Collective, barrier, broadcast, reduce, collect}
-use Rattle.rank_language.specs.Block.{Block, done, plain, if_only, if_else, loop, ◌then◌, Line, simple_line, if_line, else_line, end_line, while_line, back_line}
-use Rattle.rank_language.specs.Block.{size, lines_at, places, remaining, Leads}
-use Rattle.rank_language.specs.Program.{block_of}
-use Rattle.rank_language.proofs.Places.{length-lines_at}
+use Rattle.rank_language.specs.Placed.{declare, declare_array, assign, assign_item, send, receive}
+use Rattle.rank_language.specs.Placed.{probe, try_probe, print, collect}
+use Rattle.rank_language.specs.Block.{Block, done, plain, if_only, if_else, loop}
 use Rattle.rank_machine.specs.declared.fault.MachineFault.{MachineFault}
-use Rattle.rank_machine.specs.declared.fault.MachineFault.TheVariants.{TooLong}
-use Rattle.rank_machine.specs.declared.want.Want.{Want}
 use Rattle.rank_machine.specs.declared.want.Want.TheVariants as want
-use Rattle.rank_machine.specs.Values.{Store, Valued, ◌>>=◌}
-use Rattle.rank_machine.specs.Collectives.{Call, called, part_of, is_last, counted, part_done, rest_after, unfaulted}
-use Rattle.rank_machine.specs.States.{State, inner, item_value}
-use Rattle.rank_machine.specs.Wants.{part_want, or_fault, want_of, simple_want, payload}
-use Rattle.rank_machine.specs.Acts.{Act, Message, sends, takes, hits, misses, prints, carried, Fits, written, with_status, kept, goes_on, items_taken}
-use Rattle.rank_machine.specs.Acts.{part_sent, part_taken, collected, received, after_first, unless_faulted, next}
-use Rattle.rank_machine.specs.Machine.{MachineValue, state_of, line_at, machine_want_at, machine_want, line_want, call_at, stays, position_after, next_of}
-use Rattle.rank_machine.specs.Machine.{store_after, stored_of, line_store, HasStage, GoesOn, received_at, KeepsRank}
-use Rattle.rank_machine.proofs.Going.{faulted_wants, Keeps, stored_keeps}
-use Rattle.rank_machine.proofs.Lines.{line_wants, line_goes, line_moves, leads_on, never, sends_only, receives_only, probes_only, tries_only, prints_only}
-use Rattle.rank_machine.proofs.Lines.{collects_only, tests_only}
+use Rattle.rank_machine.specs.States.{State}
+use Rattle.rank_machine.specs.Wants.{payload}
+use Rattle.rank_machine.specs.Acts.{Message, sends, takes, hits, misses, prints, carried, Fits}
+use Rattle.rank_machine.specs.Acts.{after_first, unless_faulted, next}
+use Rattle.rank_machine.specs.Machine.{MachineValue, state_of, machine_want, stays}
 use Rattle.rank_machine.proofs.Making.{named}
 use Rattle.rank_node.specs.Steps.{DidAct, Took, WasShown, Missed}
-use Rattle.world_model.proofs.Runs.ActFitsWant.{wanted, fits_send, fits_print}
-use Rattle.world_model.proofs.Again.LinesLeadOn.{line_leads}
-use Rattle.world_model.proofs.Way.CollectiveStages.{line_of, Staged}
-
--- the lines of a machine's program are those of its tree
-abbrev pub InLines : MachineValue → Type 0
-InLines m = m.program.statements ≡ lines_at 0 (block_of m.program)
-
--- ---- past the last line
-
--- a list has as many places as lines
-length-places : (b k : Block) → length (places b k) ≡ size b
-length-places done k = refl
-length-places (plain s r) k = omega (arith, length-places r k)
-length-places (if_only e y r) k =
-    omega (arith, length-append (places y (r then k)) ((r then k) ∷ places r k), length-places y (r then k), length-places r k)
-length-places (if_else e y o r) k =
-    omega (
-      arith,
-      length-append (places y (r then k)) ((r then k) ∷ (places o (r then k) ++ (r then k) ∷ places r k)),
-      length-append (places o (r then k)) ((r then k) ∷ places r k),
-      length-places y (r then k),
-      length-places o (r then k),
-      length-places r k,
-    )
-length-places (loop e y r) k =
-    omega (arith, length-append (places y (loop e y (r then k))) (loop e y (r then k) ∷ places r k), length-places y (loop e y (r then k)), length-places r k)
-
--- where no line stands nothing remains
-none_remains : (m : MachineValue) → InLines m → line_at m ≡ None → remaining (block_of m.program) m.position ≡ done
-none_remains m lines none = go (cases_lt m.position (length m.program.statements))
-  where
-    go : (m.position < length m.program.statements) ⊎ (length m.program.statements ≤ m.position) → remaining (block_of m.program) m.position ≡ done
-    go (inl l) = absurd (let q : None ≡ Some (_) = sym none ∙ slice_get-get_or m.program.statements m.position end_line l in cc)
-    go (inr l) =
-        let e = ap length lines in
-        let n = length-lines_at 0 (block_of m.program) in
-        let p = length-places (block_of m.program) done in
-        get_or_past (places (block_of m.program) done) m.position done (omega (arith, l, e, n, p))
-
--- ---- a step of its own
-
--- the state with this store, this rest and this fault
-abbrev stood : Store → Block → Option MachineFault → State
-stood s b k = record { store = s; rest = b; fault = k }
-
--- a machine that wants a step of its own comes by at most one inner step to where its line leads, which is elsewhere
-goes : (at : ℕ → Block) (p : ℕ) (s : Store) (k : Option MachineFault) (l : Option Line) → ((x : Line) → l ≡ Some x → Leads at p x)
-    → (l ≡ None → at p ≡ done)
-    → ((x : Line) → l ≡ Some x → or_fault (line_want s x) ≡ want.Internal → stays s (call_at s (Some x)) ≡ false)
-    → machine_want_at l k (want_of s (at p) k) ≡ want.Internal
-    → ((inner (stood s (at p) k) ≡ Some (stood (store_after s l) (at (position_after s l p)) k))
-    ⊎ (stood (store_after s l) (at (position_after s l p)) k ≡ stood s (at p) k)) × (position_after s l p ≢ p)
-goes at p s (Some f) l lead past stage i = absurd (let e : want.Faulted f ≡ want.Internal = sym (faulted_wants l f (want.Faulted f)) ∙ i in cc)
-goes at p s None None lead past stage i =
-    absurd (let e : want.Halted ≡ want.Internal = sym (ap (λ b. want_of s b None) (past refl)) ∙ i in cc)
-goes at p s None (Some x) lead past stage i =
-    let h = lead x refl in
-    let w : or_fault (line_want s x) ≡ want.Internal = sym (line_wants at p x s h) ∙ i in
-    rw (stage x refl w) (line_goes at p x s h w, line_moves at p x _ h)
-
--- what is stored after a line is of the same rank
-keeps_of : (s : Store) (o : Option Line) → Keeps s (store_after s o)
-keeps_of s None = record { rank = refl; size = refl; source = refl; tag = refl; count = refl }
-keeps_of s (Some l) = stored_keeps s (line_store s l) l refl
-
--- a machine that wants a step of its own has one
-pub internal_goes : (m : MachineValue) → InLines m → Staged (state_of m) → machine_want m ≡ want.Internal → (n : MachineValue) × GoesOn m n
-internal_goes m lines staged is = (
-  record m { position = next_of m; store = stored_of m },
-  (let at = remaining (block_of m.program) in
-      let lead : (x : Line) → line_at m ≡ Some x → Leads at m.position x = λ x e. line_leads m.program.statements (block_of m.program) m.position x lines e in
-      let r = goes at m.position m.store m.fault (line_at m) lead (none_remains m lines) (λ x e w. still x (lead x e) w) is in
-      let k = keeps_of m.store (line_at m) in
-      record { state = r.0; position = refl; moves = r.1; program = refl; store = refl; rank = k.rank; size = k.size; fault = refl }),
-)
-  where
-    still : (x : Line) → Leads (remaining (block_of m.program)) m.position x → or_fault (line_want m.store x) ≡ want.Internal
-        → stays m.store (call_at m.store (Some x)) ≡ false
-    still (simple_line y) h w =
-        leads_on m.store (simple_line y) w (subst (λ b. HasStage m.store (call_at m.store (line_of b))) h staged.stage)
-    still (if_line e q) h w = refl
-    still (else_line q) h w = refl
-    still end_line h w = refl
-    still (while_line e q) h w = refl
-    still (back_line q) h w = refl
-
--- ---- where an act leads
-
--- a fault leaves the position
-abbrev landed : Option MachineFault → ℕ → ℕ → ℕ
-landed None p n = n
-landed (Some k) p n = p
-
--- an act that takes no message
-abbrev IsCalm : Act → Type 0
-IsCalm (sends d c t items) = Unit {0}
-IsCalm (takes s j) = ⊥
-IsCalm (hits s j) = Unit {0}
-IsCalm misses = Unit {0}
-IsCalm (prints v) = Unit {0}
-
--- The state after an act of a rank that stands at p, whose line leads to n.
-record Lands (at : ℕ → Block) (p n : ℕ) (s : Store) (act : Act) (b : State) : Type 0 where
-  rest : b.rest ≡ at (landed b.fault p n)
-  rank : b.store.rank ≡ s.rank
-  size : b.store.size ≡ s.size
-  calm : IsCalm act → b.fault ≡ None
-
--- a buffer that is written leaves rank and size
-written_rank : (b : Buffer) (items : List ℤ) (s : Store) → ((written b items s).rank ≡ s.rank) × ((written b items s).size ≡ s.size)
-written_rank (into_variable p) [] s = (refl, refl)
-written_rank (into_variable p) (z ∷ zs) s = (refl, refl)
-written_rank (into_array p) items s = (refl, refl)
-
--- and so does what is kept of a packet
-kept_rank : (c : Collective) (items : List ℤ) (s : Store) → ((kept c items s).rank ≡ s.rank) × ((kept c items s).size ≡ s.size)
-kept_rank barrier items s = (refl, refl)
-kept_rank (broadcast e b) items s = written_rank b items s
-kept_rank (reduce f e v p) items s = (refl, refl)
-
--- and a part
-done_rank : (s : Store) (call : Call) → ((part_done s call).rank ≡ s.rank) × ((part_done s call).size ≡ s.size)
-done_rank s call = go (is_last s call)
-  where
-    go : (b : Bool) → (let z : Store = if b then counted s else record s { done = s.done + 1 } in (z.rank ≡ s.rank) × (z.size ≡ s.size))
-    go true = (refl, refl)
-    go false = (refl, refl)
-
--- a message that a receive takes
-received_lands : (at : ℕ → Block) (p q j : ℕ) (s : Store) (b : Buffer) (x : Message)
-    → Lands at p (p + 1) s (takes q j) (received (stood s (at p) None) b (at (p + 1)) q x)
-received_lands at p q j s b x = go _
-  where
-    go : (fit : Bool) → Lands at p (p + 1) s (takes q j)
-        (if fit then goes_on (with_status q x (written b x.items s)) (at (p + 1)) else stood s (at p) (Some TooLong))
-    go true = (let k = written_rank b x.items s in record { rest = refl; rank = k.0; size = k.1; calm = λ c. absurd c })
-    go false = record { rest = refl; rank = refl; size = refl; calm = λ c. absurd c }
-
--- where a collective's line leads
-part_rest : (at : ℕ → Block) (p : ℕ) (last : Bool) → (if last then at (p + 1) else at p) ≡ at (if not last then p else p + 1)
-part_rest at p true = refl
-part_rest at p false = refl
-
--- the part of a call that stands
-called_rest : (at : ℕ → Block) (p : ℕ) (s : Store) (c : Collective) (call : Call) → called s c ≡ Ok call
-    → rest_after s call (at p) (at (p + 1)) ≡ at (position_after s (Some (simple_line (collect c))) p)
-called_rest at p s c call e =
-    part_rest at p (is_last s call) ∙ ap (λ v. at (if stays s (unfaulted v) then p else p + 1)) (sym e)
-
--- a send of a collective
-sent_lands : (at : ℕ → Block) (p : ℕ) (s : Store) (c : Collective) (v : Valued Call) (items : List ℤ) (d : ℕ) (x : Context) (t : ℕ) (xs : List ℤ)
-    (m : Option Message) → called s c ≡ v → Fits (or_fault (v >>= (λ call. part_want s c call (part_of s call)))) items (sends d x t xs) m
-    → Lands at p (position_after s (Some (simple_line (collect c))) p) s (sends d x t xs) (part_sent (stood s (at p) None) (at (p + 1)) v)
-sent_lands at p s c (Err k) items d x t xs m e f = absurd f
-sent_lands at p s c (Ok call) items d x t xs m e f =
-    let k = done_rank s call in
-    record { rest = called_rest at p s c call e; rank = k.0; size = k.1; calm = λ z. refl }
-
--- what a packet of a collective gives
-items_land : (at : ℕ → Block) (p q j : ℕ) (s : Store) (c : Collective) (call : Call) (v : Valued (List ℤ)) → called s c ≡ Ok call
-    → Lands at p (position_after s (Some (simple_line (collect c))) p) s (takes q j) (part_taken (stood s (at p) None) c (at (p + 1)) call v)
-items_land at p q j s c call (Err k) e = record { rest = refl; rank = refl; size = refl; calm = λ z. absurd z }
-items_land at p q j s c call (Ok items) e =
-    let d = done_rank (kept c items s) call in
-    let k = kept_rank c items s in
-    record { rest = called_rest at p s c call e; rank = d.0 ∙ k.0; size = d.1 ∙ k.1; calm = λ z. absurd z }
-
--- a packet that a collective takes
-taken_lands : (at : ℕ → Block) (p q j : ℕ) (s : Store) (c : Collective) (v : Valued Call) (items : List ℤ) (x : Message) → called s c ≡ v
-    → Fits (or_fault (v >>= (λ call. part_want s c call (part_of s call)))) items (takes q j) (Some x)
-    → Lands at p (position_after s (Some (simple_line (collect c))) p) s (takes q j) (collected (stood s (at p) None) c (at (p + 1)) x v)
-taken_lands at p q j s c (Err k) items x e f = absurd f
-taken_lands at p q j s c (Ok call) items x e f = items_land at p q j s c call (items_taken s c call x.items) e
-
--- each statement without parts
-simple_lands : (at : ℕ → Block) (p : ℕ) (s : Store) (x : Simple) (items : List ℤ) (act : Act) (m : Option Message) → Fits (or_fault (simple_want s x)) items act m
-    → Lands at p (position_after s (Some (simple_line x)) p) s act (after_first (stood s (at p) None) (plain x (at (p + 1))) act m)
-simple_lands at p s (declare y) items act m f = absurd f
-simple_lands at p s (declare_array y) items act m f = absurd f
-simple_lands at p s (assign y v) items act m f = absurd (tests_only (λ w. Fits w items act m) s v (λ k h. h) (λ h. h) f)
-simple_lands at p s (assign_item y i v) items act m f = absurd (never (λ w. Fits w items act m) (item_value s y i v) _ (λ k h. h) (λ z h. h) f)
-simple_lands at p s (send d t y) items (sends e c n xs) m f = record { rest = refl; rank = refl; size = refl; calm = λ z. refl }
-simple_lands at p s (send d t y) items (takes q j) m f = absurd (sends_only (λ w. Fits w items (takes q j) m) s d t y (λ k h. h) (λ e n h. h) f)
-simple_lands at p s (send d t y) items (hits q j) m f = absurd (sends_only (λ w. Fits w items (hits q j) m) s d t y (λ k h. h) (λ e n h. h) f)
-simple_lands at p s (send d t y) items misses m f = absurd (sends_only (λ w. Fits w items misses m) s d t y (λ k h. h) (λ e n h. h) f)
-simple_lands at p s (send d t y) items (prints z) m f = absurd (sends_only (λ w. Fits w items (prints z) m) s d t y (λ k h. h) (λ e n h. h) f)
-simple_lands at p s (receive c t b) items (takes q j) (Some x) f = received_lands at p q j s b x
-simple_lands at p s (receive c t b) items (takes q j) None f = absurd (receives_only (λ w. Fits w items (takes q j) None) s c t (λ k h. h) (λ w h. h) f)
-simple_lands at p s (receive c t b) items (sends e x n xs) m f =
-    absurd (receives_only (λ w. Fits w items (sends e x n xs) m) s c t (λ k h. h) (λ w h. h) f)
-simple_lands at p s (receive c t b) items (hits q j) m f = absurd (receives_only (λ w. Fits w items (hits q j) m) s c t (λ k h. h) (λ w h. h) f)
-simple_lands at p s (receive c t b) items misses m f = absurd (receives_only (λ w. Fits w items misses m) s c t (λ k h. h) (λ w h. h) f)
-simple_lands at p s (receive c t b) items (prints z) m f = absurd (receives_only (λ w. Fits w items (prints z) m) s c t (λ k h. h) (λ w h. h) f)
-simple_lands at p s (probe c t) items (hits q j) (Some x) f = record { rest = refl; rank = refl; size = refl; calm = λ z. refl }
-simple_lands at p s (probe c t) items (hits q j) None f = absurd (probes_only (λ w. Fits w items (hits q j) None) s c t (λ k h. h) (λ w h. h) f)
-simple_lands at p s (probe c t) items (sends e x n xs) m f = absurd (probes_only (λ w. Fits w items (sends e x n xs) m) s c t (λ k h. h) (λ w h. h) f)
-simple_lands at p s (probe c t) items (takes q j) m f = absurd (probes_only (λ w. Fits w items (takes q j) m) s c t (λ k h. h) (λ w h. h) f)
-simple_lands at p s (probe c t) items misses m f = absurd (probes_only (λ w. Fits w items misses m) s c t (λ k h. h) (λ w h. h) f)
-simple_lands at p s (probe c t) items (prints z) m f = absurd (probes_only (λ w. Fits w items (prints z) m) s c t (λ k h. h) (λ w h. h) f)
-simple_lands at p s (try_probe c t y) items (hits q j) (Some x) f = record { rest = refl; rank = refl; size = refl; calm = λ z. refl }
-simple_lands at p s (try_probe c t y) items (hits q j) None f = absurd (tries_only (λ w. Fits w items (hits q j) None) s c t (λ k h. h) (λ w h. h) f)
-simple_lands at p s (try_probe c t y) items misses m f = record { rest = refl; rank = refl; size = refl; calm = λ z. refl }
-simple_lands at p s (try_probe c t y) items (sends e x n xs) m f = absurd (tries_only (λ w. Fits w items (sends e x n xs) m) s c t (λ k h. h) (λ w h. h) f)
-simple_lands at p s (try_probe c t y) items (takes q j) m f = absurd (tries_only (λ w. Fits w items (takes q j) m) s c t (λ k h. h) (λ w h. h) f)
-simple_lands at p s (try_probe c t y) items (prints z) m f = absurd (tries_only (λ w. Fits w items (prints z) m) s c t (λ k h. h) (λ w h. h) f)
-simple_lands at p s (print v) items (prints z) m f = record { rest = refl; rank = refl; size = refl; calm = λ z. refl }
-simple_lands at p s (print v) items (sends e x n xs) m f = absurd (prints_only (λ w. Fits w items (sends e x n xs) m) s v (λ k h. h) (λ z h. h) f)
-simple_lands at p s (print v) items (takes q j) m f = absurd (prints_only (λ w. Fits w items (takes q j) m) s v (λ k h. h) (λ z h. h) f)
-simple_lands at p s (print v) items (hits q j) m f = absurd (prints_only (λ w. Fits w items (hits q j) m) s v (λ k h. h) (λ z h. h) f)
-simple_lands at p s (print v) items misses m f = absurd (prints_only (λ w. Fits w items misses m) s v (λ k h. h) (λ z h. h) f)
-simple_lands at p s (collect c) items (sends e x n xs) m f = sent_lands at p s c (called s c) items e x n xs m refl f
-simple_lands at p s (collect c) items (takes q j) (Some x) f = taken_lands at p q j s c (called s c) items x refl f
-simple_lands at p s (collect c) items (takes q j) None f =
-    absurd (collects_only (λ w. Fits w items (takes q j) None) s c (λ k h. h) (λ d h. h) (λ y h. h) (λ h. h) f)
-simple_lands at p s (collect c) items (hits q j) m f =
-    absurd (collects_only (λ w. Fits w items (hits q j) m) s c (λ k h. h) (λ d h. h) (λ y h. h) (λ h. h) f)
-simple_lands at p s (collect c) items misses m f =
-    absurd (collects_only (λ w. Fits w items misses m) s c (λ k h. h) (λ d h. h) (λ y h. h) (λ h. h) f)
-simple_lands at p s (collect c) items (prints z) m f =
-    absurd (collects_only (λ w. Fits w items (prints z) m) s c (λ k h. h) (λ d h. h) (λ y h. h) (λ h. h) f)
-
--- what a machine wants that is no fault its line asks for
-asked : (P : Want → Type 0) (at : ℕ → Block) (p : ℕ) (s : Store) (k : Option MachineFault) (l : Line) → Leads at p l → ((f : MachineFault) → P (want.Faulted f) → ⊥)
-    → P (machine_want_at (Some l) k (want_of s (at p) k)) → (k ≡ None) × P (or_fault (line_want s l))
-asked P at p s None l h none w = (refl, subst P (line_wants at p l s h) w)
-asked P at p s (Some f) l h none w = absurd (none f (subst P (faulted_wants (Some l) f (want.Faulted f)) w))
-
--- a line asks for an act only where it is of one statement without parts
-line_lands : (at : ℕ → Block) (p : ℕ) (s : Store) (k : Option MachineFault) (o : Option Line) (items : List ℤ) (act : Act) (m : Option Message)
-    → ((x : Line) → o ≡ Some x → Leads at p x) → (o ≡ None → at p ≡ done) → Fits (machine_want_at o k (want_of s (at p) k)) items act m
-    → Lands at p (position_after s o p) s act (next (stood s (at p) k) act m)
-line_lands at p s (Some f) None items act m lead past fits = absurd fits
-line_lands at p s None None items act m lead past fits = absurd (subst (λ b. Fits (want_of s b None) items act m) (past refl) fits)
-line_lands at p s k (Some (simple_line x)) items act m lead past fits =
-    let h = lead (simple_line x) refl in
-    let w = asked (λ z. Fits z items act m) at p s k (simple_line x) h (λ f z. z) fits in
-    subst (λ z. Lands at p (position_after s (Some (simple_line x)) p) s act (next (stood s (at p) z) act m)) (sym w.0)
-    (subst (λ b. Lands at p (position_after s (Some (simple_line x)) p) s act (after_first (stood s (at p) None) b act m)) (sym h)
-    (simple_lands at p s x items act m w.1))
-line_lands at p s k (Some (if_line e q)) items act m lead past fits =
-    let w = asked (λ z. Fits z items act m) at p s k (if_line e q) (lead (if_line e q) refl) (λ f z. z) fits in
-    absurd (tests_only (λ z. Fits z items act m) s e (λ k h. h) (λ h. h) w.1)
-line_lands at p s k (Some (else_line q)) items act m lead past fits =
-    absurd (asked (λ z. Fits z items act m) at p s k (else_line q) (lead (else_line q) refl) (λ f z. z) fits).1
-line_lands at p s k (Some end_line) items act m lead past fits =
-    absurd (asked (λ z. Fits z items act m) at p s k end_line (lead end_line refl) (λ f z. z) fits).1
-line_lands at p s k (Some (while_line e q)) items act m lead past fits =
-    let w = asked (λ z. Fits z items act m) at p s k (while_line e q) (lead (while_line e q) refl) (λ f z. z) fits in
-    absurd (tests_only (λ z. Fits z items act m) s e (λ k h. h) (λ h. h) w.1)
-line_lands at p s k (Some (back_line q)) items act m lead past fits =
-    absurd (asked (λ z. Fits z items act m) at p s k (back_line q) (lead (back_line q) refl) (λ f z. z) fits).1
-
--- A machine after an act.
-record After (m : MachineValue) (act : Act) (message : Option Message) : Type 0 where
-  machine : MachineValue
-  state : state_of machine ≡ next (state_of m) act message
-  position : machine.position ≡ received_at m machine.fault
-  calm : IsCalm act → machine.position ≡ next_of m
-  keeps : KeepsRank m machine
-
--- where a machine wants an act there is one
-after : (m : MachineValue) (act : Act) (message : Option Message) → InLines m → Fits (machine_want m) (payload (state_of m)) act message → After m act message
-after m act message lines fits =
-    let at = remaining (block_of m.program) in
-    let b = next (state_of m) act message in
-    let l = line_lands at m.position m.store m.fault (line_at m) (payload (state_of m)) act message
-    (λ x e. line_leads m.program.statements (block_of m.program) m.position x lines e) (none_remains m lines) fits in
-    record {
-      machine = record { program = m.program; position = landed b.fault m.position (next_of m); store = b.store; fault = b.fault };
-      state = ap (λ z. stood b.store z b.fault) (sym l.rest);
-      position = there b.fault;
-      calm = λ c. ap (λ z. landed z m.position (next_of m)) (l.calm c);
-      keeps = record { program = refl; rank = l.rank; size = l.size };
-    }
-  where
-    there : (k : Option MachineFault) → landed k m.position (next_of m) ≡ received_at m k
-    there None = refl
-    there (Some k) = refl
-
--- ---- each act
+use Rattle.world_model.proofs.Runs.ActFitsWant.{wanted}
+use Rattle.audit.proofs.Fitting.{send_fits, print_fits}
+use Rattle.world_model.proofs.Way.StepOfItsOwn.{InLines}
+use Rattle.world_model.proofs.Way.WhereActsLead.{After, after}
 
 -- a send
 pub sent_goes : (m : MachineValue) (d : ℕ) (c : Context) (t : ℕ) → InLines m → machine_want m ≡ want.Send d c t → (n : MachineValue) × DidAct m n
@@ -319,7 +28,7 @@ sent_goes m d c t lines is = (
   x.machine,
   record {
     state = λ act message makes.
-        (let f = fits_send d c t (payload (state_of m)) act message
+        (let f = send_fits d c t (payload (state_of m)) act message
         (subst (λ z. Fits z (payload (state_of m)) act message) (wanted m (want.Send d c t) is (λ z. cc)) makes) in
         x.state ∙ ap (λ z. next (state_of m) z None) (sym f.0) ∙ ap (λ z. next (state_of m) act z) (sym f.1));
     position = x.calm tt;
@@ -337,7 +46,7 @@ printed_goes m v lines is = (
   x.machine,
   record {
     state = λ act message makes.
-        (let f = fits_print v (payload (state_of m)) act message
+        (let f = print_fits v (payload (state_of m)) act message
         (subst (λ z. Fits z (payload (state_of m)) act message) (wanted m (want.Print v) is (λ z. cc)) makes) in
         x.state ∙ ap (λ z. next (state_of m) z None) (sym f.0) ∙ ap (λ z. next (state_of m) act z) (sym f.1));
     position = x.calm tt;

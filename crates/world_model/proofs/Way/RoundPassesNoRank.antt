@@ -1,16 +1,13 @@
 -- What is outgoing is put and arrives at once: no rank behind the run is passed by, and none of these events is refused.
-use Rattle.std.proofs.Common.{◌≡◌, ℕ, ◌<◌, List, [], ◌∷◌, ◌++◌, Option, Some, None, length, refl, sym, ap, subst, ◌∙◌, slice_get, slice_set}
+use Rattle.std.proofs.Common.{◌≡◌, ℕ, List, [], ◌∷◌, ◌++◌, Option, Some, length, refl, sym, ap, subst, ◌∙◌, slice_get, slice_set}
 use Rattle.matching.specs.PacketValue as packet
 use Rattle.rank_node.specs.declared.frame.Frame.{Frame}
 use Rattle.rank_node.specs.declared.frame.Frame.TheVariants as frame
-use Rattle.rank_node.specs.Frames.{outgoing_of}
-use Rattle.world_model.specs.declared.event.WorldEvent.TheVariants.{Put, Arrive, Restart}
 use Rattle.world_model.specs.declared.reply.Reply.{Reply}
 use Rattle.world_model.specs.Headline.{IsReal}
-use Rattle.world_model.specs.World.{Live}
-use Rattle.world_model.specs.World.{WorldValue, size, IsLive, IsDown, IsWire}
+use Rattle.world_model.specs.World.{WorldValue}
 use Rattle.world_model.specs.Stands.{Stands}
-use Rattle.world_model.specs.Follows.{PutFollows, ArriveFollows, CanNot}
+use Rattle.world_model.specs.Follows.{PutFollows, ArriveFollows}
 use Rattle.world_model.specs.Onward.{Onward}
 use Rattle.world_model.specs.Driven.{NoGaps}
 use Rattle.world_model.proofs.Way.FramesPassNoRank.{put_no_gaps, arrived_no_gaps}
@@ -59,16 +56,3 @@ round_no_gaps w mid w' s d a b f h t t1 o g = go f.frame refl
         packet_no_gaps w mid s d a f p t o e g w' (length f.frames) b h (same ∙ e) real.0
 
 -- ---- none of them is refused
-
--- a live rank that has a frame to put can put it
-pub put_can : (w : WorldValue) (s d : ℕ) (v : Live) (f : Frame) → IsLive w s v → d < size w → outgoing_of v.rank d ≡ Some f → CanNot w (Put s d) → ⊥
-put_can w s d v f live l some no_way = (let q : Some f ≡ None = sym some ∙ no_way v live l in cc)
-
--- a frame on the wire to a live rank can arrive
-pub arrive_can : (w : WorldValue) (s d i : ℕ) (v : Live) (frames : List Frame) (f : Frame) → IsLive w d v → IsWire w s d frames → slice_get frames i ≡ Some f
-    → CanNot w (Arrive s d i) → ⊥
-arrive_can w s d i v frames f live wire there no_way = no_way v frames f live wire there
-
--- a rank that is down can be restarted
-pub restart_can : (w : WorldValue) (r : ℕ) → IsDown w r → CanNot w (Restart r) → ⊥
-restart_can w r down no_way = no_way down

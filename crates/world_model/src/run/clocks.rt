@@ -1,7 +1,7 @@
 //! The clocks of what one rank sent to another.
 ghost use Rattle.std.specs.Prelude.{◌≡◌, ℕ, ◌-◌, [], ◌∷◌, ◌++◌, length, take, Some, IfSome, IfNone, OnOk, OnErr};
 ghost use Rattle.crash_free.specs.Runs.{at_place};
-ghost use Rattle.world_model.specs.RunIndex.{Rising};
+ghost use Rattle.audit.specs.Trace.{AreInOrder};
 
 use limits::Heap;
 use std::alloc::AllocError;
@@ -51,7 +51,7 @@ impl Clocks {
     /// The place of a clock, from 1.
     #[tactic(auto, using(crate::proofs::Runs::ClocksRise::found_there))]
     pub(super) fn place_of(&self, clock: u64) -> Option<u64>
-        requires { Rising self.now }
+        requires { AreInOrder self.now }
         ensures some { IfSome result (λ j. at_place self.now j ≡ Some clock) }
         ensures none { IfNone result ((j : ℕ) → at_place self.now j ≡ Some clock → ⊥) }
     {

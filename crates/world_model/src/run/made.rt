@@ -2,7 +2,8 @@
 ghost use Rattle.std.specs.Prelude.{◌≡◌, ℕ, ◌+◌, ◌^◌, ◌<◌, [], length, slice_index_or, Some, IfSome, IfNone, IfOk, OnOk, OnErr};
 ghost use Rattle.crash_free.specs.Runs.{at_place};
 ghost use Rattle.crash_free.specs.Seen.{act_of};
-ghost use Rattle.world_model.specs.RunIndex.{Rising, none_made, made_with, made_without};
+ghost use Rattle.audit.specs.Trace.{AreInOrder};
+ghost use Rattle.world_model.specs.RunIndex.{none_made, made_with, made_without};
 
 use crate::run::clocks::Clocks;
 use crash_free::Act;
@@ -65,7 +66,7 @@ impl Made {
     /// The place of a clock, from 1, among those of what was sent to a rank.
     pub(super) fn place_of(&self, dest: u8, clock: u64) -> Option<u64>
         requires there { dest < length self.now.clocks }
-        requires rises { Rising (slice_index_or self.now.clocks dest []) }
+        requires rises { AreInOrder (slice_index_or self.now.clocks dest []) }
         ensures some { let sent = slice_index_or self.now.clocks dest [] in
             IfSome result (λ j. at_place sent j ≡ Some clock) }
         ensures none { let sent = slice_index_or self.now.clocks dest [] in

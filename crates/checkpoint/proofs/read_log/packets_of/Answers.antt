@@ -3,8 +3,9 @@ use Rattle.std.proofs.lemmas.List.{length_push}
 use Rattle.matching.specs.PacketValue.{PacketValue}
 use Rattle.std.proofs.lemmas.Result.{err_from_is_err_and}
 use Rattle.checkpoint.specs.Reading.{Fails, many_at, kept_at, kept_above, last_clock}
-use Rattle.checkpoint.proofs.Loop.{goes_on, ends, is_done, last_clock-push, numbered_push}
+use Rattle.checkpoint.proofs.Loop.{goes_on, ends, is_done, last_clock-push}
 use Rattle.checkpoint.proofs.read_log.packets_of.Goals as goal
+use Rattle.payload_log.proofs.BacklogLemmas.{numbered_push}
 
 pub returns-in_err-packet-clause-read : goal.returns-in_err-packet-clause-read
 returns-in_err-packet-clause-read c =

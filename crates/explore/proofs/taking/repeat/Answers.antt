@@ -1,15 +1,16 @@
 use Rattle.std.proofs.Common.{◌≡◌, ◌-◌, ◌≤◌, true, refl, ap, subst, slice_index_or, slice_set, arith}
+use Rattle.std.proofs.lemmas.Bool.{true_from_ne_false}
 use Rattle.std.specs.Prelude.{slice_index}
 use Rattle.crash_free.specs.Runs.{Passed}
 use Rattle.explore.proofs.Counting.{counts_further, counts_spend}
-use Rattle.explore.proofs.Within.{has_steps, truly}
+use Rattle.explore.proofs.Within.{has_steps}
 use Rattle.explore.proofs.taking.repeat.Goals as goal
 
 pub make-requires-clause-at : goal.make-requires-clause-at
 make-requires-clause-at c =
     let same : c.passed.inside.rank ≡ c.args.passed.now.rank = ap (λ (p : Passed). p.rank) c.passed.view_is in
     let yes : c.comes_to_act.result ≡ true =
-    truly c.comes_to_act.result
+    true_from_ne_false c.comes_to_act.result
     (λ no.
     has_steps c.args.sim.now c.comes_to_act.new.sim c.comes_to_act.new.left c.requires.enough.0 c.args.passed.now c.comes_to_act.ensures.alike
     c.comes_to_act.ensures.run c.requires.may.0 (c.comes_to_act.ensures.counts c.requires.enough.0 c.requires.enough.1) c.requires.enough.2
@@ -20,7 +21,7 @@ pub overflow_sub-left : goal.overflow_sub-left
 overflow_sub-left c =
     let same : c.passed.inside.rank ≡ c.args.passed.now.rank = ap (λ (p : Passed). p.rank) c.passed.view_is in
     let yes : c.comes_to_act.result ≡ true =
-    truly c.comes_to_act.result
+    true_from_ne_false c.comes_to_act.result
     (λ no.
     has_steps c.args.sim.now c.comes_to_act.new.sim c.comes_to_act.new.left c.requires.enough.0 c.args.passed.now c.comes_to_act.ensures.alike
     c.comes_to_act.ensures.run c.requires.may.0 (c.comes_to_act.ensures.counts c.requires.enough.0 c.requires.enough.1) c.requires.enough.2
@@ -37,7 +38,7 @@ returns-clause-counts c =
     let less : now ≡ slice_set before rank (slice_index before rank - 1) = rw c.from.ensures refl in
     let same : c.passed.inside.rank ≡ c.args.passed.now.rank = ap (λ (p : Passed). p.rank) c.passed.view_is in
     let yes : c.comes_to_act.result ≡ true =
-    truly c.comes_to_act.result
+    true_from_ne_false c.comes_to_act.result
     (λ no.
     has_steps c.args.sim.now c.comes_to_act.new.sim c.comes_to_act.new.left c.requires.enough.0 c.args.passed.now c.comes_to_act.ensures.alike
     c.comes_to_act.ensures.run c.requires.may.0 (c.comes_to_act.ensures.counts c.requires.enough.0 c.requires.enough.1) c.requires.enough.2

@@ -1,11 +1,12 @@
 use Rattle.std.proofs.Common.{◌-◌, Some, ap, arith, sym, ◌∙◌}
+use Rattle.std.proofs.lemmas.Result.{on_ok_weaker}
 use Rattle.explore.specs.Explored.{OutcomeValue}
-use Rattle.runner.proofs.Partings.{on_ok, parted_on}
+use Rattle.runner.proofs.Partings.{parted_on}
 use Rattle.runner.proofs.outcomes.part_at.Goals as goal
 
 pub returns : goal.returns
 returns c =
-    on_ok c.part.result
+    on_ok_weaker c.part.result
     (λ on.
     parted_on c.args.found.now.choices c.args.index (c.args.index - 1) c.as_slice.result.now c.as_slice-2.result.now c.args.parted.now.items
     c.part.new.parted.items c.requires.last (omega (arith, c.if-index-eq0.false))

@@ -1,7 +1,8 @@
 //! The acts of the run, made again.
 ghost use Rattle.std.specs.Prelude.{◌≡◌, ◌<◌, ℕ, [], ◌+◌, length, IfOk, OnOk};
 ghost use Rattle.world_model.specs.World.{Live, size, IsLive};
-ghost use Rattle.world_model.specs.RunIndex.{earliest, IsNext};
+ghost use Rattle.crash_free.specs.Points.{first_acts};
+ghost use Rattle.world_model.specs.RunIndex.{IsNext};
 ghost use Rattle.crash_free.specs.Runs.{history};
 ghost use Rattle.rank_machine.specs.Machine.{MachineValue, state_of};
 ghost use Rattle.world_model.specs.Measures.{StopsAfter, HasLines, no_machine};
@@ -62,14 +63,14 @@ impl<'p> BareWorld<'p> {
         events: &mut Vec<WorldEvent, Heap>,
     ) -> Result<u8, AllocError>
         requires index { index < length self.old.run }
-        requires ready { Ready self.old (earliest index self.old.run) }
-        requires counted { IsCounted (size self.old) (earliest index self.old.run) counts.old.items }
+        requires ready { Ready self.old (first_acts index self.old.run) }
+        requires counted { IsCounted (size self.old) (first_acts index self.old.run) counts.old.items }
         requires place { K.place ≡ index }
         requires machine { (r : ℕ) (v : Live) → IsNext self.old.run index r → IsLive self.old r v → K.machine ≡ v.rank.machine }
         ensures advanced { OnOk result (Advanced self.old events.old.items self.new events.new.items) }
         ensures made { IfOk result (λ rank. MadeAt self.old.run index rank self.new) }
         ensures rank { IfOk result (λ rank. rank < size self.new) }
-        ensures counted { OnOk result (IsCounted (size self.old) (earliest (index + 1) self.old.run) counts.new.items) }
+        ensures counted { OnOk result (IsCounted (size self.old) (first_acts (index + 1) self.old.run) counts.new.items) }
     {
         let rank = self.run.rank_at(index);
         counts[usize::from(rank)] += 1;
@@ -91,9 +92,9 @@ impl<'p> BareWorld<'p> {
         count: u32,
         events: &mut Vec<WorldEvent, Heap>,
     ) -> Result<(), AllocError>
-        requires ready { Ready self.old (earliest K.place self.old.run) }
+        requires ready { Ready self.old (first_acts K.place self.old.run) }
         requires next { IsNext self.old.run K.place rank }
-        requires count { count ≡ length (history (earliest K.place self.old.run) rank) + 1 }
+        requires count { count ≡ length (history (first_acts K.place self.old.run) rank) + 1 }
         requires rank { rank < size self.old }
         requires machine { (v : Live) → IsLive self.old rank v → K.machine ≡ v.rank.machine }
         requires lines { (v : Live) → IsLive self.old rank v → HasLines v }

@@ -1,6 +1,6 @@
 use Rattle.std.proofs.Common.{string_bytes, subst, sym}
+use Rattle.std.proofs.lemmas.Result.{IfOk-weaker}
 use Rattle.explore.specs.Shown.{AreMarked}
-use Rattle.runner.proofs.Traces.{answered}
 use Rattle.runner.proofs.Written.{is_lined, is_marked}
 use Rattle.runner.specs.OutcomesText.{IsExploredText}
 use Rattle.rank_language.specs.StandOn.{IsLinedOf}
@@ -8,7 +8,7 @@ use Rattle.runner.proofs.commands.exploring.found_text.Goals as goal
 
 -- the text that was written has the marks and the lines of the program
 pub returns : goal.returns
-returns c = answered c.print_explored.result _ _
+returns c = IfOk-weaker c.print_explored.result _ _
     (λ answer printed. is_marked c.args.text.now c.args.program.now c.args.job.ranks c.args.found.now c.as_slice.result.now c.args.job.runs
     c.as_slice-2.result.now (string_bytes answer)
     (subst (AreMarked c.args.program.now c.args.job.ranks c.args.found.now.outcomes c.args.found.now.choices) (sym c.as_slice.ensures.value)

@@ -1,6 +1,6 @@
 use Rattle.std.proofs.Common.{ap}
+use Rattle.std.proofs.lemmas.Result.{on_ok_weaker}
 use Rattle.world_model.specs.Seats.{SeatsValue}
-use Rattle.world_model.proofs.Calls.RankOfEvent.{on_ok}
 use Rattle.world_model.proofs.Lists.OfSeats.{IsTaken, taken, imaged_then}
 use Rattle.world_model.proofs.seats.Seats.image.Goals as goal
 
@@ -12,6 +12,6 @@ seat c = taken c.args.self.now _ c.self.inside.seats.items c.from.result c.args.
 -- src/seats/imaging.rt
 pub returns-clause-ok : goal.returns-clause-ok
 returns-clause-ok c =
-    on_ok c.image.result
+    on_ok_weaker c.image.result
     (λ h. imaged_then c.image.new.self (ap (λ (z : SeatsValue). z.program) c.self.view_is) (seat c) c.self.invariant h)
     c.image.ensures.ok

@@ -4,9 +4,9 @@ use Rattle.run_picture.specs.Marks.{made_of, told_of}
 use Rattle.run_picture.specs.Noted.{next_moment}
 use Rattle.run_picture.specs.Times.{AreTimedUpTo}
 use Rattle.run_picture.proofs.NotedLemmas.{one_more_noted, told_more}
-use Rattle.run_picture.proofs.ListLemmas.{stands_at}
 use Rattle.run_picture.proofs.TimeLemmas.{clock_condition}
 use Rattle.run_picture.proofs.layout.times.Times.of.Goals as goal
+use Rattle.crash_free.proofs.Lists.{stands_at}
 
 pub loop-passed-init : goal.loop-passed-init
 loop-passed-init c = record {

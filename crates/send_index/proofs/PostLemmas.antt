@@ -1,33 +1,26 @@
 -- The sends of a run, noted act by act, and found again.
 use Rattle.std.proofs.Common.{◌≡◌, ℕ, ℤ, zero, suc, ◌+◌, ◌*◌, ◌<◌, ◌≤◌, List, [], ◌∷◌, ◌++◌, ◌⊎◌, inl, inr, Bool, true, false}
-use Rattle.std.proofs.Common.{refl, sym, ap, ◌∙◌, subst, arith, Option, Some, None, length, replicate, slice_get, nat_lt}
+use Rattle.std.proofs.Common.{refl, sym, ap, ◌∙◌, arith, Some, None, length, replicate, slice_get, nat_lt}
 use Rattle.std.specs.Prelude.{◌&&◌, ◌==◌}
-use Rattle.std.proofs.lemmas.Bool.{cases_eq, eq-eqb, ne_eqb, ltb-true}
+use Rattle.std.proofs.lemmas.Bool.{cases_eq, eq-eqb, ne_eqb, ltb-true, and_parts}
 use Rattle.std.proofs.lemmas.List.{length-set, get_or-set_same, get_or-set_other, get_or-replicate}
 use Rattle.limits.specs.Limits.{most_ranks}
 use Rattle.matching.specs.declared.packet.Context.{Context}
 use Rattle.rank_machine.specs.Acts.{Act, sends, takes, hits, misses, prints}
 use Rattle.crash_free.specs.Runs.{Passed, add_if, at_place}
-use Rattle.run_picture.specs.Posts.{ArePosted, found_at, found_by, noted, noted_by, of_pair, pair, post_at, post_for, posts_of, sender_of, sends_to}
-use Rattle.run_picture.proofs.ListLemmas.{of_push}
-
--- two tests that both hold
-both : (a b : Bool) → (a && b) ≡ true → (a ≡ true) × (b ≡ true)
-both true true is = (refl, refl)
-both true false is = absurd cc
-both false true is = absurd cc
-both false false is = absurd cc
+use Rattle.crash_free.proofs.Lists.{push_cases}
+use Rattle.send_index.specs.Posts.{ArePosted, found_at, found_by, noted, noted_by, of_pair, pair, post_at, post_for, posts_of, sender_of, sends_to}
 
 -- ranks that there can be
 few_source : (s d : ℕ) → (nat_lt s most_ranks && nat_lt d most_ranks) ≡ true → s < most_ranks
-few_source s d is = ltb-true s most_ranks (both (nat_lt s most_ranks) (nat_lt d most_ranks) is).0
+few_source s d is = ltb-true s most_ranks (and_parts (nat_lt s most_ranks) (nat_lt d most_ranks) is).0
 
 -- so is the destination
 few_dest : (s d : ℕ) → (nat_lt s most_ranks && nat_lt d most_ranks) ≡ true → d < most_ranks
-few_dest s d is = ltb-true d most_ranks (both (nat_lt s most_ranks) (nat_lt d most_ranks) is).1
+few_dest s d is = ltb-true d most_ranks (and_parts (nat_lt s most_ranks) (nat_lt d most_ranks) is).1
 
 -- nothing comes of a test that fails
-none_added : (a : Bool) (xs : List ℕ) (x : ℕ) → add_if (a && false) xs x ≡ xs
+pub none_added : (a : Bool) (xs : List ℕ) (x : ℕ) → add_if (a && false) xs x ≡ xs
 none_added true xs x = refl
 none_added false xs x = refl
 
@@ -159,8 +152,8 @@ index_low (p ∷ run) s d k i there = go (index_low run s d k i) (p.rank == s &&
   where
     go : (slice_get (posts_of run s d) k ≡ Some i → i < length run) → (t : Bool)
         → slice_get (add_if t (posts_of run s d) (length run)) k ≡ Some i → i < length (p ∷ run)
-    go before true is = elim (of_push (posts_of run s d) (length run) k i is) as (λ z. i < length (p ∷ run)) [
-      | inl h ↦ (let low = before h.1 in omega (arith, low))
+    go before true is = elim (push_cases (posts_of run s d) (length run) k i is) as (λ z. i < length (p ∷ run)) [
+      | inl h ↦ (let low = before h in omega (arith, low))
       | inr h ↦ omega (arith, h.1)
     ]
     go before false is = let low = before is in omega (arith, low)

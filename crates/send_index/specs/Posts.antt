@@ -2,10 +2,14 @@
 -- of their sends (MPI 1.1, section 3.5). A run is the list of its acts, the newest first, and the
 -- index of an act is how many were made before it.
 use Rattle.std.specs.Prelude.{◌≡◌, ℕ, ◌+◌, ◌*◌, ◌==◌, ◌&&◌, nat_lt, Bool, true, false, List, [], ◌∷◌, ◌++◌, Option, None, if◌then◌else◌}
-use Rattle.std.specs.Prelude.{length, slice_index_or, slice_set}
+use Rattle.std.specs.Prelude.{length, reverse, slice_index_or, slice_set, take}
 use Rattle.limits.specs.Limits.{most_ranks}
 use Rattle.rank_machine.specs.Acts.{Act, sends, takes, hits, misses, prints}
 use Rattle.crash_free.specs.Runs.{Passed, add_if, at_place}
+
+-- of acts that stand the oldest first, those before the one of this index, as a run
+abbrev pub run_before : List Passed → ℕ → List Passed
+run_before acts index = reverse (take index acts)
 
 -- an act sends to this rank
 abbrev pub sends_to : ℕ → Act → Bool
