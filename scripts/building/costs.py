@@ -58,8 +58,9 @@ class Costs(NamedTuple):
 
 @functools.cache
 def calculation_time() -> float:
-    """The milliseconds of processor time that a fixed calculation takes here, the least of five
-    tries: one that needs processor and memory as a proof does."""
+    """The milliseconds of processor time that a fixed calculation takes here: one that needs
+    processor and memory as a proof does. It is the least of 40 tries, about a second in all: in the
+    first five a machine that had just started took half as long again."""
     text = b"".join(b"%d %x\n" % (number, number * 2654435761 % 2**32) for number in range(30_000))
 
     def once() -> float:
@@ -67,4 +68,4 @@ def calculation_time() -> float:
         zlib.compress(text, 6)
         return 1000 * (time.process_time() - begin)
 
-    return min(once() for _ in range(5))
+    return min(once() for _ in range(40))
