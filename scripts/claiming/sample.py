@@ -88,6 +88,7 @@ WRONG = "crates/post/wrong"
 README = "README.md"
 GLOSSARY = "docs/GLOSSARY.md"
 THEOREMS = "docs/THEOREMS.md"
+LETTERS = "crates/post/proofs/Letters.antt"
 OPENING = "crates/office/proofs/Opening.antt"
 SAME_AS_BELOW = "(i j : ℕ) → i ≡ j → i + 1 ≡ j + 1"
 CASES = (
@@ -121,6 +122,7 @@ CASES = (
     Case("a long line", README, "stands in", "stands in" + " as you see" * 5, README, "columns, more than 100"),
     Case("a long line in a fenced block", README, "[no link]", "[no link]" + " as you see" * 9, README, "columns, more than 120"),
     Case("a lemma that nothing uses", "crates/office/proofs/open/Answers.antt", "stays", "holds", OPENING, "nothing uses the lemma `stays`"),
+    Case("a lemma that is pub for nobody", LETTERS, "e refl\n", "e (same n)\n\npub same : (n : ℕ) → n ≡ n\nsame n = refl\n", LETTERS, "`same` is pub, and"),
     Case("a lemma that stands below", OPENING, "(k : ℕ) → k ≡ k → k + 1 + 1 ≡ k + 1 + 1", SAME_AS_BELOW, OPENING, "`stays` says what `counted` of"),
     Case("a page that isn't up to date", CLAUSES, "post", "mail", CLAUSES, "isn't what scripts/claims --write writes"),
 )

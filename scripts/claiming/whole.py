@@ -97,7 +97,7 @@ class Whole:
         return {segments_of(span.text)[-1] for it in self.links for span in spans_of(self.text(it))}
 
     def faults_of_lemmas(self) -> Iterator[Fault]:
-        texts = [text for found in (self.sources, self.specs, self.proofs) for of_crate in found.values() for text in of_crate.values()]
+        texts = {file: text for found in (self.sources, self.specs, self.proofs) for of_crate in found.values() for file, text in of_crate.items()}
         named_below = {name: {*libraries} for name, libraries in crate_lines(self.top)}
         exported = {it.name: exported_by(self.proofs[it.name].get(f"{it.folder()}/proofs/Lib.antt", "")) for it in self.crates}
         lemmas = Lemmas(self.items, named_below, exported, texts)

@@ -26,7 +26,7 @@ use Rattle.audit.proofs.Traces.{replicate_each}
 use Rattle.audit.proofs.Outcomes.{come}
 
 -- a rank at the beginning has made no step
-pub begun_left : (s : SimValue) (r total : ℕ) → AreBegun s.program (length s.machines) s.machines → s.run ≡ [] → r < length s.machines → HasLeft s r total total
+begun_left : (s : SimValue) (r total : ℕ) → AreBegun s.program (length s.machines) s.machines → s.run ≡ [] → r < length s.machines → HasLeft s r total total
 begun_left s r total begun run low =
     let m = there_is s.machines r low in
     let first = begun_there s.program (length s.machines) r m.0 (begun r m.0 m.1) in

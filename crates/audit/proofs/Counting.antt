@@ -150,7 +150,7 @@ pub record IsHere (events : List EventValue) (done : ℕ) (e : EventValue) (end 
   pub there : slice_get (parts_of e) (count - 1 - (end - done - 1)) ≡ slice_get (expand events) done
 
 -- it is the event of the act
-pub found_here : (events : List EventValue) (done place end count : ℕ) (e : EventValue) → IsPlace events done place → slice_get events place ≡ Some e
+found_here : (events : List EventValue) (done place end count : ℕ) (e : EventValue) → IsPlace events done place → slice_get events place ≡ Some e
     → count ≡ count_of e → 1 ≤ count → end ≡ get_or (ends_from 0 events) place 0 → IsHere events done e end count
 found_here events done place end count e is there same some at =
     let f = found_at events done place e is there (omega (arith, same, some)) in
@@ -179,7 +179,7 @@ nth_miss k (suc n) (suc j) low =
     nth_miss (k + 1) n j (omega (arith, low)) ∙ (let z : k + 1 + j + 1 ≡ k + suc j + 1 = omega arith in ap (λ c. Some (event_of kind.Miss 0 0 c)) z)
 
 -- the event of the act after which so many come
-pub nth_part : (e : EventValue) (later : ℕ) → later < count_of e → count_of e ≤ e.receiver_clock
+nth_part : (e : EventValue) (later : ℕ) → later < count_of e → count_of e ≤ e.receiver_clock
     → slice_get (parts_of e) (count_of e - 1 - later) ≡ Some (part_in e later e.kind)
 nth_part e later low high = go e.kind low high
   where
@@ -277,7 +277,7 @@ too_many events i count most d low is more =
 -- ---- the rows of an outcome
 
 -- the next of some rows
-pub row_at : {A : Type 0} (f : A → List EventValue) (items : List A) (rows : List (List EventValue)) (i : ℕ) (x : A) → map f items ≡ rows → i < length items
+row_at : {A : Type 0} (f : A → List EventValue) (items : List A) (rows : List (List EventValue)) (i : ℕ) (x : A) → map f items ≡ rows → i < length items
     → x ≡ get_or items i x → slice_get rows i ≡ Some (f x)
 row_at f items rows i x all low is =
     ap (λ ls. slice_get ls i) (sym all) ∙ slice_get-map f items i ∙ ap (option_map f) (slice_get_read items (length items) i x refl low is)

@@ -62,7 +62,7 @@ beginning_of_next {A} xs whole x b there = go b.0 b.1
         (later, e ∙ ap (λ z. xs ++ z ∷ later) same ∙ sym (append_assoc xs (x ∷ []) later))
 
 -- the clocks of what a rank sent are in order
-pub clocks_in_order : (d : ℕ) (h : History) → AreInOrder (clocks_to d h)
+clocks_in_order : (d : ℕ) (h : History) → AreInOrder (clocks_to d h)
 clocks_in_order d h = λ i j le low.
     let sent : List Message = sends_from 0 d h in
     let wide = length-map sent (λ (m : Message). m.clock) in
@@ -78,7 +78,7 @@ clocks_in_order d h = λ i j le low.
     omega (arith, ordered, clock_i, clock_j)
 
 -- a message's clock is among those of what its sender sent
-pub clock_there : (d : ℕ) (h : History) (j : ℕ) (m : Message) → at_place (sends_from 0 d h) j ≡ Some m → at_place (clocks_to d h) j ≡ Some m.clock
+clock_there : (d : ℕ) (h : History) (j : ℕ) (m : Message) → at_place (sends_from 0 d h) j ≡ Some m → at_place (clocks_to d h) j ≡ Some m.clock
 clock_there d h zero m e = absurd cc
 clock_there d h (suc j) m e = slice_get-map (λ (m : Message). m.clock) (sends_from 0 d h) j ∙ ap (option_map (λ (m : Message). m.clock)) e
 
@@ -263,7 +263,7 @@ unsent s traces r q k t e c kept low from at is sender clock apart none (choice.
     (ap (λ ks. at_place ks j) (clocks ∙ ap (λ z. clocks_to r (history s.run z)) (sender ∙ sym p.1)) ∙ there ∙ ap Some (m.2 ∙ sym clock))
 
 -- what `get` lends is the element at the index
-pub item_got : {R X : Type 0} (now : R → X) (xs : List X) (i : ℕ) (r : Option R) → is_some r ≡ nat_lt i (length xs)
+item_got : {R X : Type 0} (now : R → X) (xs : List X) (i : ℕ) (r : Option R) → is_some r ≡ nat_lt i (length xs)
     → IfSome r (λ x. now x ≡ get_or xs i (now x))
     → option_map now r ≡ slice_get xs i
 item_got now xs i None is at = sym (slice_get_past xs i (let past : length xs ≤ i = grind (arith, nat_tests) in past))
@@ -307,7 +307,7 @@ has_all o s r within none events there = go b.0 b.1
         absurd (none x (rw there (next_of_beginning (row s.run r) (expand events) x (later, e ∙ sym (append_assoc (row s.run r) (x ∷ []) later)))))
 
 -- and one that has a next event has not
-pub has_more : (o : OutcomeValue) (s : SimValue) (r : ℕ) (e : EventValue) → IsNextEvent o s r e → HasRow s o r → ⊥
+has_more : (o : OutcomeValue) (s : SimValue) (r : ℕ) (e : EventValue) → IsNextEvent o s r e → HasRow s o r → ⊥
 has_more o s r e next has =
     let at = some_there (slice_get o.rows r) (λ events. slice_get (expand events) (length (row s.run r)) ≡ Some e) next in
     let low : length (row s.run r) < length (row s.run r) =

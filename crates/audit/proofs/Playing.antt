@@ -69,7 +69,7 @@ within_after o s r m' act keeps within = record {
         subst (λ ls. IsBeginning ls (lines_of q o.lines)) (sym (printed-other s.run (record { rank = r; act = act }) q apart)) (within.lines q)
 
 -- an act is one step of its rank
-pub plays_act : (o : OutcomeValue) (s s' : SimValue) (r : ℕ) (w : Want) (c : Choice) → (a : Acted s r w c s') → KeepsTo o s r a.act
+plays_act : (o : OutcomeValue) (s s' : SimValue) (r : ℕ) (w : Want) (c : Choice) → (a : Acted s r w c s') → KeepsTo o s r a.act
     → length (history s.run r) + 1 ≤ greatest_clock → (k : ℕ) → Plays o r (k + 1) k s s'
 plays_act o s s' r w c a keeps clocked k = subst (λ z. Plays o r (k + 1) k s z) (sym a.now) played
   where

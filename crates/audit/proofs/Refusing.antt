@@ -109,7 +109,7 @@ no_event_next o s r w simulates wanted of none act offered =
     none e.0 e.1
 
 -- a rank that has ended
-pub no_act_left : (o : OutcomeValue) (s : SimValue) (r : ℕ) (w : Want) → Simulates s → WantsAt s.machines r w → w ≢ want.Internal
+no_act_left : (o : OutcomeValue) (s : SimValue) (r : ℕ) (w : Want) → Simulates s → WantsAt s.machines r w → w ≢ want.Internal
     → ((items : List ℤ) (a : Act) (m : Option Message) → Fits w items a m → ⊥) → NoneIsOffered o s r
 no_act_left o s r w simulates wanted apart none act offered =
     let i = asked_for o s r w act simulates wanted apart offered in
@@ -126,7 +126,7 @@ if_none None P p = p
 if_none (Some x) P p = tt
 
 -- a rank that stands at an act asks for no step of its own
-pub stands_apart : (s : SimValue) (r : ℕ) (w : Want) → WantsAt s.machines r w → StandsAtAct s.machines r → w ≢ want.Internal
+stands_apart : (s : SimValue) (r : ℕ) (w : Want) → WantsAt s.machines r w → StandsAtAct s.machines r → w ≢ want.Internal
 stands_apart s r w wanted stands own =
     let m = some_there (slice_get s.machines r) (λ m. Wants m w) wanted in
     let asks : Wants m.0 stands.0 = subst (λ o. IsSomeAnd o (λ m. Wants m stands.0)) m.1 stands.1 in

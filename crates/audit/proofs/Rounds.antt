@@ -13,7 +13,7 @@ use Rattle.audit.specs.Playing.{HasLeft, Plays, PlayAll, IsStuck}
 use Rattle.audit.proofs.Reaching.{there_is}
 
 -- one more rank goes on
-pub all_play_one : (o : OutcomeValue) (first left : List ℕ) (start s s' : SimValue) (r before after : ℕ) → PlayAll o first left start s
+all_play_one : (o : OutcomeValue) (first left : List ℕ) (start s s' : SimValue) (r before after : ℕ) → PlayAll o first left start s
     → slice_get left r ≡ Some before
     → Plays o r before after s s' → PlayAll o first (slice_set left r after) start s'
 all_play_one o first left start s s' r before after all there one = record {
@@ -41,7 +41,7 @@ all_play_on o a b c s mid s' width one two = record {
 }
 
 -- the ranks before this one are stuck still where nothing happened, and so is this one
-pub stuck_one_more : (o : OutcomeValue) (left : List ℕ) (s : SimValue) (rank : ℕ) → ((r k : ℕ) → r < rank → slice_get left r ≡ Some k → 0 < k → IsStuck o s r)
+stuck_one_more : (o : OutcomeValue) (left : List ℕ) (s : SimValue) (rank : ℕ) → ((r k : ℕ) → r < rank → slice_get left r ≡ Some k → 0 < k → IsStuck o s r)
     → ((k : ℕ) → slice_get left rank ≡ Some k → 0 < k → IsStuck o s rank) → (r k : ℕ) → r < rank + 1 → slice_get left r ≡ Some k → 0 < k → IsStuck o s r
 stuck_one_more o left s rank before this r k low there some = go (cases_eq rank r)
   where
@@ -50,7 +50,7 @@ stuck_one_more o left s rank before this r k low there some = go (cases_eq rank 
     go (inr apart) = before r k (omega (arith, low, apart)) there some
 
 -- the steps that are left after one more rank's, where it made some
-pub sum_after : (left : List ℕ) (r before after : ℕ) → slice_get left r ≡ Some before → after ≤ before
+sum_after : (left : List ℕ) (r before after : ℕ) → slice_get left r ≡ Some before → after ≤ before
     → sum (slice_set left r after) + before ≡ sum left + after
 sum_after left r before after there few =
     let low = slice_get_within left r before there in
@@ -59,7 +59,7 @@ sum_after left r before after there few =
     omega (arith, whole, at)
 
 -- whether one rank moved, and whether any did
-pub moved_one : (before moved : Bool) (k j : ℕ) → moved ≡ before || not (j == k) → moved ≡ false → (before ≡ false) × (j ≡ k)
+moved_one : (before moved : Bool) (k j : ℕ) → moved ≡ before || not (j == k) → moved ≡ false → (before ≡ false) × (j ≡ k)
 moved_one true moved k j is none = absurd (let both : true ≡ false = sym is ∙ none in cc)
 moved_one false moved k j is none = go (cases_eq j k)
   where
@@ -69,7 +69,7 @@ moved_one false moved k j is none = go (cases_eq j k)
         let other : not false ≡ false = rw test at both in cc)
 
 -- where some rank moved, one did before or this one has
-pub moved_some : (before moved : Bool) (k j : ℕ) → moved ≡ before || not (j == k) → moved ≡ true → (before ≡ true) ⊎ (j ≡ k → ⊥)
+moved_some : (before moved : Bool) (k j : ℕ) → moved ≡ before || not (j == k) → moved ≡ true → (before ≡ true) ⊎ (j ≡ k → ⊥)
 moved_some true moved k j is some = inl refl
 moved_some false moved k j is some = inr (λ e. (let test : (j == k) ≡ true = eq-eqb j k e in let both : not (j == k) ≡ true = sym is ∙ some in
     let other : not true ≡ true = rw test at both in cc))

@@ -29,7 +29,7 @@ lines_of-other q lines x other =
     lines_of-push q lines x ∙ ap (λ b. lines_of q lines ++ cons_if b (x.clock, x.value) []) (ne_eqb x.rank q other) ∙ append-nil (lines_of q lines)
 
 -- one more line
-pub IsSorted-push : (n : ℕ) (lines : List Line) (x : Line) (sorted : List (List (ℕ × ℤ))) → IsSorted n lines sorted → x.rank < n
+IsSorted-push : (n : ℕ) (lines : List Line) (x : Line) (sorted : List (List (ℕ × ℤ))) → IsSorted n lines sorted → x.rank < n
     → IsSorted n (lines ++ x ∷ []) (slice_set sorted x.rank (get_or sorted x.rank [] ++ (x.clock, x.value) ∷ []))
 IsSorted-push n lines x sorted kept low = record {
   width = length-set sorted x.rank _ ∙ kept.width;

@@ -1,13 +1,12 @@
 //! Writes an expression.
 ghost use Rattle.std.specs.Prelude.{◌≡◌, ◌++◌, OnOk};
-ghost use Rattle.std.specs.Fmt.{decimal};
 ghost use Rattle.rank_grammar.specs.Tree.{tree_of};
-ghost use Rattle.rank_printer.specs.Canonical.{reading_text};
 ghost use Rattle.c_program.specs.Translation.{all_text, c_expression, operator_call, own_text};
 
 use crate::names::put_name;
 use limits::Heap;
-use rank_grammar::{Name, Operator, Reading, Written};
+use rank_grammar::{Name, Operator, Written};
+use rank_printer::{put_number, reading_word};
 use std::alloc::AllocError;
 
 /// The function of an operator, with its parenthesis.
@@ -27,31 +26,6 @@ fn operator_call(operator: Operator) -> &'static [u8]
         Operator::Greater => b"is_greater(",
         Operator::GreaterEqual => b"is_at_least(",
     }
-}
-
-/// The word for what a rank can only read.
-fn reading_word(reading: Reading) -> &'static [u8]
-    ensures { result.now ≡ reading_text reading }
-{
-    match reading {
-        Reading::Rank => b"rank",
-        Reading::Size => b"size",
-        Reading::Source => b"source",
-        Reading::Tag => b"gottag",
-        Reading::Count => b"count",
-    }
-}
-
-/// Writes a number with no leading zero.
-pub(crate) fn put_number(
-    alloc: Heap,
-    text: &mut Vec<u8, Heap>,
-    number: u64,
-) -> Result<(), AllocError>
-    ensures { OnOk result (text.new.items ≡ text.old.items ++ decimal number) }
-{
-    let digits = format!(in alloc; "{number}")?;
-    text.extend_from_slice(digits.as_bytes())
 }
 
 /// Writes a variable or an array of the rank.

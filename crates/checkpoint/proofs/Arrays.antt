@@ -56,7 +56,7 @@ length_at (a ∷ xs) zero d lt = refl
 length_at (a ∷ xs) (suc i) d lt = length_at xs i d (omega (arith, lt))
 
 -- the array at a place has its size
-pub sized_at : (xs : List Array) (i : ℕ) (d : Array) → i < length xs → AllSized (arrays_seen xs)
+sized_at : (xs : List Array) (i : ℕ) (d : Array) → i < length xs → AllSized (arrays_seen xs)
     → (1 ≤ (get_or xs i d).length) × ((get_or xs i d).length ≤ most_items)
 sized_at [] i d lt s = absurd (omega (arith, lt))
 sized_at (a ∷ xs) zero d lt s = (s.0, s.1)

@@ -204,7 +204,7 @@ bits_again n e x rest is =
     ∙ ap (λ (z : ℤ). where_holds true Short (z, rest)) (to_z-of_z w64 x is)
 
 -- the reader of a value
-pub value_reader : IsReader value_at value (FitsSigned w64)
+value_reader : IsReader value_at value (FitsSigned w64)
 unfolding value_at value
 value_reader = record { takes = bits_take 8 refl; again = bits_again 8 refl }
 

@@ -64,7 +64,7 @@ number_passes One = record { fits = omega arith; passed = refl }
 number_passes Two = record { fits = omega arith; passed = refl }
 
 -- the reader of the format
-pub format_reader : IsReader format_at heading (λ format. Unit {0})
+format_reader : IsReader format_at heading (λ format. Unit {0})
 unfolding format_at heading
 format_reader = record {
   takes = λ bytes format rest fits e.

@@ -52,12 +52,12 @@ fault_there (Some BadRank) is = absurd is
 fault_there (Some BadTag) is = absurd is
 
 -- the reader of a fault
-pub fault_reader : IsReader fault_at (λ k. big_bytes 1 (fault_field k)) IsLeft
+fault_reader : IsReader fault_at (λ k. big_bytes 1 (fault_field k)) IsLeft
 unfolding fault_at
 fault_reader = seen_as (field_reader 1 Field is_fault) fault_of fault_field IsLeft fault_back fault_there
 
 -- the reader of what the last message was
-pub status_reader : (size : ℕ) → IsReader (status_at size) status (IsStatus size)
+status_reader : (size : ℕ) → IsReader (status_at size) status (IsStatus size)
 unfolding status_at status
 status_reader size = record {
   takes = λ bytes x rest fits e.
@@ -85,7 +85,7 @@ status_reader size = record {
 }
 
 -- the reader of where a machine stands
-pub standing_reader : (statements : ℕ) → IsReader (standing_at statements) standing (IsStanding statements)
+standing_reader : (statements : ℕ) → IsReader (standing_at statements) standing (IsStanding statements)
 unfolding standing_at standing
 standing_reader statements = record {
   takes = λ bytes x rest fits e.
@@ -135,7 +135,7 @@ standing_reader statements = record {
 }
 
 -- the reader of the items of arrays
-pub arrays_reader : (lengths : List ℕ) → IsReader (arrays_at lengths) (flat_map values) (AreArrays lengths)
+arrays_reader : (lengths : List ℕ) → IsReader (arrays_at lengths) (flat_map values) (AreArrays lengths)
 arrays_reader lengths = many_reader (λ before. values_reader (slice_index lengths (length before))) (length lengths)
 
 -- ---- the machine

@@ -31,7 +31,7 @@ context_there PointToPoint is = (refl, record { fits = omega arith; passed = ref
 context_there Collective is = (refl, record { fits = omega arith; passed = refl })
 
 -- the reader of a context
-pub context_reader : IsReader context_at (λ c. big_bytes 1 (context_number c)) (λ c. Unit {0})
+context_reader : IsReader context_at (λ c. big_bytes 1 (context_number c)) (λ c. Unit {0})
 unfolding context_at
 context_reader = seen_as (field_reader 1 Field (λ x. nat_le x 1)) context_of context_number (λ c. Unit {0}) context_back context_there
 
@@ -69,7 +69,7 @@ tail_again m rest is =
     (again_last (values_reader count) m.items rest _ _ is.items refl)))
 
 -- the reader of tails
-pub tail_reader : (source clock number : ℕ) → IsReader (tail_at source clock number) tail (IsTail source clock number)
+tail_reader : (source clock number : ℕ) → IsReader (tail_at source clock number) tail (IsTail source clock number)
 unfolding tail_at tail
 tail_reader source clock number = record {
   takes = λ bytes m rest fits e.
@@ -188,7 +188,7 @@ kept_taken rank most base before bytes clock m rest e t rises within small is =
     (took, record { rises = omega (arith, e, rises); within = omega (arith, e, within); clock = omega (arith, e, small); tail = own_clock })
 
 -- the reader of a kept packet behind others
-pub kept_reader : (rank most base : ℕ) → most ≤ greatest_clock → (before : List PacketValue)
+kept_reader : (rank most base : ℕ) → most ≤ greatest_clock → (before : List PacketValue)
     → IsReader (kept_at rank most base before) kept (IsNextKept rank most base before)
 unfolding kept_above kept
 kept_reader rank most base small before = record {

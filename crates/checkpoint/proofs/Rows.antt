@@ -30,7 +30,7 @@ pairs_front R xs ys pairs = λ i j d before low.
     (subst (λ x. R (get_or (xs ++ ys) i d) x) (get_or_append_left xs ys d j low) (pairs i j d before (omega (arith, long, low))))
 
 -- the item at the seam of two lists
-pub get_or-seam : {A : Type 0} (before : List A) (x d : A) (xs : List A) → get_or (before ++ x ∷ xs) (length before) d ≡ x
+get_or-seam : {A : Type 0} (before : List A) (x d : A) (xs : List A) → get_or (before ++ x ∷ xs) (length before) d ≡ x
 get_or-seam [] x d xs = refl
 get_or-seam (y ∷ before) x d xs = get_or-seam before x d xs
 

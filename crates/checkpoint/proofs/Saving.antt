@@ -103,7 +103,7 @@ packet_row size accepted before (m ∷ ms) count few was are rises =
     )
 
 -- an inbox is legal
-pub inbox_is : (size : ℕ) (b : Mailbox) → length b.accepted ≡ size → size ≤ most_ranks → IsMailbox b
+inbox_is : (size : ℕ) (b : Mailbox) → length b.accepted ≡ size → size ≤ most_ranks → IsMailbox b
     → length b.packets ≤ length b.accepted * greatest_clock → All IsPacket b.packets → IsSavedInbox size b
 inbox_is size b count few is many are = record {
   accepted = record { count = count; each = row_of (λ n. n ≤ greatest_clock) [] b.accepted is.counts };

@@ -89,7 +89,7 @@ gathered_most (folds f) root n r done below = at (root == r) refl
     at false e = omega arith
 
 -- no more values are gathered than there are ranks
-pub room_suffices : (s : Store) (o : Option Call) → HasStage s o → length s.gathered ≤ s.size
+room_suffices : (s : Store) (o : Option Call) → HasStage s o → length s.gathered ≤ s.size
 room_suffices s None is = let none = is.1 in omega (arith, none)
 room_suffices s (Some call) is =
     let same = is.1 in

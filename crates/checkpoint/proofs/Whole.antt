@@ -32,7 +32,7 @@ count_back : (x : ℕ) → IsPassed 4 (λ x. nat_le x greatest_clock) x → x �
 count_back x is = leb-true _ _ is.passed
 
 -- the reader of a count
-pub count_reader : IsReader count_at (big_bytes 4) (λ n. n ≤ greatest_clock)
+count_reader : IsReader count_at (big_bytes 4) (λ n. n ≤ greatest_clock)
 count_reader =
     let r = field_reader 4 Field (λ x. nat_le x greatest_clock) in
     record {
@@ -43,7 +43,7 @@ count_reader =
 -- ---- the inbox
 
 -- the reader of an inbox
-pub inbox_reader : (size : ℕ) → IsReader (inbox_at size) inbox (IsSavedInbox size)
+inbox_reader : (size : ℕ) → IsReader (inbox_at size) inbox (IsSavedInbox size)
 unfolding inbox_at inbox
 inbox_reader size = record {
   takes = λ bytes b rest fits e.

@@ -1,6 +1,6 @@
 mod CostLemmas
 mod FinishText
 mod Worlds
-mod Reading
+pub mod Reading
 mod Answers
 mod CommandAnswers

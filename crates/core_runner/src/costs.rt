@@ -3,7 +3,8 @@
 ghost use Rattle.std.specs.Prelude.{◌≡◌, ◌++◌, ◌<◌, length, OnOk, string_bytes};
 ghost use Rattle.core_runner.specs.CostsText.{both, both_costs, both_sizes, line_at, no_line, sum_below};
 ghost use Rattle.core_runner.specs.CostsText.{all_text, calls_text, cell_text, cells, cells_text, costs_text, head_text, kept_text, member};
-ghost use Rattle.core_runner.specs.CostsText.{members_text, object_text, objects_below, objects_text, right, row_text, rows_below, sum_text, table_text, work_text};
+ghost use Rattle.core_runner.specs.CostsText.{members_text, object_text, objects_below, objects_text, right};
+ghost use Rattle.core_runner.specs.CostsText.{row_text, rows_below, sum_text, table_text, work_text};
 ghost use Rattle.rank_threads.specs.Causes.{events_at};
 
 use audit::Outcome;

@@ -106,7 +106,7 @@ up_to k l a b c h g (act {k = i} {h = h1} {b = a1} y f s u) (act {k = j} {h = g1
     one_more_up_to i j b c (up_to i j a1 b c h1 g1 u (subst (λ t. Advances j t g1 c) (same_act a a2 a1 y.0 y.1 after s) v) rest n)
 
 -- one more step of its own
-pub Advances-own : (k : ℕ) (a b c : MachineValue) (h : History) → Advances k a h b → machine_want b ≡ want.Internal → GoesOn b c → Advances (suc k) a h c
+Advances-own : (k : ℕ) (a b c : MachineValue) (h : History) → Advances k a h b → machine_want b ≡ want.Internal → GoesOn b c → Advances (suc k) a h c
 Advances-own k a b c h still w g = own w g still
 Advances-own k a b c h (own {k = i} {b = a1} w s u) w' g = own w s (Advances-own i a1 b c h u w' g)
 Advances-own k a b c h (act {k = i} {h = h1} {b = a1} x f s u) w g = act x f s (Advances-own i a1 b c h1 u w g)

@@ -78,7 +78,7 @@ counted_way r n k start h before later l' reached a b lt whole runs inners w (ac
     go (inr f) = inr f
 
 -- A rank that counts k collectives finished its kth: so the laws speak of each that a machine's number counts.
-pub was_finished : (r n k : ℕ) (start : State) (h : History) (a : State) → r < n → Sound r n [] start → start.store.finished ≡ 0 → 0 < k
+was_finished : (r n k : ℕ) (start : State) (h : History) (a : State) → r < n → Sound r n [] start → start.store.finished ≡ 0 → 0 < k
     → Moment start h a → k ≤ a.store.finished → HasFinished start h k
 was_finished r n k start h a lt w none some m l =
     at (counted_way r n k start h [] h m.later start start a lt refl refl here w (moment_way start h a m) l)
@@ -88,7 +88,7 @@ was_finished r n k start h a lt w none some m l =
     at (inr f) = f
 
 -- The collective laws of each run of a program.
-pub collective_laws : (program : ProgramValue) (n : ℕ) (C : List Passed) → IsRun (λ r. opening program r n) n C
+collective_laws : (program : ProgramValue) (n : ℕ) (C : List Passed) → IsRun (λ r. opening program r n) n C
     → CollectiveLaws (λ r. opening program r n) n C
 collective_laws program n C w =
     let start : ℕ → State = λ r. opening program r n in

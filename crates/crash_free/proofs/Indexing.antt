@@ -18,7 +18,7 @@ pub full : (m : packet.PacketValue) → Some m ≡ None → ⊥
 full m e = cc
 
 -- one more slot, whose message is listed
-pub index_longer : (i : IndexValue) (slots : List Slot) (m : packet.PacketValue) → IsIndex i slots → IsListedTwice i m.context m.tag (length slots)
+index_longer : (i : IndexValue) (slots : List Slot) (m : packet.PacketValue) → IsIndex i slots → IsListedTwice i m.context m.tag (length slots)
     → IsIndex i (slots ++ Some m ∷ [])
 index_longer i slots m index twice =
     record {

@@ -134,7 +134,7 @@ abbrev no_slots : List Slot
 no_slots = []
 
 -- no act has been made
-pub kept_new : (program : ProgramValue) (machines : List MachineValue) (n : ℕ) → 1 ≤ n → n ≤ most_ranks → length machines ≡ n
+kept_new : (program : ProgramValue) (machines : List MachineValue) (n : ℕ) → 1 ≤ n → n ≤ most_ranks → length machines ≡ n
     → ((r : ℕ) (m : MachineValue) → slice_get machines r ≡ Some m → IsRanks program n r m × (state_of m ≡ opening program r n))
     → IsKept program machines (replicate (most_ranks * n) []) []
 kept_new program machines n some few long each =

@@ -11,7 +11,7 @@ use Rattle.crash_free.specs.Runs.{Passed, History, at_place, history, sent, prin
 use Rattle.crash_free.specs.Runs.{looked_up, taken, takes_it, IsRun}
 
 -- what stands in a longer list, before something of the shorter one, stands in the shorter one
-pub slice_get-append_before : {A : Type 0} (xs ys : List A) (i j : ℕ) (x y : A) → i < j → slice_get xs j ≡ Some y → slice_get (xs ++ ys) i ≡ Some x
+slice_get-append_before : {A : Type 0} (xs ys : List A) (i j : ℕ) (x y : A) → i < j → slice_get xs j ≡ Some y → slice_get (xs ++ ys) i ≡ Some x
     → slice_get xs i ≡ Some x
 slice_get-append_before [] ys i j x y l e f = cc
 slice_get-append_before (z ∷ xs) ys zero j x y l e f = f

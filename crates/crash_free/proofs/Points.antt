@@ -82,7 +82,7 @@ first_of_first j k C low within =
     sym (first_behind j (first_acts k C) C (first_before k C) (omega (arith, size, low)))
 
 -- the acts that are kept when a run is cut are its first ones
-pub first_kept : (k : ℕ) (acts : List Passed) → k ≤ length acts → first_acts k (reverse acts) ≡ reverse (take k acts)
+first_kept : (k : ℕ) (acts : List Passed) → k ≤ length acts → first_acts k (reverse acts) ≡ reverse (take k acts)
 first_kept k acts low = sym (first_taken k (reverse acts) acts (sym (reverse-reverse acts)) low)
 
 -- and the others stand before them

@@ -84,7 +84,7 @@ abbrev pub IsPut : List ℕ → ℕ → List ℕ → Type 0
 IsPut before place after = (after ≡ before) ⊎ (after ≡ before ++ place ∷ [])
 
 -- then all that was listed still is
-pub put_lists_more : (i mid : IndexValue) (q place : ℕ) (before after : List ℕ) → HasQueues i mid → slice_get mid.queues q ≡ Some before
+put_lists_more : (i mid : IndexValue) (q place : ℕ) (before after : List ℕ) → HasQueues i mid → slice_get mid.queues q ≡ Some before
     → IsPut before place after → ListsMore i place (with_queue mid q after)
 put_lists_more i mid q place before after has there put =
     record {

@@ -32,7 +32,7 @@ named None n h = refl
 named (Some x) n h = eq-eqb x n (sym h)
 
 -- a message whose packet passes the test matches by the definition
-pub matching_packet : (w : Selector) (s : ℕ) (m : Message) → matches w (packet_of s m) ≡ true → Matches w s m
+matching_packet : (w : Selector) (s : ℕ) (m : Message) → matches w (packet_of s m) ≡ true → Matches w s m
 matching_packet w s m h =
     let r = and_parts (same_context w.context m.context && allows w.source s) (allows w.tag m.tag) h in
     let q = and_parts (same_context w.context m.context) (allows w.source s) r.0 in

@@ -9,7 +9,7 @@ Inners-append here s = s
 Inners-append (on e r) s = on e (Inners-append r s)
 
 -- acts after acts
-pub Runs-append : (a b c : State) (h k : List (Act × Option Message)) → Runs a h b → Runs b k c → Runs a (h ++ k) c
+Runs-append : (a b c : State) (h k : List (Act × Option Message)) → Runs a h b → Runs b k c → Runs a (h ++ k) c
 Runs-append a b c [] k r s = rw r at s
 Runs-append a b c (x ∷ h) k r s = (r.0, r.1, Runs-append r.0 b c h k r.2 s)
 

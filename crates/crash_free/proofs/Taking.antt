@@ -42,7 +42,7 @@ sent_same C q a s d silent = go (cases_eq q s)
     go (inr never) = sent-other C (record { rank = q; act = a }) s d never
 
 -- what was sent is still there after one more act
-pub sent_longer : (C : List Passed) (p : Passed) (s d : ℕ) → length (sent C s d) ≤ length (sent (p ∷ C) s d)
+sent_longer : (C : List Passed) (p : Passed) (s d : ℕ) → length (sent C s d) ≤ length (sent (p ∷ C) s d)
 sent_longer C p s d = go (cases_eq p.rank s)
   where
     go : (p.rank ≡ s) ⊎ (p.rank ≡ s → ⊥) → length (sent C s d) ≤ length (sent (p ∷ C) s d)

@@ -25,7 +25,7 @@ rising_end n (x ∷ xs) ys r = rising_end n xs ys (record {
 })
 
 -- a queue without places at which slots are empty
-pub tidied : (i : IndexValue) (slots : List Slot) (q : ℕ) (before after : List ℕ) → IsIndex i slots → slice_get i.queues q ≡ Some before
+tidied : (i : IndexValue) (slots : List Slot) (q : ℕ) (before after : List ℕ) → IsIndex i slots → slice_get i.queues q ≡ Some before
     → LosesEmpty slots before after → IsIndex (with_queue i q after) slots
 tidied i slots q before after index there loses =
     record {

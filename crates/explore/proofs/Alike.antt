@@ -15,7 +15,7 @@ use Rattle.final_runs.proofs.Simulating.{no_step}
 use Rattle.explore.proofs.AlikeAlone.{persistent_too}
 
 -- where the one is maximal the other is
-pub maximal_too : (start : ℕ → State) (n : ℕ) (P Q : List Passed) → IsRun start n P → IsRun start n Q → StandAlike start n P Q → IsMaximal start n P
+maximal_too : (start : ℕ → State) (n : ℕ) (P Q : List Passed) → IsRun start n P → IsRun start n Q → StandAlike start n P Q → IsMaximal start n P
     → IsMaximal start n Q
 maximal_too start n P Q run run' alike maximal r act may =
     let f = each_follows_too start n Q P run' run (alike_back start n P Q alike) r act may.0 may.1 in
@@ -38,7 +38,7 @@ rank_too start n P Q r x a o =
     }
 
 -- so the outcome of the one is that of the other
-pub outcome_too : (start : ℕ → State) (n : ℕ) (P Q : List Passed) (o : List RankOutcome) → IsRun start n Q → StandAlike start n P Q → IsOutcomeOf start n P o
+outcome_too : (start : ℕ → State) (n : ℕ) (P Q : List Passed) (o : List RankOutcome) → IsRun start n Q → StandAlike start n P Q → IsOutcomeOf start n P o
     → IsOutcomeOf start n Q o
 outcome_too start n P Q o run' alike is_its =
     record {
@@ -59,7 +59,7 @@ pub record Onward (start : ℕ → State) (n : ℕ) (Q C : List Passed) : Type 0
   pub alike : StandAlike start n C run
 
 -- for each run that goes on from the one there is such a run
-pub goes_on_too : (start : ℕ → State) (n : ℕ) (P Q C : List Passed) → IsRun start n P → IsRun start n Q → StandAlike start n P Q → GoesOnTo start n P C
+goes_on_too : (start : ℕ → State) (n : ℕ) (P Q C : List Passed) → IsRun start n P → IsRun start n Q → StandAlike start n P Q → GoesOnTo start n P C
     → Onward start n Q C
 goes_on_too start n P Q C run run' alike there = record { run = Q; is_run = run'; onward = there; alike = alike }
 goes_on_too start n P Q C run run' alike (further r act may on) =

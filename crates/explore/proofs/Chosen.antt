@@ -22,7 +22,7 @@ use Rattle.explore.specs.Searching.{Begins, IsAlike}
 use Rattle.explore.proofs.Choosing.{IsChosen, IsStep, act_of_choice, goes_by}
 
 -- acts that are no choices leave the choices as they were
-pub choices_behind : (program : ProgramValue) (n : ℕ) (later P : List Passed) (choices : List Noted) → MakesChoices program n P choices
+choices_behind : (program : ProgramValue) (n : ℕ) (later P : List Passed) (choices : List Noted) → MakesChoices program n P choices
     → MakesChoices program n (later ++ P) choices
 choices_behind program n [] P choices made = made
 choices_behind program n (p ∷ later) P choices made = MakesChoices.passes p.rank p.act (choices_behind program n later P choices made)

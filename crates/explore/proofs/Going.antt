@@ -20,7 +20,7 @@ use Rattle.explore.proofs.Stems.{off_none, off_push, off_taken, stems_push, stem
 -- At the beginning
 
 -- the whole of a program is its only stem
-pub whole_only : (s : SimValue) (b : Branch) → s.run ≡ [] → b.shared ≡ 0 → b.chosen ≡ None → stems_of s.run (b ∷ []) ≡ whole ∷ []
+whole_only : (s : SimValue) (b : Branch) → s.run ≡ [] → b.shared ≡ 0 → b.chosen ≡ None → stems_of s.run (b ∷ []) ≡ whole ∷ []
 whole_only s b none shared chosen =
     ap (λ (C : List Passed). stems_of C (b ∷ [])) none ∙ ap (λ (k : ℕ). by k b.chosen ∷ []) shared ∙ ap (λ (o : Option Move). by 0 o ∷ []) chosen
   where
@@ -63,7 +63,7 @@ fewer_back program n s C C' old new same ranks fewer =
     subst (λ k. NeedsFewer program k C old C' new) ranks (subst (λ p. NeedsFewer p (length s.machines) C old C' new) same fewer)
 
 -- and that a rank goes beyond
-pub beyond_own : (program : ProgramValue) (n : ℕ) (s : SimValue) (steps : ℕ) → s.program ≡ program → length s.machines ≡ n
+beyond_own : (program : ProgramValue) (n : ℕ) (s : SimValue) (steps : ℕ) → s.program ≡ program → length s.machines ≡ n
     → GoesBeyond program n steps → GoesBeyond s.program (length s.machines) steps
 beyond_own program n s steps same ranks beyond =
     subst (λ k. GoesBeyond s.program k steps) (sym ranks) (subst (λ p. GoesBeyond p n steps) (sym same) beyond)

@@ -65,14 +65,14 @@ pub keeps_both : (a b c : List Rows) → KeepsParts a b → KeepsParts b c → K
 keeps_both a b c x y = (x.0 ++ y.0, y.1 ∙ ap (λ z. z ++ y.0) x.1 ∙ append_assoc a x.0 y.0)
 
 -- the states are the same in parts that keep theirs
-pub kept_states : (old new : List Rows) (states : List (List ℕ)) → KeepsParts old new → AllAreBelow (length old) states
+kept_states : (old new : List Rows) (states : List (List ℕ)) → KeepsParts old new → AllAreBelow (length old) states
     → AllAreBelow (length new) states × (all_joined new states ≡ all_joined old states)
 kept_states old new states k b =
     subst (λ z. AllAreBelow (length z) states × (all_joined z states ≡ all_joined old states)) (sym k.1)
     (subst (λ n. AllAreBelow n states) (sym (length-append old k.0)) (all_below_more (length old) (length k.0) states b), all_joined_more old k.0 states b)
 
 -- rows that are kept in parts are kept in more of them
-pub kept_parts : (old new : List Rows) (is : List ℕ) (rows : Rows) → KeepsParts old new → AreParts old is rows → AreParts new is rows
+kept_parts : (old new : List Rows) (is : List ℕ) (rows : Rows) → KeepsParts old new → AreParts old is rows → AreParts new is rows
 kept_parts old new is rows k a =
     subst (λ z. AreParts z is rows) (sym k.1)
     (record {

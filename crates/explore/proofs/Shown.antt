@@ -1,5 +1,6 @@
 -- What a run made once more shows.
-use Rattle.std.proofs.Common.{◌≡◌, ◌≢◌, ℕ, suc, ◌<◌, ◌≤◌, ◌+◌, Bool, true, false, List, [], ◌∷◌, ◌++◌, Option, Some, None, length, slice_get, ◌⊎◌, inl, inr, sym, ap, subst, ◌∙◌, arith}
+use Rattle.std.proofs.Common.{◌≡◌, ◌≢◌, ℕ, suc, ◌<◌, ◌≤◌, ◌+◌, Bool, true, false, List, [], ◌∷◌, ◌++◌}
+use Rattle.std.proofs.Common.{Option, Some, None, length, slice_get, ◌⊎◌, inl, inr, sym, ap, subst, ◌∙◌, arith}
 use Rattle.std.specs.Prelude.{Err, IfOk, IfSome, IsSomeAnd, Ok, Result, drop, reverse, take}
 use Rattle.std.proofs.Math.Seq.{take-suc}
 use Rattle.std.proofs.lemmas.Option.{slice_get_within, get_or_from_slice_get}
@@ -37,7 +38,7 @@ pub may_next : (start : ℕ → State) (n : ℕ) (late : List Passed) (p : Passe
 may_next start n late p early run = (let it = run_begins start n late (p ∷ early) run in (it.1, it.2))
 
 -- a miss in a part of a run is one of the run
-pub misses_later : (start : ℕ → State) (late early : List Passed) → MissesShown start early → MissesShown start (late ++ early)
+misses_later : (start : ℕ → State) (late early : List Passed) → MissesShown start early → MissesShown start (late ++ early)
 misses_later start [] early m = m
 misses_later start (p ∷ late) early m = inr (misses_later start late early m)
 

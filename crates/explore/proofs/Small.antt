@@ -84,7 +84,7 @@ one_enough start n k P (at_once r act fix rest) = one_enough start n k (and_then
 one_enough start n k P (tree moves needs among each few some) = some
 
 -- more are enough too
-pub more_enough : (start : ℕ → State) (n k l : ℕ) (P : List Passed) → k ≤ l → AreEnough start n k P → AreEnough start n l P
+more_enough : (start : ℕ → State) (n k l : ℕ) (P : List Passed) → k ≤ l → AreEnough start n k P → AreEnough start n l P
 more_enough start n k l P low (at_once r act fix rest) = at_once r act fix (more_enough start n k l (and_then P r act) low rest)
 more_enough start n k l P low (tree moves needs among each few some) = tree moves needs among each (omega (arith, low, few)) (omega (arith, low, some))
 

@@ -16,7 +16,7 @@ pub use Rattle.crash_free.proofs.Points.{behind_further, behind_longer, first_al
 -- Stems
 
 -- branches that share the same of two runs have the same stems
-pub stems_same : (C C' : List Passed) (pending : List Branch) → ((b : Branch) → IsAmong pending b → first_acts b.shared C' ≡ first_acts b.shared C)
+stems_same : (C C' : List Passed) (pending : List Branch) → ((b : Branch) → IsAmong pending b → first_acts b.shared C' ≡ first_acts b.shared C)
     → stems_of C' pending ≡ stems_of C pending
 stems_same C C' [] each = refl
 stems_same C C' (b ∷ bs) each =

@@ -24,7 +24,7 @@ use Rattle.explore.proofs.Within.{needs_before, needs_counted}
 -- The same ranks and the same run
 
 -- what may follow by the ranks of one simulation may by those of another, after the same run
-pub may_there : (s t : SimValue) (r : ℕ) (act : Act) → IsAlike s t → t.run ≡ s.run
+may_there : (s t : SimValue) (r : ℕ) (act : Act) → IsAlike s t → t.run ≡ s.run
     → MayFollow (start_of s.program (length s.machines)) (length s.machines) s.run r act
     → MayFollow (start_of t.program (length t.machines)) (length t.machines) t.run r act
 may_there s t r act alike same may =

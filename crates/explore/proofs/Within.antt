@@ -208,7 +208,7 @@ needs_counted s left steps counts r low =
     (it.0, m.0, m.2, omega (arith, all))
 
 -- a rank that has made so many steps has made all acts of a run that needs no more
-pub enough_left : (program : ProgramValue) (n steps : ℕ) (C : List Passed) (p : Passed) (m : MachineValue) → p.rank < n
+enough_left : (program : ProgramValue) (n steps : ℕ) (C : List Passed) (p : Passed) (m : MachineValue) → p.rank < n
     → HasMade program n p.rank (history C p.rank) steps m → NeedsAtMost program n steps (p ∷ C) → ⊥
 enough_left program n steps C p m low all needs =
     let it = needs p.rank low in

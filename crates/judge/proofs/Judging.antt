@@ -16,7 +16,7 @@ abbrev pub IsKnown : FinalFault → Type 0
 IsKnown f = f ≢ fault.Audit audit.Memory
 
 -- a reason that is known leaves no run
-pub none_within : (program : ProgramValue) (n steps : ℕ) (o : OutcomeValue) (f : FinalFault) → IsKnown f → IsWhy program n o steps f
+none_within : (program : ProgramValue) (n steps : ℕ) (o : OutcomeValue) (f : FinalFault) → IsKnown f → IsWhy program n o steps f
     → IsNoneWithin program n o steps
 none_within program n steps o (fault.Audit f) known why C is within stalled = known (ap fault.Audit (why (C, is, within)))
 none_within program n steps o (fault.FalseStall r) known why C is within stalled =

@@ -28,7 +28,7 @@ or_moved true b c = refl
 or_moved false b c = refl
 
 -- one list of statements behind another
-pub some_sends-then : (b k : Block) → some_sends (b then k) ≡ (some_sends b || some_sends k)
+some_sends-then : (b k : Block) → some_sends (b then k) ≡ (some_sends b || some_sends k)
 some_sends-then done k = refl
 some_sends-then (plain s r) k = rw (some_sends-then r k) (or_moved (may_send s) (some_sends r) (some_sends k))
 some_sends-then (if_only e y r) k = rw (some_sends-then r k) (or_moved (some_sends y) (some_sends r) (some_sends k))

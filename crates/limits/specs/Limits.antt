@@ -1,5 +1,5 @@
 -- The limits of the project. Every other definition, contract and invariant cites these numbers by their names.
-use Rattle.std.specs.Prelude.{ℕ}
+use Rattle.std.specs.Prelude.{ℕ, Bool, ◌&&◌, nat_le}
 
 -- the ranks of a run
 abbrev pub most_ranks : ℕ
@@ -56,6 +56,10 @@ greatest_tag = 32767
 -- the clock of a rank, and the number of a message among those of its pair of ranks: what 28 bits hold
 abbrev pub greatest_clock : ℕ
 greatest_clock = 268435455
+
+-- a rank can have this clock: clocks count from 1
+abbrev pub is_clock : ℕ → Bool
+is_clock c = nat_le 1 c && nat_le c greatest_clock
 
 -- the sender that an event can name: what 4 bits hold
 abbrev pub greatest_sender : ℕ

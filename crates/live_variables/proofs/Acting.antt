@@ -1,6 +1,7 @@
 -- An act with its message leads states that agree to states that agree, where the message has an
 -- item.
-use Rattle.std.proofs.Common.{◌≡◌, ◌≢◌, ℕ, ℤ, pos, ◌+◌, Bool, true, false, ◌||◌, List, [], ◌∷◌, ◌++◌, Ok, Err, Option, Some, None, refl, sym, ap, ◌∙◌, subst, length, if◌then◌else◌}
+use Rattle.std.proofs.Common.{◌≡◌, ◌≢◌, ℕ, ℤ, pos, ◌+◌, Bool, true, false, ◌||◌, List, [], ◌∷◌}
+use Rattle.std.proofs.Common.{◌++◌, Ok, Err, Option, Some, None, refl, sym, ap, ◌∙◌, subst, length, if◌then◌else◌}
 use Rattle.std.specs.Prelude.{nat_le}
 use Rattle.rank_language.specs.Placed.{Simple, declare, declare_array, assign, assign_item, send, receive, probe, try_probe, print, Collective}
 use Rattle.rank_language.specs.Placed.{Pattern, Buffer, into_variable, into_array, barrier, broadcast, reduce, collect}

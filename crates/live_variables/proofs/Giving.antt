@@ -12,7 +12,8 @@ use Rattle.rank_machine.specs.declared.fault.MachineFault.{MachineFault}
 use Rattle.rank_machine.specs.Values.{Store, Valued, ◌>>=◌, value, is_zero}
 use Rattle.rank_machine.specs.Collectives.{Call, Part, gives, gets, ends, part_of, called, ended, counted, unfaulted, ended_at, ended_by, own_end, stored_or}
 use Rattle.rank_machine.specs.Collectives.{folded, with_at}
-use Rattle.rank_machine.specs.States.{State, Inners, here, on, item_value, assigned, item_assigned, after_test, after_value, inner_rest, inner_store, inner_of, inner}
+use Rattle.rank_machine.specs.States.{State, Inners, here, on, item_value, assigned, item_assigned}
+use Rattle.rank_machine.specs.States.{after_test, after_value, inner_rest, inner_store, inner_of, inner}
 use Rattle.rank_machine.specs.Acts.{overwritten, written}
 use Rattle.live_variables.specs.Given.{sends_all, some_sends_all, GivesItems}
 
@@ -242,7 +243,7 @@ step_gives s b None c e = by_rest (inner_rest s b) refl e
 step_gives s b (Some k) c e = absurd cc
 
 -- whose sends have items has it so behind a step of its own
-pub inner_gives : (a b : State) → inner a ≡ Some b → GivesItems a → GivesItems b
+inner_gives : (a b : State) → inner a ≡ Some b → GivesItems a → GivesItems b
 inner_gives a b e h = let k = step_gives a.store a.rest a.fault b e in gives_on a b k.0 k.1 h
 
 -- and behind several

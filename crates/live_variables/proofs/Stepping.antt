@@ -9,7 +9,8 @@ use Rattle.rank_machine.specs.declared.fault.MachineFault.{MachineFault}
 use Rattle.rank_machine.specs.Values.{Store, Valued, ◌>>=◌, value, is_zero}
 use Rattle.rank_machine.specs.Collectives.{Call, called, Part, gives, gets, ends, part_of, counted, folded, with_at, ended, unfaulted, ended_at, ended_by}
 use Rattle.rank_machine.specs.Collectives.{own_end, stored_or}
-use Rattle.rank_machine.specs.States.{State, Inners, here, on, item_value, assigned, item_assigned, after_test, after_value, inner_rest, inner_store, inner_of, inner}
+use Rattle.rank_machine.specs.States.{State, Inners, here, on, item_value, assigned, item_assigned}
+use Rattle.rank_machine.specs.States.{after_test, after_value, inner_rest, inner_store, inner_of, inner}
 use Rattle.live_variables.specs.Names.{Name, place, status, is_place, collective_reads, reads, writes}
 use Rattle.live_variables.specs.Unread.{reads_first}
 use Rattle.live_variables.specs.Agrees.{Same, SameWhere, Agrees}

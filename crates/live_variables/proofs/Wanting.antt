@@ -63,7 +63,7 @@ collective_same c s s' h = ap (λ v. v >>= (λ call. part_want s c call (part_of
     by_call (Err k) = refl
 
 -- a statement wants the same
-pub simple_same : (x : Simple) (s s' : Store) → SameWhere (λ n. reads n x) s s' → simple_want s x ≡ simple_want s' x
+simple_same : (x : Simple) (s s' : Store) → SameWhere (λ n. reads n x) s s' → simple_want s x ≡ simple_want s' x
 simple_same (declare p) s s' h = refl
 simple_same (declare_array p) s s' h = refl
 simple_same (assign p e) s s' h = rw (value_same e s s' h) refl

@@ -31,7 +31,7 @@ pub right_of : (f g : Name → Bool) (s s' : Store) → SameWhere (λ x. f x || 
 right_of f g s s' h = fewer (λ x. f x || g x) g s s' (λ x e. or_right (f x) (g x) e) h
 
 -- a state agrees with itself
-pub same_self : (x : Name) (s : Store) → Same x s s
+same_self : (x : Name) (s : Store) → Same x s s
 same_self (place p) s = refl
 same_self status s = (refl, refl, refl)
 
@@ -50,7 +50,7 @@ where_self among s =
     }
 
 -- the other way round
-pub same_back : (x : Name) (s s' : Store) → Same x s s' → Same x s' s
+same_back : (x : Name) (s s' : Store) → Same x s s' → Same x s' s
 same_back (place p) s s' h = sym h
 same_back status s s' h = (sym h.0, sym h.1, sym h.2)
 
@@ -69,7 +69,7 @@ where_back among s s' h =
     }
 
 -- and from one to the next
-pub same_further : (x : Name) (s s' s'' : Store) → Same x s s' → Same x s' s'' → Same x s s''
+same_further : (x : Name) (s s' s'' : Store) → Same x s s' → Same x s' s'' → Same x s s''
 same_further (place p) s s' s'' h k = h ∙ k
 same_further status s s' s'' h k = (h.0 ∙ k.0, h.1 ∙ k.1, h.2 ∙ k.2)
 

@@ -96,13 +96,13 @@ pub position-right : (test : PacketValue → Bool) (ms ns : List PacketValue) �
 position-right test ms ns none = position-append test ms ns ∙ ap (λ o. or_right (length ms) o (position test ns)) none
 
 -- the packet at a place of the first list
-pub slice_get-left : (ms ns : List PacketValue) (i : ℕ) → i < length ms → slice_get (ms ++ ns) i ≡ slice_get ms i
+slice_get-left : (ms ns : List PacketValue) (i : ℕ) → i < length ms → slice_get (ms ++ ns) i ≡ slice_get ms i
 slice_get-left [] ns i within = absurd (omega (arith, within))
 slice_get-left (m ∷ ms) ns zero within = refl
 slice_get-left (m ∷ ms) ns (suc i) within = slice_get-left ms ns i (omega (arith, within))
 
 -- or of the second
-pub slice_get-right : (ms ns : List PacketValue) (i : ℕ) → slice_get (ms ++ ns) (length ms + i) ≡ slice_get ns i
+slice_get-right : (ms ns : List PacketValue) (i : ℕ) → slice_get (ms ++ ns) (length ms + i) ≡ slice_get ns i
 slice_get-right [] ns i = ap (slice_get ns) (omega arith)
 slice_get-right (m ∷ ms) ns i = ap (slice_get (m ∷ ms ++ ns)) (next (length ms) i) ∙ slice_get-right ms ns i
   where

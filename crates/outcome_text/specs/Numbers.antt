@@ -1,15 +1,11 @@
 -- Clocks, ranks and printed values as words spell them (docs/FORMATS.md, "Outcomes").
-use Rattle.std.specs.Prelude.{ℕ, ℤ, pos, neg_ℤ, min, List, [], ◌∷◌, Bool, ◌&&◌, nat_eq, nat_le, Option, Some, None, if◌then◌else◌}
-use Rattle.limits.specs.Limits.{greatest_clock}
-use Rattle.text_lines.specs.Numbers.{decimal_of, kept_of}
+use Rattle.std.specs.Prelude.{ℕ, ℤ, pos, neg_ℤ, List, [], ◌∷◌, nat_eq, nat_le, Option, Some, None, if◌then◌else◌}
+use Rattle.limits.specs.Limits.{is_clock}
+use Rattle.text_lines.specs.Numbers.{decimal_of, kept_of, wide_of}
 
 -- the number of a rank that a word spells, as 32 bits keep it: a greater number is no rank's
 abbrev pub rank_in : List ℕ → Option ℕ
 rank_in word = kept_of (decimal_of word)
-
--- a rank can have this clock
-abbrev pub is_clock : ℕ → Bool
-is_clock c = nat_le 1 c && nat_le c greatest_clock
 
 -- a number, if a rank can have it as its clock
 abbrev pub clock_with : Option ℕ → Option ℕ
@@ -19,15 +15,6 @@ clock_with (Some c) = if is_clock c then Some c else None
 -- the clock that a word spells, if a rank can have it
 abbrev pub clock_in : List ℕ → Option ℕ
 clock_in word = clock_with (kept_of (decimal_of word))
-
--- a number as 64 bits keep it: the greatest that they hold stands for each greater one
-abbrev pub wide : ℕ → ℕ
-wide n = min n 18446744073709551615
-
--- a number that may be absent, kept so
-abbrev pub wide_of : Option ℕ → Option ℕ
-wide_of None = None
-wide_of (Some n) = Some (wide n)
 
 -- the number that a word spells, as 64 bits keep it
 abbrev pub wide_in : List ℕ → Option ℕ

@@ -1,6 +1,7 @@
 -- What an outcome text says, and its first faulty line with that line's lowest fault
 -- (docs/FORMATS.md, "Outcomes").
-use Rattle.std.specs.Prelude.{ℕ, zero, suc, ◌+◌, ◌==◌, ◌≡◌, length, slice_get, List, [], ◌∷◌, ◌++◌, Bool, true, false, ◌&&◌, ◌||◌, nat_le, nat_lt, Option, Some, None, if◌then◌else◌}
+use Rattle.std.specs.Prelude.{ℕ, zero, suc, ◌+◌, ◌==◌, ◌≡◌, length, slice_get, List, [], ◌∷◌, ◌++◌}
+use Rattle.std.specs.Prelude.{Bool, true, false, ◌&&◌, ◌||◌, nat_le, nat_lt, Option, Some, None, if◌then◌else◌}
 use Rattle.limits.specs.Limits.{most_event_lines}
 use Rattle.sequential_logger.specs.Event.{EventValue, event_of}
 use Rattle.text_lines.specs.Pieces.{pieces_of, words_of}

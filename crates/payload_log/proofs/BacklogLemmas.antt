@@ -95,7 +95,7 @@ is_backlog_freed b (m ∷ ms) e some is =
     is_backlog_saved b m ms is (numbers zero m (omega arith) ∙ omega arith) (omega arith) (numbered_rest b.sent m ms numbers)
 
 -- a backlog stays one with a packet that is held
-pub is_backlog_hold : (b : BacklogValue) (m : PacketValue) → IsBacklog b → m.number ≡ next_number b → m.number ≤ greatest_clock → IsBacklog (hold b m)
+is_backlog_hold : (b : BacklogValue) (m : PacketValue) → IsBacklog b → m.number ≡ next_number b → m.number ≤ greatest_clock → IsBacklog (hold b m)
 is_backlog_hold b m is next high = record {
   kept = is.kept;
   numbered = is.numbered;
@@ -107,7 +107,7 @@ is_backlog_hold b m is next high = record {
 }
 
 -- a packet that goes last is held
-pub hold_at_end : (base sent cursor : ℕ) (ps : List PacketValue) (m : PacketValue) → IsBacklog (backlog_of base sent cursor ps)
+hold_at_end : (base sent cursor : ℕ) (ps : List PacketValue) (m : PacketValue) → IsBacklog (backlog_of base sent cursor ps)
     → backlog_of base sent cursor (ps ++ m ∷ []) ≡ hold (backlog_of base sent cursor ps) m
 hold_at_end base sent cursor ps m is =
     let short = length_kept base sent cursor ps is in

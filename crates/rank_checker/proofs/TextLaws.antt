@@ -22,7 +22,7 @@ clean_of (skipped q c) = c
 clean_of (stated d c) = c
 
 -- a line has one statement, or none
-pub line_one : {s : Scope} {n : ℕ} {l : List ℕ} {o p : Option Form} → IsLine s n l o → IsLine s n l p → o ≡ p
+line_one : {s : Scope} {n : ℕ} {l : List ℕ} {o p : Option Form} → IsLine s n l o → IsLine s n l p → o ≡ p
 line_one (skipped q c) (skipped r d) = refl
 line_one (skipped q c) (stated d e) = let r = d.looked.not_skipped in cc
 line_one (stated d e) (skipped q c) = let r = d.looked.not_skipped in cc

@@ -59,11 +59,11 @@ stops p [] h = sym (none_after (flushed p))
 stops p (b ∷ bs) h = ap (λ g. after_byte p g (begun b) bs) h ∙ begun_after p (begun b) bs
 
 -- a test that keeps what it is given, where it holds
-pub kept_where : {A : Type 0} (z : Bool) (a : A) → z ≡ true → (if z then Some a else None) ≡ Some a
+kept_where : {A : Type 0} (z : Bool) (a : A) → z ≡ true → (if z then Some a else None) ≡ Some a
 kept_where z a e = ap (λ y. if y then Some a else None) e
 
 -- a test that keeps nothing, where it fails
-pub left_where : {A : Type 0} (z : Bool) (a : A) → z ≡ false → (if z then Some a else None) ≡ None
+left_where : {A : Type 0} (z : Bool) (a : A) → z ≡ false → (if z then Some a else None) ≡ None
 left_where z a e = ap (λ y. if y then Some a else None) e
 
 -- a test that has kept nothing has failed

@@ -32,7 +32,7 @@ back_from (y ∷ ys) x i p h =
     ] refl h
 
 -- the name at the place of a name is that name
-pub name_back : (names : List (List ℕ)) (x : List ℕ) (p : ℕ) → place_in names x ≡ Some p → slice_index_or names p [] ≡ x
+name_back : (names : List (List ℕ)) (x : List ℕ) (p : ℕ) → place_in names x ≡ Some p → slice_index_or names p [] ≡ x
 name_back names x p h =
     let (k, a, b) = back_from names x 0 p (sym (position_from-zero (λ y. bytes_eq y x) names) ∙ h) in
     let e : k ≡ p = omega (arith, a) in
@@ -45,11 +45,11 @@ names_at (a ∷ as') zero = refl
 names_at (a ∷ as') (suc p) = names_at as' p
 
 -- the array at the place of a name has that name
-pub array_back : (s : Scope) (x : List ℕ) (p : ℕ) → array_place s x ≡ Some p → (array_at s p).0 ≡ x
+array_back : (s : Scope) (x : List ℕ) (p : ℕ) → array_place s x ≡ Some p → (array_at s p).0 ≡ x
 array_back s x p h = names_at s.arrays p ∙ name_back (map (λ a. a.0) s.arrays) x p h
 
 -- an expression is got back
-pub tree_back : (s : Scope) (e : text.Tree) (t : Placed) → resolved s e ≡ Some t → named s t ≡ e
+tree_back : (s : Scope) (e : text.Tree) (t : Placed) → resolved s e ≡ Some t → named s t ≡ e
 tree_back s (text.number n) t h =
     let q : number (pos n) ≡ t = cc in subst (λ z. named s z ≡ text.number n) q refl
 tree_back s (text.variable x) t h =

@@ -30,7 +30,7 @@ abbrev pub scope_with : List (List ℕ) → List (List ℕ × ℕ) → List Open
 scope_with variables arrays blocks = record { variables = variables; arrays = arrays; blocks = blocks }
 
 -- the tables of a whole program are its scope at the end
-pub same_scope : (fs : List Form) (xs : List (List ℕ)) (as' : List Array) → IsWhole fs → xs ≡ (after_all nothing_yet fs).variables
+same_scope : (fs : List Form) (xs : List (List ℕ)) (as' : List Array) → IsWhole fs → xs ≡ (after_all nothing_yet fs).variables
     → arrays_seen as' ≡ (after_all nothing_yet fs).arrays → scope_with xs (arrays_seen as') [] ≡ after_all nothing_yet fs
 same_scope fs xs as' w v a =
     let end = after_all nothing_yet fs in

@@ -33,7 +33,7 @@ send_of_parts : (s : Scope) (d g : Tree) (p : Payload) (x y : placed.Placed) (z 
 send_of_parts s d g p x y z a b c = rw (a, b, c) refl
 
 -- a statement becomes the same
-pub form_same : (s : Scope) (f : Form) (t : Step) → form_resolved s f ≡ Some t → form_resolved s (canonical f) ≡ Some t
+form_same : (s : Scope) (f : Form) (t : Step) → form_resolved s f ≡ Some t → form_resolved s (canonical f) ≡ Some t
 form_same s (var_form x) t h = h
 form_same s (array_form x n) t h = h
 form_same s (let_form x e) t h = h

@@ -35,7 +35,7 @@ abbrev pub statement_named : Scope → Statement → Form
 statement_named s x = form_named s (step_of (line_of x))
 
 -- statements by themselves
-pub named_each : (s : Scope) (ss : List Statement) → map (statement_named s) ss ≡ map (form_named s) (map step_of (map line_of ss))
+named_each : (s : Scope) (ss : List Statement) → map (statement_named s) ss ≡ map (form_named s) (map step_of (map line_of ss))
 named_each s [] = refl
 named_each s (x ∷ ss) = ap (λ z. statement_named s x ∷ z) (named_each s ss)
 

@@ -16,7 +16,7 @@ abbrev value_with : List Line → List (List ℕ) → List (List ℕ × ℕ) →
 value_with ls xs as' = record { statements = ls; variables = xs; arrays = as' }
 
 -- the program of some statements is one
-pub one_of_forms : (fs : List Form) (p q : ProgramValue) → IsOfForms fs p → IsOfForms fs q → p ≡ q
+one_of_forms : (fs : List Form) (p q : ProgramValue) → IsOfForms fs p → IsOfForms fs q → p ≡ q
 one_of_forms fs p q g h =
     let steps : map step_of p.statements ≡ map step_of q.statements = same_Some _ _ (sym g.statements ∙ h.statements) in
     let lines : p.statements ≡ q.statements = g.targets ∙ ap (λ ss. lines_at 0 (block_of_steps ss)) steps ∙ sym h.targets in

@@ -9,7 +9,7 @@ use Rattle.rank_language.specs.Block.{Block, done, plain, if_only, if_else, loop
 use Rattle.rank_language.specs.Block.{end_line, back_line, size, lines_at, places, remaining, tested, taken, Leads}
 
 -- nothing after a list leaves the list
-pub then_done : (b : Block) → b then done ≡ b
+then_done : (b : Block) → b then done ≡ b
 then_done done = refl
 then_done (plain s r) = ap (plain s) (then_done r)
 then_done (if_only e y r) = ap (if_only e y) (then_done r)

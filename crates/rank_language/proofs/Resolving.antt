@@ -41,7 +41,7 @@ array_below s x p h =
     subst (λ n. p < n) (length-map s.arrays (λ a. a.0)) (place_below (map (λ a. a.0) s.arrays) x p h)
 
 -- each place in a resolved expression is in a table
-pub resolved_within : (s : Scope) (e : text.Tree) (t : Placed) → resolved s e ≡ Some t → IsWithin (length s.variables) (length s.arrays) t
+resolved_within : (s : Scope) (e : text.Tree) (t : Placed) → resolved s e ≡ Some t → IsWithin (length s.variables) (length s.arrays) t
 resolved_within s (text.number n) t h =
     let q : number (pos n) ≡ t = cc in subst (IsWithin _ _) q tt
 resolved_within s (text.variable x) t h =

@@ -1,8 +1,8 @@
 -- The tree that lines spell (docs/LANGUAGE.md: `if` .. `else` .. `end`, `while` .. `end`).
-use Rattle.std.specs.Prelude.{◌≡◌, List, [], ◌∷◌, Bool, true, false, map}
+use Rattle.std.specs.Prelude.{List, [], ◌∷◌, Bool, true, false}
 use Rattle.rank_language.specs.Placed.{Placed, Step, does, tests, repeats, otherwise, closes}
 use Rattle.rank_language.specs.Block.{Block, done, plain, if_only, if_else, loop, Line, simple_line}
-use Rattle.rank_language.specs.Block.{if_line, else_line, end_line, while_line, back_line, lines_at}
+use Rattle.rank_language.specs.Block.{if_line, else_line, end_line, while_line, back_line}
 
 -- a line without where it leads
 abbrev pub step_of : Line → Step
@@ -52,7 +52,3 @@ innermost (p ∷ ps) = p.1
 -- the block of a whole program's lines, whatever they say of where they lead
 abbrev pub block_of_steps : List Step → Block
 block_of_steps ss = innermost (parts ss)
-
--- each line leads where the tree says
-abbrev pub IsShaped : List Line → Type 0
-IsShaped ls = ls ≡ lines_at 0 (block_of_steps (map step_of ls))

@@ -37,7 +37,7 @@ none_called s (while_line e q) n = refl
 none_called s (back_line q) n = refl
 
 -- so from there a rank goes on with no part done and nothing gathered, and can stand at each line
-pub goes_past : (s s' : Store) (l : Line) (o : Option Line) (o' : Option Call) → o ≡ Some l → IsNoCollectiveLine l → HasStage s (call_at s o)
+goes_past : (s s' : Store) (l : Line) (o : Option Line) (o' : Option Call) → o ≡ Some l → IsNoCollectiveLine l → HasStage s (call_at s o)
     → s'.rank < s'.size → s'.done ≡ s.done → s'.gathered ≡ s.gathered → HasStage s' o'
 goes_past s s' l o o' at n h below d g =
     let h' : HasStage s None = subst (HasStage s) (ap (call_at s) at ∙ none_called s l n) h in
@@ -113,7 +113,7 @@ pub record Leaves (s s' : Store) : Type 0 where
   pub finished : s'.finished ≡ s.finished
 
 -- how many arrays there are by how long they are
-pub same_count : (s s' : Store) → map length s'.arrays ≡ map length s.arrays → length s'.arrays ≡ length s.arrays
+same_count : (s s' : Store) → map length s'.arrays ≡ map length s.arrays → length s'.arrays ≡ length s.arrays
 same_count s s' e = sym (length-map s'.arrays length) ∙ ap length e ∙ length-map s.arrays length
 
 -- a machine whose store keeps rank, size and status is within its limits, where the number of its collectives can be counted

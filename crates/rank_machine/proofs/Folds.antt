@@ -28,19 +28,19 @@ alone (Ok c) = refl
 alone (Err k) = refl
 
 -- a list and what is behind it
-pub folded_behind : (f : Reduction) (a : ℤ) (xs ys : List ℤ)
+folded_behind : (f : Reduction) (a : ℤ) (xs ys : List ℤ)
     → folded_from f a (xs ++ ys) ≡ (folded_from f a xs >>= (λ c. folded_from f c ys))
 folded_behind f a [] ys = refl
 folded_behind f a (x ∷ xs) ys =
     same_steps (combined f a x) _ _ (λ c. folded_behind f c xs ys) ∙ bound (combined f a x) (λ c. folded_from f c xs) (λ c. folded_from f c ys)
 
 -- a last value
-pub folded_last : (f : Reduction) (x : ℤ) (xs : List ℤ) (own : ℤ)
+folded_last : (f : Reduction) (x : ℤ) (xs : List ℤ) (own : ℤ)
     → folded f (x ∷ xs ++ own ∷ []) ≡ (folded_from f x xs >>= (λ a. combined f a own))
 folded_last f x xs own = folded_behind f x xs (own ∷ []) ∙ same_steps (folded_from f x xs) _ _ (λ a. alone (combined f a own))
 
 -- a value between others
-pub folded_between : (f : Reduction) (xs ys : List ℤ) (own : ℤ)
+folded_between : (f : Reduction) (xs ys : List ℤ) (own : ℤ)
     → folded f (xs ++ own ∷ ys) ≡ (folded f (xs ++ own ∷ []) >>= (λ c. folded_from f c ys))
 folded_between f [] ys own = refl
 folded_between f (x ∷ xs) ys own =

@@ -83,11 +83,11 @@ pub barrier_other : (n r : ℕ) → (n ≡ 1 → ⊥) → (r ≡ 0 → ⊥) → 
 barrier_other n r ne nz = rw (many barriers 0 n r ne, ne_eqb r 0 nz) refl
 
 -- another rank than the root of a broadcast gets
-pub broadcast_other : (root n r : ℕ) → (n ≡ 1 → ⊥) → (r ≡ root → ⊥) → parts broadcasts root n r ≡ gets root ∷ []
+broadcast_other : (root n r : ℕ) → (n ≡ 1 → ⊥) → (r ≡ root → ⊥) → parts broadcasts root n r ≡ gets root ∷ []
 broadcast_other root n r ne other = rw (many broadcasts root n r ne, ne_eqb r root other) refl
 
 -- The root of a reduce gets from each other rank, and then folds.
-pub reduce_root : (f : Reduction) (n r : ℕ) → r < n → parts (folds f) r n r ≡ map gets (others r 0 n) ++ ends ∷ []
+reduce_root : (f : Reduction) (n r : ℕ) → r < n → parts (folds f) r n r ≡ map gets (others r 0 n) ++ ends ∷ []
 reduce_root f n r l = by_size (cases_eq n 1)
   where
     by_size : (n ≡ 1) ⊎ (n ≡ 1 → ⊥) → parts (folds f) r n r ≡ map gets (others r 0 n) ++ ends ∷ []

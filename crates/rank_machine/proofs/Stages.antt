@@ -29,7 +29,7 @@ fresh s (Some call) l d g =
     (rw d (some_part call.kind call.root s.size s.rank l), g ∙ sym (none_gathered call.kind (call.root == s.rank) s.done d))
 
 -- and so a rank that finished a collective
-pub counted_fresh : (s : Store) (o : Option Call) → s.rank < s.size → HasStage (counted s) o
+counted_fresh : (s : Store) (o : Option Call) → s.rank < s.size → HasStage (counted s) o
 counted_fresh s o l = fresh (counted s) o l refl refl
 
 -- the part that stands is among the parts

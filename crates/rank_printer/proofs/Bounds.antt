@@ -212,7 +212,7 @@ three_length word a b c =
     omega (arith, between_length (word ++ a ++ codes ", " ++ b) (codes ", ") c, between_length (word ++ a) (codes ", ") b, length-append word a)
 
 -- a statement at most 4000
-pub form_length : (f : Form) → FormFits f → length (form_text f) ≤ 4000
+form_length : (f : Form) → FormFits f → length (form_text f) ≤ 4000
 form_length (var_form x) h = omega (arith, h.1)
 form_length (array_form x n) h = omega (arith, indexed_length (codes "array " ++ x) (decimal n), h.0.1, number_length n h.1)
 form_length (let_form x e) h =

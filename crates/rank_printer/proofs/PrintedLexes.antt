@@ -51,7 +51,7 @@ reduce_reads o a b c xs ys zs q r s =
     (append_assoc xs (t.Comma ∷ ys) (t.Comma ∷ zs)) third
 
 -- a statement has its tokens
-pub form_reads : (f : Form) → FormFits f → Reads (form_text f) (form_tokens f)
+form_reads : (f : Form) → FormFits f → Reads (form_text f) (form_tokens f)
 form_reads (var_form x) h = closed_then (codes "var ") x (t.Keyword k.Var ∷ []) (t.Name x ∷ []) var_closed (name_reads x h)
 form_reads (array_form x n) h =
     indexed_reads (codes "array " ++ x) (decimal n) (t.Keyword k.Array ∷ t.Name x ∷ []) (t.Number n ∷ [])

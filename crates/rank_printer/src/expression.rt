@@ -29,7 +29,7 @@ fn operator_between(operator: Operator) -> &'static [u8]
 }
 
 /// The word for what a rank can only read.
-fn reading_word(reading: Reading) -> &'static [u8]
+pub fn reading_word(reading: Reading) -> &'static [u8]
     ensures { result.now ≡ reading_text reading }
 {
     match reading {
@@ -41,12 +41,8 @@ fn reading_word(reading: Reading) -> &'static [u8]
     }
 }
 
-/// Writes a number with no leading zero.
-pub(crate) fn put_number(
-    alloc: Heap,
-    text: &mut Vec<u8, Heap>,
-    number: u64,
-) -> Result<(), AllocError>
+/// Writes a number with no leading zero. An `Err` means out of memory.
+pub fn put_number(alloc: Heap, text: &mut Vec<u8, Heap>, number: u64) -> Result<(), AllocError>
     ensures { OnOk result (text.new.items ≡ text.old.items ++ decimal number) }
 {
     let digits = format!(in alloc; "{number}")?;

@@ -95,7 +95,7 @@ step_clock v want.Halted m = omega arith
 step_clock v (want.Faulted k) m = omega arith
 
 -- the same, by what the rank answers
-pub run_clock : (old new : Node MemoryShelf DeskValue) (t : Turn) → t ≡ turn_of old → new ≡ after_step old new.machine
+run_clock : (old new : Node MemoryShelf DeskValue) (t : Turn) → t ≡ turn_of old → new ≡ after_step old new.machine
     → new.clock ≡ old.clock + acts_made (Some (machine_want old.machine)) t
 run_clock old new t does after = ap (λ v. v.clock) after ∙ step_clock old (machine_want old.machine) new.machine
     ∙ ap (λ u. old.clock + acts_made (Some (machine_want old.machine)) u) (sym does)
@@ -175,7 +175,7 @@ again_answers v (e ∷ rest) (Ok t) some ok refused memory = sym (ok e rest refl
 again_answers v (e ∷ rest) (Err f) some ok refused memory = sym (refused (λ same. memory (ap Err same)) e rest refl)
 
 -- its clock grows by what it answers
-pub again_clocks : (old new : Replay MemoryShelf DeskValue) (left : List EventValue) (t : Turn) → left ≢ []
+again_clocks : (old new : Replay MemoryShelf DeskValue) (left : List EventValue) (t : Turn) → left ≢ []
     → ((e : EventValue) (rest : List EventValue) → left ≡ e ∷ rest → replay_turn_of old.node e ≡ Ok t)
     → ((e : EventValue) (rest : List EventValue) → left ≡ e ∷ rest →
     new ≡ record { node = after_replay old.node e new.node.machine; left = left_after old.node (machine_want old.node.machine) t e rest })

@@ -2,7 +2,8 @@
 -- again), retransmissions, checkpoints, the payload log and its garbage collection.
 -- Source: the measures of rollback recovery in Elnozahy, Alvisi, Wang and Johnson 2002, "A Survey
 -- of Rollback-Recovery Protocols in Message-Passing Systems".
-use Rattle.std.specs.Prelude.{ℕ, ◌+◌, ◌-◌, ◌*◌, ◌^◌, min, nat_lt, if◌then◌else◌, Option, Some, None, List, [], ◌∷◌, length, replicate, slice_index_or, slice_set}
+use Rattle.std.specs.Prelude.{ℕ, ◌+◌, ◌-◌, ◌*◌, ◌^◌, min, nat_lt, if◌then◌else◌, Option}
+use Rattle.std.specs.Prelude.{Some, None, List, [], ◌∷◌, length, replicate, slice_index_or, slice_set}
 use Rattle.limits.specs.Limits.{most_ranks}
 use Rattle.matching.specs.PacketValue.{PacketValue}
 use Rattle.payload_log.specs.Backlog.{BacklogValue}

@@ -5,7 +5,8 @@ use Rattle.std.specs.Prelude.{slice_index_or, slice_set}
 use Rattle.std.specs.Prelude.{get_or}
 use Rattle.std.proofs.lemmas.Option.{slice_get_within, slice_get-get_or}
 use Rattle.std.proofs.lemmas.Bool.{cases_eq, ltb-true, ltb-false}
-use Rattle.std.proofs.lemmas.List.{get_or_past, get_or-replicate, get_or-set_same, get_or-set_other, length-set, length_push, map-append, take-append-le, take_all, take_more}
+use Rattle.std.proofs.lemmas.List.{get_or_past, get_or-replicate, get_or-set_same, get_or-set_other, length-set}
+use Rattle.std.proofs.lemmas.List.{length_push, map-append, take-append-le, take_all, take_more}
 use Rattle.limits.specs.Limits.{most_ranks}
 use Rattle.crash_free.specs.Runs.{Passed}
 use Rattle.crash_free.proofs.Lists.{one_more, as_many_before}
@@ -13,11 +14,12 @@ use Rattle.run_picture.specs.declared.layout.times.Moment.{Moment}
 use Rattle.run_picture.specs.declared.layout.times.Reached.{Reached}
 use Rattle.run_picture.specs.declared.layout.times.Times.{Times}
 use Rattle.run_picture.specs.Marks.{made_of, told_of}
-use Rattle.send_index.specs.Posts.{ArePosted, found_by, noted_by, run_before}
+use Rattle.send_index.specs.Sends.{run_before}
+use Rattle.send_index.specs.Tables.{HasSends, found_by, noted_by}
 use Rattle.run_picture.specs.Noted.{IsNext, IsNoted, next_moment, reached_at, reached_in}
 use Rattle.run_picture.specs.Times.{AreTimedUpTo, IsMomentOf, latest, latest_of, last_of, time_at, time_in}
 use Rattle.run_picture.proofs.ListLemmas.{of_push, same_element}
-use Rattle.send_index.proofs.PostLemmas.{found_is, none_posted, notes_act}
+use Rattle.send_index.proofs.SendLemmas.{found_is, no_sends, notes_act}
 use Rattle.run_picture.proofs.TimeLemmas.{last_more, latest_other, latest_own}
 
 -- how far a rank has come that has made no act
@@ -32,15 +34,15 @@ none_reached (suc n) (suc r) = none_reached n r
 
 -- nothing is noted of no acts
 pub none_noted : (ranks : ℕ) (acts : List Passed) (t : Times) → t.moments.items ≡ [] → t.reached.items ≡ replicate ranks nowhere
-    → t.last ≡ 0 → t.posted ≡ replicate (most_ranks * most_ranks) [] → IsNoted ranks acts 0 t
-none_noted ranks acts t moments reached last posted =
+    → t.last ≡ 0 → t.sends ≡ replicate (most_ranks * most_ranks) [] → IsNoted ranks acts 0 t
+none_noted ranks acts t moments reached last sends =
     let at : (r : ℕ) → (reached_in t.reached.items r).time ≡ 0 =
     λ r. ap (λ z. (reached_in z r).time) reached ∙ ap (λ (z : Reached). z.time) (none_reached ranks r) in record {
       timed = record {
         as_many = ap length moments;
         each = λ i p m here there. (let none : slice_get [] i ≡ Some m = rw moments at there in absurd cc);
       };
-      posted = subst (λ z. ArePosted [] z) (sym posted) none_posted;
+      sends = subst (λ z. HasSends [] z) (sym sends) no_sends;
       as_many = ap length reached ∙ length-replicate ranks;
       reached = λ r low. at r ∙ sym (ap (latest r) moments);
       low = λ r. omega (arith, at r);
@@ -87,13 +89,13 @@ module _ (ranks : ℕ) (acts : List Passed) (i : ℕ) (p : Passed) (t t' : Times
   own = (reached_in t.reached.items p.rank).time
 
   abbrev other : ℕ
-  other = time_at ms (found_by t.posted p.rank p.act)
+  other = time_at ms (found_by t.sends p.rank p.act)
 
   own_low : own ≤ i
   own_low = kept.low p.rank
 
   other_low : other ≤ i
-  other_low = time_low ms (found_by t.posted p.rank p.act) i kept.small
+  other_low = time_low ms (found_by t.sends p.rank p.act) i kept.small
 
   -- its time is one more than what it follows
   time_is : m.time ≡ 1 + max own other
@@ -118,7 +120,7 @@ module _ (ranks : ℕ) (acts : List Passed) (i : ℕ) (p : Passed) (t t' : Times
     rank = refl;
     sign = refl;
     act = kept.timed.as_many ∙ index_is;
-    sender = found_is (run_before acts i) t.posted p kept.posted;
+    send = found_is (run_before acts i) t.sends p kept.sends;
     time = time_is ∙ ap (λ z. 1 + max z other) own_is;
   }
 
@@ -148,11 +150,11 @@ module _ (ranks : ℕ) (acts : List Passed) (i : ℕ) (p : Passed) (t t' : Times
     each = each_timed;
   })
 
-  posted_more : ArePosted (run_before acts (i + 1)) t'.posted
-  posted_more =
-      subst (λ z. ArePosted z t'.posted) (sym (one_more acts i p there))
-      (subst (λ z. ArePosted (p ∷ run_before acts i) z) (sym next.posted)
-      (notes_act (run_before acts i) t.posted p (length ms) (kept.timed.as_many ∙ index_is) kept.posted))
+  sends_more : HasSends (run_before acts (i + 1)) t'.sends
+  sends_more =
+      subst (λ z. HasSends z t'.sends) (sym (one_more acts i p there))
+      (subst (λ z. HasSends (p ∷ run_before acts i) z) (sym next.sends)
+      (notes_act (run_before acts i) t.sends p (length ms) (kept.timed.as_many ∙ index_is) kept.sends))
 
   -- its rank has come to it
   reached_own : (r : ℕ) → p.rank ≡ r → r < ranks → (reached_in t'.reached.items r).time ≡ m.time
@@ -211,7 +213,7 @@ module _ (ranks : ℕ) (acts : List Passed) (i : ℕ) (p : Passed) (t t' : Times
   pub one_more_noted : IsNoted ranks acts (i + 1) t'
   one_more_noted = record {
     timed = timed_more;
-    posted = posted_more;
+    sends = sends_more;
     as_many = as_long;
     reached = λ r low. latest_more r low (cases_eq p.rank r) ∙ sym (ap (latest r) next.moments);
     low = λ r. low_more r (cases_eq p.rank r);

@@ -7,10 +7,10 @@ use Rattle.std.proofs.lemmas.Option.{slice_get_within}
 use Rattle.crash_free.specs.Runs.{Passed}
 use Rattle.crash_free.proofs.Lists.{as_many_before}
 use Rattle.run_picture.specs.declared.layout.times.Moment.{Moment}
-use Rattle.send_index.specs.Posts.{run_before, sender_of}
+use Rattle.send_index.specs.Sends.{matching_send, run_before}
 use Rattle.run_picture.specs.Times.{AreTimed, AreClocks, HappenedBefore, by_rank, by_message, by_both, IsMomentOf, last_of, latest, latest_of, time_at, time_in}
 use Rattle.run_picture.proofs.ListLemmas.{in_take, same_element}
-use Rattle.send_index.proofs.PostLemmas.{sender_low}
+use Rattle.send_index.proofs.SendLemmas.{match_low}
 use Rattle.audit.proofs.Reaching.{there_is}
 
 -- the greatest time of a rank with one more moment of its own
@@ -57,7 +57,7 @@ was_made : {ranks : ℕ} {acts : List Passed} {i j : ℕ} → HappenedBefore ran
 was_made {acts = acts} (by_rank {i = i} p q low here there same few) = slice_get_within acts i p here
 was_made {acts = acts} (by_message {i = i} {j = j} q there sent) =
     let within = slice_get_within acts j q there in
-    let low = sender_low (run_before acts j) q i sent in
+    let low = match_low (run_before acts j) q i sent in
     let as_many = as_many_before acts j (omega (arith, within)) in
     omega (arith, within, low, as_many)
 was_made (by_both first second) = was_made first
@@ -77,16 +77,16 @@ rank_condition ranks acts moments timed i j p q m n low here there same few at_i
 
 -- an act is later than the send of its message
 message_condition : (ranks : ℕ) (acts : List Passed) (moments : List Moment) → AreTimed ranks acts moments → (i j : ℕ) (q : Passed) (m n : Moment)
-    → slice_get acts j ≡ Some q → sender_of (run_before acts j) q ≡ Some i
+    → slice_get acts j ≡ Some q → matching_send (run_before acts j) q ≡ Some i
     → slice_get moments i ≡ Some m → slice_get moments j ≡ Some n → m.time < n.time
 message_condition ranks acts moments timed i j q m n there sent at_i at_j =
     let other = timed.each j q n there at_j in
     let within = slice_get_within acts j q there in
-    let before = sender_low (run_before acts j) q i sent in
+    let before = match_low (run_before acts j) q i sent in
     let as_many = as_many_before acts j (omega (arith, within)) in
     let low : i < j = omega (arith, before, as_many) in
-    let known : time_at (take j moments) n.sender ≡ m.time =
-    ap (time_at (take j moments)) (other.sender ∙ sent) ∙ ap time_in (in_take moments j i low ∙ at_i) in
+    let known : time_at (take j moments) n.send ≡ m.time =
+    ap (time_at (take j moments)) (other.send ∙ sent) ∙ ap time_in (in_take moments j i low ∙ at_i) in
     let time = other.time in
     omega (arith, known, time)
 

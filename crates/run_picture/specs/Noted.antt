@@ -5,7 +5,8 @@ use Rattle.run_picture.specs.declared.layout.times.Moment.{Moment}
 use Rattle.run_picture.specs.declared.layout.times.Reached.{Reached}
 use Rattle.run_picture.specs.declared.layout.times.Times.{Times}
 use Rattle.run_picture.specs.Marks.{sign_of}
-use Rattle.send_index.specs.Posts.{ArePosted, found_by, noted_by, run_before}
+use Rattle.send_index.specs.Sends.{run_before}
+use Rattle.send_index.specs.Tables.{HasSends, found_by, noted_by}
 use Rattle.run_picture.specs.Times.{AreTimedUpTo, last_of, latest, time_at}
 
 -- one more, as far as a number of the machine goes
@@ -21,10 +22,10 @@ abbrev pub next_moment : Times → Passed → Moment
 next_moment t p = record {
   rank = p.rank;
   clock = next_number (reached_in t.reached.items p.rank).clock;
-  time = next_number (max (reached_in t.reached.items p.rank).time (time_at t.moments.items (found_by t.posted p.rank p.act)));
+  time = next_number (max (reached_in t.reached.items p.rank).time (time_at t.moments.items (found_by t.sends p.rank p.act)));
   sign = sign_of p.act;
   act = length t.moments.items;
-  sender = found_by t.posted p.rank p.act;
+  send = found_by t.sends p.rank p.act;
 }
 
 -- how far its rank has come with this moment
@@ -35,13 +36,13 @@ reached_at m = record { clock = m.clock; time = m.time }
 pub record IsNext (t : Times) (p : Passed) (t' : Times) : Type 0 where
   pub moments : t'.moments.items ≡ t.moments.items ++ next_moment t p ∷ []
   pub reached : t'.reached.items ≡ slice_set t.reached.items p.rank (reached_at (next_moment t p))
-  pub posted : t'.posted ≡ noted_by p.rank p.act (length t.moments.items) t.posted
+  pub sends : t'.sends ≡ noted_by p.rank p.act (length t.moments.items) t.sends
   pub last : t'.last ≡ max t.last (next_moment t p).time
 
 -- what is noted is of the first acts, of which there are so many
 pub record IsNoted (ranks : ℕ) (acts : List Passed) (count : ℕ) (t : Times) : Type 0 where
   pub timed : AreTimedUpTo ranks acts count t.moments.items
-  pub posted : ArePosted (run_before acts count) t.posted
+  pub sends : HasSends (run_before acts count) t.sends
   pub as_many : length t.reached.items ≡ ranks
   pub reached : (r : ℕ) → r < ranks → (reached_in t.reached.items r).time ≡ latest r t.moments.items
   pub low : (r : ℕ) → (reached_in t.reached.items r).time ≤ count

@@ -6,7 +6,7 @@ use Rattle.std.specs.Prelude.{◌≡◌, ℕ, ◌+◌, ◌<◌, ◌==◌, max, n
 use Rattle.crash_free.specs.Runs.{Passed}
 use Rattle.run_picture.specs.declared.layout.times.Moment.{Moment}
 use Rattle.run_picture.specs.Marks.{sign_of}
-use Rattle.send_index.specs.Posts.{run_before, sender_of}
+use Rattle.send_index.specs.Sends.{matching_send, run_before}
 
 -- the greatest time of a rank; 0 if it has made no act
 abbrev pub latest : ℕ → List Moment → ℕ
@@ -33,8 +33,8 @@ pub record IsMomentOf (ranks : ℕ) (run : List Passed) (moments : List Moment) 
   pub rank : moment.rank ≡ p.rank
   pub sign : moment.sign ≡ sign_of p.act
   pub act : moment.act ≡ length run
-  pub sender : moment.sender ≡ sender_of run p
-  pub time : moment.time ≡ 1 + max (latest_of ranks p.rank moments) (time_at moments moment.sender)
+  pub send : moment.send ≡ matching_send run p
+  pub time : moment.time ≡ 1 + max (latest_of ranks p.rank moments) (time_at moments moment.send)
 
 -- each of the first acts, of which there are so many, has its moment
 pub record AreTimedUpTo (ranks : ℕ) (acts : List Passed) (count : ℕ) (moments : List Moment) : Type 0 where
@@ -52,7 +52,7 @@ AreTimed ranks acts moments = AreTimedUpTo ranks acts (length acts) moments
 pub data HappenedBefore (ranks : ℕ) (acts : List Passed) : ℕ → ℕ → Type 0 where
   by_rank : {i j : ℕ} (p q : Passed) → i < j → slice_get acts i ≡ Some p → slice_get acts j ≡ Some q → p.rank ≡ q.rank → q.rank < ranks
       → HappenedBefore ranks acts i j
-  by_message : {i j : ℕ} (q : Passed) → slice_get acts j ≡ Some q → sender_of (run_before acts j) q ≡ Some i → HappenedBefore ranks acts i j
+  by_message : {i j : ℕ} (q : Passed) → slice_get acts j ≡ Some q → matching_send (run_before acts j) q ≡ Some i → HappenedBefore ranks acts i j
   by_both : {i j k : ℕ} → HappenedBefore ranks acts i j → HappenedBefore ranks acts j k → HappenedBefore ranks acts i k
 
 -- the clock condition (Lamport 1978, page 560): if one act happened before another, its time is

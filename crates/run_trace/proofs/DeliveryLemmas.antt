@@ -9,7 +9,7 @@ use Rattle.std.proofs.lemmas.Option.{slice_get_within}
 use Rattle.rank_machine.specs.Acts.{Act, sends, takes, hits, misses, prints}
 use Rattle.crash_free.specs.Runs.{Passed, history}
 use Rattle.run_trace.specs.Places.{greatest_told}
-use Rattle.send_index.specs.Posts.{run_before}
+use Rattle.send_index.specs.Sends.{run_before}
 use Rattle.run_trace.specs.Deliveries.{AreClocked, AreDelivered, AreFoundUpTo, as_told, delivered, made_by, sends_found, sent_as, sent_at, sent_by}
 use Rattle.run_trace.specs.declared.deliveries.Delivery.{Delivery}
 use Rattle.run_trace.specs.declared.place.Place.{Place}
@@ -73,7 +73,7 @@ none_past (x ∷ xs) zero none = absurd cc
 none_past (x ∷ xs) (suc k) none = omega (arith, none_past xs k none)
 
 -- the message of an act at its place is the one that it sent, as it is told
-pub made_as_told : (acts : List Passed) (places : List Place) (k : ℕ) → AreClocked acts places
+made_as_told : (acts : List Passed) (places : List Place) (k : ℕ) → AreClocked acts places
     → made_by (slice_get acts k) (slice_get places k) ≡ as_told (sent_at acts (Some k))
 made_as_told acts places k clocked = go (slice_get acts k) (slice_get places k) refl refl
   where
@@ -86,12 +86,12 @@ made_as_told acts places k clocked = go (slice_get acts k) (slice_get places k) 
         absurd (omega (arith, slice_get_within acts k p here, none_past places k there, clocked.as_many))
 
 -- the send that was found, where one was looked for
-abbrev pub send_of : Option Delivery → Option ℕ
-send_of (Some d) = d.send
-send_of None = None
+abbrev pub matching_send : Option Delivery → Option ℕ
+matching_send (Some d) = d.send
+matching_send None = None
 
 -- it stands among the sends
-send_is : (found : List Delivery) (i : ℕ) → slice_index_or (sends_found found) i None ≡ send_of (slice_get found i)
+send_is : (found : List Delivery) (i : ℕ) → slice_index_or (sends_found found) i None ≡ matching_send (slice_get found i)
 send_is [] i = refl
 send_is (d ∷ found) zero = refl
 send_is (d ∷ found) (suc i) = send_is found i
@@ -99,12 +99,12 @@ send_is (d ∷ found) (suc i) = send_is found i
 -- so an act is told with what it takes or hits
 module _ (acts : List Passed) (places : List Place) (found : List Delivery) (index : ℕ) (p : Passed) (clocked : AreClocked acts places)
     (are : AreDelivered acts found) (there : slice_get acts index ≡ Some p) where
-  looked : sent_at acts (send_of (slice_get found index)) ≡ delivered (run_before acts index) p
+  looked : sent_at acts (matching_send (slice_get found index)) ≡ delivered (run_before acts index) p
   looked = ap (sent_at acts) (sym (send_is found index)) ∙ are.each index p (slice_get_within acts index p there) there
 
-  pub told_none : send_of (slice_get found index) ≡ None → None ≡ as_told (delivered (run_before acts index) p)
+  pub told_none : matching_send (slice_get found index) ≡ None → None ≡ as_told (delivered (run_before acts index) p)
   told_none none = ap as_told (ap (sent_at acts) (sym none) ∙ looked)
 
-  pub told_some : (k : ℕ) → send_of (slice_get found index) ≡ Some k
+  pub told_some : (k : ℕ) → matching_send (slice_get found index) ≡ Some k
       → made_by (slice_get acts k) (slice_get places k) ≡ as_told (delivered (run_before acts index) p)
   told_some k some = made_as_told acts places k clocked ∙ ap as_told (ap (sent_at acts) (sym some) ∙ looked)

@@ -8,7 +8,7 @@ use Rattle.rank_language.specs.StandOn.{IsLinedOf}
 use Rattle.rank_machine.specs.Acts.{Message}
 use Rattle.crash_free.specs.Runs.{Passed}
 use Rattle.crash_free.proofs.Lists.{one_more}
-use Rattle.send_index.specs.Posts.{run_before}
+use Rattle.send_index.specs.Sends.{run_before}
 use Rattle.run_trace.specs.Deliveries.{as_told, delivered}
 use Rattle.run_trace.specs.Columns.{head_text}
 use Rattle.run_trace.specs.Lines.{BeginsWithActs, acts_text, clock_width, line_text, lines_text, order_text}

@@ -14,7 +14,7 @@ use Rattle.crash_free.specs.Sim.{SimValue, choice_of, Meaning, ended, other, own
 use Rattle.crash_free.specs.Inside.{GoesInside}
 use Rattle.crash_free.specs.Wanted.{Wants, WantsAt}
 use Rattle.crash_free.proofs.Refusing.{ranks_same}
-use Rattle.send_index.specs.Posts.{run_before}
+use Rattle.send_index.specs.Sends.{run_before}
 use Rattle.run_trace.specs.Deliveries.{AreClocked, AreOfRanks}
 use Rattle.run_trace.specs.Places.{AreFound, StandsAt, IsMadeAt, ArePlaces, clock_of, is_try}
 use Rattle.run_trace.specs.declared.place.Place.{Place}

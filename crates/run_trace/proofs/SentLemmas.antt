@@ -12,8 +12,8 @@ use Rattle.crash_free.specs.Runs.{Passed, add_if, history, sent, send_at, at_pla
 use Rattle.crash_free.specs.Sim.{inbound_of}
 use Rattle.crash_free.proofs.Lists.{as_many_before, sent-own, sent-other, history-own, one_more}
 use Rattle.audit.proofs.Reaching.{there_is}
-use Rattle.send_index.specs.Posts.{post_at, post_for, posts_of, run_before, sender_of, sends_to}
-use Rattle.send_index.proofs.PostLemmas.{none_added}
+use Rattle.send_index.specs.Sends.{matched_by, matching_send, nth_send, run_before, send_indices, sends_to}
+use Rattle.send_index.proofs.SendLemmas.{none_added}
 use Rattle.run_trace.specs.Deliveries.{AreOfRanks, delivered, sent_as, sent_at, sent_by}
 
 -- indices of these messages have the same message at each place
@@ -40,13 +40,13 @@ nothing_in (suc k) = refl
 
 -- the indices of a pair's sends are those of its messages
 abbrev AreSent : List Passed → List Passed → ℕ → ℕ → Type 0
-AreSent acts run source dest = map (λ i. sent_at acts (Some i)) (posts_of run source dest) ≡ map Some (sent run source dest)
+AreSent acts run source dest = map (λ i. sent_at acts (Some i)) (send_indices run source dest) ≡ map Some (sent run source dest)
 
 -- another rank's act sends nothing of this one's
 sent_otherwise : (acts run : List Passed) (p : Passed) (source dest : ℕ) → (source ≡ p.rank → ⊥) → AreSent acts run source dest
     → AreSent acts (p ∷ run) source dest
 sent_otherwise acts run p source dest ne before =
-    ap (λ t. map (λ i. sent_at acts (Some i)) (add_if (t && sends_to dest p.act) (posts_of run source dest) (length run)))
+    ap (λ t. map (λ i. sent_at acts (Some i)) (add_if (t && sends_to dest p.act) (send_indices run source dest) (length run)))
     (ne_eqb p.rank source (λ e. ne (sym e)))
     ∙ before
     ∙ ap (map Some) (sym (sent-other run p source dest (λ e. ne (sym e))))
@@ -55,8 +55,8 @@ sent_otherwise acts run p source dest ne before =
 sent_nothing : (acts run : List Passed) (p : Passed) (dest : ℕ) → sends_to dest p.act ≡ false
     → ((count : ℕ) → send_at count dest p.act [] ≡ []) → AreSent acts run p.rank dest → AreSent acts (p ∷ run) p.rank dest
 sent_nothing acts run p dest quiet none before =
-    ap (λ t. map (λ i. sent_at acts (Some i)) (add_if (p.rank == p.rank && t) (posts_of run p.rank dest) (length run))) quiet
-    ∙ ap (map (λ i. sent_at acts (Some i))) (none_added (p.rank == p.rank) (posts_of run p.rank dest) (length run))
+    ap (λ t. map (λ i. sent_at acts (Some i)) (add_if (p.rank == p.rank && t) (send_indices run p.rank dest) (length run))) quiet
+    ∙ ap (map (λ i. sent_at acts (Some i))) (none_added (p.rank == p.rank) (send_indices run p.rank dest) (length run))
     ∙ before
     ∙ ap (map Some)
     (sym (sent-own run p.rank dest p.act
@@ -88,11 +88,11 @@ module _ (acts : List Passed) (p : Passed) (index dest tag : ℕ) (context : Con
       ∙ ap (λ c. Some (record { clock = c; context = context; tag = tag; items = items })) counted
 
   -- its pair has one more index
-  posts_grow : posts_of (p ∷ run) p.rank dest ≡ posts_of run p.rank dest ++ index ∷ []
-  posts_grow =
-      ap (λ a. add_if (p.rank == p.rank && sends_to dest a) (posts_of run p.rank dest) (length run)) is_send
+  sends_grow : send_indices (p ∷ run) p.rank dest ≡ send_indices run p.rank dest ++ index ∷ []
+  sends_grow =
+      ap (λ a. add_if (p.rank == p.rank && sends_to dest a) (send_indices run p.rank dest) (length run)) is_send
       ∙ rw (eq-eqb p.rank p.rank refl, eq-eqb dest dest refl) refl
-      ∙ ap (λ n. posts_of run p.rank dest ++ n ∷ []) (as_many_before acts index (let low = slice_get_within acts index p there in omega (arith, low)))
+      ∙ ap (λ n. send_indices run p.rank dest ++ n ∷ []) (as_many_before acts index (let low = slice_get_within acts index p there in omega (arith, low)))
 
   -- and one more message
   sent_grows : sent (p ∷ run) p.rank dest ≡ sent run p.rank dest ++ message ∷ []
@@ -103,8 +103,8 @@ module _ (acts : List Passed) (p : Passed) (index dest tag : ℕ) (context : Con
 
   sent_own : AreSent acts run p.rank dest → AreSent acts (p ∷ run) p.rank dest
   sent_own before =
-      ap (map (λ i. sent_at acts (Some i))) posts_grow
-      ∙ map-append (λ i. sent_at acts (Some i)) (posts_of run p.rank dest) (index ∷ [])
+      ap (map (λ i. sent_at acts (Some i))) sends_grow
+      ∙ map-append (λ i. sent_at acts (Some i)) (send_indices run p.rank dest) (index ∷ [])
       ∙ ap (λ z. z ++ sent_at acts (Some index) ∷ []) before
       ∙ ap (λ z. map Some (sent run p.rank dest) ++ z ∷ []) message_is
       ∙ sym (map-append Some (sent run p.rank dest) (message ∷ []))
@@ -162,9 +162,9 @@ none_sent acts few (suc k) low source dest far =
     (sent-other (run_before acts k) p.0 source dest (λ e. omega (arith, e, far, below)) ∙ none_sent acts few k (omega (arith, low)) source dest far)
 
 -- the act that sent the message of another one has the message that this one takes or hits
-pub sender_is_sent : (acts : List Passed) (index : ℕ) (p : Passed) → AreOfRanks most_ranks acts → index ≤ length acts
-    → p.rank < most_ranks → sent_at acts (sender_of (run_before acts index) p) ≡ delivered (run_before acts index) p
-sender_is_sent acts index p few low below = go p.act
+pub match_is_sent : (acts : List Passed) (index : ℕ) (p : Passed) → AreOfRanks most_ranks acts → index ≤ length acts
+    → p.rank < most_ranks → sent_at acts (matching_send (run_before acts index) p) ≡ delivered (run_before acts index) p
+match_is_sent acts index p few low below = go p.act
   where
     -- no rank that there can't be is a source
     far_source : (s : ℕ) → (nat_lt s most_ranks && nat_lt p.rank most_ranks) ≡ false → most_ranks ≤ s
@@ -174,17 +174,17 @@ sender_is_sent acts index p few low below = go p.act
         far (inl e) = ltb-false s most_ranks e
         far (inr e) = absurd (let past = ltb-false p.rank most_ranks e in omega (arith, past, below))
 
-    at : (source place : ℕ) → sent_at acts (post_at (run_before acts index) source p.rank place) ≡ at_place (sent (run_before acts index) source p.rank) place
+    at : (source place : ℕ) → sent_at acts (nth_send (run_before acts index) source p.rank place) ≡ at_place (sent (run_before acts index) source p.rank) place
     at source place = by_test (nat_lt source most_ranks && nat_lt p.rank most_ranks) refl
       where
         by_test : (t : Bool) → (nat_lt source most_ranks && nat_lt p.rank most_ranks) ≡ t
-            → sent_at acts (post_at (run_before acts index) source p.rank place) ≡ at_place (sent (run_before acts index) source p.rank) place
+            → sent_at acts (nth_send (run_before acts index) source p.rank place) ≡ at_place (sent (run_before acts index) source p.rank) place
         by_test true is =
-            rw is (placed_in acts (posts_of (run_before acts index) source p.rank) (sent (run_before acts index) source p.rank) place
+            rw is (placed_in acts (send_indices (run_before acts index) source p.rank) (sent (run_before acts index) source p.rank) place
             (are_sent acts index low source p.rank))
         by_test false is = rw (is, none_sent acts few index low source p.rank (far_source source is)) (nothing_in place)
 
-    go : (act : Act) → sent_at acts (post_for (run_before acts index) p.rank act) ≡ looked_up (inbound_of (run_before acts index) p.rank) act
+    go : (act : Act) → sent_at acts (matched_by (run_before acts index) p.rank act) ≡ looked_up (inbound_of (run_before acts index) p.rank) act
     go (sends dest context tag items) = refl
     go (takes source place) = at source place
     go (hits source place) = at source place

@@ -5,7 +5,7 @@ use Rattle.std.specs.Prelude.{◌≡◌, ℕ, ◌+◌, ◌<◌, min, List, lengt
 use Rattle.rank_machine.specs.Acts.{Message, Act, sends, takes, hits, misses, prints}
 use Rattle.crash_free.specs.Runs.{Passed, history, looked_up}
 use Rattle.crash_free.specs.Sim.{inbound_of}
-use Rattle.send_index.specs.Posts.{run_before}
+use Rattle.send_index.specs.Sends.{run_before}
 use Rattle.run_trace.specs.Places.{clock_of, greatest_told}
 use Rattle.run_trace.specs.declared.deliveries.Delivery.{Delivery}
 use Rattle.run_trace.specs.declared.place.Place.{Place}

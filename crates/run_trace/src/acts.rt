@@ -2,7 +2,7 @@
 ghost use Rattle.std.specs.Prelude.{◌≡◌, ◌++◌, OnOk, Some, codes, slice_get, string_bytes};
 ghost use Rattle.std.specs.Fmt.{decimal};
 ghost use Rattle.crash_free.specs.Runs.{Passed};
-ghost use Rattle.send_index.specs.Posts.{run_before};
+ghost use Rattle.send_index.specs.Sends.{run_before};
 ghost use Rattle.run_trace.specs.Deliveries.{AreClocked, AreDelivered, as_told, delivered, made_by, sent_by};
 ghost use Rattle.run_trace.specs.Lines.{acts_text, clock_width, columns_text, greatest_of, line_text};
 ghost use Rattle.run_trace.specs.Seen.{maybe_seen, message_seen};

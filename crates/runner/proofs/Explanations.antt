@@ -47,7 +47,7 @@ pub has_faulty_events : (holds : List ℕ → Type 0) (text : List ℕ) (line : 
 has_faulty_events holds text line kind held first = record { text = text; held = held; line = line; kind = kind; first = first }
 
 -- what the files hold of a script after something was read they held before
-pub script_before : (holds held : List ℕ → List ℕ → Type 0) (ranks : ℕ) (name : Option (Bor (List ℕ))) (faulty : Bool)
+script_before : (holds held : List ℕ → List ℕ → Type 0) (ranks : ℕ) (name : Option (Bor (List ℕ))) (faulty : Bool)
     → ((file text : List ℕ) → holds file text → held file text) → HoldsScript holds ranks name faulty → HoldsScript held ranks name faulty
 script_before holds held ranks None faulty kept is = is
 script_before holds held ranks (Some name) true kept is =
@@ -56,7 +56,7 @@ script_before holds held ranks (Some name) false kept is =
     (is.0, record { text = is.1.text; held = kept name.now is.1.text is.1.held; faultless = is.1.faultless; lines = is.1.lines })
 
 -- so it is of events
-pub events_before : (holds held : List ℕ → List ℕ → Type 0) (name : Option (Bor (List ℕ))) (faulty : Bool)
+events_before : (holds held : List ℕ → List ℕ → Type 0) (name : Option (Bor (List ℕ))) (faulty : Bool)
     → ((file text : List ℕ) → holds file text → held file text) → HoldsEvents holds name faulty → HoldsEvents held name faulty
 events_before holds held None faulty kept is = is
 events_before holds held (Some name) true kept is =

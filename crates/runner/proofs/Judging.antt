@@ -13,7 +13,7 @@ use Rattle.runner.specs.Traces.{TracesReport}
 use Rattle.rank_language.specs.StandOn.{IsLinedOf}
 
 -- 0 for a yes
-pub has_yes : (program : ProgramValue) (n : ℕ) (outcome : OutcomeValue) (steps status : ℕ) → status ≡ 0 → IsRight program n outcome steps Yes
+has_yes : (program : ProgramValue) (n : ℕ) (outcome : OutcomeValue) (steps status : ℕ) → status ≡ 0 → IsRight program n outcome steps Yes
     → HasVerdict program n outcome steps status
 has_yes program n outcome steps status is right = record {
   yes = λ zero. right.0;
@@ -22,7 +22,7 @@ has_yes program n outcome steps status is right = record {
 }
 
 -- 1 for a no
-pub has_no : (program : ProgramValue) (n : ℕ) (outcome : OutcomeValue) (steps status : ℕ) (why : FinalFault) → status ≡ 1
+has_no : (program : ProgramValue) (n : ℕ) (outcome : OutcomeValue) (steps status : ℕ) (why : FinalFault) → status ≡ 1
     → IsRight program n outcome steps (No why) → HasVerdict program n outcome steps status
 has_no program n outcome steps status why is right = record {
   yes = λ zero. absurd (omega (arith, is, zero));

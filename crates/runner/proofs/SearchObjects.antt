@@ -28,7 +28,7 @@ no_float-put_at Equal a b c x y z = y
 no_float-put_at Greater a b c x y z = z
 
 -- members to which one without a float is put have none either
-pub no_float-put : (k : List ℕ) (d : Data) (members : Members) → has_float d ≡ false → members_have_float members ≡ false
+no_float-put : (k : List ℕ) (d : Data) (members : Members) → has_float d ≡ false → members_have_float members ≡ false
     → members_have_float (put k d members) ≡ false
 no_float-put k d json.no_members clean rest = or_from (has_float d) false clean refl
 no_float-put k d (json.member l e members) clean rest =
@@ -44,7 +44,7 @@ HaveNoFloat [] = Unit {0}
 HaveNoFloat (first ∷ others) = (has_float first.1 ≡ false) × HaveNoFloat others
 
 -- put one after another they leave none
-pub no_float-with_members : (more : List (List ℕ × Data)) (held : Members) → HaveNoFloat more → members_have_float held ≡ false
+no_float-with_members : (more : List (List ℕ × Data)) (held : Members) → HaveNoFloat more → members_have_float held ≡ false
     → members_have_float (with_members more held) ≡ false
 no_float-with_members [] held clean rest = rest
 no_float-with_members (first ∷ others) held clean rest =
@@ -89,7 +89,7 @@ no_float-ranks rank (first ∷ others) =
     or_from (has_float (rank_object rank first)) (items_have_float (items_of (rank_objects (rank + 1) others))) (no_float-rank rank first) (no_float-ranks (rank + 1) others)
 
 -- at which rank and line a choice was made
-pub no_float-place : (rank : ℕ) (line : Option ℕ) → HaveNoFloat (place_members rank line)
+no_float-place : (rank : ℕ) (line : Option ℕ) → HaveNoFloat (place_members rank line)
 no_float-place rank (Some line) = (refl, (refl, tt))
 no_float-place rank None = (refl, tt)
 
@@ -136,7 +136,7 @@ no_float-outcomes lines marks index (outcome ∷ outcomes) (own ∷ choices) =
     or_from _ _ (no_float-outcome lines (index + 1) outcome own (mark_at marks index)) (no_float-outcomes lines marks (index + 1) outcomes choices)
 
 -- nor is there one in all that was found, if there is none in the races
-pub no_float-search : (found : ExploredValue) (marks : List (Option Bool)) (lines : List ℕ) (races : Items) → items_have_float races ≡ false
+no_float-search : (found : ExploredValue) (marks : List (Option Bool)) (lines : List ℕ) (races : Items) → items_have_float races ≡ false
     → has_float (search_object found marks lines races) ≡ false
 no_float-search found marks lines races clean =
     no_float-object_of

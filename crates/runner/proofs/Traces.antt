@@ -7,7 +7,7 @@ use Rattle.audit.specs.Found.{IsFound}
 use Rattle.audit.specs.Outcome.{OutcomeValue}
 use Rattle.command_line.specs.declared.tracing.TraceForm.TheVariants as form
 use Rattle.command_line.specs.declared.tracing.TraceJob.{TraceJob}
-use Rattle.core_runner.specs.Reading.{IsScriptBy, IsScriptIn}
+use Rattle.core_runner.specs.Reading.{IsScriptBy}
 use Rattle.core_runner.specs.Reports.{IsReportUnder}
 use Rattle.core_runner.specs.Statuses.{HasStatus}
 use Rattle.crash_free.specs.Runs.{Passed}
@@ -17,7 +17,6 @@ use Rattle.run_trace.specs.Lines.{BeginsWithActs, acts_text}
 use Rattle.rank_threads.specs.declared.report.Report.{Report}
 use Rattle.runner.specs.Events.{PlaysReport, PlaysScriptOf}
 use Rattle.runner.specs.Traces.{IsTold, IsTraceAnswer, TracesReport}
-use Rattle.script_text.specs.Script.{first_fault, script_lines}
 use Rattle.script_text.specs.declared.line.ScriptLine.{ScriptLine}
 use Rattle.rank_language.specs.StandOn.{IsLinedOf}
 
@@ -38,12 +37,6 @@ pub traces_report : (source : List ℕ) (program : ProgramValue) (n : ℕ) (outc
     → IsFound program n outcome steps run → BeginsWithActs source program n (reverse run.run) text
     → TracesReport source program n outcome steps text
 traces_report source program n outcome steps run text found acts = record { run = run; found = found; acts = acts }
-
--- the lines of a script in a text that the file holds
-pub is_script_in : (holds : List ℕ → Type 0) (ranks : ℕ) (text : List ℕ) (script : List ScriptLine)
-    → holds text → first_fault ranks text ≡ None → script ≡ script_lines text → IsScriptIn holds ranks script
-is_script_in holds ranks text script held faultless lines =
-    record { text = text; held = held; faultless = faultless; lines = lines }
 
 -- a script that the files hold after something was read they held before
 pub script_held_before : (holds held : List ℕ → List ℕ → Type 0) (ranks : ℕ) (name : Option (Bor (List ℕ))) (script : List ScriptLine)

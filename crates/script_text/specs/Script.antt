@@ -1,7 +1,7 @@
 -- Which orders a script's text gives, and its first faulty line with that line's lowest fault (docs/FORMATS.md, "Scripts").
 use Rattle.std.specs.Prelude.{ℕ, ◌+◌, ◌==◌, List, [], ◌∷◌, Bool, true, false, not, ◌&&◌, nat_le, nat_lt, filter, Option, Some, None, if◌then◌else◌}
 use Rattle.std.specs.List.{filter_map}
-use Rattle.limits.specs.Limits.{greatest_clock, most_script_lines}
+use Rattle.limits.specs.Limits.{is_clock, most_script_lines}
 use Rattle.text_lines.specs.Pieces.{pieces_of, words_of}
 use Rattle.text_lines.specs.Skipped.{is_skipped}
 use Rattle.script_text.specs.declared.fault.ScriptFault.{ScriptFault}
@@ -13,10 +13,6 @@ use Rattle.script_text.specs.Form.{form_of}
 -- what a line of the text asks for; a skipped line asks for nothing
 abbrev pub order_by : List ℕ → Option ScriptLine
 order_by line = if is_skipped line then None else form_of (words_of line)
-
--- a rank can have this clock
-abbrev pub is_clock : ℕ → Bool
-is_clock c = nat_le 1 c && nat_le c greatest_clock
 
 -- what a line asks for isn't there, or its clock is none of a rank
 abbrev pub is_bad : Option ScriptLine → Bool

@@ -1,1 +1,1 @@
-pub mod PostLemmas
+pub mod SendLemmas

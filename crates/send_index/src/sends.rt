@@ -2,7 +2,8 @@
 ghost use Rattle.std.specs.Prelude.{◌≡◌, ◌*◌, List, [], ◌∷◌, IfOk, OnOk, length, replicate};
 ghost use Rattle.limits.specs.Limits.{most_ranks};
 ghost use Rattle.crash_free.specs.Runs as runs;
-ghost use Rattle.send_index.specs.Posts.{ArePosted, found_at, found_by, noted, noted_by, pair, sender_of};
+ghost use Rattle.send_index.specs.Sends.{matching_send};
+ghost use Rattle.send_index.specs.Tables.{HasSends, found_at, found_by, noted, noted_by, pair};
 
 use crate::indices::Indices;
 use crash_free::{Act, Passed};
@@ -30,10 +31,10 @@ impl Model for Sends {
 
 impl Sends {
     /// Of no acts. An `Err` means out of memory.
-    #[tactic(auto, using(crate::proofs::PostLemmas::none_posted))]
+    #[tactic(auto, using(crate::proofs::SendLemmas::no_sends))]
     pub fn new(alloc: Heap) -> Result<Sends, AllocError>
         ensures empty { IfOk result (λ sends. sends ≡ replicate (most_ranks * most_ranks) []) }
-        ensures kept { IfOk result (λ sends. ArePosted [] sends) }
+        ensures kept { IfOk result (λ sends. HasSends [] sends) }
     {
         let mut of_pairs = Vec::new(alloc);
         for _ in 0..MOST_RANKS * MOST_RANKS {
@@ -44,10 +45,10 @@ impl Sends {
 
     /// Notes the act of this index, from 0, if it is a send between ranks that
     /// there can be. An `Err` means out of memory.
-    #[tactic(auto, using(crate::proofs::PostLemmas::notes_act))]
+    #[tactic(auto, using(crate::proofs::SendLemmas::notes_act))]
     pub fn note(&mut self, passed: &Passed, index: usize) -> Result<(), AllocError>
         ensures noted { OnOk result (self.new ≡ noted_by passed.now.rank passed.now.act index self.old) }
-        ensures kept { OnOk result ((run : List runs.Passed) → index ≡ length run → ArePosted run self.old → ArePosted (passed.now ∷ run) self.new) }
+        ensures kept { OnOk result ((run : List runs.Passed) → index ≡ length run → HasSends run self.old → HasSends (passed.now ∷ run) self.new) }
     {
         match &passed.act {
             Act::Sends { dest, .. } => self.push(passed.rank, *dest, index),
@@ -57,10 +58,10 @@ impl Sends {
 
     /// The index of the act that sent the message which this one takes or finds,
     /// among those that are noted.
-    #[tactic(auto, using(crate::proofs::PostLemmas::found_is))]
+    #[tactic(auto, using(crate::proofs::SendLemmas::found_is))]
     pub fn send_for(&self, passed: &Passed) -> Option<usize>
         ensures found { result ≡ found_by self.now passed.now.rank passed.now.act }
-        ensures sent { (run : List runs.Passed) → ArePosted run self.now → result ≡ sender_of run passed.now }
+        ensures sent { (run : List runs.Passed) → HasSends run self.now → result ≡ matching_send run passed.now }
     {
         match &passed.act {
             Act::Takes { source, place } | Act::Hits { source, place } => {

@@ -33,14 +33,14 @@ push_images (first ∷ lines) line = omega (arith, push_images lines line)
 pub ruleset push_laws = (push_all, push_usable, push_kills, push_images)
 
 -- what is later than all lines of its rank can follow each of them
-pub later_follows : (lines : List ScriptLine) (line : ScriptLine) → reached_in line.rank lines < line.clock → All (CanFollow line) lines
+later_follows : (lines : List ScriptLine) (line : ScriptLine) → reached_in line.rank lines < line.clock → All (CanFollow line) lines
 later_follows [] line h = All-nil (CanFollow line)
 later_follows (first ∷ lines) line h = All-cons (CanFollow line) first lines
     (λ same either. grind (arith, nat_tests, h))
     (later_follows lines line (grind (arith, nat_tests, h)))
 
 -- a kill later than all images of its rank can follow each of the lines
-pub kill_follows : (lines : List ScriptLine) (line : ScriptLine) → line.order ≡ Kill → imaged_in line.rank lines < line.clock → All (CanFollow line) lines
+kill_follows : (lines : List ScriptLine) (line : ScriptLine) → line.order ≡ Kill → imaged_in line.rank lines < line.clock → All (CanFollow line) lines
 kill_follows [] line kill h = All-nil (CanFollow line)
 kill_follows (first ∷ lines) line kill h = All-cons (CanFollow line) first lines
     (λ same either. grind (arith, nat_tests, h, kill))

@@ -7,7 +7,7 @@ use Rattle.ports.specs.declared.line.Line.{Line}
 use Rattle.soak.specs.Seen.{seen_one, seen_on}
 
 -- from any rank on
-pub seen_same : (rank : ℕ) (lines : List Line) (ends : List End) → seen_on rank lines ends ≡ seen_from rank lines ends
+seen_same : (rank : ℕ) (lines : List Line) (ends : List End) → seen_on rank lines ends ≡ seen_from rank lines ends
 seen_same rank lines [] = refl
 seen_same rank lines (ended ∷ ends) =
     ap (λ seen. seen_one rank lines ended ∷ seen) (seen_same (rank + 1) lines ends ∙ ap (λ r. seen_from r lines ends) (add-one rank))

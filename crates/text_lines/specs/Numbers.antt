@@ -23,3 +23,12 @@ kept n = min n 4294967295
 abbrev pub kept_of : Option ℕ → Option ℕ
 kept_of None = None
 kept_of (Some n) = Some (kept n)
+
+-- a number as 64 bits keep it, likewise
+abbrev pub wide : ℕ → ℕ
+wide n = min n 18446744073709551615
+
+-- a number that may be absent, kept so
+abbrev pub wide_of : Option ℕ → Option ℕ
+wide_of None = None
+wide_of (Some n) = Some (wide n)

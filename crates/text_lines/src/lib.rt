@@ -6,6 +6,6 @@ mod number;
 mod pieces;
 mod skipped;
 
-pub use number::decimal;
+pub use number::{decimal, wide_decimal};
 pub use pieces::{next_line, next_word, without_front};
 pub use skipped::is_skipped;

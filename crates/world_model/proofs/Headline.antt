@@ -134,7 +134,7 @@ owed_plainly v =
     ∙ ap (λ n. length (expand (unstored v.rank)) + n) (effects_expanded (unpassed v.rank))
 
 -- a live rank is where it should be
-pub where_is : (w : WorldValue) (r : ℕ) (v : Live) (s : Stands w) → IsLive w r v → IsWhere (start_of w) (size w) w.run r v
+where_is : (w : WorldValue) (r : ℕ) (v : Live) (s : Stands w) → IsLive w r v → IsWhere (start_of w) (size w) w.run r v
 where_is w r v s live =
     record {
       acts = k.acts;

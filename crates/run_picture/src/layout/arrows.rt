@@ -40,17 +40,17 @@ fn set_arrow(
     moment: &Moment,
     takes: bool,
 ) -> Result<(), AllocError> {
-    let Some((sent, sender)) = sent_by(seen, moment) else {
+    let Some((sent, send)) = sent_by(seen, moment) else {
         return Ok(());
     };
-    let is_sent = seen.columns.column(sender.time).is_shown();
+    let is_sent = seen.columns.column(send.time).is_shown();
     let has_end = seen.columns.column(moment.time).is_shown();
     let is_drawn = has_end || (takes && is_sent);
-    if !is_drawn || sender.rank >= seen.rows.len() || moment.rank >= seen.rows.len() {
+    if !is_drawn || send.rank >= seen.rows.len() || moment.rank >= seen.rows.len() {
         return Ok(());
     }
     let way = if takes { way_of(sent) } else { Way::Shown };
-    let (from, to) = ends_of(seen, &sender, moment);
+    let (from, to) = ends_of(seen, &send, moment);
     scene.arrows.push(Arrow {
         from,
         to,
@@ -61,10 +61,10 @@ fn set_arrow(
 }
 
 // Where an arrow begins and ends; one from or to an act outside the part is cut off.
-fn ends_of(seen: &Seen<'_>, sender: &Moment, taker: &Moment) -> (Place, Place) {
-    let from = point(seen, sender);
+fn ends_of(seen: &Seen<'_>, send: &Moment, taker: &Moment) -> (Place, Place) {
+    let from = point(seen, send);
     let to = point(seen, taker);
-    let cut_from = if seen.columns.column(sender.time).is_outside() {
+    let cut_from = if seen.columns.column(send.time).is_outside() {
         eighths(from.y, to.y, 2)
     } else {
         from.y
@@ -92,9 +92,9 @@ fn point(seen: &Seen<'_>, moment: &Moment) -> Place {
 }
 
 fn sent_by<'a>(seen: &Seen<'a>, moment: &Moment) -> Option<(&'a Passed, Moment)> {
-    let sender = moment.sender?;
-    let sent = seen.request.acts.get(sender)?;
-    let moment = seen.times.moments.get(sender)?;
+    let send = moment.send?;
+    let sent = seen.request.acts.get(send)?;
+    let moment = seen.times.moments.get(send)?;
     Some((sent, *moment))
 }
 
@@ -167,16 +167,16 @@ fn set_text_of_taken(
     seen: &Seen<'_>,
     moment: &Moment,
 ) -> Result<(), AllocError> {
-    let Some((sent, sender)) = sent_by(seen, moment) else {
+    let Some((sent, send)) = sent_by(seen, moment) else {
         return Ok(());
     };
-    let is_sent = seen.columns.column(sender.time).is_shown();
+    let is_sent = seen.columns.column(send.time).is_shown();
     let is_drawn = is_sent || seen.columns.column(moment.time).is_shown();
-    if !is_drawn || sender.rank >= seen.rows.len() || moment.rank >= seen.rows.len() {
+    if !is_drawn || send.rank >= seen.rows.len() || moment.rank >= seen.rows.len() {
         return Ok(());
     }
     let text = message_text(seen.alloc, sent)?;
-    let (from, to) = ends_of(seen, &sender, moment);
+    let (from, to) = ends_of(seen, &send, moment);
     for part in TRIED {
         if is_free(room, &text, text_place(from, to, part)) {
             return set_text(scene, room, text, text_place(from, to, part));

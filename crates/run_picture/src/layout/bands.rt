@@ -74,10 +74,7 @@ fn join_left_out(seen: &Seen<'_>, gatherings: &mut Vec<Gathering, Heap>) -> Resu
 
 // The collective to which the act belongs.
 fn collective_at(seen: &Seen<'_>, passed: &Passed, moment: &Moment) -> Option<Collective> {
-    match moment
-        .sender
-        .and_then(|sender| seen.request.acts.get(sender))
-    {
+    match moment.send.and_then(|send| seen.request.acts.get(send)) {
         Some(sent) => collective_of(sent),
         None => collective_of(passed),
     }

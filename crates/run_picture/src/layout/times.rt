@@ -4,7 +4,7 @@ ghost use Rattle.std.specs.Prelude.{◌≡◌, ◌++◌, ◌∷◌, [], IfOk, Li
 ghost use Rattle.crash_free.specs.Runs.{Passed};
 ghost use Rattle.run_picture.specs.Marks.{made_of, sign_of, told_of};
 ghost use Rattle.run_picture.specs.Noted.{IsNext, IsNoted, next_moment, reached_at, reached_in};
-ghost use Rattle.send_index.specs.Posts.{noted_by};
+ghost use Rattle.send_index.specs.Tables.{noted_by};
 ghost use Rattle.run_picture.specs.Times.{AreClocks, AreTimed, last_of, time_at};
 
 use crate::layout::scene::MarkKind;
@@ -26,7 +26,7 @@ pub struct Moment {
     /// Its place among the acts of the run, from 0.
     pub act: usize,
     /// That of the act that sent the message, where it takes or finds one.
-    pub sender: Option<usize>,
+    pub send: Option<usize>,
 }
 
 /// How far a rank has come.
@@ -45,7 +45,7 @@ pub struct Times {
     pub reached: Vec<Reached, Heap>,
     /// The last time of all.
     pub last: usize,
-    posted: Sends,
+    sends: Sends,
     // act by act, whether it sends a message that is taken
     taken: Vec<bool, Heap>,
 }
@@ -78,7 +78,7 @@ impl Times {
             moments: Vec::new(alloc),
             reached,
             last: 0,
-            posted: Sends::new(alloc)?,
+            sends: Sends::new(alloc)?,
             taken: Vec::new(alloc),
         })
     }
@@ -106,8 +106,8 @@ impl Times {
         ensures { OnOk result (IsNext self.old passed.now self.new) }
     {
         let moment = self.moment_of(passed);
-        self.posted.note(passed, moment.act)?;
-        self.note_taken(moment.sender, passed)?;
+        self.sends.note(passed, moment.act)?;
+        self.note_taken(moment.send, passed)?;
         self.reach(moment);
         self.moments.push(moment)?;
         Ok(())
@@ -117,28 +117,28 @@ impl Times {
     fn moment_of(&self, passed: &Passed) -> Moment
         ensures { result ≡ next_moment self.now passed.now }
     {
-        let sender = self.posted.send_for(passed);
+        let send = self.sends.send_for(passed);
         let rank = usize::from(passed.rank);
         let before = self.reached_by(rank);
         Moment {
             rank,
             clock: before.clock.saturating_add(1),
-            time: before.time.max(self.time_of(sender)).saturating_add(1),
+            time: before.time.max(self.time_of(send)).saturating_add(1),
             sign: sign_of(passed),
             act: self.moments.len(),
-            sender,
+            send,
         }
     }
 
-    // The message of this sender is taken, if the act takes one.
-    fn note_taken(&mut self, sender: Option<usize>, passed: &Passed) -> Result<(), AllocError>
+    // The message of this send is taken, if the act takes one.
+    fn note_taken(&mut self, send: Option<usize>, passed: &Passed) -> Result<(), AllocError>
         ensures moments { OnOk result (self.new.moments.items ≡ self.old.moments.items) }
         ensures reached { OnOk result (self.new.reached.items ≡ self.old.reached.items) }
-        ensures posted { OnOk result (self.new.posted ≡ self.old.posted) }
+        ensures sends { OnOk result (self.new.sends ≡ self.old.sends) }
         ensures last { OnOk result (self.new.last ≡ self.old.last) }
     {
         self.taken.push(false)?;
-        match (&passed.act, sender) {
+        match (&passed.act, send) {
             (Act::Takes { .. }, Some(act)) if act < self.taken.len() => self.taken[act] = true,
             (
                 Act::Takes { .. }
@@ -156,7 +156,7 @@ impl Times {
     fn reach(&mut self, moment: Moment)
         ensures moments { self.new.moments.items ≡ self.old.moments.items }
         ensures reached { self.new.reached.items ≡ slice_set self.old.reached.items moment.rank (reached_at moment) }
-        ensures posted { self.new.posted ≡ self.old.posted }
+        ensures sends { self.new.sends ≡ self.old.sends }
         ensures last { self.new.last ≡ max self.old.last moment.time }
     {
         if moment.rank < self.reached.len() {

@@ -73,7 +73,7 @@ fn asked_of<'a, F: Files>(alloc: Heap, job: RunJob<'a>, files: &mut F) -> Result
     }
 }
 
-#[tactic(auto, using(crate::proofs::Traces::is_script_in))]
+#[tactic(auto, using(core_runner::proofs::Reading::is_script_in))]
 fn asked_in<'a, F: Files>(
     alloc: Heap,
     name: &'a str,

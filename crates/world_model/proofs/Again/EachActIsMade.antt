@@ -33,11 +33,11 @@ pub run_parts : (C : List Passed) (k : ℕ) (p : Passed) → first_acts (k + 1) 
 run_parts C k p e = sym (take-append-drop (length C - (k + 1)) C) ∙ ap (λ z. take (length C - (k + 1)) C ++ z) e
 
 -- none
-pub no_first_acts : (C : List Passed) → first_acts 0 C ≡ []
+no_first_acts : (C : List Passed) → first_acts 0 C ≡ []
 no_first_acts C = drop_beyond (length C - 0) C (omega arith)
 
 -- all
-pub all_first_acts : (C : List Passed) (k : ℕ) → length C ≤ k → first_acts k C ≡ C
+all_first_acts : (C : List Passed) (k : ℕ) → length C ≤ k → first_acts k C ≡ C
 all_first_acts C k l = ap (λ z. drop z C) (let e : length C - k ≡ 0 = omega (arith, l) in e) ∙ whole C
   where
     whole : (xs : List Passed) → drop 0 xs ≡ xs
@@ -171,7 +171,7 @@ index_other (x ∷ xs) (suc i) zero y ne = refl
 index_other (x ∷ xs) (suc i) (suc k) y ne = index_other xs i k y (λ e. ne (ap suc e))
 
 -- the counts of a run's first acts, with one more for the rank of the next act, are those of one act more
-pub counted_next : (n : ℕ) (C : List Passed) (k r : ℕ) (counts : List ℕ) → r < n → IsNext C k r → IsCounted n (first_acts k C) counts
+counted_next : (n : ℕ) (C : List Passed) (k r : ℕ) (counts : List ℕ) → r < n → IsNext C k r → IsCounted n (first_acts k C) counts
     → IsCounted n (first_acts (k + 1) C) (slice_set counts r (slice_index_or counts r 0 + 1))
 counted_next n C k r counts l next c =
     subst (λ z. IsCounted n z (slice_set counts r (slice_index_or counts r 0 + 1))) (sym next.1)
@@ -234,7 +234,7 @@ counted_set n k r f old C counts e l next c is =
     (subst (λ z. IsCounted n (first_acts (k + 1) C) (slice_set counts r (z + 1))) (sym o) (counted_next n C k r counts l next c))
 
 -- a count is a clock, or less
-pub count_low : (w : WorldValue) (k r : ℕ) (counts : List ℕ) → Ready w (first_acts k w.run) → r < size w → IsCounted (size w) (first_acts k w.run) counts
+count_low : (w : WorldValue) (k r : ℕ) (counts : List ℕ) → Ready w (first_acts k w.run) → r < size w → IsCounted (size w) (first_acts k w.run) counts
     → slice_index_or counts r 0 ≤ greatest_clock
 count_low w k r counts ready l c =
     let v = ready.all_live r l in

@@ -6,7 +6,7 @@ use Rattle.rank_machine.proofs.Striding.{on_the_way}
 use Rattle.world_model.specs.Measures.{StopsAfter}
 
 -- inner steps that come to an end are so many
-pub stops_after : {a c : State} → Inners a c → inner c ≡ None → (k : ℕ) × StopsAfter k a
+stops_after : {a c : State} → Inners a c → inner c ≡ None → (k : ℕ) × StopsAfter k a
 stops_after here e = (0, ap is_none e)
 stops_after (on e r) stop =
     let k = stops_after r stop in

@@ -95,7 +95,7 @@ one_goes_back whole (x ∷ ls) zero l h e = let same : x ≡ l = cc in subst (λ
 one_goes_back whole (x ∷ ls) (suc k) l h e = one_goes_back whole ls k l h.1 e
 
 -- of a program's lines one that leads back leads to a `while`
-pub back_to_while : (lines : List Line) (b : Block) (p q : ℕ) → lines ≡ lines_at 0 b → slice_get lines p ≡ Some (back_line q) → IsWhileAt lines q
+back_to_while : (lines : List Line) (b : Block) (p q : ℕ) → lines ≡ lines_at 0 b → slice_get lines p ≡ Some (back_line q) → IsWhileAt lines q
 back_to_while lines b p q shaped at =
     one_goes_back lines (lines_at 0 b) p (back_line q) (all_go_back lines 0 b (at_drop lines 0 (lines_at 0 b) (drop_zero lines ∙ shaped)))
     (ap (λ z. slice_get z p) (sym shaped) ∙ at)

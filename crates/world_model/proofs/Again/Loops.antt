@@ -33,17 +33,17 @@ emptied s d a b c x y z f g gone =
     }
 
 -- it stays so
-pub emptied_kept : (s d : ℕ) (a b c : WorldValue) (x y : List WorldEvent) → Emptied s d a b → Flushed b x c y → Emptied s d a c
+emptied_kept : (s d : ℕ) (a b c : WorldValue) (x y : List WorldEvent) → Emptied s d a b → Flushed b x c y → Emptied s d a c
 emptied_kept s d a b c x y e f = record { asks = f.keeps.asks s d e.asks; drained = λ n. f.keeps.drained s d (e.drained n) }
 
 -- and so from the beginning
-pub emptied_later : (s d : ℕ) (a b c : WorldValue) (x y : List WorldEvent) → Flushed a x b y → Emptied s d b c → Emptied s d a c
+emptied_later : (s d : ℕ) (a b c : WorldValue) (x y : List WorldEvent) → Flushed a x b y → Emptied s d b c → Emptied s d a c
 emptied_later s d a b c x y f e = record { asks = e.asks; drained = λ n. e.drained (f.keeps.no_gaps n) }
 
 -- ---- an Ask is heard
 
 -- once the ask at the next index of a wire has arrived, one frame more of that wire is heard
-pub listened_next : (w : WorldValue) (events : List WorldEvent) (r s i : ℕ) (frames : List Frame) (n : ℕ) (answer : Reply) (w' : WorldValue)
+listened_next : (w : WorldValue) (events : List WorldEvent) (r s i : ℕ) (frames : List Frame) (n : ℕ) (answer : Reply) (w' : WorldValue)
     → IsWorld w → AllLive w
     → r < size w → s < size w → IsWire w r s frames → slice_get frames i ≡ Some (frame.Ask n) → Follows w (Arrive r s i) answer w' → HeardTo i r s w
     → Listened w events w' (listed events (Arrive r s i) answer) × HeardTo (i + 1) r s w'

@@ -31,7 +31,7 @@ use Rattle.audit.proofs.Outcomes.{history_beyond}
 -- ---- a run begins with its earlier acts
 
 -- a rank's history in a longer run begins with that in the first part
-pub history_begins : (late early : List Passed) (r : ℕ) → (extra : History) × (history (late ++ early) r ≡ history early r ++ extra)
+history_begins : (late early : List Passed) (r : ℕ) → (extra : History) × (history (late ++ early) r ≡ history early r ++ extra)
 history_begins [] early r = ([], sym (append-nil (history early r)))
 history_begins (p ∷ late) early r =
     let rest = history_begins late early r in
@@ -43,7 +43,7 @@ history_begins (p ∷ late) early r =
     more false h x = ([], sym (append-nil h))
 
 -- the first act of a rank after the earlier ones, with what it took or hit among what was sent by then
-pub act_there : (late early : List Passed) (r : ℕ) (a : Act)
+act_there : (late early : List Passed) (r : ℕ) (a : Act)
     → slice_get (history (late ++ record { rank = r; act = a } ∷ early) r) (length (history early r)) ≡ Some (a, looked_up (λ s. sent early s r) a)
 act_there late early r a =
     let x : Act × Option Message = (a, looked_up (λ s. sent early s r) a) in
@@ -68,7 +68,7 @@ send_longer c r misses xs ys l = l
 send_longer c r (prints z) xs ys l = l
 
 -- a longer history has no fewer sends to a rank
-pub sends_longer : (k r : ℕ) (h extra : History) → length (sends_from k r h) ≤ length (sends_from k r (h ++ extra))
+sends_longer : (k r : ℕ) (h extra : History) → length (sends_from k r h) ≤ length (sends_from k r (h ++ extra))
 sends_longer k r [] extra = omega arith
 sends_longer k r (x ∷ h) extra = send_longer (k + 1) r x.0 (sends_from (k + 1) r h) (sends_from (k + 1) r (h ++ extra)) (sends_longer (k + 1) r h extra)
 

@@ -54,7 +54,7 @@ pub record Went (v u : Rank) : Type 0 where
   pub either : ((u.clock ≡ v.clock) × (u.log ≡ v.log) × (machine_want v.machine ≡ want.Internal) × GoesOn v.machine u.machine) ⊎ (u.clock ≡ v.clock + 1)
 
 -- a packet that is saved leaves every cursor
-pub saved_cursor : (log : List BacklogValue) (d e : ℕ) (p : packet.PacketValue)
+saved_cursor : (log : List BacklogValue) (d e : ℕ) (p : packet.PacketValue)
     → (backlog (slice_set log d (saved (backlog log d) p)) e).cursor ≡ (backlog log e).cursor
 saved_cursor [] d e p = refl
 saved_cursor (b ∷ log) zero zero p = refl
@@ -63,7 +63,7 @@ saved_cursor (b ∷ log) (suc d) zero p = refl
 saved_cursor (b ∷ log) (suc d) (suc e) p = saved_cursor log d e p
 
 -- and every base
-pub saved_base : (log : List BacklogValue) (d e : ℕ) (p : packet.PacketValue)
+saved_base : (log : List BacklogValue) (d e : ℕ) (p : packet.PacketValue)
     → (backlog (slice_set log d (saved (backlog log d) p)) e).base ≡ (backlog log e).base
 saved_base [] d e p = refl
 saved_base (b ∷ log) zero zero p = refl
@@ -107,7 +107,7 @@ position_found f xs k x there passes = go (cases_lt (position_or_len f xs) (leng
         let q : false ≡ true = ap not (sym (ap f same ∙ passes)) ∙ fails in cc)
 
 -- the packet that an event names is found in the inbox where its source and its clock are there
-pub named_is_there : (v : Rank) (e : EventValue) (k : ℕ) (p : packet.PacketValue) → slice_get v.inbox.packets k ≡ Some p → p.source ≡ e.sender
+named_is_there : (v : Rank) (e : EventValue) (k : ℕ) (p : packet.PacketValue) → slice_get v.inbox.packets k ≡ Some p → p.source ≡ e.sender
     → p.clock ≡ e.sender_clock
     → (g : ℕ × packet.PacketValue) × (named v e ≡ Some g)
 named_is_there v e k p there source clock =

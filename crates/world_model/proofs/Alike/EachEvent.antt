@@ -12,7 +12,8 @@ use Rattle.world_model.specs.Driven.{Alike}
 use Rattle.world_model.proofs.Alike.ListLeadsToo.{alike_live}
 use Rattle.world_model.proofs.Alike.MayHappenToo.{HasCourse, happens_too}
 use Rattle.world_model.proofs.Alike.LeadsToo.{happens_alike, can_not_alike}
-use Rattle.world_model.proofs.Alike.GatesAndImages.{store_alike, store_too, ack_alike, ack_too, image_alike, image_too, crash_alike, crash_too, release_alike, release_too}
+use Rattle.world_model.proofs.Alike.GatesAndImages.{store_alike, store_too, ack_alike, ack_too, image_alike}
+use Rattle.world_model.proofs.Alike.GatesAndImages.{image_too, crash_alike, crash_too, release_alike, release_too}
 
 -- what happens in the one may happen in the other
 any_too : (a b : WorldValue) (event : WorldEvent) (y : Reply) (b' : WorldValue) → Alike a b → Happens b event y b' → HasCourse a event

@@ -45,7 +45,7 @@ shown_at v want.Halted old new e = e
 shown_at v (want.Faulted k) old new e = e
 
 -- what a step shows
-pub shown_step : (v : Rank) (old new : List Line) → ShowsStep Shows v old new → new ≡ lines_after old v.stable.rank v (machine_want v.machine) (turn_of v)
+shown_step : (v : Rank) (old new : List Line) → ShowsStep Shows v old new → new ≡ lines_after old v.stable.rank v (machine_want v.machine) (turn_of v)
 shown_step v old new e = shown_at v (machine_want v.machine) old new e
 
 -- what a release shows

@@ -97,7 +97,7 @@ of_again : (p : ProgramValue) (r n : ℕ) (v x : Rank) → x.stable ≡ v.stable
 of_again p r n v x stable program o = record { same_program = program ∙ o.same_program; own = subst (λ z. IsOwn p r n z) (sym stable) o.own }
 
 -- after a step of the replay
-pub of_replay : (p : ProgramValue) (r n : ℕ) (v x : replay.Replay MemoryShelf (Unit {0})) → v.left ≢ [] → x.node.stable ≡ v.node.stable
+of_replay : (p : ProgramValue) (r n : ℕ) (v x : replay.Replay MemoryShelf (Unit {0})) → v.left ≢ [] → x.node.stable ≡ v.node.stable
     → ((e : EventValue) (rest : List EventValue) → v.left ≡ e ∷ rest → ReplayStep v.node e x.node.machine) → IsOf p r n v.node → IsOf p r n x.node
 of_replay p r n v x some stable s o = go v.left refl
   where
@@ -127,7 +127,7 @@ reads_of p r n (Some bytes) i e = go (reading p r n bytes) e
     go (Err k) q = absurd cc
 
 -- the shelf holds the image that was taken
-pub image_read : (p : ProgramValue) (r n : ℕ) (v x : Rank) (is : IsImaged (λ (s : MemoryShelf). image_bytes s.image) v x) → IsOf p r n v
+image_read : (p : ProgramValue) (r n : ℕ) (v x : Rank) (is : IsImaged (λ (s : MemoryShelf). image_bytes s.image) v x) → IsOf p r n v
     → image_on p r n (image_bytes is.shelf.image) ≡ Some (image_of v)
 image_read p r n v x is o =
     subst (λ z. image_on z r n (image_bytes is.shelf.image) ≡ Some (image_of v)) o.same_program

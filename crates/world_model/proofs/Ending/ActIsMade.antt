@@ -1,6 +1,7 @@
 -- A rank that may make an act next, and has all messages that were sent to it, steps until it makes one: a send or a print passes at once, as
 -- nothing waits, and an event is stored then.
-use Rattle.std.proofs.Common.{◌≡◌, ◌≢◌, ℕ, zero, suc, ◌+◌, ◌-◌, ◌<◌, ◌≤◌, ◌⊎◌, inl, inr, Bool, true, false, if◌then◌else◌, List, [], ◌∷◌, ◌++◌, length, Option, Some, None}
+use Rattle.std.proofs.Common.{◌≡◌, ◌≢◌, ℕ, zero, suc, ◌+◌, ◌-◌, ◌<◌, ◌≤◌, ◌⊎◌, inl, inr}
+use Rattle.std.proofs.Common.{Bool, true, false, if◌then◌else◌, List, [], ◌∷◌, ◌++◌, length, Option, Some, None}
 use Rattle.std.proofs.Common.{refl, sym, ap, subst, ◌∙◌, arith, position}
 use Rattle.std.proofs.lemmas.Bool.{lt-ltb, ne_eqb}
 use Rattle.std.specs.Prelude.{is_some, nat_lt}
@@ -20,7 +21,8 @@ use Rattle.rank_node.specs.declared.fault.NodeFault.TheVariants as fault
 use Rattle.rank_node.specs.declared.turn.Turn.TheVariants as turn
 use Rattle.rank_node.specs.declared.waiting.Waiting.{Waiting}
 use Rattle.rank_node.specs.Waiting.{has_room, is_settled, with_miss, joins}
-use Rattle.rank_node.specs.Steps.{found, turn_of, turn_at, refusal_of, refusal_at, clock_refusal, event_refusal, try_refusal, after_step, step_at, received, probed, tried, MachineStepAt}
+use Rattle.rank_node.specs.Steps.{found, turn_of, turn_at, refusal_of, refusal_at, clock_refusal, event_refusal}
+use Rattle.rank_node.specs.Steps.{try_refusal, after_step, step_at, received, probed, tried, MachineStepAt}
 use Rattle.crash_free.specs.Runs.{Passed, history, sent, looked_up, MayMake}
 use Rattle.world_model.specs.declared.event.WorldEvent.TheVariants.{Step}
 use Rattle.world_model.specs.World.{Live, WorldValue, size, start_of, IsLive}

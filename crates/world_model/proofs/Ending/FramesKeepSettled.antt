@@ -195,7 +195,7 @@ arrive_one start w s r k v p frames i t lv wire there needs =
 -- ---- all that was sent
 
 -- a rank that has made its acts of the run has sent all of the run's messages
-pub all_sent : (w : WorldValue) (s r : ℕ) (u : Live) → IsWorld w → IsSettled w → IsLive w s u → s < size w → r < size w
+all_sent : (w : WorldValue) (s r : ℕ) (u : Live) → IsWorld w → IsSettled w → IsLive w s u → s < size w → r < size w
     → (backlog u.rank.log r).sent ≡ length (sent w.run s r)
 all_sent w s r u i settled lu ls lr =
     let x = settled s ls in

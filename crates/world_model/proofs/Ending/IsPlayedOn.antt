@@ -114,7 +114,7 @@ played_nothing w events w' events' e f =
 -- ---- one after another
 
 -- the steps of both
-pub played_more : (c d e : ℕ → ℕ) (u v w : WorldValue) (x y z : List WorldEvent) → ((r : ℕ) → c r + d r ≤ e r)
+played_more : (c d e : ℕ → ℕ) (u v w : WorldValue) (x y z : List WorldEvent) → ((r : ℕ) → c r + d r ≤ e r)
     → Played c u x v y → Played d v y w z → Played e u x w z
 played_more c d e u v w x y z l f g =
     record {
@@ -125,7 +125,7 @@ played_more c d e u v w x y z l f g =
     }
 
 -- the same where memory is refused at last
-pub played_then : (c d e : ℕ → ℕ) (u v w : WorldValue) (x y z : List WorldEvent) → ((r : ℕ) → c r + d r ≤ e r)
+played_then : (c d e : ℕ → ℕ) (u v w : WorldValue) (x y z : List WorldEvent) → ((r : ℕ) → c r + d r ≤ e r)
     → Played c u x v y → PlayedAlmost d v y w z → PlayedAlmost e u x w z
 played_then c d e u v w x y z l f g =
     record {
@@ -204,7 +204,7 @@ after_more a b c f g =
     }
 
 -- a list that led somewhere
-pub leads_after : (events : List WorldEvent) (w w' : WorldValue) → Leads w events w' → IsAfter w w'
+leads_after : (events : List WorldEvent) (w w' : WorldValue) → Leads w events w' → IsAfter w w'
 leads_after [] w w' e = after_none w w' e
 leads_after (event ∷ events) w w' l =
     let x = l.2 in
@@ -219,7 +219,7 @@ leads_after (event ∷ events) w w' l =
     (leads_after events x.1 w' x.3)
 
 -- the same where memory was refused at last
-pub almost_after : (events : List WorldEvent) (w w' : WorldValue) → LeadsAlmost w events w' → IsAfter w w'
+almost_after : (events : List WorldEvent) (w w' : WorldValue) → LeadsAlmost w events w' → IsAfter w w'
 almost_after events w w' l = after_more w l.0 w' (leads_after events w l.0 l.1) (go l.2)
   where
     go : (w' ≡ l.0) ⊎ ((r : ℕ) × Fetched l.0 r w') → IsAfter l.0 w'

@@ -23,7 +23,7 @@ use Rattle.world_model.proofs.Calls.Frames.{wire_is}
 use Rattle.world_model.proofs.Ending.LeavesAll.{leaves}
 
 -- a packet that is a repetition was accepted before, from the rank that it came from
-pub repeated_low : (v : Rank) (s : ℕ) (p : packet.PacketValue) → arrived_as (arrival_of v s (frame.Data p)) ≡ Some reply.Repeated
+repeated_low : (v : Rank) (s : ℕ) (p : packet.PacketValue) → arrived_as (arrival_of v s (frame.Data p)) ≡ Some reply.Repeated
     → p.number ≤ accepted_from v.inbox s
 repeated_low v s p e = go (p.source == s) refl e
   where
@@ -41,7 +41,7 @@ repeated_low v s p e = go (p.source == s) refl e
         (low (accepted_from v.inbox p.source) (nat_le p.number (accepted_from v.inbox p.source)) (p.number == accepted_from v.inbox p.source + 1) refl z)
 
 -- so a rank whose last packet from another is a repetition has accepted all that was sent to it
-pub heard_by : (w : WorldValue) (s d i n : ℕ) (w' : WorldValue) → HasWire w.wires s d → IsPacketAt (wire_of w.wires s d) i n
+heard_by : (w : WorldValue) (s d i n : ℕ) (w' : WorldValue) → HasWire w.wires s d → IsPacketAt (wire_of w.wires s d) i n
     → n ≡ length (sent w.run s d) → Follows w (Arrive s d i) reply.Repeated w' → (w' ≡ w) × HasHeard w' s d
 heard_by w s d i n w' has at many f = (same, subst (λ z. HasHeard z s d) (sym same) heard)
   where

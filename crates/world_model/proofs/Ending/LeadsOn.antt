@@ -23,13 +23,15 @@ use Rattle.world_model.proofs.HeadlineKept.{happens_can}
 use Rattle.world_model.proofs.Alike.OneEventMore.{world_after}
 use Rattle.world_model.proofs.Lists.Replaced.{slice_set-get}
 use Rattle.world_model.proofs.Ending.MayBeLostStill.{lost_after}
-use Rattle.world_model.proofs.Ending.NeedsNothingLost.{Longer, longer_none, longer_more, longer_after, KeepsLost, LeadsFrom, no_crash, own_needs, from_append, leads_earlier}
-use Rattle.world_model.proofs.Way.EventIsAnswered.{step_answers, put_answers, arrive_answers, set_stocked, step_program, replay_program, put_machine, arrive_machine, image_program}
+use Rattle.world_model.proofs.Ending.NeedsNothingLost.{Longer, longer_none, longer_more, longer_after, KeepsLost}
+use Rattle.world_model.proofs.Ending.NeedsNothingLost.{LeadsFrom, no_crash, own_needs, from_append, leads_earlier}
+use Rattle.world_model.proofs.Way.EventIsAnswered.{step_answers, put_answers, arrive_answers, set_stocked, step_program}
+use Rattle.world_model.proofs.Way.EventIsAnswered.{replay_program, put_machine, arrive_machine, image_program}
 
 -- ---- what happens is an answer
 
 -- what happens follows, by its answer
-pub follows_of : (w : WorldValue) (event : WorldEvent) (answer : Reply) (w' : WorldValue) → Happens w event answer w' → Follows w event answer w'
+follows_of : (w : WorldValue) (event : WorldEvent) (answer : Reply) (w' : WorldValue) → Happens w event answer w' → Follows w event answer w'
 follows_of w (Step r) answer w' (inl f) =
     subst (λ z. Follows w (Step r) z w') (sym f.answered)
     (step_answers w r (turn_of f.before.rank) w' (subst (λ z. Happens w (Step r) z w') f.answered (inl f)))
@@ -244,7 +246,7 @@ from_one start w event answer w' i k needs h =
     }
 
 -- what is led on from a later world is led on from an earlier one
-pub from_earlier : (a b c d : WorldValue) → LedFrom a a b → LedFrom b c d → LedFrom a c d
+from_earlier : (a b c d : WorldValue) → LedFrom a a b → LedFrom b c d → LedFrom a c d
 from_earlier a b c d f g =
     record {
       events = g.events;

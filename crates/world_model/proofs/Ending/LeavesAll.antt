@@ -26,7 +26,8 @@ use Rattle.rank_node.specs.Frames as frames
 use Rattle.rank_node.specs.Frames.{arrival_of, after_frame, with_inbox}
 use Rattle.rank_node.specs.Waiting.{has_room}
 use Rattle.rank_node.specs.Steps.{at_index, found, turn_of, turn_at, after_step, step_at, received, probed, made_send, made_print}
-use Rattle.rank_node.specs.Replay.{named, is_now, is_before, named_turn, receive_turn, probe_turn, try_turn, replay_turn_at, replayed_at, taken_named, shown_named, tried_named, uses_event, left_after, is_last}
+use Rattle.rank_node.specs.Replay.{named, is_now, is_before, named_turn, receive_turn, probe_turn, try_turn, replay_turn_at}
+use Rattle.rank_node.specs.Replay.{replayed_at, taken_named, shown_named, tried_named, uses_event, left_after, is_last}
 use Rattle.ports.specs.declared.line.Line.{Line}
 use Rattle.crash_free.specs.Runs.{Passed}
 use Rattle.world_model.specs.declared.event.WorldEvent.{WorldEvent}
@@ -34,7 +35,8 @@ use Rattle.world_model.specs.declared.event.WorldEvent.TheVariants.{Step, Put, A
 use Rattle.world_model.specs.declared.reply.Reply.{Reply}
 use Rattle.world_model.specs.declared.reply.Reply.TheVariants as reply
 use Rattle.world_model.specs.World.{Rank, Live, WorldValue}
-use Rattle.world_model.specs.Follows.{Follows, Happens, StepFollows, ReplayFollows, stepped, put_as, arrived_as, after_turn, effect_at, lines_after, passed_at, with_rank}
+use Rattle.world_model.specs.Follows.{Follows, Happens, StepFollows, ReplayFollows, stepped, put_as}
+use Rattle.world_model.specs.Follows.{arrived_as, after_turn, effect_at, lines_after, passed_at, with_rank}
 use Rattle.world_model.specs.Finished.{leaves_all}
 use Rattle.world_model.proofs.Lists.Replaced.{set_same}
 use Rattle.world_model.proofs.Calls.Steps.{unmoved}

@@ -98,7 +98,7 @@ made_low w r v i live none =
     omega (arith, made, zero, low, same)
 
 -- so some act is made
-pub may_go : (w : WorldValue) (r : ℕ) (act : Act) → IsWorld w → IsStocked w → IsWithin w.run → MayFollow (start_of w) (size w) w.run r act → Goes w
+may_go : (w : WorldValue) (r : ℕ) (act : Act) → IsWorld w → IsStocked w → IsWithin w.run → MayFollow (start_of w) (size w) w.run r act → Goes w
 may_go w r act i k within may = go (settles w i k)
   where
     go : Goes w ⊎ SettledSoon w → Goes w

@@ -7,7 +7,8 @@ use Rattle.world_model.specs.declared.event.WorldEvent.TheVariants.{Step, Store,
 use Rattle.world_model.specs.declared.reply.Reply.{Reply}
 use Rattle.world_model.specs.World.{WorldValue, size}
 use Rattle.world_model.specs.Follows.{Follows}
-use Rattle.world_model.specs.Finished.{leaves_all, IsInVain, StepsInVain, OpensInVain, PutsInVain, ArrivesInVain, FindsInVain, IsStill, EachBelow, ForEach, ForEachTwo, Tried}
+use Rattle.world_model.specs.Finished.{leaves_all, IsInVain, StepsInVain, OpensInVain, PutsInVain, ArrivesInVain}
+use Rattle.world_model.specs.Finished.{FindsInVain, IsStill, EachBelow, ForEach, ForEachTwo, Tried}
 use Rattle.world_model.specs.Wires.{wire_of}
 use Rattle.world_model.proofs.Ending.LeavesAll.{leaves}
 
@@ -38,11 +39,11 @@ pub tried_nothing : (P : ℕ → WorldValue → Type 0) (w : WorldValue) (events
 tried_nothing P w events = record { longer = omega arith; quiet = λ m. (refl, λ r l. absurd (omega (arith, l))) }
 
 -- what holds holds of less
-pub tried_as : (P Q : WorldValue → Type 0) (u v : WorldValue) (x y : List WorldEvent) → ((k : WorldValue) → P k → Q k) → Tried P u x v y → Tried Q u x v y
+tried_as : (P Q : WorldValue → Type 0) (u v : WorldValue) (x y : List WorldEvent) → ((k : WorldValue) → P k → Q k) → Tried P u x v y → Tried Q u x v y
 tried_as P Q u v x y less f = record { longer = f.longer; quiet = λ l. (let q = f.quiet l in (q.0, less v q.1)) }
 
 -- what was tried first and what was tried then
-pub tried_both : (P Q : WorldValue → Type 0) (u v w : WorldValue) (x y z : List WorldEvent) → Tried P u x v y → Tried Q v y w z
+tried_both : (P Q : WorldValue → Type 0) (u v w : WorldValue) (x y z : List WorldEvent) → Tried P u x v y → Tried Q v y w z
     → Tried (λ k. P k × Q k) u x w z
 tried_both P Q u v w x y z f g =
     let a = f.longer in

@@ -16,7 +16,7 @@ use Rattle.world_model.proofs.Lists.Beginnings.{map_length}
 use Rattle.world_model.proofs.Lists.Replaced.{replaced_keeps, set_same}
 
 -- the rank of a seat stands in its place
-pub live_there : (seats : List SeatValue) (r : ℕ) (s : SeatValue) → slice_get seats r ≡ Some s → slice_get (lives seats) r ≡ Some s.live
+live_there : (seats : List SeatValue) (r : ℕ) (s : SeatValue) → slice_get seats r ≡ Some s → slice_get (lives seats) r ≡ Some s.live
 live_there seats r s there = slice_get-map (λ (z : SeatValue). z.live) seats r ∙ ap (λ o. option_map (λ (z : SeatValue). z.live) o) there
 
 -- so does its image
@@ -24,15 +24,15 @@ pub image_there : (seats : List SeatValue) (r : ℕ) (s : SeatValue) → slice_g
 image_there seats r s there = slice_get-map (λ (z : SeatValue). z.image) seats r ∙ ap (λ o. option_map (λ (z : SeatValue). z.image) o) there
 
 -- what holds of the rank of a seat holds at its place
-pub at_seat : (seats : List SeatValue) (r : ℕ) (s : SeatValue) (P : Live → Type 0) → slice_get seats r ≡ Some s → IfLive s.live P → AtRank (lives seats) r P
+at_seat : (seats : List SeatValue) (r : ℕ) (s : SeatValue) (P : Live → Type 0) → slice_get seats r ≡ Some s → IfLive s.live P → AtRank (lives seats) r P
 at_seat seats r s P there h = subst (λ z. IsSomeAnd z (λ x. IfLive x P)) (sym (live_there seats r s there)) h
 
 -- another seat in the place of one
-pub set_lives : (seats : List SeatValue) (r : ℕ) (s : SeatValue) → lives (slice_set seats r s) ≡ slice_set (lives seats) r s.live
+set_lives : (seats : List SeatValue) (r : ℕ) (s : SeatValue) → lives (slice_set seats r s) ≡ slice_set (lives seats) r s.live
 set_lives seats r s = map-set (λ (z : SeatValue). z.live) seats r s
 
 -- the images then
-pub set_images : (seats : List SeatValue) (r : ℕ) (s : SeatValue) → images (slice_set seats r s) ≡ slice_set (images seats) r s.image
+set_images : (seats : List SeatValue) (r : ℕ) (s : SeatValue) → images (slice_set seats r s) ≡ slice_set (images seats) r s.image
 set_images seats r s = map-set (λ (z : SeatValue). z.image) seats r s
 
 -- where the image of the seat stays all images do
@@ -42,7 +42,7 @@ same_images seats r s s' there e =
     set_images seats r s' ∙ set_same (images seats) r s'.image (image_there seats r s there ∙ ap Some (sym e))
 
 -- where the seat stays of its rank all are seats
-pub still_seats : (program : ProgramValue) (seats : List SeatValue) (r : ℕ) (s s' : SeatValue) → slice_get seats r ≡ Some s
+still_seats : (program : ProgramValue) (seats : List SeatValue) (r : ℕ) (s s' : SeatValue) → slice_get seats r ≡ Some s
     → s'.program ≡ s.program → s'.rank ≡ s.rank → s'.size ≡ s.size → AreSeats program (length seats) seats
     → AreSeats program (length (slice_set seats r s')) (slice_set seats r s')
 still_seats program seats r s s' there same_program same_rank same_size all =
@@ -87,7 +87,7 @@ ranks_then {value = value} {seats = seats} {index = index} s' t =
     set_lives seats index s' ∙ ap (λ z. slice_set z index s'.live) t.all_ranks ∙ ap (λ z. slice_set value.ranks z s'.live) t.number
 
 -- what the call did to the rank of the seat, as what it did to the ranks
-pub after_call : {value : SeatsValue} {seats : List SeatValue} {index rank : ℕ} {s : SeatValue} (s' : SeatValue) (P Q : Live → Type 0)
+after_call : {value : SeatsValue} {seats : List SeatValue} {index rank : ℕ} {s : SeatValue} (s' : SeatValue) (P Q : Live → Type 0)
     → IsTaken value seats index rank s
     → ((v : Live) → lives (slice_set seats index s') ≡ slice_set value.ranks rank s'.live → P v → Q v)
     → IfLive s.live P → AtRank value.ranks rank Q
@@ -99,7 +99,7 @@ after_call {value = value} {seats = seats} {index = index} {rank = rank} {s = s}
     go (Some v) q = then v (ranks_then s' t) q
 
 -- where the call leaves the seat's image, the images are as they were
-pub images_stay : {value : SeatsValue} {seats : List SeatValue} {index rank : ℕ} {s : SeatValue} (s' : SeatValue)
+images_stay : {value : SeatsValue} {seats : List SeatValue} {index rank : ℕ} {s : SeatValue} (s' : SeatValue)
     → IsTaken value seats index rank s → s' ≡ with_live s s'.live → images (slice_set seats index s') ≡ value.images
 images_stay {value = value} {seats = seats} {index = index} {rank = rank} {s = s} s' t others =
     same_images seats index s s' t.there (ap (λ (z : SeatValue). z.image) others) ∙ t.all_images
@@ -176,7 +176,7 @@ seat_size {seats = seats} {index = index} {s = s} program t all =
     (all index s t.there).size ∙ sym (map_length (λ (z : SeatValue). z.live) seats) ∙ ap (λ (z : List (Option Live)). length z) t.all_ranks
 
 -- a restart of the rank of the seat
-pub restarted_then : {value : SeatsValue} {seats : List SeatValue} {index rank : ℕ} {s : SeatValue} {program : ProgramValue} (s' : SeatValue)
+restarted_then : {value : SeatsValue} {seats : List SeatValue} {index rank : ℕ} {s : SeatValue} {program : ProgramValue} (s' : SeatValue)
     (row : List EventValue) (count : ℕ) → IsTaken value seats index rank s → program ≡ value.program → AreSeats program (length seats) seats
     → s' ≡ with_live s s'.live → count ≡ length (left_of (begins_at s.program s.rank s.size s.image) row)
     → IsRestarted s.program s.size s.rank s.image row s'.live

@@ -12,7 +12,7 @@ slice_set-get (z ∷ xs) (suc i) (suc k) x y e =
     ⊎_elim (λ h. inl (ap suc h.0, h.1)) (λ h. inr (λ q. h.0 (omega arith), h.1)) (slice_set-get xs i k x y e)
 
 -- where something stands after a replacement something stood before
-pub slice_set_had : {A : Type 0} (xs : List A) (i : ℕ) (x y : A) → slice_get (slice_set xs i y) i ≡ Some x → (z : A) × (slice_get xs i ≡ Some z)
+slice_set_had : {A : Type 0} (xs : List A) (i : ℕ) (x y : A) → slice_get (slice_set xs i y) i ≡ Some x → (z : A) × (slice_get xs i ≡ Some z)
 slice_set_had [] i x y e = absurd cc
 slice_set_had (z ∷ xs) zero x y e = (z, refl)
 slice_set_had (z ∷ xs) (suc i) x y e = slice_set_had xs i x y e

@@ -26,7 +26,7 @@ use Rattle.world_model.proofs.Plain.Worlds.{rank_of}
 -- ---- where a rank is behind the run
 
 -- nothing waits at the gate of a rank that is behind the run
-pub settled_behind_run : (start : ℕ → State) (n : ℕ) (C : List Passed) (r : ℕ) (v : Live) → RankStands start n C r v → Behind C r v
+settled_behind_run : (start : ℕ → State) (n : ℕ) (C : List Passed) (r : ℕ) (v : Live) → RankStands start n C r v → Behind C r v
     → v.rank.pending ≡ []
 settled_behind_run start n C r v s b =
     ⊎_elim (λ e. e)

@@ -23,7 +23,7 @@ use Rattle.rank_machine.proofs.CollectiveParts.{longer_at}
 -- ---- places in a list
 
 -- what stands in the second part stands behind the first
-pub get_right : {A : Type 0} (xs ys : List A) (i : ℕ) (y : A) → slice_get ys i ≡ Some y → slice_get (xs ++ ys) (length xs + i) ≡ Some y
+get_right : {A : Type 0} (xs ys : List A) (i : ℕ) (y : A) → slice_get ys i ≡ Some y → slice_get (xs ++ ys) (length xs + i) ≡ Some y
 get_right [] ys i y e = (let z : i ≡ 0 + i = omega arith in subst (λ j. slice_get ys j ≡ Some y) z e)
 get_right (x ∷ xs) ys i y e =
     (let z : suc (length xs + i) ≡ suc (length xs) + i = omega arith in
@@ -105,7 +105,7 @@ last_above c e counted l =
     )
 
 -- of several too
-pub part_above : (c : ℕ) (es : List EventValue) (k : ℕ) (e : EventValue) → AllCounted es → slice_get es k ≡ Some e → c < e.receiver_clock
+part_above : (c : ℕ) (es : List EventValue) (k : ℕ) (e : EventValue) → AllCounted es → slice_get es k ≡ Some e → c < e.receiver_clock
     → (i : ℕ) × (p : EventValue) × (slice_get (above c (expand es)) i ≡ Some p) × (p.receiver_clock ≡ e.receiver_clock)
 part_above c [] k e counted at l = absurd cc
 part_above c (x ∷ es) zero e counted at l =

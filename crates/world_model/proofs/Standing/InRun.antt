@@ -130,7 +130,7 @@ run_reaches start n (p ∷ C) r i = go (run_reaches start n C r i.0) (cases_eq p
         subst (λ q. (z : State) × Runs (start q) (history (p ∷ C) q) z) e own
 
 -- a run of acts in two parts
-pub Runs-split : (a c : State) (h k : History) → Runs a (h ++ k) c → (b : State) × Runs a h b × Runs b k c
+Runs-split : (a c : State) (h k : History) → Runs a (h ++ k) c → (b : State) × Runs a h b × Runs b k c
 Runs-split a c [] k r = (a, refl, r)
 Runs-split a c (x ∷ h) k r =
     let s : (b : State) × Runs r.0 h b × Runs b k c = Runs-split r.0 c h k r.2 in

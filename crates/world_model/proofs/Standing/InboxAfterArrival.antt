@@ -19,7 +19,7 @@ place_within xs zero m e = absurd cc
 place_within xs (suc j) m e = let l = slice_get_within xs j m e in omega (arith, l)
 
 -- a packet with the next number is accepted
-pub InboxStands-accepted : (box : Mailbox) (inbound : ℕ → List Message) (h : History) (p : packet.PacketValue)
+InboxStands-accepted : (box : Mailbox) (inbound : ℕ → List Message) (h : History) (p : packet.PacketValue)
     → p.source < length box.accepted → p.number ≡ accepted_from box p.source + 1 → at_place (inbound p.source) p.number ≡ Some (carried p)
     → InboxStands box inbound h → InboxStands (with_packet box p) inbound h
 InboxStands-accepted box inbound h p within next_one real i =

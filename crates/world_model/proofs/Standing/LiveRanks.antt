@@ -33,7 +33,7 @@ use Rattle.audit.proofs.Traces.{replicate_each}
 -- ---- the payload log
 
 -- its rank made more acts, in this life or an earlier one
-pub LogsStand-later : (r : ℕ) (h h' extra : History) (c : ℕ) (log : List BacklogValue) → h' ≡ h ++ extra → c ≤ length h → LogsStand r h c [] log
+LogsStand-later : (r : ℕ) (h h' extra : History) (c : ℕ) (log : List BacklogValue) → h' ≡ h ++ extra → c ≤ length h → LogsStand r h c [] log
     → LogsStand r h' c [] log
 LogsStand-later r h h' extra c log e l s d b at =
     subst (λ z. LogStands r (sends_from 0 d z) [] b) (sym (ap (λ z. take c z) e ∙ take_append c h extra l)) (s d b at)
@@ -73,7 +73,7 @@ above_none c None rest l = refl
 above_none c (Some x) rest l = rw (le-ltb c x.receiver_clock (l x refl)) refl
 
 -- all events of acts after a clock are above it
-pub above_whole : (c k : ℕ) (h : History) → c ≤ k → above c (events_from k h) ≡ events_from k h
+above_whole : (c k : ℕ) (h : History) → c ≤ k → above c (events_from k h) ≡ events_from k h
 above_whole c k [] l = refl
 above_whole c k (x ∷ h) l =
     above_some c (event_at (k + 1) x.0 x.1) (events_from (k + 1) h) (λ e is. (let z = event_clock (k + 1) x.0 x.1 e is in omega (arith, z)))

@@ -31,7 +31,8 @@ use Rattle.rank_node.specs.Replay.{named, is_before, is_last, replay_turn_at, re
 use Rattle.rank_node.specs.Replay.{try_turn, tried_named, TriesNamed}
 use Rattle.world_model.proofs.Lists.Beginnings.{next_of_drop}
 use Rattle.world_model.proofs.Standing.InRun.{StandsIn-moved, NextAct, next_act, run_reaches}
-use Rattle.world_model.proofs.Standing.LiveRanks.{at_run, left_run, logs_run, settled_behind, RankStands-settled, RankStands-same_clock, RankStands-again, after_again}
+use Rattle.world_model.proofs.Standing.LiveRanks.{at_run, left_run, logs_run, settled_behind}
+use Rattle.world_model.proofs.Standing.LiveRanks.{RankStands-settled, RankStands-same_clock, RankStands-again, after_again}
 use Rattle.world_model.proofs.Runs.ActFitsWant.{FitsTakes, fits_receive, FitsHits, fits_probe, fits_try, fits_ended, wanted, stopped}
 use Rattle.world_model.proofs.Runs.ActFitsWant.{history_looks_up, first_event_late, first_event_first}
 use Rattle.world_model.proofs.Standing.ReplayFindsPacket.{is_now_true, names_it, packet_is, receive_turned, probe_turned, try_turned, IsOf}

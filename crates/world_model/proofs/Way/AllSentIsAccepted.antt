@@ -23,7 +23,7 @@ use Rattle.world_model.proofs.Way.FramesPassNoRank.{who, none_next, log_of, abov
 -- ---- what was accepted stays so
 
 -- A change of rank r's value keeps a pair drained, where nothing more is sent, no less is accepted, and the rank isn't behind if it wasn't.
-pub drained_kept : (P : ℕ → ℕ → Type 0) (w w' : WorldValue) (r : ℕ) (x y : Live) → IsLive w r x → w'.ranks ≡ slice_set w.ranks r (Some y) → w'.run ≡ w.run
+drained_kept : (P : ℕ → ℕ → Type 0) (w w' : WorldValue) (r : ℕ) (x y : Live) → IsLive w r x → w'.ranks ≡ slice_set w.ranks r (Some y) → w'.run ≡ w.run
     → x.rank.clock ≤ y.rank.clock
     → ((s : ℕ) → accepted_from x.rank.inbox s ≤ accepted_from y.rank.inbox s) → ((d : ℕ) → (backlog y.rank.log d).sent ≡ (backlog x.rank.log d).sent)
     → DrainedIn P w → DrainedIn P w'

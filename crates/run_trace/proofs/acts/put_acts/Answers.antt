@@ -1,7 +1,7 @@
 use Rattle.std.proofs.Common.{rules, false, ◌≡◌, ◌≤◌, ◌++◌, Some, length, slice_get, string_bytes}
 use Rattle.std.specs.Prelude.{get_or}
 use Rattle.std.proofs.lemmas.Option.{slice_get-get_or}
-use Rattle.send_index.specs.Posts.{run_before}
+use Rattle.send_index.specs.Sends.{run_before}
 use Rattle.run_trace.specs.Deliveries.{as_told, delivered}
 use Rattle.run_trace.specs.Lines.{order_text}
 use Rattle.run_trace.specs.Seen.{maybe_seen}

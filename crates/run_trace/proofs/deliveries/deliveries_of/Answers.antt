@@ -1,9 +1,10 @@
 use Rattle.std.proofs.Common.{rules, subst, sym, false, ◌≡◌, ◌++◌, ◌∷◌, [], ◌<◌, ◌≤◌, ◌+◌, Some, arith, length, slice_get}
 use Rattle.limits.specs.Limits.{most_ranks}
 use Rattle.crash_free.proofs.Lists.{as_many_before, one_more, stands_at}
-use Rattle.send_index.specs.Posts.{ArePosted, run_before}
+use Rattle.send_index.specs.Sends.{run_before}
+use Rattle.send_index.specs.Tables.{HasSends}
 use Rattle.run_trace.specs.Deliveries.{AreFoundUpTo, delivered, sent_at}
-use Rattle.run_trace.proofs.SentLemmas.{sender_is_sent}
+use Rattle.run_trace.proofs.SentLemmas.{match_is_sent}
 use Rattle.run_trace.proofs.DeliveryLemmas.{found_more, none_found}
 use Rattle.run_trace.proofs.deliveries.deliveries_of.Goals as goal
 
@@ -23,13 +24,13 @@ loop-index-preserved c =
     let few : p.rank < most_ranks = c.requires index p there in
     let is : sent_at acts c.send_for-send.result ≡ delivered (run_before acts index) p =
     subst (λ z. sent_at acts z ≡ delivered (run_before acts index) p)
-    (sym (c.send_for-send.ensures.sent (run_before acts index) c.loop-index.invariant.noted)) (sender_is_sent acts index p c.requires low few) in
+    (sym (c.send_for-send.ensures.sent (run_before acts index) c.loop-index.invariant.noted)) (match_is_sent acts index p c.requires low few) in
     let items : c.push.new.self.items ≡ c.mark.new.found.items ++ record { send = c.send_for-send.result; taken = false } ∷ [] = search rules in
     record {
       found =
           subst (λ z. AreFoundUpTo acts (index + 1) z) (sym items)
           (found_more acts index c.loop-index.found.items c.mark.new.found.items _ p c.loop-index.invariant.found there is c.mark.ensures);
       noted =
-          subst (λ z. ArePosted z c.note.new.self) (sym (one_more acts index p there))
+          subst (λ z. HasSends z c.note.new.self) (sym (one_more acts index p there))
           (c.in_ok-note.ensures.kept (run_before acts index) (sym (as_many_before acts index low)) c.loop-index.invariant.noted);
     }

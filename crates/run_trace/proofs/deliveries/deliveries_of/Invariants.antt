@@ -1,4 +1,5 @@
-use Rattle.send_index.specs.Posts.{ArePosted, run_before}
+use Rattle.send_index.specs.Sends.{run_before}
+use Rattle.send_index.specs.Tables.{HasSends}
 use Rattle.run_trace.specs.Deliveries.{AreFoundUpTo}
 use Rattle.run_trace.proofs.deliveries.deliveries_of.Given as goal
 
@@ -6,5 +7,5 @@ use Rattle.run_trace.proofs.deliveries.deliveries_of.Given as goal
 abbrev pub invariant-loop-index : goal.invariant-loop-index
 invariant-loop-index l = record {
   found : AreFoundUpTo l.acts l.index l.found.items;
-  noted : ArePosted (run_before l.acts l.index) l.sends;
+  noted : HasSends (run_before l.acts l.index) l.sends;
 }

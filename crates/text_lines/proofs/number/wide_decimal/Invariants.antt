@@ -1,7 +1,6 @@
 use Rattle.std.proofs.Common.{◌≡◌, ◌^◌, ◌<◌, length}
-use Rattle.text_lines.specs.Numbers.{decimal_of, value_behind}
-use Rattle.outcome_text.specs.Numbers.{wide_of}
-use Rattle.outcome_text.proofs.number.wide_in.Given as goal
+use Rattle.text_lines.specs.Numbers.{decimal_of, value_behind, wide_of}
+use Rattle.text_lines.proofs.number.wide_decimal.Given as goal
 
 -- what is left of the digits makes the value so far the word's
 abbrev pub invariant-loop-rest : goal.invariant-loop-rest

@@ -9,7 +9,8 @@ use Rattle.matching.specs.declared.packet.Context.{Context}
 use Rattle.rank_machine.specs.Acts.{Act, sends, takes, hits, misses, prints}
 use Rattle.crash_free.specs.Runs.{Passed, add_if, at_place}
 use Rattle.crash_free.proofs.Lists.{push_cases}
-use Rattle.send_index.specs.Posts.{ArePosted, found_at, found_by, noted, noted_by, of_pair, pair, post_at, post_for, posts_of, sender_of, sends_to}
+use Rattle.send_index.specs.Sends.{matched_by, matching_send, nth_send, send_indices, sends_to}
+use Rattle.send_index.specs.Tables.{HasSends, found_at, found_by, noted, noted_by, of_pair, pair}
 
 -- ranks that there can be
 few_source : (s d : ℕ) → (nat_lt s most_ranks && nat_lt d most_ranks) ≡ true → s < most_ranks
@@ -25,27 +26,27 @@ none_added true xs x = refl
 none_added false xs x = refl
 
 -- where no act is made, nothing is sent
-pub none_posted : ArePosted [] (replicate (most_ranks * most_ranks) [])
-none_posted = record {
+pub no_sends : HasSends [] (replicate (most_ranks * most_ranks) [])
+no_sends = record {
   as_many = refl;
   each = λ source dest few.
       get_or-replicate (most_ranks * most_ranks) (pair source dest) [] [] (omega (arith, few_source source dest few, few_dest source dest few));
 }
 
 -- what a table has at a place is the send at that place
-same_at : (run : List Passed) (table : List (List ℕ)) (source dest place : ℕ) → ArePosted run table
-    → found_at table source dest place ≡ post_at run source dest place
+same_at : (run : List Passed) (table : List (List ℕ)) (source dest place : ℕ) → HasSends run table
+    → found_at table source dest place ≡ nth_send run source dest place
 same_at run table source dest place kept = go (nat_lt source most_ranks && nat_lt dest most_ranks) refl
   where
-    go : (t : Bool) → (nat_lt source most_ranks && nat_lt dest most_ranks) ≡ t → found_at table source dest place ≡ post_at run source dest place
+    go : (t : Bool) → (nat_lt source most_ranks && nat_lt dest most_ranks) ≡ t → found_at table source dest place ≡ nth_send run source dest place
     go true is = rw is (ap (λ xs. at_place xs place) (kept.each source dest is))
     go false is = rw is refl
 
 -- so what it has for an act is the send of the act's message
-pub found_is : (run : List Passed) (table : List (List ℕ)) (p : Passed) → ArePosted run table → found_by table p.rank p.act ≡ sender_of run p
+pub found_is : (run : List Passed) (table : List (List ℕ)) (p : Passed) → HasSends run table → found_by table p.rank p.act ≡ matching_send run p
 found_is run table p kept = go p.act
   where
-    go : (act : Act) → found_by table p.rank act ≡ post_for run p.rank act
+    go : (act : Act) → found_by table p.rank act ≡ matched_by run p.rank act
     go (sends dest context tag items) = refl
     go (takes source place) = same_at run table source p.rank place kept
     go (hits source place) = same_at run table source p.rank place kept
@@ -53,39 +54,39 @@ found_is run table p kept = go p.act
     go (prints value) = refl
 
 -- an act that is no send leaves the table
-notes_nothing : (run : List Passed) (table : List (List ℕ)) (p : Passed) → ArePosted run table
-    → ((dest : ℕ) → sends_to dest p.act ≡ false) → ArePosted (p ∷ run) table
+notes_nothing : (run : List Passed) (table : List (List ℕ)) (p : Passed) → HasSends run table
+    → ((dest : ℕ) → sends_to dest p.act ≡ false) → HasSends (p ∷ run) table
 notes_nothing run table p kept none = record {
   as_many = kept.as_many;
   each = λ source dest few.
       kept.each source dest few
-      ∙ sym (none_added (p.rank == source) (posts_of run source dest) (length run))
-      ∙ ap (λ t. add_if (p.rank == source && t) (posts_of run source dest) (length run)) (sym (none dest));
+      ∙ sym (none_added (p.rank == source) (send_indices run source dest) (length run))
+      ∙ ap (λ t. add_if (p.rank == source && t) (send_indices run source dest) (length run)) (sym (none dest));
 }
 
 -- a send is noted with its pair
 module _ (run : List Passed) (table : List (List ℕ)) (p : Passed) (dest tag : ℕ) (context : Context) (items : List ℤ)
-    (is_send : p.act ≡ sends dest context tag items) (kept : ArePosted run table) where
+    (is_send : p.act ≡ sends dest context tag items) (kept : HasSends run table) where
   -- of its pair there is one more
-  posts_own : posts_of (p ∷ run) p.rank dest ≡ posts_of run p.rank dest ++ length run ∷ []
-  posts_own =
-      ap (λ a. add_if (p.rank == p.rank && sends_to dest a) (posts_of run p.rank dest) (length run)) is_send
+  sends_own : send_indices (p ∷ run) p.rank dest ≡ send_indices run p.rank dest ++ length run ∷ []
+  sends_own =
+      ap (λ a. add_if (p.rank == p.rank && sends_to dest a) (send_indices run p.rank dest) (length run)) is_send
       ∙ rw (eq-eqb p.rank p.rank refl, eq-eqb dest dest refl) refl
 
   -- of another pair there are as many
-  posts_other : (source to : ℕ) → (p.rank ≡ source → dest ≡ to → ⊥) → posts_of (p ∷ run) source to ≡ posts_of run source to
-  posts_other source to ne =
-      ap (λ a. add_if (p.rank == source && sends_to to a) (posts_of run source to) (length run)) is_send
+  sends_other : (source to : ℕ) → (p.rank ≡ source → dest ≡ to → ⊥) → send_indices (p ∷ run) source to ≡ send_indices run source to
+  sends_other source to ne =
+      ap (λ a. add_if (p.rank == source && sends_to to a) (send_indices run source to) (length run)) is_send
       ∙ go (cases_eq p.rank source) (cases_eq dest to)
     where
       go : ((p.rank ≡ source) ⊎ (p.rank ≡ source → ⊥)) → ((dest ≡ to) ⊎ (dest ≡ to → ⊥))
-          → add_if (p.rank == source && (dest == to)) (posts_of run source to) (length run) ≡ posts_of run source to
+          → add_if (p.rank == source && (dest == to)) (send_indices run source to) (length run) ≡ send_indices run source to
       go (inl one) (inl other) = absurd (ne one other)
       go (inl one) (inr other) =
-          ap (λ t. add_if (p.rank == source && t) (posts_of run source to) (length run)) (ne_eqb dest to other)
-          ∙ none_added (p.rank == source) (posts_of run source to) (length run)
+          ap (λ t. add_if (p.rank == source && t) (send_indices run source to) (length run)) (ne_eqb dest to other)
+          ∙ none_added (p.rank == source) (send_indices run source to) (length run)
       go (inr one) rest =
-          ap (λ t. add_if (t && (dest == to)) (posts_of run source to) (length run)) (ne_eqb p.rank source one)
+          ap (λ t. add_if (t && (dest == to)) (send_indices run source to) (length run)) (ne_eqb p.rank source one)
 
   -- the table has one more of the pair
   table_own : (few : (nat_lt p.rank most_ranks && nat_lt dest most_ranks) ≡ true)
@@ -118,27 +119,27 @@ module _ (run : List Passed) (table : List (List ℕ)) (p : Passed) (dest tag : 
 
   at_each : (source to : ℕ) → (nat_lt source most_ranks && nat_lt to most_ranks) ≡ true
       → ((p.rank ≡ source) ⊎ (p.rank ≡ source → ⊥)) → ((dest ≡ to) ⊎ (dest ≡ to → ⊥))
-      → of_pair (noted p.rank dest (length run) table) source to ≡ posts_of (p ∷ run) source to
+      → of_pair (noted p.rank dest (length run) table) source to ≡ send_indices (p ∷ run) source to
   at_each source to low (inl one) (inl other) =
       let few : (nat_lt p.rank most_ranks && nat_lt dest most_ranks) ≡ true = rw (one, other) low in
-      rw (← one, ← other) (table_own few ∙ ap (λ xs. xs ++ length run ∷ []) (kept.each p.rank dest few) ∙ sym posts_own)
+      rw (← one, ← other) (table_own few ∙ ap (λ xs. xs ++ length run ∷ []) (kept.each p.rank dest few) ∙ sym sends_own)
   at_each source to low (inl one) (inr other) =
-      table_other source to low (λ e f. other f) ∙ kept.each source to low ∙ sym (posts_other source to (λ e f. other f))
+      table_other source to low (λ e f. other f) ∙ kept.each source to low ∙ sym (sends_other source to (λ e f. other f))
   at_each source to low (inr one) rest =
-      table_other source to low (λ e f. one e) ∙ kept.each source to low ∙ sym (posts_other source to (λ e f. one e))
+      table_other source to low (λ e f. one e) ∙ kept.each source to low ∙ sym (sends_other source to (λ e f. one e))
 
-  notes_send : ArePosted (p ∷ run) (noted p.rank dest (length run) table)
+  notes_send : HasSends (p ∷ run) (noted p.rank dest (length run) table)
   notes_send = record {
     as_many = as_long;
     each = λ source to low. at_each source to low (cases_eq p.rank source) (cases_eq dest to);
   }
 
 -- once an act is noted, it is the newest of the run that is noted
-pub notes_act : (run : List Passed) (table : List (List ℕ)) (p : Passed) (index : ℕ) → index ≡ length run → ArePosted run table
-    → ArePosted (p ∷ run) (noted_by p.rank p.act index table)
+pub notes_act : (run : List Passed) (table : List (List ℕ)) (p : Passed) (index : ℕ) → index ≡ length run → HasSends run table
+    → HasSends (p ∷ run) (noted_by p.rank p.act index table)
 notes_act run table p index is kept = rw is (go p.act refl)
   where
-    go : (act : Act) → p.act ≡ act → ArePosted (p ∷ run) (noted_by p.rank act (length run) table)
+    go : (act : Act) → p.act ≡ act → HasSends (p ∷ run) (noted_by p.rank act (length run) table)
     go (sends dest context tag items) is = notes_send run table p dest tag context items is kept
     go (takes source place) is = notes_nothing run table p kept (λ dest. ap (sends_to dest) is)
     go (hits source place) is = notes_nothing run table p kept (λ dest. ap (sends_to dest) is)
@@ -146,38 +147,38 @@ notes_act run table p index is kept = rw is (go p.act refl)
     go (prints value) is = notes_nothing run table p kept (λ dest. ap (sends_to dest) is)
 
 -- a send was made before what follows the run
-index_low : (run : List Passed) (s d k i : ℕ) → slice_get (posts_of run s d) k ≡ Some i → i < length run
+index_low : (run : List Passed) (s d k i : ℕ) → slice_get (send_indices run s d) k ≡ Some i → i < length run
 index_low [] s d k i there = absurd cc
 index_low (p ∷ run) s d k i there = go (index_low run s d k i) (p.rank == s && sends_to d p.act) there
   where
-    go : (slice_get (posts_of run s d) k ≡ Some i → i < length run) → (t : Bool)
-        → slice_get (add_if t (posts_of run s d) (length run)) k ≡ Some i → i < length (p ∷ run)
-    go before true is = elim (push_cases (posts_of run s d) (length run) k i is) as (λ z. i < length (p ∷ run)) [
+    go : (slice_get (send_indices run s d) k ≡ Some i → i < length run) → (t : Bool)
+        → slice_get (add_if t (send_indices run s d) (length run)) k ≡ Some i → i < length (p ∷ run)
+    go before true is = elim (push_cases (send_indices run s d) (length run) k i is) as (λ z. i < length (p ∷ run)) [
       | inl h ↦ (let low = before h in omega (arith, low))
       | inr h ↦ omega (arith, h.1)
     ]
     go before false is = let low = before is in omega (arith, low)
 
 -- the send at a place among them is in the run
-placed_low : (run : List Passed) (s d place i : ℕ) → at_place (posts_of run s d) place ≡ Some i → i < length run
+placed_low : (run : List Passed) (s d place i : ℕ) → at_place (send_indices run s d) place ≡ Some i → i < length run
 placed_low run s d zero i there = absurd cc
 placed_low run s d (suc k) i there = index_low run s d k i there
 
 -- so is the one that is looked up
-post_low : (run : List Passed) (s d place i : ℕ) → post_at run s d place ≡ Some i → i < length run
-post_low run s d place i there = go (nat_lt s most_ranks && nat_lt d most_ranks) refl
+nth_low : (run : List Passed) (s d place i : ℕ) → nth_send run s d place ≡ Some i → i < length run
+nth_low run s d place i there = go (nat_lt s most_ranks && nat_lt d most_ranks) refl
   where
     go : (t : Bool) → (nat_lt s most_ranks && nat_lt d most_ranks) ≡ t → i < length run
     go true is = placed_low run s d place i (rw is at there)
     go false is = let none : None ≡ Some i = rw is at there in absurd cc
 
 -- so was that of the message that an act takes or finds
-pub sender_low : (run : List Passed) (p : Passed) (i : ℕ) → sender_of run p ≡ Some i → i < length run
-sender_low run p i there = go p.act there
+pub match_low : (run : List Passed) (p : Passed) (i : ℕ) → matching_send run p ≡ Some i → i < length run
+match_low run p i there = go p.act there
   where
-    go : (act : Act) → post_for run p.rank act ≡ Some i → i < length run
+    go : (act : Act) → matched_by run p.rank act ≡ Some i → i < length run
     go (sends dest context tag items) is = absurd cc
-    go (takes source place) is = post_low run source p.rank place i is
-    go (hits source place) is = post_low run source p.rank place i is
+    go (takes source place) is = nth_low run source p.rank place i is
+    go (hits source place) is = nth_low run source p.rank place i is
     go misses is = absurd cc
     go (prints value) is = absurd cc

@@ -1,6 +1,6 @@
 use Rattle.std.proofs.Common.{◌∙◌, arith}
-use Rattle.outcome_text.proofs.NumberLaws.{at_end, value_more}
-use Rattle.outcome_text.proofs.number.wide_in.Goals as goal
+use Rattle.text_lines.proofs.NumberLaws.{at_end, value_more}
+use Rattle.text_lines.proofs.number.wide_decimal.Goals as goal
 
 pub loop-rest-preserved : goal.loop-rest-preserved
 loop-rest-preserved c = record {
