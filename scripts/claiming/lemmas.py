@@ -91,6 +91,7 @@ class Lemmas:
         return self.words[lemma.name] > WORD.findall(own_text(lemma)).count(lemma.name)
 
     def is_needlessly_pub(self, lemma: Item) -> bool:
+        # (one in a module has its text indented)
         return lemma.text.startswith("pub ") and self.files[lemma.name] == 1 and lemma.name not in self.in_rulesets
 
     def can_cite(self, crate: Crate, other: str, lemma: Item) -> bool:
