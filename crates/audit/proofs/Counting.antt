@@ -4,11 +4,11 @@ use Rattle.std.proofs.Common.{refl, sym, ap, subst, ◌∙◌, arith, length-app
 use Rattle.std.specs.Prelude.{SomeIff, option_map}
 use Rattle.std.proofs.lemmas.List.{take_more, map-append}
 use Rattle.std.proofs.lemmas.Option.{slice_get_within, slice_get_read, slice_get-map, get_or_from_slice_get}
-use Rattle.sequential_logger.specs.Event.{EventValue, event_of, acts_of, count_of, IsEvent}
-use Rattle.sequential_logger.specs.Misses.{misses_after, parts_at, parts_of}
-use Rattle.sequential_logger.specs.declared.kind.Kind.{Kind}
-use Rattle.sequential_logger.specs.declared.kind.Kind.TheVariants as kind
-use Rattle.sequential_logger.proofs.Misses.{parts_length, expand_push}
+use Rattle.event_logger.specs.Sequential.Event.{EventValue, event_of, acts_of, count_of, IsEvent}
+use Rattle.event_logger.specs.Sequential.Misses.{misses_after, parts_at, parts_of}
+use Rattle.event_logger.specs.declared.sequential.kind.Kind.{Kind}
+use Rattle.event_logger.specs.declared.sequential.kind.Kind.TheVariants as kind
+use Rattle.event_logger.proofs.SequentialLaws.Misses.{parts_length, expand_push}
 use Rattle.crash_free.specs.Runs.{Passed, History, history}
 use Rattle.audit.specs.Rows.{row, event_at, events_from, cons_some, expand}
 use Rattle.audit.specs.Counts.{ends_from, IsPlace}

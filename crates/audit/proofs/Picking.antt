@@ -5,8 +5,8 @@ use Rattle.std.specs.Prelude.{IsSomeAnd, IfSome, IfNone, option_map, is_some, na
 use Rattle.std.proofs.lemmas.Bool.Decides.{nat_tests}
 use Rattle.std.proofs.lemmas.List.{append-nil, append_assoc, length-map}
 use Rattle.std.proofs.lemmas.Option.{slice_get-get_or, slice_get-map, slice_get_read, slice_get_past, slice_get_within, get_or_from_slice_get}
-use Rattle.sequential_logger.specs.Event.{EventValue, event_of}
-use Rattle.sequential_logger.specs.declared.kind.Kind.TheVariants as kind
+use Rattle.event_logger.specs.Sequential.Event.{EventValue, event_of}
+use Rattle.event_logger.specs.declared.sequential.kind.Kind.TheVariants as kind
 use Rattle.matching.specs.declared.packet.Context.TheVariants.{PointToPoint}
 use Rattle.matching.specs.declared.selector.Selector.{Selector}
 use Rattle.rank_machine.specs.declared.want.Want.{Want}

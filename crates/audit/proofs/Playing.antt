@@ -7,8 +7,8 @@ use Rattle.std.proofs.lemmas.Bool.{cases_eq}
 use Rattle.std.proofs.lemmas.List.{append-nil, length_push}
 use Rattle.std.proofs.lemmas.Option.{slice_get_within}
 use Rattle.limits.specs.Limits.{greatest_clock}
-use Rattle.sequential_logger.specs.Event.{EventValue, IsEvent}
-use Rattle.sequential_logger.specs.declared.kind.Kind.{Kind}
+use Rattle.event_logger.specs.Sequential.Event.{EventValue, IsEvent}
+use Rattle.event_logger.specs.declared.sequential.kind.Kind.{Kind}
 use Rattle.rank_language.specs.Program.{ProgramValue}
 use Rattle.rank_machine.specs.declared.want.Want.{Want}
 use Rattle.rank_machine.specs.declared.want.Want.TheVariants as want

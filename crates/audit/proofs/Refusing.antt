@@ -4,7 +4,7 @@ use Rattle.std.proofs.Common.{◌≡◌, ◌≢◌, ℕ, ℤ, ◌+◌, ◌≤◌
 use Rattle.std.proofs.Common.{sym, ap, subst, ◌∙◌, arith}
 use Rattle.std.specs.Prelude.{Result, Ok, Err, IsSomeAnd, IfNone, IfErr, is_ok, false}
 use Rattle.limits.specs.Limits.{greatest_clock}
-use Rattle.sequential_logger.specs.Event.{EventValue}
+use Rattle.event_logger.specs.Sequential.Event.{EventValue}
 use Rattle.rank_machine.specs.declared.want.Want.{Want}
 use Rattle.rank_machine.specs.declared.want.Want.TheVariants as want
 use Rattle.rank_machine.specs.Wants.{payload}

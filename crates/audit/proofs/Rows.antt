@@ -3,7 +3,7 @@
 use Rattle.std.proofs.Common.{◌≡◌, ℕ, suc, ◌+◌, false, List, [], ◌∷◌, ◌++◌, Option, Some, None, length, refl, ap, subst, ◌∙◌, arith, ◌⊎◌, inl, inr}
 use Rattle.std.proofs.lemmas.List.{append-nil}
 use Rattle.std.proofs.lemmas.Bool.{cases_eq}
-use Rattle.sequential_logger.specs.Event.{EventValue}
+use Rattle.event_logger.specs.Sequential.Event.{EventValue}
 use Rattle.rank_machine.specs.Acts.{Act, Message, sends, takes, hits, misses, prints}
 use Rattle.crash_free.specs.Runs.{Passed, History, history, sent, send_at, print_at, looked_up, takes_it}
 use Rattle.crash_free.proofs.Lists.{history-own, history-other}

@@ -3,7 +3,7 @@
 -- acts.
 use Rattle.std.specs.Prelude.{◌≡◌, ℕ, ◌+◌, ◌<◌, ◌≤◌, List, [], ◌∷◌, length, map, Some, slice_get, slice_index_or}
 use Rattle.limits.specs.Limits.{greatest_clock}
-use Rattle.sequential_logger.specs.Event.{EventValue, count_of}
+use Rattle.event_logger.specs.Sequential.Event.{EventValue, count_of}
 use Rattle.audit.specs.Rows.{expand}
 
 -- after each event, how many acts it and those before it stand for, when so many come before the

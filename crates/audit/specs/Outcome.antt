@@ -2,8 +2,8 @@
 -- what validation after the fact has to find (consistent states, which are those of executions
 -- without failures: Elnozahy, Alvisi, Wang and Johnson 2002, section 2).
 use Rattle.std.specs.Prelude.{◌≡◌, ℕ, ℤ, ◌==◌, List, [], ◌∷◌, length, Some, slice_get}
-use Rattle.sequential_logger.specs.Event.{EventValue}
-use Rattle.ports.specs.declared.line.Line.{Line}
+use Rattle.event_logger.specs.Sequential.Event.{EventValue}
+use Rattle.matching.specs.declared.line.Line.{Line}
 use Rattle.rank_language.specs.Program.{ProgramValue}
 use Rattle.rank_machine.specs.declared.want.Want.{Want}
 use Rattle.rank_machine.specs.declared.want.Want.TheVariants as want

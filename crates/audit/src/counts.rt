@@ -1,14 +1,14 @@
 //! How many acts the stored events of a rank stand for.
 ghost use Rattle.std.specs.Prelude.{◌≡◌, ◌<◌, ◌-◌, length, slice_get, IfSome, IfNone, IfOk};
 ghost use Rattle.limits.specs.Limits.{greatest_clock};
-ghost use Rattle.sequential_logger.specs.Event.{count_of};
-ghost use Rattle.sequential_logger.specs.Misses.{parts_of};
+ghost use Rattle.event_logger.specs.Sequential.Event.{count_of};
+ghost use Rattle.event_logger.specs.Sequential.Misses.{parts_of};
 ghost use Rattle.audit.specs.Rows.{expand};
 ghost use Rattle.audit.specs.Counts.{ends_from, AreCounted, AreTooMany, IsPlace};
 
 use crate::outcome::Outcome;
+use event_logger::{Event, Kind};
 use limits::{GREATEST_CLOCK, Heap};
-use sequential_logger::{Event, Kind};
 use std::alloc::AllocError;
 use std::marker::Model;
 

@@ -8,11 +8,12 @@ mod auditor;
 mod clocks;
 mod counts;
 mod fault;
+pub mod final_runs;
 mod lines;
 mod outcome;
 mod trace;
 
 pub use auditing::{Audited, audit, find_run};
 pub use fault::AuditFault;
+pub use matching::Line;
 pub use outcome::{End, Outcome};
-pub use ports::Line;

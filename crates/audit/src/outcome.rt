@@ -1,10 +1,10 @@
 //! What is known of a run afterwards.
 ghost use Rattle.std.specs.Prelude.{◌≡◌, length};
 
+use event_logger::Event;
 use limits::Heap;
-use ports::Line;
+use matching::Line;
 use rank_machine::MachineFault;
-use sequential_logger::Event;
 use std::marker::Model;
 
 /// How a rank ended.

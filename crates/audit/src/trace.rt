@@ -6,8 +6,8 @@ ghost use Rattle.audit.specs.Trace.{AreInOrder, empty_trace, with_send, with_eve
 
 use crate::clocks::Clocks;
 use crate::lines::RankLines;
+use event_logger::Event;
 use limits::{GREATEST_CLOCK, Heap};
-use sequential_logger::Event;
 use std::alloc::AllocError;
 use std::marker::Model;
 

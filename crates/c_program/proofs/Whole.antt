@@ -1,7 +1,7 @@
 -- The whole C text, put together.
 use Rattle.std.proofs.Common.{◌≡◌, ℕ, List, ap, ◌∙◌}
-use Rattle.rank_checker.specs.Faults.{IsText}
-use Rattle.rank_grammar.specs.Forms.{Form}
+use Rattle.rank_text.specs.Checker.Faults.{IsText}
+use Rattle.rank_text.specs.Grammar.Forms.{Form}
 use Rattle.rank_language.specs.StandOn.{StandOn}
 use Rattle.c_program.specs.Whole.{IsCText, c_text}
 

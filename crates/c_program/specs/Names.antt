@@ -1,6 +1,6 @@
 -- The names of a rank program in C (ISO/IEC 9899:1999, "Programming languages: C", section 6.4.1: keywords).
 use Rattle.std.specs.Prelude.{ℕ, nat_eq, Bool, false, ◌||◌, List, [], ◌∷◌, ◌++◌, codes, map, if◌then◌else◌}
-use Rattle.rank_checker.specs.Scope.{is_name_in}
+use Rattle.rank_text.specs.Checker.Scope.{is_name_in}
 use Rattle.c_program.specs.declared.names.TheConstants.{C_WORDS}
 
 -- the words that a C compiler may take for itself

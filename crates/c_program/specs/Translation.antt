@@ -2,16 +2,16 @@
 -- text define. What these functions do isn't defined here.
 use Rattle.std.specs.Prelude.{ℕ, zero, suc, List, [], ◌∷◌, ◌++◌, codes}
 use Rattle.std.specs.Fmt.{decimal}
-use Rattle.rank_grammar.specs.declared.token.Operator.{Operator}
-use Rattle.rank_grammar.specs.declared.token.Operator.TheVariants.{Add, Subtract, Multiply, Divide, Remainder}
-use Rattle.rank_grammar.specs.declared.token.Operator.TheVariants.{Equal, NotEqual, Less, LessEqual, Greater, GreaterEqual}
-use Rattle.rank_grammar.specs.declared.token.Reduction.{Reduction}
-use Rattle.rank_grammar.specs.declared.token.Reduction.TheVariants as reduces
-use Rattle.rank_grammar.specs.Tree.{Tree, number, variable, item, reading, negation, operation}
-use Rattle.rank_grammar.specs.Forms.{Pattern, any, value, Payload, lone, one}
-use Rattle.rank_grammar.specs.Forms.{Form, var_form, array_form, let_form, item_form, if_form, else_form, end_form, while_form}
-use Rattle.rank_grammar.specs.Forms.{send_form, recv_form, probe_form, try_probe_form, print_form, barrier_form, bcast_form, reduce_form}
-use Rattle.rank_printer.specs.Canonical.{depth_after, depth_of, program_text, reading_text}
+use Rattle.rank_text.specs.declared.grammar.token.Operator.{Operator}
+use Rattle.rank_text.specs.declared.grammar.token.Operator.TheVariants.{Add, Subtract, Multiply, Divide, Remainder}
+use Rattle.rank_text.specs.declared.grammar.token.Operator.TheVariants.{Equal, NotEqual, Less, LessEqual, Greater, GreaterEqual}
+use Rattle.rank_text.specs.declared.grammar.token.Reduction.{Reduction}
+use Rattle.rank_text.specs.declared.grammar.token.Reduction.TheVariants as reduces
+use Rattle.rank_text.specs.Grammar.Tree.{Tree, number, variable, item, reading, negation, operation}
+use Rattle.rank_text.specs.Grammar.Forms.{Pattern, any, value, Payload, lone, one}
+use Rattle.rank_text.specs.Grammar.Forms.{Form, var_form, array_form, let_form, item_form, if_form, else_form, end_form, while_form}
+use Rattle.rank_text.specs.Grammar.Forms.{send_form, recv_form, probe_form, try_probe_form, print_form, barrier_form, bcast_form, reduce_form}
+use Rattle.rank_text.specs.Printer.Canonical.{depth_after, depth_of, program_text, reading_text}
 use Rattle.c_program.specs.Names.{c_name}
 
 -- a variable or an array of the rank, by its name

@@ -1,7 +1,7 @@
 -- The whole C text of a rank program.
 use Rattle.std.specs.Prelude.{◌≡◌, ℕ, List, ◌++◌}
-use Rattle.rank_checker.specs.Faults.{IsText}
-use Rattle.rank_grammar.specs.Forms.{Form}
+use Rattle.rank_text.specs.Checker.Faults.{IsText}
+use Rattle.rank_text.specs.Grammar.Forms.{Form}
 use Rattle.rank_language.specs.StandOn.{StandOn}
 use Rattle.c_program.specs.Translation.{c_program}
 use Rattle.c_program.specs.declared.runtime.head.TheConstants.{HEAD}

@@ -1,12 +1,12 @@
 //! Writes an expression.
 ghost use Rattle.std.specs.Prelude.{◌≡◌, ◌++◌, OnOk};
-ghost use Rattle.rank_grammar.specs.Tree.{tree_of};
+ghost use Rattle.rank_text.specs.Grammar.Tree.{tree_of};
 ghost use Rattle.c_program.specs.Translation.{all_text, c_expression, operator_call, own_text};
 
 use crate::names::put_name;
 use limits::Heap;
-use rank_grammar::{Name, Operator, Written};
-use rank_printer::{put_number, reading_word};
+use rank_text::grammar::{Name, Operator, Written};
+use rank_text::printer::{put_number, reading_word};
 use std::alloc::AllocError;
 
 /// The function of an operator, with its parenthesis.

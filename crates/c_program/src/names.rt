@@ -1,10 +1,10 @@
 //! Names of a rank program as names in C.
 ghost use Rattle.std.specs.Prelude.{◌≡◌, ◌++◌, OnOk, map};
-ghost use Rattle.rank_checker.specs.Scope.{is_name_in};
+ghost use Rattle.rank_text.specs.Checker.Scope.{is_name_in};
 ghost use Rattle.c_program.specs.Names.{c_name, ending_of, is_reserved};
 
 use limits::Heap;
-use rank_grammar::Name;
+use rank_text::grammar::Name;
 use std::alloc::AllocError;
 
 /// The keywords of C up to its edition of 2024, and the words that GNU compilers define, without

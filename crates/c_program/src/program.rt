@@ -1,14 +1,14 @@
 //! Writes the part of the text that differs from program to program.
 ghost use Rattle.std.specs.Prelude.{◌≡◌, ◌++◌, IfOk, OnOk};
-ghost use Rattle.rank_grammar.specs.SeenForms.{form_seen};
-ghost use Rattle.rank_checker.specs.SeenLines.{forms_seen};
+ghost use Rattle.rank_text.specs.Grammar.SeenForms.{form_seen};
+ghost use Rattle.rank_text.specs.Checker.SeenLines.{forms_seen};
 ghost use Rattle.c_program.specs.Translation.{c_comment, c_indentation, c_lines, c_member, c_members, c_program, c_struct, function_begin, struct_begin};
 
 use crate::names::put_name;
 use crate::statement::put_statement;
 use limits::Heap;
-use rank_grammar::Form;
-use rank_printer::{depth_after, depth_of, put_number};
+use rank_text::grammar::Form;
+use rank_text::printer::{depth_after, depth_of, put_number};
 use std::alloc::AllocError;
 
 /// Writes four spaces for the function, and for each open block.
@@ -36,7 +36,7 @@ fn put_comment(
     text.extend_from_slice(b"// ".as_slice())?;
     put_number(alloc, text, number as u64)?;
     text.extend_from_slice(b": ".as_slice())?;
-    let line = rank_printer::print(alloc, forms)?;
+    let line = rank_text::printer::print(alloc, forms)?;
     text.extend_from_slice(line.as_slice())
 }
 

@@ -1,14 +1,14 @@
 //! Writes a statement.
 ghost use Rattle.std.specs.Prelude.{◌≡◌, ◌++◌, OnOk, codes};
-ghost use Rattle.rank_grammar.specs.Forms.{bcast_form, item_form, let_form, probe_form, recv_form, reduce_form, send_form, try_probe_form};
-ghost use Rattle.rank_grammar.specs.Forms.{lone, one};
-ghost use Rattle.rank_grammar.specs.SeenForms.{form_seen, pattern_of, payload_seen};
-ghost use Rattle.rank_grammar.specs.Tree.{tree_of};
+ghost use Rattle.rank_text.specs.Grammar.Forms.{bcast_form, item_form, let_form, probe_form, recv_form, reduce_form, send_form, try_probe_form};
+ghost use Rattle.rank_text.specs.Grammar.Forms.{lone, one};
+ghost use Rattle.rank_text.specs.Grammar.SeenForms.{form_seen, pattern_of, payload_seen};
+ghost use Rattle.rank_text.specs.Grammar.Tree.{tree_of};
 ghost use Rattle.c_program.specs.Translation.{all_text, c_expression, c_pattern, c_patterns, c_send, c_statement, c_target, c_two, reduction_call};
 
 use crate::expression::{put_all, put_expression, put_own};
 use limits::Heap;
-use rank_grammar::{Form, Name, Pattern, Payload, Reduction, Written};
+use rank_text::grammar::{Form, Name, Pattern, Payload, Reduction, Written};
 use std::alloc::AllocError;
 
 fn put_comma(text: &mut Vec<u8, Heap>) -> Result<(), AllocError>

@@ -1,18 +1,18 @@
 //! The whole C text of a rank program.
 ghost use Rattle.std.specs.Prelude.{◌≡◌, Err, IfErr, IfOk, List};
-ghost use Rattle.rank_checker.specs.declared.fault.ParseFault.TheVariants.{Fault, Memory};
-ghost use Rattle.rank_checker.specs.declared.fault.ProgramFault.{ProgramFault};
-ghost use Rattle.rank_checker.specs.Faults.{IsFaultOf, IsText};
-ghost use Rattle.rank_checker.specs.SeenLines.{forms_seen};
-ghost use Rattle.rank_grammar.specs.Forms as forms;
+ghost use Rattle.rank_text.specs.declared.checker.fault.ParseFault.TheVariants.{Fault, Memory};
+ghost use Rattle.rank_text.specs.declared.checker.fault.ProgramFault.{ProgramFault};
+ghost use Rattle.rank_text.specs.Checker.Faults.{IsFaultOf, IsText};
+ghost use Rattle.rank_text.specs.Checker.SeenLines.{forms_seen};
+ghost use Rattle.rank_text.specs.Grammar.Forms as forms;
 ghost use Rattle.c_program.specs.Whole.{IsCText, c_text};
 
 use crate::program::put_program;
 use crate::runtime::{fixed_collectives, fixed_ending, fixed_head, fixed_messages, fixed_values};
 use limits::Heap;
-use rank_checker::{ParseFault, ProgramFault, read};
-use rank_grammar::Form;
 use rank_language::statement_lines;
+use rank_text::checker::{ParseFault, ProgramFault, read};
+use rank_text::grammar::Form;
 use std::alloc::AllocError;
 
 /// The text of statements with the numbers of their lines.

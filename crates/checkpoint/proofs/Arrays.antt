@@ -4,9 +4,9 @@ use Rattle.std.proofs.Common.{Err, refl, sym, ap, subst, ◌∙◌, arith}
 use Rattle.std.specs.Prelude.{◌==◌}
 use Rattle.std.proofs.lemmas.List.{drop_more, take_more, take_all, map_push, flat_map_more}
 use Rattle.limits.specs.Limits.{most_items}
-use Rattle.rank_checker.specs.declared.scope.Array.{Array}
-use Rattle.rank_checker.specs.SeenLines.{arrays_seen}
-use Rattle.rank_checker.proofs.ScopeLaws.{arrays_push}
+use Rattle.rank_text.specs.declared.checker.scope.Array.{Array}
+use Rattle.rank_text.specs.Checker.SeenLines.{arrays_seen}
+use Rattle.rank_text.proofs.CheckerLaws.ScopeLaws.{arrays_push}
 use Rattle.rank_language.specs.Program.{AllSized}
 use Rattle.checkpoint.specs.declared.fault.ImageFault.{ImageFault}
 use Rattle.checkpoint.specs.declared.fault.ImageFault.TheVariants.{Version, Short, Long, Field, WrongProgram, Memory}

@@ -1,7 +1,7 @@
 //! Reads the header and the machine of an image.
 ghost use Rattle.std.specs.Prelude.{◌≡◌, ◌≤◌, ◌<◌, ◌==◌, nat_le, length, map, IfOk};
 ghost use Rattle.limits.specs.Limits.{greatest_tag, most_items};
-ghost use Rattle.rank_checker.specs.SeenLines.{arrays_seen};
+ghost use Rattle.rank_text.specs.Checker.SeenLines.{arrays_seen};
 ghost use Rattle.rank_language.specs.Program.{AllSized};
 ghost use Rattle.rank_machine.specs.Faults.{IsLeft};
 ghost use Rattle.rank_machine.specs.Collectives.{greatest_ordinal};
@@ -87,7 +87,7 @@ fn lengths_of<'b>(arrays: &[Array], bytes: &'b [u8]) -> Result<&'b [u8], ImageFa
 }
 
 /// How many arrays the program declares.
-#[tactic(auto, using(rank_checker::proofs::ScopeLaws::arrays_length))]
+#[tactic(auto, using(rank_text::proofs::CheckerLaws::ScopeLaws::arrays_length))]
 pub fn array_count(program: &Program) -> usize
     ensures { result ≡ length program.now.arrays }
 {

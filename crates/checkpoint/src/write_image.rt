@@ -5,7 +5,7 @@ ghost use Rattle.std.specs.List.{flat_map};
 ghost use Rattle.byteorder.specs.Endian.{big_bytes};
 ghost use Rattle.matching.specs.Packets.{left};
 ghost use Rattle.limits.specs.Limits.{most_items};
-ghost use Rattle.rank_checker.specs.SeenLines.{arrays_seen};
+ghost use Rattle.rank_text.specs.Checker.SeenLines.{arrays_seen};
 ghost use Rattle.rank_language.specs.Program.{AllSized};
 ghost use Rattle.checkpoint.specs.Image.{standing_of, status_of};
 ghost use Rattle.checkpoint.specs.Legal.{IsTable, IsPacket, IsStored};

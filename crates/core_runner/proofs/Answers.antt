@@ -13,12 +13,12 @@ use Rattle.core_runner.specs.declared.commands.refusal.Refusal.TheVariants as re
 use Rattle.rank_language.specs.Correct.{IsProgramOf}
 use Rattle.rank_language.specs.Named.{forms_of}
 use Rattle.rank_language.specs.Program.{ProgramValue}
-use Rattle.rank_printer.specs.Canonical.{program_text}
+use Rattle.rank_text.specs.Printer.Canonical.{program_text}
 use Rattle.rank_threads.specs.Causes.{AreCaused}
 use Rattle.rank_threads.specs.Kills.{kills_used}
 use Rattle.rank_threads.specs.Report.{IsOfALogger, IsReport}
 use Rattle.rank_threads.specs.declared.report.Report.{Report}
-use Rattle.script_text.specs.declared.line.ScriptLine.{ScriptLine}
+use Rattle.rank_text.specs.declared.script.line.ScriptLine.{ScriptLine}
 
 -- what a run promises of its report
 pub is_report_under : (program : ProgramValue) (ranks : ℕ) (script : List ScriptLine) (steps : ℕ) (report : Report)

@@ -3,7 +3,7 @@ use Rattle.std.proofs.Common.{◌≡◌, ℕ, zero, suc, ◌-◌, ◌^◌, ◌<�
 use Rattle.std.specs.Fmt.{decimal, styled_decimal, format_spec}
 use Rattle.std.proofs.Padding.{padded_integral_right, styled_decimal_is}
 use Rattle.core_runner.specs.CostsText.{right}
-use Rattle.sequential_logger.specs.Event.{EventValue}
+use Rattle.event_logger.specs.Sequential.Event.{EventValue}
 use Rattle.rank_threads.specs.Causes.{events_at}
 
 -- what the options for a column write is the number with spaces in front

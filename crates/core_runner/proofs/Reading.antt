@@ -1,11 +1,11 @@
 -- What is read of a text that a file holds.
 use Rattle.std.proofs.Common.{◌≡◌, ℕ, List, None, Ok}
-use Rattle.events_text.specs.Events.{events_of}
+use Rattle.world_model.specs.EventsText.Events.{events_of}
 use Rattle.rank_language.specs.Correct.{IsProgramOf}
 use Rattle.rank_language.specs.Program.{ProgramValue}
 use Rattle.core_runner.specs.Reading.{AreEventsIn, IsProgramIn, IsScriptIn}
-use Rattle.script_text.specs.Script.{first_fault, script_lines}
-use Rattle.script_text.specs.declared.line.ScriptLine.{ScriptLine}
+use Rattle.rank_text.specs.Scripts.Script.{first_fault, script_lines}
+use Rattle.rank_text.specs.declared.script.line.ScriptLine.{ScriptLine}
 use Rattle.world_model.specs.declared.event.WorldEvent.{WorldEvent}
 
 -- the program of a text that the file holds

@@ -15,7 +15,7 @@ use Rattle.core_runner.specs.declared.commands.world.Wanted.TheVariants as wante
 use Rattle.rank_language.specs.Correct.{IsProgramOf}
 use Rattle.rank_language.specs.Named.{forms_of}
 use Rattle.rank_language.specs.Program.{ProgramValue}
-use Rattle.rank_printer.specs.Canonical.{program_text}
+use Rattle.rank_text.specs.Printer.Canonical.{program_text}
 use Rattle.rank_threads.specs.declared.report.Report.{Report}
 
 -- Standard output is the text of this report, with what its run cost behind it in the form that is

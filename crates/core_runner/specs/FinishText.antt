@@ -3,7 +3,7 @@
 use Rattle.std.specs.Prelude.{◌≡◌, ℕ, ◌≤◌, List}
 use Rattle.core_runner.specs.declared.commands.refusal.Refusal.{Refusal}
 use Rattle.core_runner.specs.declared.commands.refusal.Refusal.TheVariants as refusal
-use Rattle.events_text.specs.Written.{events_text}
+use Rattle.world_model.specs.EventsText.Written.{events_text}
 use Rattle.world_model.specs.Finished.{ComesTo, IsAfter, steps_in}
 use Rattle.world_model.specs.Sequences.{FollowsAll}
 use Rattle.world_model.specs.ToTheEnd.{HasEnded, Leads}

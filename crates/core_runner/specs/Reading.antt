@@ -2,11 +2,11 @@
 -- may be read from it (`Files::holds`).
 use Rattle.std.specs.Prelude.{◌≡◌, ℕ, List, [], Ok, Option, Some, None}
 use Rattle.std.specs.Borrow.{Bor}
-use Rattle.events_text.specs.Events.{events_of}
+use Rattle.world_model.specs.EventsText.Events.{events_of}
 use Rattle.rank_language.specs.Correct.{IsProgramOf}
 use Rattle.rank_language.specs.Program.{ProgramValue}
-use Rattle.script_text.specs.Script.{first_fault, script_lines}
-use Rattle.script_text.specs.declared.line.ScriptLine.{ScriptLine}
+use Rattle.rank_text.specs.Scripts.Script.{first_fault, script_lines}
+use Rattle.rank_text.specs.declared.script.line.ScriptLine.{ScriptLine}
 use Rattle.world_model.specs.declared.event.WorldEvent.{WorldEvent}
 
 -- This is the program of a text that the file holds.

@@ -3,7 +3,7 @@ use Rattle.std.specs.Prelude.{ℕ, ◌+◌, ◌-◌, ◌^◌, min, sum, length, 
 use Rattle.std.specs.Fmt.{decimal}
 use Rattle.audit.specs.declared.outcome.End.{End}
 use Rattle.audit.specs.declared.outcome.End.TheVariants as end
-use Rattle.events_text.specs.Output.{ranks_text}
+use Rattle.world_model.specs.EventsText.Output.{ranks_text}
 use Rattle.rank_machine.specs.Faults.{fault_number}
 use Rattle.rank_threads.specs.declared.report.Report.{Report}
 

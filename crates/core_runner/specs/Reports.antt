@@ -8,7 +8,7 @@ use Rattle.rank_threads.specs.Causes.{AreCaused}
 use Rattle.rank_threads.specs.Kills.{kills_used}
 use Rattle.rank_threads.specs.Report.{IsOfALogger, IsReport}
 use Rattle.rank_threads.specs.declared.report.Report.{Report}
-use Rattle.script_text.specs.declared.line.ScriptLine.{ScriptLine}
+use Rattle.rank_text.specs.declared.script.line.ScriptLine.{ScriptLine}
 
 -- This is a report of a run of the program on so many ranks under this script, in which each rank
 -- may make so many steps. It was validated; its crashes are the kills of the script that were used;

@@ -2,8 +2,8 @@
 -- where they lead, or events that lead from there to the end.
 use Rattle.std.specs.Prelude.{◌≡◌, ℕ, List}
 use Rattle.command_line.specs.declared.job.WorldJob.{WorldJob}
-use Rattle.events_text.specs.Output.{IsRunText}
-use Rattle.events_text.specs.Written.{IsWayText}
+use Rattle.world_model.specs.EventsText.Output.{IsRunText}
+use Rattle.world_model.specs.EventsText.Written.{IsWayText}
 use Rattle.rank_language.specs.Program.{ProgramValue}
 use Rattle.core_runner.specs.FinishText.{IsFinishText}
 use Rattle.core_runner.specs.Reading.{AreEventsIn, IsProgramIn}

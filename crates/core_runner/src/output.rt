@@ -1,13 +1,13 @@
 //! What the program prints of a run.
 ghost use Rattle.std.specs.Prelude.{◌≡◌, ◌++◌, ◌↔◌, IfOk, IsTrue, OnOk, length, string_bytes};
-ghost use Rattle.events_text.specs.Output.{line_text, printed_text, ranks_text};
+ghost use Rattle.world_model.specs.EventsText.Output.{line_text, printed_text, ranks_text};
 ghost use Rattle.audit.specs.Outcome.{lines_of};
 ghost use Rattle.core_runner.specs.ReportText.{calls_in, cost_text, end_text, ends_text, report_text};
 ghost use Rattle.core_runner.specs.Statuses.{AreHalted};
 
 use audit::{End, Outcome};
 use limits::Heap;
-use ports::Line;
+use matching::Line;
 use rank_threads::Report;
 use std::alloc::AllocError;
 use std::fmt::Write;

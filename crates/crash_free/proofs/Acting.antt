@@ -4,7 +4,7 @@ use Rattle.std.proofs.Common.{◌∙◌, arith, slice_get, ◌⊎◌, inl, inr}
 use Rattle.std.proofs.lemmas.Bool.{eq-eqb, ne_eqb, cases_eq, cases_lt}
 use Rattle.std.proofs.lemmas.List.{append-nil}
 use Rattle.rank_language.specs.Placed as statements
-use Rattle.rank_grammar.specs.declared.token.Reduction.{Reduction}
+use Rattle.rank_text.specs.declared.grammar.token.Reduction.{Reduction}
 use Rattle.rank_language.specs.Placed.{barrier, broadcast, reduce, collect}
 use Rattle.rank_language.specs.Block.{Block, plain}
 use Rattle.rank_machine.specs.declared.fault.MachineFault.{MachineFault}

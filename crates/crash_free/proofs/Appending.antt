@@ -4,7 +4,7 @@ use Rattle.std.proofs.Common.{◌≡◌, ℕ, ℤ, zero, suc, List, [], ◌∷�
 use Rattle.std.proofs.lemmas.List.{append-nil, append_assoc}
 use Rattle.matching.specs.PacketValue as packet
 use Rattle.rank_machine.specs.Machine.{MachineValue}
-use Rattle.live_variables.specs.Live.{Table}
+use Rattle.crash_free.specs.LiveVariables.Live.{Table}
 use Rattle.crash_free.specs.Sim.{SimValue}
 use Rattle.crash_free.specs.Alike.{unreceived, lines_in}
 use Rattle.crash_free.specs.Standing.{Rows, no_rows, behind, and_number, and_value, and_values, and_each, and_all, and_below, context_number, number_of_fault}

@@ -5,9 +5,9 @@ use Rattle.std.proofs.lemmas.Bool.{cases_lt}
 use Rattle.matching.specs.declared.packet.Context.{Context}
 use Rattle.rank_machine.specs.States.{State}
 use Rattle.rank_machine.specs.Acts.{Act, Message, sends, takes, hits, misses, prints, Makes, Runs}
-use Rattle.live_variables.specs.Given.{GivesItems, HasItem}
-use Rattle.live_variables.proofs.Giving.{inners_give}
-use Rattle.live_variables.proofs.GivingActs.{sent_has_item, does_give}
+use Rattle.crash_free.specs.LiveVariables.Given.{GivesItems, HasItem}
+use Rattle.crash_free.proofs.LiveVariablesLaws.Giving.{inners_give}
+use Rattle.crash_free.proofs.LiveVariablesLaws.GivingActs.{sent_has_item, does_give}
 use Rattle.crash_free.specs.Runs.{Passed, History, history, sent, at_place, cons_if, send_at, sends_from, looked_up, IsRun}
 use Rattle.crash_free.specs.Alike.{StandAlike}
 use Rattle.crash_free.proofs.Taking.{no_history}

@@ -4,7 +4,7 @@ use Rattle.std.proofs.Common.{◌≡◌, ℕ, ℤ, suc, ◌+◌, ◌<◌, ◌≤
 use Rattle.std.proofs.Common.{◌⊎◌, inl, inr}
 use Rattle.std.specs.Prelude.{slice_set}
 use Rattle.rank_language.specs.Placed as statements
-use Rattle.rank_grammar.specs.declared.token.Reduction.{Reduction}
+use Rattle.rank_text.specs.declared.grammar.token.Reduction.{Reduction}
 use Rattle.rank_language.specs.Placed.{Placed, barrier, broadcast, reduce}
 use Rattle.rank_machine.specs.Values.{Store, Valued}
 use Rattle.rank_machine.specs.Collectives.{Kind, barriers, broadcasts, folds, Call, Part, gives, gets, ends, parts, parts_of, counted, ended, folded, with_at}

@@ -2,7 +2,7 @@
 -- barrier, broadcast, reduce). They are numbered by rank, from 1, in the order in which the rank
 -- makes them.
 use Rattle.std.specs.Prelude.{◌≡◌, ℕ, ℤ, ◌<◌, List, [], ◌∷◌, ◌++◌, length, slice_get, slice_set, Ok, Option, Some, None, ◌⊎◌}
-use Rattle.rank_grammar.specs.declared.token.Reduction.{Reduction}
+use Rattle.rank_text.specs.declared.grammar.token.Reduction.{Reduction}
 use Rattle.rank_language.specs.Placed.{declare, declare_array, assign, assign_item, send, receive, probe, try_probe, print, collect}
 use Rattle.rank_language.specs.Placed.{Collective, barrier, broadcast, reduce}
 use Rattle.rank_language.specs.Block.{Block, done, plain, if_only, if_else, loop}

@@ -4,10 +4,10 @@ use crate::near::put_nearest;
 use crate::piece::{Piece, words_of};
 use crate::shown::{line_of, put_piece};
 use crate::wordless::put_wordless;
-use events_text::EventsFaultKind;
 use limits::Heap;
 use std::alloc::AllocError;
 use std::fmt::Write;
+use world_model::events_text::EventsFaultKind;
 
 /// An event: its word, and what numbers follow it.
 struct Form {
@@ -149,5 +149,5 @@ fn put_numbers(
 }
 
 fn is_number(word: &[u8]) -> bool {
-    word.len() <= 9 && text_lines::decimal(word).is_some()
+    word.len() <= 9 && rank_text::lines::decimal(word).is_some()
 }

@@ -290,7 +290,7 @@ fn put_great(told: &mut String<Heap>, line: &[u8], pieces: &[Piece<'_>]) -> Resu
 
 // Above 9223372036854775807.
 fn is_great(number: &[u8]) -> bool {
-    let digits = text_lines::without_front(number, b'0');
+    let digits = rank_text::lines::without_front(number, b'0');
     digits.len() > 19 || digits.len() == 19 && digits > b"9223372036854775807".as_slice()
 }
 

@@ -5,7 +5,7 @@ use crate::piece::{Piece, words_of};
 use crate::shown::{line_of, put_piece};
 use crate::wordless::put_wordless;
 use limits::{GREATEST_CLOCK, Heap};
-use script_text::{ScriptFault, ScriptFaultKind};
+use rank_text::script::{ScriptFault, ScriptFaultKind};
 use std::alloc::AllocError;
 use std::fmt::Write;
 
@@ -81,7 +81,7 @@ fn misfit(words: &[Piece<'_>]) -> (usize, &'static str) {
     let [rank, rest @ ..] = rest else {
         return (1, "a rank");
     };
-    if text_lines::decimal(rank.text).is_none() {
+    if rank_text::lines::decimal(rank.text).is_none() {
         return (1, "a rank");
     }
     let [at, rest @ ..] = rest else {
@@ -97,7 +97,7 @@ fn misfit(words: &[Piece<'_>]) -> (usize, &'static str) {
 }
 
 fn is_clock(word: &[u8]) -> bool {
-    match text_lines::decimal(word) {
+    match rank_text::lines::decimal(word) {
         Some(clock) => 1 <= clock && clock <= GREATEST_CLOCK,
         None => false,
     }

@@ -73,9 +73,9 @@ pub fn put_piece(
 pub fn line_of(text: &[u8], number: usize) -> Option<&[u8]> {
     let mut rest = text;
     for _ in 1..number {
-        let (_, more) = text_lines::next_line(rest)?;
+        let (_, more) = rank_text::lines::next_line(rest)?;
         rest = more;
     }
-    let (line, _) = text_lines::next_line(rest)?;
+    let (line, _) = rank_text::lines::next_line(rest)?;
     Some(line)
 }

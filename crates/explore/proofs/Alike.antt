@@ -3,15 +3,15 @@
 use Rattle.std.proofs.Common.{ℕ, ◌<◌, List, sym, ap, subst, ◌∙◌}
 use Rattle.std.proofs.lemmas.Option.{slice_get_within}
 use Rattle.rank_machine.specs.States.{State}
-use Rattle.live_variables.proofs.Wanting.{wants_same}
+use Rattle.crash_free.proofs.LiveVariablesLaws.Wanting.{wants_same}
 use Rattle.crash_free.specs.Runs.{Passed, history, IsRun}
 use Rattle.crash_free.specs.Alike.{StandsAlike, StandAlike}
 use Rattle.crash_free.proofs.Alike.{comes_too, alike_back, each_follows_too}
-use Rattle.final_runs.specs.Maximal.{IsMaximal, RankOutcome, end_of, IsRankOutcome, IsOutcomeOf}
+use Rattle.audit.specs.FinalRuns.Maximal.{IsMaximal, RankOutcome, end_of, IsRankOutcome, IsOutcomeOf}
 use Rattle.explore.specs.Exploring.{and_then, HasOneAnswer, IsExplored, ends, fixed, alone, branch}
 use Rattle.explore.specs.Exploring.{AlwaysEndsIn, at_end, goes_on}
 use Rattle.explore.specs.Onward.{GoesOnTo, there, further, MayEndSo}
-use Rattle.final_runs.proofs.Simulating.{no_step}
+use Rattle.audit.proofs.FinalRunsLaws.Simulating.{no_step}
 use Rattle.explore.proofs.AlikeAlone.{persistent_too}
 
 -- where the one is maximal the other is

@@ -12,7 +12,7 @@ use Rattle.crash_free.specs.Alike.{StandAlike, IsPartner, sends_too, takes_too, 
 use Rattle.crash_free.proofs.Alike.{alike_back, each_follows_too}
 use Rattle.explore.specs.AndThen.{and_then}
 use Rattle.explore.specs.Persistent.{GoesOnWithout, there, further, IsPersistent}
-use Rattle.final_runs.specs.Maximal.{MayFollow}
+use Rattle.audit.specs.FinalRuns.Maximal.{MayFollow}
 use Rattle.explore.proofs.Alone.{without_part}
 use Rattle.explore.proofs.Exploring.{follows_both}
 use Rattle.explore.proofs.Fixed.{one_eligible, same_state}

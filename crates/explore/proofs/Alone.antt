@@ -9,7 +9,7 @@ use Rattle.crash_free.specs.Runs.{Passed, history, IsRun}
 use Rattle.crash_free.specs.Parts.{IsPartOf}
 use Rattle.crash_free.proofs.Lists.{history-other}
 use Rattle.crash_free.proofs.Reorder.{IsBeginning-trans, history_grows}
-use Rattle.final_runs.specs.Maximal.{MayFollow}
+use Rattle.audit.specs.FinalRuns.Maximal.{MayFollow}
 use Rattle.explore.specs.AndThen.{and_then}
 use Rattle.explore.specs.Persistent.{GoesOnWithout, there, further, IsPersistent}
 use Rattle.explore.proofs.Exploring.{all_or_next, both_ways, follows_both}

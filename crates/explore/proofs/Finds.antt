@@ -5,7 +5,7 @@ use Rattle.std.specs.Ordering.{nat_cmp}
 use Rattle.std.specs.BTreeMap as tree
 use Rattle.std.specs.BTreeMap.{BTreeMap, is_at}
 use Rattle.std.specs.Map.{lookup}
-use Rattle.final_runs.specs.Maximal.{RankOutcome}
+use Rattle.audit.specs.FinalRuns.Maximal.{RankOutcome}
 use Rattle.explore.specs.Found.{hash_of, HaveEntries}
 use Rattle.explore.specs.Outcomes.{IsAmong}
 use Rattle.explore.proofs.Among.{among_none, among_push}

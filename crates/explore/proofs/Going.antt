@@ -6,7 +6,7 @@ use Rattle.crash_free.specs.Standing.{Rows}
 use Rattle.crash_free.specs.Sim.{SimValue}
 use Rattle.explore.specs.declared.branch.Branch.{Branch}
 use Rattle.explore.specs.declared.moves.Move.{Move}
-use Rattle.final_runs.specs.Maximal.{RankOutcome}
+use Rattle.audit.specs.FinalRuns.Maximal.{RankOutcome}
 use Rattle.explore.specs.Counting.{GoesBeyond}
 use Rattle.explore.specs.Searching.{IsAlike, IsOn, Looks, NeedsFewer, Searches}
 use Rattle.explore.specs.Small.{EnoughForAll, Spares}

@@ -5,7 +5,7 @@ use Rattle.std.specs.Prelude.{slice_index_or, option_map}
 use Rattle.std.proofs.lemmas.List.{append_assoc, length-append, get_or_append_left}
 use Rattle.std.proofs.lemmas.Option.{get_or_from_slice_get, slice_get_within, slice_get-map}
 use Rattle.std.proofs.Math.Numerals.{add-one}
-use Rattle.live_variables.specs.Live.{Table}
+use Rattle.crash_free.specs.LiveVariables.Live.{Table}
 use Rattle.crash_free.specs.Sim.{SimValue}
 use Rattle.crash_free.specs.Standing.{Rows, no_rows, behind, and_own, and_mail, and_rank, and_below}
 use Rattle.crash_free.proofs.Appending.{behind_nothing, behind_both, rank_in_parts}

@@ -5,7 +5,7 @@ use Rattle.rank_machine.specs.Acts.{Act}
 use Rattle.crash_free.specs.Runs.{Passed, history, IsRun}
 use Rattle.crash_free.specs.Parts.{IsPartOf}
 use Rattle.crash_free.proofs.Reorder.{IsBeginning-trans, history_grows}
-use Rattle.final_runs.specs.Maximal.{MayFollow, RankOutcome, IsOutcomeOf}
+use Rattle.audit.specs.FinalRuns.Maximal.{MayFollow, RankOutcome, IsOutcomeOf}
 use Rattle.explore.specs.Exploring.{and_then, IsExplored, ends, fixed, alone, branch}
 use Rattle.explore.proofs.Alone.{persistent_act}
 use Rattle.explore.proofs.Exploring.{all_or_next, all_of_maximal, both_ways, follows_both}

@@ -21,7 +21,7 @@ use Rattle.crash_free.specs.Sim.{SimValue, Simulates, start_of, inbound_of}
 use Rattle.crash_free.specs.Wanted.{Wants, WantsAt}
 use Rattle.crash_free.proofs.Lists.{at_place-append}
 use Rattle.crash_free.proofs.Going.{IsEligible-longer, free_silent, Extends-by_other}
-use Rattle.final_runs.proofs.Simulating.{wanted, sender_there}
+use Rattle.audit.proofs.FinalRunsLaws.Simulating.{wanted, sender_there}
 use Rattle.explore.specs.Exploring.{and_then}
 use Rattle.explore.specs.Counting.{HasMade, begins, inside, acts}
 use Rattle.explore.specs.Counts.{Counts}

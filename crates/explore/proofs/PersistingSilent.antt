@@ -16,16 +16,16 @@ use Rattle.rank_machine.specs.Acts.{Act, Message, sends, takes, hits, misses, pr
 use Rattle.rank_machine.specs.Machine.{MachineValue, state_of}
 use Rattle.rank_machine.proofs.Determined.{still, inner_wants, same_runs}
 use Rattle.rank_machine.proofs.Striding.{on_the_way}
-use Rattle.later_sends.specs.Sending.{some_sends, SendsNoMore}
-use Rattle.live_variables.specs.Live.{claimed}
-use Rattle.later_sends.specs.LaterSends.{IsTableOf}
-use Rattle.later_sends.proofs.Silent.{inners_stay, next_stays, makes_no_send}
+use Rattle.crash_free.specs.LaterSends.Sending.{some_sends, SendsNoMore}
+use Rattle.crash_free.specs.LiveVariables.Live.{claimed}
+use Rattle.crash_free.specs.LaterSends.LaterSends.{IsTableOf}
+use Rattle.crash_free.proofs.LaterSendsLaws.Silent.{inners_stay, next_stays, makes_no_send}
 use Rattle.crash_free.specs.Runs.{Passed, History, at_place, cons_if, history, sent, send_at, looked_up, MayMake}
 use Rattle.crash_free.specs.Sim.{SimValue, Simulates, start_of}
 use Rattle.crash_free.specs.Wanted.{Wants, WantsAt}
 use Rattle.crash_free.proofs.Lists.{history-own, history-other, sent-own, sent-other}
 use Rattle.crash_free.proofs.Steps.{Runs-push}
-use Rattle.final_runs.proofs.Simulating.{wanted}
+use Rattle.audit.proofs.FinalRunsLaws.Simulating.{wanted}
 use Rattle.explore.specs.Exploring.{and_then}
 use Rattle.explore.specs.Persistent.{GoesOnWithout, there, further}
 use Rattle.explore.specs.Settled.{AreOfProgram, HasSentAll}

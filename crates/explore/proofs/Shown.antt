@@ -19,7 +19,7 @@ use Rattle.crash_free.specs.Inside.{GoesInside}
 use Rattle.crash_free.specs.Sim.{SimValue, Simulates, Allows, choice_of, inbound_of, start_of}
 use Rattle.crash_free.specs.Wanted.{Wants, WantsAt, StandsAtAct}
 use Rattle.crash_free.proofs.Lists.{push_cases, run_begins}
-use Rattle.final_runs.specs.Maximal.{IsOutcomeOf, MayFollow, RankOutcome}
+use Rattle.audit.specs.FinalRuns.Maximal.{IsOutcomeOf, MayFollow, RankOutcome}
 use Rattle.explore.specs.declared.moves.Noted.{Noted}
 use Rattle.explore.specs.Chosen.{MakesChoices}
 use Rattle.explore.specs.Explored.{OutcomeValue, noted_choices, rank_outcomes}
@@ -29,7 +29,7 @@ use Rattle.explore.specs.Shown.{IsMark, was_shown, IsPast, MayMissShown, MissesS
 use Rattle.rank_language.specs.Program.{ProgramValue}
 use Rattle.explore.proofs.Choosing.{goes_there, goes_by}
 use Rattle.explore.proofs.SeenOf.{choices_at, seen_at}
-use Rattle.final_runs.proofs.Simulating.{sender_there, stands_there, wanted}
+use Rattle.audit.proofs.FinalRunsLaws.Simulating.{sender_there, stands_there, wanted}
 use Rattle.audit.proofs.Reaching.{some_there}
 
 -- the act behind a part of a run may follow it

@@ -12,7 +12,7 @@ use Rattle.crash_free.specs.Sim.{SimValue, choice_of, start_of}
 use Rattle.crash_free.specs.Parts.{IsPartOf}
 use Rattle.crash_free.proofs.Lists.{history-other}
 use Rattle.crash_free.proofs.Reorder.{history_grows}
-use Rattle.final_runs.specs.Maximal.{MayFollow}
+use Rattle.audit.specs.FinalRuns.Maximal.{MayFollow}
 use Rattle.explore.specs.Exploring.{and_then, IsFixed}
 use Rattle.explore.specs.Moves.{move_of}
 use Rattle.explore.specs.Outcomes.{IsAmong, AreDistinct}

@@ -9,7 +9,7 @@ use Rattle.crash_free.specs.Wanted.{StandsAtAct}
 use Rattle.crash_free.proofs.Points.{cut_parts, first_all}
 use Rattle.explore.specs.declared.branch.Branch.{Branch}
 use Rattle.explore.specs.declared.moves.Move.{Move}
-use Rattle.final_runs.specs.Maximal.{MayFollow}
+use Rattle.audit.specs.FinalRuns.Maximal.{MayFollow}
 use Rattle.explore.specs.Exploring.{and_then}
 use Rattle.explore.specs.Counting.{GoesBeyond}
 use Rattle.explore.specs.Counts.{Counts, KeepsCount, NeedsAtMost}

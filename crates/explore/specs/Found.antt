@@ -8,7 +8,7 @@ use Rattle.std.specs.Hash as fed
 use Rattle.std.specs.Hash.DefaultHasher as sip
 use Rattle.audit.specs.declared.outcome.End.{End}
 use Rattle.audit.specs.declared.outcome.End.TheVariants as end
-use Rattle.final_runs.specs.Maximal.{RankOutcome}
+use Rattle.audit.specs.FinalRuns.Maximal.{RankOutcome}
 use Rattle.explore.specs.Outcomes.{IsAmong}
 
 -- how a rank ended, as a number that is the same for all faults

@@ -3,7 +3,7 @@ use Rattle.std.specs.Prelude.{ℕ, List}
 use Rattle.rank_machine.specs.States.{State}
 use Rattle.rank_machine.specs.Acts.{Act}
 use Rattle.crash_free.specs.Runs.{Passed}
-use Rattle.final_runs.specs.Maximal.{MayFollow, RankOutcome, IsOutcomeOf}
+use Rattle.audit.specs.FinalRuns.Maximal.{MayFollow, RankOutcome, IsOutcomeOf}
 use Rattle.explore.specs.Exploring.{and_then}
 
 -- acts that may follow, one after another, lead from the one run to the other

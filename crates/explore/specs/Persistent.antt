@@ -4,7 +4,7 @@ use Rattle.std.specs.Prelude.{◌≢◌, ℕ, List}
 use Rattle.rank_machine.specs.States.{State}
 use Rattle.rank_machine.specs.Acts.{Act}
 use Rattle.crash_free.specs.Runs.{Passed}
-use Rattle.final_runs.specs.Maximal.{MayFollow}
+use Rattle.audit.specs.FinalRuns.Maximal.{MayFollow}
 use Rattle.explore.specs.AndThen.{and_then}
 
 -- acts of other ranks than r, one after another, lead from the one run to the other

@@ -12,7 +12,7 @@ use Rattle.rank_machine.specs.Wants.{wants}
 use Rattle.rank_machine.specs.Acts.{Act, sends, takes, hits, misses, prints}
 use Rattle.crash_free.specs.Runs.{Passed, history, IsEligible, MayMake}
 use Rattle.crash_free.specs.Sim.{inbound_of, start_of}
-use Rattle.final_runs.specs.Maximal.{RankOutcome, IsOutcomeOf}
+use Rattle.audit.specs.FinalRuns.Maximal.{RankOutcome, IsOutcomeOf}
 use Rattle.explore.specs.declared.moves.Noted.{Noted}
 use Rattle.explore.specs.Chosen.{MakesChoices}
 

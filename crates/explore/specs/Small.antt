@@ -6,7 +6,7 @@ use Rattle.rank_machine.specs.Acts.{Act}
 use Rattle.crash_free.specs.Runs.{Passed}
 use Rattle.crash_free.specs.Sim.{SimValue, choice_of, start_of}
 use Rattle.explore.specs.declared.moves.Move.{Move}
-use Rattle.final_runs.specs.Maximal.{MayFollow}
+use Rattle.audit.specs.FinalRuns.Maximal.{MayFollow}
 use Rattle.explore.specs.Exploring.{and_then, IsFixed}
 use Rattle.explore.specs.Counting.{GoesBeyond}
 use Rattle.explore.specs.Moves.{move_of}

@@ -9,7 +9,7 @@ use Rattle.crash_free.specs.Sim.{choice_of, start_of}
 pub use Rattle.crash_free.specs.Points.{first_acts, GoesBehind}
 use Rattle.explore.specs.declared.branch.Branch.{Branch}
 use Rattle.explore.specs.declared.moves.Move.{Move}
-use Rattle.final_runs.specs.Maximal.{MayFollow}
+use Rattle.audit.specs.FinalRuns.Maximal.{MayFollow}
 use Rattle.explore.specs.Exploring.{and_then}
 use Rattle.explore.specs.Outcomes.{IsAmong}
 

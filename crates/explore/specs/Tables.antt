@@ -1,7 +1,7 @@
 -- What a search knows of a program before it begins.
 use Rattle.rank_language.specs.Program.{ProgramValue}
-use Rattle.live_variables.specs.Live as live
-use Rattle.later_sends.specs.LaterSends as later
+use Rattle.crash_free.specs.LiveVariables.Live as live
+use Rattle.crash_free.specs.LaterSends.LaterSends as later
 use Rattle.explore.specs.declared.tables.Tables.{Tables}
 
 -- each of the tables is right for the program

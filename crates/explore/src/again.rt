@@ -3,7 +3,7 @@ ghost use Rattle.std.specs.Prelude.{◌≡◌, ◌<◌, Some, OnOk, length, slic
 ghost use Rattle.crash_free.specs.Seen.{act_of};
 ghost use Rattle.crash_free.specs.Sim.{Simulates, start_of};
 ghost use Rattle.crash_free.specs.Wanted.{StandsAtAct};
-ghost use Rattle.final_runs.specs.Maximal.{MayFollow};
+ghost use Rattle.audit.specs.FinalRuns.Maximal.{MayFollow};
 ghost use Rattle.explore.specs.Counts.{Spends};
 ghost use Rattle.explore.specs.Exploring.{and_then};
 ghost use Rattle.explore.specs.Searching.{IsAlike};

@@ -10,7 +10,7 @@ mod hashing;
 use crate::explored::{Outcome, are_same};
 use crate::found::hashing::hash_of;
 use crate::moves::Noted;
-use final_runs::RankEnd;
+use audit::final_runs::RankEnd;
 use limits::Heap;
 use std::alloc::AllocError;
 use std::collections::BTreeMap;
@@ -28,7 +28,7 @@ impl Model for Found {
     ghost use Rattle.std.specs.Prelude.{List};
     ghost use Rattle.explore.specs.Explored.{rank_outcomes};
     ghost use Rattle.explore.specs.Found.{HaveEntries};
-    ghost use Rattle.final_runs.specs.Maximal.{RankOutcome};
+    ghost use Rattle.audit.specs.FinalRuns.Maximal.{RankOutcome};
 
     ghost Value = { List (List RankOutcome) };
 

@@ -6,7 +6,7 @@ ghost use Rattle.crash_free.specs.Runs.{history, IsEligible, IsRun};
 ghost use Rattle.crash_free.specs.Seen.{act_of};
 ghost use Rattle.crash_free.specs.Sim.{Simulates, inbound_of, start_of};
 ghost use Rattle.crash_free.specs.Wanted.{WantsAt, StandsAtAct};
-ghost use Rattle.final_runs.specs.Maximal.{MayFollow};
+ghost use Rattle.audit.specs.FinalRuns.Maximal.{MayFollow};
 ghost use Rattle.explore.specs.Explored.{noted_choices, rank_outcomes};
 ghost use Rattle.explore.specs.Exploring.{and_then};
 ghost use Rattle.explore.specs.LastShown.{KnowsShown};

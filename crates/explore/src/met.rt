@@ -1,6 +1,6 @@
 //! Where runs stood that a search met.
 ghost use Rattle.std.specs.Prelude.{◌≡◌, ◌<◌, true, [], IfOk, IfSome, Ok, length};
-ghost use Rattle.live_variables.specs.Live.{IsTableOf};
+ghost use Rattle.crash_free.specs.LiveVariables.Live.{IsTableOf};
 ghost use Rattle.crash_free.specs.Standing.{Rows, behind, and_rank, rows_of, StandsAt};
 ghost use Rattle.explore.specs.Met.{AddsAtMost, WasMet};
 ghost use Rattle.explore.specs.Parts.{KeepsParts, AreParts};
@@ -8,9 +8,9 @@ ghost use Rattle.explore.specs.Parts.{KeepsParts, AreParts};
 use crate::parts::Parts;
 use crate::state::State;
 use crate::states::States;
+use crash_free::live_variables::Live;
 use crash_free::{Sim, Standing};
 use limits::Heap;
-use live_variables::Live;
 use std::alloc::AllocError;
 use std::marker::Model;
 

@@ -2,14 +2,14 @@
 ghost use Rattle.std.specs.Prelude.{◌≡◌, IfSome};
 ghost use Rattle.std.specs.List.{filter, list_any};
 ghost use Rattle.crash_free.specs.Sim.{Simulates};
-ghost use Rattle.later_sends.specs.LaterSends.{IsTableOf};
+ghost use Rattle.crash_free.specs.LaterSends.LaterSends.{IsTableOf};
 ghost use Rattle.explore.specs.Narrowing.{AreKept, IsEnough, is_of};
 ghost use Rattle.explore.specs.Settled.{AreOfProgram};
 
 use crate::moves::Move;
 use crate::persistent::is_persistent;
 use crash_free::Sim;
-use later_sends::LaterSends;
+use crash_free::later_sends::LaterSends;
 use limits::Heap;
 
 /// Keeps the moves of one rank alone, if they are enough: those of the first rank

@@ -17,7 +17,7 @@ use crate::races::Races;
 use crate::stops::Stops;
 use crate::tables::Tables;
 use crate::taking::take_up;
-use final_runs::outcome_of;
+use audit::final_runs::outcome_of;
 use limits::Heap;
 use rank_language::Program;
 use std::alloc::AllocError;

@@ -2,12 +2,12 @@
 ghost use Rattle.std.specs.Prelude.{◌≡◌, ◌<◌, ℕ, true, false, length};
 ghost use Rattle.rank_machine.specs.Acts.{IsNamed};
 ghost use Rattle.crash_free.specs.Sim.{Simulates, start_of};
-ghost use Rattle.later_sends.specs.LaterSends.{IsTableOf};
+ghost use Rattle.crash_free.specs.LaterSends.LaterSends.{IsTableOf};
 ghost use Rattle.explore.specs.Persistent.{IsPersistent};
 ghost use Rattle.explore.specs.Settled.{AreOfProgram, HasSentAll, IsSettled};
 
 use crash_free::Sim;
-use later_sends::LaterSends;
+use crash_free::later_sends::LaterSends;
 use matching::{Context, Selector};
 use rank_machine::Want;
 

@@ -1,9 +1,9 @@
 //! What a search knows of a program before it begins.
 ghost use Rattle.std.specs.Prelude.{IfOk};
 
-use later_sends::LaterSends;
+use crash_free::later_sends::LaterSends;
+use crash_free::live_variables::Live;
 use limits::Heap;
-use live_variables::Live;
 use rank_language::Program;
 use std::alloc::AllocError;
 

@@ -11,7 +11,7 @@ ghost use Rattle.explore.specs.Counts.{Counts, KeepsCount, NeedsAtMost};
 ghost use Rattle.explore.specs.Searching.{IsAlike};
 ghost use Rattle.explore.specs.Stems.{GoesBehind, IsAfter, IsRunOf, StandsFor, first_acts, stem_of};
 ghost use Rattle.explore.specs.Stops.{AreStops, AreWithin, CanGoBack, KeepsStops};
-ghost use Rattle.final_runs.specs.Maximal.{MayFollow};
+ghost use Rattle.audit.specs.FinalRuns.Maximal.{MayFollow};
 
 use crate::again::{act_at, make};
 use crate::branch::Branch;

@@ -1,10 +1,10 @@
 //! Audits of outcomes.
 
 use crate::again::{program_of, push};
+use event_logger::{Event, Kind};
 use limits::Heap;
 use ports::Line;
 use rank_language::Program;
-use sequential_logger::{Event, Kind};
 use std::alloc::AllocError;
 use std::io;
 use world_model::{AuditFault, Audited, End, Outcome, audit};

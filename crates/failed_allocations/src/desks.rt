@@ -3,9 +3,8 @@ ghost use Rattle.std.specs.Prelude.{◌≡◌, ◌<◌, length, vec_len, IfOk};
 ghost use Rattle.event_logger.specs.Desks.{AreDesks, IsSameDesk};
 
 use crate::frugal::follow;
-use event_logger::{Desk, Ledger, Logger};
+use event_logger::{Desk, Event, Kind, Ledger, Logger};
 use limits::Heap;
-use sequential_logger::{Event, Kind};
 use std::alloc::AllocError;
 use std::io;
 

@@ -5,12 +5,12 @@ use crate::again::{compare, packet_near, program_of};
 use crate::frugal::follow;
 use crate::{images, replays};
 use checkpoint::MemoryShelf;
+use event_logger::LoggerState;
 use limits::Heap;
 use ports::ConsoleState;
 use rank_language::Program;
 use rank_machine::Want;
 use rank_node::{Arrived, Frame, NodeFault, Running, Stable, Turn};
-use sequential_logger::LoggerState;
 use std::alloc::AllocError;
 use std::io;
 

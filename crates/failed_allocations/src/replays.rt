@@ -6,11 +6,11 @@ use crate::again::{compare, packet_near};
 use crate::frugal::follow;
 use crate::ranks::Scene;
 use checkpoint::MemoryShelf;
+use event_logger::{Event, LoggerState};
 use limits::{Heap, MOST_EVENTS};
 use rank_language::Program;
 use rank_machine::Want;
 use rank_node::{Arrived, Down, Frame, NodeFault, Replaying, Stable, Turn};
-use sequential_logger::{Event, LoggerState};
 use std::alloc::AllocError;
 use std::io;
 

@@ -1,7 +1,7 @@
 //! Words of events.
 
 use crate::frugal::follow;
-use sequential_logger::{Event, Kind, pack, unpack};
+use event_logger::{Event, Kind, pack, unpack};
 use std::io;
 
 const EVENTS: [(Kind, u8, u32, u32); 3] = [

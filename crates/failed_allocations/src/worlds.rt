@@ -3,11 +3,11 @@
 use crate::again::{compare, program_of};
 use crate::frugal::follow;
 use crate::rows::{ROWS, Row};
-use events_text::ReplyLine;
 use limits::{Heap, MOST_RANKS};
 use rank_language::Program;
 use std::alloc::AllocError;
 use std::io;
+use world_model::events_text::ReplyLine;
 use world_model::{Reply, View, World, WorldEvent};
 
 /// What can be seen of a world: its first and its last rank, and how many lines

@@ -1,10 +1,10 @@
 //! What is answered of lines and texts, as the tables of the tests have it.
 
 use limits::Heap;
-use rank_grammar::forms::form;
-use rank_grammar::{Token, tokens};
 use rank_language::Program;
-use rank_printer::print;
+use rank_text::grammar::forms::form;
+use rank_text::grammar::{Token, tokens};
+use rank_text::printer::print;
 use std::alloc::AllocError;
 use std::process::Abort;
 use std::test::*;

@@ -2,7 +2,7 @@
 
 use crate::answers::{Row, View, same, shows};
 use limits::Heap;
-use rank_checker::{FaultKind, ParseFault, ProgramFault};
+use rank_text::checker::{FaultKind, ParseFault, ProgramFault};
 use std::alloc::AllocError;
 use std::process::Abort;
 use std::test::*;

@@ -7,10 +7,10 @@ ghost use Rattle.checkpoint.specs.Shelf.{Grew, image_bytes};
 use crate::same::same;
 use crate::scenes::LastLine;
 use checkpoint::{Shelf, ShelfFault};
+use event_logger::{Event, LoggerState};
 use limits::{Heap, MOST_EVENTS};
 use rank_language::Program;
 use rank_node::{Down, NodeFault, Running, Stable};
-use sequential_logger::{Event, LoggerState};
 use std::process::Abort;
 use std::test::*;
 

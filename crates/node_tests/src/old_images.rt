@@ -5,10 +5,10 @@ ghost use Rattle.limits.specs.Limits.{most_events};
 use crate::same::same;
 use crate::scenes::{LastLine, Rank, packet};
 use checkpoint::{MemoryShelf, Shelf};
+use event_logger::{Event, Kind, LoggerState};
 use limits::{Heap, MOST_EVENTS};
 use rank_language::Program;
 use rank_node::{Arrived, Down, Frame, Replaying, Stable, Turn};
-use sequential_logger::{Event, Kind, LoggerState};
 use std::process::Abort;
 use std::test::*;
 

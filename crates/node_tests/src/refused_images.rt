@@ -5,10 +5,10 @@ ghost use Rattle.checkpoint.specs.Shelf.{image_bytes};
 use crate::images::MISSES;
 use crate::same::same;
 use checkpoint::{MemoryShelf, Shelf, ShelfFault};
+use event_logger::{Event, Kind};
 use limits::{Heap, MOST_EVENTS};
 use rank_language::Program;
 use rank_node::{Down, NodeFault, Running, Stable};
-use sequential_logger::{Event, Kind};
 use std::process::Abort;
 use std::test::*;
 

@@ -6,6 +6,7 @@ mod lives;
 use crate::same::same;
 use crate::scenes::{LastLine, packet, start};
 use checkpoint::MemoryShelf;
+use event_logger::{Event, Kind};
 use limits::{Heap, MOST_EVENTS};
 use lives::{
     HAS_ENDED, NOTHING_STORED, OTHER_CLOCK, OTHER_SORT, OTHER_TAG, PROBES, RUN_OF_MISSES,
@@ -13,7 +14,6 @@ use lives::{
 };
 use rank_language::Program;
 use rank_node::{Arrived, Frame, NodeFault, Replaying, Turn};
-use sequential_logger::{Event, Kind};
 use std::process::Abort;
 use std::test::*;
 

@@ -6,10 +6,9 @@ mod all_lanes;
 mod console;
 mod console_state;
 mod lanes;
-mod line;
 
 pub use all_lanes::{Ends, close_all, open_all};
 pub use console::Console;
 pub use console_state::ConsoleState;
 pub use lanes::{Carried, Rx, Tx, close, lane};
-pub use line::Line;
+pub use matching::Line;

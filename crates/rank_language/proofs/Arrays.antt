@@ -8,9 +8,9 @@ use Rattle.std.specs.Str.{bytes_eq}
 use Rattle.std.proofs.lemmas.Slice.Eq.{bytes_eq-Decides}
 use Rattle.std.proofs.lemmas.Iterator.Adapters.{position_from-zero}
 use Rattle.std.proofs.lemmas.Bool.{or_parts}
-use Rattle.rank_grammar.specs.Forms.{Form, var_form, array_form, let_form, item_form, if_form, else_form, end_form, while_form}
-use Rattle.rank_grammar.specs.Forms.{send_form, recv_form, probe_form, try_probe_form, print_form, barrier_form, bcast_form, reduce_form}
-use Rattle.rank_checker.specs.Scope.{Scope, nothing_yet, is_name_in, is_variable, is_array, after, after_all, MayStand, AllMayStand, IsWhole}
+use Rattle.rank_text.specs.Grammar.Forms.{Form, var_form, array_form, let_form, item_form, if_form, else_form, end_form, while_form}
+use Rattle.rank_text.specs.Grammar.Forms.{send_form, recv_form, probe_form, try_probe_form, print_form, barrier_form, bcast_form, reduce_form}
+use Rattle.rank_text.specs.Checker.Scope.{Scope, nothing_yet, is_name_in, is_variable, is_array, after, after_all, MayStand, AllMayStand, IsWhole}
 use Rattle.rank_language.specs.Resolved.{place_in, array_place}
 use Rattle.rank_language.specs.Named.{array_at}
 use Rattle.rank_language.proofs.Back.{ArrayStands, AllArraysStand}

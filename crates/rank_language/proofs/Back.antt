@@ -6,10 +6,10 @@ use Rattle.std.specs.List.{position_from}
 use Rattle.std.specs.Str.{bytes_eq}
 use Rattle.std.proofs.lemmas.Slice.Eq.{bytes_eq-Decides}
 use Rattle.std.proofs.lemmas.Iterator.Adapters.{position_from-zero}
-use Rattle.rank_grammar.specs.Tree as text
-use Rattle.rank_grammar.specs.Forms as line
-use Rattle.rank_grammar.specs.Forms.{Form, ◌>>=◌}
-use Rattle.rank_checker.specs.Scope.{Scope}
+use Rattle.rank_text.specs.Grammar.Tree as text
+use Rattle.rank_text.specs.Grammar.Forms as line
+use Rattle.rank_text.specs.Grammar.Forms.{Form, ◌>>=◌}
+use Rattle.rank_text.specs.Checker.Scope.{Scope}
 use Rattle.rank_language.specs.Placed.{Placed, number, variable, item, reading, negation, operation, Pattern, any, value}
 use Rattle.rank_language.specs.Placed.{Payload, one, all_of, Buffer, into_variable, into_array}
 use Rattle.rank_language.specs.Placed.{declare, declare_array, assign, assign_item, send, receive, probe, try_probe, print}
@@ -18,7 +18,7 @@ use Rattle.rank_language.specs.Resolved.{place_in, variable_place, array_place, 
 use Rattle.rank_language.specs.Resolved.{payload_resolved, buffer_resolved, form_resolved, all_resolved}
 use Rattle.rank_language.specs.Named.{variable_name, array_at, named, pattern_named, value_named, payload_named, buffer_name, form_named}
 use Rattle.rank_language.proofs.Options.{mapped, gone_on, either_from}
-use Rattle.rank_printer.specs.Canonical.{canonical_payload, canonical, all_canonical}
+use Rattle.rank_text.specs.Printer.Canonical.{canonical_payload, canonical, all_canonical}
 
 -- the name at the place that is found for a name, wherever counting begins
 back_from : (names : List (List ℕ)) (x : List ℕ) (i p : ℕ) → position_from (λ y. bytes_eq y x) i names ≡ Some p

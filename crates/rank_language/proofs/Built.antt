@@ -2,10 +2,10 @@
 -- tables that the statements leave, their targets are those of their tree, and their places are in the tables.
 use Rattle.std.proofs.Common.{◌≡◌, ℕ, ◌≤◌, List, [], length, map, Some, ap, ◌∙◌, sym, subst, arith}
 use Rattle.limits.specs.Limits.{most_variables, most_arrays}
-use Rattle.rank_grammar.specs.Forms.{Form}
-use Rattle.rank_checker.specs.declared.scope.Array.{Array}
-use Rattle.rank_checker.specs.Scope.{Scope, Opened, nothing_yet, after_all, IsWhole}
-use Rattle.rank_checker.specs.SeenLines.{arrays_seen}
+use Rattle.rank_text.specs.Grammar.Forms.{Form}
+use Rattle.rank_text.specs.declared.checker.scope.Array.{Array}
+use Rattle.rank_text.specs.Checker.Scope.{Scope, Opened, nothing_yet, after_all, IsWhole}
+use Rattle.rank_text.specs.Checker.SeenLines.{arrays_seen}
 use Rattle.rank_language.specs.declared.statement.Statement.{Statement}
 use Rattle.rank_language.specs.Shape.{step_of}
 use Rattle.rank_language.specs.Seen.{line_of}
@@ -19,8 +19,8 @@ use Rattle.rank_language.proofs.Resolving.{AreLines, are_lines}
 use Rattle.rank_language.proofs.Spread.{targeted_lines}
 use Rattle.rank_language.proofs.Whole.{resolvable, sized, balanced}
 use Rattle.rank_language.proofs.Few.{few_tables}
-use Rattle.rank_printer.specs.Canonical.{all_canonical}
-use Rattle.rank_printer.proofs.Settled.{all_leave, stays_whole}
+use Rattle.rank_text.specs.Printer.Canonical.{all_canonical}
+use Rattle.rank_text.proofs.PrinterLaws.Settled.{all_leave, stays_whole}
 use Rattle.rank_language.proofs.Canonical.{all_same}
 use Rattle.rank_language.proofs.Back.{forms_back}
 use Rattle.rank_language.proofs.Arrays.{arrays_stand}

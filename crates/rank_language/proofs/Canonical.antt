@@ -1,10 +1,10 @@
 -- A text's statements with each variable that is sent written as a lone name become the same statements by place.
 use Rattle.std.proofs.Common.{◌≡◌, ℕ, List, [], ◌∷◌, Option, Some, None, option_map, refl, ◌∙◌}
-use Rattle.rank_grammar.specs.Tree.{Tree, number, variable, item, reading, negation, operation}
-use Rattle.rank_grammar.specs.Forms.{Payload, lone, one, Form, var_form, array_form, let_form, item_form, if_form, else_form, end_form, while_form}
-use Rattle.rank_grammar.specs.Forms.{send_form, recv_form, probe_form, try_probe_form, print_form, barrier_form, bcast_form, reduce_form}
-use Rattle.rank_checker.specs.Scope.{Scope}
-use Rattle.rank_printer.specs.Canonical.{canonical_payload, canonical, all_canonical}
+use Rattle.rank_text.specs.Grammar.Tree.{Tree, number, variable, item, reading, negation, operation}
+use Rattle.rank_text.specs.Grammar.Forms.{Payload, lone, one, Form, var_form, array_form, let_form, item_form, if_form, else_form, end_form, while_form}
+use Rattle.rank_text.specs.Grammar.Forms.{send_form, recv_form, probe_form, try_probe_form, print_form, barrier_form, bcast_form, reduce_form}
+use Rattle.rank_text.specs.Checker.Scope.{Scope}
+use Rattle.rank_text.specs.Printer.Canonical.{canonical_payload, canonical, all_canonical}
 use Rattle.rank_language.specs.Placed as placed
 use Rattle.rank_language.specs.Placed.{Step, does}
 use Rattle.rank_language.specs.Resolved.{variable_place, array_place, either_place, resolved, payload_resolved, form_resolved, all_resolved}

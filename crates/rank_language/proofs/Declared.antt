@@ -2,12 +2,12 @@
 -- all its names are declared, since a name has a place exactly where it stands in its table.
 use Rattle.std.proofs.Common.{◌≡◌, ℕ, List, map, Bool, true, false, ◌&&◌, ◌||◌, Option, Some, None, option_map, ◌↔◌, refl, ap, ◌∙◌, sym}
 use Rattle.std.specs.Option.{is_some}
-use Rattle.rank_grammar.specs.Tree.{Tree, number, variable, item, reading, negation, operation}
-use Rattle.rank_grammar.specs.Forms.{Pattern, any, value, Payload, lone, one}
-use Rattle.rank_grammar.specs.Forms.{Form, var_form, array_form, let_form, item_form, if_form, else_form, end_form, while_form, ◌>>=◌}
-use Rattle.rank_grammar.specs.Forms.{send_form, recv_form, probe_form, try_probe_form, print_form, barrier_form, bcast_form, reduce_form}
-use Rattle.rank_checker.specs.Scope.{Scope, is_name_in, is_variable, is_array, is_declared, all_declared}
-use Rattle.rank_checker.specs.Scope.{pattern_declared, payload_declared, declared_in, after}
+use Rattle.rank_text.specs.Grammar.Tree.{Tree, number, variable, item, reading, negation, operation}
+use Rattle.rank_text.specs.Grammar.Forms.{Pattern, any, value, Payload, lone, one}
+use Rattle.rank_text.specs.Grammar.Forms.{Form, var_form, array_form, let_form, item_form, if_form, else_form, end_form, while_form, ◌>>=◌}
+use Rattle.rank_text.specs.Grammar.Forms.{send_form, recv_form, probe_form, try_probe_form, print_form, barrier_form, bcast_form, reduce_form}
+use Rattle.rank_text.specs.Checker.Scope.{Scope, is_name_in, is_variable, is_array, is_declared, all_declared}
+use Rattle.rank_text.specs.Checker.Scope.{pattern_declared, payload_declared, declared_in, after}
 use Rattle.rank_language.specs.Resolved.{place_in, variable_place, array_place, either_place, resolved}
 use Rattle.rank_language.specs.Resolved.{pattern_resolved, payload_resolved, buffer_resolved, form_resolved}
 use Rattle.rank_language.proofs.Names.{place_of_named, place_of_other}

@@ -1,10 +1,10 @@
 -- Lines found from the last statement on, as the code finds them: one more statement in front puts its line in front.
 use Rattle.std.proofs.Common.{◌≡◌, ℕ, ◌+◌, ◌<◌, zero, suc, List, [], ◌∷◌, ◌++◌, length, Some, get_or, drop, map, reverse, refl, ap, ◌∙◌, sym, subst, arith}
 use Rattle.std.proofs.lemmas.List.{drop_more, reverse-append}
-use Rattle.rank_grammar.specs.declared.form.Form.{Form}
-use Rattle.rank_grammar.specs.SeenForms.{form_seen}
-use Rattle.rank_checker.specs.SeenLines.{forms_seen}
-use Rattle.rank_checker.specs.Scope.{Scope}
+use Rattle.rank_text.specs.declared.grammar.form.Form.{Form}
+use Rattle.rank_text.specs.Grammar.SeenForms.{form_seen}
+use Rattle.rank_text.specs.Checker.SeenLines.{forms_seen}
+use Rattle.rank_text.specs.Checker.Scope.{Scope}
 use Rattle.rank_language.specs.Block.{Line}
 use Rattle.rank_language.specs.Resolvable.{IsResolvable, AllResolvable}
 use Rattle.rank_language.specs.Ends.{kind_of, target_of, ends_before, ends_from, lines_from, lines_behind, form_line}

@@ -1,7 +1,7 @@
 -- A line more is counted: with its number where it isn't skipped.
 use Rattle.std.specs.Prelude.{◌≡◌, ℕ, ◌+◌, List, ◌∷◌, true, false}
 use Rattle.std.proofs.Common.{refl}
-use Rattle.rank_checker.specs.Lines.{is_skipped}
+use Rattle.rank_text.specs.Checker.Lines.{is_skipped}
 use Rattle.rank_language.specs.LineNumbers.{numbers_from}
 
 -- a skipped line has no number

@@ -3,10 +3,10 @@
 use Rattle.std.proofs.Common.{◌≡◌, ◌≢◌, ℕ, zero, suc, ◌+◌, ◌-◌, ◌<◌, ◌≤◌, List, [], ◌∷◌, ◌++◌}
 use Rattle.std.proofs.Common.{length, map, reverse, slice_set, get_or, refl, ap, ◌∙◌, sym, arith}
 use Rattle.std.proofs.lemmas.List.{reverse-append, length-reverse, length-map, map-append, set-get_or}
-use Rattle.rank_grammar.specs.declared.form.Form.{Form}
-use Rattle.rank_grammar.specs.declared.form.Form.TheVariants as source_form
-use Rattle.rank_grammar.specs.declared.written.Written.{Written}
-use Rattle.rank_grammar.specs.SeenForms.{form_seen}
+use Rattle.rank_text.specs.declared.grammar.form.Form.{Form}
+use Rattle.rank_text.specs.declared.grammar.form.Form.TheVariants as source_form
+use Rattle.rank_text.specs.declared.grammar.written.Written.{Written}
+use Rattle.rank_text.specs.Grammar.SeenForms.{form_seen}
 use Rattle.rank_language.specs.declared.statement.Statement.{Statement}
 use Rattle.rank_language.specs.declared.statement.Statement.TheVariants as made
 use Rattle.rank_language.specs.Block.{Line, simple_line, if_line, else_line, end_line, while_line, back_line}

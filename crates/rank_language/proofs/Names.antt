@@ -8,10 +8,10 @@ use Rattle.std.proofs.lemmas.List.{append_cancel_right}
 use Rattle.std.proofs.lemmas.Slice.Eq.{bytes_eq-Decides}
 use Rattle.std.proofs.lemmas.Bool.Decides.{same_from_decides, Decides-and, Decides-like, Decides-eqb}
 use Rattle.std.proofs.lemmas.Iterator.Adapters.{position_from-zero}
-use Rattle.rank_grammar.specs.Name.{padded}
-use Rattle.rank_checker.specs.declared.scope.Array.{Array}
-use Rattle.rank_checker.specs.Scope.{is_name_in}
-use Rattle.rank_checker.specs.SeenLines.{arrays_seen}
+use Rattle.rank_text.specs.Grammar.Name.{padded}
+use Rattle.rank_text.specs.declared.checker.scope.Array.{Array}
+use Rattle.rank_text.specs.Checker.Scope.{is_name_in}
+use Rattle.rank_text.specs.Checker.SeenLines.{arrays_seen}
 use Rattle.rank_language.specs.Resolved.{place_in}
 
 -- equal bytes with zeros behind them, and equal lengths: the same bytes

@@ -2,14 +2,14 @@
 use Rattle.std.specs.Prelude.{◌≡◌, ℕ, zero, suc, ◌<◌, List, [], ◌∷◌, ◌++◌, ◌+◌, ◌≤◌, length, map, take, get_or, slice_index_or}
 use Rattle.std.proofs.Common.{refl, ap, ◌∙◌, sym, subst, arith}
 use Rattle.std.proofs.lemmas.List.{map_more, take_all}
-use Rattle.rank_grammar.specs.declared.form.Form as source_form
-use Rattle.rank_grammar.specs.Forms.{Form}
-use Rattle.rank_grammar.specs.SeenForms.{form_seen}
-use Rattle.rank_checker.proofs.ReadLaws.{forms_push}
-use Rattle.rank_checker.specs.Scope.{Scope}
-use Rattle.rank_checker.specs.declared.scope.Array.{Array}
-use Rattle.rank_checker.specs.SeenLines.{arrays_seen, forms_seen}
-pub use Rattle.rank_checker.proofs.ScopeLaws.{arrays_length}
+use Rattle.rank_text.specs.declared.grammar.form.Form as source_form
+use Rattle.rank_text.specs.Grammar.Forms.{Form}
+use Rattle.rank_text.specs.Grammar.SeenForms.{form_seen}
+use Rattle.rank_text.proofs.CheckerLaws.ReadLaws.{forms_push}
+use Rattle.rank_text.specs.Checker.Scope.{Scope}
+use Rattle.rank_text.specs.declared.checker.scope.Array.{Array}
+use Rattle.rank_text.specs.Checker.SeenLines.{arrays_seen, forms_seen}
+pub use Rattle.rank_text.proofs.CheckerLaws.ScopeLaws.{arrays_length}
 use Rattle.rank_language.specs.declared.statement.Statement.{Statement}
 use Rattle.rank_language.specs.Shape.{step_of}
 use Rattle.rank_language.specs.Seen.{line_of}

@@ -2,13 +2,13 @@
 -- have one tree, which says where each line leads.
 use Rattle.std.proofs.Common.{◌≡◌, ℕ, List, map, ap, ◌∙◌, sym, subst}
 use Rattle.std.proofs.lemmas.Option.{same_Some}
-use Rattle.rank_grammar.specs.Forms.{Form}
+use Rattle.rank_text.specs.Grammar.Forms.{Form}
 use Rattle.rank_language.specs.Block.{Line, lines_at}
 use Rattle.rank_language.specs.Shape.{step_of, block_of_steps}
 use Rattle.rank_language.specs.Program.{ProgramValue}
-use Rattle.rank_checker.specs.declared.fault.FaultKind.{FaultKind}
-use Rattle.rank_checker.specs.Faults.{IsFaultOf}
-use Rattle.rank_checker.proofs.TextLaws.{one_program as one_list, program_or_fault as list_or_fault}
+use Rattle.rank_text.specs.declared.checker.fault.FaultKind.{FaultKind}
+use Rattle.rank_text.specs.Checker.Faults.{IsFaultOf}
+use Rattle.rank_text.proofs.CheckerLaws.TextLaws.{one_program as one_list, program_or_fault as list_or_fault}
 use Rattle.rank_language.specs.Correct.{IsOfForms, IsProgramOf}
 
 -- a program of these parts

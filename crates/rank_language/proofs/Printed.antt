@@ -3,9 +3,9 @@
 use Rattle.std.proofs.Common.{◌≡◌, ℕ, List, [], ◌∷◌, map, Result, Ok, Err, IfOk, Vec, sym, subst}
 use Rattle.std.specs.declared.alloc.AllocError.{AllocError}
 use Rattle.std.specs.Global.{Global}
-use Rattle.rank_printer.specs.Canonical.{IsCanonicalPayload, IsCanonical, AllCanonical, program_text}
-use Rattle.rank_printer.proofs.PrintedText.{reads_back}
-use Rattle.rank_checker.specs.Scope.{Scope}
+use Rattle.rank_text.specs.Printer.Canonical.{IsCanonicalPayload, IsCanonical, AllCanonical, program_text}
+use Rattle.rank_text.proofs.PrinterLaws.PrintedText.{reads_back}
+use Rattle.rank_text.specs.Checker.Scope.{Scope}
 use Rattle.rank_language.specs.Placed.{Placed, number, variable, item, reading, negation, operation, Payload, one, all_of}
 use Rattle.rank_language.specs.Placed.{declare, declare_array, assign, assign_item, send, receive, probe, try_probe, print}
 use Rattle.rank_language.specs.Placed.{Collective, barrier, broadcast, reduce, collect, Step, does, tests, repeats, otherwise, closes}

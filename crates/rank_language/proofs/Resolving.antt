@@ -4,10 +4,10 @@ use Rattle.std.specs.List.{position_from}
 use Rattle.std.specs.Str.{bytes_eq}
 use Rattle.std.proofs.lemmas.Iterator.Adapters.{position_from-zero}
 use Rattle.std.proofs.lemmas.List.{length-map}
-use Rattle.rank_grammar.specs.Tree as text
-use Rattle.rank_grammar.specs.Forms as line
-use Rattle.rank_grammar.specs.Forms.{Form, ◌>>=◌}
-use Rattle.rank_checker.specs.Scope.{Scope}
+use Rattle.rank_text.specs.Grammar.Tree as text
+use Rattle.rank_text.specs.Grammar.Forms as line
+use Rattle.rank_text.specs.Grammar.Forms.{Form, ◌>>=◌}
+use Rattle.rank_text.specs.Checker.Scope.{Scope}
 use Rattle.rank_language.specs.Placed.{Placed, number, variable, item, reading, negation, operation, Pattern, any, value}
 use Rattle.rank_language.specs.Placed.{Payload, one, all_of, Buffer, into_variable, into_array}
 use Rattle.rank_language.specs.Placed.{declare, declare_array, assign, assign_item, send, receive, probe, try_probe, print}

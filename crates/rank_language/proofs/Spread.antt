@@ -2,7 +2,7 @@
 -- that are open in front of them (`Fit`). Spread over positions, each list is followed by the line that closes it;
 -- one more line in front keeps this, and in front of a whole program there is one list, its tree.
 use Rattle.std.proofs.Common.{◌≡◌, ℕ, ◌+◌, ◌-◌, length, List, [], ◌∷◌, ◌++◌, Bool, true, false, not, refl, ap, ◌∙◌, sym, arith, append_assoc, append-nil}
-use Rattle.rank_checker.specs.Scope.{Opened, in_if, in_else, in_while, is_empty, is_open_if, other_branch, outer}
+use Rattle.rank_text.specs.Checker.Scope.{Opened, in_if, in_else, in_while, is_empty, is_open_if, other_branch, outer}
 use Rattle.rank_language.specs.Placed.{Placed, Simple, Step, does, tests, repeats, otherwise, closes}
 use Rattle.rank_language.specs.Block.{Block, done, plain, if_only, if_else, loop, Line, simple_line}
 use Rattle.rank_language.specs.Block.{if_line, else_line, end_line, while_line, back_line, size, lines_at}

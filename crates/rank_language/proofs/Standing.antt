@@ -2,11 +2,11 @@
 -- By cases over the text's lines: a skipped line leaves statements and numbers, and each other one has the first of both.
 use Rattle.std.specs.Prelude.{◌≡◌, ℕ, zero, suc, ◌+◌, ◌<◌, ◌≤◌, List, [], ◌∷◌, true, false, length, Some, None, IsSomeAnd, slice_get}
 use Rattle.std.proofs.Common.{refl, sym, ap, subst, arith}
-use Rattle.text_lines.specs.Pieces.{pieces_of}
-use Rattle.rank_grammar.specs.Forms.{Form}
-use Rattle.rank_checker.specs.Lines.{is_skipped}
-use Rattle.rank_checker.specs.Scope.{Scope}
-use Rattle.rank_checker.specs.Faults.{IsLine, skipped, stated, AreLines, none, skipped_line, taken, IsText}
+use Rattle.rank_text.specs.Lines.Pieces.{pieces_of}
+use Rattle.rank_text.specs.Grammar.Forms.{Form}
+use Rattle.rank_text.specs.Checker.Lines.{is_skipped}
+use Rattle.rank_text.specs.Checker.Scope.{Scope}
+use Rattle.rank_text.specs.Checker.Faults.{IsLine, skipped, stated, AreLines, none, skipped_line, taken, IsText}
 use Rattle.rank_language.specs.StandOn.{Spells, line_of_text, StandOn}
 use Rattle.rank_language.specs.LineNumbers.{numbers_from}
 use Rattle.rank_language.proofs.LineCounting.{past_skipped, past_stated}

@@ -3,10 +3,10 @@ use Rattle.std.specs.Prelude.{◌≡◌, ℕ, ℤ, pos, List, [], ◌∷◌, ◌
 use Rattle.std.proofs.Common.{inl, inr, ap, ◌∙◌}
 use Rattle.std.specs.Coded.{Coded, code_by, coded_ℕ, coded_ℤ, coded_list, coded⊎}
 use base.Stored.{coded_unit}
-use Rattle.rank_grammar.specs.declared.token.Operator.{Operator}
-use Rattle.rank_grammar.specs.declared.token.Reading.{Reading}
-use Rattle.rank_grammar.specs.contracts.token.Operator as operators
-use Rattle.rank_grammar.specs.contracts.token.Reading as readings
+use Rattle.rank_text.specs.declared.grammar.token.Operator.{Operator}
+use Rattle.rank_text.specs.declared.grammar.token.Reading.{Reading}
+use Rattle.rank_text.specs.contracts.grammar.token.Operator as operators
+use Rattle.rank_text.specs.contracts.grammar.token.Reading as readings
 use Rattle.rank_language.specs.Placed.{Placed, number, variable, item, reading, negation, operation}
 
 -- a number, a variable's place, an array's place, a read-only word, a negation, an operator

@@ -1,9 +1,9 @@
 -- Which program a text has (docs/LANGUAGE.md: forms, meaning of one step, next positions).
 use Rattle.std.specs.Prelude.{◌≡◌, ℕ, ◌≤◌, List, Some, length, map}
 use Rattle.limits.specs.Limits.{most_lines, most_variables, most_arrays}
-use Rattle.rank_grammar.specs.Forms.{Form}
-use Rattle.rank_checker.specs.Faults.{IsText}
-use Rattle.rank_checker.specs.Scope.{nothing_yet, after_all, IsWhole}
+use Rattle.rank_text.specs.Grammar.Forms.{Form}
+use Rattle.rank_text.specs.Checker.Faults.{IsText}
+use Rattle.rank_text.specs.Checker.Scope.{nothing_yet, after_all, IsWhole}
 use Rattle.rank_language.specs.Block.{lines_at}
 use Rattle.rank_language.specs.Shape.{step_of}
 use Rattle.rank_language.specs.Program.{ProgramValue, block_of, AllPlaced, AllSized}

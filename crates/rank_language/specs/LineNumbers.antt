@@ -1,7 +1,7 @@
 -- The lines that aren't skipped, counted.
 use Rattle.std.specs.Prelude.{ℕ, ◌+◌, List, [], ◌∷◌, Option, Some, None, if◌then◌else◌}
 use Rattle.std.specs.Borrow.{Bor}
-use Rattle.rank_checker.specs.Lines.{is_skipped}
+use Rattle.rank_text.specs.Checker.Lines.{is_skipped}
 
 -- the numbers of the lines that aren't skipped, where the first has this number
 abbrev pub numbers_from : ℕ → List (List ℕ) → List ℕ

@@ -1,8 +1,8 @@
 -- The statements of a program with names for places, as a text has them (docs/LANGUAGE.md: forms).
 use Rattle.std.specs.Prelude.{ℕ, List, [], map, slice_index_or, unsigned_abs}
-use Rattle.rank_grammar.specs.Tree as text
-use Rattle.rank_grammar.specs.Forms as line
-use Rattle.rank_checker.specs.Scope.{Scope}
+use Rattle.rank_text.specs.Grammar.Tree as text
+use Rattle.rank_text.specs.Grammar.Forms as line
+use Rattle.rank_text.specs.Checker.Scope.{Scope}
 use Rattle.rank_language.specs.Placed.{Placed, number, variable, item, reading, negation, operation, Pattern, any, value}
 use Rattle.rank_language.specs.Placed.{Payload, one, all_of, Buffer, into_variable, into_array}
 use Rattle.rank_language.specs.Placed.{declare, declare_array, assign, assign_item, send, receive, probe, try_probe, print}

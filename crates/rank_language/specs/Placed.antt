@@ -1,9 +1,9 @@
 -- Expressions and statements that read variables and arrays by their places (docs/LANGUAGE.md:
 -- meaning of one step).
 use Rattle.std.specs.Prelude.{ℕ, ℤ}
-use Rattle.rank_grammar.specs.declared.token.Operator.{Operator}
-use Rattle.rank_grammar.specs.declared.token.Reading.{Reading}
-use Rattle.rank_grammar.specs.declared.token.Reduction.{Reduction}
+use Rattle.rank_text.specs.declared.grammar.token.Operator.{Operator}
+use Rattle.rank_text.specs.declared.grammar.token.Reading.{Reading}
+use Rattle.rank_text.specs.declared.grammar.token.Reduction.{Reduction}
 
 -- an expression, whose variables and arrays are given by their places in the order of declaration
 pub data Placed : Type 0 where

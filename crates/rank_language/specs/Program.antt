@@ -2,8 +2,8 @@
 -- meaning of one step).
 use Rattle.std.specs.Prelude.{ℕ, ◌<◌, ◌≤◌, List, [], ◌∷◌, map}
 use Rattle.limits.specs.Limits.{most_items}
-use Rattle.rank_checker.specs.declared.scope.Array.{Array}
-use Rattle.rank_checker.specs.SeenLines.{arrays_seen}
+use Rattle.rank_text.specs.declared.checker.scope.Array.{Array}
+use Rattle.rank_text.specs.Checker.SeenLines.{arrays_seen}
 use Rattle.rank_language.specs.declared.statement.Statement.{Statement}
 use Rattle.rank_language.specs.Placed.{Placed, number, variable, item, reading, negation, operation, Pattern, any, value, Payload}
 use Rattle.rank_language.specs.Placed.{one, all_of, Buffer, into_variable, into_array, declare, declare_array, assign, assign_item}

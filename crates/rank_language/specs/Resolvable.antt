@@ -1,8 +1,8 @@
 -- Statements whose names are declared and whose numbers fit, by the tables of the whole text.
 use Rattle.std.specs.Prelude.{◌≡◌, List, [], ◌∷◌, Bool, true, false}
-use Rattle.rank_grammar.specs.Forms.{Form, var_form, array_form, let_form, item_form, if_form, else_form, end_form, while_form}
-use Rattle.rank_grammar.specs.Forms.{send_form, recv_form, probe_form, try_probe_form, print_form, barrier_form, bcast_form, reduce_form}
-use Rattle.rank_checker.specs.Scope.{Scope, declared_in, has_great_number, is_variable, is_array}
+use Rattle.rank_text.specs.Grammar.Forms.{Form, var_form, array_form, let_form, item_form, if_form, else_form, end_form, while_form}
+use Rattle.rank_text.specs.Grammar.Forms.{send_form, recv_form, probe_form, try_probe_form, print_form, barrier_form, bcast_form, reduce_form}
+use Rattle.rank_text.specs.Checker.Scope.{Scope, declared_in, has_great_number, is_variable, is_array}
 
 -- what the statement declares is in the table
 abbrev pub declares_in : Scope → Form → Bool

@@ -1,10 +1,10 @@
 -- The tables of names of the code, as the scope of a whole text.
 use Rattle.std.specs.Prelude.{◌≡◌, ℕ, [], Option, Some, None}
-use Rattle.rank_checker.specs.Scope.{Scope}
+use Rattle.rank_text.specs.Checker.Scope.{Scope}
 use Rattle.rank_language.specs.declared.resolve.Tables.{Tables}
 use Rattle.rank_language.specs.declared.resolve.Declared.{Declared}
 use Rattle.rank_language.specs.declared.resolve.Declared.TheVariants.{Variable, Array}
-use Rattle.rank_checker.specs.SeenLines.{arrays_seen}
+use Rattle.rank_text.specs.Checker.SeenLines.{arrays_seen}
 
 -- what is declared, where no block is open
 abbrev pub tables_seen : Tables → Scope

@@ -1,9 +1,9 @@
 -- On which lines of its text the statements of a program stand (the language's own manual, docs/LANGUAGE.md, "Lines, words and names").
 use Rattle.std.specs.Prelude.{◌≡◌, ℕ, zero, suc, ◌<◌, List, Option, Some, None, IsSomeAnd, length, slice_get}
-use Rattle.text_lines.specs.Pieces.{pieces_of}
-use Rattle.rank_grammar.specs.declared.token.Token.{Token}
-use Rattle.rank_grammar.specs.Forms.{Form}
-use Rattle.rank_checker.specs.Faults.{IsFormed, IsText}
+use Rattle.rank_text.specs.Lines.Pieces.{pieces_of}
+use Rattle.rank_text.specs.declared.grammar.token.Token.{Token}
+use Rattle.rank_text.specs.Grammar.Forms.{Form}
+use Rattle.rank_text.specs.Checker.Faults.{IsFormed, IsText}
 use Rattle.rank_language.specs.Program.{ProgramValue}
 use Rattle.rank_language.specs.Correct.{IsOfForms}
 

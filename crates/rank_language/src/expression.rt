@@ -1,6 +1,6 @@
 //! Expressions as a machine reads them: variables and arrays by their places.
 use limits::Heap;
-use rank_grammar::{Operator, Reading};
+use rank_text::grammar::{Operator, Reading};
 
 /// An expression of a program. It has no more nodes than `limits::MOST_NODES`.
 #[derive(Debug, Drop)]

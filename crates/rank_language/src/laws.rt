@@ -1,9 +1,9 @@
 //! What holds of the statements that remain in every program, where it begins and where it ends.
 ghost use Rattle.std.specs.Prelude.{◌≡◌, ℕ, List, ◌↔◌, None, false};
-ghost use Rattle.rank_grammar.specs.Forms.{Form};
-ghost use Rattle.rank_checker.specs.Scope.{Scope, after, declared_in};
-ghost use Rattle.rank_checker.specs.declared.fault.FaultKind.{FaultKind};
-ghost use Rattle.rank_checker.specs.Faults.{IsFaultOf};
+ghost use Rattle.rank_text.specs.Grammar.Forms.{Form};
+ghost use Rattle.rank_text.specs.Checker.Scope.{Scope, after, declared_in};
+ghost use Rattle.rank_text.specs.declared.checker.fault.FaultKind.{FaultKind};
+ghost use Rattle.rank_text.specs.Checker.Faults.{IsFaultOf};
 ghost use Rattle.rank_language.specs.Correct.{IsProgramOf};
 ghost use Rattle.rank_language.specs.Resolved.{form_resolved};
 ghost use Rattle.rank_language.specs.Block.{size, remaining, done};

@@ -17,9 +17,9 @@ pub use expression::Expression;
 pub use line_numbers::statement_lines;
 pub use lined::LinedProgram;
 pub use program::Program;
-pub use rank_checker::{
+pub use rank_text::checker::{
     Array, FaultKind, ParseFault, ProgramFault, law_one_reading, law_program_or_fault,
 };
-pub use rank_grammar::{Name, Operator, Reading, Reduction};
+pub use rank_text::grammar::{Name, Operator, Reading, Reduction};
 pub use statement::{Buffer, Collective, Pattern, Payload, Statement};
 pub use text_line::line_of_text;

@@ -1,15 +1,15 @@
 //! The numbers of the lines that have statements.
 ghost use Rattle.std.specs.Prelude.{◌≡◌, IfOk, List};
-ghost use Rattle.rank_checker.specs.Faults.{IsText};
-ghost use Rattle.rank_checker.specs.Lines.{is_skipped};
-ghost use Rattle.rank_grammar.specs.Forms.{Form};
-ghost use Rattle.text_lines.specs.Pieces.{pieces_of};
+ghost use Rattle.rank_text.specs.Checker.Faults.{IsText};
+ghost use Rattle.rank_text.specs.Checker.Lines.{is_skipped};
+ghost use Rattle.rank_text.specs.Grammar.Forms.{Form};
+ghost use Rattle.rank_text.specs.Lines.Pieces.{pieces_of};
 ghost use Rattle.rank_language.specs.StandOn.{StandOn};
 ghost use Rattle.rank_language.specs.LineNumbers.{numbers_from};
 
 use limits::Heap;
+use rank_text::lines::{next_line, without_front};
 use std::alloc::AllocError;
-use text_lines::{next_line, without_front};
 
 /// The number, from 1, of the line on which each statement of a program's text stands. Skipped lines count.
 ///

@@ -1,15 +1,15 @@
 //! A program with the lines on which its statements stand.
 ghost use Rattle.std.specs.Prelude.{◌≡◌, Err, IfErr, IfOk, List, length};
-ghost use Rattle.rank_checker.specs.declared.fault.ParseFault.TheVariants.{Fault, Memory};
-ghost use Rattle.rank_checker.specs.declared.fault.ProgramFault.{ProgramFault};
-ghost use Rattle.rank_checker.specs.Faults.{IsFaultOf, IsText};
-ghost use Rattle.rank_grammar.specs.Forms.{Form};
+ghost use Rattle.rank_text.specs.declared.checker.fault.ParseFault.TheVariants.{Fault, Memory};
+ghost use Rattle.rank_text.specs.declared.checker.fault.ProgramFault.{ProgramFault};
+ghost use Rattle.rank_text.specs.Checker.Faults.{IsFaultOf, IsText};
+ghost use Rattle.rank_text.specs.Grammar.Forms.{Form};
 ghost use Rattle.rank_language.specs.StandOn.{IsLinedOf};
 
 use crate::line_numbers::statement_lines;
 use crate::program::Program;
 use limits::Heap;
-use rank_checker::{ParseFault, ProgramFault};
+use rank_text::checker::{ParseFault, ProgramFault};
 
 /// A program, and for each of its statements the line of the text that it was read from.
 #[derive(Drop)]

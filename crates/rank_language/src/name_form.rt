@@ -1,8 +1,8 @@
 //! Names for the places of a statement.
 ghost use Rattle.std.specs.Prelude.{◌≡◌, ◌<◌, IfOk, length, map};
-ghost use Rattle.rank_grammar.specs.SeenForms.{pattern_of as pattern_seen, form_seen, payload_seen};
-ghost use Rattle.rank_grammar.specs.Tree.{tree_of};
-ghost use Rattle.rank_checker.specs.SeenLines.{forms_seen};
+ghost use Rattle.rank_text.specs.Grammar.SeenForms.{pattern_of as pattern_seen, form_seen, payload_seen};
+ghost use Rattle.rank_text.specs.Grammar.Tree.{tree_of};
+ghost use Rattle.rank_text.specs.Checker.SeenLines.{forms_seen};
 ghost use Rattle.rank_language.specs.Named.{array_at, buffer_name, pattern_named, form_named};
 ghost use Rattle.rank_language.specs.Named.{named, payload_named, value_named};
 ghost use Rattle.rank_language.specs.Placed.{assign, assign_item, declare_array, does};
@@ -21,8 +21,8 @@ use crate::statement::{Buffer, Pattern, Payload, Statement};
 use collectives::name_collective;
 use limits::Heap;
 use messages::{name_probe, name_receive, name_send, name_try_probe};
-use rank_checker::Array;
-use rank_grammar::{Form, Name, Written, form};
+use rank_text::checker::Array;
+use rank_text::grammar::{Form, Name, Written, form};
 use std::alloc::AllocError;
 
 /// The array at a place.

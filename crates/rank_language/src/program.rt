@@ -1,15 +1,15 @@
 //! Programs: statements in order, each with where it leads to.
 ghost use Rattle.limits.specs.Limits.{most_lines, most_variables, most_arrays};
-ghost use Rattle.rank_grammar.specs.Forms.{Form};
-ghost use Rattle.rank_checker.specs.declared.fault.ParseFault.TheVariants.{Fault, Memory};
-ghost use Rattle.rank_checker.specs.declared.fault.ProgramFault.{ProgramFault};
-ghost use Rattle.rank_checker.specs.Faults.{IsFaultOf, IsText};
-ghost use Rattle.rank_checker.specs.Progress.{HasTables};
-ghost use Rattle.rank_checker.specs.Scope.{IsWhole};
-ghost use Rattle.rank_checker.specs.SeenLines.{arrays_seen, forms_seen};
+ghost use Rattle.rank_text.specs.Grammar.Forms.{Form};
+ghost use Rattle.rank_text.specs.declared.checker.fault.ParseFault.TheVariants.{Fault, Memory};
+ghost use Rattle.rank_text.specs.declared.checker.fault.ProgramFault.{ProgramFault};
+ghost use Rattle.rank_text.specs.Checker.Faults.{IsFaultOf, IsText};
+ghost use Rattle.rank_text.specs.Checker.Progress.{HasTables};
+ghost use Rattle.rank_text.specs.Checker.Scope.{IsWhole};
+ghost use Rattle.rank_text.specs.Checker.SeenLines.{arrays_seen, forms_seen};
 ghost use Rattle.rank_language.specs.Correct.{IsOfForms, IsProgramOf};
 ghost use Rattle.rank_language.specs.Named.{forms_of};
-ghost use Rattle.rank_printer.specs.Canonical.{program_text};
+ghost use Rattle.rank_text.specs.Printer.Canonical.{program_text};
 ghost use Rattle.std.specs.Prelude.{List, Err, IfErr, IfOk, ◌≡◌, ◌<◌, ◌≤◌, IfSome, IsNone, ◌↔◌, length, slice_get, Bool};
 ghost use Rattle.rank_language.specs.Block.{size, lines_at, remaining, Leads, next_position};
 ghost use Rattle.rank_language.specs.Seen.{line_of, line_in};
@@ -20,9 +20,9 @@ use crate::name_form::name_forms;
 use crate::resolve::Tables;
 use crate::statement::Statement;
 use limits::Heap;
-use rank_checker::{Array, Draft, ParseFault, ProgramFault, read};
-use rank_grammar::Name;
-use rank_printer::print;
+use rank_text::checker::{Array, Draft, ParseFault, ProgramFault, read};
+use rank_text::grammar::Name;
+use rank_text::printer::print;
 use std::alloc::AllocError;
 use std::marker::Model;
 

@@ -1,16 +1,16 @@
 //! Places for names: an expression as it is written becomes one that a machine reads.
 ghost use Rattle.std.specs.Prelude.{◌≡◌, Some, IfOk, true, false, position};
 ghost use Rattle.std.specs.Str.{bytes_eq};
-ghost use Rattle.rank_grammar.specs.Tree.{tree_of};
-ghost use Rattle.rank_checker.specs.Scope.{all_declared, is_array, is_declared, is_great, is_variable};
+ghost use Rattle.rank_text.specs.Grammar.Tree.{tree_of};
+ghost use Rattle.rank_text.specs.Checker.Scope.{all_declared, is_array, is_declared, is_great, is_variable};
 ghost use Rattle.rank_language.specs.Resolved.{array_place, place_in, resolved, variable_place};
 ghost use Rattle.rank_language.specs.Seen.{placed_of};
 ghost use Rattle.rank_language.specs.SeenTables.{IsPlaceOf, tables_seen};
 
 use crate::expression::Expression;
 use limits::Heap;
-use rank_checker::Array;
-use rank_grammar::{Name, Written};
+use rank_text::checker::Array;
+use rank_text::grammar::{Name, Written};
 use std::alloc::AllocError;
 
 /// The names that a text declares, in their order.

@@ -1,10 +1,10 @@
 //! Places for the names of a statement.
 ghost use Rattle.std.specs.Prelude.{◌≡◌, ℕ, Some, IfOk, true, false, option_map};
-ghost use Rattle.rank_grammar.specs.SeenForms.{pattern_of as pattern_seen, form_seen, payload_seen};
-ghost use Rattle.rank_grammar.specs.Forms.{bcast_form, item_form, let_form, lone, probe_form, recv_form, reduce_form};
-ghost use Rattle.rank_grammar.specs.Forms.{send_form, try_probe_form};
-ghost use Rattle.rank_grammar.specs.Tree.{tree_of};
-ghost use Rattle.rank_checker.specs.Scope.{is_declared, pattern_declared, pattern_is_great, payload_declared, payload_is_great};
+ghost use Rattle.rank_text.specs.Grammar.SeenForms.{pattern_of as pattern_seen, form_seen, payload_seen};
+ghost use Rattle.rank_text.specs.Grammar.Forms.{bcast_form, item_form, let_form, lone, probe_form, recv_form, reduce_form};
+ghost use Rattle.rank_text.specs.Grammar.Forms.{send_form, try_probe_form};
+ghost use Rattle.rank_text.specs.Grammar.Tree.{tree_of};
+ghost use Rattle.rank_text.specs.Checker.Scope.{is_declared, pattern_declared, pattern_is_great, payload_declared, payload_is_great};
 ghost use Rattle.rank_language.specs.Resolvable.{IsResolvable};
 ghost use Rattle.rank_language.specs.Resolved.{buffer_resolved, pattern_resolved, form_resolved, payload_resolved};
 ghost use Rattle.rank_language.specs.Ends.{line_to};
@@ -16,7 +16,7 @@ use crate::expression::Expression;
 use crate::resolve::{Declared, Tables, resolve};
 use crate::statement::{Buffer, Collective, Pattern, Payload, Statement};
 use limits::Heap;
-use rank_grammar::{Form, Name, Reduction, Written, form};
+use rank_text::grammar::{Form, Name, Reduction, Written, form};
 use std::alloc::AllocError;
 
 /// The source or the tag with places for its names.

@@ -4,7 +4,7 @@ ghost use Rattle.rank_language.specs.Block.{next_position};
 ghost use Rattle.rank_language.specs.Seen.{line_of};
 
 use crate::expression::Expression;
-use rank_grammar::Reduction;
+use rank_text::grammar::Reduction;
 
 /// The source or the tag that a receive or a probe asks for.
 #[derive(Debug, Drop)]

@@ -3,7 +3,7 @@ ghost use Rattle.std.specs.Prelude.{◌≡◌};
 ghost use Rattle.rank_language.specs.StandOn.{line_of_text};
 ghost use Rattle.rank_language.specs.LineNumbers.{line_seen};
 
-use text_lines::next_line;
+use rank_text::lines::next_line;
 
 /// The line of a text with this number, from 1, if there is one.
 pub fn line_of_text(text: &[u8], number: usize) -> Option<&[u8]>

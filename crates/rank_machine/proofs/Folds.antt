@@ -7,7 +7,7 @@ use Rattle.std.proofs.lemmas.List.{take_min}
 use Rattle.std.proofs.Math.ListN.{drop_of_length-le}
 use Rattle.std.proofs.Math.Nat.{min-eq_left, min-eq_right}
 use Rattle.std.proofs.Math.Seq.{take-length, drop-length}
-use Rattle.rank_grammar.specs.declared.token.Reduction.{Reduction}
+use Rattle.rank_text.specs.declared.grammar.token.Reduction.{Reduction}
 use Rattle.rank_machine.specs.declared.fault.MachineFault.{MachineFault}
 use Rattle.rank_machine.specs.Values.{Valued, ◌>>=◌}
 use Rattle.rank_machine.specs.Collectives.{combined, folded, folded_from, with_at}

@@ -2,7 +2,7 @@
 use Rattle.std.proofs.Common.{◌≡◌, ℕ, zero, suc, ◌+◌, ◌<◌, List, [], ◌∷◌, ◌++◌, Some, length, map, refl, sym, ap, ◌∙◌, arith, slice_get, ◌⊎◌, inl, inr}
 use Rattle.std.proofs.lemmas.Bool.{eq-eqb, ne_eqb, cases_eq}
 use Rattle.std.proofs.lemmas.List.{length-append, length-map}
-use Rattle.rank_grammar.specs.declared.token.Reduction.{Reduction}
+use Rattle.rank_text.specs.declared.grammar.token.Reduction.{Reduction}
 use Rattle.rank_machine.specs.Collectives.{Kind, barriers, broadcasts, folds, Part, gives, gets, ends, others, parts, parts_among}
 use Rattle.rank_machine.proofs.CollectiveParts.{ends_behind, one_more, longer_at, mapped_at, gives_behind, length_others, other_place, within_at, ends_last}
 

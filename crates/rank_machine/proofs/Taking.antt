@@ -2,7 +2,7 @@
 use Rattle.std.proofs.Common.{◌≡◌, ℕ, ℤ, ◌<◌, List, length, Ok, Some, refl, subst, arith, ◌⊎◌, inl, inr}
 use Rattle.std.proofs.lemmas.Bool.{eq-eqb, ne_eqb, cases_eq}
 use Rattle.std.specs.Prelude.{◌==◌}
-use Rattle.rank_grammar.specs.declared.token.Reduction.{Reduction}
+use Rattle.rank_text.specs.declared.grammar.token.Reduction.{Reduction}
 use Rattle.rank_language.specs.Placed.{Collective, barrier, broadcast, reduce}
 use Rattle.rank_machine.specs.Values.{Store}
 use Rattle.rank_machine.specs.Collectives.{Call, folds, called, given_by, parts}

@@ -5,8 +5,8 @@ use Rattle.std.specs.Prelude.{ℕ, zero, suc, ℤ, pos, ◌+◌, ◌==◌, nat_l
 use Rattle.std.specs.Prelude.{◌++◌, length, map, take, drop, slice_index_or, slice_set, Ok, Err, Option, Some, None, if◌then◌else◌}
 use Rattle.std.specs.Ordering.{int_eq}
 use Rattle.limits.specs.Limits.{greatest_clock}
-use Rattle.rank_grammar.specs.declared.token.Reduction.{Reduction}
-use Rattle.rank_grammar.specs.declared.token.Reduction.TheVariants.{Sum, Max, Min}
+use Rattle.rank_text.specs.declared.grammar.token.Reduction.{Reduction}
+use Rattle.rank_text.specs.declared.grammar.token.Reduction.TheVariants.{Sum, Max, Min}
 use Rattle.rank_language.specs.Placed.{Buffer, into_variable, into_array, Collective, barrier, broadcast, reduce}
 use Rattle.rank_language.specs.Block.{Block}
 use Rattle.rank_machine.specs.declared.fault.MachineFault.TheVariants.{Overflow, CollectiveMismatch}

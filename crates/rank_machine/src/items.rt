@@ -1,7 +1,7 @@
 //! The items of one array.
 ghost use Rattle.std.specs.Prelude.{◌≡◌, ◌<◌, ◌≤◌, ◌++◌, IfOk, length, map, pos, replicate, slice_set};
 ghost use Rattle.limits.specs.Limits.{most_items};
-ghost use Rattle.rank_checker.specs.SeenLines.{arrays_seen};
+ghost use Rattle.rank_text.specs.Checker.SeenLines.{arrays_seen};
 ghost use Rattle.rank_language.specs.Program.{AllSized};
 ghost use Rattle.rank_machine.specs.Values.{item_at, index_in};
 ghost use Rattle.rank_machine.specs.Acts.{overwritten};

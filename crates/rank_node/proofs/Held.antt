@@ -5,7 +5,7 @@ use Rattle.std.proofs.Common.{length, drop, Some, slice_get, option_and_then, re
 use Rattle.std.proofs.lemmas.Bool.{cases_eq, eq-eqb, ne_eqb}
 use Rattle.std.proofs.lemmas.List.{get_or-set_same, get_or-set_other, length_push}
 use Rattle.matching.specs.PacketValue as packet
-use Rattle.sequential_logger.specs.Event.{EventValue}
+use Rattle.event_logger.specs.Sequential.Event.{EventValue}
 use Rattle.payload_log.specs.Backlog.{BacklogValue, backlog, new_backlog, hold, freed, freed_of}
 use Rattle.rank_node.specs.declared.waiting.Waiting.{Waiting}
 use Rattle.rank_node.specs.declared.waiting.Waiting.TheVariants.{Event, Send, Line}

@@ -1,6 +1,6 @@
 -- When a replay is over.
 use Rattle.std.proofs.Common.{◌≡◌, ◌<◌, List, [], ◌∷◌, length, refl, arith}
-use Rattle.sequential_logger.specs.Event.{EventValue}
+use Rattle.event_logger.specs.Sequential.Event.{EventValue}
 use Rattle.rank_node.specs.Phases.{settled_replay}
 use Rattle.rank_node.specs.Replay.{Replay}
 use Rattle.rank_node.specs.declared.phase.Phase.TheVariants as phase

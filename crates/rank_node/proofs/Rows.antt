@@ -1,8 +1,8 @@
 -- What of a row is above a clock is no longer than the row.
 use Rattle.std.specs.Prelude.{ℕ, suc, ◌≤◌, nat_lt, Bool, true, false, cond, List, [], ◌∷◌, length}
 use Rattle.std.proofs.Common.{arith}
-use Rattle.sequential_logger.specs.Event.{EventValue}
-use Rattle.sequential_logger.specs.History.{above}
+use Rattle.event_logger.specs.Sequential.Event.{EventValue}
+use Rattle.event_logger.specs.Sequential.History.{above}
 
 -- the events of a row above a clock are no more than the row has
 pub length_above : (after : ℕ) (es : List EventValue) → length (above after es) ≤ length es

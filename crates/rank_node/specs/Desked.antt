@@ -2,9 +2,9 @@
 -- determinant, and the fetch of its own determinants before a replay (Alvisi and Marzullo 1998,
 -- section 3).
 use Rattle.std.specs.Prelude.{◌≡◌, Option, Some, None, ◌⊎◌}
-use Rattle.sequential_logger.specs.Event.{EventValue}
-use Rattle.sequential_logger.specs.History.{append_reply}
-use Rattle.sequential_logger.specs.declared.call.Call.TheVariants.{Append}
+use Rattle.event_logger.specs.Sequential.Event.{EventValue}
+use Rattle.event_logger.specs.Sequential.History.{append_reply}
+use Rattle.event_logger.specs.declared.sequential.call.Call.TheVariants.{Append}
 use Rattle.event_logger.specs.declared.view.Answer.{Answer}
 use Rattle.event_logger.specs.declared.view.Answer.TheVariants.{NoPlace, TooEarly}
 use Rattle.event_logger.specs.Desks.{DeskValue, own_row, reply_with, with_call}

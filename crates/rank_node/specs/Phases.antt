@@ -2,7 +2,7 @@
 -- (fail-stop processes with stable storage: Schlichting and Schneider, "Fail-Stop Processors",
 -- 1983).
 use Rattle.std.specs.Prelude.{ℕ, List, [], ◌∷◌, Option, Some, None}
-use Rattle.sequential_logger.specs.Event.{EventValue}
+use Rattle.event_logger.specs.Sequential.Event.{EventValue}
 use Rattle.rank_node.specs.Copied.{node_with, stored_with}
 use Rattle.rank_node.specs.Frames.{after_frame, after_passed, arrival_of, outgoing_of}
 use Rattle.rank_node.specs.Replay.{Replay}

@@ -1,11 +1,11 @@
 -- How the events of a rank, its determinants, reach its row at the event logger, and leave the rank
 -- once they are acknowledged (pessimistic logging: Alvisi and Marzullo 1998, section 3).
 use Rattle.std.specs.Prelude.{ℕ, ◌+◌, ◌-◌, drop, slice_get, option_and_then, Option, Some, None, ◌⊎◌}
-use Rattle.sequential_logger.specs.Event.{EventValue}
-use Rattle.sequential_logger.specs.History.{StateValue, Answers}
-use Rattle.sequential_logger.specs.declared.call.Call.TheVariants.{Append}
-use Rattle.sequential_logger.specs.declared.call.Reply.{Reply}
-use Rattle.sequential_logger.specs.declared.call.Reply.TheVariants.{Full, Order}
+use Rattle.event_logger.specs.Sequential.Event.{EventValue}
+use Rattle.event_logger.specs.Sequential.History.{StateValue, Answers}
+use Rattle.event_logger.specs.declared.sequential.call.Call.TheVariants.{Append}
+use Rattle.event_logger.specs.declared.sequential.call.Reply.{Reply}
+use Rattle.event_logger.specs.declared.sequential.call.Reply.TheVariants.{Full, Order}
 use Rattle.rank_node.specs.Node.{Node}
 use Rattle.rank_node.specs.Waiting.{event_in}
 

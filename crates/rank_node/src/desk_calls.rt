@@ -2,8 +2,8 @@
 //! determinants there, and fetches its own for a replay.
 ghost use Rattle.std.specs.Prelude.{◌≡◌, ◌<◌, ◌≤◌, ◌↔◌, None, Ok, length, IfOk, IfErr, OnErr, MatchOption};
 ghost use Rattle.limits.specs.Limits.{most_events};
-ghost use Rattle.sequential_logger.specs.History.{above};
-ghost use Rattle.sequential_logger.specs.declared.call.Call.TheVariants.{Fetch};
+ghost use Rattle.event_logger.specs.Sequential.History.{above};
+ghost use Rattle.event_logger.specs.declared.sequential.call.Call.TheVariants.{Fetch};
 ghost use Rattle.event_logger.specs.declared.view.Answer.TheVariants.{Stored};
 ghost use Rattle.event_logger.specs.Desks.{IsRead, IsSameDesk, found, own_row, with_call};
 ghost use Rattle.rank_node.specs.Desked.{with_desk, at_desk, Appended, IsDeclined};
@@ -14,9 +14,8 @@ use crate::fault::NodeFault;
 use crate::replaying::Replaying;
 use crate::running::Running;
 use checkpoint::Shelf;
-use event_logger::{Desk, LogFault, Logger};
+use event_logger::{Desk, Event, LogFault, Logger};
 use limits::Heap;
-use sequential_logger::Event;
 
 impl<'p, S: Shelf> Running<'p, S, Desk> {
     /// Appends the oldest unstored event to the rank's row and answers the

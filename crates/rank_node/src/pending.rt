@@ -10,8 +10,8 @@ ghost use Rattle.rank_node.specs.declared.waiting.Waiting.TheVariants as waits;
 mod copying;
 
 use crate::waiting::Waiting;
+use event_logger::Event;
 use limits::{Heap, MOST_EFFECTS};
-use sequential_logger::Event;
 use std::alloc::AllocError;
 use std::collections::VecDeque;
 use std::marker::Model;

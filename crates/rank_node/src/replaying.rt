@@ -12,9 +12,9 @@ use crate::down::Down;
 use crate::running::Running;
 use crate::stable::Stable;
 use checkpoint::Shelf;
+use event_logger::Event;
 use limits::Heap;
 use rank_machine::{Want, Wanted};
-use sequential_logger::Event;
 use std::marker::Model;
 
 /// A rank that replays. It must be settled, crashed or retired.

@@ -2,7 +2,7 @@
 //! determinants above it.
 ghost use Rattle.std.specs.Prelude.{◌≡◌, ◌<◌, ◌≤◌, ◌⊎◌, length, map, true, IfOk, IfErr, OnOk, IsErrOf};
 ghost use Rattle.limits.specs.Limits.{most_events, most_ranks};
-ghost use Rattle.sequential_logger.specs.History.{above};
+ghost use Rattle.event_logger.specs.Sequential.History.{above};
 ghost use Rattle.checkpoint.specs.Savable.{IsSavable};
 ghost use Rattle.checkpoint.specs.Shelf.{Grew, image_bytes};
 ghost use Rattle.rank_node.specs.Fault.{MayRefuseReading, MayRefuseRestart};
@@ -16,10 +16,10 @@ use crate::frame::AskFrom;
 use crate::replaying::Replaying;
 use crate::running::{Running, first_image};
 use checkpoint::{Image, Shelf, decode};
+use event_logger::Event;
 use limits::Heap;
 use matching::Inbox;
 use rank_language::Program;
-use sequential_logger::Event;
 use std::alloc::AllocError;
 
 impl<S: Shelf, D> Down<S, D> {

@@ -1,12 +1,12 @@
 //! The events of a rank, its determinants, on their way to the event logger.
 ghost use Rattle.std.specs.Prelude.{◌≡◌, ◌<◌, ◌↔◌, ◌⊎◌, length, None, Ok, IsTrue, IsErrOf, IfOk, IfErr, OnErr, MatchOption};
 ghost use Rattle.std.specs.Bool.{OnTrue, OnFalse};
-ghost use Rattle.sequential_logger.specs.declared.call.Reply.TheVariants.{Length};
+ghost use Rattle.event_logger.specs.declared.sequential.call.Reply.TheVariants.{Length};
 
 use crate::fault::NodeFault;
 use crate::running::Running;
 use checkpoint::Shelf;
-use sequential_logger::{LogFault, LoggerState};
+use event_logger::{LogFault, LoggerState};
 
 impl<'p, S: Shelf, D> Running<'p, S, D> {
     ghost use Rattle.rank_node.specs.Storing.{next_unstored, after_store, after_ack, Appends, IsRefused};

@@ -1,6 +1,6 @@
 //! What waits at the gate of a rank until output may be committed.
 
-use sequential_logger::Event;
+use event_logger::Event;
 
 /// Something of a rank that hasn't passed its gate, or isn't acknowledged yet.
 #[derive(Clone, Copy, Debug)]

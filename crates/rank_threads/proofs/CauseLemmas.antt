@@ -6,7 +6,7 @@ use Rattle.std.proofs.lemmas.List.{append_assoc}
 use Rattle.audit.specs.declared.outcome.End.{End}
 use Rattle.audit.specs.declared.outcome.End.TheVariants as end
 use Rattle.limits.specs.Limits.{greatest_clock, most_events}
-use Rattle.sequential_logger.specs.Event.{EventValue}
+use Rattle.event_logger.specs.Sequential.Event.{EventValue}
 use Rattle.rank_threads.specs.Causes.{AreCaused, HasCause, HaveCauses, IsMet, cause_met, cause_of}
 use Rattle.rank_threads.specs.Causes.{causes_from, events_at, if_unfinished, lacks, limit_met, uncaused_from}
 use Rattle.rank_threads.specs.declared.report.cause.Cause.{Cause}

@@ -2,8 +2,8 @@
 use Rattle.std.proofs.Common.{◌≡◌, ℕ, zero, suc, ◌+◌, ◌-◌, ◌^◌, ◌≤◌, min, Bool, true, false, List, []}
 use Rattle.std.proofs.Common.{◌∷◌, ◌++◌, map, length, Option, Some, None, if◌then◌else◌, refl, sym, ap, ◌∙◌, arith}
 use Rattle.std.proofs.lemmas.List.{append_assoc}
-use Rattle.script_text.specs.Script.{orders_of}
-use Rattle.script_text.specs.declared.line.ScriptLine.{ScriptLine}
+use Rattle.rank_text.specs.Scripts.Script.{orders_of}
+use Rattle.rank_text.specs.declared.script.line.ScriptLine.{ScriptLine}
 use Rattle.rank_threads.specs.Kills.{kills_in, kills_used, kills_used_from, used_of}
 use Rattle.rank_threads.proofs.KillLemmas.{used_first, kills_append, used_images, used_kill, stops_later, stops_there, stops_not, stops_low}
 use Rattle.audit.specs.declared.outcome.End.{End}

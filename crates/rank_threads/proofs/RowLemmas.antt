@@ -1,8 +1,8 @@
 -- A fetch leaves the events that a desk has stored.
 use Rattle.std.proofs.Common.{◌≡◌, List, [], ◌∷◌, ◌++◌, Some, refl, sym, ap, ◌∙◌}
-use Rattle.sequential_logger.specs.Event.{EventValue}
-use Rattle.sequential_logger.specs.History.{above}
-use Rattle.sequential_logger.specs.declared.call.Call.TheVariants.{Fetch}
+use Rattle.event_logger.specs.Sequential.Event.{EventValue}
+use Rattle.event_logger.specs.Sequential.History.{above}
+use Rattle.event_logger.specs.declared.sequential.call.Call.TheVariants.{Fetch}
 use Rattle.event_logger.specs.declared.view.DeskCall.{DeskCall}
 use Rattle.event_logger.specs.Desks.{DeskValue, answered, found, own_row, stored, stored_by, with_call}
 use Rattle.rank_threads.specs.Stations.{HasRow}

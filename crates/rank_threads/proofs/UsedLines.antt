@@ -1,9 +1,9 @@
 -- The lines of a script that a turn uses, and a life, turn by turn.
 use Rattle.std.proofs.Common.{◌≡◌, ℕ, ◌==◌, ◌⊎◌, inl, inr, true, false, List, [], ◌∷◌, drop, Option, Some, None, refl, sym, ap, subst, ◌∙◌}
 use Rattle.std.proofs.lemmas.Bool.{cases_Bool, cond-true, cond-false, eqb-true}
-use Rattle.script_text.specs.declared.line.Order.{Order}
-use Rattle.script_text.specs.declared.line.Order.TheVariants.{Kill, Image}
-use Rattle.script_text.specs.declared.line.ScriptLine.{ScriptLine}
+use Rattle.rank_text.specs.declared.script.line.Order.{Order}
+use Rattle.rank_text.specs.declared.script.line.Order.TheVariants.{Kill, Image}
+use Rattle.rank_text.specs.declared.script.line.ScriptLine.{ScriptLine}
 use Rattle.rank_node.specs.Phases.{clock_in}
 use Rattle.rank_threads.specs.Orders.{order_after, is_kill, is_image}
 use Rattle.rank_threads.specs.Plans.{order_at}

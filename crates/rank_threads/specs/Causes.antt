@@ -4,7 +4,7 @@ use Rattle.std.specs.Prelude.{◌≡◌, ℕ, ◌+◌, ◌≤◌, nat_le, Bool, 
 use Rattle.audit.specs.declared.outcome.End.{End}
 use Rattle.audit.specs.declared.outcome.End.TheVariants as end
 use Rattle.limits.specs.Limits.{greatest_clock, most_events}
-use Rattle.sequential_logger.specs.Event.{EventValue}
+use Rattle.event_logger.specs.Sequential.Event.{EventValue}
 use Rattle.rank_threads.specs.declared.report.cause.Cause.{Cause}
 use Rattle.rank_threads.specs.declared.report.cause.Cause.TheVariants as cause
 use Rattle.rank_threads.specs.declared.report.Report.{Report}

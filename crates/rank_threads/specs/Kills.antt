@@ -1,9 +1,9 @@
 -- How many kills of a script were used, as each rank uses its lines from the first on.
 use Rattle.std.specs.Prelude.{ℕ, ◌+◌, ◌-◌, ◌^◌, min, List, [], ◌∷◌, length, take}
-use Rattle.script_text.specs.Script.{orders_of}
-use Rattle.script_text.specs.declared.line.Order.{Order}
-use Rattle.script_text.specs.declared.line.Order.TheVariants.{Kill, Image}
-use Rattle.script_text.specs.declared.line.ScriptLine.{ScriptLine}
+use Rattle.rank_text.specs.Scripts.Script.{orders_of}
+use Rattle.rank_text.specs.declared.script.line.Order.{Order}
+use Rattle.rank_text.specs.declared.script.line.Order.TheVariants.{Kill, Image}
+use Rattle.rank_text.specs.declared.script.line.ScriptLine.{ScriptLine}
 
 -- how many kills an order is
 abbrev pub kills_of : Order → ℕ

@@ -3,9 +3,9 @@
 use Rattle.std.specs.Prelude.{ℕ, ◌%◌, ◌==◌, Bool, true, false, ◌||◌, List, Option, Some, None}
 use Rattle.std.specs.NonZero.{non_zero_u32_get}
 use Rattle.std.specs.declared.num.NonZeroU32.{NonZeroU32}
-use Rattle.script_text.specs.declared.line.Order.{Order}
-use Rattle.script_text.specs.declared.line.Order.TheVariants.{Kill, Image}
-use Rattle.script_text.specs.declared.line.ScriptLine.{ScriptLine}
+use Rattle.rank_text.specs.declared.script.line.Order.{Order}
+use Rattle.rank_text.specs.declared.script.line.Order.TheVariants.{Kill, Image}
+use Rattle.rank_text.specs.declared.script.line.ScriptLine.{ScriptLine}
 use Rattle.rank_node.specs.Phases.{clock_in}
 use Rattle.rank_threads.specs.Plans.{order_at}
 use Rattle.rank_threads.specs.Phases.{Phase}

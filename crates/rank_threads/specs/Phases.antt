@@ -4,7 +4,7 @@ use Rattle.checkpoint.specs.Shelf.{image_bytes}
 use Rattle.checkpoint.specs.Spelling.{spelling}
 use Rattle.checkpoint.specs.declared.memory_shelf.MemoryShelf.{MemoryShelf}
 use Rattle.event_logger.specs.Desks.{DeskValue, IsRead, IsSameDesk}
-use Rattle.sequential_logger.specs.Event.{EventValue}
+use Rattle.event_logger.specs.Sequential.Event.{EventValue}
 use Rattle.rank_language.specs.Program.{ProgramValue}
 use Rattle.rank_machine.specs.declared.want.Want.{Want}
 use Rattle.rank_machine.specs.declared.want.Wanted.{Wanted}

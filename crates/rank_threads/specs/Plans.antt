@@ -1,8 +1,8 @@
 -- Which order of a script is a rank's next (docs/FORMATS.md, "Scripts").
 use Rattle.std.specs.Prelude.{ℕ, zero, suc, ◌==◌, List, [], ◌∷◌, ◌++◌, Option, Some, None, if◌then◌else◌}
-use Rattle.script_text.specs.Script.{orders_of}
-use Rattle.script_text.specs.declared.line.Order.{Order}
-use Rattle.script_text.specs.declared.line.ScriptLine.{ScriptLine}
+use Rattle.rank_text.specs.Scripts.Script.{orders_of}
+use Rattle.rank_text.specs.declared.script.line.Order.{Order}
+use Rattle.rank_text.specs.declared.script.line.ScriptLine.{ScriptLine}
 
 -- what the first of these lines asks for, if it is for the act of this clock
 abbrev pub order_at : List ScriptLine → ℕ → Option Order

@@ -4,7 +4,7 @@ use Rattle.audit.specs.declared.outcome.End.{End}
 use Rattle.audit.specs.declared.outcome.End.TheVariants as end
 use Rattle.ports.specs.Lanes.{Lane, lane_to, lane_from}
 use Rattle.event_logger.specs.Desks.{DeskValue, LoggerValue}
-use Rattle.script_text.specs.declared.line.ScriptLine.{ScriptLine}
+use Rattle.rank_text.specs.declared.script.line.ScriptLine.{ScriptLine}
 use Rattle.rank_threads.specs.Stations.{IsNew}
 use Rattle.rank_threads.specs.declared.life.seating.Account.{Account}
 use Rattle.rank_threads.specs.declared.life.seating.Remains.{Remains}

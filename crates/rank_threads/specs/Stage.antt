@@ -3,7 +3,7 @@ use Rattle.std.specs.Prelude.{◌≡◌, ℕ, ◌≤◌, List, [], vec_len, vec_
 use Rattle.ports.specs.AllLanes.{AreCrossed}
 use Rattle.rank_language.specs.Correct.{IsProgramOf}
 use Rattle.rank_language.specs.Program.{ProgramValue}
-use Rattle.script_text.specs.declared.line.ScriptLine.{ScriptLine}
+use Rattle.rank_text.specs.declared.script.line.ScriptLine.{ScriptLine}
 use Rattle.rank_threads.specs.Plans.{plans_below}
 use Rattle.rank_threads.specs.Seating.{IsRoom}
 use Rattle.rank_threads.specs.declared.stage.Stage.{Stage}

@@ -2,7 +2,7 @@
 -- incarnation).
 use Rattle.std.specs.Prelude.{◌≡◌, List, [], ◌∷◌, ◌++◌, Some, None}
 use Rattle.event_logger.specs.Desks.{own_row}
-use Rattle.sequential_logger.specs.History.{above}
+use Rattle.event_logger.specs.Sequential.History.{above}
 use Rattle.rank_node.specs.Phases.{stable_in}
 use Rattle.rank_threads.specs.Phases.{SameStable}
 use Rattle.rank_threads.specs.Lanes.{SameTxs, SameRxs}

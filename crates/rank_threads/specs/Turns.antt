@@ -2,7 +2,7 @@
 use Rattle.std.specs.Prelude.{◌≡◌, Bool, true, false, List, Result, Ok, Err}
 use Rattle.rank_node.specs.Phases.{clock_in}
 use Rattle.rank_node.specs.declared.fault.NodeFault.{NodeFault}
-use Rattle.script_text.specs.declared.line.ScriptLine.{ScriptLine}
+use Rattle.rank_text.specs.declared.script.line.ScriptLine.{ScriptLine}
 use Rattle.rank_threads.specs.Costs.{after_step}
 use Rattle.rank_threads.specs.Orders.{is_kill, order_after}
 use Rattle.rank_threads.specs.Steps.{step_of}

@@ -1,8 +1,8 @@
 -- Which lines of a script a turn uses, and a life: an image's line, or at last the line of the
 -- kill at whose clock the rank stands.
 use Rattle.std.specs.Prelude.{◌≡◌, ℕ, ◌⊎◌, Bool, true, List, ◌∷◌, drop}
-use Rattle.script_text.specs.declared.line.Order.TheVariants.{Kill, Image}
-use Rattle.script_text.specs.declared.line.ScriptLine.{ScriptLine}
+use Rattle.rank_text.specs.declared.script.line.Order.TheVariants.{Kill, Image}
+use Rattle.rank_text.specs.declared.script.line.ScriptLine.{ScriptLine}
 use Rattle.rank_threads.specs.declared.life.ending.Ending.{Ending}
 use Rattle.rank_threads.specs.declared.life.ending.Ending.TheVariants as ending
 use Rattle.rank_threads.specs.declared.turn.After.{After}

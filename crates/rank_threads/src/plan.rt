@@ -2,7 +2,7 @@
 ghost use Rattle.std.specs.Prelude.{◌≡◌};
 
 use limits::Heap;
-use script_text::{Order, ScriptLine};
+use rank_text::script::{Order, ScriptLine};
 use std::marker::Model;
 
 /// The lines of a script for one rank, in their order; each is used once.
@@ -16,7 +16,7 @@ pub struct Plan {
 
 impl Model for Plan {
     ghost use Rattle.std.specs.Prelude.{List, drop, length, ◌≤◌};
-    ghost use Rattle.script_text.specs.declared.line.ScriptLine.{ScriptLine};
+    ghost use Rattle.rank_text.specs.declared.script.line.ScriptLine.{ScriptLine};
 
     ghost Value = { List ScriptLine };
 

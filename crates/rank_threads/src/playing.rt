@@ -14,7 +14,7 @@ use event_logger::{Desk, Logger};
 use limits::Heap;
 use ports::{ConsoleState, close_all};
 use rank_language::Program;
-use script_text::Script;
+use rank_text::script::Script;
 use std::snapshot::Snapshot;
 use std::sync::{OnceLock, Wait};
 use std::thread::Threads;

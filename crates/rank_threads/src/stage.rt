@@ -11,7 +11,7 @@ use crossbeam_utils::CachePadded;
 use limits::Heap;
 use ports::{Console, Ends, open_all};
 use rank_language::Program;
-use script_text::Script;
+use rank_text::script::Script;
 use std::alloc::AllocError;
 use std::sync::Wait;
 use std::sync::atomic::AtomicBool;

@@ -4,7 +4,7 @@ use Rattle.rank_language.specs.Program.{ProgramValue}
 use Rattle.rank_machine.specs.States as states
 use Rattle.rank_machine.specs.States.{State}
 use Rattle.crash_free.specs.Runs.{Passed, IsRun}
-use Rattle.final_runs.specs.Maximal.{IsMaximal, RankOutcome, IsOutcomeOf}
+use Rattle.audit.specs.FinalRuns.Maximal.{IsMaximal, RankOutcome, IsOutcomeOf}
 use Rattle.explore.specs.Exploring.{and_then, AlwaysEndsIn, at_end, goes_on}
 use Rattle.explore.specs.Outcomes.{IsAmong}
 use Rattle.explore.proofs.Ending.{along}

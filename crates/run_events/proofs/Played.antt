@@ -12,8 +12,8 @@ use Rattle.world_model.specs.World as world
 use Rattle.world_model.specs.World.{WorldValue, size}
 use Rattle.world_model.specs.Headline.{IsFresh, StandsFor}
 use Rattle.world_model.specs.Sequences.{FollowsAll}
-use Rattle.events_text.specs.Events.{events_of}
-use Rattle.events_text.specs.Written.{events_text}
+use Rattle.world_model.specs.EventsText.Events.{events_of}
+use Rattle.world_model.specs.EventsText.Written.{events_text}
 use Rattle.explore.specs.Own.{own}
 use Rattle.run_events.specs.Plays.{ArePlain, NoneRefused, IsThere, PlaysFrom, Plays, IsPlayText}
 use Rattle.explore.proofs.Same.{same_runs}

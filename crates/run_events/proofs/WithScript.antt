@@ -5,9 +5,9 @@ use Rattle.std.proofs.lemmas.List.{append-nil, append_assoc, take_all}
 use Rattle.std.proofs.lemmas.Option.{slice_get_past}
 use Rattle.limits.specs.Limits.{most_event_lines}
 use Rattle.rank_language.specs.Program.{ProgramValue}
-use Rattle.script_text.specs.declared.line.Order.{Order}
-use Rattle.script_text.specs.declared.line.ScriptLine.{ScriptLine}
-use Rattle.script_text.specs.Script.{orders_of}
+use Rattle.rank_text.specs.declared.script.line.Order.{Order}
+use Rattle.rank_text.specs.declared.script.line.ScriptLine.{ScriptLine}
+use Rattle.rank_text.specs.Scripts.Script.{orders_of}
 use Rattle.crash_free.specs.Runs.{Passed, history}
 use Rattle.crash_free.specs.Sim.{SimValue, Simulates}
 use Rattle.world_model.specs.declared.event.WorldEvent.{WorldEvent}
@@ -18,8 +18,8 @@ use Rattle.world_model.specs.Follows.{Follows}
 use Rattle.world_model.specs.View.{IsView, shown_of}
 use Rattle.world_model.specs.World.{Live, WorldValue, size}
 use Rattle.world_model.specs.Headline.{IsFresh, StandsFor}
-use Rattle.events_text.specs.Events.{events_of}
-use Rattle.events_text.specs.Written.{events_text}
+use Rattle.world_model.specs.EventsText.Events.{events_of}
+use Rattle.world_model.specs.EventsText.Written.{events_text}
 use Rattle.explore.specs.Own.{own}
 use Rattle.run_events.specs.Scripted.{IsBack, IsScriptText, PlaysScript, PlaysScriptFrom, Takes, ends, goes, before, behind, line_at, line_of, used_lines}
 use Rattle.run_events.proofs.Played.{all_there}

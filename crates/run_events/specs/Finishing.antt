@@ -4,7 +4,7 @@
 -- Source: recovery to a consistent state from which execution goes on, Elnozahy and others 2002;
 -- refinement of crash-free executions.
 use Rattle.std.specs.Prelude.{List, []}
-use Rattle.final_runs.specs.Maximal.{RankOutcome, IsOutcomeOf}
+use Rattle.audit.specs.FinalRuns.Maximal.{RankOutcome, IsOutcomeOf}
 use Rattle.explore.specs.Exploring.{AlwaysEndsIn}
 use Rattle.explore.specs.Outcomes.{IsAmong}
 use Rattle.world_model.specs.World.{WorldValue, size, start_of}

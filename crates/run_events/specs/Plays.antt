@@ -3,7 +3,7 @@
 use Rattle.std.specs.Prelude.{◌≡◌, ◌≢◌, ℕ, ◌<◌, ◌≤◌, List, [], ◌∷◌, length, Ok, Some, slice_get}
 use Rattle.limits.specs.Limits.{most_event_lines}
 use Rattle.rank_language.specs.Program.{ProgramValue}
-use Rattle.sequential_logger.specs.Event.{EventValue}
+use Rattle.event_logger.specs.Sequential.Event.{EventValue}
 use Rattle.crash_free.specs.Runs.{Passed, history, printed}
 use Rattle.audit.specs.Outcome.{lines_of}
 use Rattle.audit.specs.Rows.{IsRow}
@@ -14,8 +14,8 @@ use Rattle.world_model.specs.declared.reply.Reply.TheVariants as reply
 use Rattle.world_model.specs.World.{WorldValue, size}
 use Rattle.world_model.specs.Headline.{IsFresh, StandsFor}
 use Rattle.world_model.specs.Sequences.{FollowsAll}
-use Rattle.events_text.specs.Events.{events_of}
-use Rattle.events_text.specs.Written.{events_text}
+use Rattle.world_model.specs.EventsText.Events.{events_of}
+use Rattle.world_model.specs.EventsText.Written.{events_text}
 
 -- a rank makes a step, a frame goes on its way or arrives, or an event is stored or acknowledged:
 -- no crash and nothing that only crashes need

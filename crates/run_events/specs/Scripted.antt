@@ -5,10 +5,10 @@ use Rattle.std.specs.Prelude.{◌≡◌, ◌≢◌, ℕ, ◌<◌, ◌≤◌, ◌
 use Rattle.std.specs.Prelude.{slice_get, slice_index_or, option_map}
 use Rattle.limits.specs.Limits.{most_event_lines}
 use Rattle.rank_language.specs.Program.{ProgramValue}
-use Rattle.script_text.specs.Script.{orders_of}
-use Rattle.script_text.specs.declared.line.Order.{Order}
-use Rattle.script_text.specs.declared.line.Order.TheVariants as order
-use Rattle.script_text.specs.declared.line.ScriptLine.{ScriptLine}
+use Rattle.rank_text.specs.Scripts.Script.{orders_of}
+use Rattle.rank_text.specs.declared.script.line.Order.{Order}
+use Rattle.rank_text.specs.declared.script.line.Order.TheVariants as order
+use Rattle.rank_text.specs.declared.script.line.ScriptLine.{ScriptLine}
 use Rattle.crash_free.specs.Runs.{Passed, history}
 use Rattle.world_model.specs.declared.event.WorldEvent.{WorldEvent}
 use Rattle.world_model.specs.declared.event.WorldEvent.TheVariants.{Step, Put, Arrive, Store, Ack, Image, Crash, Restart, Release}
@@ -17,8 +17,8 @@ use Rattle.world_model.specs.declared.reply.Reply.TheVariants as reply
 use Rattle.world_model.specs.World.{Live, WorldValue, size, IsLive}
 use Rattle.world_model.specs.Headline.{IsFresh, StandsFor}
 use Rattle.world_model.specs.Follows.{Follows}
-use Rattle.events_text.specs.Events.{events_of}
-use Rattle.events_text.specs.Written.{events_text}
+use Rattle.world_model.specs.EventsText.Events.{events_of}
+use Rattle.world_model.specs.EventsText.Written.{events_text}
 use Rattle.run_events.specs.Plays.{IsThere}
 
 -- the lines of a script for a rank that a run used: all but the last ones, so many of which it left

@@ -5,7 +5,7 @@ use crate::lives::Life;
 use crate::looks::{clock_of, is_known};
 use crate::used::used_lines;
 use limits::{Heap, MOST_EVENT_LINES};
-use script_text::ScriptLine;
+use rank_text::script::ScriptLine;
 use std::alloc::AllocError;
 use world_model::{Reply, World, WorldEvent};
 

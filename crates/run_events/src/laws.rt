@@ -1,7 +1,7 @@
 //! What a complete search says of every world of its program. Crates above may
 //! cite this.
 ghost use Rattle.std.specs.Prelude.{List};
-ghost use Rattle.final_runs.specs.Maximal.{RankOutcome};
+ghost use Rattle.audit.specs.FinalRuns.Maximal.{RankOutcome};
 ghost use Rattle.run_events.specs.Finishing.{FinishesAmong};
 
 use world_model::World;

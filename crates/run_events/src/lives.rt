@@ -1,7 +1,7 @@
 //! Where a rank begins again, and which lines of its script come next.
 
 use limits::{Heap, MOST_RANKS};
-use script_text::{Order, ScriptLine};
+use rank_text::script::{Order, ScriptLine};
 use std::alloc::AllocError;
 
 /// What is known of a rank while a world is led along a run.

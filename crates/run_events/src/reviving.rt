@@ -12,7 +12,7 @@ use crate::fault::PlayFault;
 use crate::looks::{clock_of, is_running, misses_only};
 use limits::{Heap, MOST_SCRIPT_LINES};
 use rank_language::Program;
-use script_text::{Order, ScriptLine};
+use rank_text::script::{Order, ScriptLine};
 use world_model::{World, WorldEvent};
 
 /// Events that are to play a run of the program on so many ranks with the lines

@@ -2,7 +2,7 @@
 //! their text.
 ghost use Rattle.std.specs.Prelude.{◌≡◌, ◌<◌, ◌≤◌, ℕ, true, IfOk, IfSome, OnOk, option_map, slice_get, string_bytes};
 ghost use Rattle.limits.specs.Limits.{most_event_lines, most_ranks};
-ghost use Rattle.script_text.specs.Script.{orders_of};
+ghost use Rattle.rank_text.specs.Scripts.Script.{orders_of};
 ghost use Rattle.world_model.specs.World.{size};
 ghost use Rattle.run_events.specs.Scripted.{behind, IsBack, IsScriptText, PlaysScript, PlaysScriptFrom, Takes, line_at, line_of, used_lines};
 
@@ -15,7 +15,7 @@ use crate::used::used_lines;
 use crash_free::Sim;
 use limits::{Heap, MOST_EVENT_LINES};
 use rank_language::Program;
-use script_text::{Order, ScriptLine};
+use rank_text::script::{Order, ScriptLine};
 use std::alloc::AllocError;
 use world_model::{Reply, World, WorldEvent};
 

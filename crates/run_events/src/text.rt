@@ -1,18 +1,18 @@
 //! The text of the events of a run.
 ghost use Rattle.std.specs.Prelude.{◌≡◌, ◌≤◌, true, Ok, IfOk, string_bytes};
 ghost use Rattle.limits.specs.Limits.{most_ranks};
-ghost use Rattle.events_text.specs.Events.{events_of};
-ghost use Rattle.events_text.specs.Written.{events_text};
+ghost use Rattle.world_model.specs.EventsText.Events.{events_of};
+ghost use Rattle.world_model.specs.EventsText.Written.{events_text};
 ghost use Rattle.run_events.specs.Plays.{IsPlayText};
 
 use crate::fault::PlayFault;
 use crate::planned::plan_of;
 use crate::playing::plays;
 use crash_free::Sim;
-use events_text::{EventsFault, events_text, parse_events};
 use limits::Heap;
 use rank_language::Program;
 use world_model::WorldEvent;
+use world_model::events_text::{EventsFault, events_text, parse_events};
 
 /// Events that play a run of the program on so many ranks, one a line and nothing
 /// else: given to a new world none of them is a crash or refused, and each rank

@@ -3,7 +3,7 @@ ghost use Rattle.std.specs.Prelude.{◌≡◌, IfOk};
 ghost use Rattle.run_events.specs.Scripted.{used_lines};
 
 use limits::Heap;
-use script_text::ScriptLine;
+use rank_text::script::ScriptLine;
 use std::alloc::AllocError;
 
 /// The lines for a rank that were used, in their order: all but the last ones,

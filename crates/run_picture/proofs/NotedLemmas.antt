@@ -14,12 +14,12 @@ use Rattle.run_picture.specs.declared.layout.times.Moment.{Moment}
 use Rattle.run_picture.specs.declared.layout.times.Reached.{Reached}
 use Rattle.run_picture.specs.declared.layout.times.Times.{Times}
 use Rattle.run_picture.specs.Marks.{made_of, told_of}
-use Rattle.send_index.specs.Sends.{run_before}
-use Rattle.send_index.specs.Tables.{HasSends, found_by, noted_by}
+use Rattle.crash_free.specs.SendIndex.Sends.{run_before}
+use Rattle.crash_free.specs.SendIndex.Tables.{HasSends, found_by, noted_by}
 use Rattle.run_picture.specs.Noted.{IsNext, IsNoted, next_moment, reached_at, reached_in}
 use Rattle.run_picture.specs.Times.{AreTimedUpTo, IsMomentOf, latest, latest_of, last_of, time_at, time_in}
 use Rattle.run_picture.proofs.ListLemmas.{of_push, same_element}
-use Rattle.send_index.proofs.SendLemmas.{found_is, no_sends, notes_act}
+use Rattle.crash_free.proofs.SendIndexLaws.SendLemmas.{found_is, no_sends, notes_act}
 use Rattle.run_picture.proofs.TimeLemmas.{last_more, latest_other, latest_own}
 
 -- how far a rank has come that has made no act

@@ -7,10 +7,10 @@ use Rattle.std.proofs.lemmas.Option.{slice_get_within}
 use Rattle.crash_free.specs.Runs.{Passed}
 use Rattle.crash_free.proofs.Lists.{as_many_before}
 use Rattle.run_picture.specs.declared.layout.times.Moment.{Moment}
-use Rattle.send_index.specs.Sends.{matching_send, run_before}
+use Rattle.crash_free.specs.SendIndex.Sends.{matching_send, run_before}
 use Rattle.run_picture.specs.Times.{AreTimed, AreClocks, HappenedBefore, by_rank, by_message, by_both, IsMomentOf, last_of, latest, latest_of, time_at, time_in}
 use Rattle.run_picture.proofs.ListLemmas.{in_take, same_element}
-use Rattle.send_index.proofs.SendLemmas.{match_low}
+use Rattle.crash_free.proofs.SendIndexLaws.SendLemmas.{match_low}
 use Rattle.audit.proofs.Reaching.{there_is}
 
 -- the greatest time of a rank with one more moment of its own

@@ -5,8 +5,8 @@ use Rattle.run_picture.specs.declared.layout.times.Moment.{Moment}
 use Rattle.run_picture.specs.declared.layout.times.Reached.{Reached}
 use Rattle.run_picture.specs.declared.layout.times.Times.{Times}
 use Rattle.run_picture.specs.Marks.{sign_of}
-use Rattle.send_index.specs.Sends.{run_before}
-use Rattle.send_index.specs.Tables.{HasSends, found_by, noted_by}
+use Rattle.crash_free.specs.SendIndex.Sends.{run_before}
+use Rattle.crash_free.specs.SendIndex.Tables.{HasSends, found_by, noted_by}
 use Rattle.run_picture.specs.Times.{AreTimedUpTo, last_of, latest, time_at}
 
 -- one more, as far as a number of the machine goes

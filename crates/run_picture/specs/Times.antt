@@ -6,7 +6,7 @@ use Rattle.std.specs.Prelude.{◌≡◌, ℕ, ◌+◌, ◌<◌, ◌==◌, max, n
 use Rattle.crash_free.specs.Runs.{Passed}
 use Rattle.run_picture.specs.declared.layout.times.Moment.{Moment}
 use Rattle.run_picture.specs.Marks.{sign_of}
-use Rattle.send_index.specs.Sends.{matching_send, run_before}
+use Rattle.crash_free.specs.SendIndex.Sends.{matching_send, run_before}
 
 -- the greatest time of a rank; 0 if it has made no act
 abbrev pub latest : ℕ → List Moment → ℕ

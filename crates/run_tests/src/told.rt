@@ -1,8 +1,8 @@
 //! Who is told of acts, and what a run was, as one text. What ranks did at the
 //! same time is ordered by rank.
+use event_logger::Event;
 use limits::Heap;
 use runner::{End, Hold, Line, Report};
-use sequential_logger::Event;
 use std::alloc::AllocError;
 use std::fmt::Write;
 use std::sync::atomic::{AtomicBool, AtomicU64, Ordering};

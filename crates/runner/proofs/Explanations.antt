@@ -2,17 +2,17 @@
 use Rattle.std.proofs.Common.{◌≡◌, ◌++◌, ℕ, Bool, true, false, List, Option, Some, None, Err, Ok, codes, inl, inr}
 use Rattle.std.specs.Borrow.{Bor}
 use Rattle.command_line.specs.declared.explain.ExplainJob.{ExplainJob}
-use Rattle.events_text.specs.Events.{events_of}
-use Rattle.events_text.specs.declared.fault.EventsFaultKind.{EventsFaultKind}
-use Rattle.rank_checker.specs.Faults.{IsFaultOf}
-use Rattle.rank_checker.specs.declared.fault.FaultKind.{FaultKind}
+use Rattle.world_model.specs.EventsText.Events.{events_of}
+use Rattle.world_model.specs.declared.events_text.fault.EventsFaultKind.{EventsFaultKind}
+use Rattle.rank_text.specs.Checker.Faults.{IsFaultOf}
+use Rattle.rank_text.specs.declared.checker.fault.FaultKind.{FaultKind}
 use Rattle.rank_language.specs.Correct.{IsProgramOf}
 use Rattle.rank_language.specs.Program.{ProgramValue}
 use Rattle.runner.specs.Explanations.{HasFault, SaysNone}
 use Rattle.runner.specs.Explanations.{HoldsEvents, HoldsEventsIn, HoldsProgram, HoldsScript, HoldsScriptIn, IsExplainAnswer}
-use Rattle.script_text.specs.Script.{first_fault, script_lines}
-use Rattle.script_text.specs.declared.fault.ScriptFault.{ScriptFault}
-use Rattle.script_text.specs.declared.line.ScriptLine.{ScriptLine}
+use Rattle.rank_text.specs.Scripts.Script.{first_fault, script_lines}
+use Rattle.rank_text.specs.declared.script.fault.ScriptFault.{ScriptFault}
+use Rattle.rank_text.specs.declared.script.line.ScriptLine.{ScriptLine}
 use Rattle.world_model.specs.declared.event.WorldEvent.{WorldEvent}
 
 -- a program

@@ -2,11 +2,11 @@
 use Rattle.std.proofs.Common.{◌≡◌, ◌++◌, ℕ, List, [], None, true, false, ◌∙◌, arith, codes, refl, sym}
 use Rattle.audit.specs.Outcome.{OutcomeValue}
 use Rattle.command_line.specs.declared.judging.JudgeJob.{JudgeJob}
-use Rattle.final_runs.specs.declared.fault.FinalFault.{FinalFault}
-use Rattle.judge.specs.Judged.{IsNoText, IsRight}
-use Rattle.judge.specs.declared.verdict.Verdict.TheVariants.{Yes, No}
-use Rattle.outcome_text.specs.Outcomes.{TextValue, outcome_of}
-use Rattle.outcome_text.specs.Texts.{entries_of, first_fault}
+use Rattle.audit.specs.declared.final_runs.fault.FinalFault.{FinalFault}
+use Rattle.outcomes.specs.Judge.Judged.{IsNoText, IsRight}
+use Rattle.outcomes.specs.declared.judge.verdict.Verdict.TheVariants.{Yes, No}
+use Rattle.outcomes.specs.Text.Outcomes.{TextValue, outcome_of}
+use Rattle.outcomes.specs.Text.Texts.{entries_of, first_fault}
 use Rattle.rank_language.specs.Program.{ProgramValue}
 use Rattle.runner.specs.Judgments.{HasVerdict, IsJudgeAnswer, IsYesText, TellsVerdict, TellsVerdictOf}
 use Rattle.runner.specs.Traces.{TracesReport}

@@ -4,7 +4,7 @@ use Rattle.command_line.specs.declared.exploring.ExploreForm.TheVariants as form
 use Rattle.command_line.specs.declared.exploring.ExploreJob.{ExploreJob}
 use Rattle.explore.specs.Explored.{ExploredValue}
 use Rattle.explore.specs.Outcomes.{AreAll, AreDistinct, IsAmong}
-use Rattle.final_runs.specs.Maximal.{IsPossible, RankOutcome}
+use Rattle.audit.specs.FinalRuns.Maximal.{IsPossible, RankOutcome}
 use Rattle.rank_language.specs.Correct.{IsProgramOf}
 use Rattle.rank_language.specs.Program.{ProgramValue}
 use Rattle.runner.specs.Events.{PlaysOutcome}

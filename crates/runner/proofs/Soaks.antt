@@ -3,18 +3,18 @@ use Rattle.std.proofs.Common.{◌≡◌, ◌↔◌, ◌≤◌, ◌+◌, ℕ, Lis
 use Rattle.command_line.specs.declared.soaking.SoakJob.{SoakJob}
 use Rattle.core_runner.specs.Reports.{IsReportUnder}
 use Rattle.core_runner.specs.Statuses.{AreHalted}
-use Rattle.final_runs.specs.Final.{seen_of}
+use Rattle.audit.specs.FinalRuns.Final.{seen_of}
 use Rattle.rank_language.specs.Correct.{IsProgramOf}
 use Rattle.rank_language.specs.Program.{ProgramValue}
 use Rattle.rank_threads.specs.declared.report.Report.{Report}
 use Rattle.runner.specs.SoakText.{IsSoakText}
 use Rattle.runner.specs.Soaks.{AreSoaked, HasSoakStatus, IsDrawn, IsOneMore, IsSoakAnswer}
 use Rattle.runner.specs.declared.soaked.Soaked.{Soaked}
-use Rattle.script_text.specs.Script.{script_lines}
-use Rattle.script_text.specs.declared.line.ScriptLine.{ScriptLine}
-use Rattle.soak.specs.Histogram.{Notes, up_to}
-use Rattle.soak.specs.Lines.{CanBeUsed, images_in, kills_in}
-use Rattle.soak.specs.Text.{text_of}
+use Rattle.rank_text.specs.Scripts.Script.{script_lines}
+use Rattle.rank_text.specs.declared.script.line.ScriptLine.{ScriptLine}
+use Rattle.outcomes.specs.Soak.Histogram.{Notes, up_to}
+use Rattle.outcomes.specs.Soak.Lines.{CanBeUsed, images_in, kills_in}
+use Rattle.outcomes.specs.Soak.Text.{text_of}
 
 -- at first no run was made
 pub of_none : (program : ProgramValue) (job : SoakJob) (soaked : Soaked) → soaked.histogram ≡ [] → soaked.crashes ≡ 0 → soaked.all_halted ≡ true

@@ -2,7 +2,7 @@
 use Rattle.std.proofs.Common.{◌≡◌, ℕ, List, Ok, refl}
 use Rattle.c_program.specs.Whole.{IsCText}
 use Rattle.command_line.specs.declared.job.WorldJob.{WorldJob}
-use Rattle.events_text.specs.Events.{events_of}
+use Rattle.world_model.specs.EventsText.Events.{events_of}
 use Rattle.rank_language.specs.Correct.{IsProgramOf}
 use Rattle.rank_language.specs.Program.{ProgramValue}
 use Rattle.runner.specs.Objects.{HasEvents, IsObjectsAnswer}

@@ -13,11 +13,11 @@ use Rattle.core_runner.specs.Statuses.{HasStatus}
 use Rattle.crash_free.specs.Runs.{Passed}
 use Rattle.crash_free.specs.Sim.{SimValue}
 use Rattle.rank_language.specs.Program.{ProgramValue}
-use Rattle.run_trace.specs.Lines.{BeginsWithActs, acts_text}
+use Rattle.run_shown.specs.Trace.Lines.{BeginsWithActs, acts_text}
 use Rattle.rank_threads.specs.declared.report.Report.{Report}
 use Rattle.runner.specs.Events.{PlaysReport, PlaysScriptOf}
 use Rattle.runner.specs.Traces.{IsTold, IsTraceAnswer, TracesReport}
-use Rattle.script_text.specs.declared.line.ScriptLine.{ScriptLine}
+use Rattle.rank_text.specs.declared.script.line.ScriptLine.{ScriptLine}
 use Rattle.rank_language.specs.StandOn.{IsLinedOf}
 
 -- a text that begins with the acts does so with more behind it

@@ -5,7 +5,7 @@ use Rattle.explore.specs.declared.moves.Noted.{Noted}
 use Rattle.explore.specs.Explored.{ExploredValue, OutcomeValue, rank_outcomes}
 use Rattle.explore.specs.Shown.{AreMarked}
 use Rattle.explore.proofs.SeenOf.{seen_at}
-use Rattle.final_runs.specs.Maximal.{RankOutcome}
+use Rattle.audit.specs.FinalRuns.Maximal.{RankOutcome}
 use Rattle.rank_language.specs.Correct.{IsProgramOf}
 use Rattle.rank_language.specs.Program.{ProgramValue}
 use Rattle.runner.specs.Meanings.{meaning_text}

@@ -4,10 +4,10 @@ use Rattle.std.specs.Prelude.{◌≡◌, ℕ, ◌≤◌, ◌++◌, List, [], Non
 use Rattle.audit.specs.Outcome.{OutcomeValue}
 use Rattle.command_line.specs.declared.judging.JudgeJob.{JudgeJob}
 use Rattle.core_runner.specs.Reading.{IsProgramIn}
-use Rattle.final_runs.specs.Final.{IsFinal}
-use Rattle.judge.specs.Judged.{IsNoneWithin, IsNoText}
-use Rattle.outcome_text.specs.Outcomes.{TextValue, outcome_of}
-use Rattle.outcome_text.specs.Texts.{entries_of, first_fault}
+use Rattle.audit.specs.FinalRuns.Final.{IsFinal}
+use Rattle.outcomes.specs.Judge.Judged.{IsNoneWithin, IsNoText}
+use Rattle.outcomes.specs.Text.Outcomes.{TextValue, outcome_of}
+use Rattle.outcomes.specs.Text.Texts.{entries_of, first_fault}
 use Rattle.rank_language.specs.Program.{ProgramValue}
 use Rattle.runner.specs.Traces.{TracesReport}
 

@@ -5,7 +5,7 @@ use Rattle.std.specs.Fmt.{decimal}
 use Rattle.audit.specs.declared.outcome.End.{End}
 use Rattle.audit.specs.declared.outcome.End.TheVariants as end
 use Rattle.explore.specs.Explored.{ExploredValue}
-use Rattle.final_runs.specs.Maximal.{RankOutcome}
+use Rattle.audit.specs.FinalRuns.Maximal.{RankOutcome}
 use Rattle.runner.specs.declared.outcomes.meaning.Ending.{Ending}
 use Rattle.runner.specs.declared.outcomes.meaning.Ending.TheVariants as ending
 

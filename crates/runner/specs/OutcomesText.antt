@@ -2,11 +2,11 @@
 use Rattle.std.specs.Prelude.{◌≡◌, ℕ, ℤ, ◌+◌, Bool, length, List, [], ◌∷◌, ◌++◌, All, Option, Some, slice_get, codes}
 use Rattle.std.specs.Fmt.{decimal}
 use Rattle.audit.specs.declared.outcome.End.TheVariants as end
-use Rattle.events_text.specs.Output.{line_text}
+use Rattle.world_model.specs.EventsText.Output.{line_text}
 use Rattle.explore.specs.declared.moves.Noted.{Noted}
 use Rattle.explore.specs.Explored.{ExploredValue}
 use Rattle.explore.specs.Shown.{AreMarked}
-use Rattle.final_runs.specs.Maximal.{RankOutcome}
+use Rattle.audit.specs.FinalRuns.Maximal.{RankOutcome}
 use Rattle.rank_language.specs.Program.{ProgramValue}
 use Rattle.runner.specs.Meanings.{meaning_text}
 use Rattle.runner.specs.Partings.{ArePartings, choices_text}

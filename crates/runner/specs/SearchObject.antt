@@ -8,7 +8,7 @@ use Rattle.crash_free.specs.declared.choice.Choice.{Choice}
 use Rattle.crash_free.specs.declared.choice.Choice.TheVariants as choice
 use Rattle.explore.specs.declared.moves.Noted.{Noted}
 use Rattle.explore.specs.Explored.{ExploredValue}
-use Rattle.final_runs.specs.Maximal.{RankOutcome}
+use Rattle.audit.specs.FinalRuns.Maximal.{RankOutcome}
 use Rattle.rank_machine.specs.Faults.{fault_name, fault_number}
 use Rattle.serde_json.specs.Data.{Data, Items, Members, put}
 use Rattle.serde_json.specs.Data as json

@@ -3,7 +3,7 @@ use Rattle.std.specs.Prelude.{◌≡◌, ℕ, ◌+◌, length, List, [], ◌∷�
 use Rattle.std.specs.Fmt.{decimal}
 use Rattle.runner.specs.OutcomesText.{outcome_text}
 use Rattle.runner.specs.declared.soaked.Soaked.{Soaked}
-use Rattle.soak.specs.Histogram.{BarValue}
+use Rattle.outcomes.specs.Soak.Histogram.{BarValue}
 
 -- an outcome of this number, how many runs had it, and in how many of them a rank crashed
 abbrev pub bar_text : ℕ → BarValue → List ℕ

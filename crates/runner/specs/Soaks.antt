@@ -5,16 +5,16 @@ use Rattle.command_line.specs.declared.soaking.SoakJob.{SoakJob}
 use Rattle.core_runner.specs.Reading.{IsProgramIn}
 use Rattle.core_runner.specs.Reports.{IsReportUnder}
 use Rattle.core_runner.specs.Statuses.{AreHalted}
-use Rattle.final_runs.specs.Final.{seen_of}
+use Rattle.audit.specs.FinalRuns.Final.{seen_of}
 use Rattle.rank_language.specs.Program.{ProgramValue}
 use Rattle.rank_threads.specs.declared.report.Report.{Report}
 use Rattle.runner.specs.SoakText.{IsSoakText}
 use Rattle.runner.specs.declared.soaked.Soaked.{Soaked}
-use Rattle.script_text.specs.Script.{script_lines}
-use Rattle.script_text.specs.declared.line.ScriptLine.{ScriptLine}
-use Rattle.soak.specs.Histogram.{Notes, up_to}
-use Rattle.soak.specs.Lines.{CanBeUsed, images_in, kills_in}
-use Rattle.soak.specs.Text.{text_of}
+use Rattle.rank_text.specs.Scripts.Script.{script_lines}
+use Rattle.rank_text.specs.declared.script.line.ScriptLine.{ScriptLine}
+use Rattle.outcomes.specs.Soak.Histogram.{Notes, up_to}
+use Rattle.outcomes.specs.Soak.Lines.{CanBeUsed, images_in, kills_in}
+use Rattle.outcomes.specs.Soak.Text.{text_of}
 
 -- no run was made: none counts, no rank crashed, and none is left that didn't halt
 pub record IsOfNone (soaked : Soaked) : Type 0 where

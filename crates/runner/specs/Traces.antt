@@ -11,9 +11,9 @@ use Rattle.core_runner.specs.Statuses.{HasStatus}
 use Rattle.crash_free.specs.Sim.{SimValue}
 use Rattle.rank_language.specs.Program.{ProgramValue}
 use Rattle.rank_threads.specs.declared.report.Report.{Report}
-use Rattle.run_trace.specs.Lines.{BeginsWithActs}
+use Rattle.run_shown.specs.Trace.Lines.{BeginsWithActs}
 use Rattle.runner.specs.Events.{PlaysReport, PlaysScriptOf}
-use Rattle.script_text.specs.declared.line.ScriptLine.{ScriptLine}
+use Rattle.rank_text.specs.declared.script.line.ScriptLine.{ScriptLine}
 
 -- The text begins with the acts of a run without crashes of the program of this source on n ranks,
 -- which has the outcome of a report. Each act stands with the line of its statement.

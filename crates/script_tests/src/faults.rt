@@ -1,6 +1,6 @@
 //! Texts that are no scripts, with their first fault.
 use crate::told::{Case, are_told};
-use script_text::ScriptFaultKind;
+use rank_text::script::ScriptFaultKind;
 use std::test::*;
 
 /// Lines that have no form.

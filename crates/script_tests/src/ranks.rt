@@ -1,7 +1,7 @@
 //! The lines of one rank.
 use crate::told::told_lines;
 use limits::Heap;
-use script_text::Script;
+use rank_text::script::Script;
 use std::alloc::AllocError;
 use std::process::Abort;
 use std::test::*;

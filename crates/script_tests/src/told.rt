@@ -1,6 +1,6 @@
 //! What becomes of a script's text, told in one line of text.
 use limits::Heap;
-use script_text::{Order, Script, ScriptLine, ScriptParseFault};
+use rank_text::script::{Order, Script, ScriptLine, ScriptParseFault};
 use std::alloc::AllocError;
 use std::fmt::Write;
 use std::process::Abort;

@@ -2,10 +2,10 @@
 use Rattle.std.proofs.Common.{◌≡◌, ℕ, zero, suc, ◌<◌, false, List, [], ◌∷◌, drop, length, refl, ap, subst, ◌∙◌, arith}
 use Rattle.std.specs.Prelude.{Option, Some, None, slice_get, option_and_then, IsSome}
 use Rattle.std.proofs.lemmas.List.{length-set}
-use Rattle.sequential_logger.specs.Event.{EventValue}
-use Rattle.sequential_logger.specs.History.{StateValue}
-use Rattle.sequential_logger.specs.declared.call.Reply.{Reply}
-use Rattle.sequential_logger.specs.declared.call.Reply.TheVariants.{Length, Full, Order, Events}
+use Rattle.event_logger.specs.Sequential.Event.{EventValue}
+use Rattle.event_logger.specs.Sequential.History.{StateValue}
+use Rattle.event_logger.specs.declared.sequential.call.Reply.{Reply}
+use Rattle.event_logger.specs.declared.sequential.call.Reply.TheVariants.{Length, Full, Order, Events}
 use Rattle.checkpoint.specs.declared.memory_shelf.MemoryShelf.{MemoryShelf}
 use Rattle.rank_node.specs.declared.waiting.Waiting.{Waiting}
 use Rattle.rank_node.specs.declared.waiting.Waiting.TheVariants as waits

@@ -1,10 +1,10 @@
 -- What a logger answers of a row.
 use Rattle.std.proofs.Common.{◌≡◌, ℕ, ◌≤◌, List, [], length, subst, arith, sym}
 use Rattle.limits.specs.Limits.{most_events}
-use Rattle.sequential_logger.specs.Event.{EventValue}
-use Rattle.sequential_logger.specs.History.{StateValue, Answers, IsRow, above, row}
-use Rattle.sequential_logger.specs.declared.call.Call.TheVariants.{Fetch}
-use Rattle.sequential_logger.specs.declared.call.Reply.TheVariants.{Events}
+use Rattle.event_logger.specs.Sequential.Event.{EventValue}
+use Rattle.event_logger.specs.Sequential.History.{StateValue, Answers, IsRow, above, row}
+use Rattle.event_logger.specs.declared.sequential.call.Call.TheVariants.{Fetch}
+use Rattle.event_logger.specs.declared.sequential.call.Reply.TheVariants.{Events}
 use Rattle.rank_node.proofs.Rows.{length_above}
 
 -- a fetch answers what the row has above the clock

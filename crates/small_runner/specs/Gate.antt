@@ -1,6 +1,6 @@
 -- What waits first at a gate.
 use Rattle.std.specs.Prelude.{List, Option, slice_get, option_and_then}
-use Rattle.sequential_logger.specs.Event.{EventValue}
+use Rattle.event_logger.specs.Sequential.Event.{EventValue}
 use Rattle.rank_node.specs.Waiting.{event_in}
 use Rattle.rank_node.specs.declared.waiting.Waiting.{Waiting}
 

@@ -1,13 +1,13 @@
 //! What stands around the ranks, and outlives their crashes.
 ghost use Rattle.std.specs.Prelude.{◌≡◌, ◌<◌, ◌≤◌, length, IfOk};
 ghost use Rattle.limits.specs.Limits.{most_events};
-ghost use Rattle.sequential_logger.specs.History.{above, row};
+ghost use Rattle.event_logger.specs.Sequential.History.{above, row};
 
+use event_logger::{Event, LoggerState};
 use limits::Heap;
 use ports::ConsoleState;
 use rank_language::Program;
 use rank_node::{Frame, NodeFault};
-use sequential_logger::{Event, LoggerState};
 use std::alloc::AllocError;
 use std::mem;
 

@@ -4,9 +4,9 @@ ghost use Rattle.rank_node.specs.Waiting.{is_settled};
 ghost use Rattle.small_runner.specs.Gate.{first_event};
 
 use checkpoint::MemoryShelf;
+use event_logger::LoggerState;
 use ports::ConsoleState;
 use rank_node::{NodeFault, Running};
-use sequential_logger::LoggerState;
 
 /// Stores and acknowledges each event that waits, and releases each send and line, in their order.
 #[tactic(auto, using(rank_node::proofs::Again::settled_nil, crate::proofs::Gates::less))]

@@ -13,7 +13,7 @@ use Rattle.world_model.proofs.Standing.KeptByReleases.{effect_there, Stands-rele
 use Rattle.world_model.proofs.Runs.CountsKept.{Counts-put, Counts-arrive, Counts-crash, Counts-restart, Counts-ack, Counts-store, Counts-release}
 use Rattle.world_model.proofs.Runs.CountsKeptBySteps.{Counts-step, Counts-replay}
 use Rattle.world_model.proofs.Standing.LiveRanks.{settled_behind}
-use Rattle.sequential_logger.specs.Misses.{expand}
+use Rattle.event_logger.specs.Sequential.Misses.{expand}
 use Rattle.std.proofs.lemmas.Option.{slice_get_within}
 use Rattle.world_model.specs.Rows.{row}
 use Rattle.world_model.specs.World.{Live, unpassed, unstored, WorldValue, size, start_of, IsLive}

@@ -6,8 +6,8 @@ use Rattle.world_model.specs.Plain.{plain, without_runs, RankRuns}
 use Rattle.world_model.specs.Follows.{CanNot, Happens}
 use Rattle.world_model.specs.Memory.{Fetched, Unchanged}
 use Rattle.world_model.proofs.Standing.LiveRanks.{ahead, first_image_stands}
-use Rattle.sequential_logger.specs.Event.{EventValue}
-use Rattle.sequential_logger.specs.Misses.{expand}
+use Rattle.event_logger.specs.Sequential.Event.{EventValue}
+use Rattle.event_logger.specs.Sequential.Misses.{expand}
 use Rattle.std.proofs.lemmas.Option.{slice_get_within}
 use Rattle.checkpoint.specs.declared.memory_shelf.MemoryShelf.{MemoryShelf}
 use Rattle.payload_log.specs.Backlog.{new_backlog}

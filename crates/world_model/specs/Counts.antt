@@ -2,7 +2,7 @@
 -- so it also holds of a rank that starts again behind it.
 use Rattle.std.specs.Prelude.{◌≡◌, ℕ, ◌+◌, ◌≤◌, List, length, Some, slice_get}
 use Rattle.limits.specs.Limits.{most_events}
-use Rattle.sequential_logger.specs.Event.{EventValue}
+use Rattle.event_logger.specs.Sequential.Event.{EventValue}
 use Rattle.world_model.specs.World.{Live, unstored, WorldValue, IsLive}
 
 -- a live rank with these events in its row has made these and its unstored ones, and no more than

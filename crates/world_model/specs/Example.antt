@@ -13,11 +13,11 @@ use Rattle.std.proofs.Common.{refl, lit<, arith, inl, inr, ⊎_elim}
 use Rattle.checkpoint.specs.Image.{ImageValue}
 use Rattle.matching.specs.Inbox.{accepted_from}
 use Rattle.payload_log.specs.Backlog.{BacklogValue, new_backlog}
-use Rattle.sequential_logger.specs.Event.{event_of}
-use Rattle.sequential_logger.specs.declared.kind.Kind.TheVariants as kind
+use Rattle.event_logger.specs.Sequential.Event.{event_of}
+use Rattle.event_logger.specs.declared.sequential.kind.Kind.TheVariants as kind
 use Rattle.matching.specs.declared.packet.Context.TheVariants.{PointToPoint}
-use Rattle.rank_grammar.specs.declared.token.Operator.TheVariants.{Add, Equal}
-use Rattle.rank_grammar.specs.declared.token.Reading.TheVariants.{Rank}
+use Rattle.rank_text.specs.declared.grammar.token.Operator.TheVariants.{Add, Equal}
+use Rattle.rank_text.specs.declared.grammar.token.Reading.TheVariants.{Rank}
 use Rattle.rank_language.specs.Placed.{number, variable, reading, operation, any, one, into_variable, declare, send, receive, print}
 use Rattle.rank_language.specs.Block.{Block, done, plain, if_else, lines_at}
 use Rattle.rank_language.specs.Program.{ProgramValue}

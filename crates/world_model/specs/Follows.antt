@@ -9,10 +9,10 @@ use Rattle.checkpoint.specs.Shelf.{image_bytes}
 use Rattle.checkpoint.specs.declared.memory_shelf.MemoryShelf.{MemoryShelf}
 use Rattle.matching.specs.PacketValue as packet
 use Rattle.payload_log.specs.Backlog.{backlog}
-use Rattle.sequential_logger.specs.Event.{EventValue}
-use Rattle.sequential_logger.specs.History.{Answers}
-use Rattle.sequential_logger.specs.declared.call.Call.TheVariants.{Append, Fetch}
-use Rattle.sequential_logger.specs.declared.call.Reply.TheVariants.{Length, Events}
+use Rattle.event_logger.specs.Sequential.Event.{EventValue}
+use Rattle.event_logger.specs.Sequential.History.{Answers}
+use Rattle.event_logger.specs.declared.sequential.call.Call.TheVariants.{Append, Fetch}
+use Rattle.event_logger.specs.declared.sequential.call.Reply.TheVariants.{Length, Events}
 use Rattle.rank_machine.specs.declared.want.Want.{Want}
 use Rattle.rank_machine.specs.declared.want.Want.TheVariants as want
 use Rattle.rank_machine.specs.Wants.{payload}
@@ -33,7 +33,7 @@ use Rattle.rank_node.specs.Storing.{next_unstored, after_store, after_ack}
 use Rattle.rank_node.specs.Releasing.{next_effect, after_release}
 use Rattle.rank_node.specs.Image.{image_of, image_on, after_image}
 use Rattle.rank_node.specs.Replay.{restarted, left_of, replay_turn_of, after_replay, left_after, ReplayStep}
-use Rattle.ports.specs.declared.line.Line.{Line}
+use Rattle.matching.specs.declared.line.Line.{Line}
 use Rattle.ports.specs.Console.{after_line}
 use Rattle.crash_free.specs.Runs.{Passed, history, continue}
 use Rattle.world_model.specs.declared.event.WorldEvent.{WorldEvent}

@@ -12,8 +12,8 @@ use Rattle.rank_node.specs.Node.{opening}
 use Rattle.rank_node.specs.Stored.{Stored}
 use Rattle.rank_node.specs.declared.frame.Frame.{Frame}
 use Rattle.rank_node.specs.declared.frame.Frame.TheVariants as frame
-use Rattle.sequential_logger.specs.Event.{EventValue}
-use Rattle.sequential_logger.specs.History.{empty_rows}
+use Rattle.event_logger.specs.Sequential.Event.{EventValue}
+use Rattle.event_logger.specs.Sequential.History.{empty_rows}
 use Rattle.checkpoint.specs.declared.memory_shelf.MemoryShelf.{MemoryShelf}
 use Rattle.checkpoint.specs.Shelf.{image_bytes}
 use Rattle.crash_free.specs.Runs.{Passed, at_place, history, sent, printed, IsRun, continue}

@@ -1,9 +1,9 @@
 -- A world without runs of misses: what isn't stored waits one for each act, and rows and what is
 -- left to replay are events of one act each. What a world stands for is said of it.
 use Rattle.std.specs.Prelude.{◌≡◌, ℕ, zero, suc, ◌<◌, false, List, [], ◌∷◌, map, Option, Some, slice_get, option_map}
-use Rattle.sequential_logger.specs.Event.{EventValue}
-use Rattle.sequential_logger.specs.Misses.{expand, IsCounted}
-use Rattle.sequential_logger.specs.History.{above}
+use Rattle.event_logger.specs.Sequential.Event.{EventValue}
+use Rattle.event_logger.specs.Sequential.Misses.{expand, IsCounted}
+use Rattle.event_logger.specs.Sequential.History.{above}
 use Rattle.checkpoint.specs.Image.{ImageValue}
 use Rattle.rank_node.specs.declared.waiting.Waiting.{Waiting}
 use Rattle.rank_node.specs.Waiting.{expanded}

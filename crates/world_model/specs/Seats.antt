@@ -5,10 +5,10 @@ use Rattle.std.specs.declared.alloc.AllocError.{AllocError}
 use Rattle.checkpoint.specs.Image.{ImageValue}
 use Rattle.checkpoint.specs.Shelf.{image_bytes}
 use Rattle.checkpoint.specs.declared.memory_shelf.MemoryShelf.{MemoryShelf}
-use Rattle.sequential_logger.specs.Event.{EventValue}
-use Rattle.sequential_logger.specs.History.{StateValue, reply_of}
-use Rattle.sequential_logger.specs.declared.call.Call.TheVariants.{Append}
-use Rattle.sequential_logger.specs.declared.call.Reply.TheVariants.{Length}
+use Rattle.event_logger.specs.Sequential.Event.{EventValue}
+use Rattle.event_logger.specs.Sequential.History.{StateValue, reply_of}
+use Rattle.event_logger.specs.declared.sequential.call.Call.TheVariants.{Append}
+use Rattle.event_logger.specs.declared.sequential.call.Reply.TheVariants.{Length}
 use Rattle.rank_language.specs.Program.{ProgramValue}
 use Rattle.rank_machine.specs.Machine.{MachineValue, machine_want}
 use Rattle.rank_node.specs.declared.frame.Frame.{Frame}
@@ -23,7 +23,7 @@ use Rattle.rank_node.specs.Storing.{next_unstored, after_store, after_ack, Appen
 use Rattle.rank_node.specs.Waiting.{effect_clock}
 use Rattle.rank_machine.specs.Acts.{Act}
 use Rattle.crash_free.specs.Runs.{Passed, continue}
-use Rattle.ports.specs.declared.line.Line.{Line}
+use Rattle.matching.specs.declared.line.Line.{Line}
 use Rattle.ports.specs.Console.{after_line}
 use Rattle.world_model.specs.Rows.{Noted}
 use Rattle.world_model.specs.World.{Rank, Live, WorldValue}

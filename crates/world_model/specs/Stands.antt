@@ -3,7 +3,7 @@
 -- misses, in which each event is of one act. That the world stands for its run, and that nothing
 -- needed is gone, follow from it.
 use Rattle.std.specs.Prelude.{◌≡◌, ℕ, ◌+◌, ◌<◌, ◌≤◌, ◌⊎◌, true, false, List, [], ◌∷◌, length, take, drop, Option, Some, None, slice_get}
-use Rattle.sequential_logger.specs.Event.{EventValue}
+use Rattle.event_logger.specs.Sequential.Event.{EventValue}
 use Rattle.matching.specs.PacketValue as packet
 use Rattle.matching.specs.Inbox.{Mailbox, accepted_from}
 use Rattle.payload_log.specs.Backlog.{BacklogValue}

@@ -5,8 +5,8 @@ use Rattle.std.specs.Prelude.{◌≡◌, ℕ, List, length, Option, Some, None, 
 use Rattle.checkpoint.specs.Image.{ImageValue}
 use Rattle.checkpoint.specs.declared.memory_shelf.MemoryShelf.{MemoryShelf}
 use Rattle.matching.specs.Inbox.{accepted_from}
-use Rattle.sequential_logger.specs.Event.{EventValue}
-use Rattle.sequential_logger.specs.History.{StateValue}
+use Rattle.event_logger.specs.Sequential.Event.{EventValue}
+use Rattle.event_logger.specs.Sequential.History.{StateValue}
 use Rattle.rank_language.specs.Program.{ProgramValue}
 use Rattle.rank_machine.specs.States as states
 use Rattle.rank_node.specs.declared.waiting.Waiting.{Waiting}
@@ -14,7 +14,7 @@ use Rattle.rank_node.specs.Waiting.{events_in, effects}
 use Rattle.rank_node.specs.Node.{Node}
 use Rattle.rank_node.specs.Image.{begins_at}
 use Rattle.rank_node.specs.declared.frame.Frame.{Frame}
-use Rattle.ports.specs.declared.line.Line.{Line}
+use Rattle.matching.specs.declared.line.Line.{Line}
 use Rattle.crash_free.specs.Runs.{Passed}
 
 -- the ranks of a world have shelves in memory, and no desk

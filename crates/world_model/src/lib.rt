@@ -4,6 +4,7 @@
 
 mod bare_world;
 mod event;
+pub mod events_text;
 mod finish;
 mod occupant;
 mod reply;

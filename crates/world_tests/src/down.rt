@@ -6,12 +6,12 @@ use crate::same::same;
 use crate::scenes::ONE_MESSAGE;
 use crate::views::play as play_text;
 use crate::ways::{SQUARES, leads_on};
-use events_text::world_text;
 use limits::{Heap, MOST_RANKS};
 use rank_language::Program;
 use std::alloc::AllocError;
 use std::process::Abort;
 use std::test::*;
+use world_model::events_text::world_text;
 use world_model::{Reply, View, World, WorldEvent};
 
 /// Rank 1 is down, after it took and stored a message.

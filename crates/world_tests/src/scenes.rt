@@ -4,13 +4,13 @@ ghost use Rattle.limits.specs.Limits.{most_ranks};
 
 use crate::same::same;
 use crash_free::{Choice, NotAllowed, Sim};
-use events_text::{parse_events, run_text};
 use limits::Heap;
 use rank_language::Program;
 use std::alloc::AllocError;
 use std::process::Abort;
 use std::test::*;
 use world_model::World;
+use world_model::events_text::{parse_events, run_text};
 
 /// A choice, as the tables write it.
 #[derive(Clone, Copy)]

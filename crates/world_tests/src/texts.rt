@@ -1,10 +1,10 @@
 //! Texts of events, and of replies.
 use crate::same::same;
-use events_text::{EventsFault, EventsFaultKind, parse_events, world_text};
 use limits::Heap;
 use std::alloc::AllocError;
 use std::process::Abort;
 use std::test::*;
+use world_model::events_text::{EventsFault, EventsFaultKind, parse_events, world_text};
 use world_model::{Reply, WorldEvent};
 
 /// How many events, or the line and number of the first fault. Zeros stand for none.

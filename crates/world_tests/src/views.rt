@@ -1,11 +1,11 @@
 //! What a world shows of its ranks: before a crash, while the rank is down, and as it replays.
 use crate::same::same;
 use crate::scenes::ONE_MESSAGE;
-use events_text::parse_events;
 use limits::Heap;
 use rank_language::Program;
 use std::process::Abort;
 use std::test::*;
+use world_model::events_text::parse_events;
 use world_model::{View, World, WorldEvent};
 
 /// Rank 0 sends, and rank 1 takes the packet, stores that and goes on to its line, which waits.

@@ -1,7 +1,7 @@
 //! Steps of one rank that the outcome has.
 ghost use Rattle.std.specs.Prelude.{◌≡◌, ◌≢◌, ℕ, ◌+◌, ◌<◌, ◌≤◌, true, false, length, IfSome, IfNone, IfOk, IfErr, OnOk, IsTrue, is_ok};
 ghost use Rattle.limits.specs.Limits.{greatest_clock};
-ghost use Rattle.sequential_logger.specs.Event.{EventValue};
+ghost use Rattle.event_logger.specs.Sequential.Event.{EventValue};
 ghost use Rattle.crash_free.specs.Runs.{history};
 ghost use Rattle.crash_free.specs.Wanted.{WantsAt, StandsAtAct};
 ghost use Rattle.audit.specs.Outcome.{OutcomeValue};
@@ -12,8 +12,8 @@ ghost use Rattle.audit.specs.Playing.{Plays, NoneIsOffered, IsNextEvent, IsNextL
 
 use crate::auditor::{Auditor, Goal};
 use crash_free::{Choice, NotAllowed};
+use event_logger::{Event, Kind};
 use rank_machine::Want;
-use sequential_logger::{Event, Kind};
 use std::alloc::AllocError;
 
 impl Auditor<'_> {

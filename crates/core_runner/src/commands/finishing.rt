@@ -1,12 +1,12 @@
 //! Events that lead a world to its end.
 ghost use Rattle.std.specs.Prelude.{◌≡◌, IfOk, IfErr, string_bytes};
 ghost use Rattle.core_runner.specs.FinishText.{IsFinishText, IsWithoutEnd, refusal_of_end};
-ghost use Rattle.events_text.specs.Written.{events_text};
+ghost use Rattle.world_model.specs.EventsText.Written.{events_text};
 ghost use Rattle.world_model.specs.declared.finish.FinishEnd.TheVariants.{Ended};
 
 use crate::commands::refusal::Refusal;
-use events_text::events_text;
 use limits::Heap;
+use world_model::events_text::events_text;
 use world_model::{FinishEnd, World, WorldEvent};
 
 /// Makes the events, one after another, and answers events that lead from there

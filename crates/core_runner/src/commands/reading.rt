@@ -4,11 +4,11 @@ ghost use Rattle.core_runner.specs.Reading.{AreEventsIn, IsProgramIn, IsScriptBy
 
 use crate::commands::refusal::Refusal;
 use crate::files::Files;
-use events_text::parse_events;
 use limits::Heap;
 use rank_language::Program;
-use script_text::Script;
+use rank_text::script::Script;
 use world_model::WorldEvent;
+use world_model::events_text::parse_events;
 
 /// The bytes of the file with this name.
 pub fn text_in<'a, F: Files>(name: &'a str, files: &mut F) -> Result<Vec<u8>, Refusal<'a>>

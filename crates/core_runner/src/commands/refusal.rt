@@ -4,14 +4,14 @@ ghost use Rattle.std.specs.Prelude.{◌≡◌, [], IfOk};
 use crate::commands::said::Said;
 use crate::files::FileFault;
 use audit::AuditFault;
-use events_text::{EventsFault, EventsFaultKind};
 use limits::Heap;
 use rank_language::{ParseFault, ProgramFault};
 use rank_node::NodeFault;
+use rank_text::script::{ScriptFault, ScriptParseFault};
 use rank_threads::RunFault;
-use script_text::{ScriptFault, ScriptParseFault};
 use std::alloc::AllocError;
 use thiserror::Error;
+use world_model::events_text::{EventsFault, EventsFaultKind};
 
 /// What stands in the way of an answer. Its text is the line on standard error.
 #[derive(Clone, Copy, Debug, Error)]

@@ -12,10 +12,10 @@ use crate::commands::refusal::Refusal;
 use crate::commands::said::Said;
 use crate::files::Files;
 use command_line::WorldJob;
-use events_text::{run_text, way_text};
 use limits::Heap;
 use rank_language::Program;
 use std::alloc::AllocError;
+use world_model::events_text::{run_text, way_text};
 use world_model::{World, WorldEvent};
 
 /// What is wanted of a world.

@@ -4,7 +4,7 @@ ghost use Rattle.std.specs.Hash.DefaultHasher as sip;
 ghost use Rattle.explore.specs.Found.{end_number, hash_of, rank_writes};
 
 use audit::End;
-use final_runs::RankEnd;
+use audit::final_runs::RankEnd;
 use std::hash::{DefaultHasher, Hash, Hasher};
 
 /// A number that is the same of outcomes that are the same.

@@ -1,8 +1,8 @@
 //! Lives of ranks that start again: their rows, and what each call answers.
 
 use super::{ACCEPTED, Answer, BLOCKED, Call, Life, MOVED, NO_FIT};
+use event_logger::Kind;
 use rank_node::Turn;
-use sequential_logger::Kind;
 
 /// A hit, a miss and a reception are replayed, each by its event alone, and a probe that waits does so for the packet that was
 /// hit. The first packet lies there at the miss, as it did not before.

@@ -1,6 +1,6 @@
 //! Names for the places of collectives.
 ghost use Rattle.std.specs.Prelude.{◌≡◌, ◌<◌, IfOk, length};
-ghost use Rattle.rank_grammar.specs.SeenForms.{form_seen};
+ghost use Rattle.rank_text.specs.Grammar.SeenForms.{form_seen};
 ghost use Rattle.rank_language.specs.Named.{collective_named};
 ghost use Rattle.rank_language.specs.Placed.{reduce};
 ghost use Rattle.rank_language.specs.Program.{IsWithin};
@@ -13,7 +13,7 @@ use crate::expression::Expression;
 use crate::resolve::Tables;
 use crate::statement::Collective;
 use limits::Heap;
-use rank_grammar::{Form, Reduction};
+use rank_text::grammar::{Form, Reduction};
 use std::alloc::AllocError;
 
 /// A reduction with names for its places.

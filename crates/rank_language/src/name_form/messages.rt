@@ -1,6 +1,6 @@
 //! Names for the places of sends, receives and probes.
 ghost use Rattle.std.specs.Prelude.{◌≡◌, ◌<◌, IfOk, length};
-ghost use Rattle.rank_grammar.specs.SeenForms.{form_seen};
+ghost use Rattle.rank_text.specs.Grammar.SeenForms.{form_seen};
 ghost use Rattle.rank_language.specs.Named.{form_named};
 ghost use Rattle.rank_language.specs.Placed.{does, probe, receive};
 ghost use Rattle.rank_language.specs.Placed.{send, try_probe};
@@ -14,7 +14,7 @@ use crate::expression::Expression;
 use crate::resolve::Tables;
 use crate::statement::{Buffer, Pattern, Payload};
 use limits::Heap;
-use rank_grammar::Form;
+use rank_text::grammar::Form;
 use std::alloc::AllocError;
 
 /// A send with names for its places.

@@ -7,8 +7,8 @@ use crate::running::Running;
 use crate::screen::Screen;
 use crate::turn::Turn;
 use checkpoint::Shelf;
+use event_logger::Event;
 use rank_machine::Want;
-use sequential_logger::Event;
 
 impl<'p, S: Shelf, D> Running<'p, S, D> {
     ghost use Rattle.rank_node.specs.Replay.{replay_turn_at, replayed_at, ReplayStepAt, ShowsReplayAt};

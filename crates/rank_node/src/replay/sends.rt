@@ -7,9 +7,9 @@ use crate::fault::NodeFault;
 use crate::running::Running;
 use crate::turn::Turn;
 use checkpoint::Shelf;
+use event_logger::Event;
 use matching::{Context, Packet};
 use rank_machine::Want;
-use sequential_logger::Event;
 
 impl<'p, S: Shelf, D> Running<'p, S, D> {
     ghost use Rattle.rank_node.specs.Replay.{replay_turn_at, replayed_at, ReplayStepAt};

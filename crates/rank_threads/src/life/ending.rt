@@ -12,7 +12,7 @@ use crate::shared::Stopped;
 use audit::End;
 use rank_machine::Want;
 use rank_node::Phase;
-use script_text::Order;
+use rank_text::script::Order;
 
 /// The script kills the rank at its act of this clock. Only `kill_of` makes one,
 /// and only `end_life` takes it: a rank that is killed crashes, and makes no

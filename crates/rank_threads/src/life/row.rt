@@ -2,8 +2,8 @@
 ghost use Rattle.std.specs.Prelude.{◌≡◌, ◌≤◌, length};
 ghost use Rattle.limits.specs.Limits.{most_events};
 
+use event_logger::Event;
 use limits::Heap;
-use sequential_logger::Event;
 
 /// The whole row of a rank.
 #[derive(Debug, Drop)]

@@ -17,7 +17,7 @@ use event_logger::{Desk, Logger};
 use limits::Heap;
 use ports::{Ends, Rx, Tx};
 use rank_node::NodeFault;
-use script_text::Script;
+use rank_text::script::Script;
 use std::snapshot::Snapshot;
 use std::sync::Wait;
 

@@ -9,11 +9,10 @@ ghost use Rattle.rank_threads.specs.Phases.{HasImage, NoneWaits, ReadsRow, SameS
 use super::Node;
 use super::releasing::release_all;
 use checkpoint::MemoryShelf;
-use event_logger::Desk;
+use event_logger::{Desk, Event};
 use limits::Heap;
 use ports::Console;
 use rank_node::{NodeFault, Phase};
-use sequential_logger::Event;
 use std::alloc::AllocError;
 use std::sync::Wait;
 

@@ -14,14 +14,14 @@ use crate::life::Account;
 use crate::playing::Played;
 use crate::report::{Report, RunFault};
 use crate::running::RunLimits;
+use audit::final_runs::confirm;
 use audit::{End, Outcome};
 use event_logger::{Counts, Desk, Ledger, Logger};
-use final_runs::confirm;
 use limits::Heap;
-use ports::Line;
+use matching::Line;
 use rank_language::Program;
 use rank_node::NodeFault;
-use script_text::Script;
+use rank_text::script::Script;
 use std::alloc::AllocError;
 
 /// Closes the logger at whose desks a program was played, and answers the report

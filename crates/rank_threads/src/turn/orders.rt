@@ -4,7 +4,7 @@ ghost use Rattle.rank_threads.specs.Orders.{images_after, is_due, is_due_after, 
 
 use super::stepping::Stepped;
 use crate::life::Life;
-use script_text::Order;
+use rank_text::script::Order;
 use std::num::NonZeroU32;
 
 /// What the script's next line asks for after this step.

@@ -4,13 +4,13 @@ ghost use Rattle.std.specs.Prelude.{◌≡◌, ◌++◌, ◌∷◌, [], IfOk, Li
 ghost use Rattle.crash_free.specs.Runs.{Passed};
 ghost use Rattle.run_picture.specs.Marks.{made_of, sign_of, told_of};
 ghost use Rattle.run_picture.specs.Noted.{IsNext, IsNoted, next_moment, reached_at, reached_in};
-ghost use Rattle.send_index.specs.Tables.{noted_by};
+ghost use Rattle.crash_free.specs.SendIndex.Tables.{noted_by};
 ghost use Rattle.run_picture.specs.Times.{AreClocks, AreTimed, last_of, time_at};
 
 use crate::layout::scene::MarkKind;
+use crash_free::send_index::Sends;
 use crash_free::{Act, Passed};
 use limits::Heap;
-use send_index::Sends;
 use std::alloc::AllocError;
 
 /// When and where an act is made.

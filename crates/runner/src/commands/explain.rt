@@ -5,11 +5,11 @@ ghost use Rattle.runner.specs.Explanations.{HoldsEvents, HoldsEventsIn, HoldsPro
 use command_line::ExplainJob;
 use core_runner::{Files, Refusal, Said, text_in};
 use diagnostics::{explain_events, explain_program, explain_script, first_unmet};
-use events_text::{EventsFault, parse_events};
 use limits::Heap;
 use rank_language::{ParseFault, Program};
-use script_text::{Script, ScriptParseFault};
+use rank_text::script::{Script, ScriptParseFault};
 use std::alloc::AllocError;
+use world_model::events_text::{EventsFault, parse_events};
 
 /// What is said of the job's texts: the first fault, with status 2, or that there
 /// is none. Each text is read once the one before has no fault.

@@ -1,6 +1,6 @@
 //! Whether some run without crashes has the outcome of a file.
 ghost use Rattle.std.specs.Prelude.{IfOk, string_bytes};
-ghost use Rattle.outcome_text.specs.Outcomes.{outcome_of};
+ghost use Rattle.outcomes.specs.Text.Outcomes.{outcome_of};
 ghost use Rattle.runner.specs.Judgments.{IsJudgeAnswer, IsYesText, TellsVerdict, TellsVerdictOf};
 ghost use Rattle.runner.specs.Traces.{TracesReport};
 ghost use Rattle.rank_language.specs.StandOn.{IsLinedOf};
@@ -9,11 +9,11 @@ use crate::commands::tool_refusal::ToolRefusal;
 use audit::{Outcome, find_run};
 use command_line::JudgeJob;
 use core_runner::{Files, Said, text_in};
-use judge::{Asked, Verdict, judge, why_text};
 use limits::Heap;
-use outcome_text::OutcomeText;
+use outcomes::judge::{Asked, Verdict, judge, why_text};
+use outcomes::text::OutcomeText;
 use rank_language::LinedProgram;
-use run_trace::{Given, trace_text};
+use run_shown::trace::{Given, trace_text};
 use std::alloc::AllocError;
 
 // The texts of the job's files.

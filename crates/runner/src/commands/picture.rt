@@ -2,9 +2,9 @@
 use command_line::RunJob;
 use crash_free::Sim;
 use limits::Heap;
+use rank_text::script::{Order, ScriptLine};
 use run_picture::{Crash, Request, Span, draw};
-use run_trace::{Given, last_due};
-use script_text::{Order, ScriptLine};
+use run_shown::trace::{Given, last_due};
 use std::alloc::AllocError;
 
 /// The picture of the run that was found, from one time of its acts to another.

@@ -3,7 +3,7 @@ ghost use Rattle.std.specs.Prelude.{◌≡◌, [], IfOk};
 
 use core_runner::{Refusal, Said};
 use limits::Heap;
-use outcome_text::{OutcomeFault, OutcomeParseFault};
+use outcomes::text::{OutcomeFault, OutcomeParseFault};
 use rank_language::ParseFault;
 use rank_threads::RunFault;
 use run_events::PlayFault;

@@ -3,7 +3,7 @@ ghost use Rattle.std.specs.Prelude.{◌≡◌, ◌≢◌, ◌≤◌, ◌++◌, [
 ghost use Rattle.limits.specs.Limits.{most_ranks};
 ghost use Rattle.run_events.specs.Plays.{IsPlayText};
 ghost use Rattle.run_events.specs.Scripted.{IsScriptText};
-ghost use Rattle.run_trace.specs.Lines.{BeginsWithActs};
+ghost use Rattle.run_shown.specs.Trace.Lines.{BeginsWithActs};
 ghost use Rattle.core_runner.specs.Reading.{IsScriptBy, IsScriptIn};
 ghost use Rattle.core_runner.specs.Statuses.{HasStatus};
 ghost use Rattle.runner.specs.Events.{PlaysReport, PlaysScriptOf};
@@ -20,11 +20,11 @@ use core_runner::{
 use crash_free::Sim;
 use limits::Heap;
 use rank_language::{LinedProgram, Program};
+use rank_text::script::Script;
 use rank_threads::{Cause, Report, RunFault};
 use run_events::{PlayFault, play_script_text, play_text};
 use run_picture::Span;
-use run_trace::{Given, Why, trace_json, trace_text};
-use script_text::Script;
+use run_shown::trace::{Given, Why, trace_json, trace_text};
 use std::alloc::AllocError;
 use std::sync::Wait;
 use std::thread::Threads;

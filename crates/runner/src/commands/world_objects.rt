@@ -5,11 +5,11 @@ ghost use Rattle.runner.specs.Objects.{HasEvents, IsObjectsAnswer};
 
 use command_line::WorldJob;
 use core_runner::{Files, Refusal, Said, text_in};
-use events_text::parse_events;
 use limits::Heap;
 use rank_language::Program;
+use run_shown::world::{Texts, world_json};
 use std::alloc::AllocError;
-use world_json::{Texts, world_json};
+use world_model::events_text::parse_events;
 
 /// What each event changes in the job's world, an object a line, or why that isn't
 /// told.

@@ -9,7 +9,7 @@ use crate::soaked::Soaked;
 use audit::End;
 use explore::{Explored, Outcome};
 use limits::Heap;
-use soak::{Bar, Histogram};
+use outcomes::soak::{Bar, Histogram};
 use std::alloc::AllocError;
 use std::fmt::Write;
 

@@ -7,10 +7,10 @@ use Rattle.std.specs.List.{position_or_len}
 use Rattle.std.proofs.Common.{not}
 use Rattle.std.proofs.lemmas.List.Quantifiers.{position-Some}
 use Rattle.std.proofs.lemmas.Option.{slice_get_within, slice_get-get_or, get_or_from_slice_get}
-use Rattle.sequential_logger.specs.Event.{EventValue, event_of, finds_none}
-use Rattle.sequential_logger.proofs.NextParts.{part}
-use Rattle.sequential_logger.specs.declared.kind.Kind.{Kind}
-use Rattle.sequential_logger.specs.declared.kind.Kind.TheVariants as kind
+use Rattle.event_logger.specs.Sequential.Event.{EventValue, event_of, finds_none}
+use Rattle.event_logger.proofs.SequentialLaws.NextParts.{part}
+use Rattle.event_logger.specs.declared.sequential.kind.Kind.{Kind}
+use Rattle.event_logger.specs.declared.sequential.kind.Kind.TheVariants as kind
 use Rattle.matching.specs.declared.packet.Context.{Context}
 use Rattle.matching.specs.declared.selector.Selector.{Selector}
 use Rattle.matching.specs.PacketValue as packet

@@ -3,10 +3,10 @@
 use Rattle.std.proofs.Common.{◌≡◌, ℕ, [], ◌∷◌, ◌++◌, Some, None, refl, sym, ap, subst, ◌∙◌, slice_set}
 use Rattle.checkpoint.specs.Shelf.{image_bytes}
 use Rattle.checkpoint.specs.declared.memory_shelf.MemoryShelf.{MemoryShelf}
-use Rattle.sequential_logger.specs.Misses.{expand}
-use Rattle.sequential_logger.specs.History.{row, append_reply, state_after, next_call}
-use Rattle.sequential_logger.specs.declared.call.Call.TheVariants.{Append}
-use Rattle.sequential_logger.specs.declared.call.Reply.TheVariants.{Length}
+use Rattle.event_logger.specs.Sequential.Misses.{expand}
+use Rattle.event_logger.specs.Sequential.History.{row, append_reply, state_after, next_call}
+use Rattle.event_logger.specs.declared.sequential.call.Call.TheVariants.{Append}
+use Rattle.event_logger.specs.declared.sequential.call.Reply.TheVariants.{Length}
 use Rattle.rank_node.specs.declared.waiting.Waiting.{Waiting}
 use Rattle.rank_node.specs.declared.waiting.Waiting.TheVariants as waits
 use Rattle.rank_node.specs.Waiting.{effect_clock}

@@ -7,13 +7,13 @@ use Rattle.matching.specs.PacketValue as packet
 use Rattle.payload_log.specs.Backlog.{backlog}
 use Rattle.rank_node.specs.declared.frame.Frame.TheVariants as frame
 use Rattle.crash_free.specs.Runs.{Passed}
-use Rattle.sequential_logger.specs.Event.{EventValue}
+use Rattle.event_logger.specs.Sequential.Event.{EventValue}
 use Rattle.rank_machine.specs.States.{State}
 use Rattle.world_model.specs.World.{Live, WorldValue, size, IsLive}
 use Rattle.world_model.specs.Counts.{RankCounts, Counts}
 use Rattle.world_model.specs.Stands.{RankStands, StandsAt, RankCovers, Covers, start_at}
 use Rattle.world_model.specs.Onward.{RankOnward, Onward, OnWire, Wired, IsWorld}
-use Rattle.sequential_logger.specs.Misses.{expand}
+use Rattle.event_logger.specs.Sequential.Misses.{expand}
 use Rattle.rank_node.specs.Image.{begins_at}
 use Rattle.rank_node.specs.Replay.{is_cut}
 use Rattle.world_model.specs.Plain.{plain, without_runs, RankRuns, RunsOfMisses}

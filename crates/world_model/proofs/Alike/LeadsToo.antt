@@ -1,9 +1,9 @@
 -- A restart, and so any event of the way, leaves alike worlds alike; the list leads the other world on too.
 use Rattle.std.proofs.Common.{◌≡◌, ℕ, List, [], ◌∷◌, ◌++◌, Some, length, refl, sym, ap}
 use Rattle.std.proofs.Common.{subst, ◌∙◌, arith, slice_get, slice_set}
-use Rattle.sequential_logger.specs.Event.{EventValue}
-use Rattle.sequential_logger.specs.History.{above, row}
-use Rattle.sequential_logger.specs.declared.call.Reply.TheVariants.{Events}
+use Rattle.event_logger.specs.Sequential.Event.{EventValue}
+use Rattle.event_logger.specs.Sequential.History.{above, row}
+use Rattle.event_logger.specs.declared.sequential.call.Reply.TheVariants.{Events}
 use Rattle.rank_machine.specs.Machine.{machine_want}
 use Rattle.rank_node.specs.Image.{begins_at}
 use Rattle.rank_node.specs.Frames.{outgoing_of}

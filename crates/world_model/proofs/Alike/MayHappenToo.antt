@@ -3,9 +3,9 @@
 use Rattle.std.proofs.Common.{◌≡◌, ℕ, inl, inr, [], ◌∷◌, ◌++◌, length, Some, refl, sym, ap, subst, ◌∙◌, slice_get, slice_set}
 use Rattle.checkpoint.specs.Shelf.{image_bytes}
 use Rattle.checkpoint.specs.declared.memory_shelf.MemoryShelf.{MemoryShelf}
-use Rattle.sequential_logger.specs.History.{above, row, state_after, next_call}
-use Rattle.sequential_logger.specs.declared.call.Call.TheVariants.{Fetch}
-use Rattle.sequential_logger.specs.declared.call.Reply.TheVariants.{Events}
+use Rattle.event_logger.specs.Sequential.History.{above, row, state_after, next_call}
+use Rattle.event_logger.specs.declared.sequential.call.Call.TheVariants.{Fetch}
+use Rattle.event_logger.specs.declared.sequential.call.Reply.TheVariants.{Events}
 use Rattle.rank_machine.specs.Machine.{machine_want}
 use Rattle.rank_node.specs.declared.frame.Frame.{Frame}
 use Rattle.rank_node.specs.declared.frame.Frame.TheVariants as frame

@@ -7,9 +7,9 @@ use Rattle.matching.specs.declared.packet.Context.{Context}
 use Rattle.matching.specs.PacketValue as packet
 use Rattle.matching.specs.Inbox.{after_arrival}
 use Rattle.matching.specs.Matching.{matches}
-use Rattle.sequential_logger.specs.Event.{EventValue}
-use Rattle.sequential_logger.specs.declared.kind.Kind.{Kind}
-use Rattle.sequential_logger.specs.declared.kind.Kind.TheVariants as kind
+use Rattle.event_logger.specs.Sequential.Event.{EventValue}
+use Rattle.event_logger.specs.declared.sequential.kind.Kind.{Kind}
+use Rattle.event_logger.specs.declared.sequential.kind.Kind.TheVariants as kind
 use Rattle.rank_machine.specs.declared.want.Want.{Want}
 use Rattle.rank_machine.specs.declared.want.Want.TheVariants as want
 use Rattle.rank_machine.specs.Wants.{payload}
@@ -26,7 +26,7 @@ use Rattle.rank_node.specs.Replay.{named, replayed_at, replay_turn_at, ReplaySte
 use Rattle.rank_node.specs.Steps.{found, turn_at, refusal_at, MachineStepAt, step_at, after_send, after_hold, after_print, after_wait, made_send}
 use Rattle.rank_node.specs.Steps.{made_print, try_refusal}
 use Rattle.rank_node.specs.Steps.{received, probed, tried, DidAct, Took, WasShown, Missed, TakesFound, IsShownFound, TriesFound}
-use Rattle.ports.specs.declared.line.Line.{Line}
+use Rattle.matching.specs.declared.line.Line.{Line}
 use Rattle.world_model.specs.World.{Rank}
 use Rattle.world_model.specs.Follows.{effect_at, lines_after}
 use Rattle.world_model.specs.Driven.{on_shelf}

@@ -4,10 +4,10 @@ use Rattle.std.proofs.Common.{ap, subst, ◌∙◌, arith, slice_get, slice_set,
 use Rattle.std.proofs.lemmas.Option.{slice_get_within, slice_get-get_or}
 use Rattle.limits.specs.Limits.{most_events}
 use Rattle.checkpoint.specs.Image.{ImageValue}
-use Rattle.sequential_logger.specs.Event.{EventValue}
-use Rattle.sequential_logger.specs.History.{Answers, StateValue, above}
-use Rattle.sequential_logger.specs.declared.call.Call.TheVariants.{Fetch}
-use Rattle.sequential_logger.specs.declared.call.Reply.TheVariants.{Events}
+use Rattle.event_logger.specs.Sequential.Event.{EventValue}
+use Rattle.event_logger.specs.Sequential.History.{Answers, StateValue, above}
+use Rattle.event_logger.specs.declared.sequential.call.Call.TheVariants.{Fetch}
+use Rattle.event_logger.specs.declared.sequential.call.Reply.TheVariants.{Events}
 use Rattle.rank_node.specs.Image.{begins_at}
 use Rattle.rank_node.specs.Replay.{cuts, left_of}
 use Rattle.world_model.specs.World.{Live, WorldValue, size}

@@ -7,13 +7,13 @@ use Rattle.std.proofs.lemmas.Bool.{cases_lt, lt-leb}
 use Rattle.std.proofs.lemmas.List.{append-nil, length_push}
 use Rattle.std.proofs.lemmas.Option.{slice_get_within, slice_get-get_or}
 use Rattle.limits.specs.Limits.{most_events}
-use Rattle.sequential_logger.specs.Event.{EventValue, event_of, first_clock, first_of, count_of, finds_none}
-use Rattle.sequential_logger.specs.Misses.{misses_after, parts_of, IsCounted, IsCountedAt}
-use Rattle.sequential_logger.specs.History.{above, append_reply, last_clock}
-use Rattle.sequential_logger.specs.declared.call.Reply.TheVariants.{Length}
-use Rattle.sequential_logger.specs.declared.kind.Kind.{Kind}
-use Rattle.sequential_logger.specs.declared.kind.Kind.TheVariants as kind
-use Rattle.sequential_logger.proofs.Misses.{misses_push, parts_length}
+use Rattle.event_logger.specs.Sequential.Event.{EventValue, event_of, first_clock, first_of, count_of, finds_none}
+use Rattle.event_logger.specs.Sequential.Misses.{misses_after, parts_of, IsCounted, IsCountedAt}
+use Rattle.event_logger.specs.Sequential.History.{above, append_reply, last_clock}
+use Rattle.event_logger.specs.declared.sequential.call.Reply.TheVariants.{Length}
+use Rattle.event_logger.specs.declared.sequential.kind.Kind.{Kind}
+use Rattle.event_logger.specs.declared.sequential.kind.Kind.TheVariants as kind
+use Rattle.event_logger.proofs.SequentialLaws.Misses.{misses_push, parts_length}
 use Rattle.rank_machine.specs.States.{State}
 use Rattle.rank_machine.specs.Acts.{Act, Message, misses}
 use Rattle.rank_node.specs.declared.waiting.Waiting.{Waiting}

@@ -4,9 +4,9 @@ use Rattle.std.proofs.Common.{IsSomeAnd, Result, Ok, Err, OnErr, Bool, true, fal
 use Rattle.std.specs.Bool.{OnTrue, OnFalse}
 use Rattle.std.proofs.lemmas.Option.{slice_get_within}
 use Rattle.checkpoint.specs.Image.{ImageValue}
-use Rattle.sequential_logger.specs.History.{StateValue}
+use Rattle.event_logger.specs.Sequential.History.{StateValue}
 use Rattle.rank_language.specs.Program.{ProgramValue}
-use Rattle.ports.specs.declared.line.Line.{Line}
+use Rattle.matching.specs.declared.line.Line.{Line}
 use Rattle.crash_free.specs.Runs.{Passed}
 use Rattle.world_model.specs.World.{Rank, Live, WorldValue, size, IsLive, IsDown}
 use Rattle.world_model.specs.Wires.{AllWires}

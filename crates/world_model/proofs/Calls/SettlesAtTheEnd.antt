@@ -1,7 +1,7 @@
 -- A rank that replays settles exactly where nothing is left.
 use Rattle.std.proofs.Common.{◌≡◌, ◌≢◌, ℕ, List, [], ◌∷◌, Result, Ok, Err, refl, sym, ◌∙◌}
 use Rattle.std.proofs.Common.{ap, true, Some, IfErr, OnErr, IsErrOf}
-use Rattle.sequential_logger.specs.Event.{EventValue}
+use Rattle.event_logger.specs.Sequential.Event.{EventValue}
 use Rattle.rank_node.specs.declared.fault.NodeFault.{NodeFault}
 use Rattle.rank_node.specs.declared.fault.NodeFault.TheVariants.{NotSettled, Shelf, Image, Replay, ClockSpent, Log, Memory}
 use Rattle.rank_machine.specs.Machine.{machine_want}

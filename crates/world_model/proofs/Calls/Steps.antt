@@ -2,8 +2,8 @@
 use Rattle.std.proofs.Common.{◌≡◌, ◌≢◌, ℕ, ℤ, ◌+◌, ◌<◌, ◌≤◌, inl, inr, Bool, true, false, List, [], ◌∷◌, Option, Some, None, Ok, Err, length, refl, sym}
 use Rattle.std.proofs.Common.{ap, subst, ◌∙◌, slice_get, slice_set, is_some, IsSome, IsSomeAnd, if◌then◌else◌}
 use Rattle.matching.specs.declared.packet.Context.{Context}
-use Rattle.sequential_logger.specs.Event.{EventValue}
-use Rattle.ports.specs.declared.line.Line.{Line}
+use Rattle.event_logger.specs.Sequential.Event.{EventValue}
+use Rattle.matching.specs.declared.line.Line.{Line}
 use Rattle.ports.specs.Console.{after_line}
 use Rattle.rank_machine.specs.Acts.{Act, sends, prints}
 use Rattle.rank_machine.specs.declared.want.Want.{Want}

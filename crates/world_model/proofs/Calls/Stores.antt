@@ -3,14 +3,14 @@ use Rattle.std.proofs.Common.{◌≡◌, ◌≢◌, ℕ, zero, suc, ◌+◌, ◌
 use Rattle.std.proofs.Common.{ap, subst, ◌∙◌, arith, slice_get, slice_set, IsSomeAnd, option_map}
 use Rattle.std.proofs.lemmas.List.{append-nil}
 use Rattle.std.proofs.lemmas.Option.{slice_get_within}
-use Rattle.sequential_logger.specs.Event.{EventValue, event_of, finds_none, count_of}
-use Rattle.sequential_logger.specs.Misses.{parts_of}
-use Rattle.sequential_logger.specs.History.{Answers}
-use Rattle.sequential_logger.specs.declared.call.Call.TheVariants.{Append}
-use Rattle.sequential_logger.specs.declared.call.Reply.TheVariants.{Length}
-use Rattle.sequential_logger.specs.declared.kind.Kind.{Kind}
-use Rattle.sequential_logger.specs.declared.kind.Kind.TheVariants as kind
-use Rattle.sequential_logger.proofs.Misses.{one_part}
+use Rattle.event_logger.specs.Sequential.Event.{EventValue, event_of, finds_none, count_of}
+use Rattle.event_logger.specs.Sequential.Misses.{parts_of}
+use Rattle.event_logger.specs.Sequential.History.{Answers}
+use Rattle.event_logger.specs.declared.sequential.call.Call.TheVariants.{Append}
+use Rattle.event_logger.specs.declared.sequential.call.Reply.TheVariants.{Length}
+use Rattle.event_logger.specs.declared.sequential.kind.Kind.{Kind}
+use Rattle.event_logger.specs.declared.sequential.kind.Kind.TheVariants as kind
+use Rattle.event_logger.proofs.SequentialLaws.Misses.{one_part}
 use Rattle.rank_machine.specs.Acts.{Act, Message, sends, takes, hits, misses, prints}
 use Rattle.rank_node.specs.Storing.{next_unstored, Appends}
 use Rattle.crash_free.specs.Runs.{Passed, at_place, history, sent, looked_up, continue}

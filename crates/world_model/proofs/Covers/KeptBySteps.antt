@@ -1,9 +1,9 @@
 -- A step leaves what its rank keeps for others covered: of a rank that replays, and of one that runs.
 use Rattle.std.proofs.Common.{ℕ, Bool, true, false, if◌then◌else◌, List}
 use Rattle.std.proofs.Common.{Option, Some, None}
-use Rattle.sequential_logger.specs.Event.{EventValue}
-use Rattle.sequential_logger.specs.declared.kind.Kind.{Kind}
-use Rattle.sequential_logger.specs.declared.kind.Kind.TheVariants as kind
+use Rattle.event_logger.specs.Sequential.Event.{EventValue}
+use Rattle.event_logger.specs.declared.sequential.kind.Kind.{Kind}
+use Rattle.event_logger.specs.declared.sequential.kind.Kind.TheVariants as kind
 use Rattle.matching.specs.declared.packet.Context.{Context}
 use Rattle.matching.specs.PacketValue as packet
 use Rattle.payload_log.specs.Backlog.{backlog, saved, hold}

@@ -4,7 +4,7 @@ use Rattle.rank_language.specs.Program.{ProgramValue}
 use Rattle.rank_machine.specs.States as states
 use Rattle.rank_machine.specs.Acts.{Act}
 use Rattle.crash_free.specs.Runs.{Passed, history}
-use Rattle.final_runs.specs.Maximal.{MayFollow, IsMaximal}
+use Rattle.audit.specs.FinalRuns.Maximal.{MayFollow, IsMaximal}
 use Rattle.world_model.specs.declared.event.WorldEvent.{WorldEvent}
 use Rattle.world_model.specs.World.{Live, WorldValue, size, start_of}
 use Rattle.world_model.specs.Driven.{shelved, IsAlike, AreAlike, Alike}

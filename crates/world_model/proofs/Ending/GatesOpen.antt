@@ -8,11 +8,11 @@ use Rattle.std.proofs.lemmas.Option.{slice_get-get_or, slice_get_within}
 use Rattle.matching.specs.declared.packet.Context.{Context}
 use Rattle.matching.specs.PacketValue as packet
 use Rattle.payload_log.specs.Backlog.{backlog, new_backlog}
-use Rattle.sequential_logger.specs.Event.{EventValue, finds_none}
-use Rattle.sequential_logger.specs.Misses.{parts_of}
-use Rattle.sequential_logger.specs.History.{state_after, next_call}
-use Rattle.sequential_logger.specs.declared.call.Call.TheVariants.{Append}
-use Rattle.sequential_logger.specs.declared.call.Reply.TheVariants.{Length}
+use Rattle.event_logger.specs.Sequential.Event.{EventValue, finds_none}
+use Rattle.event_logger.specs.Sequential.Misses.{parts_of}
+use Rattle.event_logger.specs.Sequential.History.{state_after, next_call}
+use Rattle.event_logger.specs.declared.sequential.call.Call.TheVariants.{Append}
+use Rattle.event_logger.specs.declared.sequential.call.Reply.TheVariants.{Length}
 use Rattle.rank_machine.specs.declared.want.Want.{Want}
 use Rattle.rank_machine.specs.declared.want.Want.TheVariants as want
 use Rattle.rank_machine.specs.Wants.{wants, payload}

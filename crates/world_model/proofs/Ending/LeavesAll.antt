@@ -9,9 +9,9 @@ use Rattle.matching.specs.Inbox.{Mailbox, accepted_from, answer_to, after_arriva
 use Rattle.matching.specs.Matching.{matches}
 use Rattle.matching.specs.declared.inbox.Accept.TheVariants as accept
 use Rattle.matching.specs.declared.selector.Selector.{Selector}
-use Rattle.sequential_logger.specs.Event.{EventValue}
-use Rattle.sequential_logger.specs.declared.kind.Kind.{Kind}
-use Rattle.sequential_logger.specs.declared.kind.Kind.TheVariants as kind
+use Rattle.event_logger.specs.Sequential.Event.{EventValue}
+use Rattle.event_logger.specs.declared.sequential.kind.Kind.{Kind}
+use Rattle.event_logger.specs.declared.sequential.kind.Kind.TheVariants as kind
 use Rattle.rank_machine.specs.declared.want.Want.{Want}
 use Rattle.rank_machine.specs.declared.want.Want.TheVariants as want
 use Rattle.rank_machine.specs.Machine.{MachineValue, machine_want}
@@ -28,7 +28,7 @@ use Rattle.rank_node.specs.Waiting.{has_room}
 use Rattle.rank_node.specs.Steps.{at_index, found, turn_of, turn_at, after_step, step_at, received, probed, made_send, made_print}
 use Rattle.rank_node.specs.Replay.{named, is_now, is_before, named_turn, receive_turn, probe_turn, try_turn, replay_turn_at}
 use Rattle.rank_node.specs.Replay.{replayed_at, taken_named, shown_named, tried_named, uses_event, left_after, is_last}
-use Rattle.ports.specs.declared.line.Line.{Line}
+use Rattle.matching.specs.declared.line.Line.{Line}
 use Rattle.crash_free.specs.Runs.{Passed}
 use Rattle.world_model.specs.declared.event.WorldEvent.{WorldEvent}
 use Rattle.world_model.specs.declared.event.WorldEvent.TheVariants.{Step, Put, Arrive, Store, Ack, Image, Crash, Restart, Release}

@@ -16,7 +16,7 @@ use Rattle.rank_node.specs.declared.turn.Turn.TheVariants as turn
 use Rattle.rank_node.specs.Waiting.{has_room}
 use Rattle.rank_node.specs.Steps.{at_index, found, turn_at}
 use Rattle.crash_free.specs.Runs.{history, sent, sends_from, looked_up, MayMake}
-use Rattle.final_runs.specs.Maximal.{IsMaximal}
+use Rattle.audit.specs.FinalRuns.Maximal.{IsMaximal}
 use Rattle.world_model.specs.World.{Live, WorldValue, size, start_of}
 use Rattle.world_model.specs.Stands.{start_at}
 use Rattle.world_model.specs.Onward.{IsWorld}

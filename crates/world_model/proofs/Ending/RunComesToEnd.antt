@@ -5,8 +5,8 @@ use Rattle.std.proofs.lemmas.Bool.{cases_lt}
 use Rattle.std.proofs.lemmas.List.{length-append}
 use Rattle.std.proofs.lemmas.Option.{slice_get_within, slice_get-get_or}
 use Rattle.limits.specs.Limits.{greatest_clock, most_events}
-use Rattle.sequential_logger.specs.Event.{EventValue}
-use Rattle.sequential_logger.specs.Misses.{expand, parts_of}
+use Rattle.event_logger.specs.Sequential.Event.{EventValue}
+use Rattle.event_logger.specs.Sequential.Misses.{expand, parts_of}
 use Rattle.rank_node.specs.Waiting.{events_in}
 use Rattle.matching.specs.Inbox.{accepted_from}
 use Rattle.rank_language.specs.Program.{ProgramValue}
@@ -16,7 +16,7 @@ use Rattle.rank_machine.specs.Acts.{Act, Runs}
 use Rattle.rank_machine.specs.Machine.{state_of}
 use Rattle.rank_machine.proofs.Determined.{still, same_runs}
 use Rattle.crash_free.specs.Runs.{Passed, history, sent, sends_from, MayMake, IsRun}
-use Rattle.final_runs.specs.Maximal.{MayFollow, IsMaximal}
+use Rattle.audit.specs.FinalRuns.Maximal.{MayFollow, IsMaximal}
 use Rattle.world_model.specs.World.{Live, WorldValue, size, start_of, IsLive}
 use Rattle.world_model.specs.Rows.{row}
 use Rattle.world_model.specs.Plain.{plain, AllCounted}

@@ -11,7 +11,7 @@ use Rattle.matching.specs.Inbox.{accepted_from, answer_to}
 use Rattle.matching.specs.Matching.{matches}
 use Rattle.matching.specs.declared.inbox.Accept.TheVariants as accept
 use Rattle.payload_log.specs.Backlog.{backlog, next_of}
-use Rattle.sequential_logger.specs.Event.{EventValue}
+use Rattle.event_logger.specs.Sequential.Event.{EventValue}
 use Rattle.rank_machine.specs.declared.want.Want.{Want}
 use Rattle.rank_machine.specs.declared.want.Want.TheVariants as want
 use Rattle.rank_machine.specs.Machine.{machine_want}

@@ -6,12 +6,12 @@ use Rattle.std.proofs.Common.{Option, Some, None, length, slice_get, refl, sym, 
 use Rattle.std.specs.List.{list_any}
 use Rattle.std.proofs.lemmas.Bool.{cases_lt, lt-ltb, le-ltb, lt-leb}
 use Rattle.std.proofs.lemmas.Option.{slice_get_within}
-use Rattle.sequential_logger.specs.Event.{EventValue, event_of, first_clock}
-use Rattle.sequential_logger.specs.Misses.{misses_after, parts_of, expand, IsCounted, IsCountedAt}
-use Rattle.sequential_logger.specs.History.{above, last_clock}
-use Rattle.sequential_logger.specs.declared.kind.Kind.{Kind}
-use Rattle.sequential_logger.specs.declared.kind.Kind.TheVariants as kind
-use Rattle.sequential_logger.proofs.Misses.{misses_push, above_append}
+use Rattle.event_logger.specs.Sequential.Event.{EventValue, event_of, first_clock}
+use Rattle.event_logger.specs.Sequential.Misses.{misses_after, parts_of, expand, IsCounted, IsCountedAt}
+use Rattle.event_logger.specs.Sequential.History.{above, last_clock}
+use Rattle.event_logger.specs.declared.sequential.kind.Kind.{Kind}
+use Rattle.event_logger.specs.declared.sequential.kind.Kind.TheVariants as kind
+use Rattle.event_logger.proofs.SequentialLaws.Misses.{misses_push, above_append}
 use Rattle.rank_node.specs.Replay.{is_cut, cuts}
 use Rattle.crash_free.specs.Runs.{History}
 use Rattle.world_model.specs.Rows.{event_at, events_from, cons_some}

@@ -3,11 +3,11 @@
 use Rattle.std.proofs.Common.{◌≡◌, ℕ, zero, suc, ◌+◌, ◌-◌, ◌≤◌, true, List, [], ◌∷◌, ◌++◌}
 use Rattle.std.proofs.Common.{length, map, drop, refl, sym, ap, ◌∙◌, arith, append_assoc, slice_get}
 use Rattle.std.proofs.lemmas.List.{append-nil}
-use Rattle.sequential_logger.specs.Event.{EventValue, event_of, joined, finds_none}
-use Rattle.sequential_logger.specs.Misses.{parts_of, parts_at, expand, IsCounted, IsCountedAt, misses_after}
-use Rattle.sequential_logger.specs.declared.kind.Kind.{Kind}
-use Rattle.sequential_logger.specs.declared.kind.Kind.TheVariants as kind
-use Rattle.sequential_logger.proofs.Misses.{joined_parts}
+use Rattle.event_logger.specs.Sequential.Event.{EventValue, event_of, joined, finds_none}
+use Rattle.event_logger.specs.Sequential.Misses.{parts_of, parts_at, expand, IsCounted, IsCountedAt, misses_after}
+use Rattle.event_logger.specs.declared.sequential.kind.Kind.{Kind}
+use Rattle.event_logger.specs.declared.sequential.kind.Kind.TheVariants as kind
+use Rattle.event_logger.proofs.SequentialLaws.Misses.{joined_parts}
 use Rattle.rank_node.specs.declared.waiting.Waiting.{Waiting}
 use Rattle.rank_node.specs.declared.waiting.Waiting.TheVariants as waits
 use Rattle.rank_node.specs.Waiting.{events_in, effects, BeginsWithEvents, is_settled, expanded, ends_in_miss, joins}

@@ -5,11 +5,11 @@ use Rattle.std.proofs.lemmas.List.{append-nil, length_push}
 use Rattle.matching.specs.PacketValue as packet
 use Rattle.matching.specs.declared.packet.Context.{Context}
 use Rattle.limits.specs.Limits.{most_effects}
-use Rattle.sequential_logger.specs.Event.{EventValue, event_of}
-use Rattle.sequential_logger.specs.Misses.{parts_of, expand, IsCounted}
-use Rattle.sequential_logger.specs.History.{above}
-use Rattle.sequential_logger.specs.declared.kind.Kind.TheVariants as kind
-use Rattle.sequential_logger.proofs.NextParts.{part, next_part}
+use Rattle.event_logger.specs.Sequential.Event.{EventValue, event_of}
+use Rattle.event_logger.specs.Sequential.Misses.{parts_of, expand, IsCounted}
+use Rattle.event_logger.specs.Sequential.History.{above}
+use Rattle.event_logger.specs.declared.sequential.kind.Kind.TheVariants as kind
+use Rattle.event_logger.proofs.SequentialLaws.NextParts.{part, next_part}
 use Rattle.rank_machine.specs.declared.want.Want.{Want}
 use Rattle.rank_machine.specs.declared.want.Want.TheVariants as want
 use Rattle.rank_machine.specs.States.{State}
@@ -25,7 +25,7 @@ use Rattle.rank_node.specs.Steps.{step_at, turn_at, tried, found, after_send, af
 use Rattle.rank_node.specs.Steps.{received, probed}
 use Rattle.crash_free.specs.Runs.{Passed, history, sent, looked_up, continue}
 use Rattle.crash_free.proofs.Lists.{history-own}
-use Rattle.ports.specs.declared.line.Line.{Line}
+use Rattle.matching.specs.declared.line.Line.{Line}
 use Rattle.ports.specs.Console.{after_line}
 use Rattle.world_model.specs.World.{Rank, Live, unpassed}
 use Rattle.world_model.specs.Plain.{plainly, plain_rank, plain, RankRuns}

@@ -2,11 +2,11 @@
 use Rattle.std.proofs.Common.{◌≡◌, ℕ, zero, suc, ◌+◌, ◌<◌, ◌≤◌, ◌⊎◌, inl, inr, ⊎_elim, Bool, true, false, ◌&&◌, if◌then◌else◌, List, [], ◌∷◌}
 use Rattle.std.proofs.Common.{Some, Ok, length, drop, slice_get, slice_set, refl, sym, ap, subst, ◌∙◌, arith}
 use Rattle.std.proofs.lemmas.Bool.{cases_lt, and_parts, eqb-true, eq-eqb}
-use Rattle.sequential_logger.specs.Event.{EventValue}
-use Rattle.sequential_logger.specs.Misses.{expand, IsCounted}
-use Rattle.sequential_logger.specs.History.{above}
-use Rattle.sequential_logger.proofs.Misses.{left_goes_on, left_used_up}
-use Rattle.sequential_logger.proofs.NextParts.{part, part_fits, Fits as FitsPart}
+use Rattle.event_logger.specs.Sequential.Event.{EventValue}
+use Rattle.event_logger.specs.Sequential.Misses.{expand, IsCounted}
+use Rattle.event_logger.specs.Sequential.History.{above}
+use Rattle.event_logger.proofs.SequentialLaws.Misses.{left_goes_on, left_used_up}
+use Rattle.event_logger.proofs.SequentialLaws.NextParts.{part, part_fits, Fits as FitsPart}
 use Rattle.rank_machine.specs.declared.want.Want.{Want}
 use Rattle.rank_machine.specs.Machine.{MachineValue, machine_want}
 use Rattle.rank_node.specs.declared.turn.Turn.{Turn}

@@ -4,11 +4,11 @@ use Rattle.std.proofs.Common.{Option, Some, None, Result, Ok, Err, refl, sym, ap
 use Rattle.std.proofs.lemmas.Bool.{ltb-true}
 use Rattle.matching.specs.PacketValue as packet
 use Rattle.matching.specs.Matching.{matches}
-use Rattle.sequential_logger.specs.Event.{EventValue, event_of, first_clock}
-use Rattle.sequential_logger.specs.declared.kind.Kind.{Kind}
-use Rattle.sequential_logger.specs.declared.kind.Kind.TheVariants as kind
-use Rattle.sequential_logger.proofs.NextParts.{part, Fits as FitsPart}
-use Rattle.sequential_logger.proofs.RowLaws.{first_low}
+use Rattle.event_logger.specs.Sequential.Event.{EventValue, event_of, first_clock}
+use Rattle.event_logger.specs.declared.sequential.kind.Kind.{Kind}
+use Rattle.event_logger.specs.declared.sequential.kind.Kind.TheVariants as kind
+use Rattle.event_logger.proofs.SequentialLaws.NextParts.{part, Fits as FitsPart}
+use Rattle.event_logger.proofs.SequentialLaws.RowLaws.{first_low}
 use Rattle.rank_machine.specs.declared.want.Want.{Want}
 use Rattle.rank_machine.specs.declared.want.Want.TheVariants as want
 use Rattle.rank_machine.specs.Machine.{MachineValue}

@@ -1,8 +1,8 @@
 -- A world without runs of misses: its ranks are those of the world, each without runs.
 use Rattle.std.proofs.Common.{◌≡◌, ℕ, zero, suc, ◌≤◌, List, [], ◌∷◌, map, option_map, Option, Some, None, length, refl, sym, ap, subst, ◌∙◌, slice_get}
 use Rattle.std.proofs.Common.{slice_set}
-use Rattle.sequential_logger.specs.Event.{EventValue}
-use Rattle.sequential_logger.specs.Misses.{expand}
+use Rattle.event_logger.specs.Sequential.Event.{EventValue}
+use Rattle.event_logger.specs.Sequential.Misses.{expand}
 use Rattle.rank_node.specs.Waiting.{BeginsWithEvents}
 use Rattle.rank_node.proofs.Gates.{begins_within}
 use Rattle.world_model.specs.Rows.{row}

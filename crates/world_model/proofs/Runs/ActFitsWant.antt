@@ -3,8 +3,8 @@ use Rattle.std.proofs.Common.{◌≡◌, ℕ, ℤ, ◌+◌, ◌<◌, ◌⊎◌, 
 use Rattle.std.proofs.Common.{slice_get}
 use Rattle.std.proofs.lemmas.Bool.{cases_eq}
 use Rattle.matching.specs.declared.selector.Selector.{Selector}
-use Rattle.sequential_logger.specs.Event.{EventValue, event_of, first_clock}
-use Rattle.sequential_logger.specs.declared.kind.Kind.TheVariants as kind
+use Rattle.event_logger.specs.Sequential.Event.{EventValue, event_of, first_clock}
+use Rattle.event_logger.specs.declared.sequential.kind.Kind.TheVariants as kind
 use Rattle.rank_machine.specs.declared.fault.MachineFault.{MachineFault}
 use Rattle.rank_machine.specs.declared.want.Want.{Want}
 use Rattle.rank_machine.specs.declared.want.Want.TheVariants as want

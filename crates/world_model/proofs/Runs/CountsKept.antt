@@ -4,8 +4,8 @@ use Rattle.std.proofs.Common.{◌≡◌, ◌≢◌, ℕ, zero, suc, ◌+◌, ◌
 use Rattle.std.proofs.Common.{List, [], ◌∷◌, ◌++◌, Option, Some, None, length, drop, refl, sym, ap, subst, ◌∙◌, arith, slice_get}
 use Rattle.std.proofs.Common.{slice_set, slice_index_or}
 use Rattle.std.proofs.lemmas.Bool.{cases_lt, le-leb}
-use Rattle.sequential_logger.specs.Event.{EventValue}
-use Rattle.sequential_logger.specs.declared.call.Reply.TheVariants.{Length, Full, Order}
+use Rattle.event_logger.specs.Sequential.Event.{EventValue}
+use Rattle.event_logger.specs.declared.sequential.call.Reply.TheVariants.{Length, Full, Order}
 use Rattle.limits.specs.Limits.{most_events}
 use Rattle.rank_node.specs.Waiting.{events_in}
 use Rattle.rank_node.specs.declared.frame.Frame.{Frame}

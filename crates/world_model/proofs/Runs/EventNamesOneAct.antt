@@ -1,9 +1,9 @@
 -- An event names one act: the clocks of what a rank sent to another rise, so a source and a clock name one message.
 use Rattle.std.proofs.Common.{◌≡◌, ℕ, suc, ◌+◌, ◌≤◌, List, [], ◌∷◌, ◌++◌, Option, Some, None, length, refl, sym, ap, subst, ◌∙◌, arith, append_assoc}
 use Rattle.std.proofs.lemmas.List.{append_cancel_left, append-nil}
-use Rattle.sequential_logger.specs.Event.{EventValue, event_of}
-use Rattle.sequential_logger.specs.declared.kind.Kind.{Kind}
-use Rattle.sequential_logger.specs.declared.kind.Kind.TheVariants as kind
+use Rattle.event_logger.specs.Sequential.Event.{EventValue, event_of}
+use Rattle.event_logger.specs.declared.sequential.kind.Kind.{Kind}
+use Rattle.event_logger.specs.declared.sequential.kind.Kind.TheVariants as kind
 use Rattle.rank_machine.specs.Acts.{Act, Message, sends, takes, hits, misses, prints}
 use Rattle.crash_free.specs.Runs.{Passed, at_place, history, sent, looked_up, continue}
 use Rattle.crash_free.proofs.Clocks.{one_clock}

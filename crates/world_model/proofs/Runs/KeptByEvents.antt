@@ -4,10 +4,10 @@ use Rattle.std.proofs.Common.{Option, Some, None, length, drop, refl, sym, ap, s
 use Rattle.std.proofs.lemmas.List.{length-set, drop-append-le}
 use Rattle.matching.specs.Inbox.{after_arrival}
 use Rattle.matching.specs.PacketValue as packet
-use Rattle.sequential_logger.specs.Event.{EventValue, event_of, joined}
-use Rattle.sequential_logger.specs.Misses.{IsCounted}
-use Rattle.sequential_logger.specs.declared.kind.Kind.TheVariants as kind
-use Rattle.sequential_logger.proofs.Misses.{counted_joined}
+use Rattle.event_logger.specs.Sequential.Event.{EventValue, event_of, joined}
+use Rattle.event_logger.specs.Sequential.Misses.{IsCounted}
+use Rattle.event_logger.specs.declared.sequential.kind.Kind.TheVariants as kind
+use Rattle.event_logger.proofs.SequentialLaws.Misses.{counted_joined}
 use Rattle.rank_machine.specs.Machine.{MachineValue, machine_want}
 use Rattle.rank_machine.specs.declared.want.Want.{Want}
 use Rattle.rank_machine.specs.declared.want.Want.TheVariants as want

@@ -4,9 +4,9 @@ use Rattle.std.proofs.Common.{Option, Some, None, length, drop, sym, ap, subst, 
 use Rattle.std.proofs.lemmas.List.{length-set}
 use Rattle.std.proofs.lemmas.Option.{slice_get_within, slice_get-get_or}
 use Rattle.checkpoint.specs.Image.{ImageValue}
-use Rattle.sequential_logger.specs.Event.{EventValue}
-use Rattle.sequential_logger.specs.History.{above}
-use Rattle.sequential_logger.specs.Misses.{IsCounted}
+use Rattle.event_logger.specs.Sequential.Event.{EventValue}
+use Rattle.event_logger.specs.Sequential.History.{above}
+use Rattle.event_logger.specs.Sequential.Misses.{IsCounted}
 use Rattle.rank_node.specs.declared.waiting.Waiting.TheVariants as waits
 use Rattle.rank_node.specs.Waiting.{events_in}
 use Rattle.rank_node.specs.Image.{begins_at, image_of, after_image}

@@ -3,7 +3,7 @@ use Rattle.std.proofs.Common.{◌≡◌, ◌≢◌, ℕ, zero, suc, ◌+◌, ◌
 use Rattle.std.proofs.Common.{◌∷◌, Option, Some, None, length, drop, refl, sym, ap, subst, ◌∙◌, arith, slice_get}
 use Rattle.std.proofs.Common.{option_and_then}
 use Rattle.std.proofs.lemmas.List.{length-set}
-use Rattle.sequential_logger.specs.Event.{EventValue}
+use Rattle.event_logger.specs.Sequential.Event.{EventValue}
 use Rattle.payload_log.specs.Backlog.{BacklogValue}
 use Rattle.rank_node.specs.Storing.{after_ack}
 use Rattle.crash_free.specs.Runs.{Passed}

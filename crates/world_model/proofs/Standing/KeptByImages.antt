@@ -3,7 +3,7 @@ use Rattle.std.proofs.Common.{◌≡◌, ℕ, ◌<◌, ◌⊎◌, inl, inr, List
 use Rattle.std.proofs.lemmas.List.{length-set}
 use Rattle.std.proofs.lemmas.Option.{slice_get_within}
 use Rattle.checkpoint.specs.Image.{ImageValue}
-use Rattle.sequential_logger.specs.Event.{EventValue}
+use Rattle.event_logger.specs.Sequential.Event.{EventValue}
 use Rattle.rank_node.specs.Image.{image_of, begins_at, kepts_due, after_image}
 use Rattle.world_model.specs.declared.reply.Reply.{Reply}
 use Rattle.world_model.specs.World.{Live, WorldValue, size}

@@ -3,8 +3,8 @@
 use Rattle.std.proofs.Common.{◌≡◌, ℕ, ◌+◌, ◌<◌, ◌⊎◌, inl, inr, ⊎_elim, []}
 use Rattle.std.proofs.Common.{Option, Some, None, length, take, refl, sym, subst, ◌∙◌, slice_get}
 use Rattle.std.proofs.Common.{option_and_then, position}
-use Rattle.sequential_logger.specs.Event.{event_of}
-use Rattle.sequential_logger.specs.declared.kind.Kind.TheVariants as kind
+use Rattle.event_logger.specs.Sequential.Event.{event_of}
+use Rattle.event_logger.specs.declared.sequential.kind.Kind.TheVariants as kind
 use Rattle.matching.specs.declared.selector.Selector.{Selector}
 use Rattle.matching.specs.PacketValue as packet
 use Rattle.matching.specs.Matching.{matches}

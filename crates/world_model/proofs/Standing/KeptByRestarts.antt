@@ -3,11 +3,11 @@ use Rattle.std.proofs.Common.{◌≡◌, ℕ, ◌<◌, ◌≤◌, List, [], Opti
 use Rattle.std.proofs.Common.{slice_index_or}
 use Rattle.std.proofs.lemmas.List.{length-set}
 use Rattle.std.proofs.lemmas.Option.{slice_get_within, slice_get-get_or, get_or_from_slice_get}
-use Rattle.sequential_logger.specs.Event.{EventValue}
-use Rattle.sequential_logger.specs.Misses.{expand}
-use Rattle.sequential_logger.specs.History.{above}
-use Rattle.sequential_logger.specs.declared.call.Reply.TheVariants.{Events}
-use Rattle.sequential_logger.proofs.Misses.{left_of_row}
+use Rattle.event_logger.specs.Sequential.Event.{EventValue}
+use Rattle.event_logger.specs.Sequential.Misses.{expand}
+use Rattle.event_logger.specs.Sequential.History.{above}
+use Rattle.event_logger.specs.declared.sequential.call.Reply.TheVariants.{Events}
+use Rattle.event_logger.proofs.SequentialLaws.Misses.{left_of_row}
 use Rattle.matching.specs.Inbox.{accepted_from}
 use Rattle.payload_log.specs.Backlog.{new_backlog}
 use Rattle.crash_free.specs.Runs.{history}

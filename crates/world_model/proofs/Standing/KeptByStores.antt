@@ -3,10 +3,10 @@ use Rattle.std.proofs.Common.{◌≡◌, ℕ, zero, suc, ◌+◌, ◌<◌, ◌�
 use Rattle.std.proofs.Common.{refl, sym, ap, subst, ◌∙◌, arith, append_assoc, slice_get, slice_set, slice_index_or}
 use Rattle.std.proofs.lemmas.List.{append-nil, length-set}
 use Rattle.std.proofs.lemmas.Option.{slice_get_within, slice_get-get_or}
-use Rattle.sequential_logger.specs.Event.{EventValue}
-use Rattle.sequential_logger.specs.History.{StateValue}
-use Rattle.sequential_logger.specs.Misses.{parts_of, expand}
-use Rattle.sequential_logger.proofs.Misses.{expand_push}
+use Rattle.event_logger.specs.Sequential.Event.{EventValue}
+use Rattle.event_logger.specs.Sequential.History.{StateValue}
+use Rattle.event_logger.specs.Sequential.Misses.{parts_of, expand}
+use Rattle.event_logger.proofs.SequentialLaws.Misses.{expand_push}
 use Rattle.rank_machine.specs.Acts.{Act}
 use Rattle.rank_node.specs.Storing.{after_store}
 use Rattle.rank_node.specs.declared.waiting.Waiting.{Waiting}

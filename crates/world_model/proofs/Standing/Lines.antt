@@ -3,7 +3,7 @@ use Rattle.std.proofs.Common.{◌≡◌, ℕ, ℤ, ◌+◌, ◌≤◌, ◌⊎◌
 use Rattle.std.proofs.Common.{ap, subst, ◌∙◌, arith, if◌then◌else◌}
 use Rattle.std.proofs.lemmas.Bool.{eq-eqb, ne_eqb, cases_eq, lt-ltb}
 use Rattle.std.proofs.lemmas.List.{append-nil}
-use Rattle.ports.specs.declared.line.Line.{Line}
+use Rattle.matching.specs.declared.line.Line.{Line}
 use Rattle.ports.specs.Console.{is_new, after_line}
 use Rattle.rank_machine.specs.Acts.{Act, sends, takes, hits, misses, prints}
 use Rattle.crash_free.specs.Runs.{Passed, History, cons_if, history, printed, prints_from, print_at}

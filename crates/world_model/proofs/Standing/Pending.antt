@@ -3,7 +3,7 @@
 use Rattle.std.proofs.Common.{◌≡◌, ℕ, zero, suc, ◌+◌, ◌<◌, List, [], ◌∷◌, ◌++◌, Some, None, length, refl, sym, ap, subst, ◌∙◌}
 use Rattle.std.proofs.Common.{append_assoc, arith, slice_get}
 use Rattle.std.proofs.lemmas.List.{append-nil}
-use Rattle.sequential_logger.specs.Event.{EventValue}
+use Rattle.event_logger.specs.Sequential.Event.{EventValue}
 use Rattle.rank_machine.specs.States.{State}
 use Rattle.rank_machine.specs.Wants.{wants, payload}
 use Rattle.rank_machine.specs.Acts.{Act, sends, takes, hits, misses, prints}

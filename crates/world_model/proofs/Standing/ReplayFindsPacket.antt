@@ -8,10 +8,10 @@ use Rattle.matching.specs.declared.selector.Selector.{Selector}
 use Rattle.matching.specs.PacketValue as packet
 use Rattle.matching.specs.Matching.{matches, is_named}
 use Rattle.matching.specs.Inbox.{Mailbox}
-use Rattle.sequential_logger.specs.Event.{EventValue, event_of, first_clock}
-use Rattle.sequential_logger.proofs.RowLaws.{first_low}
-use Rattle.sequential_logger.specs.declared.kind.Kind.{Kind}
-use Rattle.sequential_logger.specs.declared.kind.Kind.TheVariants as kind
+use Rattle.event_logger.specs.Sequential.Event.{EventValue, event_of, first_clock}
+use Rattle.event_logger.proofs.SequentialLaws.RowLaws.{first_low}
+use Rattle.event_logger.specs.declared.sequential.kind.Kind.{Kind}
+use Rattle.event_logger.specs.declared.sequential.kind.Kind.TheVariants as kind
 use Rattle.rank_machine.specs.declared.want.Want.TheVariants as want
 use Rattle.rank_machine.specs.Acts.{Message, carried, Matches}
 use Rattle.rank_node.specs.declared.fault.NodeFault.TheVariants as fault

@@ -8,9 +8,9 @@ use Rattle.matching.specs.declared.selector.Selector.{Selector}
 use Rattle.matching.specs.PacketValue as packet
 use Rattle.matching.specs.Inbox.{Mailbox, without}
 use Rattle.payload_log.specs.Backlog.{BacklogValue, backlog, saved}
-use Rattle.sequential_logger.specs.Event.{EventValue, event_of}
-use Rattle.sequential_logger.specs.declared.kind.Kind.{Kind}
-use Rattle.sequential_logger.specs.declared.kind.Kind.TheVariants as kind
+use Rattle.event_logger.specs.Sequential.Event.{EventValue, event_of}
+use Rattle.event_logger.specs.declared.sequential.kind.Kind.{Kind}
+use Rattle.event_logger.specs.declared.sequential.kind.Kind.TheVariants as kind
 use Rattle.rank_machine.specs.declared.want.Want.{Want}
 use Rattle.rank_machine.specs.declared.want.Want.TheVariants as want
 use Rattle.rank_machine.specs.declared.fault.MachineFault.{MachineFault}

@@ -16,7 +16,7 @@ use Rattle.crash_free.proofs.Lists.{sends_from-push}
 use Rattle.world_model.specs.World.{Rank}
 use Rattle.world_model.specs.Stands.{LogStands, LogsStand}
 use Rattle.world_model.proofs.Lists.Replaced.{replaced_keeps}
-use Rattle.sequential_logger.specs.Event.{EventValue}
+use Rattle.event_logger.specs.Sequential.Event.{EventValue}
 use Rattle.world_model.specs.Rows.{events_from}
 use Rattle.world_model.proofs.Lists.Beginnings.{take_length, drop_beyond}
 use Rattle.world_model.proofs.Standing.PayloadLogs.{LogStands-saved}

@@ -4,11 +4,11 @@ use Rattle.std.proofs.Common.{◌++◌, Option, Some, None, length, take, drop, 
 use Rattle.std.proofs.Common.{position}
 use Rattle.std.proofs.lemmas.Bool.{cases_lt}
 use Rattle.std.proofs.lemmas.List.{length-set}
-use Rattle.sequential_logger.specs.Event.{EventValue}
+use Rattle.event_logger.specs.Sequential.Event.{EventValue}
 use Rattle.matching.specs.declared.packet.Context.{Context}
 use Rattle.matching.specs.Matching.{matches}
 use Rattle.payload_log.specs.Backlog.{BacklogValue, backlog, saved}
-use Rattle.ports.specs.declared.line.Line.{Line}
+use Rattle.matching.specs.declared.line.Line.{Line}
 use Rattle.ports.specs.Console.{after_line}
 use Rattle.rank_machine.specs.States.{inner}
 use Rattle.rank_machine.specs.Wants.{wants, payload}

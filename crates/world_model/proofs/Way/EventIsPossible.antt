@@ -11,12 +11,12 @@ use Rattle.matching.specs.declared.selector.Selector.{Selector}
 use Rattle.matching.specs.Inbox.{answer_to}
 use Rattle.matching.specs.Matching.{matches}
 use Rattle.matching.specs.PacketValue as packet
-use Rattle.sequential_logger.specs.Event.{EventValue}
-use Rattle.sequential_logger.specs.History.{above, row, state_after, next_call}
-use Rattle.sequential_logger.specs.declared.call.Call.TheVariants.{Fetch}
-use Rattle.sequential_logger.specs.declared.call.Reply.TheVariants.{Events}
-use Rattle.sequential_logger.specs.declared.kind.Kind.{Kind}
-use Rattle.sequential_logger.specs.declared.kind.Kind.TheVariants as kind
+use Rattle.event_logger.specs.Sequential.Event.{EventValue}
+use Rattle.event_logger.specs.Sequential.History.{above, row, state_after, next_call}
+use Rattle.event_logger.specs.declared.sequential.call.Call.TheVariants.{Fetch}
+use Rattle.event_logger.specs.declared.sequential.call.Reply.TheVariants.{Events}
+use Rattle.event_logger.specs.declared.sequential.kind.Kind.{Kind}
+use Rattle.event_logger.specs.declared.sequential.kind.Kind.TheVariants as kind
 use Rattle.rank_language.specs.Block.{lines_at}
 use Rattle.rank_language.specs.Program.{ProgramValue, block_of}
 use Rattle.rank_machine.specs.declared.want.Want.{Want}

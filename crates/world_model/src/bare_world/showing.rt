@@ -1,14 +1,14 @@
 //! Ranks, rows and wires, to be looked at.
 ghost use Rattle.std.specs.Prelude.{◌≡◌, ◌<◌, length};
-ghost use Rattle.sequential_logger.specs.History.{row};
+ghost use Rattle.event_logger.specs.Sequential.History.{row};
 ghost use Rattle.world_model.specs.Shown.{IsPhaseOf};
 ghost use Rattle.world_model.specs.Wires.{HasWire, wire_of};
 
 use crate::bare_world::BareWorld;
 use checkpoint::MemoryShelf;
+use event_logger::Event;
 use rank_language::Program;
 use rank_node::{Frame, Phase};
-use sequential_logger::Event;
 
 impl<'p> BareWorld<'p> {
     /// The program of the ranks.

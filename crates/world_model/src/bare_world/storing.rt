@@ -4,7 +4,7 @@ ghost use Rattle.std.specs.Prelude.{◌≡◌, ◌+◌, ◌<◌, false, length, 
 use crate::bare_world::BareWorld;
 use crate::reply::Reply;
 use crash_free::{Act, Passed};
-use sequential_logger::{Event, Kind};
+use event_logger::{Event, Kind};
 use std::alloc::AllocError;
 
 impl<'p> BareWorld<'p> {
@@ -15,7 +15,7 @@ impl<'p> BareWorld<'p> {
     ghost use Rattle.world_model.specs.Follows.{CanNot, Follows};
     ghost use Rattle.world_model.specs.Rows.{event_at};
     ghost use Rattle.world_model.specs.RunIndex.{clock_at};
-    ghost use Rattle.sequential_logger.specs.Event.{finds_none};
+    ghost use Rattle.event_logger.specs.Sequential.Event.{finds_none};
     ghost use Rattle.world_model.specs.Seats.{AtRank, NotedAs, with_run};
     ghost use Rattle.world_model.specs.Stands.{Stands};
 

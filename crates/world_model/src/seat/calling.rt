@@ -6,13 +6,13 @@ ghost use Rattle.rank_node.specs.Frames.{outgoing_of, after_passed, arrival_of, 
 ghost use Rattle.world_model.specs.Seats.{IfLive, with_live, with_rank_value};
 
 use crate::seat::Seat;
+use event_logger::LoggerState;
 use ports::ConsoleState;
 use rank_node::{Arrived, Frame, Phase};
-use sequential_logger::LoggerState;
 use std::alloc::AllocError;
 
 impl<'p> Seat<'p> {
-    ghost use Rattle.sequential_logger.specs.declared.call.Reply.TheVariants.{Length};
+    ghost use Rattle.event_logger.specs.declared.sequential.call.Reply.TheVariants.{Length};
     ghost use Rattle.rank_node.specs.Storing.{next_unstored, after_store, after_ack, Appends};
     ghost use Rattle.rank_node.specs.Releasing.{next_effect, released, ShowsEffect};
     ghost use Rattle.rank_node.specs.Waiting.{effect_clock};

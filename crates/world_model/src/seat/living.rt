@@ -9,10 +9,10 @@ ghost use Rattle.world_model.specs.Seats.{with_live, IsRestarted};
 use crate::occupant::{put, take};
 use crate::seat::Seat;
 use checkpoint::MemoryShelf;
+use event_logger::Event;
 use limits::Heap;
 use rank_language::Program;
 use rank_node::{Down, NodeFault, Phase};
-use sequential_logger::Event;
 use std::alloc::AllocError;
 
 impl<'p> Seat<'p> {

@@ -6,8 +6,8 @@ ghost use Rattle.rank_node.specs.Replay.{cuts};
 ghost use Rattle.world_model.specs.Seats.{RestartsRank, SetsRank};
 
 use crate::seats::Seats;
+use event_logger::Event;
 use limits::Heap;
-use sequential_logger::Event;
 use std::alloc::AllocError;
 
 impl<'p> Seats<'p> {

@@ -5,8 +5,8 @@ ghost use Rattle.std.specs.Bool.{OnTrue, OnFalse};
 ghost use Rattle.world_model.specs.Seats.{AtRank, CallsRank, ChangesRank, IsAccepted, IsAcked, IsReleased, IsStored};
 
 use crate::seats::Seats;
+use event_logger::LoggerState;
 use ports::ConsoleState;
-use sequential_logger::LoggerState;
 use std::alloc::AllocError;
 
 impl<'p> Seats<'p> {

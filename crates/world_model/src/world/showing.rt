@@ -1,16 +1,16 @@
 //! What can be looked at in a world beside its console and its run: the ranks,
 //! the rows at the event logger and the wires.
 ghost use Rattle.std.specs.Prelude.{◌≡◌, ◌<◌};
-ghost use Rattle.sequential_logger.specs.History.{row};
+ghost use Rattle.event_logger.specs.Sequential.History.{row};
 ghost use Rattle.world_model.specs.Shown.{IsPhaseOf};
 ghost use Rattle.world_model.specs.Wires.{wire_of};
 ghost use Rattle.world_model.specs.World.{size};
 
 use crate::world::World;
 use checkpoint::MemoryShelf;
+use event_logger::Event;
 use rank_language::Program;
 use rank_node::{Frame, Phase};
-use sequential_logger::Event;
 
 impl<'p> World<'p> {
     /// The program of the ranks.

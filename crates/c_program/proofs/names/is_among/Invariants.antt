@@ -1,5 +1,5 @@
 use Rattle.std.proofs.Common.{◌≡◌, map, drop}
-use Rattle.rank_checker.specs.Scope.{is_name_in}
+use Rattle.rank_text.specs.Checker.Scope.{is_name_in}
 use Rattle.c_program.proofs.names.is_among.Given as goal
 
 -- none of the words so far is the word

@@ -1,5 +1,5 @@
 use Rattle.std.proofs.Common.{◌≡◌, ◌++◌, drop}
-use Rattle.rank_checker.specs.SeenLines.{forms_seen}
+use Rattle.rank_text.specs.Checker.SeenLines.{forms_seen}
 use Rattle.c_program.specs.Translation.{c_members}
 use Rattle.c_program.proofs.program.members_of.Given as goal
 

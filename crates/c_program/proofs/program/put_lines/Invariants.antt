@@ -1,5 +1,5 @@
 use Rattle.std.proofs.Common.{◌≡◌, ◌+◌, ◌≤◌, ◌++◌, length}
-use Rattle.rank_checker.specs.SeenLines.{forms_seen}
+use Rattle.rank_text.specs.Checker.SeenLines.{forms_seen}
 use Rattle.c_program.specs.Translation.{c_lines}
 use Rattle.c_program.proofs.program.put_lines.Given as goal
 

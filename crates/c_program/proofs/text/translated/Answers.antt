@@ -1,5 +1,5 @@
 use Rattle.std.proofs.lemmas.Result.{IfOk-weaker}
-use Rattle.rank_checker.specs.SeenLines.{forms_seen}
+use Rattle.rank_text.specs.Checker.SeenLines.{forms_seen}
 use Rattle.c_program.specs.Whole.{IsCText, c_text}
 use Rattle.c_program.proofs.Whole.{is_c_text}
 use Rattle.std.proofs.Common.{◌≡◌}

@@ -1,5 +1,5 @@
 use Rattle.std.proofs.lemmas.Result.{err_from_is_err_and}
-use Rattle.rank_checker.specs.SeenLines.{arrays_seen}
+use Rattle.rank_text.specs.Checker.SeenLines.{arrays_seen}
 use Rattle.checkpoint.specs.Reading.{lengths_at}
 use Rattle.checkpoint.proofs.Arrays.{lengths_on, lengths_end}
 use Rattle.checkpoint.proofs.read_machine.lengths_of.Goals as goal

@@ -1,5 +1,5 @@
 use Rattle.std.proofs.Common.{◌≡◌, ◌++◌, string_bytes}
-use Rattle.events_text.specs.Output.{ranks_text}
+use Rattle.world_model.specs.EventsText.Output.{ranks_text}
 use Rattle.core_runner.proofs.output.print_lines.Given as goal
 
 -- the lines of the ranks so far are written

@@ -1,6 +1,6 @@
 use Rattle.std.proofs.Common.{◌≡◌, ◌++◌, length, string_bytes}
 use Rattle.audit.specs.Outcome.{lines_of}
-use Rattle.events_text.specs.Output.{printed_text}
+use Rattle.world_model.specs.EventsText.Output.{printed_text}
 use Rattle.core_runner.proofs.output.print_lines_of.Given as goal
 
 -- what is written and the rank's lines that are left are the whole

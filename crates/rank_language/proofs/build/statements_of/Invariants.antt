@@ -1,5 +1,5 @@
 use Rattle.std.proofs.Common.{◌≡◌, ◌≤◌, length, Some, drop, map, reverse}
-use Rattle.rank_checker.specs.SeenLines.{forms_seen}
+use Rattle.rank_text.specs.Checker.SeenLines.{forms_seen}
 use Rattle.rank_language.specs.Ends.{ends_from, lines_from}
 use Rattle.rank_language.specs.Seen.{line_of}
 use Rattle.rank_language.specs.SeenTables.{tables_seen}

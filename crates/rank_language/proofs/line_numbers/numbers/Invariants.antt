@@ -1,5 +1,5 @@
 use Rattle.std.proofs.Common.{◌≡◌, ◌+◌, ◌≤◌, ◌++◌, length}
-use Rattle.text_lines.specs.Pieces.{pieces_of}
+use Rattle.rank_text.specs.Lines.Pieces.{pieces_of}
 use Rattle.rank_language.specs.LineNumbers.{numbers_from}
 use Rattle.rank_language.proofs.line_numbers.numbers.Given as goal
 

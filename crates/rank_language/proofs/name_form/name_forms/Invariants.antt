@@ -1,5 +1,5 @@
 use Rattle.std.proofs.Common.{◌≡◌, map, take}
-use Rattle.rank_checker.specs.SeenLines.{forms_seen}
+use Rattle.rank_text.specs.Checker.SeenLines.{forms_seen}
 use Rattle.rank_language.specs.SeenTables.{tables_seen}
 use Rattle.rank_language.proofs.Naming.{statement_named}
 use Rattle.rank_language.proofs.name_form.name_forms.Given as goal

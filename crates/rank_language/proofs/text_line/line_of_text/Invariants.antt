@@ -1,5 +1,5 @@
 use Rattle.std.proofs.Common.{◌≡◌, ◌-◌, length, slice_get}
-use Rattle.text_lines.specs.Pieces.{pieces_of}
+use Rattle.rank_text.specs.Lines.Pieces.{pieces_of}
 use Rattle.rank_language.proofs.text_line.line_of_text.Given as goal
 
 -- the line stands among those of the rest

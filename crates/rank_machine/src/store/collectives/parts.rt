@@ -1,7 +1,7 @@
 //! The parts of a call: from which other rank a rank gets, and to which it gives, one after
 //! another.
 ghost use Rattle.std.specs.Prelude.{◌≡◌, ◌<◌, ◌+◌, ◌^◌, Some, length, slice_get, slice_index_or};
-ghost use Rattle.rank_grammar.specs.declared.token.Reduction.TheVariants.{Sum};
+ghost use Rattle.rank_text.specs.declared.grammar.token.Reduction.TheVariants.{Sum};
 ghost use Rattle.rank_machine.specs.Collectives.{barriers, broadcasts, folds, others, ends, parts_among, part_of, is_last, parts_of};
 ghost use Rattle.rank_machine.specs.Calling.{part_seen, IsPartBelow, head_of};
 

@@ -1,5 +1,5 @@
 use Rattle.std.proofs.Common.{◌≡◌, length}
-use Rattle.script_text.specs.Script.{orders_of}
+use Rattle.rank_text.specs.Scripts.Script.{orders_of}
 use Rattle.run_events.proofs.scripted.are_lines_of.Given as goal
 
 -- it comes down to those that are left

@@ -1,5 +1,5 @@
 use Rattle.std.proofs.Common.{◌≡◌, ℕ, ◌<◌, ◌-◌}
-use Rattle.script_text.specs.Script.{orders_of}
+use Rattle.rank_text.specs.Scripts.Script.{orders_of}
 use Rattle.run_events.specs.Scripted.{used_lines}
 use Rattle.run_events.proofs.scripted.are_used.Given as goal
 

@@ -1,6 +1,6 @@
 use Rattle.std.proofs.Common.{◌+◌, ◌++◌, ◌∷◌, [], ◌∙◌, take, sym, ap, arith}
 use Rattle.limits.specs.Limits.{greatest_clock}
-use Rattle.sequential_logger.specs.Event.{count_of}
+use Rattle.event_logger.specs.Sequential.Event.{count_of}
 use Rattle.audit.specs.Counts.{ends_from}
 use Rattle.audit.proofs.Counting.{counted_more, too_many}
 use Rattle.audit.proofs.counts.Counts.of.Goals as goal

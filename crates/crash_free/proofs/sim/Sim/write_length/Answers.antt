@@ -1,5 +1,5 @@
 use Rattle.std.proofs.Common.{length, refl, subst}
-use Rattle.live_variables.specs.Live.{Table, IsTableOf}
+use Rattle.crash_free.specs.LiveVariables.Live.{Table, IsTableOf}
 use Rattle.crash_free.specs.Standing.{rows_of, StandsAt}
 use Rattle.crash_free.proofs.SameRows.{stands_at}
 use Rattle.crash_free.proofs.sim.Sim.write_length.Goals as goal

@@ -1,5 +1,5 @@
 use Rattle.std.proofs.Common.{◌≡◌, [], Some, map}
-use Rattle.rank_checker.specs.SeenLines.{arrays_seen, forms_seen}
+use Rattle.rank_text.specs.Checker.SeenLines.{arrays_seen, forms_seen}
 use Rattle.rank_language.specs.Seen.{line_of}
 use Rattle.rank_language.specs.Program.{program_value}
 use Rattle.rank_language.specs.Ends.{lines_from}

@@ -1,5 +1,5 @@
 use Rattle.std.proofs.Common.{rules, ◌≡◌, IfOk}
-use Rattle.rank_printer.specs.Canonical.{program_text}
+use Rattle.rank_text.specs.Printer.Canonical.{program_text}
 use Rattle.rank_language.specs.Correct.{IsProgram}
 use Rattle.rank_language.specs.Named.{forms_of}
 use Rattle.rank_language.proofs.Printed.{printed_result}

@@ -1,7 +1,7 @@
 use Rattle.std.proofs.Common.{◌≡◌, ◌∷◌, false, ap, ◌∙◌}
 use Rattle.crash_free.specs.Seen.{act_of}
 use Rattle.crash_free.specs.Runs.{Passed}
-use Rattle.sequential_logger.specs.Event.{finds_none}
+use Rattle.event_logger.specs.Sequential.Event.{finds_none}
 use Rattle.world_model.proofs.Calls.Stores.{noted_one}
 use Rattle.world_model.proofs.bare_world.BareWorld.note.Goals as goal
 

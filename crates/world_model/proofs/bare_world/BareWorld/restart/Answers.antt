@@ -1,7 +1,7 @@
 use Rattle.std.proofs.Common.{◌≡◌, length, Option, Some, None, ap, subst, ◌∙◌, slice_get, slice_set, IsSomeAnd, false, sym}
-use Rattle.sequential_logger.specs.History.{Answers}
-use Rattle.sequential_logger.specs.declared.call.Call.TheVariants.{Fetch}
-use Rattle.sequential_logger.specs.declared.call.Reply.TheVariants.{Events}
+use Rattle.event_logger.specs.Sequential.History.{Answers}
+use Rattle.event_logger.specs.declared.sequential.call.Call.TheVariants.{Fetch}
+use Rattle.event_logger.specs.declared.sequential.call.Reply.TheVariants.{Events}
 use Rattle.rank_node.specs.Image.{begins_at}
 use Rattle.rank_node.specs.Replay.{left_of, cuts}
 use Rattle.world_model.specs.World.{Live, WorldValue}

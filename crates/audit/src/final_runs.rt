@@ -1,0 +1,10 @@
+//! Outcomes of runs without crashes in which no rank can go on: which reports
+//! are final, validated after the fact.
+mod confirming;
+mod fault;
+mod outcome;
+mod stalled;
+
+pub use confirming::{Final, confirm};
+pub use fault::FinalFault;
+pub use outcome::{RankEnd, has_lines, outcome_of};

@@ -1,0 +1,48 @@
+//! Whether an outcome is that of a run without crashes, and final: validation
+//! after the fact, by a certifying checker.
+ghost use Rattle.std.specs.Prelude.{◌≤◌, IfOk, IfErr};
+ghost use Rattle.limits.specs.Limits.{most_ranks};
+ghost use Rattle.audit.specs.Reachable.{IsReachable};
+ghost use Rattle.audit.specs.FinalRuns.Final.{IsFinal, IsWhy, NoneIsUnfinished, seen_of};
+ghost use Rattle.audit.specs.FinalRuns.Maximal.{IsPossible};
+
+use crate::final_runs::fault::FinalFault;
+use crate::final_runs::stalled::not_stalled;
+use crate::{Outcome, find_run};
+use limits::Heap;
+use rank_language::Program;
+
+/// That an outcome is one of a run without crashes, in which each rank reported
+/// as stalled has stalled.
+#[derive(Clone, Copy, Debug, PartialEq, Eq)]
+pub struct Final;
+
+/// Audits the outcome, and says yes only if each rank reported as stalled has,
+/// too, no message in the run that it waits for. What an unfinished rank sent
+/// isn't looked at: the run may have more of that than was sent.
+///
+/// So if no rank is unfinished, the outcome is one that the program can come to
+/// at an end. It takes an audit, and of each such rank a look at what each
+/// other sent it.
+pub fn confirm(
+    alloc: Heap,
+    program: &Program,
+    ranks: u8,
+    outcome: &Outcome,
+    steps: u32,
+) -> Result<Final, FinalFault>
+    requires some { 1 ≤ ranks }
+    requires few { ranks ≤ most_ranks }
+    ensures ok { IfOk result (λ _. IsFinal program.now ranks outcome.now) }
+    ensures possible { IfOk result (λ _. NoneIsUnfinished outcome.now.ends → IsPossible program.now ranks (seen_of outcome.now)) }
+    ensures within { IfOk result (λ _. IsReachable program.now ranks outcome.now steps) }
+    ensures err { IfErr result (λ fault. IsWhy program.now ranks outcome.now steps fault) }
+{
+    match find_run(alloc, program, ranks, outcome, steps) {
+        Ok(run) => match not_stalled(&run, outcome.ends.as_slice()) {
+            None => Ok(Final),
+            Some(rank) => Err(FinalFault::FalseStall(rank)),
+        },
+        Err(fault) => Err(FinalFault::Audit(fault)),
+    }
+}

@@ -1,2 +1,0 @@
-pub mod Judging
-mod Telling

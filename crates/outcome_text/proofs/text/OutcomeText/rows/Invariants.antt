@@ -1,7 +1,0 @@
-use Rattle.std.proofs.Common.{◌≡◌, map}
-use Rattle.outcome_text.specs.Outcomes.{rows_to}
-use Rattle.outcome_text.proofs.text.OutcomeText.rows.Given as goal
-
--- the rows of the ranks so far
-abbrev pub invariant-loop-rank : goal.invariant-loop-rank
-invariant-loop-rank l = map (λ row. row.items) l.rows.items ≡ rows_to l.rank l.self.entries

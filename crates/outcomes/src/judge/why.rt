@@ -1,0 +1,212 @@
+//! Why an outcome is that of no run, and where.
+ghost use Rattle.std.specs.Prelude.{◌≤◌, IfOk, string_bytes};
+ghost use Rattle.outcomes.specs.Judge.Judged.{IsNoText};
+ghost use Rattle.limits.specs.Limits.{most_ranks};
+
+use crate::judge::could::put_could;
+use crate::judge::follower::Follower;
+use crate::text::OutcomeText;
+use audit::final_runs::FinalFault;
+use audit::{AuditFault, End, Outcome};
+use limits::Heap;
+use rank_language::{Program, line_of_text};
+use rank_machine::Want;
+use std::alloc::AllocError;
+use std::fmt::Write;
+
+/// What was asked: whether a run of the program on so many ranks, each with so
+/// many steps, has the outcome of a text.
+#[derive(Clone, Copy)]
+pub struct Asked<'a> {
+    pub program: &'a Program,
+    /// The text of the program.
+    pub text: &'a [u8],
+    /// For each statement, by its position, the line of the text that it stands on.
+    pub lines: &'a [usize],
+    pub ranks: u8,
+    pub steps: u32,
+    pub outcome: &'a Outcome,
+    pub read: &'a OutcomeText,
+    /// The text of the outcome.
+    pub outcome_text: &'a [u8],
+    pub ghost some_rank: { 1 ≤ ranks },
+    pub ghost few_ranks: { ranks ≤ most_ranks },
+}
+
+/// What of the outcome a rank doesn't come to.
+#[derive(Clone, Copy, PartialEq, Eq)]
+enum Missed {
+    /// Its act of this clock, which it may make once another rank goes on.
+    Awaited(u32),
+    /// Its act of this clock.
+    Act(u32),
+    /// How it ended.
+    End,
+}
+
+/// `no`, the reason in words, and where the outcome and the program depart: of
+/// the rank that the audit names, its line of the outcome, the statement at
+/// which it stands, and the lines that could stand there instead.
+///
+/// Where a rank may only wait for another, each such rank is shown.
+#[tactic(auto, using(crate::proofs::JudgeLaws::Telling::is_no_text))]
+pub fn why_text(alloc: Heap, asked: &Asked<'_>, why: FinalFault) -> Result<String<Heap>, AllocError>
+    ensures { IfOk result (λ text. IsNoText (string_bytes text)) }
+{
+    let reason = reason_text(alloc, asked, why)?;
+    let mut text = String::from_str(alloc, "no\n")?;
+    text.push_str(reason.as_str())?;
+    Ok(text)
+}
+
+// What stands behind the `no`. It is a text of its own, so that whatever it is, the first line stays as it is.
+fn reason_text(
+    alloc: Heap,
+    asked: &Asked<'_>,
+    why: FinalFault,
+) -> Result<String<Heap>, AllocError> {
+    let mut text = String::new(alloc);
+    put_reason(&mut text, why)?;
+    let follower = Follower::new(
+        alloc,
+        asked.program,
+        asked.ranks,
+        asked.outcome,
+        asked.steps,
+    )?;
+    match why {
+        FinalFault::FalseStall(rank) => put_rank(&mut text, asked, &follower, rank, Missed::End)?,
+        FinalFault::Audit(_) => put_ranks(&mut text, asked, &follower)?,
+    }
+    Ok(text)
+}
+
+fn put_reason(to: &mut String<Heap>, why: FinalFault) -> Result<(), AllocError> {
+    match why {
+        FinalFault::Audit(fault) => {
+            let number = fault.number();
+            writeln!(to, "audit fault {number}: {fault}")
+        }
+        FinalFault::FalseStall(rank) => writeln!(to, "rank {rank}: false stall"),
+    }
+}
+
+// The lowest rank that others may wait for, or each of those that may wait.
+fn put_ranks(
+    to: &mut String<Heap>,
+    asked: &Asked<'_>,
+    follower: &Follower<'_, '_>,
+) -> Result<(), AllocError> {
+    for rank in 0..asked.ranks {
+        match missed_by(asked, follower, rank) {
+            Some(Missed::Awaited(_)) | None => {}
+            Some(missed) => return put_rank(to, asked, follower, rank, missed),
+        }
+    }
+    for rank in 0..asked.ranks {
+        if let Some(missed) = missed_by(asked, follower, rank) {
+            put_rank(to, asked, follower, rank, missed)?;
+        }
+    }
+    Ok(())
+}
+
+// What of the outcome the rank doesn't come to, if it doesn't: the first of it.
+fn missed_by(asked: &Asked<'_>, follower: &Follower<'_, '_>, rank: u8) -> Option<Missed> {
+    let event = follower
+        .next_event(rank)
+        .map(|event| event.receiver_clock());
+    let line = follower.next_line(rank).map(|line| line.clock);
+    let want = follower.wants(rank);
+    match (event, line) {
+        (Some(event), line) => {
+            let clock = line.map_or(event, |line| line.min(event));
+            if is_of_message(want) && follower.left(rank) > 0 {
+                Some(Missed::Awaited(clock))
+            } else {
+                Some(Missed::Act(clock))
+            }
+        }
+        (None, Some(clock)) => Some(Missed::Act(clock)),
+        (None, None) => {
+            let outcome = asked.outcome;
+            let end = outcome.ends.get(usize::from(rank)).copied();
+            if may_want(end, want) {
+                None
+            } else {
+                Some(Missed::End)
+            }
+        }
+    }
+}
+
+// Whether it is a receive or a probe.
+fn is_of_message(want: Want) -> bool {
+    match want {
+        Want::Receive(_) | Want::Probe(_) | Want::TryProbe(_) => true,
+        Want::Internal | Want::Send { .. } | Want::Print(_) | Want::Halted | Want::Faulted(_) =>
+            false,
+    }
+}
+
+fn may_want(end: Option<End>, want: Want) -> bool {
+    match end {
+        Some(End::Halted) => want == Want::Halted,
+        Some(End::Faulted(fault)) => want == Want::Faulted(fault),
+        Some(End::Stalled) => matches!(want, Want::Receive(_) | Want::Probe(_)),
+        Some(End::Unfinished) => true,
+        None => false,
+    }
+}
+
+fn put_rank(
+    to: &mut String<Heap>,
+    asked: &Asked<'_>,
+    follower: &Follower<'_, '_>,
+    rank: u8,
+    missed: Missed,
+) -> Result<(), AllocError> {
+    let number = match missed {
+        Missed::Awaited(clock) | Missed::Act(clock) => asked.read.line_of_act(rank, clock),
+        Missed::End => asked.read.line_of_end(rank),
+    };
+    put_line(to, rank, "outcome", number, asked.outcome_text)?;
+    let position = follower.position(rank);
+    let line = position.and_then(|position| asked.lines.get(position).copied());
+    put_line(to, rank, "program", line, asked.text)?;
+    if follower.left(rank) == 0 {
+        let steps = asked.steps;
+        return writeln!(to, "rank {rank} has made {steps} steps");
+    }
+    put_could(to, follower, rank)
+}
+
+// A line of a text with its number; a position behind the last statement has none.
+fn put_line(
+    to: &mut String<Heap>,
+    rank: u8,
+    name: &str,
+    number: Option<usize>,
+    text: &[u8],
+) -> Result<(), AllocError> {
+    let Some(number) = number else {
+        return writeln!(to, "rank {rank} stands at the end of the {name}");
+    };
+    write!(to, "rank {rank} {name} line {number}: ")?;
+    if let Some(line) = line_of_text(text, number) {
+        put_text(to, line)?;
+    }
+    to.push('\n')
+}
+
+// Writes what is printable of a line, without the spaces before it.
+fn put_text(to: &mut String<Heap>, line: &[u8]) -> Result<(), AllocError> {
+    let mut begun = false;
+    for byte in line {
+        begun |= *byte != b' ';
+        if begun && b' ' <= *byte && *byte <= b'~' {
+            to.push(char::from(*byte))?;
+        }
+    }
+    Ok(())
+}

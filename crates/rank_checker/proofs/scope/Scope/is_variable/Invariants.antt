@@ -1,7 +1,0 @@
-use Rattle.std.proofs.Common.{◌≡◌, drop}
-use Rattle.rank_checker.specs.Scope.{is_name_in}
-use Rattle.rank_checker.proofs.scope.Scope.is_variable.Given as goal
-
--- none so far
-abbrev pub invariant-loop-variable : goal.invariant-loop-variable
-invariant-loop-variable l = is_name_in (drop l.variable-index l.variable-items) l.name ≡ is_name_in l.variable-items l.name

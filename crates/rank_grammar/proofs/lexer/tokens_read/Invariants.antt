@@ -1,8 +1,0 @@
-use Rattle.std.proofs.Common.{◌≡◌, drop, Some}
-use Rattle.rank_grammar.specs.Tokens.{and_after, tokens_from, tokens_of}
-use Rattle.rank_grammar.specs.SeenTokens.{pending_of}
-use Rattle.rank_grammar.proofs.lexer.tokens_read.Given as goal
-
--- the tokens so far, what is pending and the bytes that follow make the tokens of the line
-abbrev pub invariant-loop-byte : goal.invariant-loop-byte
-invariant-loop-byte l = and_after (Some l.tokens.items) (tokens_from (pending_of l.pending) (drop l.byte-index l.line)) ≡ tokens_of l.line

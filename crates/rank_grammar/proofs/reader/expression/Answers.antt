@@ -1,8 +1,0 @@
-use Rattle.rank_grammar.proofs.Exact.{found, only}
-use Rattle.rank_grammar.proofs.reader.expression.Goals as goal
-
-pub returns-clause-found : goal.returns-clause-found
-returns-clause-found c = found _ _ c.whole_expression.ensures
-
-pub returns-clause-only : goal.returns-clause-only
-returns-clause-only c = only _ _ c.whole_expression.ensures

@@ -1,0 +1,5 @@
+pub mod LinesLaws
+pub mod GrammarLaws
+pub mod CheckerLaws
+pub mod PrinterLaws
+pub mod ScriptsLaws

@@ -1,0 +1,5 @@
+pub mod Lines
+pub mod Grammar
+pub mod Checker
+pub mod Printer
+pub mod Scripts

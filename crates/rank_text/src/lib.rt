@@ -1,0 +1,12 @@
+//! Texts: rank programs and crash scripts, as users write them, and back.
+//!
+//! `lines` cuts a text into lines, words and numbers. `grammar` has the tokens and the
+//! forms of a program's lines, `checker` says which texts are programs and names the
+//! first fault, and `printer` writes the canonical text. `script` reads crash scripts.
+#![tactic(auto)]
+
+pub mod checker;
+pub mod grammar;
+pub mod lines;
+pub mod printer;
+pub mod script;

@@ -1,0 +1,2 @@
+pub mod TraceLaws
+pub mod WorldLaws

@@ -1,0 +1,73 @@
+//! Ranks that wait for each other.
+
+use crate::trace::columns::put_between;
+use crate::trace::ends::waits_for;
+use crate::trace::given::Told;
+use audit::End;
+use limits::{Heap, MOST_RANKS};
+use std::alloc::AllocError;
+use std::fmt::Write;
+
+/// Writes a line for each circle of ranks in which each waits for the next one alone.
+pub fn put_circles(to: &mut String<Heap>, told: Told<'_, '_>) -> Result<(), AllocError> {
+    for rank in 0..told.run.ranks() {
+        if let Some(members) = circle_from(told, rank) {
+            put_circle(to, &members)?;
+        }
+    }
+    Ok(())
+}
+
+/// Of which ranks the circle is in which this one has the lowest number, if
+/// there is one.
+pub fn circle_from(told: Told<'_, '_>, rank: u8) -> Option<[bool; MOST_RANKS]> {
+    let mut members = [false; MOST_RANKS];
+    if is_lowest_of_circle(told, rank, &mut members) {
+        Some(members)
+    } else {
+        None
+    }
+}
+
+// The one rank that a stalled rank waits for.
+fn awaited(told: Told<'_, '_>, rank: u8) -> Option<u8> {
+    let outcome = told.given.outcome;
+    match outcome.ends.get(usize::from(rank)) {
+        Some(End::Stalled) => waits_for(told, rank)?.source,
+        Some(End::Halted | End::Faulted(_) | End::Unfinished) | None => None,
+    }
+}
+
+// Whether the ranks that wait one for the other from this one on come back to it, and it has the lowest number. They are noted.
+fn is_lowest_of_circle(told: Told<'_, '_>, rank: u8, members: &mut [bool; MOST_RANKS]) -> bool {
+    let mut at = rank;
+    for _ in 0..MOST_RANKS {
+        if let Some(member) = members.get_mut(usize::from(at)) {
+            *member = true;
+        }
+        match awaited(told, at) {
+            Some(next) if next == rank => return true,
+            Some(next) if next > rank => at = next,
+            Some(_) | None => return false,
+        }
+    }
+    false
+}
+
+fn put_circle(to: &mut String<Heap>, members: &[bool; MOST_RANKS]) -> Result<(), AllocError> {
+    let count = members.iter().filter(|member| **member).count();
+    to.push_str(if count == 1 { "rank " } else { "ranks " })?;
+    let mut shown = 0usize;
+    for (rank, member) in members.iter().enumerate() {
+        if *member {
+            put_between(to, shown, count)?;
+            write!(to, "{rank}")?;
+            shown = shown.saturating_add(1);
+        }
+    }
+    to.push_str(if count == 1 {
+        " waits for itself\n"
+    } else {
+        " wait for each other\n"
+    })
+}

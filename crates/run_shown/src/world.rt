@@ -1,0 +1,15 @@
+//! A world as JSON, an object a line: its program, and for each event the reply
+//! and what the event changed.
+mod determinants;
+mod frames;
+mod head;
+mod logs;
+mod names;
+mod object;
+mod playing;
+mod ranks;
+mod standing;
+mod texts;
+mod wants;
+
+pub use playing::{Texts, world_json};

@@ -1,6 +1,0 @@
-use Rattle.std.proofs.Common.{◌≡◌, replicate, []}
-use Rattle.send_index.proofs.sends.Sends.new.Given as goal
-
--- so far the lists are empty
-abbrev pub invariant-loop : goal.invariant-loop
-invariant-loop l = l.of_pairs.items ≡ replicate l.counter []

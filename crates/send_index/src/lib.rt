@@ -1,7 +1,0 @@
-//! Which act of a run sent the message that another one receives or finds.
-#![tactic(auto)]
-
-mod indices;
-mod sends;
-
-pub use sends::Sends;

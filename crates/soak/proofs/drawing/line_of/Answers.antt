@@ -1,8 +1,0 @@
-use Rattle.std.proofs.Common.{arith}
-use Rattle.soak.proofs.LineLaws.{can_follow}
-use Rattle.soak.proofs.drawing.line_of.Goals as goal
-
--- the clock is past those at which such a line can't be used
-pub returns-clause-usable : goal.returns-clause-usable
-returns-clause-usable c = can_follow c.args.order c.random_range-rank.result c.clock_after-clock.result c.args.lines.now
-    (omega (arith, c.passed-before.ensures, c.clock_after-clock.ensures.past))
