@@ -1,8 +1,8 @@
 //! Explains what is wrong with a text to the person who wrote it: the line, the
 //! place in it, what was expected there, and a near word if there is one.
 //!
-//! The faults themselves are those of `rank_language`, `script_text` and
-//! `events_text`; here they are only explained.
+//! The faults themselves are those of `rank_text` and of
+//! `world_model::events_text`; here they are only explained.
 #![tactic(auto)]
 
 mod declared;

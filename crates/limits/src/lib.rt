@@ -1,4 +1,4 @@
-//! What every other crate but `text_lines` takes: the limits of the project,
+//! What every other crate takes: the limits of the project,
 //! as code counts with them, and the name of the memory.
 //!
 //! Definitions and contracts cite `specs/Limits.antt`; `law_limits` says that

@@ -39,8 +39,8 @@ fn put_line(
 /// The canonical text of statements.
 ///
 /// An expression is written with as much stack as it nests. Statements that
-/// `rank_checker::read` has read nest no deeper than `limits::MOST_NODES`;
-/// `rank_grammar::forms::form` alone puts no bound to it but the line's length. The only error is
+/// `checker::read` has read nest no deeper than `limits::MOST_NODES`;
+/// `grammar::forms::form` alone puts no bound to it but the line's length. The only error is
 /// refused memory.
 pub fn print(alloc: Heap, forms: &[Form]) -> Result<Vec<u8, Heap>, AllocError>
     ensures text { IfOk result (λ text. text.items ≡ program_text (forms_seen forms.now)) }
