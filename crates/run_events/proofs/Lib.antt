@@ -1,4 +1,5 @@
 mod Finishing
+mod Masking
 mod Planning
 mod Played
 mod WithScript

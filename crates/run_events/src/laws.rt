@@ -1,8 +1,12 @@
-//! What a complete search says of every world of its program. Crates above may
-//! cite this.
-ghost use Rattle.std.specs.Prelude.{List};
+//! What a complete search says of every world and of every report of its program.
+//! Crates above may cite this.
+ghost use Rattle.std.specs.Prelude.{ℕ, List};
+ghost use Rattle.rank_language.specs.Program.{ProgramValue};
+ghost use Rattle.audit.specs.Outcome.{OutcomeValue};
+ghost use Rattle.audit.specs.FinalRuns.Final.{IsFinal};
 ghost use Rattle.audit.specs.FinalRuns.Maximal.{RankOutcome};
 ghost use Rattle.run_events.specs.Finishing.{FinishesAmong};
+ghost use Rattle.run_events.specs.Masking.{EndsAmong, IsMasked, MasksCrashes};
 
 use world_model::World;
 
@@ -17,3 +21,23 @@ pub fn law_can_finish(world: &World<'_>)
     world.law_stands();
     world.law_to_the_end();
 }
+
+/// A law, for proofs alone: if a search is complete, as `explore` has it in its
+/// clause `ends`, what the ranks of a world have printed is, whatever crashed, a
+/// beginning of what they print in one of the outcomes that were found.
+#[tactic(auto, using(crate::proofs::Masking::world_masks))]
+pub fn law_masks_crashes(world: &World<'_>)
+    ensures { (outcomes : List (List RankOutcome)) → MasksCrashes outcomes world.now }
+{
+    world.law_stands();
+}
+
+/// A law, for proofs alone: if a search is complete, so it is of the lines of
+/// each outcome that `audit` confirms as final, as the outcome of each report
+/// is; and if no rank is unfinished, what is seen of it is one of the outcomes
+/// that were found.
+#[tactic(auto, using(crate::proofs::Masking::report_is_masked))]
+pub fn law_masks_reports()
+    ensures { (program : ProgramValue) (n : ℕ) (outcomes : List (List RankOutcome)) (o : OutcomeValue) → EndsAmong program n outcomes
+        → IsFinal program n o → IsMasked outcomes n o }
+{}
