@@ -2,8 +2,8 @@
 ghost use Rattle.std.specs.Prelude.{Some};
 ghost use Rattle.world_model.specs.EventsText.Written.{event_text};
 
-use std::fmt;
 use crate::WorldEvent;
+use std::fmt;
 
 /// An event, shown as the line of an events text that tells it.
 #[derive(Clone, Copy, PartialEq, Eq)]

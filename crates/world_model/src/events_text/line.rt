@@ -3,11 +3,11 @@ ghost use Rattle.std.specs.Prelude.{◌≡◌};
 ghost use Rattle.rank_text.specs.Lines.Pieces.{words_of};
 ghost use Rattle.world_model.specs.EventsText.Events.{event_of, judged_seen, event_on, named_event, one_number, rank_event, three_numbers, two_numbers};
 
+use crate::WorldEvent;
 use crate::events_text::fault::EventsFaultKind;
 use crate::events_text::number::number_in;
 use limits::MOST_EVENT_LINES;
 use rank_text::lines::{is_skipped, next_word};
-use crate::WorldEvent;
 
 /// The number that is the line's only word.
 fn one_number(line: &[u8]) -> Option<u32>

@@ -4,11 +4,11 @@ ghost use Rattle.world_model.specs.Headline.{lines_of};
 ghost use Rattle.world_model.specs.EventsText.Output.{IsRunText, line_text, printed_text, ranks_text, replies_text, world_text};
 
 use crate::events_text::reply_line::ReplyLine;
+use crate::{Reply, World, WorldEvent};
 use limits::Heap;
 use matching::Line;
 use std::alloc::AllocError;
 use std::fmt::Write;
-use crate::{Reply, World, WorldEvent};
 
 /// Makes the events, one after another, and answers all that is to be shown:
 /// a line for each reply, in the order of the events, and then the lines that

@@ -4,11 +4,11 @@ ghost use Rattle.world_model.specs.EventsText.Events.{events_of};
 ghost use Rattle.world_model.specs.declared.events_text.fault.EventsFault.TheVariants.{Fault};
 ghost use Rattle.world_model.specs.declared.events_text.fault.EventsFaultKind.{EventsFaultKind};
 
+use crate::WorldEvent;
 use crate::events_text::fault::EventsFault;
 use crate::events_text::line::{Judged, judge};
 use limits::Heap;
 use rank_text::lines::next_line;
-use crate::WorldEvent;
 
 /// The events of a text in order, or its first fault.
 ///

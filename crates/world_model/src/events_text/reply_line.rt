@@ -2,8 +2,8 @@
 ghost use Rattle.std.specs.Prelude.{Some};
 ghost use Rattle.world_model.specs.EventsText.Output.{reply_text};
 
-use std::fmt;
 use crate::Reply;
+use std::fmt;
 
 /// A reply, shown by its word with its numbers behind it.
 #[derive(Clone, Copy, PartialEq, Eq)]

@@ -3,10 +3,10 @@ ghost use Rattle.std.specs.Prelude.{◌≡◌, IfOk, string_bytes};
 ghost use Rattle.world_model.specs.EventsText.Written.{IsWayText, events_text};
 
 use crate::events_text::event_line::EventLine;
+use crate::{World, WorldEvent};
 use limits::Heap;
 use std::alloc::AllocError;
 use std::fmt::Write;
-use crate::{World, WorldEvent};
 
 /// The events in their order, one a line. An `Err` means out of memory.
 pub fn events_text(alloc: Heap, events: &[WorldEvent]) -> Result<String<Heap>, AllocError>
