@@ -1,0 +1,1 @@
+"""Cases that show what the program does, for scripts/test_program."""
