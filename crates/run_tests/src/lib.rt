@@ -1,71 +1,21 @@
-//! Tests of whole runs over public calls alone: of `run` with all that it
-//! reports and tells, and of the program `command` with all that it writes.
-//!
-//! A proof says what a report can be; these say that there is one where memory
-//! is ample, and which. What is expected is worked by hand.
+//! Tests of runs and of the whole program that need more than its words, files
+//! and standard streams: a `Hold` that is told of acts, streams and clocks that
+//! fail, and faults that no run is known to have. `tests/` has all others.
 #![tactic(auto)]
 
 #[cfg(test)]
-mod at_limits;
+mod calls;
 #[cfg(test)]
-mod c_texts;
-#[cfg(test)]
-mod causes;
-#[cfg(test)]
-mod cores;
-#[cfg(test)]
-mod costs;
-#[cfg(test)]
-mod everywhere;
-#[cfg(test)]
-mod explains;
-#[cfg(test)]
-mod faults;
-#[cfg(test)]
-mod finishes;
-#[cfg(test)]
-mod helps;
-#[cfg(test)]
-mod holding;
-#[cfg(test)]
-mod judgments;
-#[cfg(test)]
-mod kills;
-#[cfg(test)]
-mod lines;
-#[cfg(test)]
-mod meeting;
-#[cfg(test)]
-mod outcomes;
-#[cfg(test)]
-mod periodic;
+mod holds;
 #[cfg(test)]
 mod pictures;
 #[cfg(test)]
-mod plays;
-#[cfg(test)]
-mod refusals;
-#[cfg(test)]
-mod reported;
-#[cfg(test)]
-mod reports;
+mod said;
 #[cfg(test)]
 mod same;
 #[cfg(test)]
 mod scenes;
 #[cfg(test)]
-mod script_lines;
-#[cfg(test)]
-mod soaks;
-#[cfg(test)]
 mod streams;
 #[cfg(test)]
-mod told;
-#[cfg(test)]
-mod traces;
-#[cfg(test)]
 mod watching;
-#[cfg(test)]
-mod words;
-#[cfg(test)]
-mod world_objects;

@@ -1,6 +1,7 @@
-//! What streams show that take a part of a write, refuse it, or can't be flushed.
+//! What streams show that take a part of a write, refuse it, or can't be flushed; and files for which there is no
+//! memory.
+use crate::calls::{Table, words_of};
 use crate::same::same;
-use crate::scenes::{Table, words_of};
 use runner::command;
 use std::alloc::{AllocError, Global};
 use std::io::{ErrorKind, Write};
@@ -78,7 +79,7 @@ struct Written {
 /// A run of one line.
 const OF_FIVE: &str = "0> 5\nrank 0: halted\ncrashes 0, logger calls 0\n";
 
-const WRITTEN: [Written; 17] = [
+const WRITTEN: [Written; 22] = [
     // All is written, however little is taken at a time, and it is flushed.
     Written {
         words: "ftmpi run --ranks 1 five",
@@ -203,6 +204,41 @@ const WRITTEN: [Written; 17] = [
         status: 4,
         shown: ("", ""),
     },
+    Written {
+        words: "ftmpi check large",
+        out: Stream::Closed,
+        err: Stream::Takes(100),
+        status: 4,
+        shown: ("", "out of memory\n"),
+    },
+    Written {
+        words: "ftmpi run --ranks 1 --script large p",
+        out: Stream::Closed,
+        err: Stream::Takes(100),
+        status: 4,
+        shown: ("", "out of memory\n"),
+    },
+    Written {
+        words: "ftmpi world --ranks 1 p large",
+        out: Stream::Closed,
+        err: Stream::Takes(100),
+        status: 4,
+        shown: ("", "out of memory\n"),
+    },
+    Written {
+        words: "ftmpi catch-up --ranks 1 p large",
+        out: Stream::Closed,
+        err: Stream::Takes(100),
+        status: 4,
+        shown: ("", "out of memory\n"),
+    },
+    Written {
+        words: "ftmpi catch-up --to-the-end --ranks 1 p large",
+        out: Stream::Closed,
+        err: Stream::Takes(100),
+        status: 4,
+        shown: ("", "out of memory\n"),
+    },
 ];
 
 // The program called with these words on these streams ends so, and they show this.
@@ -210,36 +246,17 @@ fn is_written<R: Threads + Wait + Sync + Copy + Send + AllocGlobal + Abort>(
     rt: &R,
     row: &Written,
 ) -> Result<(), AllocError> {
-    let words = words_of(rt.alloc(), row.words)?;
-    is_shown(rt, row, words.as_slice());
-    Ok(())
-}
-
-// The same, with its words one by one.
-fn is_shown<R: Threads + Wait + Sync + Copy + Send + AllocGlobal + Abort>(
-    rt: &R,
-    row: &Written,
-    words: &[String],
-) {
-    let mut out = Writer::new(rt.alloc(), row.out);
-    let mut err = Writer::new(rt.alloc(), row.err);
-    let status = call(rt, words, &mut out, &mut err);
-    are_shown(rt, row, status, &out, &err);
-}
-
-// Calls the program on these streams, and answers its exit status.
-fn call<R: Threads + Wait + Sync + Copy + Send + AllocGlobal>(
-    rt: &R,
-    words: &[String],
-    out: &mut Writer,
-    err: &mut Writer,
-) -> u8 {
     let alloc = rt.alloc();
+    let words = words_of(alloc, row.words)?;
     let mut files = Table {
         alloc,
         files: &[("p", ""), ("e", "step 0"), ("five", "print 5\n")],
     };
-    command(rt, alloc, words, &mut files, out, err)
+    let mut out = Writer::new(alloc, row.out);
+    let mut err = Writer::new(alloc, row.err);
+    let status = command(rt, alloc, words.as_slice(), &mut files, &mut out, &mut err);
+    are_shown(rt, row, status, &out, &err);
+    Ok(())
 }
 
 // The program ended so, and the streams show this.
@@ -248,18 +265,10 @@ fn are_shown<'a>(rt: &impl Abort, row: &'a Written, status: u8, out: &'a Writer,
     same(rt, row.words, &found, &(row.status, row.shown));
 }
 
-// Each of these ends so.
-fn are_written<R: Threads + Wait + Sync + Copy + Send + AllocGlobal + Abort>(
-    rt: &R,
-    rows: &[Written],
-) -> Result<(), AllocError> {
-    for row in rows {
-        is_written(rt, row)?;
-    }
-    Ok(())
-}
-
 #[test]
 fn failed_writes(rt: HostRuntime) -> Result<(), AllocError> {
-    are_written(&rt, &WRITTEN)
+    for row in &WRITTEN {
+        is_written(&rt, row)?;
+    }
+    Ok(())
 }

@@ -1,6 +1,6 @@
 //! What is told of a search while it goes on.
+use crate::calls::{Table, words_of};
 use crate::same::same;
-use crate::scenes::{Table, words_of};
 use runner::{Progress, Watch, command_watched};
 use std::alloc::{AllocError, Global};
 use std::io::{ErrorKind, IsTerminal, Write};
@@ -38,23 +38,15 @@ fn watched<R: Threads + Wait + Sync + Copy + Send + AllocGlobal, W: Watch>(
     words: &str,
     watch: &mut W,
 ) -> Result<(u8, bool), AllocError> {
-    let words = words_of(rt.alloc(), words)?;
-    Ok(watched_call(rt, words.as_slice(), watch))
-}
-
-// The same of the program called with all these words.
-fn watched_call<R: Threads + Wait + Sync + Copy + Send + AllocGlobal, W: Watch>(
-    rt: &R,
-    words: &[String],
-    watch: &mut W,
-) -> (u8, bool) {
     let alloc = rt.alloc();
+    let words = words_of(alloc, words)?;
     let files = &[("p", FIRST_COME)];
     let mut files = Table { alloc, files };
     let (mut out, mut err) = (Vec::new(alloc), Vec::new(alloc));
+    let words = words.as_slice();
     let status = command_watched(rt, alloc, words, &mut files, &mut out, &mut err, watch);
     let is_complete = out.ends_with(b"outcomes 24, runs 24, complete\n");
-    (status, is_complete && err.is_empty())
+    Ok((status, is_complete && err.is_empty()))
 }
 
 // A search tells of so many runs, each once and in order.
@@ -76,37 +68,20 @@ fn expect_told<R: Threads + Wait + Sync + Copy + Send + AllocGlobal + Abort>(
     Ok(())
 }
 
-#[test]
-fn each_run_is_told(rt: HostRuntime) -> Result<(), AllocError> {
-    expect_told(&rt, WORDS, (0, true), 24)?;
-    expect_told(&rt, "ftmpi explore --ranks 5 --runs 7 p", (1, false), 7)?;
-    expect_told(&rt, "ftmpi run --ranks 5 p", (0, false), 0)
-}
-
-/// A clock by which half a second passes from look to look.
+/// A clock by which half a second passes from look to look, or that can't be read.
 #[derive(Drop)]
 struct Ticks {
     looks: AtomicU64,
+    is_stopped: bool,
 }
 
 impl Clock for Ticks {
     fn monotonic(&self) -> std::io::Result<Duration> {
+        if self.is_stopped {
+            return Err(std::io::Error::from(ErrorKind::Unsupported));
+        }
         let looks = self.looks.fetch_add(1, Ordering::SeqCst);
         Ok(Duration::from_millis(looks.saturating_mul(500)))
-    }
-
-    fn since_1970(&self) -> std::io::Result<Duration> {
-        Err(std::io::Error::from(ErrorKind::Unsupported))
-    }
-}
-
-/// A clock that can't be read.
-#[derive(Clone, Copy)]
-struct Stopped;
-
-impl Clock for Stopped {
-    fn monotonic(&self) -> std::io::Result<Duration> {
-        Err(std::io::Error::from(ErrorKind::Unsupported))
     }
 
     fn since_1970(&self) -> std::io::Result<Duration> {
@@ -118,15 +93,6 @@ impl Clock for Stopped {
 struct Screen {
     is_terminal: bool,
     shown: Vec<u8>,
-}
-
-impl Screen {
-    fn new(alloc: Global, is_terminal: bool) -> Screen {
-        Screen {
-            is_terminal,
-            shown: Vec::new(alloc),
-        }
-    }
 }
 
 impl Write for Screen {
@@ -146,38 +112,37 @@ impl IsTerminal for Screen {
     }
 }
 
-// What a search of 24 runs shows by this clock.
-fn expect_shown<R: Threads + Wait + Sync + Copy + Send + AllocGlobal + Abort, C: Clock>(
+// What a search of 24 runs shows by such a clock.
+fn expect_shown<R: Threads + Wait + Sync + Copy + Send + AllocGlobal + Abort>(
     rt: &R,
-    clock: &C,
+    is_stopped: bool,
     is_terminal: bool,
     want: &str,
 ) -> Result<(), AllocError> {
-    let mut screen = Screen::new(rt.alloc(), is_terminal);
-    let mut progress = Progress::new(clock, &mut screen);
+    let ticks = Ticks {
+        looks: AtomicU64::new(0),
+        is_stopped,
+    };
+    let mut screen = Screen {
+        is_terminal,
+        shown: Vec::new(rt.alloc()),
+    };
+    let mut progress = Progress::new(&ticks, &mut screen);
     let found = watched(rt, WORDS, &mut progress)?;
     same(rt, WORDS, &found, &(0, true));
-    is_shown(rt, &screen, want);
+    same(rt, "the screen", &screen.shown.as_slice(), &want.as_bytes());
     Ok(())
 }
 
-fn is_shown<'a>(rt: &impl Abort, screen: &'a Screen, want: &'a str) {
-    let shown = std::str::from_utf8(screen.shown.as_slice()).unwrap_or("no text");
-    same(rt, "the screen", &shown, &want);
-}
-
 // A terminal is told after one second, and then each time that it took twice as long.
+const TOLD: &str = "2 runs looked at\n4 runs looked at\n8 runs looked at\n16 runs looked at\n";
+
 #[test]
-fn a_terminal_is_told(rt: HostRuntime) -> Result<(), AllocError> {
-    let ticks = Ticks {
-        looks: AtomicU64::new(0),
-    };
-    expect_shown(
-        &rt,
-        &ticks,
-        true,
-        "2 runs looked at\n4 runs looked at\n8 runs looked at\n16 runs looked at\n",
-    )?;
-    expect_shown(&rt, &ticks, false, "")?;
-    expect_shown(&rt, &Stopped, true, "")
+fn searches_tell_of_their_runs(rt: HostRuntime) -> Result<(), AllocError> {
+    expect_told(&rt, WORDS, (0, true), 24)?;
+    expect_told(&rt, "ftmpi explore --ranks 5 --runs 7 p", (1, false), 7)?;
+    expect_told(&rt, "ftmpi run --ranks 5 p", (0, false), 0)?;
+    expect_shown(&rt, false, true, TOLD)?;
+    expect_shown(&rt, false, false, "")?;
+    expect_shown(&rt, true, true, "")
 }

@@ -1,6 +1,0 @@
-use Rattle.std.proofs.Common.{◌≡◌}
-use Rattle.ports.specs.Lanes.{lane_to, lane_from}
-use Rattle.messages_tests.proofs.one_lane.makes_all.Given as goal
-
-abbrev pub invariant-loop-call : goal.invariant-loop-call
-invariant-loop-call g l = (lane_to l.tx ≡ lane_to l.initial.tx) × (lane_from l.rx ≡ lane_from l.initial.rx)

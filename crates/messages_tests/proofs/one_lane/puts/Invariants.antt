@@ -1,6 +1,0 @@
-use Rattle.std.proofs.Common.{◌≡◌}
-use Rattle.ports.specs.Lanes.{lane_to}
-use Rattle.messages_tests.proofs.one_lane.puts.Given as goal
-
-abbrev pub invariant-loop : goal.invariant-loop
-invariant-loop g l = lane_to l.tx ≡ lane_to l.initial.tx

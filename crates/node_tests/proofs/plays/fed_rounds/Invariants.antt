@@ -1,6 +1,0 @@
-use Rattle.std.proofs.Common.{◌≡◌}
-use Rattle.node_tests.proofs.plays.fed_rounds.Given as goal
-
--- the calls leave which rank it is
-abbrev pub invariant-loop-number : goal.invariant-loop-number
-invariant-loop-number g l = l.rank.stable ≡ l.initial.rank.stable
