@@ -9,7 +9,7 @@ import sys
 from collections.abc import Callable
 from typing import NamedTuple
 
-from building.kit import Kit
+from building.files import kit_folder
 
 HERE = os.path.dirname(os.path.realpath(__file__))
 OUT_OF_MEMORY = 4
@@ -78,7 +78,7 @@ class Shim:
     def __init__(self, source: str, folder: str) -> None:
         """Builds scripts/SOURCE in the folder, with the toolchain's clang, or else with cc."""
         self.path = f"{folder}/{source}.so"
-        ours = f"{Kit().folder}/toolchain/bin/clang"
+        ours = f"{kit_folder()}/toolchain/bin/clang"
         words = [ours if os.access(ours, os.X_OK) else "cc", "-nostdlib", "-shared", "-fPIC", "-O1", "-fno-builtin"]
         subprocess.run([*words, "-o", self.path, f"{HERE}/{source}"], check=True)
 

@@ -1,17 +1,19 @@
-"""The crates of a program, and the checksum of their files."""
+"""What is read of the crates, and its checksums."""
 
 from __future__ import annotations
 
-import hashlib
 import os
 import re
 import shutil
 from collections.abc import Iterator
 
-from .ending import NotBuilt
-from .files import sum_of_file, text_of, write
+from .files import NotMade, sum_of, text_of, write
 
 PARTS, KINDS = ("src", "specs", "proofs"), (".rt", ".antt")
+# What stands at the top.
+LISTS = ["HANDLES", "crates.txt"]
+# What `rt ci` runs a program on.
+STREAMS = ("args", "stdin", "stdout", "status", "data")
 
 
 class Sources:
@@ -21,60 +23,53 @@ class Sources:
         self.top, self.name = top, name
         lines = crate_lines(text_of(f"{top}/crates.txt"))
         if name not in lines:
-            raise NotBuilt(f"crates.txt has no crate {name}")
+            raise NotMade(f"crates.txt has no crate {name}")
         self.lines = {it: lines[it] for it in with_those_below(name, lines)}
 
     def files(self) -> Iterator[str]:
-        """The files that a check of these crates reads: their paths in the repository, in a fixed
-        order."""
-        for name in sorted(self.lines):
-            for path in files_of_crate(f"{self.top}/crates/{name}"):
-                yield os.path.relpath(path, self.top)
+        """The files that a check of these crates reads: their paths in the repository."""
+        for name in self.lines:
+            yield from (os.path.relpath(it, self.top) for it in files_of_crate(f"{self.top}/crates/{name}"))
 
-    def below(self, name: str) -> list[str]:
-        """The crates that a crate's line names."""
-        return [it for it in names_below(self.lines[name]) if it in self.lines]
+    def sum(self) -> str:
+        """The checksum of these files, crates.txt and HANDLES."""
+        return sum_of(self.top, [*LISTS, *self.files()])
 
-    def sum(self, kit: str) -> str:
-        """A checksum of the paths and contents of all files, the crates' lines, HANDLES and the
-        toolchain."""
-        return self.sums(kit)[self.name]
-
-    def sums(self, kit: str) -> dict[str, str]:
-        """For each crate, lowest first, a checksum of all that its proof depends on: its files, its
-        line, HANDLES, the toolchain, and the crates below it."""
-        handles = text_of(f"{self.top}/HANDLES") if os.path.exists(f"{self.top}/HANDLES") else None
-        sums = dict[str, str]()
-        for name, line in self.lines.items():
-            below = [sums[it] for it in self.below(name)]
-            total = hashlib.sha256(repr((line, below, handles, kit)).encode())
-            for path in files_of_crate(f"{self.top}/crates/{name}"):
-                total.update(repr((os.path.relpath(path, self.top), sum_of_file(path))).encode())
-            sums[name] = total.hexdigest()
-        return sums
-
-    def places(self) -> list[str]:
-        """The files and folders, as paths in the repository, in which a change of the sources
+    def places(self) -> str:
+        """The folders and files, as paths in the repository, in which a change of the sources
         shows."""
-        return ["crates.txt", "HANDLES", *(f"crates/{name}/{part}" for name in self.lines for part in PARTS)]
+        return " ".join([*LISTS, *(f"crates/{name}/{part}" for name in self.lines for part in PARTS)])
+
+    def times(self) -> list[tuple[str, int, int]]:
+        """When each file was changed last. A change shows, also one there and back."""
+        found = ((it, os.stat(f"{self.top}/{it}")) for it in [*LISTS, *self.files()])
+        return [(it, seen.st_ino, seen.st_ctime_ns) for it, seen in found]
 
     def copy_to(self, folder: str) -> Sources:
-        """Copies these crates, so that later edits don't reach the build."""
-        for path in self.files():
+        """Copies these crates, so that later edits don't reach what is made of them."""
+        streams = [f"crates/{self.name}/{it}" for it in STREAMS]
+        for path in [*LISTS, *self.files(), *(it for it in streams if os.path.exists(f"{self.top}/{it}"))]:
             os.makedirs(os.path.dirname(f"{folder}/{path}"), exist_ok=True)
-            shutil.copyfile(f"{self.top}/{path}", f"{folder}/{path}", follow_symlinks=False)
-        write(f"{folder}/crates.txt", "".join(f"{line}\n" for line in self.lines.values()))
-        if os.path.exists(f"{self.top}/HANDLES"):
-            shutil.copyfile(f"{self.top}/HANDLES", f"{folder}/HANDLES")
+            copy = shutil.copytree if os.path.isdir(f"{self.top}/{path}") else shutil.copyfile
+            copy(f"{self.top}/{path}", f"{folder}/{path}")
         return Sources(folder, self.name)
 
 
+def sum_of_all(top: str) -> str:
+    """The checksum of all that the proofs and tests of `rt ci` read: crates.txt, HANDLES, and each
+    file of crates/, but for what is built, what is written for readers, and hidden files."""
+    paths = LISTS.copy()
+    for at, folders, files in os.walk(f"{top}/crates"):
+        folders[:] = [it for it in folders if it not in ("out", "__pycache__")]
+        paths += [os.path.relpath(f"{at}/{it}", top) for it in files if not it.endswith(".md") and not it.startswith(".")]
+    return sum_of(top, paths)
+
+
 def files_of_crate(folder: str) -> Iterator[str]:
-    """The files of a crate that a check reads, in a fixed order."""
+    """The files of a crate that a check reads."""
     for part in PARTS:
-        for at, folders, files in os.walk(f"{folder}/{part}"):
-            folders.sort()
-            yield from (f"{at}/{it}" for it in sorted(files) if it.endswith(KINDS))
+        for at, _, files in os.walk(f"{folder}/{part}"):
+            yield from (f"{at}/{it}" for it in files if it.endswith(KINDS))
 
 
 def crate_lines(text: str) -> dict[str, str]:
@@ -83,15 +78,11 @@ def crate_lines(text: str) -> dict[str, str]:
     return {re.split("[ :]", line)[0]: line for line in lines if line}
 
 
-def names_below(line: str) -> list[str]:
-    """What a line of crates.txt names below its crate."""
-    return line.partition(":")[2].replace(",", " ").split()
-
-
 def with_those_below(name: str, lines: dict[str, str]) -> list[str]:
     """All crates of this repository below the crate, and then the crate itself."""
     found: list[str] = []
-    for below in names_below(lines[name]):
+    for below in lines[name].partition(":")[2].replace(",", " ").split():
         if below in lines:
             found += [it for it in with_those_below(below, lines) if it not in found]
     return [*found, name]
+

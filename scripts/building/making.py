@@ -1,0 +1,158 @@
+"""Compiles a copy of the sources before any proof, or proves it.
+
+Before a proof: `rt try` has the program compiled to an LLVM module, with tests at run time for some
+of what is to be proved, and calls clang. Here it runs in a stand-in for the toolchain whose clang
+keeps the module and compiles nothing. The toolchain's own clang then compiles the module, optimized,
+and its linker links it."""
+
+from __future__ import annotations
+
+import contextlib
+import ctypes
+import os
+import re
+import shlex
+import shutil
+import signal
+import subprocess
+import sys
+import tempfile
+import time
+from collections.abc import Callable, Iterator
+from typing import IO
+
+from .files import NotMade, kit_folder, text_of, write
+from .sources import Sources
+
+TARGET = "x86_64-unknown-linux-gnu"
+# As the toolchain compiles what was proved, but without inlining, which would take half the time.
+FLAGS = "-march=x86-64 -mllvm -no-trap-after-noreturn -ffunction-sections -fdata-sections -mllvm -trap-unreachable"
+FLAGS += " --no-default-config -no-canonical-prefixes -fPIE -O1 -mllvm -inline-threshold=0"
+# (it gets an empty environment; the first module that it gets is the toolchain's own, for a trial)
+CLANG = """#!/bin/bash
+case " $* " in *" -fsanitize=address "*) for it in "$@"; do case $it in *.bc) cp -- "$it" {kept} && exit 1 ;; esac; done ;; esac
+exec -a {real} {real} "$@"
+"""
+REFUSED = 1
+# An estimate, in processor minutes, of all proofs of the program.
+PROOFS = 200
+PROVED = re.compile(r"^rt: (\w+) (proved|NOT PROVED|is kept)", re.MULTILINE)
+PREFIX = "ftmpi-made-by-"
+# PR_SET_PDEATHSIG: a child gets this signal when its parent ends
+PARENT_ENDS, LIBC = 1, ctypes.CDLL(None)
+
+
+class NoModule(Exception):
+    """The toolchain handed over no module."""
+
+
+class Progress:
+    """Messages on standard error, and on a terminal the seconds since the last one."""
+
+    def __init__(self) -> None:
+        self.begin = self.said = time.monotonic()
+
+    def say(self, text: str) -> None:
+        clear = "\r\033[K" if sys.stderr.isatty() else ""
+        print(f"{clear}ftmpi: {text}", file=sys.stderr, flush=True)
+        self.said = time.monotonic()
+
+    def tick(self) -> None:
+        if sys.stderr.isatty():
+            print(f"\rftmpi: .. {time.monotonic() - self.said:.0f} s ", end="", file=sys.stderr, flush=True)
+
+    def minutes(self) -> str:
+        return f"{(time.monotonic() - self.begin) / 60:.1f} minutes"
+
+
+@contextlib.contextmanager
+def room() -> Iterator[str]:
+    """A temporary folder that is removed at the end. That of a script that was killed is removed by
+    the next one."""
+    for it in os.scandir(tempfile.gettempdir()):
+        of = re.match(rf"{PREFIX}(\d+)-", it.name)
+        if of and not os.path.exists(f"/proc/{of[1]}"):
+            shutil.rmtree(it.path, ignore_errors=True)
+    with tempfile.TemporaryDirectory(prefix=f"{PREFIX}{os.getpid()}-") as folder:
+        yield folder
+
+
+@contextlib.contextmanager
+def started(words: list[str], cwd: str, folder: str, out: IO[bytes] | int, **more: str) -> Iterator[subprocess.Popen[bytes]]:
+    """A command, with its temporary files in the folder, and more in its environment. It ends when
+    this script ends, however that ends."""
+    how = {"stdin": subprocess.DEVNULL, "stdout": out, "stderr": subprocess.STDOUT, "env": {**os.environ, "TMPDIR": folder, **more}}
+    begin = lambda: LIBC.prctl(PARENT_ENDS, signal.SIGTERM)
+    process = subprocess.Popen(words, cwd=cwd, preexec_fn=begin, start_new_session=True, **how)
+    try:
+        yield process
+    finally:
+        if process.poll() is None:
+            os.killpg(process.pid, signal.SIGTERM)
+            process.wait()
+
+
+def run(words: list[str], cwd: str, folder: str, tick: Callable[[], None]) -> tuple[int, str]:
+    """Runs a command. Returns its status and its output. `tick` is called each second."""
+    with open(f"{folder}/output", "wb") as out, started(words, cwd, folder, out) as process:
+        while True:
+            tick()
+            with contextlib.suppress(subprocess.TimeoutExpired):
+                return process.wait(1), text_of(f"{folder}/output")
+
+
+def quick(sources: Sources, folder: str, progress: Progress) -> str:
+    """Compiles the program, and returns its path in the folder. Nothing is proved."""
+    kit, module, made, program = kit_folder(), *(f"{folder}/{it}" for it in ("module.bc", "module.o", sources.name))
+    words = [stand_in(kit, f"{folder}/kit", module), "try", "--steps", "1", "--seconds", "1", "--", "--version"]
+    status, output = run(words, f"{sources.top}/crates/{sources.name}", folder, progress.tick)
+    if not os.path.exists(module):
+        raise NotMade(f"its text is refused:\n{output}") if status == REFUSED else NoModule(output)
+    clang = [f"{kit}/toolchain/bin/clang", f"--target={TARGET}", f"--sysroot={kit}/toolchain", *FLAGS.split()]
+    link = [f"{kit}/bin/rattle-link", "--target", TARGET, "--toolchain", f"{kit}/toolchain", "-o", program, made]
+    for words in ([*clang, "-c", "-x", "ir", module, "-o", made], [*link, f"{kit}/c/libos_c.a", f"{kit}/c/liblibc_c.a"]):
+        status, output = run(words, folder, folder, progress.tick)
+        if status:
+            raise NoModule(output)
+    return program
+
+
+def stand_in(kit: str, to: str, module: str) -> str:
+    """Makes a toolchain of links to another one, with a clang that keeps the module. Returns the path
+    of its `rt`."""
+    for part in ("", "bin", "toolchain", "toolchain/bin"):
+        os.makedirs(f"{to}/{part}")
+        for it in os.listdir(f"{kit}/{part}"):
+            if it not in ("bin", "toolchain", "clang", "rt", "rtlib.py"):
+                os.symlink(f"{kit}/{part}/{it}", f"{to}/{part}/{it}")
+    for it in ("rt", "rtlib.py"):
+        shutil.copy(f"{kit}/bin/{it}", f"{to}/bin")
+    clang = f"{to}/toolchain/bin/clang"
+    write(clang, CLANG.format(kept=shlex.quote(module), real=shlex.quote(f"{kit}/toolchain/bin/clang")))
+    os.chmod(clang, 0o755)
+    return f"{to}/bin/rt"
+
+
+def proved(sources: Sources, folder: str, progress: Progress) -> str:
+    """Proves the sources and returns the path of the program. `rt ci` proves from nothing, crates
+    side by side, and takes nothing but what an earlier `rt ci` on this machine passed."""
+    # (it wants the top of a repository, and runs the program as the user nobody)
+    os.mkdir(f"{sources.top}/.git")
+    os.chmod(folder, 0o711)
+    write(f"{sources.top}/crates.txt", "".join(f"{line}\n" for line in sources.lines.values()))
+    told = 0
+
+    def tick() -> None:
+        nonlocal told
+        ends = PROVED.findall(text_of(f"{folder}/output"))
+        for number, (name, how) in enumerate(ends[told:], told + 1):
+            progress.say(f"{name} {how}, {number} of {len(sources.lines)}")
+        told = len(ends)
+        progress.tick()
+
+    status, output = run(["rt", "ci"], sources.top, folder, tick)
+    program = f"{sources.top}/crates/{sources.name}/out/{sources.name}"
+    if status or not os.path.isfile(program):
+        raise NotMade(f"it isn't proved; `rt ci` says:\n{output}")
+    progress.say(f"`rt ci` over these crates: {output.splitlines()[-1]}")
+    return program
