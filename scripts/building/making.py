@@ -139,7 +139,6 @@ def proved(sources: Sources, folder: str, progress: Progress) -> str:
     # (it wants the top of a repository, and runs the program as the user nobody)
     os.mkdir(f"{sources.top}/.git")
     os.chmod(folder, 0o711)
-    write(f"{sources.top}/crates.txt", "".join(f"{line}\n" for line in sources.lines.values()))
     told = 0
 
     def tick() -> None:

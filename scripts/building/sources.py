@@ -54,6 +54,10 @@ class Sources:
             copy(f"{self.top}/{path}", f"{folder}/{path}")
         return Sources(folder, self.name)
 
+    def cut(self) -> None:
+        """Leaves only the lines of these crates in crates.txt."""
+        write(f"{self.top}/crates.txt", "".join(f"{line}\n" for line in self.lines.values()))
+
 
 def sum_of_all(top: str) -> str:
     """The checksum of all that the proofs and tests of `rt ci` read: crates.txt, HANDLES, and each

@@ -49,6 +49,7 @@ class Program:
         with room() as folder:
             copied = self.sources.copy_to(f"{folder}/repository")
             sources = copied.sum()
+            copied.cut()
             made = how(copied, folder, progress)
             shutil.copyfile(made, f"{self.path}.new")
             os.chmod(f"{self.path}.new", 0o755)
