@@ -28,7 +28,7 @@ def sum_of_file(path: str) -> str:
 
 
 def sum_of(top: str, paths: Iterable[str]) -> str:
-    """The checksum of what sha256sum prints for these files. The launcher has the same."""
+    """The checksum of what sha256sum prints for these files, as ./ftmpi computes it."""
     lines = [f"{sum_of_file(f'{top}/{it}')}  {it}\n" for it in sorted(paths)]
     return hashlib.sha256("".join(lines).encode()).hexdigest()
 

@@ -1,9 +1,8 @@
-"""Compiles a copy of the sources before any proof, or proves it.
+"""Compiles a copy of the sources before any proof, or has it proved.
 
-Before a proof: `rt try` has the program compiled to an LLVM module, with tests at run time for some
+Before a proof `rt try` has the program compiled to an LLVM module, with tests at run time for some
 of what is to be proved, and calls clang. Here it runs in a stand-in for the toolchain whose clang
-keeps the module and compiles nothing. The toolchain's own clang then compiles the module, optimized,
-and its linker links it."""
+keeps the module. The toolchain's own clang then compiles that, optimized, and its linker links it."""
 
 from __future__ import annotations
 
@@ -17,11 +16,10 @@ import signal
 import subprocess
 import sys
 import tempfile
-import time
 from collections.abc import Callable, Iterator
 from typing import IO
 
-from .files import NotMade, kit_folder, text_of, write
+from .files import NotMade, kit_folder, write
 from .sources import Sources
 
 TARGET = "x86_64-unknown-linux-gnu"
@@ -34,11 +32,9 @@ case " $* " in *" -fsanitize=address "*) for it in "$@"; do case $it in *.bc) cp
 exec -a {real} {real} "$@"
 """
 REFUSED = 1
-# An estimate, in processor minutes, of all proofs of the program.
-PROOFS = 200
-PROVED = re.compile(r"^rt: (\w+) (proved|NOT PROVED|is kept)", re.MULTILINE)
+PROVED = re.compile(r"rt: (\w+) (proved|NOT PROVED|is kept)")
 PREFIX = "ftmpi-made-by-"
-# PR_SET_PDEATHSIG: a child gets this signal when its parent ends
+# PR_SET_PDEATHSIG: a process gets a signal when its parent ends
 PARENT_ENDS, LIBC = 1, ctypes.CDLL(None)
 
 
@@ -46,29 +42,13 @@ class NoModule(Exception):
     """The toolchain handed over no module."""
 
 
-class Progress:
-    """Messages on standard error, and on a terminal the seconds since the last one."""
-
-    def __init__(self) -> None:
-        self.begin = self.said = time.monotonic()
-
-    def say(self, text: str) -> None:
-        clear = "\r\033[K" if sys.stderr.isatty() else ""
-        print(f"{clear}ftmpi: {text}", file=sys.stderr, flush=True)
-        self.said = time.monotonic()
-
-    def tick(self) -> None:
-        if sys.stderr.isatty():
-            print(f"\rftmpi: .. {time.monotonic() - self.said:.0f} s ", end="", file=sys.stderr, flush=True)
-
-    def minutes(self) -> str:
-        return f"{(time.monotonic() - self.begin) / 60:.1f} minutes"
+def say(text: str) -> None:
+    print(f"ftmpi: {text}", file=sys.stderr, flush=True)
 
 
 @contextlib.contextmanager
 def room() -> Iterator[str]:
-    """A temporary folder that is removed at the end. That of a script that was killed is removed by
-    the next one."""
+    """A temporary folder that is removed at the end; after a kill, by the next script."""
     for it in os.scandir(tempfile.gettempdir()):
         of = re.match(rf"{PREFIX}(\d+)-", it.name)
         if of and not os.path.exists(f"/proc/{of[1]}"):
@@ -92,26 +72,27 @@ def started(words: list[str], cwd: str, folder: str, out: IO[bytes] | int, **mor
             process.wait()
 
 
-def run(words: list[str], cwd: str, folder: str, tick: Callable[[], None]) -> tuple[int, str]:
-    """Runs a command. Returns its status and its output. `tick` is called each second."""
-    with open(f"{folder}/output", "wb") as out, started(words, cwd, folder, out) as process:
-        while True:
-            tick()
-            with contextlib.suppress(subprocess.TimeoutExpired):
-                return process.wait(1), text_of(f"{folder}/output")
+def run(words: list[str], cwd: str, folder: str, hear: Callable[[str], None] = lambda line: None) -> tuple[int, str]:
+    """Runs a command. Returns its status and its output; `hear` gets each line as it comes."""
+    with started(words, cwd, folder, subprocess.PIPE) as process:
+        lines = []
+        for line in process.stdout:
+            lines.append(line.decode(errors="replace"))
+            hear(lines[-1])
+        return process.wait(), "".join(lines)
 
 
-def quick(sources: Sources, folder: str, progress: Progress) -> str:
+def quick(sources: Sources, folder: str) -> str:
     """Compiles the program, and returns its path in the folder. Nothing is proved."""
     kit, module, made, program = kit_folder(), *(f"{folder}/{it}" for it in ("module.bc", "module.o", sources.name))
     words = [stand_in(kit, f"{folder}/kit", module), "try", "--steps", "1", "--seconds", "1", "--", "--version"]
-    status, output = run(words, f"{sources.top}/crates/{sources.name}", folder, progress.tick)
+    status, output = run(words, f"{sources.top}/crates/{sources.name}", folder)
     if not os.path.exists(module):
         raise NotMade(f"its text is refused:\n{output}") if status == REFUSED else NoModule(output)
     clang = [f"{kit}/toolchain/bin/clang", f"--target={TARGET}", f"--sysroot={kit}/toolchain", *FLAGS.split()]
     link = [f"{kit}/bin/rattle-link", "--target", TARGET, "--toolchain", f"{kit}/toolchain", "-o", program, made]
     for words in ([*clang, "-c", "-x", "ir", module, "-o", made], [*link, f"{kit}/c/libos_c.a", f"{kit}/c/liblibc_c.a"]):
-        status, output = run(words, folder, folder, progress.tick)
+        status, output = run(words, folder, folder)
         if status:
             raise NoModule(output)
     return program
@@ -122,36 +103,32 @@ def stand_in(kit: str, to: str, module: str) -> str:
     of its `rt`."""
     for part in ("", "bin", "toolchain", "toolchain/bin"):
         os.makedirs(f"{to}/{part}")
-        for it in os.listdir(f"{kit}/{part}"):
-            if it not in ("bin", "toolchain", "clang", "rt", "rtlib.py"):
-                os.symlink(f"{kit}/{part}/{it}", f"{to}/{part}/{it}")
+        for it in {*os.listdir(f"{kit}/{part}")} - {"bin", "toolchain", "clang", "rt", "rtlib.py"}:
+            os.symlink(f"{kit}/{part}/{it}", f"{to}/{part}/{it}")
     for it in ("rt", "rtlib.py"):
         shutil.copy(f"{kit}/bin/{it}", f"{to}/bin")
-    clang = f"{to}/toolchain/bin/clang"
-    write(clang, CLANG.format(kept=shlex.quote(module), real=shlex.quote(f"{kit}/toolchain/bin/clang")))
-    os.chmod(clang, 0o755)
+    real = f"{kit}/toolchain/bin/clang"
+    write(f"{to}/toolchain/bin/clang", CLANG.format(kept=shlex.quote(module), real=shlex.quote(real)))
+    os.chmod(f"{to}/toolchain/bin/clang", 0o755)
     return f"{to}/bin/rt"
 
 
-def proved(sources: Sources, folder: str, progress: Progress) -> str:
+def proved(sources: Sources, folder: str) -> str:
     """Proves the sources and returns the path of the program. `rt ci` proves from nothing, crates
     side by side, and takes nothing but what an earlier `rt ci` on this machine passed."""
     # (it wants the top of a repository, and runs the program as the user nobody)
     os.mkdir(f"{sources.top}/.git")
     os.chmod(folder, 0o711)
-    told = 0
+    ended: list[str] = []
 
-    def tick() -> None:
-        nonlocal told
-        ends = PROVED.findall(text_of(f"{folder}/output"))
-        for number, (name, how) in enumerate(ends[told:], told + 1):
-            progress.say(f"{name} {how}, {number} of {len(sources.lines)}")
-        told = len(ends)
-        progress.tick()
+    def hear(line: str) -> None:
+        if found := PROVED.match(line):
+            ended.append(found[1])
+            say(f"{found[1]} {found[2]}, {len(ended)} of {len(sources.lines)}")
 
-    status, output = run(["rt", "ci"], sources.top, folder, tick)
+    status, output = run(["rt", "ci"], sources.top, folder, hear)
     program = f"{sources.top}/crates/{sources.name}/out/{sources.name}"
     if status or not os.path.isfile(program):
         raise NotMade(f"it isn't proved; `rt ci` says:\n{output}")
-    progress.say(f"`rt ci` over these crates: {output.splitlines()[-1]}")
+    say(f"`rt ci` over these crates: {output.splitlines()[-1]}")
     return program

@@ -1,4 +1,4 @@
-"""What is read of the crates, and its checksums."""
+"""What is read of the crates."""
 
 from __future__ import annotations
 
@@ -10,7 +10,6 @@ from collections.abc import Iterator
 from .files import NotMade, sum_of, text_of, write
 
 PARTS, KINDS = ("src", "specs", "proofs"), (".rt", ".antt")
-# What stands at the top.
 LISTS = ["HANDLES", "crates.txt"]
 # What `rt ci` runs a program on.
 STREAMS = ("args", "stdin", "stdout", "status", "data")
@@ -26,29 +25,22 @@ class Sources:
             raise NotMade(f"crates.txt has no crate {name}")
         self.lines = {it: lines[it] for it in with_those_below(name, lines)}
 
-    def files(self) -> Iterator[str]:
-        """The files that a check of these crates reads: their paths in the repository."""
-        for name in self.lines:
-            yield from (os.path.relpath(it, self.top) for it in files_of_crate(f"{self.top}/crates/{name}"))
+    def files(self) -> list[str]:
+        """The files that a check of these crates reads, as paths in the repository."""
+        found = [path for name in self.lines for path in files_of_crate(f"{self.top}/crates/{name}")]
+        return [*LISTS, *(os.path.relpath(it, self.top) for it in found)]
 
     def sum(self) -> str:
-        """The checksum of these files, crates.txt and HANDLES."""
-        return sum_of(self.top, [*LISTS, *self.files()])
+        return sum_of(self.top, self.files())
 
     def places(self) -> str:
-        """The folders and files, as paths in the repository, in which a change of the sources
-        shows."""
+        """Where these files are, and so where a change of them shows."""
         return " ".join([*LISTS, *(f"crates/{name}/{part}" for name in self.lines for part in PARTS)])
-
-    def times(self) -> list[tuple[str, int, int]]:
-        """When each file was changed last. A change shows, also one there and back."""
-        found = ((it, os.stat(f"{self.top}/{it}")) for it in [*LISTS, *self.files()])
-        return [(it, seen.st_ino, seen.st_ctime_ns) for it, seen in found]
 
     def copy_to(self, folder: str) -> Sources:
         """Copies these crates, so that later edits don't reach what is made of them."""
         streams = [f"crates/{self.name}/{it}" for it in STREAMS]
-        for path in [*LISTS, *self.files(), *(it for it in streams if os.path.exists(f"{self.top}/{it}"))]:
+        for path in [*self.files(), *(it for it in streams if os.path.exists(f"{self.top}/{it}"))]:
             os.makedirs(os.path.dirname(f"{folder}/{path}"), exist_ok=True)
             copy = shutil.copytree if os.path.isdir(f"{self.top}/{path}") else shutil.copyfile
             copy(f"{self.top}/{path}", f"{folder}/{path}")
@@ -57,16 +49,6 @@ class Sources:
     def cut(self) -> None:
         """Leaves only the lines of these crates in crates.txt."""
         write(f"{self.top}/crates.txt", "".join(f"{line}\n" for line in self.lines.values()))
-
-
-def sum_of_all(top: str) -> str:
-    """The checksum of all that the proofs and tests of `rt ci` read: crates.txt, HANDLES, and each
-    file of crates/, but for what is built, what is written for readers, and hidden files."""
-    paths = LISTS.copy()
-    for at, folders, files in os.walk(f"{top}/crates"):
-        folders[:] = [it for it in folders if it not in ("out", "__pycache__")]
-        paths += [os.path.relpath(f"{at}/{it}", top) for it in files if not it.endswith(".md") and not it.startswith(".")]
-    return sum_of(top, paths)
 
 
 def files_of_crate(folder: str) -> Iterator[str]:
@@ -89,4 +71,3 @@ def with_those_below(name: str, lines: dict[str, str]) -> list[str]:
         if below in lines:
             found += [it for it in with_those_below(below, lines) if it not in found]
     return [*found, name]
-

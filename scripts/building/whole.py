@@ -6,23 +6,24 @@ import contextlib
 import fcntl
 import os
 import shutil
+import time
 from collections.abc import Callable, Iterator
 
 from .files import kit_folder, kit_line, sum_of_file, text_of, write
-from .making import PROOFS, NoModule, Progress, proved, quick, room
-from .proved import said_of
+from .making import NoModule, proved, quick, room, say
+from .proved import on_disk
 from .sources import Sources
 
 TOP = os.path.dirname(os.path.dirname(os.path.dirname(os.path.realpath(__file__))))
 NAME = "ftmpi"
 OUT = f"{TOP}/crates/{NAME}/out"
-# What is said of the quick program.
-UNPROVED = "nothing of it was proved here; it stops at an index out of bounds, an overflow and a failed unwrap"
+# An estimate, in processor minutes, of all proofs of the program.
+PROOFS = 200
 
 
 class Program:
     """The proved program, crates/ftmpi/out/ftmpi, or the quick one beside it. The file .sum has a line
-    each for what find last printed about the sources (the launcher writes it), the checksum of the
+    each for what find last printed about the sources (./ftmpi writes it), the checksum of the
     sources, the toolchain, the checksum of the program, and the places in which sources are."""
 
     def __init__(self, kind: str) -> None:
@@ -32,64 +33,55 @@ class Program:
         """The record of this program, made from sources with this checksum."""
         return "".join(f"{it}\n" for it in ("", sources, kit_line(), sum_of_file(self.path), self.sources.places()))
 
+    def keep(self, sources: str) -> None:
+        write(f"{self.path}.new", self.record(sources))
+        os.replace(f"{self.path}.new", f"{self.path}.sum")
+
     def is_current(self) -> bool:
         """Whether the program is as it was made, from these sources and by this toolchain."""
         if not os.path.isfile(self.path) or not os.path.exists(f"{self.path}.sum"):
             return False
         return text_of(f"{self.path}.sum").partition("\n")[2] == self.record(self.sources.sum()).partition("\n")[2]
 
-    def keep(self, sources: str) -> None:
-        write(f"{self.path}.new", self.record(sources))
-        os.replace(f"{self.path}.new", f"{self.path}.sum")
-
-    def make(self, how: Callable[[Sources, str, Progress], str], progress: Progress) -> str:
-        """Makes the program from a copy of the sources and puts it in its place, in one step. Returns
-        the checksum of the sources."""
+    def make(self, how: Callable[[Sources, str], str]) -> str:
+        """Makes the program from a copy of the sources, and puts it in its place in one step. Returns
+        what to say of it."""
         kit_folder()
+        began = time.monotonic()
         with room() as folder:
             copied = self.sources.copy_to(f"{folder}/repository")
             sources = copied.sum()
             copied.cut()
-            made = how(copied, folder, progress)
-            shutil.copyfile(made, f"{self.path}.new")
+            shutil.copyfile(how(copied, folder), f"{self.path}.new")
             os.chmod(f"{self.path}.new", 0o755)
             os.replace(f"{self.path}.new", self.path)
             self.keep(sources)
-        return sources
+        are_proved = {f"program {sources}", f"toolchain {kit_line()}"} <= {*on_disk(TOP).splitlines()}
+        of = "are the sources that ./check proved" if are_proved else "sources have not been proved"
+        return f"made in {(time.monotonic() - began) / 60:.1f} minutes; these {of}"
 
 
 def answering(wants_proof: bool) -> str:
     """The path of the program that answers: the proved one if it is there. Else the quick one is
     made; with a proof wanted, the proved one."""
+    proof, unproved = Program(NAME), Program("quick")
     if not wants_proof:
         with locked("quick"):
-            for it in (Program(NAME), Program("quick")):
+            for it in (proof, unproved):
                 if it.is_current():
                     return it.path
-            with contextlib.suppress(NoModule):
-                return made_quick(Program("quick"))
+            say("no program is there for these sources: the quick one is made, in three to five minutes")
+            try:
+                say(f"the quick program was {unproved.make(quick)}; nothing of it was proved here")
+                return unproved.path
+            except NoModule as it:
+                say(f"the toolchain handed over no module, so there is no quick program, and it is proved. It said:\n{it}")
     with locked("proof"):
-        return Program(NAME).path if Program(NAME).is_current() else made_by_proof(Program(NAME))
-
-
-def made_quick(program: Program) -> str:
-    progress = Progress()
-    progress.say("no program is there for these sources: the quick one is made, in three to five minutes")
-    try:
-        sources = program.make(quick, progress)
-    except NoModule as it:
-        progress.say(f"the toolchain handed over no module, so there is no quick program; it is proved instead. It said:\n{it}")
-        raise
-    progress.say(f"the quick program is made, in {progress.minutes()}: {UNPROVED}; {said_of(TOP, sources)}")
-    return program.path
-
-
-def made_by_proof(program: Program) -> str:
-    cores, progress = len(os.sched_getaffinity(0)), Progress()
-    progress.say(f"proves all crates of the program on {cores} cores: in about {max(PROOFS / cores, 25):.0f} minutes, by an estimate")
-    program.make(proved, progress)
-    progress.say(f"the proved program is made, in {progress.minutes()}: {os.path.relpath(program.path, TOP)}")
-    return program.path
+        if not proof.is_current():
+            cores = len(os.sched_getaffinity(0))
+            say(f"proves all crates of the program on {cores} cores, in about {max(PROOFS / cores, 25):.0f} minutes by an estimate")
+            say(f"the proved program was {proof.make(proved).partition(';')[0]}")
+    return proof.path
 
 
 @contextlib.contextmanager
@@ -100,6 +92,6 @@ def locked(what: str) -> Iterator[None]:
         try:
             fcntl.flock(lock, fcntl.LOCK_EX | fcntl.LOCK_NB)
         except BlockingIOError:
-            Progress().say("waits for another call that makes the program")
+            say("waits for another call that makes the program")
             fcntl.flock(lock, fcntl.LOCK_EX)
         yield
