@@ -8,6 +8,7 @@ from __future__ import annotations
 
 import contextlib
 import ctypes
+import itertools
 import os
 import re
 import shlex
@@ -31,8 +32,7 @@ CLANG = """#!/bin/bash
 case " $* " in *" -fsanitize=address "*) for it in "$@"; do case $it in *.bc) cp -- "$it" {kept} && exit 1 ;; esac; done ;; esac
 exec -a {real} {real} "$@"
 """
-REFUSED = 1
-PROVED = re.compile(r"rt: (\w+) (proved|NOT PROVED|is kept)")
+PROVED = re.compile(r"rt: (\w+ (?:proved|NOT PROVED|is kept))")
 PREFIX = "ftmpi-made-by-"
 # PR_SET_PDEATHSIG: a process gets a signal when its parent ends
 PARENT_ENDS, LIBC = 1, ctypes.CDLL(None)
@@ -62,8 +62,7 @@ def started(words: list[str], cwd: str, folder: str, out: IO[bytes] | int, **mor
     """A command, with its temporary files in the folder, and more in its environment. It ends when
     this script ends, however that ends."""
     how = {"stdin": subprocess.DEVNULL, "stdout": out, "stderr": subprocess.STDOUT, "env": {**os.environ, "TMPDIR": folder, **more}}
-    begin = lambda: LIBC.prctl(PARENT_ENDS, signal.SIGTERM)
-    process = subprocess.Popen(words, cwd=cwd, preexec_fn=begin, start_new_session=True, **how)
+    process = subprocess.Popen(words, cwd=cwd, preexec_fn=lambda: LIBC.prctl(PARENT_ENDS, signal.SIGTERM), start_new_session=True, **how)
     try:
         yield process
     finally:
@@ -72,7 +71,7 @@ def started(words: list[str], cwd: str, folder: str, out: IO[bytes] | int, **mor
             process.wait()
 
 
-def run(words: list[str], cwd: str, folder: str, hear: Callable[[str], None] = lambda line: None) -> tuple[int, str]:
+def run(words: list[str], cwd: str, folder: str, hear: Callable[[str], object] = bool) -> tuple[int, str]:
     """Runs a command. Returns its status and its output; `hear` gets each line as it comes."""
     with started(words, cwd, folder, subprocess.PIPE) as process:
         lines = []
@@ -88,7 +87,7 @@ def quick(sources: Sources, folder: str) -> str:
     words = [stand_in(kit, f"{folder}/kit", module), "try", "--steps", "1", "--seconds", "1", "--", "--version"]
     status, output = run(words, f"{sources.top}/crates/{sources.name}", folder)
     if not os.path.exists(module):
-        raise NotMade(f"its text is refused:\n{output}") if status == REFUSED else NoModule(output)
+        raise NotMade(f"its text is refused:\n{output}") if status == 1 else NoModule(output)
     clang = [f"{kit}/toolchain/bin/clang", f"--target={TARGET}", f"--sysroot={kit}/toolchain", *FLAGS.split()]
     link = [f"{kit}/bin/rattle-link", "--target", TARGET, "--toolchain", f"{kit}/toolchain", "-o", program, made]
     for words in ([*clang, "-c", "-x", "ir", module, "-o", made], [*link, f"{kit}/c/libos_c.a", f"{kit}/c/liblibc_c.a"]):
@@ -99,8 +98,7 @@ def quick(sources: Sources, folder: str) -> str:
 
 
 def stand_in(kit: str, to: str, module: str) -> str:
-    """Makes a toolchain of links to another one, with a clang that keeps the module. Returns the path
-    of its `rt`."""
+    """Makes links to a toolchain, with a clang that keeps the module. Returns the path of its `rt`."""
     for part in ("", "bin", "toolchain", "toolchain/bin"):
         os.makedirs(f"{to}/{part}")
         for it in {*os.listdir(f"{kit}/{part}")} - {"bin", "toolchain", "clang", "rt", "rtlib.py"}:
@@ -119,14 +117,9 @@ def proved(sources: Sources, folder: str) -> str:
     # (it wants the top of a repository, and runs the program as the user nobody)
     os.mkdir(f"{sources.top}/.git")
     os.chmod(folder, 0o711)
-    ended: list[str] = []
-
-    def hear(line: str) -> None:
-        if found := PROVED.match(line):
-            ended.append(found[1])
-            say(f"{found[1]} {found[2]}, {len(ended)} of {len(sources.lines)}")
-
-    status, output = run(["rt", "ci"], sources.top, folder, hear)
+    number = itertools.count(1)
+    hear = lambda line: (it := PROVED.match(line)) and say(f"{it[1]}, {next(number)} of {len(sources.lines)}")
+    status, output = run([f"{kit_folder()}/bin/rt", "ci"], sources.top, folder, hear)
     program = f"{sources.top}/crates/{sources.name}/out/{sources.name}"
     if status or not os.path.isfile(program):
         raise NotMade(f"it isn't proved; `rt ci` says:\n{output}")

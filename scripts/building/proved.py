@@ -9,7 +9,7 @@ from .files import kit_line, sum_of, text_of
 from .sources import LISTS
 
 FILE = "proved.txt"
-HEADING = "# Written by ./check when everything had passed (scripts/README.md says what the sums cover).\n"
+HEADING = "# Written by ./check when all had passed; scripts/README.md says what the sums cover.\n"
 
 
 def sum_of_all(top: str) -> str:
@@ -24,11 +24,17 @@ def sum_of_all(top: str) -> str:
 
 def text_for(top: str, program: str, verdict: str) -> str:
     """The contents, with the checksum of the program's sources and the last line of `./check`."""
-    return f"{HEADING}sources {sum_of_all(top)}\nprogram {program}\ntoolchain {kit_line()}\n./check: {verdict}\n"
+    return f"{HEADING}sources {sum_of_all(top)}\nprogram {program} by {kit_line()}\n./check: {verdict}\n"
 
 
 def on_disk(top: str) -> str:
     return text_of(f"{top}/{FILE}") if os.path.exists(f"{top}/{FILE}") else ""
+
+
+def said_of(top: str, program: str) -> str:
+    """What the file says of a program whose sources have this checksum."""
+    is_so = f"program {program} by {kit_line()}" in on_disk(top).splitlines()
+    return "these are the sources that ./check proved" if is_so else "these sources have not been proved"
 
 
 def committed(top: str) -> str:

@@ -11,8 +11,8 @@ from .files import NotMade, sum_of, text_of, write
 
 PARTS, KINDS = ("src", "specs", "proofs"), (".rt", ".antt")
 LISTS = ["HANDLES", "crates.txt"]
-# What `rt ci` runs a program on.
-STREAMS = ("args", "stdin", "stdout", "status", "data")
+# What no proof of a crate needs. (`rt ci` runs the program on its other files.)
+LEFT_OUT = shutil.ignore_patterns("out", "must-fail", "wrong")
 
 
 class Sources:
@@ -34,16 +34,15 @@ class Sources:
         return sum_of(self.top, self.files())
 
     def places(self) -> str:
-        """Where these files are, and so where a change of them shows."""
+        """Where these files are."""
         return " ".join([*LISTS, *(f"crates/{name}/{part}" for name in self.lines for part in PARTS)])
 
     def copy_to(self, folder: str) -> Sources:
         """Copies these crates, so that later edits don't reach what is made of them."""
-        streams = [f"crates/{self.name}/{it}" for it in STREAMS]
-        for path in [*self.files(), *(it for it in streams if os.path.exists(f"{self.top}/{it}"))]:
-            os.makedirs(os.path.dirname(f"{folder}/{path}"), exist_ok=True)
-            copy = shutil.copytree if os.path.isdir(f"{self.top}/{path}") else shutil.copyfile
-            copy(f"{self.top}/{path}", f"{folder}/{path}")
+        for name in self.lines:
+            shutil.copytree(f"{self.top}/crates/{name}", f"{folder}/crates/{name}", symlinks=True, ignore=LEFT_OUT)
+        for it in LISTS:
+            shutil.copy(f"{self.top}/{it}", folder)
         return Sources(folder, self.name)
 
     def cut(self) -> None:

@@ -9,9 +9,9 @@ import shutil
 import time
 from collections.abc import Callable, Iterator
 
-from .files import kit_folder, kit_line, sum_of_file, text_of, write
+from .files import kit_line, sum_of_file, text_of, write
 from .making import NoModule, proved, quick, room, say
-from .proved import on_disk
+from .proved import said_of
 from .sources import Sources
 
 TOP = os.path.dirname(os.path.dirname(os.path.dirname(os.path.realpath(__file__))))
@@ -44,9 +44,7 @@ class Program:
         return text_of(f"{self.path}.sum").partition("\n")[2] == self.record(self.sources.sum()).partition("\n")[2]
 
     def make(self, how: Callable[[Sources, str], str]) -> str:
-        """Makes the program from a copy of the sources, and puts it in its place in one step. Returns
-        what to say of it."""
-        kit_folder()
+        """Makes the program from a copy of the sources. Returns what to say of it."""
         began = time.monotonic()
         with room() as folder:
             copied = self.sources.copy_to(f"{folder}/repository")
@@ -56,9 +54,7 @@ class Program:
             os.chmod(f"{self.path}.new", 0o755)
             os.replace(f"{self.path}.new", self.path)
             self.keep(sources)
-        are_proved = {f"program {sources}", f"toolchain {kit_line()}"} <= {*on_disk(TOP).splitlines()}
-        of = "are the sources that ./check proved" if are_proved else "sources have not been proved"
-        return f"made in {(time.monotonic() - began) / 60:.1f} minutes; these {of}"
+        return f"made in {(time.monotonic() - began) / 60:.1f} minutes; {said_of(TOP, sources)}"
 
 
 def answering(wants_proof: bool) -> str:
