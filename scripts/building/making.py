@@ -1,8 +1,7 @@
 """Compiles a copy of the sources before any proof, or has it proved.
 
-Before a proof `rt try` has the program compiled to an LLVM module, with tests at run time for some
-of what is to be proved, and calls clang. Here it runs in a stand-in for the toolchain whose clang
-keeps the module. The toolchain's own clang then compiles that, optimized, and its linker links it."""
+Before a proof `rt try` compiles the program to an LLVM module, with tests at run time, and calls
+clang. Here a stand-in for clang keeps the module, and the toolchain's own then compiles it."""
 
 from __future__ import annotations
 
@@ -24,7 +23,7 @@ from .files import NotMade, kit_folder, write
 from .sources import Sources
 
 TARGET = "x86_64-unknown-linux-gnu"
-# As the toolchain compiles what was proved, but without inlining, which would take half the time.
+# As the toolchain compiles what was proved, but without inlining: it takes half as long.
 FLAGS = "-march=x86-64 -mllvm -no-trap-after-noreturn -ffunction-sections -fdata-sections -mllvm -trap-unreachable"
 FLAGS += " --no-default-config -no-canonical-prefixes -fPIE -O1 -mllvm -inline-threshold=0"
 # (it gets an empty environment; the first module that it gets is the toolchain's own, for a trial)
@@ -105,8 +104,7 @@ def stand_in(kit: str, to: str, module: str) -> str:
             os.symlink(f"{kit}/{part}/{it}", f"{to}/{part}/{it}")
     for it in ("rt", "rtlib.py"):
         shutil.copy(f"{kit}/bin/{it}", f"{to}/bin")
-    real = f"{kit}/toolchain/bin/clang"
-    write(f"{to}/toolchain/bin/clang", CLANG.format(kept=shlex.quote(module), real=shlex.quote(real)))
+    write(f"{to}/toolchain/bin/clang", CLANG.format(kept=shlex.quote(module), real=shlex.quote(f"{kit}/toolchain/bin/clang")))
     os.chmod(f"{to}/toolchain/bin/clang", 0o755)
     return f"{to}/bin/rt"
 

@@ -3,6 +3,7 @@
 from __future__ import annotations
 
 import os
+import shutil
 import subprocess
 
 from .files import kit_line, sum_of, text_of
@@ -39,10 +40,7 @@ def said_of(top: str, program: str) -> str:
 
 def committed(top: str) -> str:
     """The file's contents in the last commit; without git, on the disk. Empty if it isn't there."""
-    git = ["git", "-c", "safe.directory=*", "-C", top]
-    try:
-        if subprocess.run([*git, "rev-parse", "-q", "--verify", "HEAD:./crates.txt"], capture_output=True).returncode == 0:
-            return subprocess.run([*git, "show", f"HEAD:./{FILE}"], capture_output=True, text=True).stdout
-    except OSError:  # (there is no git)
-        pass
-    return on_disk(top)
+    if not os.path.exists(f"{top}/.git") or not shutil.which("git"):
+        return on_disk(top)
+    show = ["git", "-c", "safe.directory=*", "-C", top, "show", f"HEAD:./{FILE}"]
+    return subprocess.run(show, capture_output=True, text=True, check=False).stdout

@@ -19,6 +19,7 @@ NAME = "ftmpi"
 OUT = f"{TOP}/crates/{NAME}/out"
 # An estimate, in processor minutes, of all proofs of the program.
 PROOFS = 200
+UNPROVED = "nothing of it was proved here, but it tests indices and overflow as it runs"
 
 
 class Program:
@@ -58,17 +59,15 @@ class Program:
 
 
 def answering(wants_proof: bool) -> str:
-    """The path of the program that answers: the proved one if it is there. Else the quick one is
-    made; with a proof wanted, the proved one."""
+    """The path of the program that answers. Makes the quick one, or the proved one, if need be."""
     proof, unproved = Program(NAME), Program("quick")
     if not wants_proof:
         with locked("quick"):
-            for it in (proof, unproved):
-                if it.is_current():
-                    return it.path
+            if there := next((it for it in (proof, unproved) if it.is_current()), None):
+                return there.path
             say("no program is there for these sources: the quick one is made, in three to five minutes")
             try:
-                say(f"the quick program was {unproved.make(quick)}; nothing of it was proved here")
+                say(f"the quick program was {unproved.make(quick)}; {UNPROVED}")
                 return unproved.path
             except NoModule as it:
                 say(f"the toolchain handed over no module, so there is no quick program, and it is proved. It said:\n{it}")
