@@ -59,7 +59,7 @@ FILES = {
     ),
     "crates/office/proofs/open/Answers.antt": "pub returns-clause-0 = stays\n",
     "crates/post/must-fail/accepts_a_gap.edit": "file: src/inbox.rt\nold: true\nnew: false\n",
-    "crates/post/wrong/2/accepts_a_repeat.edit": "file: src/inbox.rt\nold: true\nnew: false\n",
+    "crates/post/wrong/letters/accepts_a_repeat.edit": "file: src/inbox.rt\nold: true\nnew: false\n",
     "crates/office/README.md": (
         "# office\n\n## Claims\n\n"
         "- **An office opens with an empty inbox.**\n  Clauses: `open` (`empty`).\n  Mutants: `post/accepts_a_gap`.\n"
@@ -105,7 +105,7 @@ CASES = (
     Case("a claim that isn't bold", POST, "- **A letter", "- A letter", POST, "one sentence in bold"),
     Case("a mutant that isn't there", POST, "`accepts_a_repeat`", "`accepts_all`", POST, "`accepts_all` names no mutant of post"),
     Case("a mutant of another crate that isn't there", OFFICE, "post/accepts", "post/takes", OFFICE, "names no mutant of post"),
-    Case("a mutant that no claim names", POST, ", `accepts_a_repeat`", "", f"{WRONG}/2/accepts_a_repeat.edit", "names this mutant"),
+    Case("a mutant that no claim names", POST, ", `accepts_a_repeat`", "", f"{WRONG}/letters/accepts_a_repeat.edit", "names this mutant"),
     Case("two mutants of one name", f"{WRONG}/accepts_a_gap.edit", "", "", f"{WRONG}/accepts_a_gap.edit", "has the same name"),
     Case("a crate without claims", POST, "## Claims", "## Other claims", POST, "no section '## Claims'"),
     Case("a link to nothing", README, "(crates/post)", "(crates/mail)", README, "crates/mail leads to nothing"),
