@@ -1,4 +1,4 @@
-"""How scripts/claims checks documents against the code, and writes docs/reference/.
+"""How scripts/claims checks documents against the code, and writes docs/reference/ and maps of lemmas.
 
     places     files of the repository, its crates, and faults
     markdown   a document without its fenced blocks: code spans, links, headings
@@ -9,6 +9,7 @@
     claims     the claims of a crate's README
     wrapping   text in lines of 100 columns
     pages      docs/reference/CLAUSES.md and DEFINITIONS.md
+    proof_map  proofs/README.md of a crate that has one
     naming     whether each name of a claim exists, and fits the contract it is named for
     mutants    whether each mutant stands at a claim
     lemmas     whether each lemma is used, and stands once

@@ -13,6 +13,7 @@ from .whole import Whole
 FILES = {
     "crates.txt": "post:\noffice: post\n",
     "check": "#!/bin/sh\n",
+    "scripts/claims": "#!/bin/sh\n",
     "README.md": (
         "# Sample\n\n"
         "A [crate](crates/post), its [claims](crates/post/README.md#claims) and [a term][letter].\n"
@@ -53,6 +54,7 @@ FILES = {
         "-- none is counted twice\npub counted : (n m : ℕ) → n ≡ m → n + 1 ≡ m + 1\ncounted n m e = rw e refl\n"
     ),
     "crates/post/proofs/Lib.antt": "pub mod Letters\n",
+    "crates/post/proofs/README.md": "",
     "crates/office/proofs/Opening.antt": (
         "-- An office is open.\nuse Rattle.post.proofs.Letters.{counted}\n\n"
         "-- so from letter to letter\npub stays : (k : ℕ) → k ≡ k → k + 1 + 1 ≡ k + 1 + 1\nstays k e = counted (k + 1) (k + 1) (counted k k e)\n"
@@ -89,6 +91,7 @@ README = "README.md"
 GLOSSARY = "docs/GLOSSARY.md"
 THEOREMS = "docs/THEOREMS.md"
 LETTERS = "crates/post/proofs/Letters.antt"
+MAP = "crates/post/proofs/README.md"
 OPENING = "crates/office/proofs/Opening.antt"
 SAME_AS_BELOW = "(i j : ℕ) → i ≡ j → i + 1 ≡ j + 1"
 CASES = (
@@ -124,6 +127,7 @@ CASES = (
     Case("a lemma that nothing uses", "crates/office/proofs/open/Answers.antt", "stays", "holds", OPENING, "nothing uses the lemma `stays`"),
     Case("a lemma that is pub for nobody", LETTERS, "e refl\n", "e (same n)\n\npub same : (n : ℕ) → n ≡ n\nsame n = refl\n", LETTERS, "`same` is pub, and"),
     Case("a lemma that stands below", OPENING, "(k : ℕ) → k ≡ k → k + 1 + 1 ≡ k + 1 + 1", SAME_AS_BELOW, OPENING, "`stays` says what `counted` of"),
+    Case("a map of lemmas that isn't up to date", MAP, "Letters", "Mail", MAP, "isn't what scripts/claims --write writes"),
     Case("a page that isn't up to date", CLAUSES, "post", "mail", CLAUSES, "isn't what scripts/claims --write writes"),
 )
 
@@ -141,7 +145,7 @@ def edit(top: str, case: Case) -> None:
     if case.old not in text:
         raise ValueError(f"{case.name}: {case.file} has no {case.old!r}")
     write(path, text.replace(case.old, case.new, 1))
-    if case.file != CLAUSES:
+    if case.file not in (CLAUSES, MAP):
         Whole(top).write()
 
 

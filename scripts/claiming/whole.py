@@ -5,7 +5,7 @@ from __future__ import annotations
 import os
 from typing import Iterator
 
-from . import columns, links, mutants, pages, pairs
+from . import columns, links, mutants, pages, pairs, proof_map
 from .claims import Claims, claims_of
 from .code import items_of_code
 from .items import Item, segments_of
@@ -55,7 +55,9 @@ class Whole:
         return claims_of(crate.readme(), self.text(crate.readme()))
 
     def written(self) -> list[Written]:
-        return [pages.clauses_page(self.crates, self.claims), pages.definitions_page(self.crates, self.pages)]
+        mapped = [it for it in self.crates if os.path.isfile(os.path.join(self.top, proof_map.path_of(it)))]
+        maps = [proof_map.page_of(it, self.proofs[it.name]) for it in mapped]
+        return [pages.clauses_page(self.crates, self.claims), pages.definitions_page(self.crates, self.pages), *maps]
 
     def write(self) -> None:
         for it in self.written():
