@@ -44,16 +44,12 @@ IsCostFormOf arguments cost_form.Table = (is_given (codes "costs") arguments ≡
 IsCostFormOf arguments cost_form.Json = (is_given (codes "costs") arguments ≡ true)
     × (is_given (codes "json") arguments ≡ true)
 
--- A run is traced in the form whose option is there, and else as lines. A picture is from `--from` to
--- `--to`, or of the whole run.
+-- A run is traced in the form whose option is there, and else as lines; none is drawn.
 abbrev pub IsTraceFormOf : List (List ℕ) → TraceForm → Type 0
 IsTraceFormOf arguments trace_form.Text = (is_given (codes "json") arguments ≡ false)
     × (is_given (codes "events") arguments ≡ false) × (is_given (codes "picture") arguments ≡ false)
 IsTraceFormOf arguments trace_form.Json = is_given (codes "json") arguments ≡ true
 IsTraceFormOf arguments trace_form.Events = is_given (codes "events") arguments ≡ true
-IsTraceFormOf arguments (trace_form.Picture from to) = (is_given (codes "picture") arguments ≡ true)
-    × IsSpelledOr 1 (value_of (codes "from") arguments) from
-    × IsSpelledOr 4294967295 (value_of (codes "to") arguments) to
 
 -- The run that is traced, without its costs, and the form.
 pub record IsTraceOf (command : List ℕ) (arguments : List (List ℕ)) (trace : TraceJob) : Type 0 where

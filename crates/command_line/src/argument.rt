@@ -25,6 +25,8 @@ enum Given {
     File,
     /// Nothing: the option is there or not.
     Nothing,
+    /// Nothing, and the option is refused: no help has it.
+    Gone,
     /// The file of an option.
     FileOf,
     /// A number of ranks.
@@ -62,6 +64,11 @@ impl Argument {
     /// An option that is given nothing.
     pub fn flag(name: &'static str, help: &'static str) -> Argument {
         Argument::new(name, "", help, Given::Nothing)
+    }
+
+    /// An option that is given nothing, and is refused by a text of its own.
+    pub fn gone(name: &'static str) -> Argument {
+        Argument::new(name, "", "", Given::Gone)
     }
 
     /// An option that is given a file.
@@ -117,6 +124,10 @@ impl Argument {
         match self.given {
             Given::File => self.value(argument).required(true),
             Given::Nothing => argument.long(self.name).action(ArgAction::SetTrue),
+            Given::Gone => argument
+                .long(self.name)
+                .action(ArgAction::SetTrue)
+                .hide(true),
             Given::FileOf => self.option(argument),
             Given::Ranks { required } => self
                 .option(argument)

@@ -10,6 +10,7 @@ mod searches;
 mod soaks;
 mod worlds;
 
+use crate::help;
 use crate::job::Job;
 use crate::named::checks::{check_of, explain_of};
 use crate::named::commands::{CommandName, command_called};
@@ -53,10 +54,15 @@ fn job_by<'a>(command: &mut Command<'a>, words: &'a [String]) -> Result<Job<'a>,
 {
     let matches = command.try_get_matches_from_mut(words)?;
     drop(matches);
-    match named(words) {
-        Some(job) => Ok(job),
-        None => Err(command.error(ErrorKind::MissingSubcommand, "no command was given")?),
-    }
+    let Some(job) = named(words) else {
+        let (kind, text) = if is_given("picture", words) {
+            (ErrorKind::UnknownArgument, help::NO_PICTURE)
+        } else {
+            (ErrorKind::MissingSubcommand, "no command was given")
+        };
+        return Err(command.error(kind, text)?);
+    };
+    Ok(job)
 }
 
 // The job that the words name.

@@ -15,8 +15,6 @@ pub enum TraceForm {
     Json,
     /// Events of a world, one a line.
     Events,
-    /// A picture, from one time of the run's acts to another.
-    Picture { from: u32, to: u32 },
 }
 
 /// One run that is traced.
@@ -44,21 +42,7 @@ pub fn trace<'a>(alloc: Global) -> Result<Command<'a>, AllocError> {
             Argument::flag("events", "Prints that run as events, for `ftmpi world`").without(&[
                 "json",
             ]),
-            Argument::flag(
-                "picture",
-                "Prints a picture of the run, one SVG file (below)",
-            )
-            .without(&["json", "events"]),
-            time("from", "The first time drawn, 1 to 1000000000"),
-            time("to", "The last time drawn, 1 to 1000000000"),
+            Argument::gone("picture"),
         ],
     )
-}
-
-// What an option requires isn't missed where it conflicts with one that is there, as `--picture`
-// does with these.
-fn time(name: &'static str, help: &'static str) -> Argument {
-    Argument::number(name, "C", help, 1, None)
-        .with("picture")
-        .without(&["json", "events"])
 }

@@ -9,7 +9,7 @@ use Rattle.explore.specs.declared.moves.Noted.{Noted}
 use Rattle.explore.specs.Outcomes.{IsAmong}
 use Rattle.explore.proofs.Among.{among_last, among_none}
 use Rattle.runner.specs.Partings.{AreOfLast, ArePartings, IsParting, PartsFrom, PartsOn}
-use Rattle.runner.specs.declared.outcomes.parting.Parted.{Parted}
+use Rattle.runner.specs.declared.explored.parting.Parted.{Parted}
 
 -- lists that are the same up to a place begin with the same elements
 same_take : {A : Type 0} (xs ys : List A) (k : ℕ) → ((i : ℕ) → i < k → slice_get xs i ≡ slice_get ys i) → take k xs ≡ take k ys

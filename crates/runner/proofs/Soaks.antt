@@ -1,8 +1,8 @@
 -- How runs under scripts that were drawn are counted, one after another.
 use Rattle.std.proofs.Common.{◌≡◌, ◌↔◌, ◌≤◌, ◌+◌, ℕ, List, [], true, false, nat_lt, IsTrue, subst}
 use Rattle.command_line.specs.declared.soaking.SoakJob.{SoakJob}
-use Rattle.core_runner.specs.Reports.{IsReportUnder}
-use Rattle.core_runner.specs.Statuses.{AreHalted}
+use Rattle.runner.specs.Reports.{IsReportUnder}
+use Rattle.runner.specs.Statuses.{AreHalted}
 use Rattle.audit.specs.FinalRuns.Final.{seen_of}
 use Rattle.rank_language.specs.Correct.{IsProgramOf}
 use Rattle.rank_language.specs.Program.{ProgramValue}

@@ -1,5 +1,5 @@
 -- What a tool answers, of the texts that the files hold.
-use Rattle.std.proofs.Common.{◌≡◌, ℕ, List, Ok, refl}
+use Rattle.std.proofs.Common.{◌≡◌, ℕ, List, Ok, subst, sym}
 use Rattle.c_program.specs.Whole.{IsCText}
 use Rattle.command_line.specs.declared.job.WorldJob.{WorldJob}
 use Rattle.world_model.specs.EventsText.Events.{events_of}
@@ -10,8 +10,10 @@ use Rattle.runner.specs.Translations.{IsCAnswer}
 use Rattle.world_model.specs.declared.event.WorldEvent.{WorldEvent}
 
 -- the C text of a text that the file holds
-pub is_c_answer : (holds : List ℕ → Type 0) (text c : List ℕ) → holds text → IsCText text c → IsCAnswer holds c 0
-is_c_answer holds text c held translated = record { text = text; held = held; translated = translated; done = refl }
+pub is_c_answer : (holds : List ℕ → Type 0) (text c out : List ℕ) (status : ℕ) → holds text → IsCText text c → out ≡ c → status ≡ 0
+    → IsCAnswer holds out status
+is_c_answer holds text c out status held translated same done =
+    record { text = text; held = held; translated = subst (IsCText text) (sym same) translated; done = done }
 
 -- the events of a text that the file holds
 pub has_events : (holds : List ℕ → Type 0) (text : List ℕ) (events : List WorldEvent)
@@ -20,14 +22,14 @@ has_events holds text events held read = record { events = events; given = recor
 
 -- events of a file that is read once the program is
 pub is_objects_answer : (holds held : List ℕ → List ℕ → Type 0) (job : WorldJob) (text : List ℕ) (program : ProgramValue)
-    → held job.program.now text → IsProgramOf text program → ((file text : List ℕ) → holds file text → held file text)
-    → HasEvents (holds job.events.now) → IsObjectsAnswer held job 0
-is_objects_answer holds held job text program has read kept events = record {
+    (status : ℕ) → held job.program.now text → IsProgramOf text program → ((file text : List ℕ) → holds file text → held file text)
+    → HasEvents (holds job.events.now) → status ≡ 0 → IsObjectsAnswer held job status
+is_objects_answer holds held job text program status has read kept events done = record {
   program = program;
   read = record { text = text; held = has; read = read };
   given = record {
     events = events.events;
     given = record { text = events.given.text; held = kept job.events.now events.given.text events.given.held; read = events.given.read };
   };
-  done = refl;
+  done = done;
 }

@@ -1,15 +1,15 @@
 -- A text that begins with the acts of the run that was found, and goes on; and how what is told of
 -- a run is an answer.
-use Rattle.std.proofs.Common.{◌≡◌, ◌≢◌, ℕ, List, [], ◌++◌, Option, Some, None, ap, ◌∙◌, reverse, subst}
-use Rattle.std.specs.Borrow.{Bor}
+use Rattle.std.proofs.Common.{◌≡◌, ◌≢◌, ℕ, List, [], ◌++◌, ap, ◌∙◌, reverse, subst}
 use Rattle.std.proofs.lemmas.List.{append_assoc}
 use Rattle.audit.specs.Found.{IsFound}
 use Rattle.audit.specs.Outcome.{OutcomeValue}
 use Rattle.command_line.specs.declared.tracing.TraceForm.TheVariants as form
 use Rattle.command_line.specs.declared.tracing.TraceJob.{TraceJob}
-use Rattle.core_runner.specs.Reading.{IsScriptBy}
-use Rattle.core_runner.specs.Reports.{IsReportUnder}
-use Rattle.core_runner.specs.Statuses.{HasStatus}
+use Rattle.runner.proofs.Reading.{script_held_before}
+use Rattle.runner.specs.Reading.{IsScriptBy}
+use Rattle.runner.specs.Reports.{IsReportUnder}
+use Rattle.runner.specs.Statuses.{HasStatus}
 use Rattle.crash_free.specs.Runs.{Passed}
 use Rattle.crash_free.specs.Sim.{SimValue}
 use Rattle.rank_language.specs.Program.{ProgramValue}
@@ -37,13 +37,6 @@ pub traces_report : (source : List ℕ) (program : ProgramValue) (n : ℕ) (outc
     → IsFound program n outcome steps run → BeginsWithActs source program n (reverse run.run) text
     → TracesReport source program n outcome steps text
 traces_report source program n outcome steps run text found acts = record { run = run; found = found; acts = acts }
-
--- a script that the files hold after something was read they held before
-pub script_held_before : (holds held : List ℕ → List ℕ → Type 0) (ranks : ℕ) (name : Option (Bor (List ℕ))) (script : List ScriptLine)
-    → ((file text : List ℕ) → holds file text → held file text) → IsScriptBy holds ranks name script → IsScriptBy held ranks name script
-script_held_before holds held ranks None script kept given = given
-script_held_before holds held ranks (Some name) script kept given =
-    record { text = given.text; held = kept name.now given.text given.held; faultless = given.faultless; lines = given.lines }
 
 -- the report of a run within the job's steps is told
 pub is_told : (source : List ℕ) (program : ProgramValue) (job : TraceJob) (script : List ScriptLine) (steps : ℕ) (report : Report) (out : List ℕ)

@@ -12,7 +12,7 @@ use Rattle.runner.specs.Meanings.{meaning_text}
 use Rattle.runner.specs.OutcomesText.{AreWritten, IsExploredText, IsMarkedObject, IsMarkedSummary, IsMarkedText, IsSummary, one_text}
 use Rattle.runner.specs.Partings.{ArePartings}
 use Rattle.runner.specs.SearchObject.{IsSearchObject}
-use Rattle.runner.specs.declared.outcomes.parting.Parted.{Parted}
+use Rattle.runner.specs.declared.explored.parting.Parted.{Parted}
 use Rattle.rank_language.specs.StandOn.{IsLinedOf, StandOn}
 
 -- in an empty text none is written

@@ -3,7 +3,7 @@
 use Rattle.std.specs.Prelude.{◌≡◌, ◌++◌, ◌⊎◌, ℕ, Bool, true, false, List, Option, Some, None, Err, codes}
 use Rattle.std.specs.Borrow.{Bor}
 use Rattle.command_line.specs.declared.explain.ExplainJob.{ExplainJob}
-use Rattle.core_runner.specs.Reading.{AreEventsIn, IsProgramIn, IsScriptIn}
+use Rattle.runner.specs.Reading.{AreEventsIn, IsProgramIn, IsScriptIn}
 use Rattle.world_model.specs.EventsText.Events.{events_of}
 use Rattle.world_model.specs.declared.events_text.fault.EventsFaultKind.{EventsFaultKind}
 use Rattle.rank_text.specs.Checker.Faults.{IsFaultOf}

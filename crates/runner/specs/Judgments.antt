@@ -3,7 +3,7 @@
 use Rattle.std.specs.Prelude.{◌≡◌, ℕ, ◌≤◌, ◌++◌, List, [], None, true, false, codes}
 use Rattle.audit.specs.Outcome.{OutcomeValue}
 use Rattle.command_line.specs.declared.judging.JudgeJob.{JudgeJob}
-use Rattle.core_runner.specs.Reading.{IsProgramIn}
+use Rattle.runner.specs.Reading.{IsProgramIn}
 use Rattle.audit.specs.FinalRuns.Final.{IsFinal}
 use Rattle.outcomes.specs.Judge.Judged.{IsNoneWithin, IsNoText}
 use Rattle.outcomes.specs.Text.Outcomes.{TextValue, outcome_of}

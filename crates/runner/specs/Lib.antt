@@ -1,7 +1,13 @@
-pub mod ToolRefusals
+pub mod Refusals
+pub mod Statuses
+pub mod ReportText
+pub mod CostsText
+pub mod FinishText
+pub mod Worlds
+pub mod Reading
+pub mod Reports
 pub mod Events
 pub mod Traces
-pub mod Answers
 pub mod Partings
 pub mod Meanings
 pub mod SearchObject
@@ -13,3 +19,5 @@ pub mod Soaks
 pub mod Translations
 pub mod Objects
 pub mod Explanations
+pub mod Answers
+pub mod Commands

@@ -6,8 +6,8 @@ use Rattle.audit.specs.declared.outcome.End.{End}
 use Rattle.audit.specs.declared.outcome.End.TheVariants as end
 use Rattle.explore.specs.Explored.{ExploredValue}
 use Rattle.audit.specs.FinalRuns.Maximal.{RankOutcome}
-use Rattle.runner.specs.declared.outcomes.meaning.Ending.{Ending}
-use Rattle.runner.specs.declared.outcomes.meaning.Ending.TheVariants as ending
+use Rattle.runner.specs.declared.explored.meaning.Ending.{Ending}
+use Rattle.runner.specs.declared.explored.meaning.Ending.TheVariants as ending
 
 -- the rank ended so
 abbrev pub is_of : Ending → End → Bool

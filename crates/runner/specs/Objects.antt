@@ -2,7 +2,7 @@
 -- --json`"). Nothing is said of its text.
 use Rattle.std.specs.Prelude.{◌≡◌, ℕ, List}
 use Rattle.command_line.specs.declared.job.WorldJob.{WorldJob}
-use Rattle.core_runner.specs.Reading.{AreEventsIn, IsProgramIn}
+use Rattle.runner.specs.Reading.{AreEventsIn, IsProgramIn}
 use Rattle.rank_language.specs.Program.{ProgramValue}
 use Rattle.world_model.specs.declared.event.WorldEvent.{WorldEvent}
 

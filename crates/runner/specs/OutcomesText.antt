@@ -11,8 +11,8 @@ use Rattle.rank_language.specs.Program.{ProgramValue}
 use Rattle.runner.specs.Meanings.{meaning_text}
 use Rattle.runner.specs.Partings.{ArePartings, choices_text}
 use Rattle.runner.specs.SearchObject.{IsSearchObject}
-use Rattle.core_runner.specs.ReportText.{end_text}
-use Rattle.runner.specs.declared.outcomes.parting.Parted.{Parted}
+use Rattle.runner.specs.ReportText.{end_text}
+use Rattle.runner.specs.declared.explored.parting.Parted.{Parted}
 use Rattle.rank_language.specs.StandOn.{IsLinedOf}
 
 -- the values that a rank printed, a line each

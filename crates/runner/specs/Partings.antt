@@ -6,7 +6,7 @@ use Rattle.crash_free.specs.declared.choice.Choice.{Choice}
 use Rattle.crash_free.specs.declared.choice.Choice.TheVariants as choice
 use Rattle.explore.specs.declared.moves.Noted.{Noted}
 use Rattle.explore.specs.Outcomes.{IsAmong}
-use Rattle.runner.specs.declared.outcomes.parting.Parted.{Parted}
+use Rattle.runner.specs.declared.explored.parting.Parted.{Parted}
 
 -- Choices part from others here: they are the same before this place, and there they have the one
 -- choice where the others have the other.

@@ -9,7 +9,7 @@ use Rattle.audit.specs.FinalRuns.Maximal.{IsPossible, RankOutcome}
 use Rattle.rank_language.specs.Program.{ProgramValue}
 use Rattle.runner.specs.Events.{PlaysOutcome}
 use Rattle.runner.specs.OutcomesText.{AllHalt, IsMarkedObject, IsMarkedSummary, IsMarkedText}
-use Rattle.core_runner.specs.Reading.{IsProgramIn}
+use Rattle.runner.specs.Reading.{IsProgramIn}
 
 -- What a search found: the program may have each outcome, and has no other if it is complete. None
 -- stands there twice, and no more runs were looked at than the job allows.

@@ -2,9 +2,9 @@
 -- "Standard output of `soak`").
 use Rattle.std.specs.Prelude.{◌≡◌, ◌↔◌, ◌≤◌, ◌+◌, ℕ, List, [], true, false, nat_lt, IsTrue}
 use Rattle.command_line.specs.declared.soaking.SoakJob.{SoakJob}
-use Rattle.core_runner.specs.Reading.{IsProgramIn}
-use Rattle.core_runner.specs.Reports.{IsReportUnder}
-use Rattle.core_runner.specs.Statuses.{AreHalted}
+use Rattle.runner.specs.Reading.{IsProgramIn}
+use Rattle.runner.specs.Reports.{IsReportUnder}
+use Rattle.runner.specs.Statuses.{AreHalted}
 use Rattle.audit.specs.FinalRuns.Final.{seen_of}
 use Rattle.rank_language.specs.Program.{ProgramValue}
 use Rattle.rank_threads.specs.declared.report.Report.{Report}

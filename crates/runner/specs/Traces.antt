@@ -5,9 +5,9 @@ use Rattle.audit.specs.Found.{IsFound}
 use Rattle.audit.specs.Outcome.{OutcomeValue}
 use Rattle.command_line.specs.declared.tracing.TraceForm.TheVariants as form
 use Rattle.command_line.specs.declared.tracing.TraceJob.{TraceJob}
-use Rattle.core_runner.specs.Reading.{IsProgramIn, IsScriptBy}
-use Rattle.core_runner.specs.Reports.{IsReportUnder}
-use Rattle.core_runner.specs.Statuses.{HasStatus}
+use Rattle.runner.specs.Reading.{IsProgramIn, IsScriptBy}
+use Rattle.runner.specs.Reports.{IsReportUnder}
+use Rattle.runner.specs.Statuses.{HasStatus}
 use Rattle.crash_free.specs.Sim.{SimValue}
 use Rattle.rank_language.specs.Program.{ProgramValue}
 use Rattle.rank_threads.specs.declared.report.Report.{Report}
@@ -24,7 +24,7 @@ pub record TracesReport (source : List ℕ) (program : ProgramValue) (n : ℕ) (
 
 -- A run that has the outcome of the report is told in the form of the job: act by act as text; as
 -- events without a script those of the run, and with one those of the run with the script's lines
--- that were used. Nothing is said of JSON or of a picture.
+-- that were used. Nothing is said of JSON.
 pub record IsToldIn (source : List ℕ) (program : ProgramValue) (job : TraceJob) (script : List ScriptLine) (report : Report) (out : List ℕ) : Type 0 where
   pub text : job.form ≡ form.Text → TracesReport source program job.run.ranks report.outcome job.run.steps out
   pub events : job.form ≡ form.Events → script ≡ [] → PlaysReport program job.run.ranks report.outcome job.run.steps out

@@ -16,24 +16,31 @@
 ghost use Rattle.std.specs.Prelude.{◌≢◌, ◌≤◌, ℕ, List};
 ghost use Rattle.std.specs.Io.KnownBytes.{Appends};
 ghost use Rattle.command_line.specs.Words.{texts};
-ghost use Rattle.core_runner.specs.Commands.{IsCommandAnswer};
 ghost use Rattle.runner.specs.Answers.{IsJobAnswer};
+ghost use Rattle.runner.specs.Commands.{IsCommandAnswer};
 
 mod c;
+mod check;
 mod explain;
 mod exploring;
+mod finishing;
 mod job;
 mod judging;
-mod picture;
+mod reading;
+mod refusal;
+mod run;
+mod said;
 mod soaking;
-mod tool_refusal;
+mod telling;
 mod trace;
+mod world;
 mod world_objects;
 
 use crate::commands::job::work;
-pub use crate::commands::tool_refusal::ToolRefusal;
+pub use crate::commands::refusal::Refusal;
+use crate::commands::telling::{tell, tell_no_job, tell_no_memory};
+use crate::files::Files;
 use command_line::{Job, job_of};
-use core_runner::{Files, tell, tell_no_job, tell_no_memory};
 use explore::{Unwatched, Watch};
 use limits::Heap;
 use std::io::Write;
@@ -103,7 +110,11 @@ pub fn do_job<R: Threads + Wait + Sync + Copy + Send, F: Files, O: Write, E: Wri
     ensures answer { result ≢ 5 → (text : List ℕ) × Appends (O.contents out.old) (O.contents out.new) text
         × IsJobAnswer (F.holds files.old) job.entry text result }
 {
-    match work(rt, alloc, job, files, watch) {
+    let said = match work(rt, alloc, job, files, watch) {
+        Ok(said) => Ok(said),
+        Err(refusal) => refusal.said(alloc),
+    };
+    match said {
         Ok(said) => tell(&said, out, err),
         Err(_) => tell_no_memory(err),
     }

@@ -1,13 +1,14 @@
 //! What the runs of a soak came to.
 ghost use Rattle.std.specs.Prelude.{◌≡◌, ◌↔◌, ◌+◌, [], false, true, nat_lt, IsTrue, OnOk, string_bytes};
 ghost use Rattle.audit.specs.FinalRuns.Final.{seen_of};
-ghost use Rattle.core_runner.specs.Statuses.{AreHalted};
+ghost use Rattle.runner.specs.Statuses.{AreHalted};
 ghost use Rattle.outcomes.specs.Soak.Histogram.{Notes, up_to};
 
 mod text;
 
+use crate::commands::Refusal;
+use crate::output::all_halted;
 pub use crate::soaked::text::print_soaked;
-use core_runner::{Refusal, all_halted};
 use limits::Heap;
 use outcomes::soak::{Histogram, images_used, seen_of};
 use rank_text::script::Script;

@@ -6,7 +6,7 @@ ghost use Rattle.command_line.specs.Words.{texts};
 use crate::costing::CostForm;
 use crate::job::RunJob;
 use crate::tracing::{TraceForm, TraceJob};
-use crate::words::{count_if, is_given, limit_or, number_or, one_file, ranks_of, value_of};
+use crate::words::{count_if, is_given, limit_or, one_file, ranks_of, value_of};
 
 /// The run that the arguments ask for, with its costs in this form.
 pub fn run_of<'a>(command: &str, arguments: &'a [String], costs: CostForm) -> Option<RunJob<'a>>
@@ -47,21 +47,18 @@ pub fn trace_of<'a>(command: &str, arguments: &'a [String]) -> Option<TraceJob<'
     })
 }
 
-// Without `--from` and `--to` the whole run is drawn.
+// No run is drawn.
 fn form_of(arguments: &[String]) -> Option<TraceForm>
     ensures { IfSome result (λ form. IsTraceFormOf (texts arguments.now) form) }
 {
+    if is_given("picture", arguments) {
+        return None;
+    }
     if is_given("json", arguments) {
         return Some(TraceForm::Json);
     }
     if is_given("events", arguments) {
         return Some(TraceForm::Events);
-    }
-    if is_given("picture", arguments) {
-        return Some(TraceForm::Picture {
-            from: number_or(1, "from", arguments)?,
-            to: number_or(u32::MAX, "to", arguments)?,
-        });
     }
     Some(TraceForm::Text)
 }

@@ -2,8 +2,11 @@
 ghost use Rattle.std.specs.Prelude.{ℕ, List, IfOk, is_err, is_some};
 ghost use Rattle.runner.specs.Explanations.{HoldsEvents, HoldsEventsIn, HoldsProgram, HoldsScript, HoldsScriptIn, IsExplainAnswer, SaysNone};
 
+use crate::commands::reading::text_in;
+use crate::commands::refusal::Refusal;
+use crate::commands::said::Said;
+use crate::files::Files;
 use command_line::ExplainJob;
-use core_runner::{Files, Refusal, Said, text_in};
 use diagnostics::{explain_events, explain_program, explain_script, first_unmet};
 use limits::Heap;
 use rank_language::{ParseFault, Program};

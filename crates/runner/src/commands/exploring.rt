@@ -1,17 +1,17 @@
 //! All outcomes of a job's program, or a run of one of them as events.
 ghost use Rattle.std.specs.Prelude.{◌≡◌, ◌+◌, ℕ, IfOk, IfSome, Some, slice_get, string_bytes};
-ghost use Rattle.run_events.specs.Plays.{IsPlayText};
 ghost use Rattle.runner.specs.Events.{PlaysOutcome};
 ghost use Rattle.explore.specs.Shown.{AreMarked};
 ghost use Rattle.rank_language.specs.Correct.{IsProgramOf};
 ghost use Rattle.runner.specs.OutcomesText.{IsMarkedObject, IsMarkedSummary, IsMarkedText};
 ghost use Rattle.runner.specs.Searches.{HasSearchStatus, IsExploreAnswer, IsFoundBy, IsPrinted, IsSearchAnswer};
 
-use crate::commands::tool_refusal::ToolRefusal;
-use crate::outcomes::{all_halt, explored_json, print_explored, print_summary};
+use crate::commands::reading::text_in;
+use crate::commands::refusal::Refusal;
+use crate::commands::said::Said;
+use crate::explored::{all_halt, explored_json, print_explored, print_summary};
+use crate::files::Files;
 use command_line::{ExploreForm, ExploreJob};
-use core_runner::{Files, Said, text_in};
-use crash_free::Sim;
 use explore::{Explored, Limits, Outcome, Watch, explore, marks_of, run_of};
 use limits::Heap;
 use rank_language::{Program, statement_lines};
@@ -26,7 +26,7 @@ pub fn explored_by<'a, F: Files, W: Watch>(
     job: ExploreJob<'a>,
     files: &mut F,
     watch: &mut W,
-) -> Result<Said, ToolRefusal<'a>>
+) -> Result<Said, Refusal<'a>>
     ensures { IfOk result (λ said. IsExploreAnswer (F.holds files.old job.entry.program.now) job.entry said.out.items said.status) }
 {
     let text = text_in(job.program, files)?;
@@ -42,7 +42,7 @@ fn found_of<'a, W: Watch>(
     text: &[u8],
     program: &Program,
     watch: &mut W,
-) -> Result<Said, ToolRefusal<'a>>
+) -> Result<Said, Refusal<'a>>
     requires { IsProgramOf text.now program.now }
     ensures { IfOk result (λ said. IsSearchAnswer text.now program.now job.entry said.out.items said.status) }
 {
@@ -80,7 +80,7 @@ fn answer_of<'a>(
     text: &[u8],
     program: &Program,
     found: &Explored,
-) -> Result<String<Heap>, ToolRefusal<'a>>
+) -> Result<String<Heap>, Refusal<'a>>
     requires { IsProgramOf text.now program.now }
     ensures { IfOk result (λ answer. IsPrinted text.now program.now job.entry found.now (string_bytes answer)) }
 {
@@ -175,30 +175,19 @@ fn events_of<'a>(
     number: u32,
     program: &Program,
     found: &Explored,
-) -> Result<String<Heap>, ToolRefusal<'a>>
+) -> Result<String<Heap>, Refusal<'a>>
     ensures { IfOk result (λ text. PlaysOutcome program.now job.entry.ranks found.now.outcomes number (string_bytes text)) }
 {
     let Some(outcome) = outcome_at(found, number) else {
-        return Err(ToolRefusal::NoOutcome(number));
+        return Err(Refusal::NoOutcome(number));
     };
     match run_of(alloc, program, job.ranks, limits_of(job), outcome) {
-        Ok(Some(run)) => told(alloc, job, program, &run),
-        Ok(None) => Err(ToolRefusal::NoOutcome(number)),
-        Err(error) => Err(ToolRefusal::from(error)),
-    }
-}
-
-fn told<'a>(
-    alloc: Heap,
-    job: ExploreJob<'a>,
-    program: &Program,
-    run: &Sim<'_>,
-) -> Result<String<Heap>, ToolRefusal<'a>>
-    ensures { IfOk result (λ text. IsPlayText program.now job.entry.ranks run.now.run (string_bytes text)) }
-{
-    match play_text(alloc, program, job.ranks, run) {
-        Ok(text) => Ok(text),
-        Err(fault) => Err(ToolRefusal::from(fault)),
+        Ok(Some(run)) => match play_text(alloc, program, job.ranks, &run) {
+            Ok(text) => Ok(text),
+            Err(fault) => Err(Refusal::from(fault)),
+        },
+        Ok(None) => Err(Refusal::NoOutcome(number)),
+        Err(error) => Err(Refusal::from(error)),
     }
 }
 

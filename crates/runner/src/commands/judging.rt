@@ -5,10 +5,12 @@ ghost use Rattle.runner.specs.Judgments.{IsJudgeAnswer, IsYesText, TellsVerdict,
 ghost use Rattle.runner.specs.Traces.{TracesReport};
 ghost use Rattle.rank_language.specs.StandOn.{IsLinedOf};
 
-use crate::commands::tool_refusal::ToolRefusal;
+use crate::commands::reading::text_in;
+use crate::commands::refusal::Refusal;
+use crate::commands::said::Said;
+use crate::files::Files;
 use audit::{Outcome, find_run};
 use command_line::JudgeJob;
-use core_runner::{Files, Said, text_in};
 use limits::Heap;
 use outcomes::judge::{Asked, Verdict, judge, why_text};
 use outcomes::text::OutcomeText;
@@ -30,7 +32,7 @@ pub fn judged<'a, F: Files>(
     alloc: Heap,
     job: JudgeJob<'a>,
     files: &mut F,
-) -> Result<Said, ToolRefusal<'a>>
+) -> Result<Said, Refusal<'a>>
     ensures { IfOk result (λ said. IsJudgeAnswer (F.holds files.old) job.entry said.out.items said.status) }
 {
     let text = text_in(job.program, files)?;
@@ -48,7 +50,7 @@ fn judged_by<'a, F: Files>(
     lined: &LinedProgram,
     text: Vec<u8>,
     files: &mut F,
-) -> Result<Said, ToolRefusal<'a>>
+) -> Result<Said, Refusal<'a>>
     requires { IsLinedOf text.items lined.now.program lined.now.lines.items }
     ensures { IfOk result (λ said. TellsVerdictOf (F.holds files.old job.entry.outcome.now) text.items lined.now.program job.entry
         said.out.items said.status) }
@@ -60,7 +62,7 @@ fn judged_by<'a, F: Files>(
     let read = OutcomeText::parse(alloc, texts.outcome.as_slice(), job.ranks)?;
     match said_of(alloc, job, lined, &texts, &read) {
         Ok(said) => Ok(said),
-        Err(error) => Err(ToolRefusal::from(error)),
+        Err(error) => Err(Refusal::from(error)),
     }
 }
 

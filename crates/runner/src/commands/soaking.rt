@@ -3,11 +3,14 @@ ghost use Rattle.std.specs.Prelude.{◌≡◌, IfOk, OnOk, string_bytes};
 ghost use Rattle.runner.specs.SoakText.{IsSoakText};
 ghost use Rattle.runner.specs.Soaks.{AreSoaked, HasSoakStatus, IsDrawn, IsOneMore, IsSoakAnswer};
 
-use crate::commands::tool_refusal::ToolRefusal;
+use crate::commands::reading::text_in;
+use crate::commands::refusal::Refusal;
+use crate::commands::run::report_under;
+use crate::commands::said::Said;
+use crate::files::Files;
 use crate::soaked::{Soaked, print_soaked};
 use audit::find_run;
 use command_line::SoakJob;
-use core_runner::{Files, Refusal, Said, report_under, text_in};
 use crash_free::Sim;
 use explore::{Limits, Watch, explore};
 use limits::Heap;
@@ -43,7 +46,7 @@ pub fn soaked<'a, R: Threads + Wait + Sync + Copy + Send, F: Files, W: Watch>(
     job: SoakJob<'a>,
     files: &mut F,
     watch: &mut W,
-) -> Result<Said, ToolRefusal<'a>>
+) -> Result<Said, Refusal<'a>>
     ensures { IfOk result (λ said. IsSoakAnswer (F.holds files.old job.entry.program.now) job.entry said.out.items said.status) }
 {
     let text = text_in(job.program, files)?;
@@ -81,7 +84,7 @@ fn made<'a, R: Threads + Wait + Sync + Copy + Send, W: Watch>(
     job: SoakJob<'a>,
     program: &Program,
     watch: &mut W,
-) -> Result<Soaked, ToolRefusal<'a>>
+) -> Result<Soaked, Refusal<'a>>
     ensures { IfOk result (λ soaked. AreSoaked program.now job.entry job.entry.runs soaked) }
 {
     let acts = acts_of(rt, alloc, job, program)?;
@@ -111,14 +114,14 @@ fn make<'a, R: Threads + Wait + Sync + Copy + Send>(
     acts: &[u32],
     number: u32,
     soaked: &mut Soaked,
-) -> Result<(), ToolRefusal<'a>>
+) -> Result<(), Refusal<'a>>
     ensures { OnOk result (IsOneMore program.now job.entry soaked.old soaked.new) }
 {
     let drawn = drawn_for(alloc, job, acts, number)?;
     let (ranks, script) = (job.ranks, &drawn.script);
     match report_under(rt, alloc, program, ranks, script, limits_of(job)) {
         Ok(report) => Ok(soaked.note(alloc, &report, script)?),
-        Err(RunFault::Memory) => Err(ToolRefusal::Core(Refusal::Memory)),
+        Err(RunFault::Memory) => Err(Refusal::Memory),
         Err(fault) => Ok(soaked.fail(number, Refusal::from(fault), drawn.text.as_str())?),
     }
 }
@@ -129,7 +132,7 @@ fn drawn_for<'a>(
     job: SoakJob<'a>,
     acts: &[u32],
     number: u32,
-) -> Result<Drawn, ToolRefusal<'a>>
+) -> Result<Drawn, Refusal<'a>>
     ensures { IfOk result (λ drawn. IsDrawn job.entry drawn.script) }
 {
     let most = Most {
@@ -141,7 +144,7 @@ fn drawn_for<'a>(
     let text = text_of(alloc, lines.as_slice())?;
     match Script::parse(alloc, text.as_bytes(), job.ranks) {
         Ok(script) => Ok(Drawn { text, script }),
-        Err(fault) => Err(ToolRefusal::Core(Refusal::from(fault))),
+        Err(fault) => Err(Refusal::from(fault)),
     }
 }
 
@@ -151,13 +154,13 @@ fn acts_of<'a, R: Threads + Wait + Sync + Copy + Send>(
     alloc: Heap,
     job: SoakJob<'a>,
     program: &Program,
-) -> Result<Vec<u32, Heap>, ToolRefusal<'a>> {
+) -> Result<Vec<u32, Heap>, Refusal<'a>> {
     let (ranks, limits) = (job.ranks, limits_of(job));
     let script = Script::new(alloc);
     let report = report_under(rt, alloc, program, ranks, &script, limits)?;
     match find_run(alloc, program, ranks, &report.outcome, job.steps) {
         Ok(found) => Ok(acts_in(alloc, &found, ranks)?),
-        Err(fault) => Err(ToolRefusal::from(RunFault::from(fault))),
+        Err(fault) => Err(Refusal::from(RunFault::from(fault))),
     }
 }
 
@@ -171,8 +174,13 @@ fn acts_in(alloc: Heap, run: &Sim<'_>, ranks: u8) -> Result<Vec<u32, Heap>, Allo
 
 // A run has fewer acts than 2^32: each is one of the job's steps.
 fn acts_by(run: &Sim<'_>, rank: u8) -> u32 {
-    let acts = run.acts().iter().filter(|passed| passed.rank == rank);
-    u32::try_from(acts.count()).unwrap_or(u32::MAX)
+    let mut acts = 0u32;
+    for passed in run.acts() {
+        if passed.rank == rank {
+            acts = acts.saturating_add(1);
+        }
+    }
+    acts
 }
 
 fn limits_of(job: SoakJob<'_>) -> RunLimits

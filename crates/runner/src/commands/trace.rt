@@ -1,40 +1,31 @@
-//! A job's run, told act by act, drawn, or given as events.
+//! A job's run, told act by act, or given as events.
 ghost use Rattle.std.specs.Prelude.{◌≡◌, ◌≢◌, ◌≤◌, ◌++◌, [], IfOk, reverse, string_bytes};
 ghost use Rattle.limits.specs.Limits.{most_ranks};
 ghost use Rattle.run_events.specs.Plays.{IsPlayText};
 ghost use Rattle.run_events.specs.Scripted.{IsScriptText};
 ghost use Rattle.run_shown.specs.Trace.Lines.{BeginsWithActs};
-ghost use Rattle.core_runner.specs.Reading.{IsScriptBy, IsScriptIn};
-ghost use Rattle.core_runner.specs.Statuses.{HasStatus};
+ghost use Rattle.runner.specs.Statuses.{HasStatus};
 ghost use Rattle.runner.specs.Events.{PlaysReport, PlaysScriptOf};
 ghost use Rattle.runner.specs.Traces.{IsTold, IsTraceAnswer, TracesReport};
 ghost use Rattle.rank_language.specs.StandOn.{IsLinedOf};
 
-use crate::commands::picture::picture_text;
-use crate::commands::tool_refusal::ToolRefusal;
+use crate::commands::reading::{ScriptFile, script_by, text_in};
+use crate::commands::refusal::Refusal;
+use crate::commands::run::{limits_of, report_under};
+use crate::commands::said::Said;
+use crate::files::Files;
+use crate::output::{all_halted, calls_of, print_cost};
 use audit::find_run;
 use command_line::{RunJob, TraceForm, TraceJob};
-use core_runner::{
-    Files, Refusal, Said, all_halted, calls_of, limits_of, print_cost, report_under, text_in,
-};
 use crash_free::Sim;
 use limits::Heap;
 use rank_language::{LinedProgram, Program};
-use rank_text::script::Script;
 use rank_threads::{Cause, Report, RunFault};
 use run_events::{PlayFault, play_script_text, play_text};
-use run_picture::Span;
 use run_shown::trace::{Given, Why, trace_json, trace_text};
 use std::alloc::AllocError;
 use std::sync::Wait;
 use std::thread::Threads;
-
-// What the script's file has, and what it asks for.
-#[derive(Drop)]
-struct Asked {
-    text: Vec<u8, Heap>,
-    script: Script,
-}
 
 /// The run without crashes behind the job's report. The status is 1 where a rank
 /// isn't halted.
@@ -44,47 +35,21 @@ pub fn traced<'a, R: Threads + Wait + Sync + Copy + Send, F: Files>(
     alloc: Heap,
     job: TraceJob<'a>,
     files: &mut F,
-) -> Result<Said, ToolRefusal<'a>>
+) -> Result<Said, Refusal<'a>>
     ensures { IfOk result (λ said. IsTraceAnswer (F.holds files.old) job.entry said.out.items said.status) }
 {
     let text = text_in(job.run.program, files)?;
     let lined = LinedProgram::parse(alloc, text.as_slice())?;
-    let asked = match asked_of(alloc, job.run, files) {
+    let asked = match script_by(alloc, job.run.script, job.run.ranks, files) {
         Ok(asked) => asked,
         Err(refusal) => {
             drop(lined);
-            return Err(ToolRefusal::from(refusal));
+            return Err(refusal);
         }
     };
     let said = told(rt, alloc, job, text.as_slice(), &lined, &asked);
     drop(lined);
     said
-}
-
-fn asked_of<'a, F: Files>(alloc: Heap, job: RunJob<'a>, files: &mut F) -> Result<Asked, Refusal<'a>>
-    ensures { IfOk result (λ asked. IsScriptBy (F.holds files.old) job.entry.ranks job.entry.script asked.script) }
-{
-    match job.script {
-        Some(name) => asked_in(alloc, name, job.ranks, files),
-        None => Ok(Asked {
-            text: Vec::new(alloc),
-            script: Script::new(alloc),
-        }),
-    }
-}
-
-#[tactic(auto, using(core_runner::proofs::Reading::is_script_in))]
-fn asked_in<'a, F: Files>(
-    alloc: Heap,
-    name: &'a str,
-    ranks: u8,
-    files: &mut F,
-) -> Result<Asked, Refusal<'a>>
-    ensures { IfOk result (λ asked. IsScriptIn (F.holds files.old name.entry.now) ranks asked.script) }
-{
-    let text = text_in(name, files)?;
-    let script = Script::parse(alloc, text.as_slice(), ranks)?;
-    Ok(Asked { text, script })
 }
 
 // The run is made, found without crashes, and told.
@@ -94,8 +59,8 @@ fn told<'a, R: Threads + Wait + Sync + Copy + Send>(
     job: TraceJob<'a>,
     text: &[u8],
     lined: &LinedProgram,
-    asked: &Asked,
-) -> Result<Said, ToolRefusal<'a>>
+    asked: &ScriptFile,
+) -> Result<Said, Refusal<'a>>
     requires { IsLinedOf text.now lined.now.program lined.now.lines.items }
     ensures { IfOk result (λ said. IsTold text.now lined.now.program job.entry asked.now.script said.out.items said.status) }
 {
@@ -115,9 +80,9 @@ fn told_of<'a>(
     job: TraceJob<'a>,
     text: &[u8],
     lined: &LinedProgram,
-    asked: &Asked,
+    asked: &ScriptFile,
     report: &Report,
-) -> Result<Said, ToolRefusal<'a>>
+) -> Result<Said, Refusal<'a>>
     requires { IsLinedOf text.now lined.now.program lined.now.lines.items }
     ensures status { IfOk result (λ said. HasStatus report.now.outcome said.status) }
     ensures text { IfOk result (λ said. job.entry.form ≡ TraceForm.Text
@@ -144,7 +109,7 @@ fn told_of<'a>(
     let (ranks, steps) = (job.run.ranks, job.run.steps);
     let found = match find_run(alloc, program, ranks, &report.outcome, steps) {
         Ok(found) => found,
-        Err(fault) => return Err(ToolRefusal::from(RunFault::from(fault))),
+        Err(fault) => return Err(Refusal::from(RunFault::from(fault))),
     };
     let answer = in_form(alloc, job, program, &found, given, report)?;
     let status = if all_halted(&report.outcome) { 0 } else { 1 };
@@ -153,7 +118,11 @@ fn told_of<'a>(
 
 // Why each rank is unfinished, in the words of a trace.
 fn whys_of(alloc: Heap, causes: &[Option<Cause>]) -> Result<Vec<Option<Why>, Heap>, AllocError> {
-    causes.iter().map(|cause| why_of(*cause)).collect(alloc)
+    let mut whys = Vec::new(alloc);
+    for cause in causes {
+        whys.push(why_of(*cause))?;
+    }
+    Ok(whys)
 }
 
 fn why_of(cause: Option<Cause>) -> Option<Why> {
@@ -188,10 +157,6 @@ fn in_form<'a>(
         TraceForm::Text => Ok(text_of(alloc, job.run, program, found, given, report)?),
         TraceForm::Json => Ok(trace_json(alloc, program, ranks, found, given)?),
         TraceForm::Events => events_of(alloc, ranks, program, found, given),
-        TraceForm::Picture { from, to } => {
-            let span = Span { from, to };
-            Ok(picture_text(alloc, job.run, found, given, span)?)
-        }
     }
 }
 

@@ -4,7 +4,7 @@ ghost use Rattle.explore.specs.Explored.{rank_outcomes};
 ghost use Rattle.explore.specs.Outcomes.{IsAmong};
 ghost use Rattle.runner.specs.SoakText.{IsSoakText, bar_text, bars_text, count_text};
 
-use crate::outcomes::print_outcome;
+use crate::explored::print_outcome;
 use crate::soaked::Soaked;
 use audit::End;
 use explore::{Explored, Outcome};
@@ -127,5 +127,10 @@ fn is_among(outcomes: &[Outcome], bar: &Bar) -> bool
 }
 
 fn is_unfinished(bar: &Bar) -> bool {
-    bar.ranks.iter().any(|seen| seen.end == End::Unfinished)
+    for seen in bar.ranks.as_slice() {
+        if seen.end == End::Unfinished {
+            return true;
+        }
+    }
+    false
 }

@@ -1,6 +1,0 @@
-mod CostLemmas
-mod FinishText
-mod Worlds
-pub mod Reading
-mod Answers
-mod CommandAnswers

@@ -1,7 +1,0 @@
-use Rattle.std.proofs.Common.{◌≡◌, ◌++◌, string_bytes}
-use Rattle.core_runner.specs.CostsText.{objects_below}
-use Rattle.core_runner.proofs.costs.print_objects.Given as goal
-
--- the objects of the ranks so far are written
-abbrev pub invariant-loop-rank : goal.invariant-loop-rank
-invariant-loop-rank l = string_bytes l.text ≡ string_bytes l.initial.text ++ objects_below l.rank l.report

@@ -1,6 +1,0 @@
-mod ListLemmas
-mod TimeLemmas
-mod NotedLemmas
-mod ColumnLemmas
-mod RowLemmas
-mod SceneLemmas

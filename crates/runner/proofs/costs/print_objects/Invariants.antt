@@ -1,0 +1,7 @@
+use Rattle.std.proofs.Common.{◌≡◌, ◌++◌, string_bytes}
+use Rattle.runner.specs.CostsText.{objects_below}
+use Rattle.runner.proofs.costs.print_objects.Given as goal
+
+-- the objects of the ranks so far are written
+abbrev pub invariant-loop-rank : goal.invariant-loop-rank
+invariant-loop-rank l = string_bytes l.text ≡ string_bytes l.initial.text ++ objects_below l.rank l.report

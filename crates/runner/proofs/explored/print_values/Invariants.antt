@@ -1,0 +1,13 @@
+use Rattle.std.proofs.Common.{◌≡◌, ◌+◌, ◌++◌, length, string_bytes}
+use Rattle.runner.specs.OutcomesText.{lines_text}
+use Rattle.runner.proofs.explored.print_values.Given as goal
+
+-- what is written and the ranks that are left are the whole
+abbrev pub invariant-loop-rest : goal.invariant-loop-rest
+invariant-loop-rest l = record {
+  within : l.rank + length l.rest ≡ length l.ranks;
+  whole : string_bytes l.text ++ lines_text l.rank l.rest ≡ string_bytes l.initial.text ++ lines_text 0 l.ranks;
+}
+
+abbrev pub decreases-loop-rest : goal.decreases-loop-rest
+decreases-loop-rest l = length l.rest

@@ -1,0 +1,93 @@
+//! Files that the program's words name, read and parsed.
+ghost use Rattle.std.specs.Prelude.{ℕ, List, IfOk};
+ghost use Rattle.runner.specs.Reading.{AreEventsIn, IsProgramIn, IsScriptBy, IsScriptIn};
+
+use crate::commands::refusal::Refusal;
+use crate::files::Files;
+use limits::Heap;
+use rank_language::Program;
+use rank_text::script::Script;
+use world_model::WorldEvent;
+use world_model::events_text::parse_events;
+
+/// What a script asks for, and the text of its file.
+#[derive(Drop)]
+pub struct ScriptFile {
+    pub text: Vec<u8>,
+    pub script: Script,
+}
+
+/// The bytes of the file with this name.
+pub fn text_in<'a, F: Files>(name: &'a str, files: &mut F) -> Result<Vec<u8>, Refusal<'a>>
+    ensures text { IfOk result (λ text. F.holds files.old name.entry.now text.items) }
+    ensures kept { (file text : List ℕ) → F.holds files.new file text → F.holds files.old file text }
+{
+    match files.read(name) {
+        Ok(text) => Ok(text),
+        Err(fault) => Err(Refusal::of_file(name, fault)),
+    }
+}
+
+/// The program of the file with this name.
+#[tactic(auto, using(crate::proofs::Reading::is_program_in))]
+pub fn program_in<'a, F: Files>(
+    alloc: Heap,
+    name: &'a str,
+    files: &mut F,
+) -> Result<Program, Refusal<'a>>
+    ensures program { IfOk result (λ program. IsProgramIn (F.holds files.old name.entry.now) program) }
+    ensures kept { (file text : List ℕ) → F.holds files.new file text → F.holds files.old file text }
+{
+    match files.read(name) {
+        Ok(text) => Ok(Program::parse(alloc, text.as_slice())?),
+        Err(fault) => Err(Refusal::of_file(name, fault)),
+    }
+}
+
+/// The script of the file with this name, for so many ranks, with the text of the
+/// file. Without a name it asks for nothing.
+pub fn script_by<'a, F: Files>(
+    alloc: Heap,
+    name: Option<&'a str>,
+    ranks: u8,
+    files: &mut F,
+) -> Result<ScriptFile, Refusal<'a>>
+    ensures { IfOk result (λ read. IsScriptBy (F.holds files.old) ranks name.entry read.script) }
+{
+    match name {
+        Some(name) => script_in(alloc, name, ranks, files),
+        None => Ok(ScriptFile {
+            text: Vec::new(alloc),
+            script: Script::new(alloc),
+        }),
+    }
+}
+
+#[tactic(auto, using(crate::proofs::Reading::is_script_in))]
+fn script_in<'a, F: Files>(
+    alloc: Heap,
+    name: &'a str,
+    ranks: u8,
+    files: &mut F,
+) -> Result<ScriptFile, Refusal<'a>>
+    ensures { IfOk result (λ read. IsScriptIn (F.holds files.old name.entry.now) ranks read.script) }
+{
+    let text = text_in(name, files)?;
+    let script = Script::parse(alloc, text.as_slice(), ranks)?;
+    Ok(ScriptFile { text, script })
+}
+
+/// The events of the file with this name.
+#[tactic(auto, using(crate::proofs::Reading::are_events_in))]
+pub fn events_in<'a, F: Files>(
+    alloc: Heap,
+    name: &'a str,
+    files: &mut F,
+) -> Result<Vec<WorldEvent, Heap>, Refusal<'a>>
+    ensures { IfOk result (λ events. AreEventsIn (F.holds files.old name.entry.now) events.items) }
+{
+    match files.read(name) {
+        Ok(text) => Ok(parse_events(alloc, text.as_slice())?),
+        Err(fault) => Err(Refusal::of_file(name, fault)),
+    }
+}

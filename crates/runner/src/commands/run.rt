@@ -1,0 +1,106 @@
+//! A job's run, and its report.
+ghost use Rattle.std.specs.Prelude.{◌≡◌, ◌≤◌, IfOk, length};
+ghost use Rattle.limits.specs.Limits.{most_ranks};
+ghost use Rattle.runner.specs.Answers.{IsReportText, IsRunAnswer};
+ghost use Rattle.runner.specs.Reports.{IsReportOf, IsReportUnder};
+
+use crate::commands::reading::{program_in, script_by};
+use crate::commands::refusal::Refusal;
+use crate::commands::said::Said;
+use crate::costs::print_costs;
+use crate::files::Files;
+use crate::output::{all_halted, print_report};
+use command_line::RunJob;
+use limits::Heap;
+use rank_language::Program;
+use rank_text::script::Script;
+use rank_threads::{Hold, Report, RunFault, RunLimits, run};
+use std::alloc::AllocError;
+use std::sync::Wait;
+use std::thread::Threads;
+
+/// Waits for no act.
+#[derive(Drop)]
+pub struct Nobody;
+
+impl Hold for Nobody {
+    fn before(&self, _rank: u8, _clock: u32) {}
+}
+
+/// The text of the report of the job's run. The status is 1 where a rank isn't
+/// halted.
+#[tactic(auto, using(crate::proofs::Answers::is_run_answer, crate::proofs::Answers::as_many_ends))]
+pub fn ran<'a, R: Threads + Wait + Sync + Copy + Send, F: Files>(
+    rt: &R,
+    alloc: Heap,
+    job: RunJob<'a>,
+    files: &mut F,
+) -> Result<Said, Refusal<'a>>
+    ensures { IfOk result (λ said. IsRunAnswer (F.holds files.old) job.entry said.out.items said.status) }
+{
+    let report = report_of(rt, alloc, job, files)?;
+    match answer(alloc, job, &report) {
+        Ok(said) => Ok(said),
+        Err(error) => Err(Refusal::from(error)),
+    }
+}
+
+// The program is read and parsed before the script is read.
+#[tactic(auto, using(crate::proofs::Answers::is_report_of))]
+fn report_of<'a, R: Threads + Wait + Sync + Copy + Send, F: Files>(
+    rt: &R,
+    alloc: Heap,
+    job: RunJob<'a>,
+    files: &mut F,
+) -> Result<Report, Refusal<'a>>
+    ensures { IfOk result (λ report. IsReportOf (F.holds files.old) job.entry report) }
+{
+    let program = program_in(alloc, job.program, files)?;
+    let asked = script_by(alloc, job.script, job.ranks, files)?;
+    let script = &asked.script;
+    match report_under(rt, alloc, &program, job.ranks, script, limits_of(job)) {
+        Ok(report) => Ok(report),
+        Err(fault) => Err(Refusal::from(fault)),
+    }
+}
+
+/// The report of a run of the program under this script, in which nobody waits for
+/// an act.
+#[tactic(auto, using(crate::proofs::Answers::is_report_under))]
+pub fn report_under<R: Threads + Wait + Sync + Copy + Send>(
+    rt: &R,
+    alloc: Heap,
+    program: &Program,
+    ranks: u8,
+    script: &Script,
+    limits: RunLimits,
+) -> Result<Report, RunFault>
+    requires some { 1 ≤ ranks }
+    requires few { ranks ≤ most_ranks }
+    ensures { IfOk result (λ report. IsReportUnder program.now ranks script.now limits.steps report) }
+{
+    run(rt, alloc, program, ranks, script, limits, &Nobody)
+}
+
+/// The limits of the job's run.
+pub fn limits_of(job: RunJob<'_>) -> RunLimits
+    ensures idle { result.idle ≡ job.entry.idle }
+    ensures steps { result.steps ≡ job.entry.steps }
+    ensures images { result.images_every ≡ job.entry.images_every }
+{
+    RunLimits {
+        idle: job.idle,
+        steps: job.steps,
+        images_every: job.images_every,
+    }
+}
+
+fn answer(alloc: Heap, job: RunJob<'_>, report: &Report) -> Result<Said, AllocError>
+    requires { length report.now.outcome.ends ≡ job.entry.ranks }
+    ensures { IfOk result (λ said. IsReportText job.entry.costs report.now said.out.items said.status) }
+{
+    let mut text = print_report(alloc, job.ranks, report)?;
+    print_costs(&mut text, job.costs, report)?;
+    let status = if all_halted(&report.outcome) { 0 } else { 1 };
+    Ok(Said::answer(alloc, status, text.into_bytes()))
+}

@@ -1,0 +1,168 @@
+//! What the program prints of all outcomes of a program.
+ghost use Rattle.std.specs.Prelude.{◌≡◌, ◌<◌, ◌+◌, ◌++◌, ◌↔◌, IfOk, IsTrue, OnOk, Some, [], length, slice_get, string_bytes};
+ghost use Rattle.explore.specs.Explored.{rank_outcomes};
+ghost use Rattle.runner.specs.Partings.{AreOfLast, ArePartings};
+ghost use Rattle.runner.specs.OutcomesText.{AllHalt, AreWritten, Halts, IsExploredText};
+ghost use Rattle.runner.specs.OutcomesText.{endings_text, lines_text, one_text, outcome_text, values_text};
+
+mod json;
+mod meaning;
+mod parting;
+mod racing;
+
+pub use crate::explored::json::explored_json;
+use crate::explored::meaning::print_meaning;
+use crate::explored::parting::{Parted, part, print_choices};
+pub use crate::explored::racing::print_summary;
+use crate::output::{print_end, print_line};
+use audit::End;
+use explore::{Explored, Limits, Outcome, RankEnd};
+use limits::Heap;
+use std::alloc::AllocError;
+use std::fmt::Write;
+
+/// Each outcome with the choices that lead there, and what all of it means, with
+/// the marks that `marks_of` of `explore` gives. The statement at position K of the program stands on line `lines[K]` of its text.
+/// An `Err` means out of memory.
+pub fn print_explored(
+    alloc: Heap,
+    found: &Explored,
+    marks: &[Option<bool>],
+    limits: Limits,
+    lines: &[usize],
+) -> Result<String<Heap>, AllocError>
+    ensures { IfOk result (λ text. IsExploredText found.now marks.now limits.runs lines.now (string_bytes text)) }
+{
+    let mut text = String::new(alloc);
+    print_outcomes(alloc, &mut text, found, lines)?;
+    print_meaning(&mut text, found, marks, limits.runs)?;
+    Ok(text)
+}
+
+/// Whether each rank halts in each outcome.
+pub fn all_halt(found: &Explored) -> bool
+    ensures { IsTrue result ↔ AllHalt found.now.outcomes }
+{
+    let mut rest = found.outcomes.as_slice();
+    while let [outcome, more @ ..] = rest {
+        if !halts(outcome) {
+            return false;
+        }
+        rest = more;
+    }
+    true
+}
+
+fn halts(outcome: &Outcome) -> bool
+    ensures { IsTrue result ↔ Halts outcome.now.ranks }
+{
+    outcome.ranks.iter().all(|seen| seen.end == End::Halted)
+}
+
+// Each outcome with its number, and where the runs part that lead there.
+#[tactic(auto, using(crate::proofs::Written::none_written))]
+fn print_outcomes(
+    alloc: Heap,
+    text: &mut String<Heap>,
+    found: &Explored,
+    lines: &[usize],
+) -> Result<(), AllocError>
+    requires { string_bytes text.old ≡ [] }
+    ensures { OnOk result (AreWritten found.now.outcomes found.now.choices lines.now (length found.now.outcomes) (string_bytes text.new)) }
+{
+    let mut parted = Vec::new(alloc);
+    for index in 0..found.outcomes.len() {
+        part_at(found, index, &mut parted)?;
+        let outcome = outcome_at(found, index);
+        print_one(text, index + 1, outcome, parted.as_slice(), lines)?;
+    }
+    Ok(())
+}
+
+// Brings up to date where the choices of this outcome part from those before it.
+#[tactic(auto, using(crate::proofs::Partings::none_parted))]
+fn part_at(found: &Explored, index: usize, parted: &mut Vec<Parted, Heap>) -> Result<(), AllocError>
+    requires index { index < length found.now.outcomes }
+    requires last { AreOfLast found.now.choices index parted.old.items }
+    ensures { OnOk result (ArePartings found.now.choices index parted.new.items) }
+{
+    if index == 0 {
+        return Ok(());
+    }
+    let last = outcome_at(found, index - 1);
+    let outcome = outcome_at(found, index);
+    part(parted, last.choices.as_slice(), outcome.choices.as_slice())
+}
+
+fn outcome_at(found: &Explored, index: usize) -> &Outcome
+    requires { index < length found.now.outcomes }
+    ensures outcome { slice_get found.now.outcomes index ≡ Some result.now.ranks }
+    ensures choices { slice_get found.now.choices index ≡ Some result.now.choices }
+{
+    &found.outcomes[index]
+}
+
+#[tactic(auto, unfolding(crate::specs::OutcomesText::one_text))]
+fn print_one(
+    text: &mut String<Heap>,
+    number: usize,
+    outcome: &Outcome,
+    parted: &[Parted],
+    lines: &[usize],
+) -> Result<(), AllocError>
+    ensures { OnOk result (string_bytes text.new ≡ string_bytes text.old ++ one_text number outcome.now.ranks lines.now parted.now) }
+{
+    print_outcome(text, number, outcome.ranks.as_slice())?;
+    print_choices(text, parted, lines)?;
+    writeln!(text)
+}
+
+/// The outcome of this number: what each rank printed, and how it ended.
+pub fn print_outcome(
+    text: &mut String<Heap>,
+    number: usize,
+    ranks: &[RankEnd],
+) -> Result<(), AllocError>
+    ensures { OnOk result (string_bytes text.new ≡ string_bytes text.old ++ outcome_text number ranks.now) }
+{
+    writeln!(text, "outcome {number}")?;
+    print_values(text, ranks)?;
+    print_rank_ends(text, ranks)
+}
+
+fn print_values(text: &mut String<Heap>, ranks: &[RankEnd]) -> Result<(), AllocError>
+    ensures { OnOk result (string_bytes text.new ≡ string_bytes text.old ++ lines_text 0 ranks.now) }
+{
+    let mut rank = 0usize;
+    let mut rest = ranks;
+    while let [seen, more @ ..] = rest {
+        print_values_of(text, rank, seen.lines.as_slice())?;
+        rank += 1;
+        rest = more;
+    }
+    Ok(())
+}
+
+fn print_values_of(text: &mut String<Heap>, rank: usize, values: &[i64]) -> Result<(), AllocError>
+    ensures { OnOk result (string_bytes text.new ≡ string_bytes text.old ++ values_text rank values.now) }
+{
+    let mut rest = values;
+    while let [value, more @ ..] = rest {
+        print_line(text, rank, *value)?;
+        rest = more;
+    }
+    Ok(())
+}
+
+fn print_rank_ends(text: &mut String<Heap>, ranks: &[RankEnd]) -> Result<(), AllocError>
+    ensures { OnOk result (string_bytes text.new ≡ string_bytes text.old ++ endings_text 0 ranks.now) }
+{
+    let mut rank = 0usize;
+    let mut rest = ranks;
+    while let [seen, more @ ..] = rest {
+        print_end(text, rank, &seen.end)?;
+        rank += 1;
+        rest = more;
+    }
+    Ok(())
+}

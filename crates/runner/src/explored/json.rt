@@ -1,0 +1,272 @@
+//! What a search found, as JSON.
+ghost use Rattle.std.specs.Prelude.{◌≡◌, IfOk, OnOk, false, map, slice_get, string_bytes};
+ghost use Rattle.explore.specs.Explored.{noted_choices, rank_outcomes};
+ghost use Rattle.serde_json.specs.Data.{put as with_member, string};
+ghost use Rattle.serde_json.specs.View.{items_view, members_view, view};
+ghost use Rattle.serde_json.specs.Written.{has_float, items_have_float};
+ghost use Rattle.runner.specs.SearchObject.{IsSearchObject, choice_members, choice_object, count_members, end_members};
+ghost use Rattle.runner.specs.SearchObject.{mark_at, mark_value, outcome_object, outcome_objects, place_members};
+ghost use Rattle.runner.specs.SearchObject.{rank_object, rank_objects, value, with_members};
+
+use audit::End;
+use crash_free::Choice;
+use explore::{Explored, Noted, Outcome, Race, RankEnd};
+use limits::Heap;
+use serde_json::{Map, Value, put};
+use std::alloc::AllocError;
+
+/// All that a search found, as one object on a line. The statement at position K
+/// of the program stands on line `lines[K]` of its text. An `Err` means out of
+/// memory.
+#[tactic(auto, using(crate::proofs::SearchObjects::is_search_object))]
+pub fn explored_json(
+    alloc: Heap,
+    found: &Explored,
+    marks: &[Option<bool>],
+    lines: &[usize],
+) -> Result<String<Heap>, AllocError>
+    ensures { IfOk result (λ text. IsSearchObject found.now marks.now lines.now (string_bytes text)) }
+{
+    let mut all = Map::new(alloc);
+    let outcomes = outcomes_of(alloc, found.outcomes.as_slice(), marks, lines)?;
+    put(&mut all, alloc, "outcomes", Value::from(outcomes))?;
+    let races = races_of(alloc, found.races.as_slice(), lines)?;
+    put(&mut all, alloc, "races", Value::from(races))?;
+    put_counts(alloc, &mut all, found)?;
+    let mut text = Value::from(all).to_string(alloc)?;
+    text.push('\n')?;
+    Ok(text)
+}
+
+// How the search ended, and what it looked at and kept.
+fn put_counts(
+    alloc: Heap,
+    to: &mut Map<String<Heap>, Value>,
+    found: &Explored,
+) -> Result<(), AllocError>
+    ensures { OnOk result (members_view to.new.entries ≡ with_members (count_members found.now) (members_view to.old.entries)) }
+{
+    put(to, alloc, "complete", Value::from(found.complete))?;
+    put(to, alloc, "out_of_steps", Value::from(found.out_of_steps))?;
+    put(to, alloc, "runs", Value::from(u64::from(found.runs)))?;
+    put(to, alloc, "states", Value::from(u64::from(found.states)))?;
+    put(to, alloc, "all_states_kept", Value::from(found.kept_all))
+}
+
+fn outcomes_of(
+    alloc: Heap,
+    outcomes: &[Outcome],
+    marks: &[Option<bool>],
+    lines: &[usize],
+) -> Result<Vec<Value, Heap>, AllocError>
+    ensures { IfOk result (λ list. map view list.items ≡ outcome_objects lines.now marks.now 0 (rank_outcomes outcomes.now) (noted_choices outcomes.now)) }
+{
+    let mut list = Vec::new(alloc);
+    let mut index = 0usize;
+    let mut rest = outcomes;
+    while let [outcome, more @ ..] = rest {
+        let mark = mark_of(marks, index);
+        index += 1;
+        list.push(outcome_value(alloc, index, outcome, mark, lines)?)?;
+        rest = more;
+    }
+    Ok(list)
+}
+
+// Whether a probe of the run misses a message that its rank was shown; `None` where
+// the run wasn't found again.
+fn mark_of(marks: &[Option<bool>], index: usize) -> Option<bool>
+    ensures { result ≡ mark_at marks.now index }
+{
+    marks.get(index).copied().flatten()
+}
+
+fn outcome_value(
+    alloc: Heap,
+    number: usize,
+    outcome: &Outcome,
+    mark: Option<bool>,
+    lines: &[usize],
+) -> Result<Value, AllocError>
+    ensures { IfOk result (λ v. view v ≡ outcome_object lines.now number outcome.now.ranks outcome.now.choices mark) }
+{
+    let mut one = Map::new(alloc);
+    put(&mut one, alloc, "outcome", Value::from(number as u64))?;
+    let ranks = ranks_of(alloc, outcome.ranks.as_slice())?;
+    put(&mut one, alloc, "ranks", Value::from(ranks))?;
+    let choices = choices_of(alloc, outcome.choices.as_slice(), lines)?;
+    put(&mut one, alloc, "choices", Value::from(choices))?;
+    put(&mut one, alloc, "misses_shown", shown(mark))?;
+    Ok(Value::from(one))
+}
+
+fn shown(mark: Option<bool>) -> Value
+    ensures { view result ≡ mark_value mark }
+{
+    match mark {
+        Some(yes) => Value::from(yes),
+        None => Value::Null,
+    }
+}
+
+// What each rank printed, and how it ended.
+fn ranks_of(alloc: Heap, ranks: &[RankEnd]) -> Result<Vec<Value, Heap>, AllocError>
+    ensures { IfOk result (λ list. map view list.items ≡ rank_objects 0 ranks.now) }
+{
+    let mut list = Vec::new(alloc);
+    let mut rank = 0usize;
+    let mut rest = ranks;
+    while let [seen, more @ ..] = rest {
+        list.push(rank_value(alloc, rank, seen)?)?;
+        rank += 1;
+        rest = more;
+    }
+    Ok(list)
+}
+
+fn rank_value(alloc: Heap, rank: usize, seen: &RankEnd) -> Result<Value, AllocError>
+    ensures { IfOk result (λ v. view v ≡ rank_object rank seen.now) }
+{
+    let mut one = Map::new(alloc);
+    put(&mut one, alloc, "rank", Value::from(rank as u64))?;
+    let lines = values_of(alloc, seen.lines.as_slice())?;
+    put(&mut one, alloc, "lines", Value::from(lines))?;
+    put_end(alloc, &mut one, seen.end)?;
+    Ok(Value::from(one))
+}
+
+fn values_of(alloc: Heap, values: &[i64]) -> Result<Vec<Value, Heap>, AllocError>
+    ensures { IfOk result (λ list. map view list.items ≡ map value values.now) }
+{
+    let mut list = Vec::new(alloc);
+    for printed in values {
+        list.push(Value::from(*printed))?;
+    }
+    Ok(list)
+}
+
+fn put_end(alloc: Heap, to: &mut Map<String<Heap>, Value>, end: End) -> Result<(), AllocError>
+    ensures { OnOk result (members_view to.new.entries ≡ with_members (end_members end) (members_view to.old.entries)) }
+{
+    match end {
+        End::Halted => put_text(alloc, to, "end", "halted"),
+        End::Stalled => put_text(alloc, to, "end", "stalled"),
+        End::Unfinished => put_text(alloc, to, "end", "unfinished"),
+        End::Faulted(fault) => {
+            put_text(alloc, to, "end", "fault")?;
+            put(to, alloc, "fault", Value::from(u64::from(fault.number())))?;
+            put_text(alloc, to, "name", fault.name())
+        }
+    }
+}
+
+fn put_text(
+    alloc: Heap,
+    to: &mut Map<String<Heap>, Value>,
+    name: &str,
+    text: &str,
+) -> Result<(), AllocError>
+    ensures { OnOk result (members_view to.new.entries ≡ with_member name.now (string text.now) (members_view to.old.entries)) }
+{
+    let text = Value::try_from_str(alloc, text)?;
+    put(to, alloc, name, text)
+}
+
+// The choices of a run, the first one first.
+fn choices_of(
+    alloc: Heap,
+    choices: &[Noted],
+    lines: &[usize],
+) -> Result<Vec<Value, Heap>, AllocError>
+    ensures { IfOk result (λ list. map view list.items ≡ map (choice_object lines.now) choices.now) }
+{
+    let mut list = Vec::new(alloc);
+    for noted in choices {
+        list.push(choice_value(alloc, noted, lines)?)?;
+    }
+    Ok(list)
+}
+
+fn choice_value(alloc: Heap, noted: &Noted, lines: &[usize]) -> Result<Value, AllocError>
+    ensures { IfOk result (λ v. view v ≡ choice_object lines.now noted.now) }
+{
+    let mut one = Map::new(alloc);
+    let line = lines.get(noted.position).copied();
+    put_place(alloc, &mut one, noted.chosen.rank, line)?;
+    put_choice(alloc, &mut one, noted)?;
+    Ok(Value::from(one))
+}
+
+fn put_place(
+    alloc: Heap,
+    to: &mut Map<String<Heap>, Value>,
+    rank: u8,
+    line: Option<usize>,
+) -> Result<(), AllocError>
+    ensures { OnOk result (members_view to.new.entries ≡ with_members (place_members rank line) (members_view to.old.entries)) }
+{
+    put(to, alloc, "rank", Value::from(u64::from(rank)))?;
+    match line {
+        Some(line) => put(to, alloc, "line", Value::from(line as u64)),
+        None => Ok(()),
+    }
+}
+
+// The act's name as in a trace, and the source of its message.
+fn put_choice(
+    alloc: Heap,
+    to: &mut Map<String<Heap>, Value>,
+    noted: &Noted,
+) -> Result<(), AllocError>
+    ensures { OnOk result (members_view to.new.entries ≡ with_members (choice_members noted.now.chosen.choice noted.now.probes) (members_view to.old.entries)) }
+{
+    match noted.chosen.choice {
+        Choice::Take { source, index: _ } => {
+            let name = if noted.probes { "hit" } else { "reception" };
+            put_text(alloc, to, "act", name)?;
+            put(to, alloc, "source", Value::from(u64::from(source)))
+        }
+        Choice::Miss => put_text(alloc, to, "act", "miss"),
+        Choice::Next => Ok(()),
+    }
+}
+
+#[tactic(auto, using(crate::proofs::SearchObjects::pushed))]
+fn races_of(alloc: Heap, races: &[Race], lines: &[usize]) -> Result<Vec<Value, Heap>, AllocError>
+    ensures { IfOk result (λ list. items_have_float (items_view list.items) ≡ false) }
+{
+    let mut list = Vec::new(alloc);
+    for race in races {
+        list.push(race_value(alloc, race, lines)?)?;
+    }
+    Ok(list)
+}
+
+fn race_value(alloc: Heap, race: &Race, lines: &[usize]) -> Result<Value, AllocError>
+    ensures { IfOk result (λ v. has_float (view v) ≡ false) }
+{
+    let mut one = Map::new(alloc);
+    let line = lines.get(race.position).copied();
+    put_place(alloc, &mut one, race.rank, line)?;
+    put(&mut one, alloc, "probe", Value::from(race.probes))?;
+    put(
+        &mut one,
+        alloc,
+        "sources",
+        Value::from(sources_of(alloc, race)?),
+    )?;
+    put(&mut one, alloc, "miss", Value::from(race.misses))?;
+    Ok(Value::from(one))
+}
+
+fn sources_of(alloc: Heap, race: &Race) -> Result<Vec<Value, Heap>, AllocError>
+    ensures { IfOk result (λ list. items_have_float (items_view list.items) ≡ false) }
+{
+    let mut list = Vec::new(alloc);
+    for (rank, is_one) in race.sources.iter().enumerate() {
+        if *is_one {
+            list.push(Value::from(rank as u64))?;
+        }
+    }
+    Ok(list)
+}

@@ -1,0 +1,290 @@
+//! What the outcomes of a program mean.
+ghost use Rattle.std.specs.Prelude.{◌≡◌, ◌++◌, OnOk, length, string_bytes};
+ghost use Rattle.std.specs.Fmt.{decimal};
+ghost use Rattle.explore.specs.Explored.{rank_outcomes};
+ghost use Rattle.runner.specs.Meanings.{between, enumeration, fault_line, fault_words, faults_text, is_of, limits_text, named_ranks};
+ghost use Rattle.runner.specs.Meanings.{count_text, mark_text, marks_text, meaning_text, only_text, ranks_line, ranks_of, runs_text, stalls_text};
+ghost use Rattle.runner.specs.Meanings.{states_text, steps_text, unhalted_text};
+
+use audit::End;
+use explore::{Explored, Outcome, RankEnd};
+use limits::Heap;
+use std::alloc::AllocError;
+use std::fmt::Write;
+
+/// What the outcomes mean that a search found, which looked at no more than so
+/// many runs, which of them have a mark, and how many they are.
+pub fn print_meaning(
+    text: &mut String<Heap>,
+    found: &Explored,
+    marks: &[Option<bool>],
+    runs: u32,
+) -> Result<(), AllocError>
+    ensures { OnOk result (string_bytes text.new ≡ string_bytes text.old ++ meaning_text found.now marks.now runs) }
+{
+    print_only(text, found)?;
+    print_unhalted(text, found.outcomes.as_slice())?;
+    print_marks(text, marks)?;
+    print_state_limit(text, found)?;
+    print_limits(text, found, runs)?;
+    print_count(text, found)
+}
+
+// That there is one outcome, if this is certain.
+fn print_only(text: &mut String<Heap>, found: &Explored) -> Result<(), AllocError>
+    ensures { OnOk result (string_bytes text.new ≡ string_bytes text.old ++ only_text found.now) }
+{
+    if found.complete && found.outcomes.len() == 1 {
+        return writeln!(
+            text,
+            "# one outcome: whatever the order, this program prints this"
+        );
+    }
+    Ok(())
+}
+
+// Which outcomes were found by runs that no execution gives.
+fn print_marks(text: &mut String<Heap>, marks: &[Option<bool>]) -> Result<(), AllocError>
+    ensures { OnOk result (string_bytes text.new ≡ string_bytes text.old ++ marks_text 1 marks.now) }
+{
+    let mut number = 0usize;
+    let mut rest = marks;
+    while let [mark, more @ ..] = rest {
+        number += 1;
+        print_mark(text, number, *mark)?;
+        rest = more;
+    }
+    Ok(())
+}
+
+fn print_mark(text: &mut String<Heap>, number: usize, mark: Option<bool>) -> Result<(), AllocError>
+    ensures { OnOk result (string_bytes text.new ≡ string_bytes text.old ++ mark_text number mark) }
+{
+    match mark {
+        Some(true) => writeln!(
+            text,
+            "# outcome {number}: in the run that was found a probe misses a message that its rank was shown; no execution does"
+        ),
+        Some(false) | None => Ok(()),
+    }
+}
+
+// How many states were kept, if there were more.
+fn print_state_limit(text: &mut String<Heap>, found: &Explored) -> Result<(), AllocError>
+    ensures { OnOk result (string_bytes text.new ≡ string_bytes text.old ++ states_text found.now) }
+{
+    if found.kept_all {
+        return Ok(());
+    }
+    let states = found.states;
+    writeln!(
+        text,
+        "# states kept: {states}; behind that no runs were merged: allow more (--states)"
+    )
+}
+
+// Which limits the search reached, if not all was looked at.
+fn print_limits(text: &mut String<Heap>, found: &Explored, runs: u32) -> Result<(), AllocError>
+    ensures { OnOk result (string_bytes text.new ≡ string_bytes text.old ++ limits_text found.now runs) }
+{
+    if found.complete {
+        return Ok(());
+    }
+    print_step_limit(text, found)?;
+    print_run_limit(text, found, runs)
+}
+
+fn print_step_limit(text: &mut String<Heap>, found: &Explored) -> Result<(), AllocError>
+    ensures { OnOk result (string_bytes text.new ≡ string_bytes text.old ++ steps_text found.now) }
+{
+    if !found.out_of_steps {
+        return Ok(());
+    }
+    writeln!(text, "# not all was looked at: allow more steps (--steps)")
+}
+
+fn print_run_limit(text: &mut String<Heap>, found: &Explored, runs: u32) -> Result<(), AllocError>
+    ensures { OnOk result (string_bytes text.new ≡ string_bytes text.old ++ runs_text found.now runs) }
+{
+    if found.runs != runs {
+        return Ok(());
+    }
+    writeln!(text, "# not all was looked at: allow more runs (--runs)")
+}
+
+/// How a rank ends that doesn't halt.
+#[derive(Clone, Copy, PartialEq, Eq)]
+enum Ending {
+    Stalls,
+    Faults,
+}
+
+fn is_of(ending: Ending, end: End) -> bool
+    ensures { result ≡ is_of ending end }
+{
+    match end {
+        End::Stalled => ending == Ending::Stalls,
+        End::Faulted(_) => ending == Ending::Faults,
+        End::Halted | End::Unfinished => false,
+    }
+}
+
+// Which ranks of the outcomes don't halt.
+fn print_unhalted(text: &mut String<Heap>, outcomes: &[Outcome]) -> Result<(), AllocError>
+    ensures { OnOk result (string_bytes text.new ≡ string_bytes text.old ++ unhalted_text 1 (rank_outcomes outcomes.now)) }
+{
+    let mut number = 0usize;
+    let mut rest = outcomes;
+    while let [outcome, more @ ..] = rest {
+        number += 1;
+        print_stalled(text, number, outcome.ranks.as_slice())?;
+        print_faulted(text, number, outcome.ranks.as_slice())?;
+        rest = more;
+    }
+    Ok(())
+}
+
+fn print_stalled(
+    text: &mut String<Heap>,
+    number: usize,
+    ranks: &[RankEnd],
+) -> Result<(), AllocError>
+    ensures { OnOk result (string_bytes text.new ≡ string_bytes text.old ++ stalls_text number (ranks_of Ending.Stalls 0 ranks.now)) }
+{
+    let count = count_of(ranks, Ending::Stalls);
+    if count == 0 {
+        return Ok(());
+    }
+    write!(text, "# outcome {number} stalls: ")?;
+    print_ranks(text, ranks, Ending::Stalls, count)?;
+    if count == 1 {
+        writeln!(text, " waits for a message that doesn't come")
+    } else {
+        writeln!(text, " wait for messages that don't come")
+    }
+}
+
+fn print_faulted(
+    text: &mut String<Heap>,
+    number: usize,
+    ranks: &[RankEnd],
+) -> Result<(), AllocError>
+    ensures { OnOk result (string_bytes text.new ≡ string_bytes text.old ++ faults_text number (ranks_of Ending.Faults 0 ranks.now)) }
+{
+    let count = count_of(ranks, Ending::Faults);
+    if count == 0 {
+        return Ok(());
+    }
+    print_fault_line(text, number, ranks, count)
+}
+
+fn print_fault_line(
+    text: &mut String<Heap>,
+    number: usize,
+    ranks: &[RankEnd],
+    count: usize,
+) -> Result<(), AllocError>
+    requires { count ≡ length (ranks_of Ending.Faults 0 ranks.now) }
+    ensures { OnOk result (string_bytes text.new ≡ string_bytes text.old ++ fault_line number (ranks_of Ending.Faults 0 ranks.now)) }
+{
+    print_fault_words(text, number)?;
+    print_ranks_line(text, ranks, Ending::Faults, count)
+}
+
+#[tactic(auto, unfolding(crate::specs::Meanings::fault_words))]
+fn print_fault_words(text: &mut String<Heap>, number: usize) -> Result<(), AllocError>
+    ensures { OnOk result (string_bytes text.new ≡ string_bytes text.old ++ fault_words number) }
+{
+    write!(text, "# outcome {number} has a fault: ")
+}
+
+fn print_ranks_line(
+    text: &mut String<Heap>,
+    ranks: &[RankEnd],
+    ending: Ending,
+    count: usize,
+) -> Result<(), AllocError>
+    requires { count ≡ length (ranks_of ending 0 ranks.now) }
+    ensures { OnOk result (string_bytes text.new ≡ string_bytes text.old ++ ranks_line (ranks_of ending 0 ranks.now)) }
+{
+    print_ranks(text, ranks, ending, count)?;
+    writeln!(text)
+}
+
+fn count_of(ranks: &[RankEnd], ending: Ending) -> usize
+    ensures { result ≡ length (ranks_of ending 0 ranks.now) }
+{
+    let mut count = 0usize;
+    let mut rank = 0usize;
+    let mut rest = ranks;
+    while let [seen, more @ ..] = rest {
+        if is_of(ending, seen.end) {
+            count += 1;
+        }
+        rank += 1;
+        rest = more;
+    }
+    count
+}
+
+// The ranks that end so, which are so many: `rank 1`, `ranks 0 and 1`, `ranks 0, 1 and 3`.
+fn print_ranks(
+    text: &mut String<Heap>,
+    ranks: &[RankEnd],
+    ending: Ending,
+    count: usize,
+) -> Result<(), AllocError>
+    requires { count ≡ length (ranks_of ending 0 ranks.now) }
+    ensures { OnOk result (string_bytes text.new ≡ string_bytes text.old ++ named_ranks (ranks_of ending 0 ranks.now)) }
+{
+    write!(text, "{}", if count == 1 { "rank " } else { "ranks " })?;
+    print_enumeration(text, ranks, ending, count)
+}
+
+fn print_enumeration(
+    text: &mut String<Heap>,
+    ranks: &[RankEnd],
+    ending: Ending,
+    count: usize,
+) -> Result<(), AllocError>
+    requires { count ≡ length (ranks_of ending 0 ranks.now) }
+    ensures { OnOk result (string_bytes text.new ≡ string_bytes text.old ++ enumeration (ranks_of ending 0 ranks.now)) }
+{
+    let mut left = count;
+    let mut rank = 0usize;
+    let mut rest = ranks;
+    while let [seen, more @ ..] = rest {
+        if is_of(ending, seen.end) {
+            left -= 1;
+            print_number(text, rank, left)?;
+        }
+        rank += 1;
+        rest = more;
+    }
+    Ok(())
+}
+
+// A number, and what stands between it and these many more.
+fn print_number(text: &mut String<Heap>, number: usize, left: usize) -> Result<(), AllocError>
+    ensures { OnOk result (string_bytes text.new ≡ string_bytes text.old ++ decimal number ++ between left) }
+{
+    if left == 0 {
+        write!(text, "{number}")
+    } else if left == 1 {
+        write!(text, "{number} and ")
+    } else {
+        write!(text, "{number}, ")
+    }
+}
+
+fn print_count(text: &mut String<Heap>, found: &Explored) -> Result<(), AllocError>
+    ensures { OnOk result (string_bytes text.new ≡ string_bytes text.old ++ count_text found.now) }
+{
+    let outcomes = found.outcomes.len();
+    let runs = found.runs;
+    if found.complete {
+        writeln!(text, "outcomes {outcomes}, runs {runs}, complete")
+    } else {
+        writeln!(text, "outcomes {outcomes}, runs {runs}, stopped")
+    }
+}

@@ -1,0 +1,70 @@
+//! The short form of what a search found.
+ghost use Rattle.std.specs.Prelude.{IfOk, string_bytes};
+ghost use Rattle.runner.specs.OutcomesText.{IsSummary};
+
+use crate::explored::meaning::print_meaning;
+use crate::explored::parting::print_place;
+use explore::{Explored, Limits, Race};
+use limits::Heap;
+use std::alloc::AllocError;
+use std::fmt::Write;
+
+/// Which receives and probes had several answers, a line each, and what the
+/// outcomes mean. The statement at position K of the program stands on line
+/// `lines[K]` of its text. An `Err` means out of memory.
+#[tactic(auto, using(crate::proofs::Written::is_summary))]
+pub fn print_summary(
+    alloc: Heap,
+    found: &Explored,
+    marks: &[Option<bool>],
+    limits: Limits,
+    lines: &[usize],
+) -> Result<String<Heap>, AllocError>
+    ensures { IfOk result (λ text. IsSummary found.now marks.now limits.runs (string_bytes text)) }
+{
+    let mut text = String::new(alloc);
+    for race in found.races.iter() {
+        print_race(&mut text, race, lines)?;
+    }
+    print_meaning(&mut text, found, marks, limits.runs)?;
+    Ok(text)
+}
+
+fn print_race(text: &mut String<Heap>, race: &Race, lines: &[usize]) -> Result<(), AllocError> {
+    print_place(text, race.rank, lines.get(race.position).copied())?;
+    write!(
+        text,
+        "{}",
+        if race.probes {
+            "finds one from "
+        } else {
+            "takes from "
+        }
+    )?;
+    print_sources(text, race)?;
+    if race.misses {
+        write!(text, ", or none")?;
+    }
+    writeln!(text)
+}
+
+// The ranks of which it could take or find a message: `1`, `1 or 2`, `1, 2 or 3`.
+fn print_sources(text: &mut String<Heap>, race: &Race) -> Result<(), AllocError> {
+    let mut left = race.sources.iter().filter(|is_one| **is_one).count();
+    for (rank, is_one) in race.sources.iter().enumerate() {
+        if *is_one {
+            left = left.saturating_sub(1);
+            write!(text, "{rank}{}", behind(left))?;
+        }
+    }
+    Ok(())
+}
+
+// What stands between a rank and so many more.
+fn behind(left: usize) -> &'static str {
+    match left {
+        0 => "",
+        1 => " or ",
+        _ => ", ",
+    }
+}
