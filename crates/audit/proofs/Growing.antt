@@ -21,7 +21,7 @@ events_grow h (x ∷ later) =
     (subst (λ z. IsBeginning (events_from 0 (h ++ x ∷ [])) (events_from 0 z)) (append_assoc h (x ∷ []) later) (events_grow (h ++ x ∷ []) later))
 
 -- so do their lines
-prints_grow : (h later : History) → IsBeginning (prints_from 0 h) (prints_from 0 (h ++ later))
+pub prints_grow : (h later : History) → IsBeginning (prints_from 0 h) (prints_from 0 (h ++ later))
 prints_grow h [] = ([], ap (λ z. prints_from 0 z) (append-nil h) ∙ sym (append-nil (prints_from 0 h)))
 prints_grow h (x ∷ later) =
     let one : List (ℕ × ℤ) = print_at (0 + length h + 1) x.0 [] in

@@ -1,21 +1,20 @@
 -- Why crashes add no outcome: the run that a world or a report stands for is part of a run that comes to an end which was found, and more acts
 -- only add lines.
-use Rattle.std.proofs.Common.{◌≡◌, ℕ, ℤ, ◌+◌, List, [], ◌∷◌, ◌++◌, Option, Some, length, slice_get, refl, sym, ap, subst, ◌∙◌}
+use Rattle.std.proofs.Common.{◌≡◌, ℕ, ℤ, List, [], ◌++◌, Some, slice_get, sym, ap, ◌∙◌}
 use Rattle.std.specs.Prelude.{map}
-use Rattle.std.proofs.lemmas.List.{append-nil, append_assoc, map-append}
+use Rattle.std.proofs.lemmas.List.{append-nil, map-append}
 use Rattle.matching.specs.declared.line.Line.{Line}
 use Rattle.rank_language.specs.Program.{ProgramValue}
 use Rattle.rank_machine.specs.States.{State}
-use Rattle.rank_machine.specs.Acts.{Act, Message}
-use Rattle.crash_free.specs.Runs.{Passed, History, history, printed, prints_from, print_at, IsRun}
+use Rattle.crash_free.specs.Runs.{Passed, History, history, printed, prints_from, IsRun}
 use Rattle.crash_free.specs.Parts.{IsBeginning, IsPartOf}
 use Rattle.crash_free.specs.Sim.{start_of}
-use Rattle.crash_free.proofs.Lists.{prints_from-push}
 use Rattle.crash_free.proofs.Reorder.{IsBeginning-trans, history_grows}
 use Rattle.audit.specs.Outcome.{OutcomeValue, lines_of}
 use Rattle.audit.specs.FinalRuns.Final.{IsFinal, NoneIsUnfinished, seen_of}
 use Rattle.audit.specs.FinalRuns.Maximal.{RankOutcome, IsOutcomeOf}
 use Rattle.audit.proofs.FinalRunsLaws.Ending.{final_is_possible}
+use Rattle.audit.proofs.Growing.{prints_grow}
 use Rattle.explore.specs.Exploring.{and_then, AlwaysEndsIn, at_end, goes_on}
 use Rattle.explore.specs.Outcomes.{IsAmong}
 use Rattle.explore.proofs.Ending.{along, none_missing}
@@ -46,25 +45,17 @@ ends_in start n found C (goes_on r act may further) =
           (history_grows C (record { rank = r; act = act }) z) (more.part z);
     }
 
--- the lines of more acts begin with those of the first ones
-more_lines : (h later : History) → IsBeginning (prints_from 0 h) (prints_from 0 (h ++ later))
-more_lines h [] = ([], ap (λ z. prints_from 0 z) (append-nil h) ∙ sym (append-nil (prints_from 0 h)))
-more_lines h (x ∷ later) =
-    let one : List (ℕ × ℤ) = print_at (0 + length h + 1) x.0 [] in
-    IsBeginning-trans (prints_from 0 h) (prints_from 0 (h ++ x ∷ [])) (prints_from 0 (h ++ x ∷ later)) (one, prints_from-push 0 h x)
-    (subst (λ z. IsBeginning (prints_from 0 (h ++ x ∷ [])) (prints_from 0 z)) (append_assoc h (x ∷ []) later) (more_lines (h ++ x ∷ []) later))
-
--- so do their values
+-- the values of more acts begin with those of the first ones
 more_values : (h later : History)
     → IsBeginning (map (λ (line : ℕ × ℤ). line.1) (prints_from 0 h)) (map (λ (line : ℕ × ℤ). line.1) (prints_from 0 (h ++ later)))
 more_values h later =
-    let more = more_lines h later in (
+    let more = prints_grow h later in (
       map (λ (line : ℕ × ℤ). line.1) more.0,
       ap (λ lines. map (λ (line : ℕ × ℤ). line.1) lines) more.1 ∙ map-append (λ (line : ℕ × ℤ). line.1) (prints_from 0 h) more.0,
     )
 
 -- what the ranks of a run printed is part of an outcome that was found
-pub masked : (program : ProgramValue) (n : ℕ) (outcomes : List (List RankOutcome)) (C : List Passed) (lines : List Line)
+masked : (program : ProgramValue) (n : ℕ) (outcomes : List (List RankOutcome)) (C : List Passed) (lines : List Line)
     → EndsAmong program n outcomes → IsRun (start_of program n) n C → ((r : ℕ) → lines_of r lines ≡ printed C r) → ArePrintedIn outcomes n lines
 masked program n outcomes C lines all run same =
     let found = IsAmong outcomes in

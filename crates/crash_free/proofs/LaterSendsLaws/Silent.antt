@@ -3,6 +3,7 @@
 use Rattle.std.proofs.Common.{◌≡◌, ℕ, ℤ, Bool, true, false, not, ◌||◌, List, Ok, Err, Option, Some, None, refl, sym, subst, ◌∙◌, length, if◌then◌else◌}
 use Rattle.std.specs.Prelude.{nat_le, option_map}
 use Rattle.std.proofs.lemmas.Bool.{or_parts, or_from}
+use Rattle.std.proofs.Math.Bool.{or_assoc}
 use Rattle.matching.specs.declared.packet.Context.TheVariants.{PointToPoint}
 use Rattle.rank_language.specs.Placed.{Pattern, Buffer, Collective}
 use Rattle.rank_language.specs.Placed.{declare, declare_array, assign, assign_item, send, receive, probe, try_probe, print, collect}
@@ -22,20 +23,15 @@ use Rattle.crash_free.specs.LaterSends.Sending.{may_send, some_sends, SendsNoMor
 
 -- Statements
 
--- one of three, in either grouping
-or_moved : (a b c : Bool) → (a || (b || c)) ≡ ((a || b) || c)
-or_moved true b c = refl
-or_moved false b c = refl
-
 -- one list of statements behind another
 some_sends-then : (b k : Block) → some_sends (b then k) ≡ (some_sends b || some_sends k)
 some_sends-then done k = refl
-some_sends-then (plain s r) k = rw (some_sends-then r k) (or_moved (may_send s) (some_sends r) (some_sends k))
-some_sends-then (if_only e y r) k = rw (some_sends-then r k) (or_moved (some_sends y) (some_sends r) (some_sends k))
+some_sends-then (plain s r) k = rw (some_sends-then r k) (sym (or_assoc (may_send s) (some_sends r) (some_sends k)))
+some_sends-then (if_only e y r) k = rw (some_sends-then r k) (sym (or_assoc (some_sends y) (some_sends r) (some_sends k)))
 some_sends-then (if_else e y o r) k =
-    rw (some_sends-then r k, or_moved (some_sends o) (some_sends r) (some_sends k))
-    (or_moved (some_sends y) (some_sends o || some_sends r) (some_sends k))
-some_sends-then (loop e y r) k = rw (some_sends-then r k) (or_moved (some_sends y) (some_sends r) (some_sends k))
+    rw (some_sends-then r k, sym (or_assoc (some_sends o) (some_sends r) (some_sends k)))
+    (sym (or_assoc (some_sends y) (some_sends o || some_sends r) (some_sends k)))
+some_sends-then (loop e y r) k = rw (some_sends-then r k) (sym (or_assoc (some_sends y) (some_sends r) (some_sends k)))
 
 -- where neither sends both together don't
 pub then_silent : (b k : Block) → some_sends b ≡ false → some_sends k ≡ false → some_sends (b then k) ≡ false

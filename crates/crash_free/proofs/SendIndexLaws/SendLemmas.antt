@@ -1,6 +1,6 @@
 -- The sends of a run, noted act by act, and found again.
-use Rattle.std.proofs.Common.{◌≡◌, ℕ, ℤ, zero, suc, ◌+◌, ◌*◌, ◌<◌, ◌≤◌, List, [], ◌∷◌, ◌++◌, ◌⊎◌, inl, inr, Bool, true, false}
-use Rattle.std.proofs.Common.{refl, sym, ap, ◌∙◌, arith, Some, None, length, replicate, slice_get, nat_lt}
+use Rattle.std.proofs.Common.{◌≡◌, ℕ, ℤ, ◌+◌, ◌*◌, ◌<◌, List, [], ◌∷◌, ◌++◌, ◌⊎◌, inl, inr, Bool, true, false}
+use Rattle.std.proofs.Common.{refl, sym, ap, ◌∙◌, arith, length, replicate, nat_lt}
 use Rattle.std.specs.Prelude.{◌&&◌, ◌==◌}
 use Rattle.std.proofs.lemmas.Bool.{cases_eq, eq-eqb, ne_eqb, ltb-true, and_parts}
 use Rattle.std.proofs.lemmas.List.{length-set, get_or-set_same, get_or-set_other, get_or-replicate}
@@ -8,7 +8,6 @@ use Rattle.limits.specs.Limits.{most_ranks}
 use Rattle.matching.specs.declared.packet.Context.{Context}
 use Rattle.rank_machine.specs.Acts.{Act, sends, takes, hits, misses, prints}
 use Rattle.crash_free.specs.Runs.{Passed, add_if, at_place}
-use Rattle.crash_free.proofs.Lists.{push_cases}
 use Rattle.crash_free.specs.SendIndex.Sends.{matched_by, matching_send, nth_send, send_indices, sends_to}
 use Rattle.crash_free.specs.SendIndex.Tables.{HasSends, found_at, found_by, noted, noted_by, of_pair, pair}
 
@@ -145,40 +144,3 @@ notes_act run table p index is kept = rw is (go p.act refl)
     go (hits source place) is = notes_nothing run table p kept (λ dest. ap (sends_to dest) is)
     go misses is = notes_nothing run table p kept (λ dest. ap (sends_to dest) is)
     go (prints value) is = notes_nothing run table p kept (λ dest. ap (sends_to dest) is)
-
--- a send was made before what follows the run
-index_low : (run : List Passed) (s d k i : ℕ) → slice_get (send_indices run s d) k ≡ Some i → i < length run
-index_low [] s d k i there = absurd cc
-index_low (p ∷ run) s d k i there = go (index_low run s d k i) (p.rank == s && sends_to d p.act) there
-  where
-    go : (slice_get (send_indices run s d) k ≡ Some i → i < length run) → (t : Bool)
-        → slice_get (add_if t (send_indices run s d) (length run)) k ≡ Some i → i < length (p ∷ run)
-    go before true is = elim (push_cases (send_indices run s d) (length run) k i is) as (λ z. i < length (p ∷ run)) [
-      | inl h ↦ (let low = before h in omega (arith, low))
-      | inr h ↦ omega (arith, h.1)
-    ]
-    go before false is = let low = before is in omega (arith, low)
-
--- the send at a place among them is in the run
-placed_low : (run : List Passed) (s d place i : ℕ) → at_place (send_indices run s d) place ≡ Some i → i < length run
-placed_low run s d zero i there = absurd cc
-placed_low run s d (suc k) i there = index_low run s d k i there
-
--- so is the one that is looked up
-nth_low : (run : List Passed) (s d place i : ℕ) → nth_send run s d place ≡ Some i → i < length run
-nth_low run s d place i there = go (nat_lt s most_ranks && nat_lt d most_ranks) refl
-  where
-    go : (t : Bool) → (nat_lt s most_ranks && nat_lt d most_ranks) ≡ t → i < length run
-    go true is = placed_low run s d place i (rw is at there)
-    go false is = let none : None ≡ Some i = rw is at there in absurd cc
-
--- so was that of the message that an act takes or finds
-pub match_low : (run : List Passed) (p : Passed) (i : ℕ) → matching_send run p ≡ Some i → i < length run
-match_low run p i there = go p.act there
-  where
-    go : (act : Act) → matched_by run p.rank act ≡ Some i → i < length run
-    go (sends dest context tag items) is = absurd cc
-    go (takes source place) is = nth_low run source p.rank place i is
-    go (hits source place) is = nth_low run source p.rank place i is
-    go misses is = absurd cc
-    go (prints value) is = absurd cc

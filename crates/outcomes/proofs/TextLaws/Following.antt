@@ -2,25 +2,13 @@
 use Rattle.std.proofs.Common.{◌≡◌, ℕ, zero, suc, ◌+◌, ◌<◌, ◌==◌, ◌&&◌, Bool, true, false, List, [], ◌∷◌, ◌++◌}
 use Rattle.std.proofs.Common.{slice_get, slice_set, get_or, Some, ◌⊎◌, inl, inr, refl, sym, ap, ◌∙◌, arith, length-set, eq-eqb, ne_eqb, if◌then◌else◌, nat_eq}
 use Rattle.std.proofs.lemmas.Bool.Decides.{nat_tests}
+use Rattle.crash_free.proofs.Keeping.{set_cases}
 use Rattle.outcomes.specs.declared.text.form.Entry.{Entry}
 use Rattle.outcomes.specs.declared.text.form.Form.{Form}
 use Rattle.outcomes.specs.declared.text.form.Part.{Part}
 use Rattle.outcomes.specs.declared.text.form.Part.TheVariants as part
 use Rattle.outcomes.specs.declared.text.progress.Progress.{Progress}
 use Rattle.outcomes.specs.Text.Texts.{after, after_entry, entry_at, entry_of, progress_from, progress_of, rank_of, all_ended, AreProgress}
-
--- what stands at a place once one place is written
-set_cases : {A : Type 0} (xs : List A) (i : ℕ) (y : A) (k : ℕ) (x : A) → slice_get (slice_set xs i y) k ≡ Some x
-    → ((i ≡ k) × (x ≡ y)) ⊎ ((i ≡ k → ⊥) × (slice_get xs k ≡ Some x))
-set_cases [] i y k x e = cc
-set_cases (z ∷ xs) zero y zero x e = inl (refl, cc)
-set_cases (z ∷ xs) zero y (suc k) x e = inr ((λ q. cc), e)
-set_cases (z ∷ xs) (suc i) y zero x e = inr ((λ q. cc), e)
-set_cases (z ∷ xs) (suc i) y (suc k) x e = more (set_cases xs i y k x e)
-  where
-    more : ((i ≡ k) × (x ≡ y)) ⊎ ((i ≡ k → ⊥) × (slice_get xs k ≡ Some x)) → ((suc i ≡ suc k) × (x ≡ y)) ⊎ ((suc i ≡ suc k → ⊥) × (slice_get xs k ≡ Some x))
-    more (inl h) = inl (ap suc h.0, h.1)
-    more (inr h) = inr ((λ q. h.0 (omega (arith, q))), h.1)
 
 -- entries, and one more behind them
 progress_from-push : (r : ℕ) (p : Progress) (es : List Entry) (e : Entry) → progress_from r p (es ++ e ∷ []) ≡ after_entry r (progress_from r p es) e
