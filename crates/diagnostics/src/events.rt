@@ -1,12 +1,12 @@
 //! A fault of an events text, explained.
 
-use crate::near::put_nearest;
-use crate::piece::{Piece, words_of};
+use crate::near::NearWord;
+use crate::piece::{Cut, Piece, pieces_of};
 use crate::shown::{line_of, put_piece};
+use crate::told::Told;
 use crate::wordless::put_wordless;
 use limits::Heap;
 use std::alloc::AllocError;
-use std::fmt::Write;
 use world_model::events_text::EventsFaultKind;
 
 /// An event: its word, and what numbers follow it.
@@ -64,11 +64,6 @@ const FORMS: [Form; 9] = [
     },
 ];
 
-/// The words that an event's line begins with.
-const EVENTS: [&str; 9] = [
-    "step", "put", "arrive", "store", "ack", "release", "image", "crash", "restart",
-];
-
 /// What is wrong with an events text that has this fault on this line, from 1.
 pub fn explain_events(
     alloc: Heap,
@@ -76,76 +71,87 @@ pub fn explain_events(
     number: usize,
     kind: EventsFaultKind,
 ) -> Result<String<Heap>, AllocError> {
-    let mut told = String::new(alloc);
-    write!(
-        told,
-        "events line {number}: fault {} {kind}\n",
-        kind.number()
-    )?;
-    let line = line_of(text, number).unwrap_or(&[]);
-    let words = words_of(alloc, line)?;
+    let line = line_of(text, number);
+    let words = pieces_of(alloc, line, Cut::Words)?;
+    let mut told = Told::begun(heading(alloc, number, kind), alloc);
     match kind {
-        EventsFaultKind::BadLine => put_bad_line(&mut told, alloc, number, line, words.as_slice())?,
+        EventsFaultKind::BadLine => put_bad_line(&mut told, alloc, number, line, words.as_slice()),
         EventsFaultKind::Limit => {
-            put_piece(&mut told, line, words.first().copied())?;
-            told.push_str("an events text has at most 100000 lines\n")?;
+            put_piece(&mut told, line, words.first().copied());
+            told.text("an events text has at most 100000 lines\n");
         }
     }
-    told.push_str("manual: docs/WORLDS.md\n")?;
-    Ok(told)
+    told.text("manual: docs/WORLDS.md\n");
+    told.done()
 }
 
-fn put_bad_line(
-    told: &mut String<Heap>,
-    alloc: Heap,
-    number: usize,
-    line: &[u8],
-    words: &[Piece<'_>],
-) -> Result<(), AllocError> {
-    if put_wordless(told, number, line, words)? {
-        return Ok(());
+fn heading(alloc: Heap, number: usize, kind: EventsFaultKind) -> Result<String<Heap>, AllocError> {
+    format!(in alloc; "events line {number}: fault {} {kind}\n", kind.number())
+}
+
+fn put_bad_line(told: &mut Told, alloc: Heap, number: usize, line: &[u8], words: &[Piece<'_>]) {
+    if put_wordless(told, number, line, words) {
+        return;
     }
-    let first = words.first().copied();
-    let Some(form) = first.and_then(form_of) else {
-        put_piece(told, line, first)?;
-        told.push_str("no event begins so")?;
-        if let Some(word) = first {
-            put_nearest(told, alloc, word.text, &EVENTS)?;
+    match words {
+        [] => {
+            put_piece(told, line, None);
+            told.text("no event begins so\n");
         }
-        return told.push('\n');
-    };
-    put_numbers(told, line, words, form)
+        [word, numbers @ ..] => match form_of(*word) {
+            Some(form) => put_numbers(told, line, numbers, form),
+            None => put_no_event(told, alloc, line, *word),
+        },
+    }
 }
 
 fn form_of(word: Piece<'_>) -> Option<&'static Form> {
-    FORMS.iter().find(|form| word.is(form.word.as_bytes()))
+    for form in &FORMS {
+        if word.is(form.word.as_bytes()) {
+            return Some(form);
+        }
+    }
+    None
+}
+
+fn put_no_event(told: &mut Told, alloc: Heap, line: &[u8], word: Piece<'_>) {
+    put_piece(told, line, Some(word));
+    told.text("no event begins so");
+    let mut nearest = NearWord::to(word.text);
+    for form in &FORMS {
+        if let Err(error) = nearest.look(alloc, &[form.word]) {
+            told.fail(error);
+        }
+    }
+    nearest.put(told);
+    told.sign('\n');
 }
 
 // The first word that is no number, or stands where none is.
-fn put_numbers(
-    told: &mut String<Heap>,
-    line: &[u8],
-    words: &[Piece<'_>],
-    form: &Form,
-) -> Result<(), AllocError> {
-    let numbers = words.get(1..).unwrap_or(&[]);
-    let strange = numbers
-        .iter()
-        .position(|word| !is_number(word.text))
-        .unwrap_or(numbers.len());
-    let place = strange.min(form.numbers);
+fn put_numbers(told: &mut Told, line: &[u8], words: &[Piece<'_>], form: &Form) {
+    let place = numbers_in_front(words).min(form.numbers);
     let expected = if place < form.numbers {
         "a number of at most 9 digits"
     } else {
         "nothing more"
     };
-    put_piece(told, line, numbers.get(place).copied())?;
-    write!(
-        told,
-        "expected here: {expected}; the event is {}\n",
-        form.shown
-    )?;
-    Ok(())
+    put_piece(told, line, words.get(place).copied());
+    told.text("expected here: ");
+    told.text(expected);
+    told.text("; the event is ");
+    told.text(form.shown);
+    told.sign('\n');
+}
+
+fn numbers_in_front(words: &[Piece<'_>]) -> usize {
+    let mut place = 0usize;
+    for word in words {
+        if !is_number(word.text) {
+            break;
+        }
+        place = place.saturating_add(1);
+    }
+    place
 }
 
 fn is_number(word: &[u8]) -> bool {

@@ -1,7 +1,7 @@
 //! Explains what is wrong with a text to the person who wrote it: the line, the
 //! place in it, what was expected there, and a near word if there is one.
 //!
-//! The faults themselves are those of `rank_text` and of
+//! The faults themselves are those of `rank_language`, `rank_text::script` and
 //! `world_model::events_text`; here they are only explained.
 #![tactic(auto)]
 
@@ -15,6 +15,7 @@ mod piece;
 mod program;
 mod script;
 mod shown;
+mod told;
 mod unmet;
 mod value;
 mod wordless;

@@ -1,48 +1,88 @@
 //! The word that was perhaps meant.
 
+use crate::told::Told;
 use limits::Heap;
 use std::alloc::AllocError;
 use strsim::osa_distance;
 
-/// The word among these that is nearest to one that isn't among them, if it is
-/// near: as many letters may be wrong, missing, too many or swapped as a third
-/// of it has.
+/// The nearest of the words that were looked at so far, if one of them is near:
+/// as many letters may be wrong, missing, too many or swapped as a third of the
+/// word has.
+#[derive(Drop)]
+pub struct NearWord<'a, 'w> {
+    word: &'a str,
+    found: Option<&'w str>,
+    /// Another word is nearer than the one that was found if its distance is below this.
+    distance: usize,
+}
+
+impl<'a, 'w> NearWord<'a, 'w> {
+    /// For this word. To bytes that are no text no word is near.
+    pub fn to(word: &'a [u8]) -> NearWord<'a, 'w> {
+        let word = match std::str::from_utf8(word) {
+            Ok(word) => word,
+            Err(_) => "",
+        };
+        NearWord {
+            word,
+            found: None,
+            distance: 1usize.saturating_add(word.len() / 3).min(3),
+        }
+    }
+
+    /// Looks at these words, none of which is empty or the word itself.
+    pub fn look(&mut self, alloc: Heap, words: &[&'w str]) -> Result<(), AllocError> {
+        for other in words {
+            let distance = osa_distance(alloc, self.word, *other)?;
+            if distance < self.distance {
+                self.distance = distance;
+                self.found = Some(*other);
+            }
+        }
+        Ok(())
+    }
+
+    /// The nearest.
+    pub fn found(&self) -> Option<&'w str> {
+        self.found
+    }
+
+    /// Writes that the nearest was perhaps meant, if one is near.
+    pub fn put(&self, told: &mut Told) {
+        if let Some(near) = self.found {
+            told.text("; perhaps `");
+            told.text(near);
+            told.text("` is meant");
+        }
+    }
+}
+
+/// The word among these that is nearest to one that isn't among them, if it is near.
 pub fn nearest<'w>(
     alloc: Heap,
     word: &[u8],
     words: &[&'w str],
 ) -> Result<Option<&'w str>, AllocError> {
-    let Ok(word) = std::str::from_utf8(word) else {
-        return Ok(None);
-    };
-    let mut nearest = None;
-    let mut least = 1usize.saturating_add(word.len() / 3).min(3);
-    for other in words {
-        let distance = osa_distance(alloc, word, *other)?;
-        if distance < least {
-            least = distance;
-            nearest = Some(*other);
-        }
-    }
-    Ok(nearest)
+    let mut nearest = NearWord::to(word);
+    nearest.look(alloc, words)?;
+    Ok(nearest.found())
 }
 
-/// Writes the word that was perhaps meant, if one is near.
-pub fn put_nearest(
-    to: &mut String<Heap>,
-    alloc: Heap,
-    word: &[u8],
-    words: &[&str],
-) -> Result<(), AllocError> {
-    if let Some(near) = nearest(alloc, word, words)? {
-        to.push_str("; perhaps `")?;
-        to.push_str(near)?;
-        to.push_str("` is meant")?;
+/// Writes the word among these that was perhaps meant, if one is near.
+pub fn put_nearest(told: &mut Told, alloc: Heap, word: &[u8], words: &[&str]) {
+    let mut nearest = NearWord::to(word);
+    match nearest.look(alloc, words) {
+        Ok(()) => nearest.put(told),
+        Err(error) => told.fail(error),
     }
-    Ok(())
 }
 
 /// Whether the text is one of these words.
 pub fn is_among(text: &[u8], words: &[&str]) -> bool {
-    words.iter().any(|word| word.as_bytes() == text)
+    for word in words {
+        if word.as_bytes() == text {
+            return true;
+        }
+    }
+    false
 }

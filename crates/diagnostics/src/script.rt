@@ -1,18 +1,25 @@
 //! A script's fault, explained.
 
 use crate::near::{is_among, put_nearest};
-use crate::piece::{Piece, words_of};
+use crate::piece::{Cut, Piece, pieces_of};
 use crate::shown::{line_of, put_piece};
+use crate::told::Told;
 use crate::wordless::put_wordless;
 use limits::{GREATEST_CLOCK, Heap};
 use rank_text::script::{ScriptFault, ScriptFaultKind};
 use std::alloc::AllocError;
-use std::fmt::Write;
 
 /// The words that a script's lines begin with.
 const ORDERS: [&str; 2] = ["kill", "image"];
 
-const FORM: &str = "a line is `kill R at C` or `image R at C`";
+/// What is expected behind so many words that fit.
+const EXPECTED: [&str; 5] = [
+    "`kill` or `image`",
+    "a rank",
+    "`at`",
+    "a clock, 1 to 268435455",
+    "nothing more",
+];
 
 /// What is wrong with the text of a script for so many ranks that has this fault.
 pub fn explain_script(
@@ -21,78 +28,86 @@ pub fn explain_script(
     fault: ScriptFault,
     ranks: u8,
 ) -> Result<String<Heap>, AllocError> {
-    let mut told = String::new(alloc);
+    let line = line_of(text, fault.line);
+    let words = pieces_of(alloc, line, Cut::Words)?;
+    let mut told = Told::begun(heading(alloc, fault), alloc);
+    put_why(&mut told, alloc, line, words.as_slice(), fault, ranks);
+    told.text("manual: docs/RUNS.md\n");
+    told.done()
+}
+
+fn heading(alloc: Heap, fault: ScriptFault) -> Result<String<Heap>, AllocError> {
     let (number, kind) = (fault.line, fault.kind);
-    write!(
-        told,
-        "script line {number}: fault {} {kind}\n",
-        kind.number()
-    )?;
-    let line = line_of(text, number).unwrap_or(&[]);
-    let words = words_of(alloc, line)?;
-    match kind {
-        ScriptFaultKind::BadLine => put_bad_line(&mut told, alloc, number, line, words.as_slice())?,
+    format!(in alloc; "script line {number}: fault {} {kind}\n", kind.number())
+}
+
+fn put_why(
+    told: &mut Told,
+    alloc: Heap,
+    line: &[u8],
+    words: &[Piece<'_>],
+    fault: ScriptFault,
+    ranks: u8,
+) {
+    match fault.kind {
+        ScriptFaultKind::BadLine => put_bad_line(told, alloc, fault.line, line, words),
         ScriptFaultKind::BadRank => {
-            put_piece(&mut told, line, words.get(1).copied())?;
-            match ranks {
-                0 | 1 => told.push_str("the one rank of this run is 0\n")?,
-                _ => write!(told, "the ranks of this run are 0 to {}\n", ranks - 1)?,
-            }
+            put_piece(told, line, words.get(1).copied());
+            put_ranks(told, ranks);
         }
         ScriptFaultKind::Limit => {
-            put_piece(&mut told, line, words.first().copied())?;
-            told.push_str("a script has at most 256 lines\n")?;
+            put_piece(told, line, words.first().copied());
+            told.text("a script has at most 256 lines\n");
         }
     }
-    told.push_str("manual: docs/RUNS.md\n")?;
-    Ok(told)
+}
+
+fn put_ranks(told: &mut Told, ranks: u8) {
+    match ranks {
+        0 | 1 => told.text("the one rank of this run is 0\n"),
+        _ => {
+            told.text("the ranks of this run are 0 to ");
+            told.number(u64::from(ranks - 1));
+            told.sign('\n');
+        }
+    }
 }
 
 // The first word that doesn't go on as a line.
-fn put_bad_line(
-    told: &mut String<Heap>,
-    alloc: Heap,
-    number: usize,
-    line: &[u8],
-    words: &[Piece<'_>],
-) -> Result<(), AllocError> {
-    if put_wordless(told, number, line, words)? {
-        return Ok(());
+fn put_bad_line(told: &mut Told, alloc: Heap, number: usize, line: &[u8], words: &[Piece<'_>]) {
+    if put_wordless(told, number, line, words) {
+        return;
     }
-    let (place, expected) = misfit(words);
+    let place = words_that_fit(words);
     let word = words.get(place).copied();
-    put_piece(told, line, word)?;
-    write!(told, "expected here: {expected}")?;
+    put_piece(told, line, word);
+    told.text("expected here: ");
+    told.text(EXPECTED[place.min(4)]);
     if let (0, Some(word)) = (place, word) {
-        put_nearest(told, alloc, word.text, &ORDERS)?;
+        put_nearest(told, alloc, word.text, &ORDERS);
     }
-    write!(told, "; {FORM}\n")?;
-    Ok(())
+    told.text("; a line is `kill R at C` or `image R at C`\n");
 }
 
-// How many words fit, and what is expected behind them.
-fn misfit(words: &[Piece<'_>]) -> (usize, &'static str) {
-    let [order, rest @ ..] = words else {
-        return (0, "`kill` or `image`");
-    };
-    if !is_among(order.text, &ORDERS) {
-        return (0, "`kill` or `image`");
+// How many words in front fit a line: at most 4.
+fn words_that_fit(words: &[Piece<'_>]) -> usize {
+    let mut place = 0usize;
+    for word in words {
+        if !fits(*word, place) {
+            break;
+        }
+        place = place.saturating_add(1);
     }
-    let [rank, rest @ ..] = rest else {
-        return (1, "a rank");
-    };
-    if rank_text::lines::decimal(rank.text).is_none() {
-        return (1, "a rank");
-    }
-    let [at, rest @ ..] = rest else {
-        return (2, "`at`");
-    };
-    if !at.is(b"at") {
-        return (2, "`at`");
-    }
-    match rest {
-        [clock, ..] if is_clock(clock.text) => (4, "nothing more"),
-        _ => (3, "a clock, 1 to 268435455"),
+    place
+}
+
+fn fits(word: Piece<'_>, place: usize) -> bool {
+    match place {
+        0 => is_among(word.text, &ORDERS),
+        1 => rank_text::lines::decimal(word.text).is_some(),
+        2 => word.is(b"at"),
+        3 => is_clock(word.text),
+        _ => false,
     }
 }
 

@@ -1,39 +1,33 @@
 //! How a line is shown, with a mark below a place in it.
 
 use crate::piece::Piece;
-use limits::Heap;
-use std::alloc::AllocError;
+use crate::told::Told;
 
 /// The most bytes of a line that are shown.
 const WIDTH: usize = 100;
 
-/// Writes a text whose bytes needn't be letters: each other byte as `?`.
-pub fn put_bytes(to: &mut String<Heap>, text: &[u8]) -> Result<(), AllocError> {
-    for byte in text {
-        if b' ' <= *byte && *byte <= b'~' {
-            to.push(char::from(*byte))?;
-        } else {
-            to.push('?')?;
-        }
-    }
-    Ok(())
+/// Whether the byte is shown as it is: one of a text.
+pub fn is_shown(byte: u8) -> bool {
+    b' ' <= byte && byte <= b'~'
 }
 
-fn put_times(to: &mut String<Heap>, letter: char, times: usize) -> Result<(), AllocError> {
-    for _ in 0..times {
-        to.push(letter)?;
+/// Writes a text whose bytes needn't be letters: each other byte as `?`.
+pub fn put_bytes(told: &mut Told, text: &[u8]) {
+    for byte in text {
+        let shown = if is_shown(*byte) { *byte } else { b'?' };
+        told.sign(char::from(shown));
     }
-    Ok(())
+}
+
+fn put_times(told: &mut Told, letter: char, times: usize) {
+    for _ in 0..times {
+        told.sign(letter);
+    }
 }
 
 /// Writes the line, and below it a mark under so many bytes from a column on. Of
 /// a long line the part round the mark is shown.
-pub fn put_marked(
-    to: &mut String<Heap>,
-    line: &[u8],
-    column: usize,
-    length: usize,
-) -> Result<(), AllocError> {
+pub fn put_marked(told: &mut Told, line: &[u8], column: usize, length: usize) {
     let first = if column < WIDTH {
         0
     } else {
@@ -42,40 +36,40 @@ pub fn put_marked(
     let last = first.saturating_add(WIDTH).min(line.len());
     let part = line.get(first..last).unwrap_or(line);
     let before = if first == 0 { "  " } else { "  .." };
-    to.push_str(before)?;
-    put_bytes(to, part)?;
+    told.text(before);
+    put_bytes(told, part);
     if last < line.len() {
-        to.push_str("..")?;
+        told.text("..");
     }
-    to.push('\n')?;
+    told.sign('\n');
     put_times(
-        to,
+        told,
         ' ',
         before.len().saturating_add(column.saturating_sub(first)),
-    )?;
-    put_times(to, '^', length.clamp(1, WIDTH))?;
-    to.push('\n')
+    );
+    put_times(told, '^', length.clamp(1, WIDTH));
+    told.sign('\n');
 }
 
 /// Writes the line with a mark under this piece, or behind the line's last byte.
-pub fn put_piece(
-    to: &mut String<Heap>,
-    line: &[u8],
-    piece: Option<Piece<'_>>,
-) -> Result<(), AllocError> {
+pub fn put_piece(told: &mut Told, line: &[u8], piece: Option<Piece<'_>>) {
     match piece {
-        Some(piece) => put_marked(to, line, piece.column, piece.text.len()),
-        None => put_marked(to, line, line.len(), 1),
+        Some(piece) => put_marked(told, line, piece.column, piece.text.len()),
+        None => put_marked(told, line, line.len(), 1),
     }
 }
 
-/// The line of this number from 1 of the text, if it has so many.
-pub fn line_of(text: &[u8], number: usize) -> Option<&[u8]> {
+/// The line of this number from 1 of the text; an empty one if it hasn't so many.
+pub fn line_of(text: &[u8], number: usize) -> &[u8] {
     let mut rest = text;
     for _ in 1..number {
-        let (_, more) = rank_text::lines::next_line(rest)?;
-        rest = more;
+        match rank_text::lines::next_line(rest) {
+            Some((_, more)) => rest = more,
+            None => return &[],
+        }
     }
-    let (line, _) = rank_text::lines::next_line(rest)?;
-    Some(line)
+    match rank_text::lines::next_line(rest) {
+        Some((line, _)) => line,
+        None => &[],
+    }
 }

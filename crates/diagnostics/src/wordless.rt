@@ -1,33 +1,64 @@
-//! Lines of scripts and of events that don't begin with a word.
+//! Lines of scripts and of events that don't begin with a word, and bytes that are no text.
 
 use crate::piece::Piece;
-use crate::program::put_no_text;
-use crate::shown::put_piece;
-use limits::Heap;
-use std::alloc::AllocError;
+use crate::shown::{is_shown, put_marked, put_piece};
+use crate::told::Told;
 
 /// Says so of a line with a byte that is no text, or with a `#` behind spaces.
 /// Answers whether the line is one of these.
-pub fn put_wordless(
-    told: &mut String<Heap>,
-    number: usize,
-    line: &[u8],
-    words: &[Piece<'_>],
-) -> Result<bool, AllocError> {
-    if has_foreign_byte(line) {
-        put_no_text(told, number, line)?;
-        return Ok(true);
+pub fn put_wordless(told: &mut Told, number: usize, line: &[u8], words: &[Piece<'_>]) -> bool {
+    if let Some((column, byte)) = first_foreign(line) {
+        put_foreign(told, number, line, column, byte);
+        return true;
     }
-    let first = words.first().copied();
-    if first.is_some_and(|word| word.text.first() == Some(&b'#')) {
-        put_piece(told, line, first)?;
-        told.push_str("a comment begins at the line's first byte\n")?;
-        return Ok(true);
+    match words {
+        [first, ..] if is_comment(first.text) => {
+            put_piece(told, line, Some(*first));
+            told.text("a comment begins at the line's first byte\n");
+            true
+        }
+        _ => false,
     }
-    Ok(false)
 }
 
-// Whether a byte of the line is none of a text.
-fn has_foreign_byte(line: &[u8]) -> bool {
-    line.iter().any(|byte| *byte < b' ' || b'~' < *byte)
+fn is_comment(word: &[u8]) -> bool {
+    match word {
+        [b'#', ..] => true,
+        _ => false,
+    }
+}
+
+/// The first byte that is no text, with a mark under it and its name.
+pub fn put_no_text(told: &mut Told, number: usize, line: &[u8]) {
+    match first_foreign(line) {
+        Some((column, byte)) => put_foreign(told, number, line, column, byte),
+        None => put_marked(told, line, 0, 1),
+    }
+}
+
+// The first byte that is no text, behind so many.
+fn first_foreign(line: &[u8]) -> Option<(usize, u8)> {
+    let mut column = 0usize;
+    for byte in line {
+        if !is_shown(*byte) {
+            return Some((column, *byte));
+        }
+        column = column.saturating_add(1);
+    }
+    None
+}
+
+fn put_foreign(told: &mut Told, number: usize, line: &[u8], column: usize, byte: u8) {
+    put_marked(told, line, column, 1);
+    if byte == b'\r' {
+        told.text("a carriage return: end the lines with a line feed alone\n");
+    } else if byte == b'\t' {
+        told.text("a tab: use spaces\n");
+    } else if byte == 0xef && number == 1 && column == 0 {
+        told.text("a byte order mark: save the text without one\n");
+    } else {
+        told.text("the byte ");
+        told.byte(byte);
+        told.text(": a text has letters, digits and signs from 0x20 to 0x7e\n");
+    }
 }
