@@ -2,5 +2,6 @@
 //! of a world as JSON.
 #![tactic(auto)]
 
+mod json;
 pub mod trace;
 pub mod world;

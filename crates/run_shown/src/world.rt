@@ -5,11 +5,9 @@ mod frames;
 mod head;
 mod logs;
 mod names;
-mod object;
 mod playing;
 mod ranks;
 mod standing;
-mod texts;
 mod wants;
 
 pub use playing::{Texts, world_json};

@@ -55,19 +55,39 @@ fn is_lowest_of_circle(told: Told<'_, '_>, rank: u8, members: &mut [bool; MOST_R
 }
 
 fn put_circle(to: &mut String<Heap>, members: &[bool; MOST_RANKS]) -> Result<(), AllocError> {
-    let count = members.iter().filter(|member| **member).count();
-    to.push_str(if count == 1 { "rank " } else { "ranks " })?;
-    let mut shown = 0usize;
-    for (rank, member) in members.iter().enumerate() {
+    let count = count_of(members);
+    let (who, what) = if count == 1 {
+        ("rank ", " waits for itself\n")
+    } else {
+        ("ranks ", " wait for each other\n")
+    };
+    to.push_str(who)?;
+    put_members(to, members, count)?;
+    to.push_str(what)
+}
+
+fn count_of(members: &[bool; MOST_RANKS]) -> usize {
+    let mut count = 0usize;
+    for member in members {
         if *member {
+            count = count.saturating_add(1);
+        }
+    }
+    count
+}
+
+fn put_members(
+    to: &mut String<Heap>,
+    members: &[bool; MOST_RANKS],
+    count: usize,
+) -> Result<(), AllocError> {
+    let mut shown = 0usize;
+    for rank in 0..MOST_RANKS {
+        if members[rank] {
             put_between(to, shown, count)?;
             write!(to, "{rank}")?;
             shown = shown.saturating_add(1);
         }
     }
-    to.push_str(if count == 1 {
-        " waits for itself\n"
-    } else {
-        " wait for each other\n"
-    })
+    Ok(())
 }

@@ -9,7 +9,7 @@ use limits::Heap;
 use std::alloc::AllocError;
 
 /// What became of an act's message.
-#[derive(Clone, Copy, Debug, PartialEq, Eq)]
+#[derive(Clone, Copy)]
 pub struct Delivery {
     /// Of a reception or a hit: the index of the send.
     pub send: Option<usize>,

@@ -10,7 +10,7 @@ use std::alloc::AllocError;
 use std::num::NonZeroU32;
 
 /// What became of a line of a script.
-#[derive(Clone, Copy, Debug, PartialEq, Eq)]
+#[derive(Clone, Copy)]
 pub enum Fate {
     /// Its rank crashed, or took its image.
     Used,
@@ -25,7 +25,7 @@ pub enum Fate {
 }
 
 /// A line of a script, and what became of it.
-#[derive(Clone, Copy, Debug, PartialEq, Eq)]
+#[derive(Clone, Copy)]
 pub struct Fated {
     /// The line's number in the text of the script, from 1.
     pub number: usize,
@@ -33,6 +33,16 @@ pub struct Fated {
     /// The clock of its rank's image by then; 0 where there is none.
     pub image: u32,
     pub fate: Fate,
+}
+
+impl Fated {
+    /// Whether the line came to pass.
+    pub fn is_used(&self) -> bool {
+        match self.fate {
+            Fate::Used => true,
+            Fate::Short(_) | Fate::Behind | Fate::Passed | Fate::Held(_) => false,
+        }
+    }
 }
 
 // What is known of one rank's lines up to some line of the script.
@@ -52,44 +62,72 @@ pub fn fates_of(
     given: Given<'_>,
     acts: &[Passed],
 ) -> Result<Vec<Fated, Heap>, AllocError> {
-    let mut seen = [Seen {
-        used: 0,
-        image: 0,
-        held: None,
-    }; MOST_RANKS];
-    for (rank, seen) in seen.iter_mut().enumerate() {
-        seen.used = used_of(given, rank);
-    }
+    let mut seen = seen_first(given);
     let mut fates: Vec<Fated, Heap> = Vec::new(alloc);
     let mut rest = given.script;
     let mut number = 0usize;
     for line in given.orders {
-        for _ in 0..MOST_SCRIPT_LINES {
-            let Some((text, more)) = next_line(rest) else {
-                break;
-            };
-            rest = more;
-            number = number.saturating_add(1);
-            if !is_skipped(text) {
-                break;
-            }
-        }
+        let (lines, more) = behind_next(rest);
+        number = number.saturating_add(lines);
+        rest = more;
         if let Some(seen) = seen.get_mut(usize::from(line.rank)) {
-            let made = acts.iter().filter(|act| act.rank == line.rank).count();
+            let made = made_by(acts, line.rank);
             fates.push(fate_of(number, *line, made, given.images_every, seen))?;
         }
     }
     Ok(fates)
 }
 
+// What is known before the first line.
+fn seen_first(given: Given<'_>) -> [Seen; MOST_RANKS] {
+    let mut seen = [Seen {
+        used: 0,
+        image: 0,
+        held: None,
+    }; MOST_RANKS];
+    for rank in 0..MOST_RANKS {
+        seen[rank].used = used_of(given, rank);
+    }
+    seen
+}
+
 // How many lines for the rank were used.
 fn used_of(given: Given<'_>, rank: usize) -> usize {
-    let lines = given
-        .orders
-        .iter()
-        .filter(|line| usize::from(line.rank) == rank)
-        .count();
+    let mut lines = 0usize;
+    for line in given.orders {
+        if usize::from(line.rank) == rank {
+            lines = lines.saturating_add(1);
+        }
+    }
     lines.saturating_sub(given.unused.get(rank).copied().unwrap_or(0))
+}
+
+// How many lines of a script there are up to the first that isn't skipped, and what is behind it.
+fn behind_next(script: &[u8]) -> (usize, &[u8]) {
+    let mut rest = script;
+    let mut lines = 0usize;
+    for _ in 0..MOST_SCRIPT_LINES {
+        let Some((text, more)) = next_line(rest) else {
+            break;
+        };
+        rest = more;
+        lines = lines.saturating_add(1);
+        if !is_skipped(text) {
+            break;
+        }
+    }
+    (lines, rest)
+}
+
+// How many acts the rank made.
+fn made_by(acts: &[Passed], rank: u8) -> usize {
+    let mut made = 0usize;
+    for passed in acts {
+        if passed.rank == rank {
+            made = made.saturating_add(1);
+        }
+    }
+    made
 }
 
 // What became of the rank's next line, where the rank made so many acts and took an image after each so many.

@@ -3,8 +3,8 @@
 mod acts;
 mod ends;
 mod left;
-mod line;
 
+use crate::json::Lines;
 use crate::trace::given::Told;
 use acts::put_acts;
 use ends::{put_circles, put_ends};
@@ -14,12 +14,12 @@ use std::alloc::AllocError;
 
 /// The run that is told, as JSON.
 pub fn json_of(alloc: Heap, told: Told<'_, '_>) -> Result<String<Heap>, AllocError> {
-    let mut text = String::new(alloc);
-    put_acts(alloc, &mut text, told)?;
-    put_ends(alloc, &mut text, told)?;
-    put_circles(alloc, &mut text, told)?;
-    put_unreceived(alloc, &mut text, told)?;
-    put_orders(alloc, &mut text, told)?;
-    put_cost(alloc, &mut text, told)?;
-    Ok(text)
+    let mut lines = Lines::new(alloc);
+    put_acts(alloc, &mut lines, told);
+    put_ends(alloc, &mut lines, told);
+    put_circles(alloc, &mut lines, told);
+    put_unreceived(alloc, &mut lines, told);
+    put_orders(alloc, &mut lines, told);
+    put_cost(alloc, &mut lines, told);
+    lines.done()
 }

@@ -12,7 +12,7 @@ use std::fmt::Write;
 /// Writes each line of the script that never came to pass, and why.
 pub fn put_unmet(to: &mut String<Heap>, told: Told<'_, '_>) -> Result<(), AllocError> {
     for order in told.orders {
-        if order.fate != Fate::Used {
+        if !order.is_used() {
             put_why(to, *order)?;
         }
     }
@@ -27,22 +27,25 @@ fn put_why(to: &mut String<Heap>, order: Fated) -> Result<(), AllocError> {
     to.push('\n')
 }
 
-/// Writes why a line never came to pass; nothing for one that did.
-pub fn put_reason(to: &mut String<Heap>, order: Fated) -> Result<(), AllocError> {
-    let rank = order.line.rank;
+/// Why a line never came to pass; nothing for one that did.
+pub fn reason_of(alloc: Heap, order: Fated) -> Result<String<Heap>, AllocError> {
+    let mut reason = String::new(alloc);
+    put_reason(&mut reason, order)?;
+    Ok(reason)
+}
+
+fn put_reason(to: &mut String<Heap>, order: Fated) -> Result<(), AllocError> {
+    let (rank, image) = (order.line.rank, order.image);
     match order.fate {
         Fate::Used => Ok(()),
         Fate::Short(made) => {
             write!(to, "rank {rank} made ")?;
             put_count(to, made as u64, "act")
         }
-        Fate::Behind => {
-            let image = order.image;
-            write!(
-                to,
-                "behind its image at {image} rank {rank} doesn't make that act again"
-            )
-        }
+        Fate::Behind => write!(
+            to,
+            "behind its image at {image} rank {rank} doesn't make that act again"
+        ),
         Fate::Passed => write!(
             to,
             "rank {rank} made that act in a replay, or before this line was next"
@@ -64,7 +67,7 @@ pub fn word_of(order: Order) -> &'static str {
 pub fn put_crashes(to: &mut String<Heap>, told: Told<'_, '_>) -> Result<(), AllocError> {
     let mut is_first = true;
     for order in told.orders {
-        if order.fate == Fate::Used {
+        if order.is_used() {
             if is_first {
                 to.push_str(
                     "# crashes and images as the runner counted them; no audit certifies them\n",
@@ -97,9 +100,10 @@ fn put_used(to: &mut String<Heap>, told: Told<'_, '_>, order: Fated) -> Result<(
 /// How many messages the rank had received between its image and this crash.
 pub fn received_again(told: Told<'_, '_>, order: Fated) -> u64 {
     let mut count = 0u64;
-    for (index, passed) in told.acts.iter().enumerate() {
-        if let (Act::Takes { .. }, Some(place)) = (&passed.act, told.places.get(index)) {
-            if passed.rank == order.line.rank
+    for index in 0..told.acts.len() {
+        if let (Some(passed), Some(place)) = (told.acts.get(index), told.places.get(index)) {
+            if is_reception(&passed.act)
+                && passed.rank == order.line.rank
                 && order.image < place.clock
                 && place.clock <= order.line.clock
             {
@@ -108,4 +112,11 @@ pub fn received_again(told: Told<'_, '_>, order: Fated) -> u64 {
         }
     }
     count
+}
+
+fn is_reception(act: &Act) -> bool {
+    match act {
+        Act::Takes { .. } => true,
+        Act::Sends { .. } | Act::Hits { .. } | Act::Misses | Act::Prints(_) => false,
+    }
 }

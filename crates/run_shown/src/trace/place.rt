@@ -1,7 +1,7 @@
 //! Where an act was made.
 
 /// Where a rank stood when it made an act.
-#[derive(Clone, Copy, Debug, PartialEq, Eq)]
+#[derive(Clone, Copy)]
 pub struct Place {
     /// The number of acts of the rank up to this one.
     pub clock: u32,

@@ -1,7 +1,7 @@
 //! Why a rank is unfinished, and what helps.
 
 /// Why a rank is unfinished.
-#[derive(Clone, Copy, Debug, PartialEq, Eq)]
+#[derive(Clone, Copy)]
 pub enum Why {
     /// It made as many steps as it may.
     Steps,

@@ -1,49 +1,48 @@
 //! Determinants, and what waits at a gate.
 
-use crate::world::object::Object;
+use crate::json::Object;
 use event_logger::{Event, Kind};
 use limits::Heap;
 use rank_node::Waiting;
-use std::alloc::AllocError;
 
 /// A determinant.
-pub fn determinant_object(alloc: Heap, event: Event) -> Result<Object, AllocError> {
+pub fn determinant_object(alloc: Heap, event: Event) -> Object {
     let mut object = Object::new(alloc);
-    put_determinant(&mut object, event)?;
-    Ok(object)
+    put_determinant(&mut object, event);
+    object
 }
 
 /// Something that waits; `stored` is whether it is a determinant that is stored.
-pub fn waiting_object(alloc: Heap, waiting: Waiting, stored: bool) -> Result<Object, AllocError> {
+pub fn waiting_object(alloc: Heap, waiting: Waiting, stored: bool) -> Object {
     let mut object = Object::new(alloc);
     match waiting {
         Waiting::Event(event) => {
-            put_determinant(&mut object, event)?;
-            object.flag("stored", stored)?;
+            put_determinant(&mut object, event);
+            object.flag("stored", stored);
         }
         Waiting::Send { dest, clock } => {
-            object.text("kind", "send")?;
-            object.number("clock", u64::from(clock))?;
-            object.number("destination", u64::from(dest))?;
+            object.text("kind", "send");
+            object.number("clock", u64::from(clock));
+            object.number("destination", u64::from(dest));
         }
         Waiting::Line { clock, value } => {
-            object.text("kind", "print")?;
-            object.number("clock", u64::from(clock))?;
-            object.integer("value", value)?;
+            object.text("kind", "print");
+            object.number("clock", u64::from(clock));
+            object.integer("value", value);
         }
     }
-    Ok(object)
+    object
 }
 
-fn put_determinant(object: &mut Object, event: Event) -> Result<(), AllocError> {
-    object.text("kind", kind_name(event.kind()))?;
-    object.number("clock", u64::from(event.receiver_clock()))?;
+fn put_determinant(object: &mut Object, event: Event) {
+    object.text("kind", kind_name(event.kind()));
+    object.number("clock", u64::from(event.receiver_clock()));
     match event.kind() {
         Kind::Reception | Kind::Hit => {
-            object.number("source", u64::from(event.sender()))?;
-            object.number("sent_at", u64::from(event.sender_clock()))
+            object.number("source", u64::from(event.sender()));
+            object.number("sent_at", u64::from(event.sender_clock()));
         }
-        Kind::Miss => Ok(()),
+        Kind::Miss => {}
         Kind::Misses => object.number("count", u64::from(event.count())),
     }
 }

@@ -14,29 +14,46 @@ pub struct Names<'t> {
 
 /// The names that this text of a program declares.
 pub fn names_of(alloc: Heap, text: &[u8]) -> Result<Names<'_>, AllocError> {
-    let mut variables = Vec::new(alloc);
-    let mut arrays = Vec::new(alloc);
-    let mut rest = text;
-    while let Some((line, more)) = next_line(rest) {
-        if let Some(name) = declared_by(line, b"var ") {
-            variables.push(name)?;
-        }
-        if let Some(name) = declared_by(line, b"array ") {
-            arrays.push(name)?;
-        }
-        rest = more;
-    }
+    let variables = declared_in(alloc, text, b"var ")?;
+    let arrays = declared_in(alloc, text, b"array ")?;
     Ok(Names { variables, arrays })
 }
 
-// The name behind this word, if the line begins with it. A name ends where a
-// space or a bracket stands.
+// The names behind this word, in the order of the lines that begin with it.
+fn declared_in<'t>(
+    alloc: Heap,
+    text: &'t [u8],
+    word: &[u8],
+) -> Result<Vec<&'t str, Heap>, AllocError> {
+    let mut names = Vec::new(alloc);
+    let mut rest = text;
+    while let Some((line, more)) = next_line(rest) {
+        if let Some(name) = declared_by(line, word) {
+            names.push(name)?;
+        }
+        rest = more;
+    }
+    Ok(names)
+}
+
+// The name behind this word, if the line begins with it.
 fn declared_by<'t>(line: &'t [u8], word: &[u8]) -> Option<&'t str> {
     let rest = without_front(line, b' ').strip_prefix(word)?;
     let name = without_front(rest, b' ');
-    let length = name
-        .iter()
-        .position(|byte| *byte == b' ' || *byte == b'[')
-        .unwrap_or(name.len());
-    std::str::from_utf8(name.get(..length)?).ok()
+    match std::str::from_utf8(name.get(..length_of(name))?) {
+        Ok(name) => Some(name),
+        Err(_) => None,
+    }
+}
+
+// How long the name in front is. It ends where a space or a bracket stands.
+fn length_of(text: &[u8]) -> usize {
+    let mut length = 0usize;
+    for byte in text {
+        if *byte == b' ' || *byte == b'[' {
+            break;
+        }
+        length = length.saturating_add(1);
+    }
+    length
 }

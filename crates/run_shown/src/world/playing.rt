@@ -3,11 +3,11 @@ ghost use Rattle.std.specs.Prelude.{◌<◌, ◌≤◌, IfSome};
 ghost use Rattle.limits.specs.Limits.{most_ranks};
 ghost use Rattle.world_model.specs.World.{size};
 
+use crate::json::{Lines, List, Object};
 use crate::world::determinants::determinant_object;
 use crate::world::frames::frame_object;
 use crate::world::head::{put_first, put_texts};
 use crate::world::names::names_of;
-use crate::world::object::Object;
 use crate::world::ranks::{Known, rank_object};
 use limits::Heap;
 use matching::Line;
@@ -56,38 +56,36 @@ fn played(
     texts: Texts<'_>,
 ) -> Result<String<Heap>, AllocError> {
     let lines = statement_lines(alloc, texts.events)?;
-    let mut text = String::new(alloc);
-    put_texts(alloc, &mut text, world.ranks(), texts.program, texts.events)?;
-    put_first(alloc, &mut text, known, world)?;
-    for (index, event) in events.iter().enumerate() {
+    let mut to = Lines::new(alloc);
+    put_texts(alloc, &mut to, world.ranks(), texts.program, texts.events);
+    put_first(alloc, &mut to, known, world);
+    for index in 0..events.len() {
+        let event = events[index];
         let shown = world.lines().len();
-        let reply = world.apply(*event)?;
+        let reply = world.apply(event)?;
         let mut object = Object::new(alloc);
-        object.number("event", index as u64 + 1)?;
+        object.number("event", index as u64 + 1);
         if let Some(line) = lines.get(index) {
-            object.number("line", *line as u64)?;
+            object.number("line", *line as u64);
         }
-        put_event(alloc, &mut object, *event, reply)?;
-        put_changes(alloc, &mut object, known, world, *event, reply)?;
-        if let Some(lines) = world.lines().get(shown..) {
-            put_lines(alloc, &mut object, lines)?;
-        }
-        object.put_line(&mut text)?;
+        put_event(alloc, &mut object, event, reply);
+        put_changes(alloc, &mut object, known, world, event, reply);
+        put_lines(
+            alloc,
+            &mut object,
+            world.lines().get(shown..).unwrap_or(&[]),
+        );
+        to.line(object);
     }
-    Ok(text)
+    to.done()
 }
 
 // The words of the event and of its reply.
-fn put_event(
-    alloc: Heap,
-    object: &mut Object,
-    event: WorldEvent,
-    reply: Reply,
-) -> Result<(), AllocError> {
+fn put_event(alloc: Heap, object: &mut Object, event: WorldEvent, reply: Reply) {
     let event = EventLine(event);
-    object.text("text", format!(in alloc; "{event}")?.as_str())?;
+    object.made_text("text", format!(in alloc; "{event}"));
     let reply = ReplyLine(reply);
-    object.text("reply", format!(in alloc; "{reply}")?.as_str())
+    object.made_text("reply", format!(in alloc; "{reply}"));
 }
 
 // What the event changed: its rank, its row at the logger, a wire.
@@ -98,21 +96,20 @@ fn put_changes(
     world: &World<'_>,
     event: WorldEvent,
     reply: Reply,
-) -> Result<(), AllocError> {
+) {
     let Some(rank) = rank_of(world, changed_by(event)) else {
-        return Ok(());
+        return;
     };
     if reply == Reply::Refused {
-        return Ok(());
+        return;
     }
-    object.object("rank", rank_object(alloc, known, world, rank)?)?;
+    object.object("rank", rank_object(alloc, known, world, rank));
     if let (Reply::Stored(_), Some(event)) = (reply, world.row(rank).last()) {
-        object.object("stored", determinant_object(alloc, *event)?)?;
+        object.object("stored", determinant_object(alloc, *event));
     }
     if let WorldEvent::Put { dest, .. } = event {
-        put_frame(alloc, object, world, rank, dest)?;
+        put_frame(alloc, object, world, rank, dest);
     }
-    Ok(())
 }
 
 // Of which rank the event is: the only one that it may change.
@@ -141,41 +138,31 @@ fn rank_of(world: &World<'_>, number: u32) -> Option<u8>
 }
 
 // The frame that was put last on the wire from one rank to another.
-fn put_frame(
-    alloc: Heap,
-    object: &mut Object,
-    world: &World<'_>,
-    source: u8,
-    dest: u32,
-) -> Result<(), AllocError>
+fn put_frame(alloc: Heap, object: &mut Object, world: &World<'_>, source: u8, dest: u32)
     requires { source < size world.now }
 {
     let Some(dest) = rank_of(world, dest) else {
-        return Ok(());
+        return;
     };
     let frames = world.frames(source, dest);
-    match frames.last() {
-        Some(frame) => {
-            let index = frames.len() - 1;
-            let frame = frame_object(alloc, source, dest, index, frame)?;
-            object.object("frame", frame)
-        }
-        None => Ok(()),
+    if let Some(frame) = frames.last() {
+        let index = frames.len() - 1;
+        object.object("frame", frame_object(alloc, source, dest, index, frame));
     }
 }
 
 // The lines that were shown, if there are some.
-fn put_lines(alloc: Heap, object: &mut Object, lines: &[Line]) -> Result<(), AllocError> {
+fn put_lines(alloc: Heap, object: &mut Object, lines: &[Line]) {
     if lines.is_empty() {
-        return Ok(());
+        return;
     }
-    let mut list = Vec::new(alloc);
+    let mut list = List::new(alloc);
     for line in lines {
         let mut one = Object::new(alloc);
-        one.number("rank", u64::from(line.rank))?;
-        one.number("clock", u64::from(line.clock))?;
-        one.integer("value", line.value)?;
-        list.push(one.into_value())?;
+        one.number("rank", u64::from(line.rank));
+        one.number("clock", u64::from(line.clock));
+        one.integer("value", line.value);
+        list.object(one);
     }
-    object.list("lines", list)
+    object.list("lines", list);
 }

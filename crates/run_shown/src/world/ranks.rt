@@ -3,19 +3,19 @@ ghost use Rattle.std.specs.Prelude.{◌<◌, ◌≤◌};
 ghost use Rattle.limits.specs.Limits.{most_ranks};
 ghost use Rattle.world_model.specs.World.{size};
 
+use crate::json::{List, Object};
 use crate::world::determinants::waiting_object;
 use crate::world::frames::{next_object, packet_object};
 use crate::world::logs::log_list;
 use crate::world::names::Names;
-use crate::world::object::Object;
 use crate::world::standing::Standing;
 use crate::world::wants::want_object;
 use checkpoint::{Image, MemoryShelf, Shelf, decode};
 use limits::Heap;
+use matching::Inbox;
 use rank_language::Program;
 use rank_machine::Machine;
 use rank_node::Phase;
-use serde_json::Value;
 use std::alloc::AllocError;
 use world_model::World;
 
@@ -28,28 +28,25 @@ pub struct Known<'a, 't> {
 }
 
 /// A rank of the world, whatever it does.
-pub fn rank_object(
-    alloc: Heap,
-    known: Known<'_, '_>,
-    world: &World<'_>,
-    rank: u8,
-) -> Result<Object, AllocError>
+pub fn rank_object(alloc: Heap, known: Known<'_, '_>, world: &World<'_>, rank: u8) -> Object
     requires { rank < size world.now }
 {
     let phase = world.phase(rank);
     let mut object = Object::new(alloc);
-    object.number("rank", u64::from(rank))?;
-    object.text("phase", phase_name(phase))?;
-    object.number("passed", world.view(rank).acts as u64)?;
-    if let Some(standing) = Standing::of(alloc, phase)? {
-        put_standing(alloc, &mut object, known, &standing)?;
+    object.number("rank", u64::from(rank));
+    object.text("phase", phase_name(phase));
+    object.number("passed", world.view(rank).acts as u64);
+    match Standing::of(alloc, phase) {
+        Ok(Some(standing)) => put_standing(alloc, &mut object, known, &standing),
+        Ok(None) => {}
+        Err(error) => object.fail(error),
     }
     if let Phase::Replaying(replaying) = phase {
-        object.number("left", u64::from(replaying.left()))?;
+        object.number("left", u64::from(replaying.left()));
     }
-    put_next(alloc, &mut object, world, rank)?;
-    put_image(alloc, &mut object, world, rank)?;
-    Ok(object)
+    object.list("next", next_list(alloc, world, rank));
+    put_image(alloc, &mut object, world, rank);
+    object
 }
 
 fn phase_name(phase: &Phase<'_, MemoryShelf, ()>) -> &'static str {
@@ -66,115 +63,112 @@ fn put_standing(
     object: &mut Object,
     known: Known<'_, '_>,
     standing: &Standing<'_, '_>,
-) -> Result<(), AllocError> {
-    object.number("clock", u64::from(standing.clock))?;
-    object.object("wants", want_object(alloc, standing.machine.wants())?)?;
-    put_machine(alloc, object, known, standing.machine)?;
-    let mut inbox = Vec::new(alloc);
-    for packet in standing.inbox.packets() {
-        inbox.push(packet_object(alloc, packet)?.into_value())?;
-    }
-    object.list("inbox", inbox)?;
-    let waiting = waiting_list(alloc, standing)?;
-    object.list("waiting", waiting)?;
-    let log = log_list(alloc, standing.log)?;
-    object.list("log", log)
+) {
+    object.number("clock", u64::from(standing.clock));
+    object.object("wants", want_object(alloc, standing.machine.wants()));
+    put_machine(alloc, object, known, standing.machine);
+    object.list("inbox", inbox_list(alloc, standing.inbox));
+    object.list("waiting", waiting_list(alloc, standing));
+    object.list("log", log_list(alloc, standing.log));
 }
 
 // Where the machine stands, and what it has stored.
-fn put_machine(
-    alloc: Heap,
-    object: &mut Object,
-    known: Known<'_, '_>,
-    machine: &Machine<'_>,
-) -> Result<(), AllocError> {
+fn put_machine(alloc: Heap, object: &mut Object, known: Known<'_, '_>, machine: &Machine<'_>) {
     if let Some(line) = known.lines.get(machine.position()) {
-        object.number("line", *line as u64)?;
+        object.number("line", *line as u64);
     }
-    let mut variables = Object::new(alloc);
+    object.object("variables", variables_object(alloc, known, machine));
+    object.object("arrays", arrays_object(alloc, known, machine));
+    object.object("status", status_object(alloc, machine));
+}
+
+fn variables_object(alloc: Heap, known: Known<'_, '_>, machine: &Machine<'_>) -> Object {
+    let mut object = Object::new(alloc);
     for (name, value) in known.names.variables.iter().zip(machine.variables()) {
-        variables.integer(name, *value)?;
+        object.integer(name, *value);
     }
-    object.object("variables", variables)?;
-    let mut arrays = Object::new(alloc);
+    object
+}
+
+fn arrays_object(alloc: Heap, known: Known<'_, '_>, machine: &Machine<'_>) -> Object {
+    let mut object = Object::new(alloc);
     for (name, items) in known.names.arrays.iter().zip(machine.arrays()) {
-        arrays.integers(name, items.as_slice())?;
+        object.integers(name, items.as_slice());
     }
-    object.object("arrays", arrays)?;
+    object
+}
+
+fn status_object(alloc: Heap, machine: &Machine<'_>) -> Object {
     let status = machine.status();
-    let mut words = Object::new(alloc);
-    words.number("source", u64::from(status.source))?;
-    words.number("gottag", u64::from(status.tag))?;
-    words.number("count", u64::from(status.count))?;
-    object.object("status", words)
+    let mut object = Object::new(alloc);
+    object.number("source", u64::from(status.source));
+    object.number("gottag", u64::from(status.tag));
+    object.number("count", u64::from(status.count));
+    object
+}
+
+fn inbox_list(alloc: Heap, inbox: &Inbox) -> List {
+    let mut list = List::new(alloc);
+    for packet in inbox.packets() {
+        list.object(packet_object(alloc, packet));
+    }
+    list
 }
 
 // What waits, oldest first. The first of these, so many, are stored.
-fn waiting_list(alloc: Heap, standing: &Standing<'_, '_>) -> Result<Vec<Value, Heap>, AllocError> {
-    let mut list = Vec::new(alloc);
-    for (index, waiting) in standing.waiting.iter().enumerate() {
-        let is_stored = index < standing.stored;
-        list.push(waiting_object(alloc, *waiting, is_stored)?.into_value())?;
+fn waiting_list(alloc: Heap, standing: &Standing<'_, '_>) -> List {
+    let mut list = List::new(alloc);
+    let mut index = 0usize;
+    for waiting in &standing.waiting {
+        list.object(waiting_object(alloc, *waiting, index < standing.stored));
+        index = index.saturating_add(1);
     }
-    Ok(list)
+    list
 }
 
 // What goes next to each rank to which something goes.
-fn put_next(alloc: Heap, object: &mut Object, world: &World<'_>, rank: u8) -> Result<(), AllocError>
+fn next_list(alloc: Heap, world: &World<'_>, rank: u8) -> List
     requires { rank < size world.now }
 {
-    let mut list = Vec::new(alloc);
+    let mut list = List::new(alloc);
     for dest in 0..world.ranks() {
         match world.phase(rank).outgoing(dest) {
-            Ok(Some(frame)) => list.push(next_object(alloc, dest, &frame)?.into_value())?,
+            Ok(Some(frame)) => list.object(next_object(alloc, dest, &frame)),
             Ok(None) => {}
-            Err(_) => return Err(AllocError),
+            Err(_) => list.fail(AllocError),
         }
     }
-    object.list("next", list)
+    list
 }
 
 // The image on the rank's shelf, if there is one: its clock, and how many bytes it has.
-fn put_image(
-    alloc: Heap,
-    object: &mut Object,
-    world: &World<'_>,
-    rank: u8,
-) -> Result<(), AllocError>
+fn put_image(alloc: Heap, object: &mut Object, world: &World<'_>, rank: u8)
     requires { rank < size world.now }
 {
-    let mut shelf = world.phase(rank).shelf().copy(alloc)?;
-    match shelf.get() {
+    let shelf = match world.phase(rank).shelf().copy(alloc) {
+        Ok(mut shelf) => shelf.get(),
+        Err(error) => return object.fail(error),
+    };
+    match shelf {
         Ok(Some(bytes)) => {
-            let image = image_object(
-                alloc,
-                world.program(),
-                rank,
-                world.ranks(),
-                bytes.as_slice(),
-            )?;
-            object.object("image", image)
+            let (program, size) = (world.program(), world.ranks());
+            let image = image_object(alloc, program, rank, size, bytes.as_slice());
+            object.object("image", image);
         }
-        Ok(None) => Ok(()),
-        Err(_) => Err(AllocError),
+        Ok(None) => {}
+        Err(_) => object.fail(AllocError),
     }
 }
 
-fn image_object(
-    alloc: Heap,
-    program: &Program,
-    rank: u8,
-    size: u8,
-    bytes: &[u8],
-) -> Result<Object, AllocError>
+fn image_object(alloc: Heap, program: &Program, rank: u8, size: u8, bytes: &[u8]) -> Object
     requires rank { rank < size }
     requires size { size ≤ most_ranks }
 {
     let mut object = Object::new(alloc);
-    object.number("bytes", bytes.len() as u64)?;
+    object.number("bytes", bytes.len() as u64);
     match decode(alloc, program, rank, size, bytes) {
-        Ok(Image { clock, .. }) => object.number("clock", u64::from(clock))?,
-        Err(_) => return Err(AllocError),
+        Ok(Image { clock, .. }) => object.number("clock", u64::from(clock)),
+        Err(_) => object.fail(AllocError),
     }
-    Ok(object)
+    object
 }

@@ -1,32 +1,32 @@
 //! What a rank's machine wants next.
 
+use crate::json::Object;
 use crate::world::frames::put_context;
-use crate::world::object::Object;
 use limits::Heap;
 use matching::Selector;
 use rank_machine::Want;
-use std::alloc::AllocError;
 
 /// What is wanted, with the other rank and the tag that it names.
-pub fn want_object(alloc: Heap, want: Want) -> Result<Object, AllocError> {
+pub fn want_object(alloc: Heap, want: Want) -> Object {
     let mut object = Object::new(alloc);
-    object.text("kind", kind_name(want))?;
+    object.text("kind", kind_name(want));
     match want {
         Want::Send { dest, context, tag } => {
-            object.number("destination", u64::from(dest))?;
-            put_context(&mut object, context, Some(tag))?;
+            object.number("destination", u64::from(dest));
+            put_context(&mut object, context, Some(tag));
         }
-        Want::Receive(selector) | Want::Probe(selector) | Want::TryProbe(selector) => {
-            put_selector(&mut object, selector)?;
-        }
-        Want::Print(value) => object.integer("value", value)?,
+        Want::Receive(selector) | Want::Probe(selector) | Want::TryProbe(selector) => put_selector(
+            &mut object,
+            selector,
+        ),
+        Want::Print(value) => object.integer("value", value),
         Want::Faulted(fault) => {
-            object.number("number", u64::from(fault.number()))?;
-            object.text("name", fault.name())?;
+            object.number("number", u64::from(fault.number()));
+            object.text("name", fault.name());
         }
         Want::Internal | Want::Halted => {}
     }
-    Ok(object)
+    object
 }
 
 fn kind_name(want: Want) -> &'static str {
@@ -42,9 +42,9 @@ fn kind_name(want: Want) -> &'static str {
     }
 }
 
-fn put_selector(object: &mut Object, selector: Selector) -> Result<(), AllocError> {
+fn put_selector(object: &mut Object, selector: Selector) {
     if let Some(source) = selector.source {
-        object.number("source", u64::from(source))?;
+        object.number("source", u64::from(source));
     }
-    put_context(object, selector.context, selector.tag)
+    put_context(object, selector.context, selector.tag);
 }

@@ -1,6 +1,6 @@
 //! The acts of a run, an object each.
 
-use super::line::Line;
+use crate::json::{Lines, Object};
 use crate::trace::acts::{message_at, sent};
 use crate::trace::given::Told;
 use crate::trace::message::{Message, call_items, call_name, call_number};
@@ -8,32 +8,25 @@ use crate::trace::place::Place;
 use crash_free::{Act, Passed};
 use limits::Heap;
 use matching::Context;
-use std::alloc::AllocError;
 
 /// Writes each act.
-pub fn put_acts(alloc: Heap, to: &mut String<Heap>, told: Told<'_, '_>) -> Result<(), AllocError> {
-    for (index, passed) in told.acts.iter().enumerate() {
-        if let Some(place) = told.places.get(index) {
-            let mut line = Line::new(alloc);
-            put_place(&mut line, told, passed, *place)?;
-            put_act(&mut line, told, index, passed, *place)?;
-            line.put_to(to)?;
+pub fn put_acts(alloc: Heap, to: &mut Lines, told: Told<'_, '_>) {
+    for index in 0..told.acts.len() {
+        if let (Some(passed), Some(place)) = (told.acts.get(index), told.places.get(index)) {
+            let mut object = Object::new(alloc);
+            put_place(&mut object, told, passed, *place);
+            put_act(&mut object, told, index, &passed.act, *place);
+            to.line(object);
         }
     }
-    Ok(())
 }
 
-fn put_place(
-    line: &mut Line,
-    told: Told<'_, '_>,
-    passed: &Passed,
-    place: Place,
-) -> Result<(), AllocError> {
-    line.text("act", name_of(&passed.act))?;
-    line.number("rank", u64::from(passed.rank))?;
-    line.number("clock", u64::from(place.clock))?;
-    let number = told.given.lines.get(place.position).copied().unwrap_or(0);
-    line.number("line", number as u64)
+fn put_place(object: &mut Object, told: Told<'_, '_>, passed: &Passed, place: Place) {
+    object.text("act", name_of(&passed.act));
+    object.number("rank", u64::from(passed.rank));
+    object.number("clock", u64::from(place.clock));
+    let line = told.given.lines.get(place.position).copied().unwrap_or(0);
+    object.number("line", line as u64);
 }
 
 fn name_of(act: &Act) -> &'static str {
@@ -46,58 +39,47 @@ fn name_of(act: &Act) -> &'static str {
     }
 }
 
-fn put_act(
-    line: &mut Line,
-    told: Told<'_, '_>,
-    index: usize,
-    passed: &Passed,
-    place: Place,
-) -> Result<(), AllocError> {
-    match &passed.act {
+fn put_act(object: &mut Object, told: Told<'_, '_>, index: usize, act: &Act, place: Place) {
+    match act {
         Act::Sends { dest, .. } => {
-            line.number("destination", u64::from(*dest))?;
-            match message_at(told, index) {
-                Some(message) => put_message(line, message),
-                None => Ok(()),
-            }
+            object.number("destination", u64::from(*dest));
+            put_message(object, message_at(told, index));
         }
         Act::Takes { source, .. } => {
-            line.number("source", u64::from(*source))?;
-            match sent(told, index) {
-                Some(message) => {
-                    line.number("sent_at", u64::from(message.clock))?;
-                    put_message(line, message)
-                }
-                None => Ok(()),
+            object.number("source", u64::from(*source));
+            let message = sent(told, index);
+            if let Some(message) = message {
+                object.number("sent_at", u64::from(message.clock));
             }
+            put_message(object, message);
         }
         Act::Hits { source, .. } => {
-            line.number("source", u64::from(*source))?;
-            line.flag("iprobe", place.tries)?;
-            match sent(told, index) {
-                Some(message) => put_mark(line, message),
-                None => Ok(()),
+            object.number("source", u64::from(*source));
+            object.flag("iprobe", place.tries);
+            if let Some(message) = sent(told, index) {
+                put_mark(object, message);
             }
         }
-        Act::Misses => Ok(()),
-        Act::Prints(value) => line.value("value", *value),
+        Act::Misses => {}
+        Act::Prints(value) => object.integer("value", *value),
     }
 }
 
-fn put_message(line: &mut Line, message: Message<'_>) -> Result<(), AllocError> {
-    put_mark(line, message)?;
-    line.values("items", call_items(message))
+fn put_message(object: &mut Object, message: Option<Message<'_>>) {
+    if let Some(message) = message {
+        put_mark(object, message);
+        object.integers("items", call_items(message));
+    }
 }
 
 /// By what to know a message: its tag, or the collective that it is of.
-pub fn put_mark(line: &mut Line, message: Message<'_>) -> Result<(), AllocError> {
+pub fn put_mark(object: &mut Object, message: Message<'_>) {
     match message.context {
-        Context::PointToPoint => line.number("tag", u64::from(message.tag)),
+        Context::PointToPoint => object.number("tag", u64::from(message.tag)),
         Context::Collective => {
-            line.text("collective", call_name(message.items))?;
-            match call_number(message.items) {
-                Some(number) => line.value("number", number),
-                None => Ok(()),
+            object.text("collective", call_name(message.items));
+            if let Some(number) = call_number(message.items) {
+                object.integer("number", number);
             }
         }
     }

@@ -1,111 +1,87 @@
 //! How each rank ended, and which ranks wait for each other, an object each.
 
 use super::acts::put_mark;
-use super::line::Line;
+use crate::json::{Lines, List, Object};
 use crate::trace::circles::circle_from;
 use crate::trace::ends::{line_of, other, statement_of, waits_for, why_unfinished};
 use crate::trace::given::Told;
 use audit::End;
 use limits::Heap;
-use serde_json::Value;
-use std::alloc::AllocError;
+use matching::Selector;
 
 /// Writes each rank's end.
-pub fn put_ends(alloc: Heap, to: &mut String<Heap>, told: Told<'_, '_>) -> Result<(), AllocError> {
+pub fn put_ends(alloc: Heap, to: &mut Lines, told: Told<'_, '_>) {
     let outcome = told.given.outcome;
     for rank in 0..told.run.ranks() {
         if let Some(end) = outcome.ends.get(usize::from(rank)) {
-            let mut line = Line::new(alloc);
-            put_end(alloc, &mut line, told, rank, *end)?;
-            line.put_to(to)?;
+            let mut object = Object::new(alloc);
+            object.number("rank", u64::from(rank));
+            put_end(alloc, &mut object, told, rank, *end);
+            to.line(object);
         }
     }
-    Ok(())
 }
 
-fn put_end(
-    alloc: Heap,
-    line: &mut Line,
-    told: Told<'_, '_>,
-    rank: u8,
-    end: End,
-) -> Result<(), AllocError> {
-    line.number("rank", u64::from(rank))?;
+fn put_end(alloc: Heap, object: &mut Object, told: Told<'_, '_>, rank: u8, end: End) {
     match end {
-        End::Halted => line.text("end", "halted"),
+        End::Halted => object.text("end", "halted"),
         End::Faulted(fault) => {
-            line.text("end", "fault")?;
-            line.number("fault", u64::from(fault.number()))?;
-            line.text("name", fault.name())?;
-            put_statement(alloc, line, told, rank)
+            object.text("end", "fault");
+            object.number("fault", u64::from(fault.number()));
+            object.text("name", fault.name());
+            put_statement(alloc, object, told, rank);
         }
         End::Stalled => {
-            line.text("end", "stalled")?;
-            put_statement(alloc, line, told, rank)?;
-            put_unmatched(alloc, line, told, rank)
+            object.text("end", "stalled");
+            put_statement(alloc, object, told, rank);
+            if let Some(selector) = waits_for(told, rank) {
+                object.list("unmatched", unmatched(alloc, told, rank, selector));
+            }
         }
         End::Unfinished => {
-            line.text("end", "unfinished")?;
-            put_statement(alloc, line, told, rank)?;
-            line.text("why", why_unfinished(told, rank))
+            object.text("end", "unfinished");
+            put_statement(alloc, object, told, rank);
+            object.text("why", why_unfinished(told, rank));
         }
     }
 }
 
-fn put_statement(
-    alloc: Heap,
-    line: &mut Line,
-    told: Told<'_, '_>,
-    rank: u8,
-) -> Result<(), AllocError> {
-    let Some(number) = line_of(told, rank) else {
-        return Ok(());
-    };
-    line.number("line", number as u64)?;
-    let statement = statement_of(alloc, told, number)?;
-    line.text("statement", statement.as_str())
+fn put_statement(alloc: Heap, object: &mut Object, told: Told<'_, '_>, rank: u8) {
+    if let Some(line) = line_of(told, rank) {
+        object.number("line", line as u64);
+        object.made_text("statement", statement_of(alloc, told, line));
+    }
 }
 
-// The messages that are there and that a stalled rank doesn't wait for.
-fn put_unmatched(
-    alloc: Heap,
-    line: &mut Line,
-    told: Told<'_, '_>,
-    rank: u8,
-) -> Result<(), AllocError> {
-    let Some(selector) = waits_for(told, rank) else {
-        return Ok(());
-    };
-    let mut list: Vec<Value, Heap> = Vec::new(alloc);
+// The messages that are there and that a stalled rank, which waits for such, doesn't wait for.
+fn unmatched(alloc: Heap, told: Told<'_, '_>, rank: u8, selector: Selector) -> List {
+    let mut list = List::new(alloc);
     for index in 0..told.acts.len() {
         if let Some((source, message)) = other(told, index, rank, selector) {
-            let mut one = Line::new(alloc);
-            one.number("source", u64::from(source))?;
-            put_mark(&mut one, message)?;
-            list.push(one.into_value())?;
+            let mut object = Object::new(alloc);
+            object.number("source", u64::from(source));
+            put_mark(&mut object, message);
+            list.object(object);
         }
     }
-    line.list("unmatched", list)
+    list
 }
 
 /// Writes each circle of ranks that wait for each other.
-pub fn put_circles(
-    alloc: Heap,
-    to: &mut String<Heap>,
-    told: Told<'_, '_>,
-) -> Result<(), AllocError> {
+pub fn put_circles(alloc: Heap, to: &mut Lines, told: Told<'_, '_>) {
     for rank in 0..told.run.ranks() {
         if let Some(members) = circle_from(told, rank) {
-            let mut list: Vec<Value, Heap> = Vec::new(alloc);
-            for (number, member) in members.iter().enumerate() {
+            let mut list = List::new(alloc);
+            let mut number = 0i64;
+            for member in &members {
                 if *member {
-                    list.push(Value::from(number as u64))?;
+                    list.integer(number);
                 }
+                number = number.saturating_add(1);
             }
-            let mut line = Line::new(alloc);
-            line.list("circle", list)?;
-            line.put_to(to)?;
+            let mut object = Object::new(alloc);
+            object.list("circle", list);
+            to.line(object);
         }
     }
-    Ok(())
 }

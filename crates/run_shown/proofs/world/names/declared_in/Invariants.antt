@@ -1,5 +1,5 @@
 use Rattle.std.proofs.Common.{length}
-use Rattle.run_shown.proofs.world.names.names_of.Given as goal
+use Rattle.run_shown.proofs.world.names.declared_in.Given as goal
 
 abbrev pub decreases-loop-line : goal.decreases-loop-line
 decreases-loop-line l = length l.rest
