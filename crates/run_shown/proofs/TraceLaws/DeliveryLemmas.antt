@@ -5,7 +5,7 @@ use Rattle.std.specs.Prelude.{get_or}
 use Rattle.std.proofs.lemmas.Bool.{cases_lt}
 use Rattle.std.proofs.lemmas.List.{map-append, length-map, length_push, get_or_append_left}
 use Rattle.std.proofs.Math.Seq.{get_or-append_seam, map-set_same}
-use Rattle.std.proofs.lemmas.Option.{slice_get_within}
+use Rattle.std.proofs.lemmas.Option.{slice_get_cases, slice_get_within}
 use Rattle.rank_machine.specs.Acts.{Act, sends, takes, hits, misses, prints}
 use Rattle.crash_free.specs.Runs.{Passed, history}
 use Rattle.run_shown.specs.Trace.Places.{greatest_told}
@@ -66,11 +66,14 @@ told_by (hits source place) clock = refl
 told_by misses clock = refl
 told_by (prints value) clock = refl
 
--- where a list has nothing it has ended
-none_past : {A : Type 0} (xs : List A) (k : ℕ) → slice_get xs k ≡ None → length xs ≤ k
-none_past [] k none = omega arith
-none_past (x ∷ xs) zero none = absurd cc
-none_past (x ∷ xs) (suc k) none = omega (arith, none_past xs k none)
+-- as there are as many places as acts, each act has one
+has_place : (acts : List Passed) (places : List Place) (k : ℕ) (p : Passed) → length places ≡ length acts → slice_get acts k ≡ Some p
+    → slice_get places k ≡ None → ⊥
+has_place acts places k p same here none = go (slice_get_cases places k).1
+  where
+    go : ((x : Place) × (k < length places) × (slice_get places k ≡ Some x) × (get_or places k x ≡ x)) ⊎ ((length places ≤ k) × (slice_get places k ≡ None)) → ⊥
+    go (inl there) = let clash : None ≡ Some there.0 = sym none ∙ there.1.1.0 in absurd cc
+    go (inr past) = omega (arith, slice_get_within acts k p here, past.0, same)
 
 -- the message of an act at its place is the one that it sent, as it is told
 made_as_told : (acts : List Passed) (places : List Place) (k : ℕ) → AreClocked acts places
@@ -83,7 +86,7 @@ made_as_told acts places k clocked = go (slice_get acts k) (slice_get places k) 
     go (Some p) (Some place) here there =
         ap (sent_by p.act) (clocked.each k p place here there) ∙ told_by p.act (length (history (run_before acts (k + 1)) p.rank))
     go (Some p) None here there =
-        absurd (omega (arith, slice_get_within acts k p here, none_past places k there, clocked.as_many))
+        absurd (has_place acts places k p clocked.as_many here there)
 
 -- the send that was found, where one was looked for
 abbrev pub matching_send : Option Delivery → Option ℕ
