@@ -2,8 +2,8 @@
 
 use crate::same::same;
 use crash_free::{Choice, NotAllowed, Sim};
-use rank_language::Program;
 use event_logger::LogFault;
+use rank_language::Program;
 use std::test::*;
 
 /// Rank 0 sends 41 to rank 1, which prints one more.

@@ -4,11 +4,10 @@ ghost use Rattle.event_logger.specs.Desks.{IsSameDesk};
 
 use crate::same::same;
 use checkpoint::{MemoryShelf, Shelf};
-use event_logger::{Desk, Logger};
+use event_logger::{Desk, Event, Kind, Logger};
 use limits::Heap;
 use rank_language::Program;
 use rank_node::{Running, Stable};
-use event_logger::{Event, Kind};
 use std::test::*;
 
 /// How many events are fetched, are left, and are read of the own row, and how often the shelf failed. Zeros stand when out of

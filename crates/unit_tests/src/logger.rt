@@ -3,9 +3,8 @@ ghost use Rattle.std.specs.Prelude.{◌≡◌, ◌<◌, length};
 ghost use Rattle.event_logger.specs.Desks.{AreDesks, IsSameDesk};
 
 use crate::same::same;
-use event_logger::{Counts, Desk, Ledger, Logger};
+use event_logger::{Counts, Desk, Event, Kind, Ledger, LogFault, Logger};
 use limits::Heap;
-use event_logger::{Event, Kind, LogFault};
 use std::process::Abort;
 use std::test::*;
 use std::thread;

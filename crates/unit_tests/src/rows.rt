@@ -1,8 +1,8 @@
 //! Rows of the logger of one thread: one that is full, and the order of clocks.
 
 use crate::same::same;
-use limits::Heap;
 use event_logger::{Event, Kind, LogFault, LoggerState};
+use limits::Heap;
 use std::process::Abort;
 use std::test::*;
 
