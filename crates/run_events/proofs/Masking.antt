@@ -86,7 +86,7 @@ world_masks outcomes w stands all = masked w.program (size w) outcomes w.run w.l
 pub report_is_masked : (program : ProgramValue) (n : ℕ) (outcomes : List (List RankOutcome)) (o : OutcomeValue) → EndsAmong program n outcomes
     → IsFinal program n o → IsMasked outcomes n o
 report_is_masked program n outcomes o all final =
-    let is_its = final.1.0 in
+    let is_its = final.1 in
     record {
       printed = masked program n outcomes final.0 o.lines all is_its.is_run is_its.lines;
       whole = λ none. missing (final_is_possible program n o final none);

@@ -72,7 +72,7 @@ has_place : (acts : List Passed) (places : List Place) (k : ℕ) (p : Passed) �
 has_place acts places k p same here none = go (slice_get_cases places k).1
   where
     go : ((x : Place) × (k < length places) × (slice_get places k ≡ Some x) × (get_or places k x ≡ x)) ⊎ ((length places ≤ k) × (slice_get places k ≡ None)) → ⊥
-    go (inl there) = let clash : None ≡ Some there.0 = sym none ∙ there.1.1.0 in absurd cc
+    go (inl there) = let clash : None ≡ Some there.0 = sym none ∙ there.2 in absurd cc
     go (inr past) = omega (arith, slice_get_within acts k p here, past.0, same)
 
 -- the message of an act at its place is the one that it sent, as it is told
