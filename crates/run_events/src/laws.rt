@@ -36,7 +36,6 @@ pub fn law_masks_crashes(world: &World<'_>)
 /// each outcome that `audit` confirms as final, as the outcome of each report
 /// is; and if no rank is unfinished, what is seen of it is one of the outcomes
 /// that were found.
-#[tactic(auto, using(crate::proofs::Masking::report_is_masked))]
 pub fn law_masks_reports()
     ensures { (program : ProgramValue) (n : ℕ) (outcomes : List (List RankOutcome)) (o : OutcomeValue) → EndsAmong program n outcomes
         → IsFinal program n o → IsMasked outcomes n o }
