@@ -43,7 +43,7 @@ is_report_of holds held job program script steps report read kept given is under
 -- a report of the job's run says of each rank how it ended
 pub as_many_ends : (holds : List ℕ → List ℕ → Type 0) (job : RunJob) (report : Report) → IsReportOf holds job report
     → length report.outcome.ends ≡ job.ranks
-as_many_ends holds job report of_run = of_run.under.within.1.0.as_many_ends
+as_many_ends holds job report of_run = of_run.under.within.1.as_many_ends
 
 -- the text of a report of the job's run is an answer of `run`
 pub is_run_answer : (holds : List ℕ → List ℕ → Type 0) (job : RunJob) (report : Report) (out : List ℕ) (status : ℕ)

@@ -96,7 +96,7 @@ pub fn limits_of(job: RunJob<'_>) -> RunLimits
 }
 
 fn answer(alloc: Heap, job: RunJob<'_>, report: &Report) -> Result<Said, AllocError>
-    requires { length report.now.outcome.ends ≡ job.entry.ranks }
+    requires { length report.now.outcome.ends ≡ job.ranks }
     ensures { IfOk result (λ said. IsReportText job.entry.costs report.now said.out.items said.status) }
 {
     let mut text = print_report(alloc, job.ranks, report)?;
