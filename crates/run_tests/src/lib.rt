@@ -1,6 +1,6 @@
 //! Tests of runs and of the whole program that need more than its words, files
 //! and standard streams: a `Hold` that is told of acts, streams and clocks that
-//! fail, and faults that no run is known to have. `tests/` has all others.
+//! fail. `tests/` has all others.
 #![tactic(auto)]
 
 #[cfg(test)]
@@ -8,13 +8,7 @@ mod calls;
 #[cfg(test)]
 mod holds;
 #[cfg(test)]
-mod pictures;
-#[cfg(test)]
-mod said;
-#[cfg(test)]
 mod same;
-#[cfg(test)]
-mod scenes;
 #[cfg(test)]
 mod streams;
 #[cfg(test)]
