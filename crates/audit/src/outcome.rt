@@ -8,7 +8,7 @@ use rank_machine::MachineFault;
 use std::marker::Model;
 
 /// How a rank ended.
-#[derive(Clone, Copy, Debug, PartialEq, Eq)]
+#[derive(Clone, Copy, PartialEq, Eq)]
 pub enum End {
     /// After the program's last statement.
     Halted,
@@ -20,7 +20,7 @@ pub enum End {
 }
 
 /// What is known of a run afterwards.
-#[derive(Debug, Drop)]
+#[derive(Drop)]
 pub struct Outcome {
     /// The events of each rank.
     pub rows: Vec<Vec<Event, Heap>, Heap>,

@@ -12,7 +12,7 @@ use std::marker::Model;
 ///
 /// A message is named by its place among those that its source sent to this
 /// rank, from 1.
-#[derive(Debug, Drop)]
+#[derive(Drop)]
 pub enum Act {
     Sends {
         dest: u8,
@@ -54,7 +54,7 @@ impl Act {
 }
 
 /// An act of a run, with the rank that made it.
-#[derive(Debug, Drop)]
+#[derive(Drop)]
 pub struct Passed {
     pub rank: u8,
     pub act: Act,

@@ -1,7 +1,7 @@
 //! How far a search may go.
 
 /// How far a search may go.
-#[derive(Clone, Copy, Debug, PartialEq, Eq)]
+#[derive(Clone, Copy, PartialEq, Eq)]
 pub struct Limits {
     /// How many runs are looked at.
     pub runs: u32,

@@ -3,7 +3,7 @@ use limits::Heap;
 use rank_text::grammar::{Operator, Reading};
 
 /// An expression of a program. It has no more nodes than `limits::MOST_NODES`.
-#[derive(Debug, Drop)]
+#[derive(Drop)]
 pub enum Expression {
     Number(i64),
     /// A variable, by its place in the order of declaration.

@@ -7,14 +7,14 @@ use crate::expression::Expression;
 use rank_text::grammar::Reduction;
 
 /// The source or the tag that a receive or a probe asks for.
-#[derive(Debug, Drop)]
+#[derive(Drop)]
 pub enum Pattern {
     Any,
     Value(Expression),
 }
 
 /// What a send gives.
-#[derive(Debug, Drop)]
+#[derive(Drop)]
 pub enum Payload {
     /// The value as one item.
     One(Expression),
@@ -23,7 +23,7 @@ pub enum Payload {
 }
 
 /// Where a receive puts the items.
-#[derive(Debug, Drop)]
+#[derive(Drop)]
 pub enum Buffer {
     /// A variable, by its place in the order of declaration.
     Variable(usize),
@@ -32,7 +32,7 @@ pub enum Buffer {
 }
 
 /// A statement that all ranks make together (MPI 1.1, sections 4.3, 4.4 and 4.9.1).
-#[derive(Debug, Drop)]
+#[derive(Drop)]
 pub enum Collective {
     Barrier,
     /// The root's items of the buffer go to the buffers of all ranks.
@@ -50,7 +50,7 @@ pub enum Collective {
 }
 
 /// A statement of a program, which has a position of its own.
-#[derive(Debug, Drop)]
+#[derive(Drop)]
 pub enum Statement {
     /// A variable by its place: it is 0 from the rank's beginning.
     Declare(usize),

@@ -4,7 +4,7 @@
 use crate::frame::{AskFrom, KeptUpto};
 
 /// The frames that are due to a rank.
-#[derive(Clone, Copy, Debug)]
+#[derive(Clone, Copy)]
 pub struct Due {
     pub ask: Option<AskFrom>,
     pub kept: Option<KeptUpto>,

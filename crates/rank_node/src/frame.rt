@@ -7,7 +7,7 @@ use std::alloc::AllocError;
 use std::marker::Model;
 
 /// The number from which a rank asks for packets, from 1 to one more than the greatest.
-#[derive(Clone, Copy, Debug)]
+#[derive(Clone, Copy)]
 pub struct AskFrom {
     number: u32,
 }
@@ -47,7 +47,7 @@ impl AskFrom {
 }
 
 /// The number up to which a rank's image has accepted packets.
-#[derive(Clone, Copy, Debug)]
+#[derive(Clone, Copy)]
 pub struct KeptUpto {
     number: u32,
 }
@@ -85,7 +85,7 @@ impl KeptUpto {
 }
 
 /// What goes from one rank to another.
-#[derive(Debug, Drop)]
+#[derive(Drop)]
 pub enum Frame {
     /// A packet of the sender's program.
     Data(Packet),

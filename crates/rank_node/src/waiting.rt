@@ -3,7 +3,7 @@
 use event_logger::Event;
 
 /// Something of a rank that hasn't passed its gate, or isn't acknowledged yet.
-#[derive(Clone, Copy, Debug)]
+#[derive(Clone, Copy)]
 pub enum Waiting {
     /// An event, which waits for its store and then for its acknowledgment.
     Event(Event),

@@ -4,7 +4,7 @@ ghost use Rattle.world_model.specs.Driven.{is_refused, index_of};
 ghost use Rattle.world_model.specs.Finished.{leaves_all};
 
 /// The answer to an event.
-#[derive(Clone, Copy, Debug, PartialEq, Eq)]
+#[derive(Clone, Copy, PartialEq, Eq)]
 pub enum Reply {
     /// The machine made a step.
     Moved,

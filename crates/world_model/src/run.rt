@@ -17,7 +17,7 @@ use std::marker::Model;
 /// The acts that passed, in order.
 ///
 /// Contracts see the newest first, and nothing of the index that is asked here.
-#[derive(Debug, Drop)]
+#[derive(Drop)]
 pub struct Run {
     ranks: u8,
     acts: Vec<Passed, Heap>,

@@ -14,7 +14,7 @@ use rank_language::Program;
 
 /// That an outcome is one of a run without crashes, in which each rank reported
 /// as stalled has stalled.
-#[derive(Clone, Copy, Debug, PartialEq, Eq)]
+#[derive(Clone, Copy, PartialEq, Eq)]
 pub struct Final;
 
 /// Audits the outcome, and says yes only if each rank reported as stalled has,

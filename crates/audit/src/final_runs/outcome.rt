@@ -12,7 +12,7 @@ use std::alloc::AllocError;
 use std::marker::Model;
 
 /// What is seen of a rank once it can't go on.
-#[derive(Debug, Drop)]
+#[derive(Drop)]
 pub struct RankEnd {
     /// What it printed, in order.
     pub lines: Vec<i64, Heap>,

@@ -15,7 +15,7 @@ const KEPT: usize = MOST_NAME_BYTES + 1;
 ///
 /// Two names that are both too long are equal where what is kept of them is;
 /// neither can be declared, so nothing is lost by that.
-#[derive(Clone, Copy, Debug, PartialEq, Eq)]
+#[derive(Clone, Copy, PartialEq, Eq)]
 pub struct Name {
     bytes: [u8; KEPT],
     len: u8,

@@ -6,7 +6,7 @@ ghost use Rattle.rank_text.specs.Grammar.Grammar.{strength};
 use crate::grammar::name::Name;
 
 /// What an operation between two values does.
-#[derive(Clone, Copy, Debug, PartialEq, Eq)]
+#[derive(Clone, Copy, PartialEq, Eq)]
 pub enum Operator {
     Add,
     Subtract,
@@ -48,7 +48,7 @@ impl Operator {
 }
 
 /// A value of the rank that a program can only read.
-#[derive(Clone, Copy, Debug)]
+#[derive(Clone, Copy)]
 pub enum Reading {
     Rank,
     Size,
@@ -58,7 +58,7 @@ pub enum Reading {
 }
 
 /// The words that begin statements.
-#[derive(Clone, Copy, Debug)]
+#[derive(Clone, Copy)]
 pub enum Keyword {
     Var,
     Array,
@@ -78,7 +78,7 @@ pub enum Keyword {
 }
 
 /// How a reduction combines two values.
-#[derive(Clone, Copy, Debug)]
+#[derive(Clone, Copy)]
 pub enum Reduction {
     Sum,
     Max,
@@ -88,7 +88,7 @@ pub enum Reduction {
 /// A token of a line.
 ///
 /// A number above 9223372036854775807 is kept as 9223372036854775808.
-#[derive(Clone, Copy, Debug)]
+#[derive(Clone, Copy)]
 pub enum Token {
     Keyword(Keyword),
     Reduction(Reduction),

@@ -10,7 +10,7 @@ use crate::script::line::Order;
 
 /// What a line says, whatever its numbers are; `u32::MAX` stands for each that
 /// is greater.
-#[derive(Clone, Copy, Debug)]
+#[derive(Clone, Copy)]
 pub(crate) struct Form {
     pub(crate) order: Order,
     pub(crate) rank: u32,

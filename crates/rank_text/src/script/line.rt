@@ -1,7 +1,7 @@
 //! A line of a script.
 
 /// What a rank is to do once it has made the act of a clock.
-#[derive(Clone, Copy, Debug, PartialEq, Eq)]
+#[derive(Clone, Copy, PartialEq, Eq)]
 pub enum Order {
     /// It crashes.
     Kill,
@@ -10,7 +10,7 @@ pub enum Order {
 }
 
 /// An order to a rank at one of its clocks.
-#[derive(Clone, Copy, Debug, PartialEq, Eq)]
+#[derive(Clone, Copy, PartialEq, Eq)]
 pub struct ScriptLine {
     /// Below the number of ranks of the run.
     pub rank: u8,

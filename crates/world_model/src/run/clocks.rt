@@ -8,7 +8,7 @@ use std::alloc::AllocError;
 use std::marker::Model;
 
 /// The clocks of what one rank sent to another, in order, which rise.
-#[derive(Debug, Drop)]
+#[derive(Drop)]
 pub(super) struct Clocks {
     items: Vec<u64, Heap>,
 }

@@ -12,7 +12,7 @@ use std::alloc::AllocError;
 use std::marker::Model;
 
 /// How many acts one rank made, and the clocks of what it sent to each.
-#[derive(Debug, Drop)]
+#[derive(Drop)]
 pub(super) struct Made {
     count: usize,
     clocks: Vec<Clocks, Heap>,
