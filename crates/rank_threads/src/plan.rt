@@ -8,7 +8,7 @@ use std::marker::Model;
 /// The lines of a script for one rank, in their order; each is used once.
 ///
 /// A contract sees those that aren't used yet.
-#[derive(Debug, Drop)]
+#[derive(Drop)]
 pub struct Plan {
     lines: Vec<ScriptLine, Heap>,
     used: usize,

@@ -5,7 +5,7 @@ ghost use Rattle.rank_text.specs.Checker.Faults.{name_of, fault_number};
 use std::fmt;
 
 /// What is wrong with a line. The lowest number that holds of a line is answered.
-#[derive(Clone, Copy)]
+#[derive(Clone, Copy, Debug)]
 pub enum FaultKind {
     /// A byte isn't 0x20 to 0x7E.
     NotText,
@@ -28,7 +28,7 @@ pub enum FaultKind {
 }
 
 /// A fault and the line that it stands on.
-#[derive(Clone, Copy)]
+#[derive(Clone, Copy, Debug)]
 pub struct ProgramFault {
     /// From 1; for `BlockOpen` one more than the text has.
     pub line: usize,
@@ -36,7 +36,7 @@ pub struct ProgramFault {
 }
 
 /// Why a text gives no program.
-#[derive(Clone, Copy)]
+#[derive(Clone, Copy, Debug)]
 pub enum ParseFault {
     Fault(ProgramFault),
     Memory,
