@@ -17,7 +17,7 @@ use limits::Heap;
 use rank_language::Program;
 
 /// That an outcome is one of a run without crashes.
-#[derive(Clone, Copy, PartialEq, Eq)]
+#[derive(Clone, Copy, Debug, PartialEq, Eq)]
 pub struct Audited;
 
 /// Says yes only if some run of the program without crashes has the outcome,
