@@ -5,6 +5,6 @@ mod fault;
 mod outcome;
 mod stalled;
 
-pub use confirming::{Final, confirm};
+pub use confirming::{Final, confirm, confirmed_run};
 pub use fault::FinalFault;
 pub use outcome::{RankEnd, has_lines, outcome_of};

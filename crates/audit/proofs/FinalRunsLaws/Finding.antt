@@ -17,7 +17,7 @@ use Rattle.audit.specs.Found.{IsFound}
 use Rattle.audit.specs.Outcome.{OutcomeValue, IsWaiting, IsOutcome}
 use Rattle.audit.specs.Reachable.{IsReachable}
 use Rattle.audit.proofs.Reaching.{some_there}
-use Rattle.audit.specs.FinalRuns.Final.{AreWaiting, HasNotStalled, HasStalled, HaveStalled, IsFinal, IsOfUnfinished}
+use Rattle.audit.specs.FinalRuns.Final.{AreWaiting, HasNotStalled, HasStalled, HaveStalled, IsConfirmed, IsFinal, IsOfUnfinished}
 use Rattle.audit.specs.FinalRuns.Stills.{NoneIsThere, OneIsThere}
 use Rattle.audit.proofs.FinalRunsLaws.Simulating.{takes_eligible, hits_eligible, may_take, may_hit}
 use Rattle.audit.proofs.FinalRunsLaws.Alike.{not_stalled_too}
@@ -117,6 +117,10 @@ all_stalled s ends k size each r said act may =
     let low = may.0 in
     each r (omega (arith, low, size)) said act may
 
+-- what was confirmed is final
+pub confirmed_is_final : (program : ProgramValue) (n : ℕ) (o : OutcomeValue) (steps : ℕ) (s : SimValue) → IsConfirmed program n o steps s → IsFinal program n o
+confirmed_is_final program n o steps s c = (s.run, c.found.outcome, c.stalled)
+
 module _ (program : ProgramValue) (n : ℕ) (o : OutcomeValue) (steps : ℕ) (s : SimValue) (found : IsFound program n o steps s) where
   -- each rank that is said to have stalled waits in what was found
   pub are_waiting : AreWaiting s o.ends
@@ -134,6 +138,10 @@ module _ (program : ProgramValue) (n : ℕ) (o : OutcomeValue) (steps : ℕ) (s 
     subst (λ p. HaveStalled (start_of p n) n s.run o.ends) found.program
         (subst (λ k. HaveStalled (start_of s.program k) k s.run o.ends) found.size stalled),
   )
+
+  -- and it confirms it
+  pub is_confirmed : HaveStalled (start_of s.program (length s.machines)) (length s.machines) s.run o.ends → IsConfirmed program n o steps s
+  is_confirmed stalled = record { found = found; stalled = (is_final stalled).2 }
 
   -- it is within reach
   pub is_reachable : IsReachable program n o steps

@@ -13,6 +13,7 @@ use Rattle.audit.specs.declared.outcome.End.{End}
 use Rattle.audit.specs.declared.outcome.End.TheVariants as end
 use Rattle.audit.specs.Outcome.{OutcomeValue, lines_of, IsWaiting, IsOutcome}
 use Rattle.audit.specs.Reachable.{IsReachable}
+use Rattle.audit.specs.Found.{IsFound}
 use Rattle.audit.specs.declared.final_runs.fault.FinalFault.{FinalFault}
 use Rattle.audit.specs.declared.final_runs.fault.FinalFault.TheVariants as fault
 use Rattle.audit.specs.FinalRuns.Maximal.{MayFollow, RankOutcome}
@@ -44,6 +45,12 @@ HaveStalled start n C ends = (r : ℕ) → slice_get ends r ≡ Some end.Stalled
 -- stalled in it
 abbrev pub IsFinal : ProgramValue → ℕ → OutcomeValue → Type 0
 IsFinal program n o = (C : List Passed) × IsOutcome (start_of program n) n C o × HaveStalled (start_of program n) n C o.ends
+
+-- The simulation confirms the outcome: an audit found it, and each rank reported as stalled has
+-- stalled in its run.
+pub record IsConfirmed (program : ProgramValue) (n : ℕ) (o : OutcomeValue) (steps : ℕ) (s : SimValue) : Type 0 where
+  pub found : IsFound program n o steps s
+  pub stalled : HaveStalled (start_of program n) n s.run o.ends
 
 -- no rank is unfinished
 abbrev pub NoneIsUnfinished : List End → Type 0

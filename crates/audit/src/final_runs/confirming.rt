@@ -3,12 +3,13 @@
 ghost use Rattle.std.specs.Prelude.{◌≤◌, IfOk, IfErr};
 ghost use Rattle.limits.specs.Limits.{most_ranks};
 ghost use Rattle.audit.specs.Reachable.{IsReachable};
-ghost use Rattle.audit.specs.FinalRuns.Final.{IsFinal, IsWhy, NoneIsUnfinished, seen_of};
+ghost use Rattle.audit.specs.FinalRuns.Final.{IsConfirmed, IsFinal, IsWhy, NoneIsUnfinished, seen_of};
 ghost use Rattle.audit.specs.FinalRuns.Maximal.{IsPossible};
 
 use crate::final_runs::fault::FinalFault;
 use crate::final_runs::stalled::not_stalled;
 use crate::{Outcome, find_run};
+use crash_free::Sim;
 use limits::Heap;
 use rank_language::Program;
 
@@ -38,9 +39,34 @@ pub fn confirm(
     ensures within { IfOk result (λ _. IsReachable program.now ranks outcome.now steps) }
     ensures err { IfErr result (λ fault. IsWhy program.now ranks outcome.now steps fault) }
 {
+    match confirmed_run(alloc, program, ranks, outcome, steps) {
+        Ok(run) => {
+            drop(run);
+            Ok(Final)
+        }
+        Err(fault) => Err(fault),
+    }
+}
+
+/// The run that `confirm` finds: one of the program without crashes that has the
+/// outcome, in which each rank reported as stalled has stalled.
+///
+/// It answers as `confirm` does, and takes as long.
+pub fn confirmed_run<'p>(
+    alloc: Heap,
+    program: &'p Program,
+    ranks: u8,
+    outcome: &Outcome,
+    steps: u32,
+) -> Result<Sim<'p>, FinalFault>
+    requires some { 1 ≤ ranks }
+    requires few { ranks ≤ most_ranks }
+    ensures ok { IfOk result (λ run. IsConfirmed program.entry.now ranks outcome.now steps run) }
+    ensures err { IfErr result (λ fault. IsWhy program.entry.now ranks outcome.now steps fault) }
+{
     match find_run(alloc, program, ranks, outcome, steps) {
         Ok(run) => match not_stalled(&run, outcome.ends.as_slice()) {
-            None => Ok(Final),
+            None => Ok(run),
             Some(rank) => Err(FinalFault::FalseStall(rank)),
         },
         Err(fault) => Err(FinalFault::Audit(fault)),
