@@ -1,9 +1,9 @@
 //! A state of a search, by its parts.
 ghost use Rattle.std.specs.Prelude.{◌≡◌, ◌∷◌, ◌++◌, [], true, IfOk, OnOk};
 
+use crash_free::Mix;
 use limits::Heap;
 use std::alloc::AllocError;
-use std::hash::{DefaultHasher, Hasher};
 use std::marker::Model;
 
 /// What a state takes beside its places, in numbers of 8 bytes: a vector and its
@@ -51,11 +51,11 @@ impl State {
 
     /// A number that is the same of those that are the same.
     pub fn hash(&self) -> u64 {
-        let mut hasher = DefaultHasher::new();
+        let mut mix = Mix::new();
         for place in self.places.as_slice() {
-            hasher.write_u32(*place);
+            mix.add(u64::from(*place));
         }
-        hasher.finish()
+        mix.finish()
     }
 
     /// How many numbers, of 8 bytes each, it takes.
