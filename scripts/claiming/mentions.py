@@ -68,7 +68,7 @@ class Mentions:
         """Whether the path is there: from the top, from the document, from one of these crates."""
         pattern = STANDS_FOR_ANY.sub("*", path.removeprefix("./"))
         of_crates = [f"crates/{it}{src}" for it in crates for src in ("", "/src")]
-        places = [os.path.dirname(document), "", "crates", *of_crates, "scripts", "crates/examples/data"]
+        places = [os.path.dirname(document), "", "crates", *of_crates, "scripts"]
         if "/" not in pattern:
             places.append("**")
         found = (glob.iglob(os.path.join(self.top, it, pattern) + ends, recursive=True) for it in places for ends in ("", ".rt"))
