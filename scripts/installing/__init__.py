@@ -1,0 +1,1 @@
+"""What scripts/install writes beside the program."""
