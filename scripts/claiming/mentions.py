@@ -30,6 +30,9 @@ STANDS_FOR_ANY = re.compile(r"(?<![A-Za-z0-9_])[A-Z][A-Z_0-9]*(?![A-Za-z0-9_]|\.
 # `Inbox::accept`, `IsRun`, `law_determined`: words that only code has
 QUALIFIED = r"[A-Za-z_][A-Za-z_0-9]*(?:::[A-Za-z_][A-Za-z_0-9]*)+(?:\(\))?"
 OF_CODE = re.compile(rf"{QUALIFIED}|[A-Z][a-z0-9]+(?:[A-Z][a-z0-9]*)+|[a-z][a-z0-9]*(?:_[a-z0-9]+)+")
+# the page whose reader writes files: a line that ends with `NAME`: stands before the text of each
+TUTORIAL = "docs/TUTORIAL.md"
+WRITES = re.compile(r"`([\w./-]+)`:$", re.MULTILINE)
 README_OF_CRATE = re.compile(r"crates/([a-z_0-9]+)/README\.md")
 
 
@@ -50,6 +53,11 @@ def speaks_of_code(document: str) -> bool:
 def is_checked(document: str) -> bool:
     """Paths are looked at in each document but the history, which names what is gone, and the pages that are written."""
     return document != "CHANGELOG.md" and not document.startswith("docs/reference/")
+
+
+def written_by(document: str, text: str) -> set[str]:
+    """The files that a reader of this document writes."""
+    return set(WRITES.findall(text)) if document == TUTORIAL else set()
 
 
 class Mentions:

@@ -23,6 +23,7 @@ FILES = {
     ),
     "docs/GLOSSARY.md": "# Glossary\n\n## A letter\n\n## A `letter`\n",
     "docs/THEOREMS.md": "# Theorems\n\n`IsInbox` holds of each inbox, by `Inbox::accept`: `ok` (`after_arrival`).\n",
+    "docs/TUTORIAL.md": "# Tutorial\n\nWrite `tour/letter.rank`:\n\n```\nprint 1\n```\n\nThen run `tour/letter.rank`.\n",
     "crates/post/README.md": (
         "# post\n\n## Claims\n\n"
         "- **A letter is accepted if and only if its number is the next.**\n"
@@ -90,6 +91,7 @@ WRONG = "crates/post/wrong"
 README = "README.md"
 GLOSSARY = "docs/GLOSSARY.md"
 THEOREMS = "docs/THEOREMS.md"
+TUTORIAL = "docs/TUTORIAL.md"
 LETTERS = "crates/post/proofs/Letters.antt"
 MAP = "crates/post/proofs/README.md"
 OPENING = "crates/office/proofs/Opening.antt"
@@ -121,6 +123,7 @@ CASES = (
     Case("a definition that the code doesn't have", THEOREMS, "`IsInbox`", "`IsOutbox`", THEOREMS, "`IsOutbox` names nothing"),
     Case("a lemma that the code doesn't have", THEOREMS, "`IsInbox`", "`law_of_inboxes`", THEOREMS, "`law_of_inboxes` names nothing"),
     Case("a path of a crate that isn't there", POST, "`./check`", "`specs/Outbox.antt`", POST, "there is no specs/Outbox.antt"),
+    Case("a file that the tutorial doesn't write", TUTORIAL, "run `tour/letter.rank`", "run `tour/mail.rank`", TUTORIAL, "there is no tour/mail.rank"),
     Case("a clause of another function in a document", THEOREMS, "`ok`", "`back`", THEOREMS, "`back` is no clause of `Inbox::accept`"),
     Case("a long line", README, "stands in", "stands in" + " as you see" * 5, README, "columns, more than 100"),
     Case("a long line in a fenced block", README, "[no link]", "[no link]" + " as you see" * 9, README, "columns, more than 120"),

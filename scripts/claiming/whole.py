@@ -11,7 +11,7 @@ from .code import items_of_code
 from .items import Item, segments_of
 from .lemmas import Lemmas, exported_by
 from .markdown import spans_of
-from .mentions import DOCUMENTS, Mentions, is_checked
+from .mentions import DOCUMENTS, Mentions, is_checked, written_by
 from .naming import Naming
 from .pages import Written
 from .places import Crate, Fault, crate_lines, crates_of, documents, files_below, libraries_of, text_of, write
@@ -117,7 +117,8 @@ class Whole:
             yield from links.faults_of(self.top, document, found)
             yield from columns.faults_of(document, text)
             if is_checked(document):
-                yield from mentions.faults(document, spans_of(text))
+                written = written_by(document, text)
+                yield from mentions.faults(document, [it for it in spans_of(text) if it.text not in written])
             if document in DOCUMENTS:
                 yield from pairs.faults_of(document, text, naming)
 
