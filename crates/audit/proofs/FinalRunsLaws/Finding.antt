@@ -141,6 +141,7 @@ module _ (program : ProgramValue) (n : ℕ) (o : OutcomeValue) (steps : ℕ) (s 
 
   -- and it confirms it
   pub is_confirmed : HaveStalled (start_of s.program (length s.machines)) (length s.machines) s.run o.ends → IsConfirmed program n o steps s
+  unfolding is_final
   is_confirmed stalled = record { found = found; stalled = (is_final stalled).2 }
 
   -- it is within reach
