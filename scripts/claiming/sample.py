@@ -8,6 +8,7 @@ from typing import NamedTuple
 
 from .pages import CLAUSES
 from .places import text_of, write
+from .tried import PAGE as MUTANTS
 from .whole import Whole
 
 FILES = {
@@ -21,6 +22,7 @@ FILES = {
         "```text\n[no link](nowhere.md) and `nothing::named`\n```\n\n"
         "[letter]: docs/GLOSSARY.md#a-letter-1\n"
     ),
+    "docs/TESTING.md": "# Testing\n\n## Mutants\n",
     "docs/GLOSSARY.md": "# Glossary\n\n## A letter\n\n## A `letter`\n",
     "docs/THEOREMS.md": "# Theorems\n\n`IsInbox` holds of each inbox, by `Inbox::accept`: `ok` (`after_arrival`).\n",
     "docs/TUTORIAL.md": "# Tutorial\n\nWrite `tour/letter.rank`:\n\n```\nprint 1\n```\n\nThen run `tour/letter.rank`.\n",
@@ -63,6 +65,7 @@ FILES = {
     "crates/office/proofs/open/Answers.antt": "pub returns-clause-0 = stays\n",
     "crates/post/must-fail/accepts_a_gap.edit": "file: src/inbox.rt\nold: true\nnew: false\n",
     "crates/post/wrong/letters/accepts_a_repeat.edit": "file: src/inbox.rt\nold: true\nnew: false\n",
+    "scripts/mutants.tried": "# rows\npost/letters 1234567 changed\n  answer accepts_a_repeat\n",
     "crates/office/README.md": (
         "# office\n\n## Claims\n\n"
         "- **An office opens with an empty inbox.**\n  Clauses: `open` (`empty`).\n  Mutants: `post/accepts_a_gap`.\n"
@@ -94,6 +97,7 @@ THEOREMS = "docs/THEOREMS.md"
 TUTORIAL = "docs/TUTORIAL.md"
 LETTERS = "crates/post/proofs/Letters.antt"
 MAP = "crates/post/proofs/README.md"
+TRIED = "scripts/mutants.tried"
 OPENING = "crates/office/proofs/Opening.antt"
 SAME_AS_BELOW = "(i j : ℕ) → i ≡ j → i + 1 ≡ j + 1"
 CASES = (
@@ -131,6 +135,9 @@ CASES = (
     Case("a lemma that is pub for nobody", LETTERS, "e refl\n", "e (same n)\n\npub same : (n : ℕ) → n ≡ n\nsame n = refl\n", LETTERS, "`same` is pub, and"),
     Case("a lemma that stands below", OPENING, "(k : ℕ) → k ≡ k → k + 1 + 1 ≡ k + 1 + 1", SAME_AS_BELOW, OPENING, "`stays` says what `counted` of"),
     Case("a map of lemmas that isn't up to date", MAP, "Letters", "Mail", MAP, "isn't what scripts/claims --write writes"),
+    Case("a folder of mutants without a row", TRIED, "post/letters", "post/stamps", TRIED, "`post/letters` has mutants and no row"),
+    Case("a row of mutants that aren't there", TRIED, "answer accepts_a_repeat", "answer accepts_all", TRIED, "`accepts_all` is no mutant of"),
+    Case("a table of mutants that isn't up to date", MUTANTS, "| 1 | 0 | 1 |", "| 1 | 1 | 0 |", MUTANTS, "isn't what scripts/claims --write writes"),
     Case("a page that isn't up to date", CLAUSES, "post", "mail", CLAUSES, "isn't what scripts/claims --write writes"),
 )
 
@@ -148,7 +155,7 @@ def edit(top: str, case: Case) -> None:
     if case.old not in text:
         raise ValueError(f"{case.name}: {case.file} has no {case.old!r}")
     write(path, text.replace(case.old, case.new, 1))
-    if case.file not in (CLAUSES, MAP):
+    if case.file not in (CLAUSES, MAP, MUTANTS):
         Whole(top).write()
 
 

@@ -5,7 +5,7 @@ from __future__ import annotations
 import os
 from typing import Iterator
 
-from . import columns, links, mutants, pages, pairs, proof_map
+from . import columns, links, mutants, pages, pairs, proof_map, tried
 from .claims import Claims, claims_of
 from .code import items_of_code
 from .items import Item, segments_of
@@ -57,7 +57,8 @@ class Whole:
     def written(self) -> list[Written]:
         mapped = [it for it in self.crates if os.path.isfile(os.path.join(self.top, proof_map.path_of(it)))]
         maps = [proof_map.page_of(it, self.proofs[it.name]) for it in mapped]
-        return [pages.clauses_page(self.crates, self.claims), pages.definitions_page(self.crates, self.pages), *maps]
+        tables = [tried.page_of(self.top, self.crates)] if os.path.isfile(os.path.join(self.top, tried.DATA)) else []
+        return [pages.clauses_page(self.crates, self.claims), pages.definitions_page(self.crates, self.pages), *maps, *tables]
 
     def write(self) -> None:
         for it in self.written():
@@ -124,7 +125,13 @@ class Whole:
 
     def faults(self) -> list[Fault]:
         found = [it for crate in self.crates for it in self.faults_of_crate(crate)]
-        return sorted({*self.faults_of_pages(), *found, *self.faults_of_lemmas(), *self.faults_of_documents()})
+        of_tried = tried.faults_of(self.top, self.crates)
+        return sorted({*self.faults_of_pages(), *found, *self.faults_of_lemmas(), *self.faults_of_documents(), *of_tried})
+
+    def notes(self) -> list[str]:
+        """What is no fault, and a reader should know."""
+        folders, old = len(tried.folders_of(self.top, self.crates)), len(tried.stale(self.top, self.crates))
+        return [f"note: {old} of {folders} folders of mutants were last tried over other sources ({tried.PAGE})"] if old else []
 
     def counts(self) -> str:
         claims = sum(len(it.claims) for it in self.claims.values())
