@@ -80,13 +80,21 @@ def run(words: list[str], cwd: str, folder: str, hear: Callable[[str], object] =
         return process.wait(), "".join(lines)
 
 
-def quick(sources: Sources, folder: str) -> str:
-    """Compiles the program, and returns its path in the folder. Nothing is proved."""
-    kit, module, made, program = kit_folder(), *(f"{folder}/{it}" for it in ("module.bc", "module.o", sources.name))
-    words = [stand_in(kit, f"{folder}/kit", module), "try", "--steps", "1", "--seconds", "1", "--", "--version"]
+def module_of(sources: Sources, folder: str) -> str:
+    """Has the program compiled to an LLVM module, and returns its path in the folder. Nothing is
+    proved."""
+    module = f"{folder}/module.bc"
+    words = [stand_in(kit_folder(), f"{folder}/kit", module), "try", "--steps", "1", "--seconds", "1", "--", "--version"]
     status, output = run(words, f"{sources.top}/crates/{sources.name}", folder)
     if not os.path.exists(module):
         raise NotMade(f"its text is refused:\n{output}") if status == 1 else NoModule(output)
+    return module
+
+
+def quick(sources: Sources, folder: str) -> str:
+    """Compiles the program, and returns its path in the folder. Nothing is proved."""
+    kit, module = kit_folder(), module_of(sources, folder)
+    made, program = (f"{folder}/{it}" for it in ("module.o", sources.name))
     clang = [f"{kit}/toolchain/bin/clang", f"--target={TARGET}", f"--sysroot={kit}/toolchain", *FLAGS.split()]
     link = [f"{kit}/bin/rattle-link", "--target", TARGET, "--toolchain", f"{kit}/toolchain", "-o", program, made]
     for words in ([*clang, "-c", "-x", "ir", module, "-o", made], [*link, f"{kit}/c/libos_c.a", f"{kit}/c/liblibc_c.a"]):

@@ -1,0 +1,717 @@
+// The laboratory: the viewer with the program inside. scripts/lab puts it behind the viewer's own
+// script, whose names (`world`, `now`, `show`, `open`, `make`, `element`) it uses. An experiment is a
+// program, a number of ranks, and the lines of an events text. Each change of it plays all anew, by
+// `ftmpi world --json`: the engine keeps nothing from call to call.
+"use strict";
+
+// ---- the engine, in workers
+
+const PROGRAM = "program.rank";
+const EVENTS = "it.events";
+const OUTCOME = "it.outcome";
+
+// A worker gets the engine once, and then calls: it answers each by its number. What the program
+// writes to standard error meanwhile, such as the progress of a search, comes at once.
+const WORKER = `
+  let compiled;
+  onmessage = async ({ data }) => {
+    try {
+      if (data.engine) {
+        compiled = await WebAssembly.compile(data.engine);
+        postMessage({ isReady: true });
+        return;
+      }
+      const text = (bytes) => new TextDecoder().decode(bytes);
+      const hear = data.isHeard ? (piece) => postMessage({ heard: text(piece) }) : null;
+      const { status, out, err } = rattleHost.run(compiled, data.words, data.files, { hear });
+      postMessage({ number: data.number, status, out: text(out), err: text(err) });
+    } catch (error) {
+      postMessage({ number: data.number, status: -1, out: "", err: "the engine broke down: " + error });
+    }
+  };`;
+
+/** The program as WebAssembly. */
+const engineBytes = (async () => {
+  const packed = Uint8Array.from(atob(element("engine").textContent.trim()), (it) => it.charCodeAt(0));
+  return new Response(new Blob([packed]).stream().pipeThrough(new DecompressionStream("gzip"))).arrayBuffer();
+})();
+
+/** A worker that runs the program, one call after another. */
+class Engine {
+  constructor(hear = null) {
+    this.number = 0;
+    this.waiting = new Map();
+    this.isHeard = hear !== null;
+    this.worker = new Worker(URL.createObjectURL(new Blob([element("host").textContent, WORKER], { type: "text/javascript" })));
+    this.ready = new Promise((ready) => {
+      this.worker.onmessage = ({ data }) => {
+        if (data.isReady) {
+          ready();
+        } else if (data.heard !== undefined) {
+          hear(data.heard);
+        } else {
+          const then = this.waiting.get(data.number);
+          this.waiting.delete(data.number);
+          then(data);
+        }
+      };
+    });
+    engineBytes.then((bytes) => this.worker.postMessage({ engine: bytes }));
+  }
+
+  /** What the program answers: `status`, `out` and `err`. */
+  async call(words, files) {
+    await this.ready;
+    this.number += 1;
+    const number = this.number;
+    return new Promise((then) => {
+      this.waiting.set(number, then);
+      this.worker.postMessage({ number, words: ["ftmpi", ...words], files, isHeard: this.isHeard });
+    });
+  }
+
+  /** Ends it in the middle of a call, which is never answered. */
+  stop() {
+    this.worker.terminate();
+  }
+}
+
+// ---- the experiment
+
+const stored = JSON.parse(element("lab-data").textContent);
+const engine = new Engine();
+// The first future is `futures[0]`; `current` is that which is shown. `at` is the step behind which
+// it parted from another one.
+let futures = [{ lines: [], at: 0 }];
+let current = 0;
+// How the experiment is called.
+let called = "";
+// What the world that is shown was made of.
+let played = { source: null, ranks: 0 };
+// Counts the calls for a world: an answer to an older one is dropped.
+let turn = 0;
+
+const source = () => element("source").value;
+const ranks = () => Math.max(1, Math.min(16, Number.parseInt(element("count").value, 10) || 1));
+const lines = () => futures[current].lines;
+const isEvent = (line) => line.trim() !== "" && !line.trimStart().startsWith("#");
+const countOf = (of) => of.filter(isEvent).length;
+const asText = (of) => of.map((line) => `${line}\n`).join("");
+const linesIn = (text) => text.split("\n").filter((line) => line !== "");
+const files = () => ({ [PROGRAM]: source(), [EVENTS]: asText(lines()) });
+const events = (of) => linesIn(of).filter(isEvent);
+
+/** Calls the program over the experiment as it is, and says in the page that it works. */
+async function ftmpi(words, given = files()) {
+  const began = performance.now();
+  element("busy").textContent = `${words[0]} ..`;
+  const done = await engine.call(words, given);
+  element("busy").textContent = done.status < 0 ? done.err : `${words[0]}: ${(performance.now() - began).toFixed(0)} ms`;
+  return done;
+}
+
+/** Plays the experiment and shows it at a step. Answers whether there is a world. */
+async function playAll(at) {
+  turn += 1;
+  const mine = turn;
+  const of = { source: source(), ranks: ranks() };
+  const done = await ftmpi(["world", "--json", "--ranks", String(of.ranks), PROGRAM, EVENTS]);
+  if (mine !== turn) {
+    return false;
+  }
+  document.body.classList.toggle("stale", done.status !== 0);
+  if (done.status !== 0) {
+    await explain();
+    showActs();
+    return false;
+  }
+  played = of;
+  sayFault("");
+  open(done.out, called || "Your program", at);
+  showFutures();
+  await keep();
+  // (the address holds it too: what follows may begin)
+  document.body.dataset.turn = String(mine);
+  return true;
+}
+
+/** How many lines of the events stand up to the step that is shown. */
+const linesUpTo = (step) => (step === 0 ? 0 : world.events[step - 1].line);
+
+/**
+ * Makes events happen behind the step that is shown, and goes to the last of them. What lay behind
+ * that step stays, as another future.
+ */
+async function happen(...more) {
+  const cut = linesUpTo(now);
+  const behind = lines().slice(cut).filter(isEvent);
+  if (more.every((event, index) => behind[index] === event)) {
+    show(now + more.length);
+    return;
+  }
+  const next = lines().slice(0, cut).concat(more);
+  const to = now + more.length;
+  if (behind.length > 0) {
+    futures.push({ lines: next, at: now });
+    current = futures.length - 1;
+  } else {
+    futures[current] = { ...futures[current], lines: next };
+  }
+  await playAll(to);
+}
+
+/** Begins anew with these events. */
+async function startWith(of, at = 0) {
+  futures = [{ lines: of, at: 0 }];
+  current = 0;
+  return playAll(at);
+}
+
+/** Asks for events that go on from the step that is shown, and makes them happen. */
+async function lead(words) {
+  const given = { ...files(), [EVENTS]: asText(lines().slice(0, linesUpTo(now))) };
+  const done = await ftmpi(["catch-up", ...words, "--ranks", String(ranks()), PROGRAM, EVENTS], given);
+  if (done.status !== 0) {
+    element("busy").textContent = done.err.trim();
+    return;
+  }
+  const more = events(done.out);
+  if (more.length > 0) {
+    await happen(...more);
+  } else {
+    element("busy").textContent = "nothing is to be done";
+  }
+}
+
+// ---- which events may happen at a step (docs/WORLDS.md): from the members of the world's objects
+
+/**
+ * The events that aren't refused at a step, by rank: each with its text, what it is about, and
+ * whether it is `again`: of a frame that has arrived before.
+ */
+function nextEvents(step) {
+  const frames = framesAt(step);
+  return world.steps[step].ranks.map((rank, number) => {
+    if (rank.phase === "down") {
+      return [{ text: `restart ${number}`, about: rank.image ? "from its image" : "from the beginning" }];
+    }
+    const found = [];
+    const put = (text, about, more = {}) => found.push({ text, about, ...more });
+    put(`step ${number}`, wantsWords(rank.wants));
+    for (const it of rank.next) {
+      put(`put ${number} ${it.destination}`, nextWords(it));
+    }
+    if (rank.phase === "running") {
+      putGate(put, number, rank.waiting);
+    }
+    for (const frame of frames.filter((it) => it.destination === number)) {
+      put(`arrive ${frame.source} ${number} ${frame.index}`, frameWords(frame), { again: frame.arrivals.length > 0 });
+    }
+    put(`crash ${number}`, "loses all but row and image", { harms: true });
+    return found;
+  });
+}
+
+/** What may happen at the gate of a rank that doesn't replay. */
+function putGate(put, number, waiting) {
+  const isEffect = (it) => it.stored === undefined;
+  const [first] = waiting;
+  // an event behind a send or a line isn't stored before that is released
+  const effect = waiting.findIndex(isEffect);
+  const unstored = waiting.slice(0, effect < 0 ? waiting.length : effect).find((it) => it.stored === false);
+  if (unstored) {
+    put(`store ${number}`, determinantWords(unstored));
+  }
+  if (first && first.stored === true) {
+    put(`ack ${number}`, determinantWords(first));
+  }
+  if (first && isEffect(first)) {
+    put(`release ${number}`, determinantWords(first));
+  }
+  if (!first) {
+    put(`image ${number}`, "puts all it knows on its shelf");
+  }
+}
+
+// So many frames that haven't arrived have a button; all others are in a list.
+const MOST_BUTTONS = 6;
+
+function showActs() {
+  element("hint").hidden = !world || world.events.length > 0 || document.body.classList.contains("stale");
+  const focused = document.activeElement && document.activeElement.dataset ? document.activeElement.dataset.event : undefined;
+  const isStale = document.body.classList.contains("stale");
+  for (const id of ["to-end", "catch-up", "explore", "judge", "canonical", "to-c"]) {
+    element(id).disabled = isStale;
+  }
+  if (isStale || !world) {
+    element("acts").replaceChildren(make("p", { class: "empty" }, "The program has a fault: mend it to go on. What stands below is the last one without."));
+    return;
+  }
+  element("acts").replaceChildren(...nextEvents(now).map((found, number) => rowOf(found, number)));
+  const again = focused && element("acts").querySelector(`[data-event="${focused}"]`);
+  if (again) {
+    again.focus({ preventScroll: true });
+  }
+}
+
+function rowOf(found, number) {
+  const { phase } = world.steps[now].ranks[number];
+  const fresh = found.filter((it) => it.text.startsWith("arrive ") && !it.again).slice(0, MOST_BUTTONS);
+  const shown = found.filter((it) => !it.text.startsWith("arrive ") || fresh.includes(it));
+  const rest = found.filter((it) => !shown.includes(it));
+  const row = make("div", { class: "row", role: "group", "aria-label": `Rank ${number}` },
+    make("h3", {}, `Rank ${number}`, make("small", {}, phase)), ...shown.map(buttonOf));
+  if (rest.length > 0) {
+    const list = make("select", { "aria-label": `More frames for rank ${number}` },
+      ...rest.reverse().map((it) => make("option", { value: it.text }, `${it.text}: ${it.about}${it.again ? " (again)" : ""}`)));
+    const arrive = make("button", { type: "button" }, "arrives");
+    arrive.addEventListener("click", () => happen(list.value));
+    row.append(make("span", { class: "later" }, list, arrive));
+  }
+  return row;
+}
+
+function buttonOf({ text, about, harms }) {
+  const button = make("button", { type: "button", "data-event": text, ...(harms ? { class: "harm" } : {}) },
+    make("code", {}, text), make("small", {}, about));
+  button.addEventListener("click", () => happen(text));
+  return button;
+}
+
+function showFutures() {
+  const several = futures.length > 1;
+  element("futures").replaceChildren(...(several ? futures : []).map((one, index) => {
+    const parted = index === 0 ? "" : `, parted behind step ${one.at}`;
+    const button = make("button", { type: "button", ...(index === current ? { "aria-current": "true" } : {}) },
+      `Future ${index + 1}: ${counted(countOf(one.lines), "event")}${parted}`);
+    button.addEventListener("click", () => {
+      current = index;
+      playAll(Math.min(now, countOf(one.lines)));
+    });
+    return button;
+  }));
+}
+
+// ---- the editor
+
+/** Where the fault is that `ftmpi explain` prints: its line, and the part of it that is marked, if one is. */
+function placeOf(explained) {
+  const [first, shown, mark] = explained.split("\n");
+  const line = /^line (\d+): /.exec(first);
+  if (!line) {
+    return null;
+  }
+  const number = Number(line[1]);
+  const text = source().split("\n")[number - 1] || "";
+  const part = (shown || "").slice(2);
+  const begin = part.length === text.length ? 0 : text.indexOf(part.replace(/^\.\.|\.\.$/g, ""));
+  const isMarked = /^ *\^+$/.test(mark || "") && begin >= 0;
+  const from = begin + (mark || "").indexOf("^") - 2;
+  return { number, part: isMarked ? [from, from + mark.trim().length] : null };
+}
+
+/** Says what is wrong with the program, as `ftmpi explain` does, and marks the place. Empty: nothing. */
+function sayFault(explained) {
+  element("explained").hidden = explained === "";
+  element("explained").textContent = explained.trimEnd();
+  element("source").setAttribute("aria-invalid", String(explained !== ""));
+  showSheet(explained === "" ? null : placeOf(explained));
+}
+
+// What was found to race, by line, is marked in the margin.
+let raced = new Set();
+
+/** The line numbers, and behind the text a mark where a fault is. */
+function showSheet(fault) {
+  const text = source().split("\n");
+  element("gutter").replaceChildren(...text.flatMap((_, index) => {
+    const kind = fault && fault.number === index + 1 ? "bad" : raced.has(index + 1) ? "raced" : "";
+    return [make("span", kind ? { class: kind } : {}, String(index + 1)), "\n"];
+  }), "\n\n");
+  const back = text.flatMap((line, index) => {
+    if (!fault || fault.number !== index + 1) {
+      return [`${line}\n`];
+    }
+    const [from, to] = fault.part || [0, line.length];
+    return [line.slice(0, from), make("mark", { id: "fault-place" }, line.slice(from, to) || " "), `${line.slice(to)}\n`];
+  });
+  element("backdrop").replaceChildren(...back);
+  scrollSheet();
+}
+
+function scrollSheet() {
+  const { scrollTop, scrollLeft } = element("source");
+  element("gutter").scrollTop = scrollTop;
+  element("backdrop").scrollTop = scrollTop;
+  element("backdrop").scrollLeft = scrollLeft;
+}
+
+async function explain() {
+  const { status, out, err } = await ftmpi(["explain", "--ranks", String(ranks()), "--events", EVENTS, PROGRAM]);
+  sayFault(status === 0 ? "" : out || err);
+}
+
+let typing;
+
+/** Plays a changed program, when its reader pauses. Its events stay if none is refused by it that wasn't. */
+function typed() {
+  raced = new Set();
+  if (source() !== (choices.get(element("choice").value) || {}).source) {
+    called = "Your program";
+    element("choice").value = "";
+    element("about").replaceChildren();
+  }
+  showSheet(null);
+  clearTimeout(typing);
+  typing = setTimeout(async () => {
+    const refused = () => (world ? world.events.filter((it) => it.reply === "refused").length : 0);
+    const before = refused();
+    futures = [futures[current]];
+    current = 0;
+    if (await playAll(Math.min(now, countOf(lines()))) && refused() > before) {
+      await startWith([]);
+    }
+  }, 250);
+}
+
+/** Puts a text into the editor, so that it can be undone there. */
+function write(text) {
+  element("source").focus();
+  element("source").select();
+  if (!document.execCommand("insertText", false, text)) {
+    element("source").value = text;
+    typed();
+  }
+}
+
+// ---- answers: all outcomes, judge, C, events
+
+/** Shows an answer below the editor. */
+function answer(title, ...parts) {
+  const close = make("button", { type: "button", "aria-label": "Close" }, "Close");
+  close.addEventListener("click", () => { element("answer").hidden = true; });
+  element("answer").hidden = false;
+  element("answer").replaceChildren(make("div", { class: "bar" }, make("h2", {}, title), close), ...parts);
+  element("answer").scrollIntoView({ block: "nearest" });
+}
+
+function copyButton(text) {
+  const button = make("button", { type: "button" }, "Copy");
+  button.addEventListener("click", () => copy(text(), button));
+  return button;
+}
+
+async function copy(text, button) {
+  const said = button.textContent;
+  try {
+    await navigator.clipboard.writeText(text);
+    button.textContent = "Copied";
+  } catch {
+    button.textContent = "Not allowed here: select and copy it";
+  }
+  setTimeout(() => { button.textContent = said; }, 2000);
+}
+
+const ALL = "Proved: a complete search has every outcome of the program, and no other; and whatever crashes, the ranks "
+  + "print a part of one of these.";
+const NOT_ALL = "There may be other outcomes: the search stopped before it had looked at all.";
+
+/** A line for each receive or probe that had several answers. */
+function raceWords({ rank, line, probe, sources, miss }) {
+  const from = sources.length > 1 ? `${sources.slice(0, -1).join(", ")} or ${sources[sources.length - 1]}` : sources.join("");
+  return `rank ${rank} at line ${line} ${probe ? "finds one from" : "takes from"} ${from}${miss ? ", or none" : ""}`;
+}
+
+const endWords = ({ end, fault, name: of }) => (fault === undefined ? end : `${end} ${fault} ${of}`);
+
+/** Looks for all outcomes in a worker of its own, which can be stopped. */
+async function explore() {
+  const [program, count] = [source(), String(ranks())];
+  const progress = make("p", { id: "progress", role: "status" }, "looking at runs ..");
+  const stop = make("button", { type: "button", id: "stop" }, "Stop");
+  // (a line comes in pieces)
+  let [looked, begun] = ["", ""];
+  const search = new Engine((heard) => {
+    begun += heard;
+    const whole = begun.split("\n");
+    begun = whole.pop();
+    looked = whole.pop() || looked;
+    progress.textContent = `${looked || "looking at runs"} ..`;
+  });
+  const stopped = new Promise((then) => {
+    stop.addEventListener("click", () => { search.stop(); then(null); });
+  });
+  answer("All outcomes", make("div", { class: "bar" }, stop, progress));
+  const began = performance.now();
+  const done = await Promise.race([search.call(["explore", "--json", "--ranks", count, PROGRAM], { [PROGRAM]: program }), stopped]);
+  search.stop();
+  const took = `${((performance.now() - began) / 1000).toFixed(1)} s`;
+  if (!done) {
+    answer("All outcomes", make("p", { id: "explored", "data-complete": "stopped" }, `Stopped after ${took}${looked ? `: ${looked}` : ""}. ${NOT_ALL}`));
+  } else if (done.out === "") {
+    answer("All outcomes", make("p", { id: "explored", class: "no" }, done.err));
+  } else {
+    showOutcomes(JSON.parse(done.out), program, count, took);
+  }
+}
+
+function showOutcomes(found, program, count, took) {
+  const head = make("tr", {}, ...["Outcome", ...found.outcomes[0].ranks.map((it) => `Rank ${it.rank}`), ""].map((it) => make("th", { scope: "col" }, it)));
+  const rows = found.outcomes.map((one) => {
+    const button = make("button", { type: "button", "data-outcome": String(one.outcome) }, "Open as a world");
+    button.addEventListener("click", () => openOutcome(one.outcome, program, count));
+    return make("tr", {}, make("th", { scope: "row" }, String(one.outcome)),
+      ...one.ranks.map((it) => make("td", {}, make("code", {}, it.lines.join(" ")), it.lines.length ? ", " : "", endWords(it))), make("td", {}, button));
+  });
+  raced = new Set(source() === program ? found.races.map((it) => it.line) : []);
+  showSheet(null);
+  answer(`All outcomes: ${found.outcomes.length}${found.complete ? "" : " so far"}`,
+    make("p", { id: "explored", "data-complete": String(found.complete) },
+      `${found.complete ? "complete" : "stopped"}: ${counted(found.runs, "run")} looked at in ${took}. ${found.complete ? ALL : NOT_ALL}`),
+    make("p", { id: "races" }, found.races.length === 0 ? "No receive and no probe had several answers." : "Races: ",
+      ...found.races.flatMap((it, index) => [index > 0 ? "; " : "", make("span", {}, raceWords(it))])),
+    make("div", { class: "wide-table" }, make("table", { id: "outcomes" }, make("thead", {}, head), make("tbody", {}, ...rows))));
+}
+
+/** Opens a run of an outcome as a world. */
+async function openOutcome(outcome, program, count) {
+  if (source() !== program || String(ranks()) !== count) {
+    element("busy").textContent = "the program isn't the one whose outcomes these are";
+    return;
+  }
+  const done = await ftmpi(["explore", "--events", String(outcome), "--ranks", count, PROGRAM]);
+  if (done.out === "") {
+    element("busy").textContent = done.err.trim();
+    return;
+  }
+  const opened = events(done.out);
+  if (countOf(lines()) > 0) {
+    futures.push({ lines: opened, at: 0 });
+    current = futures.length - 1;
+    await playAll(opened.length);
+  } else {
+    await startWith(opened, opened.length);
+  }
+}
+
+/** What the ranks did up to the step that is shown, in the form of an outcome. */
+function outcomeOf(step) {
+  const after = world.steps[step].ranks;
+  return after.flatMap((rank, number) => {
+    // (of an act that was made several times the last one counts; what was lost isn't there)
+    const acts = new Map();
+    for (const act of world.steps.slice(0, step + 1).flatMap((it) => it.acts)) {
+      if (act.rank === number && act.clock <= Math.max(rank.clock || 0, rank.passed)) {
+        acts.set(act.clock, act);
+      }
+    }
+    const said = [...acts.values()].sort((one, other) => one.clock - other.clock).flatMap((act) => outcomeLine(act));
+    const { kind, number: fault } = rank.wants || {};
+    const end = kind === "halted" ? "halted" : kind === "fault" ? `fault ${fault}` : "unfinished";
+    return [...said, `end ${number} ${end}`];
+  });
+}
+
+function outcomeLine({ rank, clock, kind, value, determinant }) {
+  if (kind === "print") {
+    return [`print ${rank} at ${clock} ${value}`];
+  }
+  if (!determinant || kind === "send") {
+    return [];
+  }
+  const { kind: of, source: from, sent_at: sent } = determinant;
+  return [of.startsWith("miss") ? `miss ${rank} at ${clock}` : `${of === "hit" ? "hit" : "recv"} ${rank} at ${clock} from ${from} at ${sent}`];
+}
+
+function askOutcome() {
+  const text = make("textarea", { id: "outcome", rows: "6", spellcheck: "false", "aria-label": "Outcome" });
+  text.value = asText(outcomeOf(now));
+  const ask = make("button", { type: "button", id: "ask", class: "main" }, "Judge it");
+  const said = make("div", { id: "judged", role: "status" });
+  ask.addEventListener("click", async () => {
+    const done = await ftmpi(["judge", "--trace", "--ranks", String(ranks()), PROGRAM, OUTCOME], { ...files(), [OUTCOME]: text.value });
+    said.replaceChildren(...judgement(done));
+  });
+  answer("Judge an outcome", make("p", {}, "Does some run without crashes have this outcome? These are the receptions, probes, lines and "
+    + "ends of the world at the step that is shown. Change a number, and judge that."), text, make("div", { class: "bar" }, ask), said);
+}
+
+/** What `ftmpi judge --trace` says: yes with a run, or no with the place. */
+function judgement({ out, err }) {
+  const [word, ...rest] = (out || err).trimEnd().split("\n");
+  return [make("p", { id: "verdict", class: word === "yes" ? "yes" : "no" }, word), make("pre", {}, rest.join("\n"))];
+}
+
+async function showC() {
+  const { out, err } = await ftmpi(["c", PROGRAM]);
+  const text = make("pre", { class: "code", id: "c-text", tabindex: "0" }, out || err);
+  answer("The program in C", make("div", { class: "bar" }, copyButton(() => out)), text);
+}
+
+function showEventsText() {
+  const text = make("textarea", { id: "events-text", rows: "10", spellcheck: "false", "aria-label": "Events" });
+  text.value = asText(lines());
+  const again = make("button", { type: "button", class: "main" }, "Play these");
+  again.addEventListener("click", () => startWith(text.value.replace(/\n+$/, "").split("\n")));
+  answer("Events", make("div", { class: "bar" }, again, copyButton(() => text.value)), text);
+}
+
+async function canonical() {
+  const { status, out } = await ftmpi(["check", PROGRAM]);
+  if (status === 0) {
+    write(out);
+  }
+}
+
+// ---- the address and the storage: both hold the experiment
+
+const KEY = "ftmpi laboratory";
+// A longer address isn't carried by all that carry addresses.
+const LONGEST = 8000;
+
+async function streamed(bytes, through) {
+  return new Uint8Array(await new Response(new Blob([bytes]).stream().pipeThrough(through)).arrayBuffer());
+}
+
+/** A text as a part of an address: deflated, in base64 of the kind that addresses may have. */
+async function packed(text) {
+  const bytes = await streamed(new TextEncoder().encode(text), new CompressionStream("deflate-raw"));
+  return btoa(String.fromCharCode(...bytes)).replaceAll("+", "-").replaceAll("/", "_").replaceAll("=", "");
+}
+
+async function unpacked(part) {
+  const bytes = Uint8Array.from(atob(part.replaceAll("-", "+").replaceAll("_", "/")), (it) => it.charCodeAt(0));
+  return new TextDecoder().decode(await streamed(bytes, new DecompressionStream("deflate-raw")));
+}
+
+async function keep() {
+  const text = JSON.stringify({ source: source(), ranks: ranks(), lines: lines(), called });
+  const part = await packed(text);
+  const isLong = part.length > LONGEST;
+  experiment = isLong ? "" : `;${part}`;
+  element("link").disabled = isLong;
+  history.replaceState(null, "", `#${now}${experiment}`);
+  try {
+    localStorage.setItem(KEY, text);
+  } catch {
+    // (a page from disk may have no storage)
+  }
+}
+
+/** The experiment in the address, or else the one that was kept; or none. */
+async function kept() {
+  const part = location.hash.split(";")[1];
+  try {
+    const text = part ? await unpacked(part) : localStorage.getItem(KEY);
+    const it = JSON.parse(text);
+    return typeof it.source === "string" && Array.isArray(it.lines) ? it : null;
+  } catch {
+    return null;
+  }
+}
+
+async function restore() {
+  const it = await kept();
+  if (!it) {
+    return false;
+  }
+  const at = stepInAddress();
+  [called, element("source").value, element("count").value] = [String(it.called), it.source, String(it.ranks)];
+  element("about").replaceChildren();
+  await startWith(it.lines.map(String), at);
+  return true;
+}
+
+// ---- what there is to choose from
+
+// The choices by the value of their options: each opens an experiment.
+const choices = new Map();
+
+function listChoices() {
+  const list = element("choice");
+  const group = (label, items) => {
+    const box = make("optgroup", { label });
+    for (const { value, words, experiment: it } of items) {
+      choices.set(value, it);
+      box.append(make("option", { value }, words));
+    }
+    list.append(box);
+  };
+  list.append(make("option", { value: "" }, "your own program"));
+  group("Lessons", stored.lessons.map((it, index) => ({
+    value: `lesson ${index}`, words: it.title,
+    experiment: { name: it.title, source: it.program, ranks: it.ranks, lines: it.events.trimEnd().split("\n"), about: it.about },
+  })));
+  for (const of of new Set(stored.programs.map((it) => it.group))) {
+    group(of === "The manual" ? of : `Programs: ${of.toLowerCase()}`, stored.programs.filter((it) => it.group === of).map((it) => ({
+      value: it.name, words: it.about ? `${nameOf(it.name)}: ${it.about}` : nameOf(it.name),
+      experiment: { name: nameOf(it.name), source: it.text, ranks: it.ranks, lines: [], about: it.about },
+    })));
+  }
+  group("Worlds of the examples", stored.worlds.map((it) => ({
+    value: it.name, words: `${nameOf(it.name)}: ${it.about}`,
+    experiment: { name: nameOf(it.name), source: it.program, ranks: it.ranks, lines: it.events.trimEnd().split("\n"), about: it.about },
+  })));
+}
+
+const nameOf = (path) => path.split("/").pop();
+
+/** Opens a lesson, a program or a world. */
+async function choose(value) {
+  const it = choices.get(value) || { name: "Your program", source: "# on each rank, this prints its number\nprint rank\n", ranks: 2, lines: [], about: "" };
+  [called, element("source").value, element("count").value] = [it.name, it.source, String(it.ranks)];
+  const parts = it.about.split(/\n\n+/).filter(Boolean).map((part) => make("p", {}, part.replace(/\n/g, " ").replaceAll("`", "")));
+  element("choice").value = choices.has(value) ? value : "";
+  element("about").replaceChildren(...parts);
+  if (it.lines.length > 0) {
+    element("about").append(make("p", {}, "Go on by the right arrow key, or make something else happen."));
+  }
+  element("answer").hidden = true;
+  raced = new Set();
+  return startWith(it.lines);
+}
+
+async function beginLab() {
+  document.querySelector("header").after(element("lab"));
+  element("lab").hidden = false;
+  element("files").hidden = true;
+  element("origin").textContent = stored.origin;
+  listChoices();
+  const click = (id, does) => element(id).addEventListener("click", does);
+  element("choice").addEventListener("change", () => choose(element("choice").value));
+  element("count").addEventListener("change", typed);
+  element("source").addEventListener("input", typed);
+  element("source").addEventListener("scroll", scrollSheet);
+  click("to-end", () => lead(["--to-the-end"]));
+  click("catch-up", () => lead([]));
+  click("anew", () => startWith([]));
+  click("explore", explore);
+  click("judge", askOutcome);
+  click("canonical", canonical);
+  click("to-c", showC);
+  click("as-events", showEventsText);
+  click("link", () => copy(location.href, element("link")));
+  document.addEventListener("shown", showActs);
+  window.addEventListener("hashchange", () => {
+    const part = location.hash.split(";")[1];
+    if (part && `;${part}` !== experiment) {
+      restore();
+    }
+  });
+  // a file that is dropped is a program
+  document.addEventListener("drop", (event) => {
+    event.preventDefault();
+    event.stopImmediatePropagation();
+    document.body.classList.remove("dropping");
+    const [file] = event.dataTransfer.files;
+    if (file) {
+      file.text().then((text) => { called = file.name; write(text); });
+    }
+  }, true);
+  if (!await restore()) {
+    element("choice").value = "examples/answer.rank";
+    await choose("examples/answer.rank");
+  }
+}
+
+beginLab();
