@@ -233,7 +233,7 @@ function putGate(put, number, waiting) {
   }
 }
 
-// So many frames that haven't arrived have a button; all others are in a list.
+// So many frames that haven't arrived have a button; the newest of all others are in a list.
 const MOST_BUTTONS = 6;
 
 function showActs() {
@@ -263,7 +263,7 @@ function rowOf(found, number) {
     make("h3", {}, `Rank ${number}`, make("small", {}, phase)), ...shown.map(buttonOf));
   if (rest.length > 0) {
     const list = make("select", { "aria-label": `More frames for rank ${number}` },
-      ...rest.reverse().map((it) => make("option", { value: it.text }, `${it.text}: ${it.about}${it.again ? " (again)" : ""}`)));
+      ...rest.reverse().slice(0, MOST_FRAMES).map((it) => make("option", { value: it.text }, `${it.text}: ${it.about}${it.again ? " (again)" : ""}`)));
     const arrive = make("button", { type: "button" }, "arrives");
     arrive.addEventListener("click", () => happen(list.value));
     row.append(make("span", { class: "later" }, list, arrive));
@@ -656,11 +656,26 @@ function listChoices() {
 
 const nameOf = (path) => path.split("/").pop();
 
+// What stands between `, * or ** in a sentence, and the element that shows it.
+const MARKED = /`([^`]+)`|\*\*([^*]+)\*\*|\*([^*]+)\*/g;
+
+/** A paragraph of a lesson, with its words in bold, italics and code. */
+function paragraph(text) {
+  const [words, parts] = [text.replace(/\n/g, " "), []];
+  let from = 0;
+  for (const found of words.matchAll(MARKED)) {
+    const [code, bold, slanted] = found.slice(1);
+    parts.push(words.slice(from, found.index), code ? make("code", {}, code) : bold ? make("b", {}, bold) : make("i", {}, slanted));
+    from = found.index + found[0].length;
+  }
+  return make("p", {}, ...parts, words.slice(from));
+}
+
 /** Opens a lesson, a program or a world. */
 async function choose(value) {
   const it = choices.get(value) || { name: "Your program", source: "# on each rank, this prints its number\nprint rank\n", ranks: 2, lines: [], about: "" };
   [called, element("source").value, element("count").value] = [it.name, it.source, String(it.ranks)];
-  const parts = it.about.split(/\n\n+/).filter(Boolean).map((part) => make("p", {}, part.replace(/\n/g, " ").replaceAll("`", "")));
+  const parts = it.about.split(/\n\n+/).filter(Boolean).map(paragraph);
   element("choice").value = choices.has(value) ? value : "";
   element("about").replaceChildren(...parts);
   if (it.lines.length > 0) {
