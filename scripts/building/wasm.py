@@ -11,7 +11,8 @@ import os
 import re
 import shutil
 
-from .files import NotMade, kit_folder, text_of, write
+from .files import NotMade, kit_folder
+from .making import TARGET as NATIVE
 from .making import NoModule, module_of, run
 from .sources import Sources
 
@@ -40,7 +41,7 @@ def engine(sources: Sources, folder: str) -> str:
     text, made, archive, wide, narrow = (f"{folder}/engine.{it}" for it in ("ll", "o", "a", "wide.wasm", "wasm"))
     clang, link = f"{kit}/bin/clang", f"{kit_folder()}/bin/rattle-link"
     os.symlink(clang, f"{folder}/llvm-ar")  # (it looks at the name by which it is called)
-    command([clang, f"--target=x86_64-unknown-linux-gnu", "-S", "-emit-llvm", "-Xclang", "-disable-llvm-passes", "-x", "ir", module, "-o", text], folder)
+    command([clang, f"--target={NATIVE}", "-S", "-emit-llvm", "-Xclang", "-disable-llvm-passes", "-x", "ir", module, "-o", text], folder)
     with open(text, encoding="latin-1") as file:
         retargeted = for_wasm(file.read())
     with open(text, "w", encoding="latin-1") as file:

@@ -238,7 +238,9 @@ const MOST_BUTTONS = 6;
 
 function showActs() {
   element("hint").hidden = !world || world.events.length > 0 || document.body.classList.contains("stale");
-  const focused = document.activeElement && document.activeElement.dataset ? document.activeElement.dataset.event : undefined;
+  const { activeElement: active } = document;
+  const [focused, row] = [active.dataset.event, active.closest(".row")];
+  const place = [...element("acts").children].indexOf(row);
   const isStale = document.body.classList.contains("stale");
   for (const id of ["to-end", "catch-up", "explore", "judge", "canonical", "to-c"]) {
     element(id).disabled = isStale;
@@ -248,9 +250,10 @@ function showActs() {
     return;
   }
   element("acts").replaceChildren(...nextEvents(now).map((found, number) => rowOf(found, number)));
-  const again = focused && element("acts").querySelector(`[data-event="${focused}"]`);
-  if (again) {
-    again.focus({ preventScroll: true });
+  // (the focus stays at its event, or else at its rank)
+  if (place >= 0) {
+    const again = element("acts").querySelector(`[data-event="${focused}"]`);
+    (again || element("acts").children[place].querySelector("button")).focus({ preventScroll: true });
   }
 }
 
@@ -456,12 +459,12 @@ async function explore() {
 }
 
 function showOutcomes(found, program, count, took) {
-  const head = make("tr", {}, ...["Outcome", ...found.outcomes[0].ranks.map((it) => `Rank ${it.rank}`), ""].map((it) => make("th", { scope: "col" }, it)));
+  const head = make("tr", {}, ...["Outcome", "", ...found.outcomes[0].ranks.map((it) => `Rank ${it.rank}`)].map((it) => make("th", { scope: "col" }, it)));
   const rows = found.outcomes.map((one) => {
-    const button = make("button", { type: "button", "data-outcome": String(one.outcome) }, "Open as a world");
+    const button = make("button", { type: "button", "data-outcome": String(one.outcome), title: "Open as a world" }, "Open");
     button.addEventListener("click", () => openOutcome(one.outcome, program, count));
-    return make("tr", {}, make("th", { scope: "row" }, String(one.outcome)),
-      ...one.ranks.map((it) => make("td", {}, make("code", {}, it.lines.join(" ")), it.lines.length ? ", " : "", endWords(it))), make("td", {}, button));
+    return make("tr", {}, make("th", { scope: "row" }, String(one.outcome)), make("td", {}, button),
+      ...one.ranks.map((it) => make("td", {}, make("code", {}, it.lines.join(" ")), it.lines.length ? ", " : "", endWords(it))));
   });
   raced = new Set(source() === program ? found.races.map((it) => it.line) : []);
   showSheet(null);
@@ -689,6 +692,8 @@ async function choose(value) {
 async function beginLab() {
   document.querySelector("header").after(element("lab"));
   element("lab").hidden = false;
+  // the diagram stands above what may happen next
+  element("acts-head").before(element("diagram").closest("section"));
   element("files").hidden = true;
   element("origin").textContent = stored.origin;
   listChoices();
