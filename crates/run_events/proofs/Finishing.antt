@@ -1,5 +1,5 @@
 -- If all orders of a program's ranks come to an end that was found, so does each world of it.
-use Rattle.std.proofs.Common.{◌≡◌, ℕ, List, [], ◌∷◌, subst}
+use Rattle.std.proofs.Common.{ℕ, List, subst}
 use Rattle.rank_language.specs.Program.{ProgramValue}
 use Rattle.rank_machine.specs.States as states
 use Rattle.rank_machine.specs.States.{State}
@@ -11,7 +11,7 @@ use Rattle.explore.proofs.Ending.{along}
 use Rattle.world_model.specs.World.{WorldValue, size, start_of}
 use Rattle.world_model.specs.Headline.{StandsFor}
 use Rattle.world_model.specs.ToTheEnd.{AllEnd, ends, on, ComesToTheEnd, CanEnd}
-use Rattle.run_events.specs.Finishing.{CanFinish, FinishesAmong}
+use Rattle.run_events.specs.Finishing.{FinishesAmong}
 
 -- if each way on comes to an end that is found, each comes to an end
 all_end : (start : ℕ → State) (n : ℕ) (found : List RankOutcome → Type 0) (C : List Passed) → AlwaysEndsIn start n found C → AllEnd start n C

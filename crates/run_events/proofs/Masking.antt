@@ -11,7 +11,7 @@ use Rattle.crash_free.specs.Parts.{IsBeginning, IsPartOf}
 use Rattle.crash_free.specs.Sim.{start_of}
 use Rattle.crash_free.proofs.Reorder.{IsBeginning-trans, history_grows}
 use Rattle.audit.specs.Outcome.{OutcomeValue, lines_of}
-use Rattle.audit.specs.FinalRuns.Final.{IsFinal, NoneIsUnfinished, seen_of}
+use Rattle.audit.specs.FinalRuns.Final.{IsFinal, seen_of}
 use Rattle.audit.specs.FinalRuns.Maximal.{RankOutcome, IsOutcomeOf}
 use Rattle.audit.proofs.FinalRunsLaws.Ending.{final_is_possible}
 use Rattle.audit.proofs.Growing.{prints_grow}
@@ -20,7 +20,7 @@ use Rattle.explore.specs.Outcomes.{IsAmong}
 use Rattle.explore.proofs.Ending.{along, none_missing}
 use Rattle.world_model.specs.World.{WorldValue, size}
 use Rattle.world_model.specs.Headline.{StandsFor}
-use Rattle.run_events.specs.Masking.{values_of, PrintsPartOf, ArePrintedIn, EndsAmong, MasksCrashes, IsMasked}
+use Rattle.run_events.specs.Masking.{values_of, ArePrintedIn, EndsAmong, MasksCrashes, IsMasked}
 
 -- a run that a run is part of, and that has an outcome which was found
 record EndsIn (start : ℕ → State) (n : ℕ) (found : List RankOutcome → Type 0) (C : List Passed) : Type 0 where

@@ -8,7 +8,7 @@ use Rattle.rank_language.specs.Program.{ProgramValue}
 use Rattle.crash_free.specs.Parts.{IsBeginning}
 use Rattle.crash_free.specs.Sim.{start_of}
 use Rattle.audit.specs.Outcome.{OutcomeValue, lines_of}
-use Rattle.audit.specs.FinalRuns.Final.{IsFinal, NoneIsUnfinished, seen_of}
+use Rattle.audit.specs.FinalRuns.Final.{NoneIsUnfinished, seen_of}
 use Rattle.audit.specs.FinalRuns.Maximal.{RankOutcome}
 use Rattle.explore.specs.Exploring.{AlwaysEndsIn}
 use Rattle.explore.specs.Outcomes.{IsAmong}
