@@ -1,5 +1,9 @@
 mod Finishing
 mod Masking
+mod NoDomino
+mod NoOrphan
+mod Replaying
+mod Halting
 mod Planning
 mod Played
 mod WithScript

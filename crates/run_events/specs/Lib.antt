@@ -1,6 +1,10 @@
 pub mod Planned
 pub mod Finishing
 pub mod Masking
+pub mod NoDomino
+pub mod NoOrphan
+pub mod Replaying
+pub mod Halting
 pub mod Fault
 pub mod Plays
 pub mod Scripted

@@ -3,9 +3,11 @@
 ghost use Rattle.std.specs.Prelude.{ℕ, List};
 ghost use Rattle.rank_language.specs.Program.{ProgramValue};
 ghost use Rattle.audit.specs.Outcome.{OutcomeValue};
-ghost use Rattle.audit.specs.FinalRuns.Final.{IsFinal};
+ghost use Rattle.audit.specs.FinalRuns.Final.{IsFinal, NoneIsUnfinished};
 ghost use Rattle.audit.specs.FinalRuns.Maximal.{RankOutcome};
+ghost use Rattle.explore.specs.Outcomes.{AreAll};
 ghost use Rattle.run_events.specs.Finishing.{FinishesAmong};
+ghost use Rattle.run_events.specs.Halting.{AllHalt, HaveHalted};
 ghost use Rattle.run_events.specs.Masking.{EndsAmong, IsMasked, MasksCrashes};
 
 use world_model::World;
@@ -39,4 +41,15 @@ pub fn law_masks_crashes(world: &World<'_>)
 pub fn law_masks_reports()
     ensures { (program : ProgramValue) (n : ℕ) (outcomes : List (List RankOutcome)) (o : OutcomeValue) → EndsAmong program n outcomes
         → IsFinal program n o → IsMasked outcomes n o }
+{}
+
+/// A law, for proofs alone: if a search is complete, as `explore` has it in its
+/// clause `complete`, and in each outcome that it found all ranks halted, then
+/// in each outcome that `audit` confirms as final, as the outcome of each report
+/// is, and that has no unfinished rank, all ranks halted: none stalled, as in a
+/// deadlock, and none faulted.
+#[tactic(auto, using(crate::proofs::Halting::all_halted))]
+pub fn law_all_halt()
+    ensures { (program : ProgramValue) (n : ℕ) (outcomes : List (List RankOutcome)) (o : OutcomeValue) → AreAll program n outcomes
+        → AllHalt outcomes → IsFinal program n o → NoneIsUnfinished o.ends → HaveHalted o.ends }
 {}

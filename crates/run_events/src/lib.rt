@@ -14,6 +14,7 @@ mod order;
 mod plan;
 mod planned;
 mod playing;
+pub mod recovery_laws;
 mod reviving;
 mod scripted;
 mod text;
