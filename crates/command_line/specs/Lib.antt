@@ -1,3 +1,4 @@
 pub mod Words
 pub mod Commands
 pub mod Jobs
+pub mod Requests

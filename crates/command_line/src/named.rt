@@ -1,6 +1,7 @@
 //! The job that words name.
-ghost use Rattle.std.specs.Prelude.{◌≡◌, IfOk, IfSome, codes};
+ghost use Rattle.std.specs.Prelude.{◌≡◌, IfErr, IfOk, IfSome, codes};
 ghost use Rattle.command_line.specs.Jobs.{IsJobBy, IsJobOf};
+ghost use Rattle.command_line.specs.Requests.{IsAsked};
 ghost use Rattle.command_line.specs.Words.{texts};
 
 mod checks;
@@ -30,11 +31,12 @@ use std::alloc::Global;
 /// Whether they are of the program's forms is what `clap` says, and it has the
 /// texts of helps and mistakes.
 pub fn job_of<'a>(alloc: Global, words: &'a [String]) -> Result<Job<'a>, NoJob>
-    ensures { IfOk result (λ job. IsJobOf (texts words.entry.now) job) }
+    ensures named { IfOk result (λ job. IsJobOf (texts words.entry.now) job) }
+    ensures asked { IfErr result (λ no_job. IsAsked (texts words.entry.now) no_job) }
 {
     match parsed(alloc, words) {
         Ok(job) => Ok(job),
-        Err(error) => Err(NoJob::of(alloc, &error)),
+        Err(error) => Err(NoJob::of(alloc, words, &error)),
     }
 }
 

@@ -27,7 +27,8 @@ fn is_end(word: &str) -> bool
     word == "--"
 }
 
-fn behind_hyphen(word: &str) -> Option<&str>
+/// What stands behind a hyphen in front.
+pub fn behind_hyphen(word: &str) -> Option<&str>
     ensures { option_map (λ rest. rest.now) result ≡ behind_hyphen word.now }
 {
     word.strip_prefix('-')
