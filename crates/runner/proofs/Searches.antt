@@ -1,23 +1,53 @@
 -- How what is said of a search is an answer.
-use Rattle.std.proofs.Common.{◌≡◌, ◌≤◌, ℕ, true, List, subst, sym, ◌∙◌}
+use Rattle.std.proofs.Common.{◌≡◌, ◌≤◌, ◌⊎◌, ℕ, true, false, List, [], subst, sym, ◌∙◌}
+use Rattle.std.specs.Prelude.{IsTrue}
 use Rattle.command_line.specs.declared.exploring.ExploreForm.TheVariants as form
 use Rattle.command_line.specs.declared.exploring.ExploreJob.{ExploreJob}
+use Rattle.crash_free.specs.Sim.{start_of}
+use Rattle.explore.specs.Counting.{GoesBeyond}
 use Rattle.explore.specs.Explored.{ExploredValue}
+use Rattle.explore.specs.Exploring.{AlwaysEndsIn}
 use Rattle.explore.specs.Outcomes.{AreAll, AreDistinct, IsAmong}
+use Rattle.explore.specs.Small.{IsSmall}
+use Rattle.audit.specs.Outcome.{OutcomeValue}
+use Rattle.audit.specs.FinalRuns.Final.{IsFinal}
 use Rattle.audit.specs.FinalRuns.Maximal.{IsPossible, RankOutcome}
 use Rattle.rank_language.specs.Correct.{IsProgramOf}
 use Rattle.rank_language.specs.Program.{ProgramValue}
+use Rattle.runner.proofs.Crashes.{prints_only}
+use Rattle.run_events.specs.Masking.{EndsAmong, IsMasked}
+use Rattle.runner.specs.Crashes.{AreMasked}
 use Rattle.runner.specs.Events.{PlaysOutcome}
 use Rattle.runner.specs.OutcomesText.{IsMarkedObject, IsMarkedSummary, IsMarkedText}
 use Rattle.runner.specs.Searches.{HasSearchStatus, IsExploreAnswer, IsFoundBy, IsPrinted, IsSearchAnswer}
 
--- what a search found within the job's limits
-pub is_found_by : (program : ProgramValue) (job : ExploreJob) (found : ExploredValue)
+-- what a search found within limits that are the job's, where crashes add no outcome to those of a complete one
+pub is_found_by : (program : ProgramValue) (job : ExploreJob) (found : ExploredValue) (runs steps : ℕ) → runs ≡ job.runs → steps ≡ job.steps
+    → ((p : ProgramValue) (n : ℕ) (outcomes : List (List RankOutcome)) (o : OutcomeValue) → EndsAmong p n outcomes → IsFinal p n o
+    → IsMasked outcomes n o)
     → ((outcome : List RankOutcome) → IsAmong found.outcomes outcome → IsPossible program job.ranks outcome)
-    → (found.complete ≡ true → AreAll program job.ranks found.outcomes) → AreDistinct found.outcomes → found.runs ≤ job.runs
+    → (found.complete ≡ true → AreAll program job.ranks found.outcomes)
+    → (found.complete ≡ true → AlwaysEndsIn (start_of program job.ranks) job.ranks (IsAmong found.outcomes) [])
+    → (IsSmall program job.ranks runs steps → found.complete ≡ true)
+    → (found.complete ≡ false → (found.runs ≡ runs) ⊎ IsTrue found.out_of_steps)
+    → (found.out_of_steps ≡ true → GoesBeyond program job.ranks steps) → AreDistinct found.outcomes → found.runs ≤ runs
     → IsFoundBy program job found
-is_found_by program job found possible complete distinct few_runs =
-    record { possible = possible; complete = complete; distinct = distinct; few_runs = few_runs }
+is_found_by program job found runs steps these those law possible complete ends small stopped beyond distinct few_runs = record {
+  possible = possible;
+  complete = complete;
+  ends = ends;
+  masks = masks;
+  only = λ all outcome is. prints_only program job.ranks found.outcomes outcome (masks all) is;
+  small = subst (λ (r : ℕ). IsSmall program job.ranks r job.steps → found.complete ≡ true) these
+      (subst (λ (s : ℕ). IsSmall program job.ranks runs s → found.complete ≡ true) those small);
+  stopped = subst (λ (r : ℕ). found.complete ≡ false → (found.runs ≡ r) ⊎ IsTrue found.out_of_steps) these stopped;
+  beyond = subst (λ (s : ℕ). found.out_of_steps ≡ true → GoesBeyond program job.ranks s) those beyond;
+  distinct = distinct;
+  few_runs = subst (λ (r : ℕ). found.runs ≤ r) these few_runs;
+}
+  where
+    masks : found.complete ≡ true → AreMasked program job.ranks found.outcomes
+    masks all o final = law program job.ranks found.outcomes o (ends all) final
 
 -- the text of what was found is printed where it is asked for
 pub text_printed : (source : List ℕ) (program : ProgramValue) (job : ExploreJob) (found : ExploredValue) (out : List ℕ)

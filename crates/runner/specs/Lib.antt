@@ -12,6 +12,7 @@ pub mod Partings
 pub mod Meanings
 pub mod SearchObject
 pub mod OutcomesText
+pub mod Crashes
 pub mod Searches
 pub mod Judgments
 pub mod SoakText

@@ -80,10 +80,11 @@ abbrev pub marks_text : ℕ → List (Option Bool) → List ℕ
 marks_text number [] = []
 marks_text number (mark ∷ marks) = mark_text number mark ++ marks_text (number + 1) marks
 
--- the line that says that there is one outcome, if it is certain
+-- the lines that say that there is one outcome, if it is certain, and what crashes change then
 abbrev pub only_text : ExploredValue → List ℕ
 only_text found = if found.complete && (length found.outcomes == 1)
-    then codes "# one outcome: whatever the order, this program prints this\n" else []
+    then codes "# one outcome: whatever the order, this program prints this\n# whatever crashes, each rank prints this, or a beginning of it\n"
+    else []
 
 -- the line that says that the limit of steps was reached, if it was
 abbrev pub steps_text : ExploredValue → List ℕ

@@ -1,21 +1,35 @@
 -- What is answered to a search for all outcomes of a program (docs/FORMATS.md, "Standard output of
 -- `explore`").
-use Rattle.std.specs.Prelude.{◌≡◌, ◌≤◌, ◌↔◌, ℕ, true, List}
+use Rattle.std.specs.Prelude.{◌≡◌, ◌≤◌, ◌↔◌, ◌⊎◌, ℕ, true, false, IsTrue, List, [], ◌∷◌}
 use Rattle.command_line.specs.declared.exploring.ExploreForm.TheVariants as form
 use Rattle.command_line.specs.declared.exploring.ExploreJob.{ExploreJob}
+use Rattle.explore.specs.Counting.{GoesBeyond}
 use Rattle.explore.specs.Explored.{ExploredValue}
 use Rattle.explore.specs.Outcomes.{AreAll, AreDistinct, IsAmong}
+use Rattle.explore.specs.Small.{IsSmall}
 use Rattle.audit.specs.FinalRuns.Maximal.{IsPossible, RankOutcome}
 use Rattle.rank_language.specs.Program.{ProgramValue}
+use Rattle.run_events.specs.Masking.{EndsAmong}
+use Rattle.runner.specs.Crashes.{AreMasked, PrintsOnly}
 use Rattle.runner.specs.Events.{PlaysOutcome}
 use Rattle.runner.specs.OutcomesText.{AllHalt, IsMarkedObject, IsMarkedSummary, IsMarkedText}
 use Rattle.runner.specs.Reading.{IsProgramIn}
 
--- What a search found: the program may have each outcome, and has no other if it is complete. None
--- stands there twice, and no more runs were looked at than the job allows.
+-- What a search found: the program may have each outcome. If the search is complete, it has no
+-- other, however its ranks go on they come to an end that was found, and crashes add none to those of
+-- runs; so where there is one outcome, it is all that a run prints. The search of a small program is complete. One
+-- that isn't looked at as many runs as the job allows, or a rank came to the limit of steps, and
+-- then some rank goes beyond it. No outcome stands there twice, and no more runs were looked at than
+-- the job allows.
 pub record IsFoundBy (program : ProgramValue) (job : ExploreJob) (found : ExploredValue) : Type 0 where
   pub possible : (outcome : List RankOutcome) → IsAmong found.outcomes outcome → IsPossible program job.ranks outcome
   pub complete : found.complete ≡ true → AreAll program job.ranks found.outcomes
+  pub ends : found.complete ≡ true → EndsAmong program job.ranks found.outcomes
+  pub masks : found.complete ≡ true → AreMasked program job.ranks found.outcomes
+  pub only : found.complete ≡ true → (outcome : List RankOutcome) → found.outcomes ≡ outcome ∷ [] → PrintsOnly program job.ranks outcome
+  pub small : IsSmall program job.ranks job.runs job.steps → found.complete ≡ true
+  pub stopped : found.complete ≡ false → (found.runs ≡ job.runs) ⊎ IsTrue found.out_of_steps
+  pub beyond : found.out_of_steps ≡ true → GoesBeyond program job.ranks job.steps
   pub distinct : AreDistinct found.outcomes
   pub few_runs : found.runs ≤ job.runs
 

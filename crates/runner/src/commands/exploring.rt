@@ -15,6 +15,7 @@ use command_line::{ExploreForm, ExploreJob};
 use explore::{Explored, Limits, Outcome, Watch, explore, marks_of, run_of};
 use limits::Heap;
 use rank_language::{Program, statement_lines};
+use run_events::laws::law_masks_reports;
 use run_events::play_text;
 use std::alloc::AllocError;
 
@@ -60,6 +61,7 @@ fn searched<W: Watch>(
 ) -> Result<Explored, AllocError>
     ensures { IfOk result (λ found. IsFoundBy program.now job.entry found) }
 {
+    law_masks_reports();
     explore(alloc, program, job.ranks, limits_of(job), watch)
 }
 

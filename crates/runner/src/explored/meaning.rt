@@ -30,14 +30,14 @@ pub fn print_meaning(
     print_count(text, found)
 }
 
-// That there is one outcome, if this is certain.
+// That there is one outcome, if this is certain, and what crashes change then.
 fn print_only(text: &mut String<Heap>, found: &Explored) -> Result<(), AllocError>
     ensures { OnOk result (string_bytes text.new ≡ string_bytes text.old ++ only_text found.now) }
 {
     if found.complete && found.outcomes.len() == 1 {
         return writeln!(
             text,
-            "# one outcome: whatever the order, this program prints this"
+            "# one outcome: whatever the order, this program prints this\n# whatever crashes, each rank prints this, or a beginning of it"
         );
     }
     Ok(())
