@@ -1,14 +1,16 @@
 -- What is answered to the words that the program is called with (docs/FORMATS.md, "Command").
 use Rattle.std.specs.Prelude.{◌≡◌, ◌⊎◌, ℕ, List}
 use Rattle.command_line.specs.Jobs.{IsJobOf}
+use Rattle.command_line.specs.Requests.{IsAsked}
 use Rattle.command_line.specs.declared.job.Job.{Job}
 use Rattle.command_line.specs.declared.no_job.NoJob.{NoJob}
 use Rattle.runner.specs.Statuses.{help_in, status_without_job}
 
 -- No job is done: the words ask for help, which alone goes to standard output, or they are refused, or
--- there is no memory.
-pub record IsWithoutJob (out : List ℕ) (status : ℕ) : Type 0 where
+-- there is no memory. So if no word asks for help, standard output is empty, and the status isn't 0.
+pub record IsWithoutJob (words : List (List ℕ)) (out : List ℕ) (status : ℕ) : Type 0 where
   pub no_job : NoJob
+  pub asked : IsAsked words no_job
   pub text : out ≡ help_in no_job
   pub code : status ≡ status_without_job no_job
 
@@ -20,4 +22,4 @@ pub record IsOfAJob (answers : Job → List ℕ → ℕ → Type 0) (words : Lis
 
 -- What is answered to words: that of the job which they name, or no job is done.
 abbrev pub IsCommandAnswer : (Job → List ℕ → ℕ → Type 0) → List (List ℕ) → List ℕ → ℕ → Type 0
-IsCommandAnswer answers words out status = IsWithoutJob out status ⊎ IsOfAJob answers words out status
+IsCommandAnswer answers words out status = IsWithoutJob words out status ⊎ IsOfAJob answers words out status

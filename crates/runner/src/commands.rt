@@ -49,7 +49,8 @@ use std::thread::Threads;
 
 /// Does what the words say, and answers the exit status. The first word is the
 /// program's name. Unless the status is 5, an answer to the job that the words name
-/// is written to `out`, whole, or what is said instead of a job.
+/// is written to `out`, whole, or what is said instead of a job: help, if a word asks for
+/// it, and else nothing.
 ///
 /// What goes to `out` is made whole before any of it is written. A write to
 /// `err` that fails changes no status.

@@ -1,6 +1,7 @@
 //! What is said, written to the program's streams.
 ghost use Rattle.std.specs.Prelude.{◌≡◌, ◌≢◌, ◌≤◌, ℕ, List, IfOk, OnOk, string_bytes};
 ghost use Rattle.std.specs.Io.KnownBytes.{Appends};
+ghost use Rattle.command_line.specs.Requests.{IsAsked};
 ghost use Rattle.runner.specs.Commands.{IsWithoutJob};
 ghost use Rattle.runner.specs.Statuses.{status_without_job, help_in, mistake_in};
 
@@ -33,11 +34,12 @@ pub fn tell_no_memory<E: Write>(err: &mut E) -> u8
 }
 
 /// Writes the help that the words ask for, or what is wrong with them, and answers
-/// the exit status.
+/// the exit status. A help has to be asked for.
 #[tactic(auto, using(crate::proofs::Answers::nothing_written, crate::proofs::CommandAnswers::is_without_job, crate::proofs::CommandAnswers::without_memory))]
 pub fn tell_no_job<O: Write, E: Write>(alloc: Heap, no_job: &NoJob, out: &mut O, err: &mut E) -> u8
     ensures known { result ≤ 5 }
-    ensures answer { result ≢ 5 → (text : List ℕ) × Appends (O.contents out.old) (O.contents out.new) text × IsWithoutJob text result }
+    ensures answer { (words : List (List ℕ)) → IsAsked words no_job.now → result ≢ 5
+        → (text : List ℕ) × Appends (O.contents out.old) (O.contents out.new) text × IsWithoutJob words text result }
 {
     match refuse(alloc, no_job) {
         Ok(said) => tell(&said, out, err),
