@@ -16,7 +16,7 @@ mod words;
 
 pub use audit::{AuditFault, End, Outcome};
 pub use command_line::Job;
-pub use commands::{command, command_watched, do_job};
+pub use commands::{Refusal, command, command_watched, do_job};
 pub use explore::Watch;
 pub use files::{FileFault, Files, MachineFiles};
 pub use matching::Line;
