@@ -1,5 +1,5 @@
 use Rattle.std.proofs.Common.{◌≡◌, take}
-use Rattle.crash_free.proofs.mail.channel.copied.Given as goal
+use Rattle.crash_free.proofs.mail.slots.copied.Given as goal
 
 -- the copies so far
 abbrev pub invariant-loop-slot : goal.invariant-loop-slot

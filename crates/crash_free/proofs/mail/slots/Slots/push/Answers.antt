@@ -1,6 +1,6 @@
 use Rattle.std.proofs.Common.{◌≡◌, length, ap, arith}
 use Rattle.crash_free.proofs.Indexing.{slot_listed}
-use Rattle.crash_free.proofs.mail.channel.Channel.push.Goals as goal
+use Rattle.crash_free.proofs.mail.slots.Slots.push.Goals as goal
 
 pub invariant_of-self-2 : goal.invariant_of-self-2
 invariant_of-self-2 c =
