@@ -1,2 +1,3 @@
 pub mod Silent
 pub mod Sound
+pub mod Covering

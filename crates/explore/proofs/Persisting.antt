@@ -1,5 +1,5 @@
 -- The choices of a rank are persistent where of each source the same stays eligible for it: of the rank itself, as it makes no act; of one
--- that has a message there, as others come behind it; of one that has sent all of the context; and of one that isn't named, or isn't
+-- that has a message there, as others come behind it; of one that has sent all of the context and the tag; and of one that isn't named, or isn't
 -- there, none is.
 use Rattle.std.proofs.Common.{◌≡◌, ◌≢◌, ℕ, suc, ◌+◌, ◌<◌, ◌≤◌, List, [], Some, length}
 use Rattle.std.proofs.Common.{slice_get, ◌⊎◌, inl, inr, refl, sym, ap, subst, ◌∙◌, arith}
@@ -79,14 +79,14 @@ module _ (s : SimValue) (r : ℕ) where
     pub itself_settled : (q : ℕ) → q ≡ r → IsSettled s r w q
     itself_settled q same = subst (λ z. IsSettled s r w z) (sym same) own_settled
 
-    -- of a rank that has sent all messages of the context, if the answer says so
-    pub sent_settled : (q : ℕ) (answer : Bool) → (answer ≡ true → (x : ℕ) → HasSentAll s x w.context q) → answer ≡ true → IsSettled s r w q
+    -- of a rank that has sent all messages of the context and the tag, if the answer says so
+    pub sent_settled : (q : ℕ) (answer : Bool) → (answer ≡ true → (x : ℕ) → HasSentAll s x w.context w.tag q) → answer ≡ true → IsSettled s r w q
     sent_settled q answer all said_so C place way e =
         let x = goes C way in
         let more = x.grows q in
         record {
           message = e.message;
-          there = all said_so r C r place e.message way e.matching.0 e.there;
+          there = all said_so r C r place e.message way (e.matching.0, e.matching.2) e.there;
           untaken = subst (λ k. taken k q place ≡ false) x.same e.untaken;
           matching = e.matching;
           not_overtaking = λ i m low f k. subst (λ h. taken h q i ≡ true) x.same

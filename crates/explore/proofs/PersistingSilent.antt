@@ -1,5 +1,5 @@
--- A rank that has ended sends no more, and one behind which no send stands sends no more but packets of collectives: so its messages of
--- a context stay as they are, however the ranks go on.
+-- A rank that has ended sends no more, and one behind which no send of a tag stands sends no more with it but packets of collectives:
+-- so its messages of a context and a tag stay as they are, however the ranks go on.
 use Rattle.std.proofs.Common.{◌≡◌, ◌≢◌, ℕ, zero, suc, ℤ, ◌+◌, List, [], ◌∷◌, ◌++◌, Option, Some, length, slice_get}
 use Rattle.std.proofs.Common.{◌⊎◌, inl, inr, refl, sym, ap, subst, ◌∙◌}
 use Rattle.std.specs.Prelude.{Bool, true, false, ◌==◌}
@@ -12,13 +12,13 @@ use Rattle.rank_machine.specs.declared.want.Want.{Want}
 use Rattle.rank_machine.specs.declared.want.Want.TheVariants as want
 use Rattle.rank_machine.specs.States.{State, Inners, here, on}
 use Rattle.rank_machine.specs.Wants.{wants, payload}
-use Rattle.rank_machine.specs.Acts.{Act, Message, sends, takes, hits, misses, prints, Fits, Makes, Runs, next}
+use Rattle.rank_machine.specs.Acts.{Act, Message, IsNamed, sends, takes, hits, misses, prints, Fits, Makes, Runs, next}
 use Rattle.rank_machine.specs.Machine.{MachineValue, state_of}
 use Rattle.rank_machine.proofs.Determined.{still, inner_wants, same_runs}
 use Rattle.rank_machine.proofs.Striding.{on_the_way}
 use Rattle.crash_free.specs.LaterSends.Sending.{some_sends, SendsNoMore}
-use Rattle.crash_free.specs.LiveVariables.Live.{claimed}
-use Rattle.crash_free.specs.LaterSends.LaterSends.{IsTableOf}
+use Rattle.crash_free.specs.LaterSends.LaterSends.{claims_none, IsTableOf}
+use Rattle.crash_free.specs.declared.later_sends.tag_row.TagRow.{TagRow}
 use Rattle.crash_free.proofs.LaterSendsLaws.Silent.{inners_stay, next_stays, makes_no_send}
 use Rattle.crash_free.specs.Runs.{Passed, History, at_place, cons_if, history, sent, send_at, looked_up, MayMake}
 use Rattle.crash_free.specs.Sim.{SimValue, Simulates, start_of}
@@ -58,48 +58,52 @@ ended_makes_none : {a mid : State} (act : Act) (m : Option Message) → Inners a
 ended_makes_none {a = a} act m here h makes = ended_fits_none (wants a) (payload a) act m h makes
 ended_makes_none {a = a} act m (on {b = b} e r) h makes = (let z : HasEnded want.Internal = subst HasEnded (inner_wants a b e) h in z)
 
--- Messages of a context
+-- Messages of a context, whose tag is sought
 
-module _ (context : Context) where
-  -- no message in the list is one of the context
+module _ (context : Context) (tag : Option ℕ) where
+  -- a message is one of them
+  abbrev pub IsSought : Message → Type 0
+  IsSought m = (m.context ≡ context) × IsNamed tag m.tag
+
+  -- none in the list is
   abbrev pub HasNone : List Message → Type 0
   HasNone [] = Unit {0}
-  HasNone (x ∷ xs) = (x.context ≢ context) × HasNone xs
+  HasNone (x ∷ xs) = (IsSought x → ⊥) × HasNone xs
 
   -- so none is there
-  none_there : (xs : List Message) (i : ℕ) (m : Message) → HasNone xs → m.context ≡ context → slice_get xs i ≡ Some m → ⊥
+  none_there : (xs : List Message) (i : ℕ) (m : Message) → HasNone xs → IsSought m → slice_get xs i ≡ Some m → ⊥
   none_there [] i m none kind is = absurd cc
-  none_there (x ∷ xs) zero m none kind is = (let same : m ≡ x = cc in none.0 (subst (λ y. y.context ≡ context) same kind))
+  none_there (x ∷ xs) zero m none kind is = (let same : m ≡ x = cc in none.0 (subst (λ y. IsSought y) same kind))
   none_there (x ∷ xs) (suc i) m none kind is = none_there xs i m none.1 kind is
 
   -- one that is found stands before them
-  found_before : (xs ys : List Message) (i : ℕ) (m : Message) → HasNone ys → m.context ≡ context → slice_get (xs ++ ys) i ≡ Some m
+  found_before : (xs ys : List Message) (i : ℕ) (m : Message) → HasNone ys → IsSought m → slice_get (xs ++ ys) i ≡ Some m
       → slice_get xs i ≡ Some m
   found_before [] ys i m none kind is = absurd (none_there ys i m none kind is)
   found_before (x ∷ xs) ys zero m none kind is = is
   found_before (x ∷ xs) ys (suc i) m none kind is = found_before xs ys i m none kind is
 
   -- the same by its place
-  placed_before : (xs ys : List Message) (place : ℕ) (m : Message) → HasNone ys → m.context ≡ context → at_place (xs ++ ys) place ≡ Some m
+  placed_before : (xs ys : List Message) (place : ℕ) (m : Message) → HasNone ys → IsSought m → at_place (xs ++ ys) place ≡ Some m
       → at_place xs place ≡ Some m
   placed_before xs ys zero m none kind is = absurd cc
   placed_before xs ys (suc i) m none kind is = found_before xs ys i m none kind is
 
-  -- a send of another context gives none
-  other_sent : (sent_there : Bool) (x : Message) → x.context ≢ context → HasNone (cons_if sent_there x [])
+  -- a send of another one gives none
+  other_sent : (sent_there : Bool) (x : Message) → (IsSought x → ⊥) → HasNone (cons_if sent_there x [])
   other_sent true x other = (other, tt)
   other_sent false x other = tt
 
-  -- no send stands behind this state, if the context is that of sends, or it has ended
+  -- no send of one stands behind this state, if the context is that of sends, or it has ended
   abbrev pub IsSilent : State → Type 0
-  IsSilent a = ((context ≡ PointToPoint) × SendsNoMore a) ⊎ HasEnded (wants a)
+  IsSilent a = ((context ≡ PointToPoint) × SendsNoMore tag a) ⊎ HasEnded (wants a)
 
   -- an act of a rank that sends no more sends none
-  sends_none : (a : State) (act : Act) (m : Option Message) → context ≡ PointToPoint → SendsNoMore a → Makes a act m → (c dest : ℕ)
+  sends_none : (a : State) (act : Act) (m : Option Message) → context ≡ PointToPoint → SendsNoMore tag a → Makes a act m → (c dest : ℕ)
       → HasNone (send_at c dest act [])
-  sends_none a (sends d other tag items) m is h makes c dest =
-      other_sent (d == dest) (record { clock = c; context = other; tag = tag; items = items })
-      (λ same. makes_no_send a d tag items m h (subst (λ z. Makes a (sends d z tag items) m) (same ∙ is) makes))
+  sends_none a (sends d other own items) m is h makes c dest =
+      other_sent (d == dest) (record { clock = c; context = other; tag = own; items = items })
+      (λ one. makes_no_send tag a d own items m h one.1 (subst (λ z. Makes a (sends d z own items) m) (one.0 ∙ is) makes))
   sends_none a (takes source place) m is h makes c dest = tt
   sends_none a (hits source place) m is h makes c dest = tt
   sends_none a misses m is h makes c dest = tt
@@ -113,8 +117,8 @@ module _ (context : Context) where
   -- so it is, whichever of the two the state is
   silent_act : (a mid : State) (act : Act) (m : Option Message) → IsSilent a → Inners a mid → Makes mid act m → Stays act (next mid act m)
   silent_act a mid act m (inl h) steps makes =
-      let now : SendsNoMore mid = inners_stay steps h.1 in
-      record { none = sends_none mid act m h.0 now makes; silent = inl (h.0, next_stays mid act m now) }
+      let now : SendsNoMore tag mid = inners_stay tag steps h.1 in
+      record { none = sends_none mid act m h.0 now makes; silent = inl (h.0, next_stays tag mid act m now) }
   silent_act a mid act m (inr ended) steps makes = absurd (ended_makes_none act m steps ended makes)
 
   -- A rank with this history stands, by inner steps, at a silent state.
@@ -150,8 +154,8 @@ module _ (context : Context) where
       stays : Stays act (next may.stands act (looked_up inbound act))
       stays = silent_act x.stands may.stands act (looked_up inbound act) x.silent on_from_there may.makes
 
-  module _ (start : ℕ → State) (n r q dest place : ℕ) (m : Message) (kind : m.context ≡ context) where
-    -- so however the ranks go on, a message of the context that it has sent then it has sent before
+  module _ (start : ℕ → State) (n r q dest place : ℕ) (m : Message) (kind : IsSought m) where
+    -- so however the ranks go on, such a message that it has sent then it has sent before
     sent_stays : {P C : List Passed} → GoesOnWithout start n r P C → SilentAfter (start q) (history P q) → at_place (sent C q dest) place ≡ Some m
         → at_place (sent P q dest) place ≡ Some m
     sent_stays there x found = found
@@ -177,25 +181,25 @@ module _ (context : Context) where
 
   -- a rank whose machine stands at a silent state has sent all
   machine_silent : (s : SimValue) (q : ℕ) (m : MachineValue) → Simulates s → slice_get s.machines q ≡ Some m → IsSilent (state_of m) → (r : ℕ)
-      → HasSentAll s r context q
+      → HasSentAll s r context tag q
   machine_silent s q m now is silent r C dest place found goes kind then =
       let at = now.ranks q m is in
       sent_stays (start_of s.program (length s.machines)) (length s.machines) r q dest place found kind goes
       (record { after = at.0; stands = state_of m; reached = at.1; steps = at.2; silent = silent }) then
 
   -- so has who has ended
-  pub ended_silent : (s : SimValue) (q : ℕ) (w : Want) → Simulates s → WantsAt s.machines q w → HasEnded w → (r : ℕ) → HasSentAll s r context q
+  pub ended_silent : (s : SimValue) (q : ℕ) (w : Want) → Simulates s → WantsAt s.machines q w → HasEnded w → (r : ℕ) → HasSentAll s r context tag q
   ended_silent s q w now asked ended r =
       let m = some_there (slice_get s.machines q) (λ x. Wants x w) asked in
       let apart : w ≢ want.Internal = λ e. (let z : HasEnded want.Internal = subst HasEnded e ended in z) in
       let is : wants (state_of m.0) ≡ w = wanted s q m.0 w now m.1 m.2 apart in
       machine_silent s q m.0 now m.1 (inr (subst HasEnded (sym is) ended)) r
 
-  -- and so has who stands at a position that the table claims, if the context is that of sends
-  pub claimed_silent : (s : SimValue) (q r position : ℕ) (m : MachineValue) (table : List Bool) (answer : Bool) → context ≡ PointToPoint → Simulates s
-      → AreOfProgram s → IsTableOf s.program table → slice_get s.machines q ≡ Some m → position ≡ m.position → answer ≡ claimed table position
-      → answer ≡ true → HasSentAll s r context q
+  -- and so has who stands at a position that the table claims for the tag, if the context is that of sends
+  pub claimed_silent : (s : SimValue) (q r position : ℕ) (m : MachineValue) (table : List TagRow) (answer : Bool) → context ≡ PointToPoint → Simulates s
+      → AreOfProgram s → IsTableOf s.program table → slice_get s.machines q ≡ Some m → position ≡ m.position → answer ≡ claims_none table tag position
+      → answer ≡ true → HasSentAll s r context tag q
   claimed_silent s q r position m table answer kind now programs right is at said said_so =
-      let claim : claimed table m.position ≡ true = ap (claimed table) (sym at) ∙ sym said ∙ said_so in
+      let claim : claims_none table tag m.position ≡ true = ap (claims_none table tag) (sym at) ∙ sym said ∙ said_so in
       machine_silent s q m now is
-      (inl (kind, subst (λ p. some_sends (remaining (block_of p) m.position) ≡ false) (sym (programs q m is)) (right m.position claim))) r
+      (inl (kind, subst (λ p. some_sends tag (remaining (block_of p) m.position) ≡ false) (sym (programs q m is)) (right tag m.position claim))) r

@@ -74,7 +74,7 @@ fn is_settled(sim: &Sim<'_>, later: &LaterSends, rank: u8, selector: &Selector, 
     }
     match sim.eligible(rank, selector, source) {
         Some(_) => true,
-        None => has_sent_all(sim, later, source, selector.context),
+        None => has_sent_all(sim, later, source, selector),
     }
 }
 
@@ -88,15 +88,15 @@ fn may_be_of(selector: &Selector, source: u8) -> bool
     }
 }
 
-// Whether the rank sends no more messages of this context: it has ended, or stands where no send is
-// behind. Of collectives the table says nothing.
+// Whether the rank sends no more messages of this selector's context and tag: it has ended, or
+// stands where no send is behind that may have the tag. Of collectives the table says nothing.
 #[tactic(auto, using(crate::proofs::PersistingSilent::claimed_silent))]
-fn has_sent_all(sim: &Sim<'_>, later: &LaterSends, rank: u8, context: Context) -> bool
+fn has_sent_all(sim: &Sim<'_>, later: &LaterSends, rank: u8, selector: &Selector) -> bool
     requires stands { Simulates sim.now }
     requires programs { AreOfProgram sim.now }
     requires table { IsTableOf sim.now.program later.now }
     requires rank { rank < length sim.now.machines }
-    ensures { result ≡ true → (r : ℕ) → HasSentAll sim.now r context rank }
+    ensures { result ≡ true → (r : ℕ) → HasSentAll sim.now r selector.now.context selector.now.tag rank }
 {
     match sim.wants(rank) {
         Want::Halted => true,
@@ -106,8 +106,10 @@ fn has_sent_all(sim: &Sim<'_>, later: &LaterSends, rank: u8, context: Context) -
         | Want::Receive(_)
         | Want::Probe(_)
         | Want::TryProbe(_)
-        | Want::Print(_) => match context {
-            Context::PointToPoint => later.sends_no_more(sim.machine(rank).position()),
+        | Want::Print(_) => match selector.context {
+            Context::PointToPoint => {
+                later.sends_no_more(sim.machine(rank).position(), selector.tag)
+            }
             Context::Collective => false,
         },
     }

@@ -1,10 +1,8 @@
-use Rattle.std.proofs.Common.{◌+◌, ◌-◌, ◌≤◌}
+use Rattle.crash_free.specs.LaterSends.LaterSends.{IsTableOf}
 use Rattle.crash_free.proofs.later_sends.table.LaterSends.of.Given as goal
 
-abbrev pub invariant-loop-rounds : goal.invariant-loop-rounds
-invariant-loop-rounds l = record {
-  within : l.rounds ≤ l.lines + 1;
+-- the table so far is right
+abbrev pub invariant-loop-position : goal.invariant-loop-position
+invariant-loop-position l = record {
+  right : IsTableOf l.program l.table;
 }
-
-abbrev pub decreases-loop-rounds : goal.decreases-loop-rounds
-decreases-loop-rounds l = l.lines + 1 - l.rounds

@@ -2,13 +2,13 @@ use Rattle.std.proofs.Common.{◌≡◌, true, arith}
 use Rattle.crash_free.specs.LiveVariables.Live.{claimed}
 use Rattle.crash_free.specs.LaterSends.LaterSends.{holds_at}
 use Rattle.crash_free.proofs.LiveVariablesLaws.Sound.{one_more, of_each}
-use Rattle.crash_free.proofs.later_sends.table.LaterSends.all_hold.Goals as goal
+use Rattle.crash_free.proofs.later_sends.tag_row.TagRow.all_hold.Goals as goal
 
 pub loop-position-preserved : goal.loop-position-preserved
 loop-position-preserved c = record {
   held =
       one_more c.args.program.now.statements
-      (λ p k. claimed c.args.self.now p ≡ true → holds_at (claimed c.args.self.now) p k ≡ true)
+      (λ p k. claimed c.args.self.now.claims p ≡ true → holds_at c.args.self.now.tag (claimed c.args.self.now.claims) p k ≡ true)
       c.loop-position.position c.loop-position.invariant.held (c.is_right.ensures c.if-not-is_right.false);
 }
 
@@ -16,5 +16,5 @@ pub returns : goal.returns
 returns c =
     λ yes.
     of_each c.args.program.now.statements
-    (λ p k. claimed c.args.self.now p ≡ true → holds_at (claimed c.args.self.now) p k ≡ true)
+    (λ p k. claimed c.args.self.now.claims p ≡ true → holds_at c.args.self.now.tag (claimed c.args.self.now.claims) p k ≡ true)
     c.loop-position.position (omega (arith, c.len-lines.ensures.count, c.loop-position-test.false)) c.loop-position.invariant.held

@@ -1,4 +1,0 @@
-use Rattle.crash_free.proofs.later_sends.table.LaterSends.drop_some.Given as goal
-
-abbrev pub decreases-loop-position : goal.decreases-loop-position
-decreases-loop-position l = l.position
