@@ -1,6 +1,7 @@
--- The choices of a rank are persistent where of each source the same stays eligible for it: of the rank itself, as it makes no act; of one
--- that has a message there, as others come behind it; of one that has sent all of the context and the tag; and of one that isn't named, or isn't
--- there, none is.
+-- The choices of a rank are persistent where of each source the same stays eligible for it: of the
+-- rank itself, as it makes no act; of one that has a message there, as others come behind it; of
+-- one that has sent all of the context and the tag; and of one that isn't named, or isn't there,
+-- none is.
 use Rattle.std.proofs.Common.{◌≡◌, ◌≢◌, ℕ, suc, ◌+◌, ◌<◌, ◌≤◌, List, [], Some, length}
 use Rattle.std.proofs.Common.{slice_get, ◌⊎◌, inl, inr, refl, sym, ap, subst, ◌∙◌, arith}
 use Rattle.std.specs.Prelude.{Bool, true, false, IsSomeAnd}

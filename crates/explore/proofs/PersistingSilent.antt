@@ -1,5 +1,6 @@
--- A rank that has ended sends no more, and one behind which no send of a tag stands sends no more with it but packets of collectives:
--- so its messages of a context and a tag stay as they are, however the ranks go on.
+-- A rank that has ended sends no more, and one behind which no send of a tag stands sends no more
+-- with it but packets of collectives: so its messages of a context and a tag stay as they are,
+-- however the ranks go on.
 use Rattle.std.proofs.Common.{◌≡◌, ◌≢◌, ℕ, zero, suc, ℤ, ◌+◌, List, [], ◌∷◌, ◌++◌, Option, Some, length, slice_get}
 use Rattle.std.proofs.Common.{◌⊎◌, inl, inr, refl, sym, ap, subst, ◌∙◌}
 use Rattle.std.specs.Prelude.{Bool, true, false, ◌==◌}
@@ -195,7 +196,8 @@ module _ (context : Context) (tag : Option ℕ) where
       let is : wants (state_of m.0) ≡ w = wanted s q m.0 w now m.1 m.2 apart in
       machine_silent s q m.0 now m.1 (inr (subst HasEnded (sym is) ended)) r
 
-  -- and so has who stands at a position that the table claims for the tag, if the context is that of sends
+  -- and so has who stands at a position that the table claims for the tag, if the context is that
+  -- of sends
   pub claimed_silent : (s : SimValue) (q r position : ℕ) (m : MachineValue) (table : List TagRow) (answer : Bool) → context ≡ PointToPoint → Simulates s
       → AreOfProgram s → IsTableOf s.program table → slice_get s.machines q ≡ Some m → position ≡ m.position → answer ≡ claims_none table tag position
       → answer ≡ true → HasSentAll s r context tag q

@@ -1,6 +1,6 @@
 -- What rank r may take or hit of a source: where that stays as it is of each source, however the
--- other ranks go on, its choices are persistent. For receives of any source this is the condition of
--- Siegel 2005, and of Vakkalanka, Gopalakrishnan and Kirby 2008, asked of each source by itself.
+-- other ranks go on, its choices are persistent. For receives of any source this is the condition
+-- of Siegel 2005, and of Vakkalanka, Gopalakrishnan and Kirby 2008, asked of each source by itself.
 use Rattle.std.specs.Prelude.{◌≡◌, ℕ, List, Option, Some, length, slice_get}
 use Rattle.matching.specs.declared.packet.Context.{Context}
 use Rattle.matching.specs.declared.selector.Selector.{Selector}
@@ -24,7 +24,8 @@ IsSettled s r w source =
     (C : List Passed) (place : ℕ) → OthersGoOn s r C → IsEligible (inbound_of C r) (history C r) source place w
     → IsEligible (inbound_of s.run r) (history s.run r) source place w
 
--- however they do, each message of this context, with this tag or any, that rank q has sent then stands in its place now
+-- however they do, each message of this context, with this tag or any, that rank q has sent then
+-- stands in its place now
 abbrev pub HasSentAll : SimValue → ℕ → Context → Option ℕ → ℕ → Type 0
 HasSentAll s r context tag q =
     (C : List Passed) (dest place : ℕ) (m : Message) → OthersGoOn s r C → (m.context ≡ context) × IsNamed tag m.tag

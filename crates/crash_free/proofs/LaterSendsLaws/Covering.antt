@@ -1,4 +1,5 @@
--- A row more keeps a table right: what it claims of its own tags it claims of those that are among them.
+-- A row more keeps a table right: what it claims of its own tags it claims of those that are among
+-- them.
 use Rattle.std.proofs.Common.{◌≡◌, ℕ, ◌==◌, Bool, true, false, ◌&&◌, ◌||◌, List, [], ◌∷◌, ◌++◌, Option, Some, None, ◌⊎◌, inl, inr, refl, sym, subst, ◌∙◌}
 use Rattle.std.specs.List.{list_any}
 use Rattle.std.proofs.lemmas.Bool.{and_parts, or_parts, or_from, or_cases, eqb-true}

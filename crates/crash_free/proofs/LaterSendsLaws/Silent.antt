@@ -1,5 +1,6 @@
--- A rank that sends no more stays so: none of the statements that it leads on to was missing before. A collective leads on to itself or
--- to the statements behind it, and what it sends has the context of collectives.
+-- A rank that sends no more stays so: none of the statements that it leads on to was missing
+-- before. A collective leads on to itself or to the statements behind it, and what it sends has the
+-- context of collectives.
 use Rattle.std.proofs.Common.{◌≡◌, ℕ, ℤ, Bool, true, false, not, ◌||◌, List, Ok, Err, Option, Some, None, refl, sym, ap, subst, ◌∙◌, length}
 use Rattle.std.proofs.Common.{if◌then◌else◌, arith}
 use Rattle.std.proofs.lemmas.Bool.Decides.{nat_tests}

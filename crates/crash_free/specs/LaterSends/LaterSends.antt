@@ -1,5 +1,5 @@
--- A table of the positions of a program behind which no message is sent, or none of a tag, and when it is right (data flow equations,
--- backward: Aho, Lam, Sethi and Ullman 2006, section 9.2).
+-- A table of the positions of a program behind which no message is sent, or none of a tag, and when
+-- it is right (data flow equations, backward: Aho, Lam, Sethi and Ullman 2006, section 9.2).
 use Rattle.std.specs.Prelude.{◌≡◌, ℕ, ◌==◌, Bool, true, false, not, ◌&&◌, List, Option, Some, None, slice_get}
 use Rattle.std.specs.List.{list_any}
 use Rattle.rank_language.specs.Block.{Line, simple_line, if_line, else_line, end_line, while_line, back_line, remaining, next_position}
@@ -30,7 +30,8 @@ AllHold sought row ls = (p : ℕ) (l : Line) → slice_get ls p ≡ Some l → c
 abbrev pub IsRow : ProgramValue → Option ℕ → List Bool → Type 0
 IsRow program sought row = (p : ℕ) → claimed row p ≡ true → some_sends sought (remaining (block_of program) p) ≡ false
 
--- who sends no message of the one kind sends none of the other: the one is any tag, or both are one tag
+-- who sends no message of the one kind sends none of the other: the one is any tag, or both are one
+-- tag
 abbrev pub covers : Option ℕ → Option ℕ → Bool
 covers None sought = true
 covers (Some k) None = false

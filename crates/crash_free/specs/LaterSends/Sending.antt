@@ -1,7 +1,9 @@
--- When a rank sends no more messages that a receive may be for, whatever it receives: no statement that remains to it is such a send
--- (what a process may still do, as its program shows it: Godefroid 1996, chapter 4). A receive is for messages of any tag, or of one
--- tag (MPI 1.1, section 3.2.4); a send whose tag stands as a number in the text is of that tag, and any other may be of each. Collectives
--- may remain: their packets have a context of their own, so no receive and no probe of a program meets them (MPI 1.1, section 5.1).
+-- When a rank sends no more messages that a receive may be for, whatever it receives: no statement
+-- that remains to it is such a send (what a process may still do, as its program shows it:
+-- Godefroid 1996, chapter 4). A receive is for messages of any tag, or of one tag (MPI 1.1, section
+-- 3.2.4); a send whose tag stands as a number in the text is of that tag, and any other may be of
+-- each. Collectives may remain: their packets have a context of their own, so no receive and no
+-- probe of a program meets them (MPI 1.1, section 5.1).
 use Rattle.std.specs.Prelude.{◌≡◌, ℕ, ℤ, pos, int_le, Bool, true, false, ◌&&◌, ◌||◌, Option, Some, None}
 use Rattle.rank_language.specs.Placed.{Placed, number, variable, item, reading, negation, operation}
 use Rattle.rank_language.specs.Placed.{Simple, declare, declare_array, assign, assign_item, send, receive, probe, try_probe, print, collect}
