@@ -13,9 +13,9 @@ pub mod ActFindsMessage
 pub mod ActIsMade
 pub mod RunComesToEnd
 pub mod LeavesAll
-pub mod LastIsRepeated
 pub mod IsPlayedOn
 pub mod TriedInVain
 pub mod QuietRanks
 pub mod RestIsEnd
 pub mod StillIsEnd
+pub mod Rounds

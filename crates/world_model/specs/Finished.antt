@@ -1,6 +1,6 @@
 -- A world that is played to the end: which events it was led through, and what it has come to.
 use Rattle.std.specs.Prelude.{◌≡◌, ℕ, zero, suc, ◌+◌, ◌<◌, ◌≤◌, ◌⊎◌, ◌==◌, if◌then◌else◌, Bool, true, false, List, [], ◌∷◌, ◌++◌, length, Some, slice_get}
-use Rattle.matching.specs.Inbox.{accepted_from}
+use Rattle.matching.specs.Inbox.{Mailbox, accepted_from}
 use Rattle.matching.specs.PacketValue as packet
 use Rattle.rank_node.specs.declared.frame.Frame.{Frame}
 use Rattle.rank_node.specs.declared.frame.Frame.TheVariants as frame
@@ -15,7 +15,7 @@ use Rattle.world_model.specs.declared.finish.FinishEnd.{FinishEnd}
 use Rattle.world_model.specs.declared.finish.FinishEnd.TheVariants as finish
 use Rattle.world_model.specs.declared.reply.Reply.{Reply}
 use Rattle.world_model.specs.declared.reply.Reply.TheVariants as reply
-use Rattle.world_model.specs.World.{Live, WorldValue, size, IsLive}
+use Rattle.world_model.specs.World.{Rank, Live, WorldValue, size, IsLive}
 use Rattle.world_model.specs.Follows.{Follows}
 use Rattle.world_model.specs.Memory.{Fetched}
 use Rattle.world_model.specs.ToTheEnd.{Leads, HasEnded}
@@ -41,6 +41,17 @@ pub record IsQuiet (w : WorldValue) (r : ℕ) : Type 0 where
   pub made : rank.rank.clock ≡ length (history w.run r)
   pub idle : is_idle (turn_of rank.rank) ≡ true
 
+-- A rank at work with this value is quiet: nothing waits at its gate, it has made exactly its acts
+-- of the run, and it is idle.
+pub record IsQuietAs (C : List Passed) (r : ℕ) (v : Rank) : Type 0 where
+  pub none : v.pending ≡ []
+  pub made : v.clock ≡ length (history C r)
+  pub idle : is_idle (turn_of v) ≡ true
+
+-- in this inbox was accepted all that was sent to a rank in the run
+abbrev pub HearsAll : WorldValue → ℕ → Mailbox → Type 0
+HearsAll w r box = (s : ℕ) → s < size w → length (sent w.run s r) ≤ accepted_from box s
+
 -- a rank has accepted all that another sent to it in the run
 abbrev pub HasHeard : WorldValue → ℕ → ℕ → Type 0
 HasHeard w s d = (v : Live) → IsLive w d v → length (sent w.run s d) ≤ accepted_from v.rank.inbox s
@@ -49,13 +60,15 @@ HasHeard w s d = (v : Live) → IsLive w d v → length (sent w.run s d) ≤ acc
 abbrev pub RestsAt : WorldValue → ℕ → Type 0
 RestsAt w r = IsQuiet w r × ((s : ℕ) → s < size w → HasHeard w s r)
 
--- the frame is the packet of this number
-abbrev pub IsPacket : Frame → ℕ → Type 0
-IsPacket x number = (p : packet.PacketValue) × (x ≡ frame.Data p) × (p.number ≡ number)
+-- every rank is at rest
+abbrev pub AllRest : WorldValue → Type 0
+AllRest w = (r : ℕ) → r < size w → RestsAt w r
 
--- the frame of this index is the packet of this number
-abbrev pub IsPacketAt : List Frame → ℕ → ℕ → Type 0
-IsPacketAt frames i number = (x : Frame) × (slice_get frames i ≡ Some x) × IsPacket x number
+-- This rank isn't at rest, and those of lower numbers are.
+pub record IsFirstRestless (w : WorldValue) (r : ℕ) : Type 0 where
+  pub is_rank : r < size w
+  pub restless : RestsAt w r → ⊥
+  pub first : (q : ℕ) → q < r → RestsAt w q
 
 -- A rank replays nothing, and its next act is refused by this name: its clock or its events are
 -- used up.
@@ -130,19 +143,47 @@ pub record IsAfter (w w' : WorldValue) : Type 0 where
   pub late : List Passed
   pub later : w'.run ≡ late ++ w.run
 
--- what the answer says of the world, after so many rounds at most and these events: it has ended;
--- each round had an event; or the next act of a rank is refused by name
-abbrev pub ComesTo : WorldValue → ℕ → List WorldEvent → FinishEnd → Type 0
-ComesTo w rounds events finish.Ended = HasEnded w
-ComesTo w rounds events (finish.OutOfRounds r) = rounds ≤ length events
-ComesTo w rounds events (finish.Spent r fault) = IsSpent w r fault
-ComesTo w rounds events finish.OutOfMemory = Unit {0}
-
--- ---- a round that has nothing to do
+-- ---- rounds
 
 -- the event was tried in vain: by its reply it left the world as it is
 abbrev pub IsInVain : WorldValue → WorldEvent → Type 0
 IsInVain w event = (answer : Reply) × (leaves_all answer ≡ true) × Follows w event answer w
+
+-- A rank has its turn among events that lead from one world to another: a step of it is one of
+-- them, or was tried in vain before the first of them, between two, or after the last.
+pub record HasTurn (r : ℕ) (w : WorldValue) (events : List WorldEvent) (w' : WorldValue) : Type 0 where
+  pub before : List WorldEvent
+  pub after : List WorldEvent
+  pub whole : events ≡ before ++ after
+  pub mid : WorldValue
+  pub leads : Leads w before mid
+  pub leads_on : Leads mid after w'
+  pub turn : ((later : List WorldEvent) × (after ≡ Step r ∷ later)) ⊎ IsInVain mid (Step r)
+
+-- These events are a round: something happens, and each rank has its turn, and makes one step at
+-- most.
+pub record IsRound (w : WorldValue) (events : List WorldEvent) (w' : WorldValue) : Type 0 where
+  pub some : 1 ≤ length events
+  pub leads : Leads w events w'
+  pub turns : (r : ℕ) → r < size w → HasTurn r w events w'
+  pub few : (r : ℕ) → steps_in r events ≤ 1
+
+-- these events are so many rounds, one after another
+abbrev pub AreRounds : ℕ → WorldValue → List WorldEvent → WorldValue → Type 0
+AreRounds zero w events w' = (events ≡ []) × (w' ≡ w)
+AreRounds (suc n) w events w' =
+    (early last : List WorldEvent) × (mid : WorldValue) × (events ≡ early ++ last) × AreRounds n w early mid × IsRound mid last w'
+
+-- what the answer says of the world, which so many rounds at most and these events led to from
+-- another: it has ended, and no rank has a step left; the events are those of all rounds, and this
+-- rank is the first that isn't at rest; or the next act of this rank is refused by name
+abbrev pub ComesTo : WorldValue → WorldValue → ℕ → List WorldEvent → FinishEnd → Type 0
+ComesTo start w rounds events finish.Ended = HasEnded w × AllRest w
+ComesTo start w rounds events (finish.OutOfRounds r) = AreRounds rounds start events w × IsFirstRestless w r
+ComesTo start w rounds events (finish.Spent r fault) = IsSpent w r fault
+ComesTo start w rounds events finish.OutOfMemory = Unit {0}
+
+-- ---- a round that has nothing to do
 
 -- a rank starts again in vain, and makes a step in vain
 abbrev pub StepsInVain : ℕ → WorldValue → Type 0
@@ -190,12 +231,15 @@ abbrev pub HasMoreSteps : (ℕ → ℕ) → List WorldEvent → List WorldEvent 
 HasMoreSteps more events events' = (r : ℕ) → steps_in r events' ≤ steps_in r events + more r
 
 -- The world was played on: there are as many ranks, and what led to the one world leads to the
--- other by the longer list, which has so many more steps of each rank at most.
+-- other by the longer list, which has so many more steps of each rank at most. What is new on it
+-- leads from the one world to the other.
 pub record Played (more : ℕ → ℕ) (w : WorldValue) (events : List WorldEvent) (w' : WorldValue) (events' : List WorldEvent) : Type 0 where
   pub same_size : size w' ≡ size w
   pub leads : (start : WorldValue) → Leads start events w → Leads start events' w'
   pub steps : HasMoreSteps more events events'
-  pub longer : length events ≤ length events'
+  pub late : List WorldEvent
+  pub listed : events' ≡ events ++ late
+  pub leads_on : Leads w late w'
 
 -- The same where memory was refused.
 pub record PlayedAlmost (more : ℕ → ℕ) (w : WorldValue) (events : List WorldEvent) (w' : WorldValue) (events' : List WorldEvent) : Type 0 where
@@ -206,6 +250,31 @@ pub record PlayedAlmost (more : ℕ → ℕ) (w : WorldValue) (events : List Wor
 pub record Tried (Holds : WorldValue → Type 0) (w : WorldValue) (events : List WorldEvent) (w' : WorldValue) (events' : List WorldEvent) : Type 0 where
   pub longer : length events ≤ length events'
   pub quiet : length events' ≤ length events → (w' ≡ w) × Holds w'
+
+-- what is new on the longer list is this
+abbrev pub Adds : (List WorldEvent → Type 0) → List WorldEvent → List WorldEvent → Type 0
+Adds Is events events' = (late : List WorldEvent) × (events' ≡ events ++ late) × Is late
+
+-- a rank had its turn in what is new
+abbrev pub HadTurn : ℕ → WorldValue → List WorldEvent → WorldValue → List WorldEvent → Type 0
+HadTurn r w events w' events' = Adds (λ late. HasTurn r w late w') events events'
+
+-- so had each rank
+abbrev pub HadTurns : WorldValue → List WorldEvent → WorldValue → List WorldEvent → Type 0
+HadTurns w events w' events' = (r : ℕ) → r < size w → HadTurn r w events w' events'
+
+-- what is new is a round
+abbrev pub HadRound : WorldValue → List WorldEvent → WorldValue → List WorldEvent → Type 0
+HadRound w events w' events' = Adds (λ late. IsRound w late w') events events'
+
+-- what is new are so many rounds
+abbrev pub HadRounds : ℕ → WorldValue → List WorldEvent → WorldValue → List WorldEvent → Type 0
+HadRounds n w events w' events' = Adds (λ late. AreRounds n w late w') events events'
+
+-- the event goes last on the list and happens, or it was tried in vain
+abbrev pub IsTaken : WorldEvent → WorldValue → List WorldEvent → WorldValue → List WorldEvent → Type 0
+IsTaken event w events w' events' =
+    (Leads w (event ∷ []) w' × (events' ≡ events ++ event ∷ [])) ⊎ ((w' ≡ w) × (events' ≡ events) × IsInVain w event)
 
 -- one for each rank below k
 abbrev pub below : ℕ → ℕ → ℕ

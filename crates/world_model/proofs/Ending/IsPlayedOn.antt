@@ -1,8 +1,8 @@
 -- A world that is played on: the list of what happened leads from where it began to where it is, and how many steps it has.
 use Rattle.std.proofs.Common.{◌≡◌, ℕ, zero, suc, ◌+◌, ◌<◌, ◌≤◌, ◌==◌, ◌⊎◌, inl, inr, Bool, true, false, if◌then◌else◌, List, [], ◌∷◌, ◌++◌}
 use Rattle.std.proofs.Common.{refl, sym, ap, subst, ◌∙◌, arith, append_assoc}
-use Rattle.std.proofs.lemmas.Bool.{eqb-true, cases_eq}
-use Rattle.std.proofs.lemmas.List.{length-append}
+use Rattle.std.proofs.lemmas.Bool.{eqb-true}
+use Rattle.std.proofs.lemmas.List.{append-nil}
 use Rattle.world_model.specs.declared.event.WorldEvent.{WorldEvent}
 use Rattle.world_model.specs.declared.event.WorldEvent.TheVariants.{Step, Put, Arrive, Store, Ack, Image, Crash, Restart, Release}
 use Rattle.world_model.specs.declared.reply.Reply.{Reply}
@@ -11,7 +11,7 @@ use Rattle.world_model.specs.Follows.{Follows, Happens}
 use Rattle.world_model.specs.Memory.{Unchanged, Fetched}
 use Rattle.world_model.specs.Onward.{IsWorld}
 use Rattle.world_model.specs.ToTheEnd.{IsNoCrash, Leads}
-use Rattle.world_model.specs.Finished.{leaves_all, step_of, steps_in, LeadsAlmost, IsAfter, Played, PlayedAlmost, RestsAt, HasHeard, below, for_all, no_steps}
+use Rattle.world_model.specs.Finished.{leaves_all, step_of, steps_in, LeadsAlmost, IsAfter, Played, PlayedAlmost, below, for_all, no_steps}
 use Rattle.world_model.proofs.HeadlineKept.{happens_can}
 use Rattle.world_model.proofs.Alike.OneEventMore.{happened}
 use Rattle.world_model.proofs.Ending.LeadsOn.{later_after, program_after, size_same}
@@ -45,7 +45,7 @@ below_one (suc k) r = go (k == r) refl (below_one k r)
 -- ---- what happened is on the list
 
 -- lists that lead on one after the other
-leads_append : (a b c : WorldValue) (x y : List WorldEvent) → Leads a x b → Leads b y c → Leads a (x ++ y) c
+pub leads_append : (a b c : WorldValue) (x y : List WorldEvent) → Leads a x b → Leads b y c → Leads a (x ++ y) c
 leads_append a b c [] y e g = subst (λ z. Leads z y c) e g
 leads_append a b c (event ∷ x) y f g = (f.0, f.1, (f.2.0, f.2.1, f.2.2, leads_append f.2.1 b c x y f.2.3 g))
 
@@ -60,7 +60,9 @@ played_one w events event answer w' events' i mild l f e =
       leads = λ start led.
           leads_append start w w' events (event ∷ []) led (mild, happens_can w event answer w' i.stands h, (answer, w', h, refl));
       steps = λ r. (let q = steps_append r events event in omega (arith, q));
-      longer = (let q = length-append events (event ∷ []) in omega (arith, q));
+      late = event ∷ [];
+      listed = refl;
+      leads_on = (mild, happens_can w event answer w' i.stands h, (answer, w', h, refl));
     })
   where
     h : Happens w event answer w'
@@ -75,7 +77,9 @@ played_same more w events w' events' e f =
       same_size = ap (λ z. size z) e;
       leads = λ start led. subst (λ z. Leads start events z) (sym e) led;
       steps = λ r. omega arith;
-      longer = omega arith;
+      late = [];
+      listed = sym (append-nil events);
+      leads_on = e;
     })
 
 -- an event that left all as it was isn't on it
@@ -114,14 +118,16 @@ played_nothing w events w' events' e f =
 -- ---- one after another
 
 -- the steps of both
-played_more : (c d e : ℕ → ℕ) (u v w : WorldValue) (x y z : List WorldEvent) → ((r : ℕ) → c r + d r ≤ e r)
+pub played_more : (c d e : ℕ → ℕ) (u v w : WorldValue) (x y z : List WorldEvent) → ((r : ℕ) → c r + d r ≤ e r)
     → Played c u x v y → Played d v y w z → Played e u x w z
 played_more c d e u v w x y z l f g =
     record {
       same_size = g.same_size ∙ f.same_size;
       leads = λ start led. g.leads start (f.leads start led);
       steps = λ r. (let m = l r in let a = f.steps r in let b = g.steps r in omega (arith, m, a, b));
-      longer = (let a = f.longer in let b = g.longer in omega (arith, a, b));
+      late = f.late ++ g.late;
+      listed = g.listed ∙ ap (λ k. k ++ g.late) f.listed ∙ append_assoc x f.late g.late;
+      leads_on = leads_append u v w f.late g.late f.leads_on g.leads_on;
     }
 
 -- the same where memory is refused at last
@@ -178,7 +184,9 @@ one_each k u v x y f = record {
   same_size = f.same_size;
   leads = f.leads;
   steps = λ r. (let l = below_one k r in let a = f.steps r in omega (arith, l, a));
-  longer = f.longer;
+  late = f.late;
+  listed = f.listed;
+  leads_on = f.leads_on;
 }
 
 -- the same where memory is refused
@@ -245,24 +253,3 @@ whole_after more w w' none events e p = leads_after events w w' (p.leads w (from
 -- the same where memory was refused at last
 pub almost_whole : (more : ℕ → ℕ) (w w' : WorldValue) (none events : List WorldEvent) → none ≡ [] → PlayedAlmost more w none w' events → IsAfter w w'
 almost_whole more w w' none events e p = almost_after events w w' (p.leads w (from_none w none e))
-
--- ---- what is looked at, at the end
-
--- one rank more is at rest
-pub rest_next : (k : ℕ) (u v w : WorldValue) (x y z : List WorldEvent) → Played no_steps u x v y × ((r : ℕ) → r < k → RestsAt v r)
-    → Played no_steps v y w z → (w ≡ v) × RestsAt w k → Played no_steps u x w z × ((r : ℕ) → r < k + 1 → RestsAt w r)
-rest_next k u v w x y z f g h = (quiet_last no_steps u v w x y z f.0 g, λ r l. go r l (cases_eq r k))
-  where
-    go : (r : ℕ) → r < k + 1 → (r ≡ k) ⊎ (r ≡ k → ⊥) → RestsAt w r
-    go r l (inl e) = subst (λ q. RestsAt w q) (sym e) h.1
-    go r l (inr ne) = subst (λ q. RestsAt q r) (sym h.0) (f.1 r (omega (arith, l, ne)))
-
--- and has heard one more
-pub hears_next : (k r : ℕ) (u v w : WorldValue) (x y z : List WorldEvent)
-    → Played no_steps u x v y × (v ≡ u) × ((s : ℕ) → s < k → HasHeard v s r) → Played no_steps v y w z → (w ≡ v) × HasHeard w k r
-    → Played no_steps u x w z × (w ≡ u) × ((s : ℕ) → s < k + 1 → HasHeard w s r)
-hears_next k r u v w x y z f g h = (quiet_last no_steps u v w x y z f.0 g, h.0 ∙ f.1, λ s l. go s l (cases_eq s k))
-  where
-    go : (s : ℕ) → s < k + 1 → (s ≡ k) ⊎ (s ≡ k → ⊥) → HasHeard w s r
-    go s l (inl e) = subst (λ q. HasHeard w q r) (sym e) h.1
-    go s l (inr ne) = subst (λ q. HasHeard q s r) (sym h.0) (f.2 s (omega (arith, l, ne)))

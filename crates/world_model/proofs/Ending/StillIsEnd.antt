@@ -1,4 +1,4 @@
--- A world that is still has ended, if no rank is spent. Nobody lacks a packet that was transmitted, as it is on its wire and would be
+-- In a world that is still every rank is at rest, if no rank is spent. Nobody lacks a packet that was transmitted, as it is on its wire and would be
 -- accepted; nothing is outgoing, so all that was sent was transmitted. So each rank can make the run's next act again, and has made it. It has
 -- all messages, nothing waits, and its machine moves no more.
 use Rattle.std.proofs.Common.{◌≡◌, ◌≢◌, ℕ, ◌+◌, ◌<◌, ◌≤◌, ◌==◌, nat_le, ◌⊎◌, inl, inr, Bool, true, false, if◌then◌else◌, List, [], ◌∷◌, ◌++◌, Option}
@@ -41,8 +41,7 @@ use Rattle.world_model.specs.Follows.{CanNot, Happens, StepFollows, ReplayFollow
 use Rattle.world_model.specs.Wires.{wire_of}
 use Rattle.world_model.specs.Onward.{OnWire, IsWorld}
 use Rattle.world_model.specs.Driven.{AllLive, is_refused, Ready}
-use Rattle.world_model.specs.ToTheEnd.{HasEnded}
-use Rattle.world_model.specs.Finished.{leaves_all, is_idle, IsQuiet, HasHeard, IsNowhereSpent, IsInVain, IsStill}
+use Rattle.world_model.specs.Finished.{leaves_all, is_idle, IsQuiet, HasHeard, AllRest, IsNowhereSpent, IsInVain, IsStill}
 use Rattle.world_model.proofs.Calls.RankOfEvent.{one_live}
 use Rattle.world_model.proofs.Calls.Frames.{has_wire, wire_is}
 use Rattle.world_model.proofs.Alike.OneEventMore.{happened}
@@ -58,7 +57,6 @@ use Rattle.world_model.proofs.Again.GoesOn.{caught_up_at_end}
 use Rattle.world_model.proofs.Again.NextActIsMade.{make_next, made_already, ready_first}
 use Rattle.world_model.proofs.Way.FramesPassNoRank.{none_next, log_of, above_of, base_of}
 use Rattle.world_model.proofs.Way.AllAreLive.{live_or_down}
-use Rattle.world_model.proofs.Ending.RestIsEnd.{all_rest}
 
 -- ---- an event in vain
 
@@ -328,6 +326,6 @@ module _ (w : WorldValue) (i : IsWorld w) (still : IsStill w) (unspent : IsNowhe
       ap (λ k. length (sends_from 0 d (take k (history w.run s)))) u.made ∙ ap (λ z. length (sends_from 0 d z)) (take_whole (history w.run s)) in
       omega (arith, a, n, e)
 
-  -- so the world has ended
-  pub still_ends : HasEnded w
-  still_ends = all_rest w i (λ r l. (quiet r l, λ s m. heard s r m))
+  -- so every rank is at rest
+  pub still_rests : AllRest w
+  still_rests r l = (quiet r l, λ s m. heard s r m)

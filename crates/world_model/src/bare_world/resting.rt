@@ -1,34 +1,57 @@
 //! Ranks that have nothing left to do by themselves.
 ghost use Rattle.std.specs.Prelude.{◌≡◌, ◌<◌, length, IfSome, IfNone};
-ghost use Rattle.std.specs.Bool.{OnTrue};
-ghost use Rattle.crash_free.specs.Runs.{sent};
+ghost use Rattle.std.specs.Bool.{OnTrue, OnFalse};
+ghost use Rattle.matching.specs.Inbox.{accepted_from};
 ghost use Rattle.rank_node.specs.declared.fault.NodeFault.{NodeFault};
 ghost use Rattle.world_model.specs.World.{size};
-ghost use Rattle.world_model.specs.Finished.{is_idle, IsPacket, IsPacketAt};
-ghost use Rattle.world_model.specs.Wires.{HasWire, wire_of};
+ghost use Rattle.world_model.specs.Finished.{is_idle};
 
 use crate::bare_world::BareWorld;
-use rank_node::{Frame, NodeFault, Turn};
+use checkpoint::MemoryShelf;
+use matching::Inbox;
+use rank_node::{NodeFault, Running, Turn};
 
 impl<'p> BareWorld<'p> {
-    ghost use Rattle.world_model.specs.Finished.{IsQuiet, IsSpent};
+    ghost use Rattle.world_model.specs.Finished.{IsQuietAs, IsSpent, RestsAt, HearsAll};
 
-    /// Whether a rank is quiet, as far as it says so. This takes no memory.
-    #[tactic(auto, using(crate::proofs::Ending::QuietRanks::quiet_is))]
-    pub fn is_quiet(&self, rank: u8) -> bool
+    /// Whether a rank is at rest. This takes no memory.
+    #[tactic(auto, using(crate::proofs::Ending::QuietRanks::rests_is, crate::proofs::Ending::QuietRanks::busy_restless, crate::proofs::Ending::QuietRanks::deaf_restless, crate::proofs::Ending::QuietRanks::idle_restless))]
+    pub fn rests(&self, rank: u8) -> bool
         requires { rank < size self.now }
-        ensures { OnTrue result (IsQuiet self.now rank) }
+        ensures yes { OnTrue result (RestsAt self.now rank) }
+        ensures no { OnFalse result (RestsAt self.now rank → ⊥) }
     {
         let Some(running) = self.seats.running(rank) else {
             return false;
         };
-        if !running.is_settled() {
-            return false;
+        self.is_quiet(rank, running) && self.has_heard_all(rank, running.inbox())
+    }
+
+    /// Whether nothing of a rank at work waits, it has made its acts of the run,
+    /// and it is idle.
+    #[tactic(auto, using(crate::proofs::Ending::QuietRanks::quiet_is))]
+    fn is_quiet(&self, rank: u8, running: &Running<'p, MemoryShelf, ()>) -> bool
+        requires { rank < size self.now }
+        ensures yes { OnTrue result (IsQuietAs self.now.run rank running.now) }
+        ensures no { OnFalse result (IsQuietAs self.now.run rank running.now → ⊥) }
+    {
+        running.is_settled()
+            && running.clock() as usize == self.run.count(rank)
+            && is_idle(running.turn())
+    }
+
+    /// Whether all that was sent to a rank in the run was accepted in this inbox.
+    fn has_heard_all(&self, rank: u8, inbox: &Inbox) -> bool
+        requires { rank < size self.now }
+        ensures yes { OnTrue result (HearsAll self.now rank inbox.now) }
+        ensures no { OnFalse result (HearsAll self.now rank inbox.now → ⊥) }
+    {
+        for source in 0..self.ranks() {
+            if self.run.sent(source, rank) > accepted_from(inbox, source) {
+                return false;
+            }
         }
-        if running.clock() as usize != self.run.count(rank) {
-            return false;
-        }
-        is_idle(running.turn())
+        true
     }
 
     /// By which name the next act of a rank is refused, if it is.
@@ -43,42 +66,15 @@ impl<'p> BareWorld<'p> {
         };
         running.refusal()
     }
-
-    /// How many messages a rank sent to another in the run.
-    pub fn sent(&self, source: u8, dest: u8) -> usize
-        requires source { source < size self.now }
-        requires dest { dest < size self.now }
-        ensures { result ≡ length (sent self.now.run source dest) }
-    {
-        self.run.sent(source, dest)
-    }
-
-    /// Where on the wire from a rank to another the packet of this number was
-    /// last put.
-    pub fn find_packet(&self, source: u8, dest: u8, number: usize) -> Option<u64>
-        requires { HasWire self.now.wires source dest }
-        ensures { IfSome result (λ index. IsPacketAt (wire_of self.now.wires source dest) index number) }
-    {
-        let wire = self.wires.wire(source, dest);
-        for back in 1..=wire.len() {
-            let index = wire.len() - back;
-            let Some(frame) = wire.get(index) else {
-                return None;
-            };
-            if is_packet(frame, number) {
-                return Some(index as u64);
-            }
-        }
-        None
-    }
 }
 
-fn is_packet(frame: &Frame, number: usize) -> bool
-    ensures { OnTrue result (IsPacket frame.now number) }
+/// How many packets of a rank were accepted.
+fn accepted_from(inbox: &Inbox, source: u8) -> usize
+    ensures { result ≡ accepted_from inbox.now source }
 {
-    match frame {
-        Frame::Data(packet) => packet.number as usize == number,
-        Frame::Ask { .. } | Frame::Kept { .. } => false,
+    match inbox.counts().get(usize::from(source)) {
+        Some(count) => *count as usize,
+        None => 0,
     }
 }
 

@@ -4,11 +4,12 @@
 //! Which events the driver chooses is in no contract of the whole. What it played
 //! is, and so is what it has come to: where a round has nothing to do, the world
 //! has ended or a rank is spent.
-ghost use Rattle.std.specs.Prelude.{◌≡◌, ◌≢◌, ◌<◌, ◌≤◌, ℕ, length, IfOk, OnOk, OnErr, MatchBool};
+ghost use Rattle.std.specs.Prelude.{◌≡◌, ◌≢◌, ◌<◌, ◌≤◌, ℕ, [], length, IfOk, OnOk, OnErr, MatchBool};
 ghost use Rattle.world_model.specs.declared.event.WorldEvent.TheVariants.{Arrive, Step};
 ghost use Rattle.world_model.specs.World.{size};
 ghost use Rattle.world_model.specs.Finished.{Played, PlayedAlmost, step_of, for_all, no_steps};
 ghost use Rattle.world_model.specs.Finished.{LeadsTo, IsAfter, ComesTo, steps_in, Tried, IsInVain, IsStill, ForEach, ForEachTwo};
+ghost use Rattle.world_model.specs.Finished.{HadTurn, HadTurns, HadRound, HadRounds, IsTaken};
 ghost use Rattle.world_model.specs.Finished.{StepsInVain, OpensInVain, PutsInVain, ArrivesInVain, FindsInVain};
 ghost use Rattle.world_model.specs.Follows.{Follows};
 ghost use Rattle.world_model.specs.ToTheEnd.{IsNoCrash};
@@ -25,8 +26,8 @@ use std::alloc::AllocError;
 
 impl<'p> World<'p> {
     /// Plays the world on, by at most so many rounds over all ranks, until no
-    /// rank can make an act any more; the events that it played. In a round
-    /// each rank makes one step at most.
+    /// rank has anything left to do; the events that it played. In a round each
+    /// rank has its turn, and makes one step at most.
     ///
     /// The world is then the one after these events, whatever stopped them:
     /// also if memory was refused, where the fetch of a restart may stay in
@@ -34,7 +35,7 @@ impl<'p> World<'p> {
     pub fn finish(&mut self, alloc: Heap, rounds: u32) -> Finish
         ensures leads { LeadsTo self.old result.events.items result.end self.new }
         ensures after { IsAfter self.old self.new }
-        ensures end { ComesTo self.new rounds result.events.items result.end }
+        ensures end { ComesTo self.old self.new rounds result.events.items result.end }
         ensures steps { (r : ℕ) → steps_in r result.events.items ≤ rounds }
     {
         let mut events = Vec::new(alloc);
@@ -55,12 +56,11 @@ impl<'p> World<'p> {
     ) -> Result<FinishEnd, AllocError>
         ensures ok { OnOk result (Played (for_all rounds) self.old events.old.items self.new events.new.items) }
         ensures err { OnErr result (PlayedAlmost (for_all rounds) self.old events.old.items self.new events.new.items) }
-        ensures end { IfOk result (λ end. ComesTo self.new rounds events.new.items end) }
+        ensures end { IfOk result (λ end. events.old.items ≡ [] → ComesTo self.old self.new rounds events.new.items end) }
         ensures memory { IfOk result (λ end. end ≢ FinishEnd.OutOfMemory) }
     {
         let quiet = self.play_rounds(rounds, events)?;
-        let end = self.come_to(quiet, events)?;
-        Ok(end)
+        Ok(self.come_to(quiet))
     }
 
     /// Rounds, until one has nothing to do; whether one had.
@@ -71,7 +71,7 @@ impl<'p> World<'p> {
     ) -> Result<bool, AllocError>
         ensures ok { OnOk result (Played (for_all rounds) self.old events.old.items self.new events.new.items) }
         ensures err { OnErr result (PlayedAlmost (for_all rounds) self.old events.old.items self.new events.new.items) }
-        ensures rounds { IfOk result (λ quiet. MatchBool quiet (IsStill self.new) (rounds ≤ length events.new.items)) }
+        ensures rounds { IfOk result (λ quiet. MatchBool quiet (IsStill self.new) (HadRounds rounds self.old events.old.items self.new events.new.items)) }
     {
         for _ in 0..rounds {
             let before = events.len();
@@ -90,6 +90,7 @@ impl<'p> World<'p> {
         ensures ok { OnOk result (Played (for_all 1) self.old events.old.items self.new events.new.items) }
         ensures err { OnErr result (PlayedAlmost (for_all 1) self.old events.old.items self.new events.new.items) }
         ensures tried { OnOk result (Tried IsStill self.old events.old.items self.new events.new.items) }
+        ensures round { OnOk result (length events.old.items < length events.new.items → HadRound self.old events.old.items self.new events.new.items) }
     {
         let before = events.len();
         self.step_all(events)?;
@@ -107,6 +108,7 @@ impl<'p> World<'p> {
         ensures ok { OnOk result (Played (for_all 1) self.old events.old.items self.new events.new.items) }
         ensures err { OnErr result (PlayedAlmost (for_all 1) self.old events.old.items self.new events.new.items) }
         ensures tried { OnOk result (Tried (ForEach StepsInVain) self.old events.old.items self.new events.new.items) }
+        ensures turns { OnOk result (HadTurns self.old events.old.items self.new events.new.items) }
     {
         for rank in 0..self.ranks() {
             self.step_rank(rank, events)?;
@@ -120,6 +122,7 @@ impl<'p> World<'p> {
         ensures ok { OnOk result (Played (λ r. step_of r (Step rank)) self.old events.old.items self.new events.new.items) }
         ensures err { OnErr result (PlayedAlmost no_steps self.old events.old.items self.new events.new.items) }
         ensures tried { OnOk result (Tried (StepsInVain rank) self.old events.old.items self.new events.new.items) }
+        ensures turn { OnOk result (HadTurn rank self.old events.old.items self.new events.new.items) }
     {
         let rank = u32::from(rank);
         self.play(WorldEvent::Restart { rank }, events)?;
@@ -260,6 +263,7 @@ impl<'p> World<'p> {
         ensures ok { OnOk result (Played (λ r. step_of r event) self.old events.old.items self.new events.new.items) }
         ensures err { OnErr result (PlayedAlmost no_steps self.old events.old.items self.new events.new.items) }
         ensures tried { OnOk result (Tried (λ w. IsInVain w event) self.old events.old.items self.new events.new.items) }
+        ensures taken { OnOk result (IsTaken event self.old events.old.items self.new events.new.items) }
         ensures follows { IfOk result (λ reply. Follows self.old event reply self.new) }
     {
         let _bare = &self.bare;
