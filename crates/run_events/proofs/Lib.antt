@@ -1,9 +1,10 @@
 mod Finishing
-mod Masking
+pub mod Masking
 mod NoDomino
 mod NoOrphan
 mod Replaying
 mod Halting
+mod Missing
 mod Planning
 mod Played
 mod WithScript

@@ -5,6 +5,7 @@ pub mod NoDomino
 pub mod NoOrphan
 pub mod Replaying
 pub mod Halting
+pub mod Missing
 pub mod Fault
 pub mod Plays
 pub mod Scripted

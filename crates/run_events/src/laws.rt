@@ -9,6 +9,7 @@ ghost use Rattle.explore.specs.Outcomes.{AreAll};
 ghost use Rattle.run_events.specs.Finishing.{FinishesAmong};
 ghost use Rattle.run_events.specs.Halting.{AllHalt, HaveHalted};
 ghost use Rattle.run_events.specs.Masking.{EndsAmong, IsMasked, MasksCrashes};
+ghost use Rattle.run_events.specs.Missing.{MissesNothingShown};
 
 use world_model::World;
 
@@ -53,3 +54,13 @@ pub fn law_all_halt()
     ensures { (program : ProgramValue) (n : ℕ) (outcomes : List (List RankOutcome)) (o : OutcomeValue) → AreAll program n outcomes
         → AllHalt outcomes → IsFinal program n o → NoneIsUnfinished o.ends → HaveHalted o.ends }
 {}
+
+/// A law, for proofs alone: in the run that a world stands for no probe misses a
+/// message that its rank was shown, whatever crashed. So no execution has a run
+/// that `explore` marks by that.
+#[tactic(auto, using(crate::proofs::Missing::world_misses_none))]
+pub fn law_misses_nothing(world: &World<'_>)
+    ensures { MissesNothingShown world.now }
+{
+    world.law_misses_nothing();
+}

@@ -1,5 +1,5 @@
 -- The text of events by which a world ends, and why a world isn't led to its end.
-use Rattle.std.proofs.Common.{◌≡◌, ℕ, ◌≤◌, List, [], refl, subst}
+use Rattle.std.proofs.Common.{◌≡◌, ℕ, ◌≤◌, inl, inr, List, refl, subst}
 use Rattle.runner.specs.FinishText.{EndsBy, IsFinishText, IsWithoutEnd, refusal_of_end}
 use Rattle.runner.specs.declared.commands.refusal.Refusal.{Refusal}
 use Rattle.runner.specs.declared.commands.refusal.Refusal.TheVariants as refusal
@@ -15,7 +15,7 @@ use Rattle.world_model.specs.declared.reply.Reply.{Reply}
 -- a text of events that came to the end, from where others led
 pub is_finish_text : (steps : ℕ) (before reached after : WorldValue) (events list : List WorldEvent) (replies : List Reply) (end : FinishEnd)
     (text : List ℕ) → FollowsAll before events replies reached → LeadsTo reached list end after → IsAfter reached after
-    → ComesTo after steps list end → ((r : ℕ) → steps_in r list ≤ steps) → end ≡ finish.Ended → text ≡ events_text list
+    → ComesTo reached after steps list end → ((r : ℕ) → steps_in r list ≤ steps) → end ≡ finish.Ended → text ≡ events_text list
     → IsFinishText steps before events after text
 is_finish_text steps before reached after events list replies end text follows leads later comes few same written = record {
   replies = replies;
@@ -25,17 +25,21 @@ is_finish_text steps before reached after events list replies end text follows l
   ends = record {
     leads = subst (λ e. LeadsTo reached list e after) same leads;
     after = later;
-    ended = subst (λ e. ComesTo after steps list e) same comes;
+    ended = (subst (λ e. ComesTo reached after steps list e) same comes).0;
+    rest = (subst (λ e. ComesTo reached after steps list e) same comes).1;
     few = few;
   };
   written = written;
 }
 
 -- the refusal of a world that was played and came to something else
-pub is_without_end : (steps : ℕ) (w : WorldValue) (list : List WorldEvent) (end : FinishEnd) (refused : Refusal)
-    → ComesTo w steps list end → refused ≡ refusal_of_end steps end → IsWithoutEnd steps w refused
-is_without_end steps w list end refused comes told = record { list = list; end = end; comes = comes; told = told }
+pub is_without_end : (steps : ℕ) (before reached after : WorldValue) (events list : List WorldEvent) (replies : List Reply) (end : FinishEnd)
+    (refused : Refusal) → FollowsAll before events replies reached → ComesTo reached after steps list end → refused ≡ refusal_of_end steps end
+    → IsWithoutEnd steps before events after refused
+is_without_end steps before reached after events list replies end refused follows comes told =
+    inl (record { replies = replies; reached = reached; follows = follows; list = list; end = end; comes = comes; told = told })
 
 -- if there is no memory, nothing more is said
-pub without_memory : (steps : ℕ) (w : WorldValue) → IsWithoutEnd steps w refusal.Memory
-without_memory steps w = record { list = []; end = finish.OutOfMemory; comes = tt; told = refl }
+pub without_memory : (steps : ℕ) (before : WorldValue) (events : List WorldEvent) (after : WorldValue)
+    → IsWithoutEnd steps before events after refusal.Memory
+without_memory steps before events after = inr refl

@@ -2,7 +2,7 @@
 use Rattle.std.proofs.Common.{◌≡◌, ◌↔◌, ◌≤◌, ◌+◌, ℕ, List, [], true, false, nat_lt, IsTrue, subst}
 use Rattle.command_line.specs.declared.soaking.SoakJob.{SoakJob}
 use Rattle.runner.specs.Reports.{IsReportUnder}
-use Rattle.runner.specs.Statuses.{AreHalted}
+use Rattle.run_events.specs.Halting.{HaveHalted}
 use Rattle.audit.specs.FinalRuns.Final.{seen_of}
 use Rattle.rank_language.specs.Correct.{IsProgramOf}
 use Rattle.rank_language.specs.Program.{ProgramValue}
@@ -36,7 +36,7 @@ is_drawn job lines text script usable kills images spelled read = record {
 pub is_reported : (program : ProgramValue) (job : SoakJob) (script : List ScriptLine) (steps : ℕ) (report : Report) (old new : Soaked)
     → IsDrawn job script → steps ≡ job.steps → IsReportUnder program job.ranks script steps report
     → Notes old.histogram (seen_of report.outcome) (nat_lt 0 report.crashes) new.histogram → new.crashes ≡ up_to (old.crashes + report.crashes)
-    → (IsTrue new.all_halted ↔ (IsTrue old.all_halted × AreHalted report.outcome)) → IsOneMore program job old new
+    → (IsTrue new.all_halted ↔ (IsTrue old.all_halted × HaveHalted report.outcome.ends)) → IsOneMore program job old new
 is_reported program job script steps report old new drawn is under counted crashes halted =
     IsOneMore.reported script report drawn (subst (λ (s : ℕ). IsReportUnder program job.ranks script s report) is under)
     (record { counted = counted; crashes = crashes; halted = halted })

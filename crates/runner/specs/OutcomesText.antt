@@ -1,7 +1,6 @@
 -- The text of all outcomes of a program (docs/FORMATS.md, "Standard output of `explore`").
-use Rattle.std.specs.Prelude.{◌≡◌, ℕ, ℤ, ◌+◌, Bool, length, List, [], ◌∷◌, ◌++◌, All, Option, Some, slice_get, codes}
+use Rattle.std.specs.Prelude.{◌≡◌, ℕ, ℤ, ◌+◌, Bool, length, List, [], ◌∷◌, ◌++◌, Option, Some, slice_get, codes}
 use Rattle.std.specs.Fmt.{decimal}
-use Rattle.audit.specs.declared.outcome.End.TheVariants as end
 use Rattle.world_model.specs.EventsText.Output.{line_text}
 use Rattle.explore.specs.declared.moves.Noted.{Noted}
 use Rattle.explore.specs.Explored.{ExploredValue}
@@ -85,12 +84,3 @@ pub record IsMarkedObject (source : List ℕ) (program : ProgramValue) (ranks : 
   pub lines : List ℕ
   pub lined : IsLinedOf source program lines
   pub written : IsSearchObject found marks lines text
-
--- each rank halts in this outcome
-abbrev pub Halts : List RankOutcome → Type 0
-Halts outcome = All (λ (seen : RankOutcome). seen.end ≡ end.Halted) outcome
-
--- each rank halts in each outcome
-abbrev pub AllHalt : List (List RankOutcome) → Type 0
-AllHalt [] = Unit {0}
-AllHalt (outcome ∷ outcomes) = Halts outcome × AllHalt outcomes

@@ -12,7 +12,8 @@ use Rattle.rank_language.specs.Program.{ProgramValue}
 use Rattle.run_events.specs.Masking.{EndsAmong}
 use Rattle.runner.specs.Crashes.{AreMasked, PrintsOnly}
 use Rattle.runner.specs.Events.{PlaysOutcome}
-use Rattle.runner.specs.OutcomesText.{AllHalt, IsMarkedObject, IsMarkedSummary, IsMarkedText}
+use Rattle.run_events.specs.Halting.{AllHalt}
+use Rattle.runner.specs.OutcomesText.{IsMarkedObject, IsMarkedSummary, IsMarkedText}
 use Rattle.runner.specs.Reading.{IsProgramIn}
 
 -- What a search found: the program may have each outcome. If the search is complete, it has no

@@ -4,7 +4,7 @@ use Rattle.std.specs.Prelude.{◌≡◌, ◌↔◌, ◌≤◌, ◌+◌, ℕ, Lis
 use Rattle.command_line.specs.declared.soaking.SoakJob.{SoakJob}
 use Rattle.runner.specs.Reading.{IsProgramIn}
 use Rattle.runner.specs.Reports.{IsReportUnder}
-use Rattle.runner.specs.Statuses.{AreHalted}
+use Rattle.run_events.specs.Halting.{HaveHalted}
 use Rattle.audit.specs.FinalRuns.Final.{seen_of}
 use Rattle.rank_language.specs.Program.{ProgramValue}
 use Rattle.rank_threads.specs.declared.report.Report.{Report}
@@ -27,7 +27,7 @@ pub record IsOfNone (soaked : Soaked) : Type 0 where
 pub record CountsReport (report : Report) (old new : Soaked) : Type 0 where
   pub counted : Notes old.histogram (seen_of report.outcome) (nat_lt 0 report.crashes) new.histogram
   pub crashes : new.crashes ≡ up_to (old.crashes + report.crashes)
-  pub halted : IsTrue new.all_halted ↔ (IsTrue old.all_halted × AreHalted report.outcome)
+  pub halted : IsTrue new.all_halted ↔ (IsTrue old.all_halted × HaveHalted report.outcome.ends)
 
 -- a run without a report counts in no bar, and not every run had all its ranks halt
 pub record CountsNone (old new : Soaked) : Type 0 where

@@ -1,8 +1,8 @@
 -- What the program answers if its words name no job of its own, and behind a run (docs/FORMATS.md, "Command").
-use Rattle.std.specs.Prelude.{◌≡◌, ◌≤◌, ◌↔◌, ℕ, List, [], All}
+use Rattle.std.specs.Prelude.{◌≡◌, ◌≤◌, ◌↔◌, ℕ, List, []}
 use Rattle.std.specs.String.{string_bytes}
-use Rattle.audit.specs.declared.outcome.End.TheVariants as end
 use Rattle.audit.specs.Outcome.{OutcomeValue}
+use Rattle.run_events.specs.Halting.{HaveHalted}
 use Rattle.command_line.specs.declared.no_job.NoJob.{NoJob}
 use Rattle.command_line.specs.declared.no_job.NoJob.TheVariants as no_job
 
@@ -24,11 +24,7 @@ mistake_in (no_job.Help text) = []
 mistake_in (no_job.Mistake text) = string_bytes text
 mistake_in no_job.Memory = []
 
--- every rank came to the end of the program
-abbrev pub AreHalted : OutcomeValue → Type 0
-AreHalted outcome = All (λ e. e ≡ end.Halted) outcome.ends
-
 -- the exit status behind a run: 0 if and only if every rank halted, and else 1
 pub record HasStatus (outcome : OutcomeValue) (status : ℕ) : Type 0 where
-  pub halted : (status ≡ 0) ↔ AreHalted outcome
+  pub halted : (status ≡ 0) ↔ HaveHalted outcome.ends
   pub else_one : status ≤ 1

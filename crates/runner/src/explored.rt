@@ -2,7 +2,8 @@
 ghost use Rattle.std.specs.Prelude.{◌≡◌, ◌<◌, ◌+◌, ◌++◌, ◌↔◌, IfOk, IsTrue, OnOk, Some, [], length, slice_get, string_bytes};
 ghost use Rattle.explore.specs.Explored.{rank_outcomes};
 ghost use Rattle.runner.specs.Partings.{AreOfLast, ArePartings};
-ghost use Rattle.runner.specs.OutcomesText.{AllHalt, AreWritten, Halts, IsExploredText};
+ghost use Rattle.run_events.specs.Halting.{AllHalt, Halts};
+ghost use Rattle.runner.specs.OutcomesText.{AreWritten, IsExploredText};
 ghost use Rattle.runner.specs.OutcomesText.{endings_text, lines_text, one_text, outcome_text, values_text};
 
 mod json;

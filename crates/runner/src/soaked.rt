@@ -1,7 +1,7 @@
 //! What the runs of a soak came to.
 ghost use Rattle.std.specs.Prelude.{◌≡◌, ◌↔◌, ◌+◌, [], false, true, nat_lt, IsTrue, OnOk, string_bytes};
 ghost use Rattle.audit.specs.FinalRuns.Final.{seen_of};
-ghost use Rattle.runner.specs.Statuses.{AreHalted};
+ghost use Rattle.run_events.specs.Halting.{HaveHalted};
 ghost use Rattle.outcomes.specs.Soak.Histogram.{Notes, up_to};
 
 mod text;
@@ -50,7 +50,7 @@ impl Soaked {
     pub fn note(&mut self, alloc: Heap, report: &Report, script: &Script) -> Result<(), AllocError>
         ensures counted { OnOk result (Notes self.old.histogram (seen_of report.now.outcome) (nat_lt 0 report.now.crashes) self.new.histogram) }
         ensures crashes { OnOk result (self.new.crashes ≡ up_to (self.old.crashes + report.now.crashes)) }
-        ensures halted { OnOk result (IsTrue self.new.all_halted ↔ (IsTrue self.old.all_halted × AreHalted report.now.outcome)) }
+        ensures halted { OnOk result (IsTrue self.new.all_halted ↔ (IsTrue self.old.all_halted × HaveHalted report.now.outcome.ends)) }
     {
         let images = images_used(alloc, script, report.unused.as_slice())?;
         let seen = seen_of(alloc, &report.outcome)?;

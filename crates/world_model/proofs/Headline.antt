@@ -23,6 +23,7 @@ use Rattle.world_model.specs.declared.event.WorldEvent.{WorldEvent}
 use Rattle.world_model.specs.declared.event.WorldEvent.TheVariants.{Step, Put, Arrive, Store, Ack, Image, Crash, Restart, Release}
 use Rattle.world_model.specs.declared.reply.Reply.{Reply}
 use Rattle.world_model.specs.declared.reply.Reply.TheVariants as reply
+use Rattle.world_model.specs.Misses.{NoneMissed}
 use Rattle.world_model.specs.Stands.{RankStands, start_at, Stands}
 use Rattle.rank_node.specs.Storing.{next_unstored}
 use Rattle.world_model.proofs.Lists.Beginnings.{drop_none}
@@ -168,6 +169,10 @@ stands_for w t =
       lines = t.run.lines;
       ranks = λ r v live. where_is w r v t live;
     }
+
+-- and that no miss of the run misses what its rank was shown
+pub none_missed : (w : WorldValue) → Stands w → NoneMissed (start_of w) w.run
+none_missed w t = t.run.missed
 
 -- a live rank has made the acts of the run and those that the invariant names
 pub stands_acts : (w : WorldValue) (r : ℕ) (v : Live) (t : Stands w) (live : IsLive w r v)

@@ -29,6 +29,7 @@ use Rattle.world_model.specs.declared.event.WorldEvent.TheVariants.{Step, Put, A
 use Rattle.world_model.specs.declared.reply.Reply.{Reply}
 use Rattle.checkpoint.specs.Image.{ImageValue}
 use Rattle.rank_node.specs.Image.{first_image, begins_at}
+use Rattle.world_model.specs.Misses.{NoneMissed}
 use Rattle.world_model.specs.Stands.{ImageStands, RankStands, start_at, StandsAt, DueCovered, RankCovers, Stands}
 use Rattle.world_model.proofs.Lists.Beginnings.{replicate_length, get_map, map_length}
 use Rattle.world_model.proofs.Plain.Ranks.{none_waits, none_left}
@@ -224,6 +225,7 @@ stands_fresh program n w f =
     at : StandsAt n (without_runs w)
     at = record {
       is_run = subst (λ z. IsRun (start_at w n) n z) (sym f.run) tt;
+      missed = subst (λ z. NoneMissed (start_at w n) z) (sym f.run) tt;
       as_many_rows = map_length expand w.logger.rows ∙ ap length f.rows ∙ replicate_length n [];
       rows = λ r events e. empty_plainly r events e ∙ sym (ap (λ z. row z r) f.run);
       as_many_wires = ap length f.wires ∙ replicate_length n (replicate n []);

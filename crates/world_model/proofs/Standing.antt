@@ -1,5 +1,6 @@
 -- Where ranks, images and payload logs stand in the run, and that each event keeps it.
 pub mod Inboxes
+pub mod FairMisses
 pub mod InRun
 pub mod Pending
 pub mod LiveRanks

@@ -172,7 +172,8 @@ pub record IsRound (w : WorldValue) (events : List WorldEvent) (w' : WorldValue)
 abbrev pub AreRounds : ℕ → WorldValue → List WorldEvent → WorldValue → Type 0
 AreRounds zero w events w' = (events ≡ []) × (w' ≡ w)
 AreRounds (suc n) w events w' =
-    (early last : List WorldEvent) × (mid : WorldValue) × (events ≡ early ++ last) × AreRounds n w early mid × IsRound mid last w'
+    (early : List WorldEvent) × (last : List WorldEvent) × (mid : WorldValue) × (events ≡ early ++ last)
+    × AreRounds n w early mid × IsRound mid last w'
 
 -- what the answer says of the world, which so many rounds at most and these events led to from
 -- another: it has ended, and no rank has a step left; the events are those of all rounds, and this

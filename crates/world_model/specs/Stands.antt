@@ -23,11 +23,12 @@ use Rattle.world_model.specs.Headline.{IsReal, lines_of}
 use Rattle.checkpoint.specs.Image.{ImageValue}
 use Rattle.rank_node.specs.Image.{begins_at}
 use Rattle.world_model.specs.Counts.{Counts}
+use Rattle.world_model.specs.Misses.{IsShown, MissesNoneShown, NoneMissed}
 use Rattle.world_model.specs.Plain.{without_runs, RunsOfMisses}
 
 -- The inbox of a rank with this history, to which each sender sent what is inbound: each packet is
 -- what was sent under its number, isn't taken and was accepted; what was accepted and isn't taken
--- is there, in the order of its numbers.
+-- is there, in the order of its numbers; and what was taken or shown was accepted.
 pub record InboxStands (box : Mailbox) (inbound : ℕ → List Message) (h : History) : Type 0 where
   pub real : (k : ℕ) (p : packet.PacketValue) → slice_get box.packets k ≡ Some p → at_place (inbound p.source) p.number ≡ Some (carried p)
   pub untaken : (k : ℕ) (p : packet.PacketValue) → slice_get box.packets k ≡ Some p → taken h p.source p.number ≡ false
@@ -37,6 +38,7 @@ pub record InboxStands (box : Mailbox) (inbound : ℕ → List Message) (h : His
   pub rising : (k l : ℕ) (p q : packet.PacketValue) → k < l → slice_get box.packets k ≡ Some p → slice_get box.packets l ≡ Some q
       → p.source ≡ q.source → p.number < q.number
   pub taken_accepted : (s j : ℕ) → taken h s j ≡ true → j ≤ accepted_from box s
+  pub shown_accepted : (s j : ℕ) → IsShown h s j → j ≤ accepted_from box s
   pub within : (s : ℕ) → accepted_from box s ≤ length (inbound s)
 
 -- the packet of the message that rank r sent as its jth to some rank
@@ -96,11 +98,13 @@ IsFor C r (takes source place) (waits.Line clock value) = ⊥
 IsFor C r (hits source place) (waits.Line clock value) = ⊥
 IsFor C r misses (waits.Line clock value) = ⊥
 
--- after a run a rank may go on by these acts alone, and these are what waits
+-- after a run a rank may go on by these acts alone, and these are what waits; none of them misses
+-- what the rank was shown
 abbrev pub Pending : (ℕ → State) → List Passed → ℕ → List Act → List Waiting → Type 0
 Pending start C r [] [] = Unit {0}
 Pending start C r (a ∷ acts) (x ∷ xs) =
     MayMake (start r) (λ s. sent C s r) (history C r) a × IsFor C r a x × Pending start (record { rank = r; act = a } ∷ C) r acts xs
+    × MissesNoneShown start C r a
 Pending start C r [] (x ∷ xs) = ⊥
 Pending start C r (a ∷ acts) [] = ⊥
 
@@ -126,6 +130,7 @@ start_at w n r = opening w.program r n
 -- how a world of n ranks goes with its run
 pub record StandsAt (n : ℕ) (w : WorldValue) : Type 0 where
   pub is_run : IsRun (start_at w n) n w.run
+  pub missed : NoneMissed (start_at w n) w.run
   pub as_many_rows : length w.logger.rows ≡ n
   pub rows : (r : ℕ) (events : List EventValue) → slice_get w.logger.rows r ≡ Some events → events ≡ row w.run r
   pub as_many_wires : length w.wires ≡ n

@@ -22,7 +22,7 @@ pub fn finish_text<'a>(
     steps: u32,
 ) -> Result<String<Heap>, Refusal<'a>>
     ensures ok { IfOk result (λ text. IsFinishText steps world.old events.now world.new (string_bytes text)) }
-    ensures refused { IfErr result (λ refusal. IsWithoutEnd steps world.new refusal) }
+    ensures refused { IfErr result (λ refusal. IsWithoutEnd steps world.old events.now world.new refusal) }
 {
     let Ok(_) = world.run(alloc, events) else {
         return Err(Refusal::Memory);

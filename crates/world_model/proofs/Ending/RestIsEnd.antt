@@ -21,7 +21,7 @@ use Rattle.world_model.specs.World.{Live, WorldValue, size, start_of}
 use Rattle.world_model.specs.Stands.{start_at}
 use Rattle.world_model.specs.Onward.{IsWorld}
 use Rattle.world_model.specs.ToTheEnd.{IsSettled, HasEnded}
-use Rattle.world_model.specs.Finished.{is_idle, RestsAt}
+use Rattle.world_model.specs.Finished.{is_idle, AllRest}
 use Rattle.world_model.proofs.Runs.ActFitsWant.{fits_ended}
 use Rattle.world_model.proofs.Headline.{stands_for}
 use Rattle.world_model.proofs.Calls.OldestUnstored.{sends_none}
@@ -40,7 +40,7 @@ not_blocked : (b : Bool) → b ≡ true → is_idle (if b then turn.Moved else t
 not_blocked true e q = cc
 not_blocked false e q = cc
 
-module _ (w : WorldValue) (i : IsWorld w) (all : (r : ℕ) → r < size w → RestsAt w r) where
+module _ (w : WorldValue) (i : IsWorld w) (all : AllRest w) where
   -- a rank has all messages that were sent to it
   has_all : (r : ℕ) (l : r < size w) (s : ℕ) → length (sent w.run s r) ≤ accepted_from (all r l).0.rank.rank.inbox s
   has_all r l s = at (cases_lt s (size w))

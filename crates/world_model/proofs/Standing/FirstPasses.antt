@@ -14,6 +14,7 @@ use Rattle.rank_node.specs.Waiting.{BeginsWithEvents}
 use Rattle.crash_free.proofs.Lists.{history-own, sends_from-push, send_at-append}
 use Rattle.world_model.proofs.Standing.StepsAtWork.{beyond}
 use Rattle.world_model.proofs.Standing.PayloadLogs.{LogStands-freed}
+use Rattle.world_model.specs.Misses.{MissesNoneShown}
 use Rattle.world_model.specs.Stands.{LogStands, LogsStand, sends_of, IsFor, Pending, StandsIn, RankStands}
 use Rattle.world_model.proofs.Standing.InRun.{StandsIn-longer, StandsIn-frames}
 
@@ -60,6 +61,7 @@ pub record First (start : ℕ → State) (n : ℕ) (C : List Passed) (r : ℕ) (
   pub act : Act
   pub acts : List Act
   pub can : MayMake (start r) (λ q. sent C q r) (history C r) act
+  pub fair : MissesNoneShown start C r act
   pub is_for : IsFor C r act x
   pub logs : LogsStand r (history C r) v.rank.clock (act ∷ acts) log
   pub counts : v.rank.clock ≡ length (history C r) + length (act ∷ acts)
@@ -87,6 +89,7 @@ RankStands-passes start n C r v s x rest pending stored log some is same low log
           act = a;
           acts = acts;
           can = p.0;
+          fair = p.3;
           is_for = p.1;
           logs = logs;
           counts = all ∙ count_continued C r (a ∷ acts);

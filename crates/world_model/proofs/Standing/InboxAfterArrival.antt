@@ -37,6 +37,7 @@ InboxStands-accepted box inbound h p within next_one real i =
       each = λ s j one l t. each s j one t (was s j l);
       rising = λ k l q q' lt e e' s. rising k l q q' lt s (push_cases box.packets p k q e) (push_cases box.packets p l q' e');
       taken_accepted = λ s j t. more s j (i.taken_accepted s j t);
+      shown_accepted = λ s j t. more s j (i.shown_accepted s j t);
       within = λ s. holds s (cases_eq s p.source);
     }
   where

@@ -14,6 +14,7 @@ use Rattle.crash_free.specs.Runs.{History, at_place, taken, takes_it, IsEligible
 use Rattle.crash_free.specs.Grows.{Grows}
 use Rattle.crash_free.proofs.Lists.{at_place-append, taken-push}
 use Rattle.crash_free.proofs.SlotLemmas.{packet_matching}
+use Rattle.world_model.specs.Misses.{Shows, IsShown}
 use Rattle.world_model.specs.Stands.{InboxStands}
 
 -- what is at k after a removal was at k or at the place above it
@@ -111,6 +112,21 @@ found_is_eligible w box inbound h k p i f =
         let x = i.each p.source j (place_one j m e) (omega (arith, b)) t in
         absurd (clash j x.0 m x.1 l x.2 x.3 x.4 e c)
 
+-- what was shown in a history and one act more was shown in the history, or in that act
+pub shown_push : (h : History) (x : Act × Option Message) (s j : ℕ) → IsShown (h ++ x ∷ []) s j → IsShown h s j ⊎ Shows s j x.0
+shown_push [] x s j (inl t) = inr t
+shown_push [] x s j (inr t) = absurd t
+shown_push (y ∷ h) x s j (inl t) = inl (inl t)
+shown_push (y ∷ h) x s j (inr t) = ⊎_elim (λ old. inl (inr old)) (λ new. inr new) (shown_push h x s j t)
+
+-- what comes no later than a packet of the inbox was accepted
+pub shows_accepted : (box : Mailbox) (inbound : ℕ → List Message) (h : History) (k : ℕ) (p : packet.PacketValue)
+    → slice_get box.packets k ≡ Some p → InboxStands box inbound h → (s j : ℕ) → (p.source ≡ s) × (j ≤ p.number) → j ≤ accepted_from box s
+shows_accepted box inbound h k p at i s j shows =
+    let l = shows.1 in
+    let b : p.number ≤ accepted_from box s = subst (λ z. p.number ≤ accepted_from box z) shows.0 (i.accepted k p at) in
+    omega (arith, l, b)
+
 -- other ranks sent more
 pub InboxStands-longer : (box : Mailbox) (inbound inbound' : ℕ → List Message) (h : History) → ((s : ℕ) → Grows (inbound s) (inbound' s))
     → InboxStands box inbound h → InboxStands box inbound' h
@@ -122,13 +138,15 @@ InboxStands-longer box inbound inbound' h g i =
       each = i.each;
       rising = i.rising;
       taken_accepted = i.taken_accepted;
+      shown_accepted = i.shown_accepted;
       within = λ s. rw (g s).1 (rw (length-append (inbound s) (g s).0) (omega (arith, i.within s)));
     }
 
--- an act that takes nothing
+-- an act that takes nothing, and shows only what was accepted
 pub InboxStands-noted : (box : Mailbox) (inbound : ℕ → List Message) (h : History) (x : Act × Option Message)
-    → ((s j : ℕ) → takes_it s j x.0 ≡ false) → InboxStands box inbound h → InboxStands box inbound (h ++ x ∷ [])
-InboxStands-noted box inbound h x none i =
+    → ((s j : ℕ) → takes_it s j x.0 ≡ false) → ((s j : ℕ) → Shows s j x.0 → j ≤ accepted_from box s)
+    → InboxStands box inbound h → InboxStands box inbound (h ++ x ∷ [])
+InboxStands-noted box inbound h x none shows i =
     record {
       real = i.real;
       untaken = λ k p e. same p.source p.number ∙ i.untaken k p e;
@@ -136,6 +154,7 @@ InboxStands-noted box inbound h x none i =
       each = λ s j one l t. i.each s j one l (sym (same s j) ∙ t);
       rising = i.rising;
       taken_accepted = λ s j t. i.taken_accepted s j (sym (same s j) ∙ t);
+      shown_accepted = λ s j t. ⊎_elim (λ old. i.shown_accepted s j old) (λ new. shows s j new) (shown_push h x s j t);
       within = i.within;
     }
   where
@@ -158,6 +177,8 @@ InboxStands-taken box inbound h k p o at i =
       each = each;
       rising = rising;
       taken_accepted = λ s j t. was s j (or_cases (taken h s j) (takes_it s j (takes p.source p.number)) (sym (taken-push h _ s j) ∙ t));
+      shown_accepted = λ s j t. ⊎_elim (λ old. i.shown_accepted s j old) (λ new. shows_accepted box inbound h k p at i s j new)
+          (shown_push h (takes p.source p.number, o) s j t);
       within = i.within;
     }
   where

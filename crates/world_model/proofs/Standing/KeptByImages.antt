@@ -26,6 +26,7 @@ Stands-imaged : (n : ℕ) (w : WorldValue) (r : ℕ) (v : Live) (i : ImageValue)
 Stands-imaged n w r v i s k j =
     record {
       is_run = s.is_run;
+      missed = s.missed;
       as_many_rows = s.as_many_rows;
       rows = s.rows;
       as_many_wires = s.as_many_wires;

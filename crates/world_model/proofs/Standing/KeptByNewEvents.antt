@@ -1,6 +1,6 @@
 -- A rank that runs, changed where nothing passes, keeps what a world stands for: so does each new reception, hit or miss. In
 -- a world without runs of misses each is an event of its own, and how many events a rank has made isn't told.
-use Rattle.std.proofs.Common.{◌≡◌, ℕ, ◌+◌, ◌<◌, ◌⊎◌, inl, inr, ⊎_elim, []}
+use Rattle.std.proofs.Common.{◌≡◌, ℕ, ◌+◌, ◌<◌, ◌⊎◌, inl, inr, ⊎_elim, false, []}
 use Rattle.std.proofs.Common.{Option, Some, None, length, take, refl, sym, subst, ◌∙◌, slice_get}
 use Rattle.std.proofs.Common.{option_and_then, position}
 use Rattle.event_logger.specs.Sequential.Event.{event_of}
@@ -20,8 +20,10 @@ use Rattle.rank_node.specs.Steps.{after_reception, after_probe}
 use Rattle.crash_free.specs.Runs.{History, history, sent, IsFree, continue}
 use Rattle.crash_free.proofs.Going.{free_silent}
 use Rattle.world_model.specs.World.{Rank, Live, WorldValue, IsLive}
+use Rattle.world_model.specs.Misses.{MissesNoneShown}
 use Rattle.world_model.specs.Stands.{InboxStands, RankStands, start_at, StandsAt}
-use Rattle.world_model.proofs.Standing.Inboxes.{Found, found_at, found_is_eligible, InboxStands-taken, InboxStands-noted}
+use Rattle.world_model.proofs.Standing.Inboxes.{Found, found_at, found_is_eligible, InboxStands-taken, InboxStands-noted, shows_accepted}
+use Rattle.world_model.proofs.Standing.FairMisses.{event_is_fair, miss_is_fair, found_none, found_some}
 use Rattle.world_model.proofs.Lists.Beginnings.{take_whole}
 use Rattle.world_model.proofs.Runs.ActFitsWant.{wanted}
 use Rattle.world_model.proofs.Standing.StepsAtWork.{IsEventWant, caught_up, RankStands-event}
@@ -94,6 +96,7 @@ module _ (n : ℕ) (w : WorldValue) (r : ℕ) (v : Live) (m : MachineValue) (s :
       (found_is_eligible selector v.rank.inbox (λ q. sent w.run q r) (history (continue w.run r (s.ranks r v live).acts) r) i p
       (inbox_now (want.Receive selector) e tt) here))
       (event_of kind.Reception p.source p.clock (v.rank.clock + 1)) (without v.rank.inbox i) refl
+      (event_is_fair (start_at w n) (continue w.run r (s.ranks r v live).acts) r (takes p.source p.number) (λ z. cc))
       (took.state p.number)
       (s.ranks r v live).at.counted
       (InboxStands-taken v.rank.inbox (λ q. sent w.run q r) (take v.rank.clock (history (continue w.run r (s.ranks r v live).acts) r)) i p
@@ -130,29 +133,41 @@ module _ (n : ℕ) (w : WorldValue) (r : ℕ) (v : Live) (m : MachineValue) (s :
       (found_is_eligible selector v.rank.inbox (λ y. sent w.run y r) (history (continue w.run r (s.ranks r v live).acts) r) i p
       (inbox_now (want.TryProbe selector) (e ∙ q) tt) here)) which)
       (event_of kind.Hit p.source p.clock (v.rank.clock + 1)) v.rank.inbox refl
+      (event_is_fair (start_at w n) (continue w.run r (s.ranks r v live).acts) r (hits p.source p.number) (λ z. cc))
       (did.state p.number)
       (s.ranks r v live).at.counted
       (InboxStands-noted v.rank.inbox (λ q. sent w.run q r) (take v.rank.clock (history (continue w.run r (s.ranks r v live).acts) r))
-      (hits p.source p.number, Some (carried p)) (λ q j. refl) (s.ranks r v live).at.inbox))
+      (hits p.source p.number, Some (carried p)) (λ q j. refl)
+      (λ q j shows. shows_accepted v.rank.inbox (λ y. sent w.run y r) (take v.rank.clock (history (continue w.run r (s.ranks r v live).acts) r)) i p
+      there (s.ranks r v live).at.inbox q j shows)
+      (s.ranks r v live).at.inbox))
     where
       here : Found selector v.rank.inbox.packets i p
       here = found_at selector v.rank.inbox.packets i p first there
 
-  missing : (selector : Selector) → machine_want v.rank.machine ≡ want.TryProbe selector → Missed v.rank.machine m
+  -- nothing in the inbox matches, so nothing that the rank was shown does
+  missing : (selector : Selector) → machine_want v.rank.machine ≡ want.TryProbe selector
+      → ((i : ℕ) (p : packet.PacketValue) → slice_get v.rank.inbox.packets i ≡ Some p → matches selector p ≡ false) → Missed v.rank.machine m
       → StandsAt n (changed w r (Some (record { rank = uncounted v.rank (after_probe v.rank m kind.Miss 0 0); left = [] })) w.images w.logger w.lines w.run)
-  missing selector e did =
+  missing selector e nothing did =
       alone (uncounted v.rank (after_probe v.rank m kind.Miss 0 0))
       (RankStands-event (start_at w n) n w.run r v (s.ranks r v live) misses None m running (eventful (want.TryProbe selector) e tt)
       makes refl
       (free_silent (wants (state_of v.rank.machine)) misses (λ q. sent w.run q r) (history (continue w.run r (s.ranks r v live).acts) r) tt)
       (event_of kind.Miss 0 0 (v.rank.clock + 1)) v.rank.inbox refl
+      fair
       did.state
       (s.ranks r v live).at.counted
       (InboxStands-noted v.rank.inbox (λ q. sent w.run q r) (take v.rank.clock (history (continue w.run r (s.ranks r v live).acts) r)) (misses, None)
-      (λ q j. refl) (s.ranks r v live).at.inbox))
+      (λ q j. refl) (λ q j shows. absurd shows) (s.ranks r v live).at.inbox))
     where
       makes : Makes (state_of v.rank.machine) misses None
       makes = subst (λ z. Fits z (payload (state_of v.rank.machine)) misses None) (sym (wanted v.rank.machine (want.TryProbe selector) e (λ z. cc))) tt
+
+      fair : MissesNoneShown (start_at w n) (continue w.run r (s.ranks r v live).acts) r misses
+      fair =
+          miss_is_fair (start_at w n) n w.run r v.rank (s.ranks r v live).acts (s.ranks r v live).at (eventful (want.TryProbe selector) e tt) selector e
+          nothing
 
   -- what is found, if anything is
   pub finding : (selector : Selector) → machine_want v.rank.machine ≡ want.Receive selector → (o : Option ℕ)
@@ -193,7 +208,7 @@ module _ (n : ℕ) (w : WorldValue) (r : ℕ) (v : Live) (m : MachineValue) (s :
       → StandsAt n
       (changed w r (Some (record { rank = uncounted v.rank (plain_tried v.rank m (option_and_then (at_index v.rank.inbox.packets) o)); left = [] }))
       w.images w.logger w.lines w.run)
-  trying selector e None there steps = missing selector e steps
+  trying selector e None there steps = missing selector e (λ i p at. found_none (matches selector) v.rank.inbox.packets there i p at) steps
   trying selector e (Some i) there steps = go (slice_get v.rank.inbox.packets i) refl steps
     where
       go : (o : Option packet.PacketValue) → slice_get v.rank.inbox.packets i ≡ o
@@ -201,5 +216,5 @@ module _ (n : ℕ) (w : WorldValue) (r : ℕ) (v : Live) (m : MachineValue) (s :
           → StandsAt n (changed w r
           (Some (record { rank = uncounted v.rank (plain_tried v.rank m (option_and_then {U = ℕ × packet.PacketValue} (λ p. Some (i, p)) o)); left = [] }))
           w.images w.logger w.lines w.run)
-      go None f t = missing selector e t
+      go None f t = absurd (found_some (matches selector) v.rank.inbox.packets i there f)
       go (Some p) f t = hitting (want.TryProbe selector) selector e (inr refl) i p there f t

@@ -104,7 +104,7 @@ Stands-release w r answer w' s f =
           resized w (changed w r (Some after) w.images w.logger (lines_released w.lines r f.effect) (passed_at w.run r f.clock (Some f.act)))
           (length-set w.ranks r _)
           (subst (λ z. StandsAt (size w) (changed w r (Some after) w.images w.logger (lines_released w.lines r f.effect) z)) (sym passed)
-          (Stands-passed (size w) w r o.act after w.logger (lines_released w.lines r f.effect) s.run below o.can o.stands s.run.as_many_rows
+          (Stands-passed (size w) w r o.act after w.logger (lines_released w.lines r f.effect) s.run below o.can o.fair o.stands s.run.as_many_rows
           (λ q x e. s.run.rows q x e ∙ sym (row_of_effect w.run r q o.act is_effect))
           (shown f.effect o.act o.is_for there.1)));
       covers =

@@ -99,7 +99,7 @@ module _ (n : ℕ) (w : WorldValue) (r : ℕ) (v : Live) (e : EventValue) (rest 
     as_many = refl;
     stands =
         Stands-passed n w r first.act (record { rank = after_passing v.rank pending stored v.rank.log; left = v.left }) logger w.lines s lt
-        first.can first.stands
+        first.can first.fair first.stands
         (ap length rows ∙ length-set w.logger.rows r _ ∙ s.as_many_rows) rows_are
         (λ q. s.lines q ∙ sym (printed_same w.run r q first.act
         (event_prints_none _ _ first.act (looked_up (λ z. sent w.run z r) first.act) e first.is_for)));

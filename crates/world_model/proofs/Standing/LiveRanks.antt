@@ -141,6 +141,7 @@ first_image_stands start n C r program starts opens =
         each = λ s j one l t. absurd (let z = nothing n s in omega (arith, one, l, z));
         rising = λ k l p q lt e f. absurd cc;
         taken_accepted = λ s j t. absurd cc;
+        shown_accepted = λ s j t. absurd t;
         within = λ s. (let z = nothing n s in omega (arith, z));
       };
     }

@@ -1,21 +1,22 @@
 -- What a rank has made that hasn't passed: acts of other ranks keep it, an act more goes to its end, and with it the run
 -- goes on as a run. What waits may send, so the run that goes on sends more.
-use Rattle.std.proofs.Common.{◌≡◌, ℕ, zero, suc, ◌+◌, ◌<◌, List, [], ◌∷◌, ◌++◌, Some, None, length, refl, sym, ap, subst, ◌∙◌}
+use Rattle.std.proofs.Common.{◌≡◌, ℕ, zero, suc, ◌+◌, ◌<◌, false, List, [], ◌∷◌, ◌++◌, Some, None, length, refl, sym, ap, subst, ◌∙◌}
 use Rattle.std.proofs.Common.{append_assoc, arith, slice_get}
 use Rattle.std.proofs.lemmas.List.{append-nil}
 use Rattle.event_logger.specs.Sequential.Event.{EventValue}
 use Rattle.rank_machine.specs.States.{State}
 use Rattle.rank_machine.specs.Wants.{wants, payload}
-use Rattle.rank_machine.specs.Acts.{Act, sends, takes, hits, misses, prints}
-use Rattle.crash_free.specs.Runs.{Passed, history, sent, send_at, looked_up, MayMake, IsRun, continue}
+use Rattle.rank_machine.specs.Acts.{Act, sends, takes, hits, misses, prints, Runs}
+use Rattle.crash_free.specs.Runs.{Passed, history, sent, send_at, looked_up, taken, MayMake, IsRun, continue}
 use Rattle.crash_free.specs.Grows.{Grows, Extends}
-use Rattle.crash_free.proofs.Lists.{send_at-append}
-use Rattle.crash_free.proofs.Going.{looked_up_longer, MayMake-longer, Extends-both, sent_grows}
+use Rattle.crash_free.proofs.Lists.{send_at-append, at_place-append}
+use Rattle.crash_free.proofs.Going.{looked_up_longer, MayMake-longer, Extends-both, sent_grows, free_silent}
 use Rattle.world_model.specs.Rows.{row}
 use Rattle.world_model.proofs.Rows.{IsEffect, row_one_more, row_of_effect}
 use Rattle.rank_node.specs.declared.waiting.Waiting.{Waiting}
 use Rattle.rank_node.specs.Waiting.{events_in, effects, event_in, BeginsWithEvents}
 use Rattle.rank_node.specs.declared.waiting.Waiting.TheVariants as waits
+use Rattle.world_model.specs.Misses.{IsShown, MissesNoneShown}
 use Rattle.world_model.specs.Stands.{IsFor, Pending, sends_of}
 
 -- an act is still what waits, where its rank has the same acts and its message is found still
@@ -33,6 +34,22 @@ IsFor-same C C' r (takes s j) (waits.Line clock value) h l f = absurd f
 IsFor-same C C' r (hits s j) (waits.Line clock value) h l f = absurd f
 IsFor-same C C' r misses (waits.Line clock value) h l f = absurd f
 
+-- a miss that misses nothing that was shown still does after acts of others
+MissesNoneShown-extended : (start : ℕ → State) (C C' : List Passed) (r : ℕ) (a : Act) → Extends r C C' → MissesNoneShown start C r a
+    → MissesNoneShown start C' r a
+MissesNoneShown-extended start C C' r a e fair is may selector wanted s j one shown free =
+    let was : MayMake (start r) (λ q. sent C q r) (history C r) misses =
+    record {
+      after = may.after;
+      stands = may.stands;
+      reached = subst (λ h. Runs (start r) h may.after) e.same may.reached;
+      inner = may.inner;
+      makes = may.makes;
+      free = free_silent (wants may.stands) misses (λ q. sent C q r) (history C r) tt;
+    } in
+    let m = fair is was selector wanted s j one (subst (λ h. IsShown h s j) e.same shown) (subst (λ h. taken h s j ≡ false) e.same free) in
+    (m.0, rw (e.grows s).1 (at_place-append (sent C s r) (e.grows s).0 j m.0 m.1), m.2)
+
 -- acts of other ranks keep what a rank has pending
 pub Pending-extended : (start : ℕ → State) (C C' : List Passed) (r : ℕ) (acts : List Act) (xs : List Waiting)
     → Extends r C C' → Pending start C r acts xs → Pending start C' r acts xs × Extends r (continue C r acts) (continue C' r acts)
@@ -48,6 +65,7 @@ Pending-extended start C C' r (a ∷ acts) (x ∷ xs) e p =
         rw e.same (MayMake-longer (start r) (λ s. sent C s r) (λ s. sent C' s r) (history C r) a e.grows p.0),
         IsFor-same C C' r a x e.same l p.1,
         rest.0,
+        MissesNoneShown-extended start C C' r a e p.3,
       ),
       rest.1,
     )
@@ -57,12 +75,13 @@ pub Pending-push : (start : ℕ → State) (C : List Passed) (r : ℕ) (acts : L
     → Pending start C r acts xs
     → MayMake (start r) (λ s. sent (continue C r acts) s r) (history (continue C r acts) r) a
     → IsFor (continue C r acts) r a x
+    → MissesNoneShown start (continue C r acts) r a
     → Pending start C r (acts ++ a ∷ []) (xs ++ x ∷ [])
-Pending-push start C r [] [] a x p c e = (c, e, tt)
-Pending-push start C r [] (y ∷ xs) a x p c e = absurd p
-Pending-push start C r (b ∷ acts) [] a x p c e = absurd p
-Pending-push start C r (b ∷ acts) (y ∷ xs) a x p c e =
-    (p.0, p.1, Pending-push start (record { rank = r; act = b } ∷ C) r acts xs a x p.2 c e)
+Pending-push start C r [] [] a x p c e f = (c, e, tt, f)
+Pending-push start C r [] (y ∷ xs) a x p c e f = absurd p
+Pending-push start C r (b ∷ acts) [] a x p c e f = absurd p
+Pending-push start C r (b ∷ acts) (y ∷ xs) a x p c e f =
+    (p.0, p.1, Pending-push start (record { rank = r; act = b } ∷ C) r acts xs a x p.2 c e f, p.3)
 
 -- the run with what is pending is a run
 pub continue_is_run : (start : ℕ → State) (n : ℕ) (C : List Passed) (r : ℕ) (acts : List Act) (xs : List Waiting)

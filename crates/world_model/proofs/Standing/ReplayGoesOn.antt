@@ -1,12 +1,12 @@
 -- A rank that replays is never refused, and each of its steps keeps it with the run.
-use Rattle.std.proofs.Common.{◌≡◌, ℕ, ℤ, ◌+◌, ◌<◌, ◌⊎◌, inl, inr, ⊎_elim, true, false, nat_lt, if◌then◌else◌, List, [], ◌∷◌, ◌++◌, Option}
+use Rattle.std.proofs.Common.{◌≡◌, ℕ, ℤ, ◌+◌, ◌<◌, ◌≤◌, ◌⊎◌, inl, inr, ⊎_elim, true, false, nat_lt, if◌then◌else◌, List, [], ◌∷◌, ◌++◌, Option}
 use Rattle.std.proofs.Common.{Some, None, Ok, Err, length, take, drop, refl, sym, ap, subst, ◌∙◌, slice_get, slice_set}
 use Rattle.std.proofs.lemmas.Bool.{lt-ltb, eq-eqb}
 use Rattle.std.proofs.lemmas.List.{length-set}
 use Rattle.matching.specs.declared.packet.Context.{Context}
 use Rattle.matching.specs.declared.selector.Selector.{Selector}
 use Rattle.matching.specs.PacketValue as packet
-use Rattle.matching.specs.Inbox.{Mailbox, without}
+use Rattle.matching.specs.Inbox.{Mailbox, accepted_from, without}
 use Rattle.payload_log.specs.Backlog.{BacklogValue, backlog, saved}
 use Rattle.event_logger.specs.Sequential.Event.{EventValue, event_of}
 use Rattle.event_logger.specs.declared.sequential.kind.Kind.{Kind}
@@ -25,8 +25,9 @@ use Rattle.rank_node.specs.Steps.{message_of, WasShown, TakesFound, IsShownFound
 use Rattle.crash_free.specs.Runs.{Passed, at_place, history, sent, sends_from, looked_up, takes_it, IsRun}
 use Rattle.world_model.specs.Rows.{event_at, events_from, cons_some}
 use Rattle.world_model.specs.World.{Live}
+use Rattle.world_model.specs.Misses.{Shows}
 use Rattle.world_model.specs.Stands.{InboxStands, LogStands, LogsStand, StandsIn, RankStands}
-use Rattle.world_model.proofs.Standing.Inboxes.{InboxStands-noted, InboxStands-taken}
+use Rattle.world_model.proofs.Standing.Inboxes.{InboxStands-noted, InboxStands-taken, shows_accepted}
 use Rattle.rank_node.specs.Replay.{named, is_before, is_last, replay_turn_at, replayed_at, ReplayStepAt, left_after, taken_named, shown_named}
 use Rattle.rank_node.specs.Replay.{try_turn, tried_named, TriesNamed}
 use Rattle.world_model.proofs.Lists.Beginnings.{next_of_drop}
@@ -122,9 +123,9 @@ module _ (start : ℕ → State) (n : ℕ) (C : List Passed) (r : ℕ) (v : Live
       (subst (λ z. Makes (state_of v.rank.machine) a z) eo (subst (λ z. Makes (state_of v.rank.machine) z x.message) ea x.makes))
       state counted box logged new_logs el
 
-  quietly : (a : Act) (o : Option Message) → ((q j : ℕ) → takes_it q j a ≡ false)
+  quietly : (a : Act) (o : Option Message) → ((q j : ℕ) → takes_it q j a ≡ false) → ((q j : ℕ) → Shows q j a → j ≤ accepted_from v.rank.inbox q)
       → InboxStands v.rank.inbox (λ q. sent C q r) (take v.rank.clock (history C r) ++ (a, o) ∷ [])
-  quietly a o f = InboxStands-noted v.rank.inbox (λ q. sent C q r) (take v.rank.clock (history C r)) (a, o) f at.inbox
+  quietly a o f g = InboxStands-noted v.rank.inbox (λ q. sent C q r) (take v.rank.clock (history C r)) (a, o) f g at.inbox
 
   sending : (d : ℕ) (c : Context) (t : ℕ) → machine_want v.rank.machine ≡ want.Send d c t → Goes (want.Send d c t)
   sending d c t is =
@@ -140,7 +141,7 @@ module _ (start : ℕ → State) (n : ℕ) (C : List Passed) (r : ℕ) (v : Live
             (did.state (sends d c t (payload (state_of v.rank.machine))) None
             (subst (λ z. Makes (state_of v.rank.machine) (sends d c t (payload (state_of v.rank.machine))) z) f.1
             (subst (λ z. Makes (state_of v.rank.machine) z x.message) f.0 x.makes)))
-            at.counted (quietly (sends d c t (payload (state_of v.rank.machine))) None (λ q j. refl))
+            at.counted (quietly (sends d c t (payload (state_of v.rank.machine))) None (λ q j. refl) (λ q j shows. absurd shows))
             (length-set v.rank.log d _ ∙ at.logged)
             (logs_saved r (history C r) v.rank d c t s.number at.within logs) b.0;
       }
@@ -156,7 +157,7 @@ module _ (start : ℕ → State) (n : ℕ) (C : List Passed) (r : ℕ) (v : Live
         stands = λ m did. goes_on x m v.rank.inbox v.rank.log (prints z) None (e ∷ rest) f.0 f.1
             (did.state (prints z) None (subst (λ y. Makes (state_of v.rank.machine) (prints z) y) f.1
             (subst (λ y. Makes (state_of v.rank.machine) y x.message) f.0 x.makes)))
-            at.counted (quietly (prints z) None (λ q j. refl)) at.logged
+            at.counted (quietly (prints z) None (λ q j. refl) (λ q j shows. absurd shows)) at.logged
             (logs_quiet r (history C r) v.rank (prints z) None (λ c d. refl) logs) b.0;
       }
 
@@ -179,7 +180,7 @@ module _ (start : ℕ → State) (n : ℕ) (C : List Passed) (r : ℕ) (v : Live
             (record { rank = replayed_at v.rank z (want.TryProbe selector) m; left = if is_last v.rank e then rest else e ∷ rest })) (sym y.0)
             (λ m did. goes_on x m v.rank.inbox v.rank.log misses None (if is_last v.rank e then rest else e ∷ rest) ea eo
             did.state
-            at.counted (quietly misses None (λ q j. refl)) at.logged
+            at.counted (quietly misses None (λ q j. refl) (λ q j shows. absurd shows)) at.logged
             (logs_quiet r (history C r) v.rank misses None (λ c d. refl) logs) (used kind.Miss 0 0 x y.0 y.1));
       }
 
@@ -236,14 +237,18 @@ module _ (start : ℕ → State) (n : ℕ) (C : List Passed) (r : ℕ) (v : Live
   shown_goes : (x : NextAct (history C r) v.rank.clock v.rank.machine) (selector : Selector) (f : FitsHits selector x.act x.message)
       (m : MachineValue) (g : ℕ × packet.PacketValue)
       → e ≡ event_of kind.Hit f.source f.message.clock (v.rank.clock + 1)
-      → rest ≡ events_from (v.rank.clock + 1) x.rest → IsOf f.source f.place f.message g.1 → WasShown g.1 v.rank.machine m
+      → rest ≡ events_from (v.rank.clock + 1) x.rest → IsOf f.source f.place f.message g.1
+      → slice_get v.rank.inbox.packets g.0 ≡ Some g.1 → WasShown g.1 v.rank.machine m
       → RankStands start n C r (record { rank = shown_named v.rank m (Some g); left = if is_last v.rank e then rest else e ∷ rest })
-  shown_goes x selector f m g ee er k did =
+  shown_goes x selector f m g ee er k there did =
       goes_on x m v.rank.inbox v.rank.log (hits g.1.source g.1.number) (Some (carried g.1)) (if is_last v.rank e then rest else e ∷ rest)
       (f.act ∙ ap (λ z. hits z f.place) (sym k.source) ∙ ap (λ z. hits g.1.source z) (sym k.number))
       (f.found ∙ ap Some (sym k.message))
       (did.state g.1.number)
-      at.counted (quietly (hits g.1.source g.1.number) (Some (carried g.1)) (λ q j. refl)) at.logged
+      at.counted
+      (quietly (hits g.1.source g.1.number) (Some (carried g.1)) (λ q j. refl)
+      (λ q j shows. shows_accepted v.rank.inbox (λ z. sent C z r) (take v.rank.clock (history C r)) g.0 g.1 there at.inbox q j shows))
+      at.logged
       (logs_quiet r (history C r) v.rank (hits g.1.source g.1.number) (Some (carried g.1)) (λ c d. refl) logs)
       (used kind.Hit f.source f.message.clock x ee er)
 
@@ -286,7 +291,7 @@ module _ (start : ℕ → State) (n : ℕ) (C : List Passed) (r : ℕ) (v : Live
                 stands =
                     subst (λ z. (m : MachineValue) → IsShownFound z v.rank.machine m → RankStands start n C r
                     (record { rank = shown_named v.rank m z; left = if is_last v.rank e then rest else e ∷ rest })) (sym eo)
-                    (λ m did. shown_goes x selector f m g ee er k.1 did);
+                    (λ m did. shown_goes x selector f m g ee er k.1 k.0 did);
               }
 
   trying : (selector : Selector) → machine_want v.rank.machine ≡ want.TryProbe selector → Goes (want.TryProbe selector)
@@ -323,7 +328,7 @@ module _ (start : ℕ → State) (n : ℕ) (C : List Passed) (r : ℕ) (v : Live
                     (record { rank = tried_named v.rank m (named v.rank e) y; left = if is_last v.rank e then rest else e ∷ rest })) (sym (ap (λ z. z.kind) ee))
                     (subst (λ z. (m : MachineValue) → IsShownFound z v.rank.machine m → RankStands start n C r
                     (record { rank = shown_named v.rank m z; left = if is_last v.rank e then rest else e ∷ rest })) (sym eo)
-                    (λ m did. shown_goes x selector f m g ee er k.1 did));
+                    (λ m did. shown_goes x selector f m g ee er k.1 k.0 did));
               }
 
   -- no machine has ended before its rank's next act

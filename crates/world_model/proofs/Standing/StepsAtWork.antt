@@ -19,6 +19,7 @@ use Rattle.crash_free.proofs.Lists.{history-own}
 use Rattle.crash_free.proofs.Going.{looked_up_longer, MayMake-longer, continue-push, count_continued}
 use Rattle.world_model.specs.Rows.{event_at, events_from, cons_some}
 use Rattle.world_model.specs.World.{Rank, Live, unpassed}
+use Rattle.world_model.specs.Misses.{MissesNoneShown}
 use Rattle.world_model.specs.Stands.{InboxStands, LogStands, LogsStand, IsFor, Pending, sends_of, RankStands}
 use Rattle.rank_node.specs.declared.waiting.Waiting.{Waiting}
 use Rattle.rank_node.specs.declared.waiting.Waiting.TheVariants as waits
@@ -28,6 +29,7 @@ use Rattle.matching.specs.declared.packet.Context.{Context}
 use Rattle.matching.specs.PacketValue as packet
 use Rattle.world_model.proofs.Rows.{IsEffect, event_sends_none, effect_takes_none}
 use Rattle.world_model.proofs.Standing.Inboxes.{InboxStands-noted}
+use Rattle.world_model.proofs.Standing.FairMisses.{effect_shows_none, effect_is_fair}
 use Rattle.world_model.proofs.Lists.Replaced.{replaced_keeps}
 use Rattle.std.proofs.lemmas.Option.{get_or_from_slice_get}
 use Rattle.world_model.proofs.Standing.Pending.{Pending-push, sent_continued, sends_of-push}
@@ -175,13 +177,14 @@ module _ (start : ℕ → State) (n : ℕ) (C : List Passed) (r : ℕ) (v : Live
 
   pub RankStands-waits : (x : Waiting) (made : ℕ) (inbox : Mailbox) (log : List BacklogValue)
       → IsFor (continue C r s.acts) r a x
+      → MissesNoneShown start (continue C r s.acts) r a
       → state_of m ≡ next (state_of v.rank.machine) a o
       → length inbox.accepted ≡ n
       → InboxStands inbox (λ q. sent C q r) (take v.rank.clock (history (continue C r s.acts) r) ++ (a, o) ∷ [])
       → length log ≡ n
       → LogsStand r (history C r) (v.rank.clock + 1) (s.acts ++ a ∷ []) log
       → RankStands start n C r (record { rank = after_act v.rank m made inbox log x; left = [] })
-  RankStands-waits x made inbox log is_for state counted box logged logs =
+  RankStands-waits x made inbox log is_for fair state counted box logged logs =
       record {
         number = s.number;
         size = s.size;
@@ -189,7 +192,7 @@ module _ (start : ℕ → State) (n : ℕ) (C : List Passed) (r : ℕ) (v : Live
         pending =
             subst (λ z. Pending start C r (s.acts ++ a ∷ []) z)
             (sym (drop-append-le v.rank.stored v.rank.pending (x ∷ []) (begins_within v.rank.stored v.rank.pending s.stored)))
-            (Pending-push start C r s.acts (unpassed v.rank) a x s.pending can is_for);
+            (Pending-push start C r s.acts (unpassed v.rank) a x s.pending can is_for fair);
         stored = begins_push v.rank.stored v.rank.pending x s.stored;
         all_made = inr (rw (more, length_push (history (continue C r s.acts) r) (a, o)) (ap (λ z. z + 1) clock));
         left =
@@ -217,12 +220,13 @@ module _ (start : ℕ → State) (n : ℕ) (C : List Passed) (r : ℕ) (v : Live
   -- a new event; how many its rank has made is told elsewhere
   pub RankStands-event : (x : EventValue) (inbox : Mailbox)
       → event_at (v.rank.clock + 1) a o ≡ Some x
+      → MissesNoneShown start (continue C r s.acts) r a
       → state_of m ≡ next (state_of v.rank.machine) a o
       → length inbox.accepted ≡ n
       → InboxStands inbox (λ q. sent C q r) (take v.rank.clock (history (continue C r s.acts) r) ++ (a, o) ∷ [])
       → RankStands start n C r (record { rank = after_act v.rank m v.rank.made inbox v.rank.log (waits.Event x); left = [] })
-  RankStands-event x inbox event state counted box =
-      RankStands-waits (waits.Event x) v.rank.made inbox v.rank.log event_there
+  RankStands-event x inbox event fair state counted box =
+      RankStands-waits (waits.Event x) v.rank.made inbox v.rank.log event_there fair
       state counted box s.at.logged (same_logs (λ d. event_sends_none (v.rank.clock + 1) d _ a o x event))
     where
       event_there : event_at (length (history (continue C r s.acts) r) + 1) a (looked_up (λ q. sent (continue C r s.acts) q r) a) ≡ Some x
@@ -231,7 +235,7 @@ module _ (start : ℕ → State) (n : ℕ) (C : List Passed) (r : ℕ) (v : Live
   effect_inbox : IsEffect a → InboxStands v.rank.inbox (λ q. sent C q r) (take v.rank.clock (history (continue C r s.acts) r) ++ (a, o) ∷ [])
   effect_inbox e =
       InboxStands-noted v.rank.inbox (λ q. sent C q r) (take v.rank.clock (history (continue C r s.acts) r)) (a, o)
-      (λ q j. effect_takes_none a q j e) s.at.inbox
+      (λ q j. effect_takes_none a q j e) (λ q j shows. absurd (effect_shows_none a q j e shows)) s.at.inbox
 
   -- a line that waits
   pub RankStands-line : (x : ℤ) → a ≡ prints x → state_of m ≡ next (state_of v.rank.machine) a o
@@ -239,6 +243,7 @@ module _ (start : ℕ → State) (n : ℕ) (C : List Passed) (r : ℕ) (v : Live
   RankStands-line x is state =
       RankStands-waits (waits.Line (v.rank.clock + 1) x) v.rank.made v.rank.inbox v.rank.log
       (subst (λ z. IsFor (continue C r s.acts) r z (waits.Line (v.rank.clock + 1) x)) (sym is) (refl, ap (λ z. z + 1) clock))
+      (effect_is_fair start (continue C r s.acts) r a (subst (λ z. IsEffect z) (sym is) tt))
       state s.at.counted (effect_inbox (subst (λ z. IsEffect z) (sym is) tt)) s.at.logged
       (same_logs (λ d. ap (λ z. send_at (v.rank.clock + 1) d z []) is))
 
@@ -250,6 +255,7 @@ module _ (start : ℕ → State) (n : ℕ) (C : List Passed) (r : ℕ) (v : Live
   RankStands-hold d context t is state logged =
       RankStands-waits (waits.Send d (v.rank.clock + 1)) v.rank.made v.rank.inbox (slice_set v.rank.log d (hold (backlog v.rank.log d) p))
       (subst (λ z. IsFor (continue C r s.acts) r z (waits.Send d (v.rank.clock + 1))) (sym is) (refl, ap (λ z. z + 1) clock))
+      (effect_is_fair start (continue C r s.acts) r a (subst (λ z. IsEffect z) (sym is) tt))
       state s.at.counted (effect_inbox (subst (λ z. IsEffect z) (sym is) tt)) logged
       (replaced_keeps (λ e b. LogStands r (sends_from 0 e (take (v.rank.clock + 1) (history C r)))
       (sends_of (length (history C r)) e (s.acts ++ a ∷ [])) b) v.rank.log d (hold (backlog v.rank.log d) p) others own)

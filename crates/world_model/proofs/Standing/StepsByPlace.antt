@@ -34,6 +34,7 @@ use Rattle.rank_node.proofs.Again.{settled_nil}
 use Rattle.world_model.specs.Stands.{InboxStands, LogStands, LogsStand, StandsIn, RankStands, start_at, StandsAt}
 use Rattle.world_model.proofs.Rows.{IsEffect, row_of_effect, effect_finds, effect_takes_none}
 use Rattle.world_model.proofs.Standing.Inboxes.{InboxStands-noted, InboxStands-longer}
+use Rattle.world_model.proofs.Standing.FairMisses.{effect_shows_none, effect_is_fair}
 use Rattle.world_model.proofs.Standing.Lines.{lines_after_print, printed_same}
 use Rattle.world_model.proofs.Lists.Beginnings.{take_whole, take_append, next_of_drop, drop_own}
 use Rattle.world_model.proofs.Standing.InRun.{StandsIn-moved, next_act, run_reaches}
@@ -88,7 +89,7 @@ module _ (n : ℕ) (w : WorldValue) (r : ℕ) (v : Live) (m : MachineValue) (s :
       box : InboxStands v.rank.inbox (λ q. sent w.run q r) (take v.rank.clock (history w.run r) ++ (a, None) ∷ [])
       box =
           InboxStands-noted v.rank.inbox (λ q. sent w.run q r) (take v.rank.clock (history w.run r)) (a, None)
-          (λ q j. effect_takes_none a q j is_effect) (at settled).inbox
+          (λ q j. effect_takes_none a q j is_effect) (λ q j shows. absurd (effect_shows_none a q j is_effect shows)) (at settled).inbox
 
       repeats : v.rank.clock < length (history w.run r)
           → StandsAt n (changed w r (Some (record { rank = after_again v.rank m v.rank.inbox log; left = [] })) w.images w.logger lines
@@ -130,6 +131,7 @@ module _ (n : ℕ) (w : WorldValue) (r : ℕ) (v : Live) (m : MachineValue) (s :
             makes = rw (effect_finds (λ q. sent w.run q r) a is_effect) makes;
             free = free_effect a is_effect;
           })
+          (effect_is_fair (start_at w n) w.run r a is_effect)
           there
           s.as_many_rows
           (λ q x e. s.rows q x e ∙ sym (row_of_effect w.run r q a is_effect))

@@ -18,6 +18,7 @@ use Rattle.world_model.specs.Headline.{IsReal, lines_of}
 use Rattle.world_model.proofs.Lists.Replaced.{slice_set-get}
 use Rattle.checkpoint.specs.Image.{ImageValue}
 use Rattle.rank_node.specs.Image.{begins_at}
+use Rattle.world_model.specs.Misses.{MissesNoneShown}
 use Rattle.world_model.specs.Stands.{start_at, RankStands, StandsAt, Covers}
 use Rattle.world_model.proofs.Standing.LiveRanks.{ImageStands-later, RankStands-extended}
 
@@ -47,6 +48,7 @@ pub Stands-ranks : (n : ℕ) (w : WorldValue) (ranks : List (Option Live)) (logg
     → StandsAt n (record w { ranks = ranks; logger = logger })
 Stands-ranks n w ranks logger s rows k = record {
   is_run = s.is_run;
+  missed = s.missed;
   as_many_rows = ap length rows ∙ s.as_many_rows;
   rows = λ q events e. s.rows q events (subst (λ z. slice_get z q ≡ Some events) rows e);
   as_many_wires = s.as_many_wires;
@@ -76,14 +78,16 @@ IsReal-longer C p s d (frame.Kept k) i = tt
 pub Stands-passed : (n : ℕ) (w : WorldValue) (r : ℕ) (a : Act) (v : Live) (logger : StateValue) (lines : List Line)
     → StandsAt n w → r < n
     → MayMake (start_at w n r) (λ q. sent w.run q r) (history w.run r) a
+    → MissesNoneShown (start_at w n) w.run r a
     → RankStands (start_at w n) n (record { rank = r; act = a } ∷ w.run) r v
     → length logger.rows ≡ n
     → ((q : ℕ) (x : List EventValue) → slice_get logger.rows q ≡ Some x → x ≡ row (record { rank = r; act = a } ∷ w.run) q)
     → ((q : ℕ) → lines_of q lines ≡ printed (record { rank = r; act = a } ∷ w.run) q)
     → StandsAt n (changed w r (Some v) w.images logger lines (record { rank = r; act = a } ∷ w.run))
-Stands-passed n w r a v logger lines s lt can k as_many rows_are lines_are =
+Stands-passed n w r a v logger lines s lt can fair k as_many rows_are lines_are =
     record {
       is_run = (s.is_run, lt, can);
+      missed = (s.missed, fair);
       as_many_rows = as_many;
       rows = rows_are;
       as_many_wires = s.as_many_wires;
@@ -110,6 +114,7 @@ pub Stands-put : (n : ℕ) (w : WorldValue) (r : ℕ) (v : Live) (d : ℕ) (of_r
 Stands-put n w r v d of_r frames f s k at_r at_d real =
     record {
       is_run = s.is_run;
+      missed = s.missed;
       as_many_rows = s.as_many_rows;
       rows = s.rows;
       as_many_wires = length-set w.wires r (slice_set of_r d (frames ++ f ∷ [])) ∙ s.as_many_wires;

@@ -1,6 +1,6 @@
 use Rattle.std.proofs.Common.{◌↔◌, length}
 use Rattle.explore.specs.Explored.{rank_outcomes}
-use Rattle.runner.specs.OutcomesText.{AllHalt}
+use Rattle.run_events.specs.Halting.{AllHalt}
 use Rattle.runner.proofs.explored.all_halt.Given as goal
 
 -- all halt in those that are left if and only if all do in all

@@ -3,4 +3,4 @@ use Rattle.world_model.proofs.world.World.come_to.Goals as goal
 
 -- src/world/finishing/resting.rt
 pub returns-then-quiet-clause-end : goal.returns-then-quiet-clause-end
-returns-then-quiet-clause-end c = λ rounds still. c.stopped.ensures.end (where_true _ _ _ c.if-quiet.true still) rounds _
+returns-then-quiet-clause-end c = λ start rounds events still. c.stopped.ensures.end (where_true _ _ _ c.if-quiet.true still) start rounds events

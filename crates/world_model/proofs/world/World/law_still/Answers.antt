@@ -1,12 +1,11 @@
 use Rattle.std.proofs.Common.{subst}
 use Rattle.world_model.specs.World.{WorldValue}
-use Rattle.world_model.specs.ToTheEnd.{HasEnded}
-use Rattle.world_model.specs.Finished.{IsStill, IsNowhereSpent}
-use Rattle.world_model.proofs.Ending.StillIsEnd.{still_ends}
+use Rattle.world_model.specs.Finished.{AllRest, IsStill, IsNowhereSpent}
+use Rattle.world_model.proofs.Ending.StillIsEnd.{still_rests}
 use Rattle.world_model.proofs.world.World.law_still.Goals as goal
 
 -- src/world/finishing/resting.rt
 pub returns : goal.returns
 returns c =
-    subst (λ (w : WorldValue). IsStill w → IsNowhereSpent w → HasEnded w) c.self.view_is
-    (λ still unspent. still_ends c.self.inside.bare c.self.invariant still unspent)
+    subst (λ (w : WorldValue). IsStill w → IsNowhereSpent w → AllRest w) c.self.view_is
+    (λ still unspent. still_rests c.self.inside.bare c.self.invariant still unspent)
