@@ -1,7 +1,9 @@
 -- What a life counts, by the end with which its station comes back; and life after life.
 use Rattle.std.proofs.Common.{◌≡◌, ◌≢◌, ◌⊎◌, inl, inr, ℕ, Bool, true, false, is_some, List, Option, Some, None, refl, sym, ap, ◌∙◌}
+use Rattle.event_logger.specs.Desks.{own_row}
 use Rattle.rank_language.specs.Correct.{IsProgramOf}
 use Rattle.rank_language.specs.Program.{ProgramValue}
+use Rattle.rank_node.specs.Phases.{stable_in}
 use Rattle.rank_node.specs.declared.fault.NodeFault.{NodeFault}
 use Rattle.rank_node.specs.declared.fault.NodeFault.TheVariants as fault
 use Rattle.rank_threads.specs.Endings.{IsKilledAt, crashes_after, crashes_by, end_after, stood_after}
@@ -27,8 +29,9 @@ pub has_lived : (text : List ℕ) (program : ProgramValue) (old new : Station) (
     → SamePlace begun ended → UsesLines how begun.kit.plan ended.kit.plan → IsKilledAt how ended.node.phase
     → ended.kit.tally.crashes ≡ crashes_after how begun.kit.tally.crashes
     → new.end ≡ end_after how ended.kit.tally.is_spent ended.node.phase
-    → new.kit.plan ≡ ended.kit.plan → new.kit.tally ≡ ended.kit.tally → new.stood ≡ stood_after how ended.node.phase → HasLived text old new
-has_lived text program old new begun ended how reads well begins plan counts same lines killed counted leaves left tally stands none = record {
+    → new.down ≡ stable_in ended.node.phase → new.kit.plan ≡ ended.kit.plan → new.kit.tally ≡ ended.kit.tally
+    → new.stood ≡ stood_after how ended.node.phase → HasLived text old new
+has_lived text program old new begun ended how reads well begins plan counts same lines killed counted leaves down left tally stands none = record {
   program = program;
   reads = reads;
   begun = begun;
@@ -42,6 +45,8 @@ has_lived text program old new begun ended how reads well begins plan counts sam
   killed = killed;
   leaves = leaves;
   left = left;
+  shelf = ap (λ s. s.shelf) down;
+  stored = ap (λ s. own_row s.desk) down;
   stands = stands;
   steps = ap (λ t. t.steps) tally;
   spent = ap (λ t. t.is_spent) tally;
@@ -59,11 +64,13 @@ met_fault text old new f met none = (let both : Some f ≡ None = sym met ∙ no
 pub has_fault : (text : List ℕ) (old new : Station) → is_some new.kit.tally.fault ≡ true → HasLived text old new
 has_fault text old new some none = (let gone : false ≡ true = ap is_some (sym none) ∙ some in absurd cc)
 
--- what comes behind a life, counts no crash and uses no line leaves it as it was
+-- what comes behind a life, counts no crash, uses no line, and keeps shelf and stored events leaves
+-- it as it was
 pub lived_on : (text : List ℕ) (old mid new : Station) → HasLived text old mid → (new.kit.tally.fault ≢ Some fault.Memory → new.kit.tally.fault ≡ mid.kit.tally.fault)
     → new.end ≡ mid.end → new.kit.plan ≡ mid.kit.plan → new.stood ≡ mid.stood → new.kit.tally.crashes ≡ mid.kit.tally.crashes → new.kit.tally.steps ≡ mid.kit.tally.steps
-    → new.kit.tally.is_spent ≡ mid.kit.tally.is_spent → HasLived text old new
-lived_on text old mid new lived kept end plan stood same steps spent none =
+    → new.kit.tally.is_spent ≡ mid.kit.tally.is_spent → new.down.shelf ≡ mid.down.shelf → own_row new.down.desk ≡ own_row mid.down.desk
+    → HasLived text old new
+lived_on text old mid new lived kept end plan stood same steps spent shelf stored none =
     let life = lived (sym (kept (λ memory. (let both : None ≡ Some fault.Memory = sym none ∙ memory in absurd cc))) ∙ none) in
     record {
       program = life.program;
@@ -79,6 +86,8 @@ lived_on text old mid new lived kept end plan stood same steps spent none =
       killed = life.killed;
       leaves = end ∙ life.leaves;
       left = plan ∙ life.left;
+      shelf = shelf ∙ life.shelf;
+      stored = stored ∙ life.stored;
       stands = stood ∙ life.stands;
       steps = steps ∙ life.steps;
       spent = spent ∙ life.spent;

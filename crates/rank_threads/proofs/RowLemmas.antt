@@ -15,7 +15,7 @@ stored_more [] c none = rw (none) refl
 stored_more (d ∷ calls) c none = ap (λ es. stored d.call d.answer ++ es) (stored_more calls c none)
 
 -- so does a fetch
-fetch_keeps : (d : DeskValue) (row : List EventValue) → own_row (with_call d (Fetch 0) (found row)) ≡ own_row d
+pub fetch_keeps : (d : DeskValue) (row : List EventValue) → own_row (with_call d (Fetch 0) (found row)) ≡ own_row d
 fetch_keeps d row = stored_more d.calls (answered (Fetch 0) (found row)) refl
 
 -- what a fetch answered is the whole row, also after it

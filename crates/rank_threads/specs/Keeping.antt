@@ -5,8 +5,10 @@
 -- determinant log, Alvisi and Marzullo 1998.
 use Rattle.std.specs.Prelude.{◌≡◌, ◌≢◌, ℕ, List, [], ◌∷◌, Some, None}
 use Rattle.audit.specs.declared.outcome.End.TheVariants as end
+use Rattle.event_logger.specs.Desks.{own_row}
 use Rattle.rank_language.specs.Correct.{IsProgramOf}
 use Rattle.rank_language.specs.Program.{ProgramValue}
+use Rattle.rank_node.specs.Phases.{stable_in}
 use Rattle.rank_threads.specs.Endings.{IsKilledAt, crashes_by, end_after, stood_after}
 use Rattle.rank_threads.specs.Lives.{SamePlace}
 use Rattle.rank_threads.specs.Phases.{Begins}
@@ -20,7 +22,8 @@ use Rattle.rank_threads.specs.declared.life.station.Station.{Station}
 -- with the program of the text, and with the row, the lines of the script and the counts that this
 -- station has. It uses lines that ask for images, and ends by the script's next kill, at that
 -- kill's clock, or as the rank leaves. A crash is counted, and nothing else is counted as one. How
--- the rank stood then is noted, how many steps it had made, and whether a limit had stopped it.
+-- the rank stood then is noted, how many steps it had made, and whether a limit had stopped it. What
+-- is stable outlives it: the shelf with the rank's images, and the events that are stored of it.
 pub record IsLife (text : List ℕ) (old new : Station) : Type 0 where
   pub program : ProgramValue
   pub reads : IsProgramOf text program
@@ -35,6 +38,8 @@ pub record IsLife (text : List ℕ) (old new : Station) : Type 0 where
   pub killed : IsKilledAt how ended.node.phase
   pub leaves : new.end ≡ end_after how ended.kit.tally.is_spent ended.node.phase
   pub left : new.kit.plan ≡ ended.kit.plan
+  pub shelf : new.down.shelf ≡ (stable_in ended.node.phase).shelf
+  pub stored : own_row new.down.desk ≡ own_row (stable_in ended.node.phase).desk
   pub stands : new.stood ≡ stood_after how ended.node.phase
   pub steps : new.kit.tally.steps ≡ ended.kit.tally.steps
   pub spent : new.kit.tally.is_spent ≡ ended.kit.tally.is_spent
@@ -44,11 +49,13 @@ pub record IsLife (text : List ℕ) (old new : Station) : Type 0 where
 abbrev pub HasLived : List ℕ → Station → Station → Type 0
 HasLived text old new = new.kit.tally.fault ≡ None → IsLife text old new
 
--- The rank was told to leave, and lives no more: it is unfinished, and all that is counted stays.
+-- The rank was told to leave, and lives no more: it is unfinished, and all that is counted stays,
+-- and how it stood when its last life ended.
 pub record IsToldToLeave (old new : Station) : Type 0 where
   pub end : new.end ≡ Some end.Unfinished
   pub plan : new.kit.plan ≡ old.kit.plan
   pub counts : new.kit.tally ≡ old.kit.tally
+  pub stands : new.stood ≡ old.stood
 
 -- The lives of a rank that reads this text, one after another: it was told to leave; or it has a
 -- fault, with which its lives end, and which is still there; or it lived without one, and left; or

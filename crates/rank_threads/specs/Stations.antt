@@ -1,6 +1,6 @@
 -- What stays of a rank's station, its process slot, from life to life (from incarnation to
 -- incarnation).
-use Rattle.std.specs.Prelude.{◌≡◌, List, [], ◌∷◌, ◌++◌, Some, None}
+use Rattle.std.specs.Prelude.{◌≡◌, false, List, [], ◌∷◌, ◌++◌, Some, None}
 use Rattle.event_logger.specs.Desks.{own_row}
 use Rattle.event_logger.specs.Sequential.History.{above}
 use Rattle.rank_node.specs.Phases.{stable_in}
@@ -10,6 +10,7 @@ use Rattle.rank_threads.specs.declared.life.parcel.Parcel.{Parcel}
 use Rattle.rank_threads.specs.declared.life.row.Row.{Row}
 use Rattle.rank_threads.specs.declared.life.Life.{Life}
 use Rattle.rank_threads.specs.declared.life.station.Station.{Station}
+use Rattle.rank_threads.specs.declared.life.stood.Stood.{Stood}
 use Rattle.rank_threads.specs.Costs.{new_meter}
 use Rattle.rank_threads.specs.Tally.{new_tally}
 
@@ -35,12 +36,18 @@ pub record HasRow (s : Station) : Type 0 where
   pub fetched : s.row ≡ Some row
   pub whole : row.events.items ≡ above 0 (own_row s.down.desk)
 
+-- how a rank stands that hasn't lived yet: it has made no act and replays none, and it didn't leave
+-- as all were at rest
+abbrev pub stood_at_first : Stood
+stood_at_first = record { clock = 0; is_replaying = false; is_at_rest = false }
+
 -- The rank hasn't lived yet: nothing is counted of it, it has fetched no row, and it hasn't left.
 pub record IsNew (s : Station) : Type 0 where
   pub tally : s.kit.tally ≡ new_tally
   pub meter : s.kit.meter ≡ new_meter
   pub row : s.row ≡ None
   pub end : s.end ≡ None
+  pub stood : s.stood ≡ stood_at_first
 
 module _ {W : Type 0} where
   -- the stations in rank order: the last rank's is the first of the parcels

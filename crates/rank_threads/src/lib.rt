@@ -16,7 +16,8 @@
 //! 5. `leaving`: the marks of ranks at rest, and when a rank may leave.
 //! 6. `report`: what is left of a run as its report, once that is validated.
 //!
-//! Beside these: what all ranks share (`shared`, `hold`), a rank's lanes
+//! Beside these: what all ranks share (`shared`, `hold`), how they are told to
+//! leave (`stop`), a rank's lanes
 //! (`lanes_of`), what its script asks (`plan`), and what is counted of it
 //! (`tally`; `meter` and `costs`).
 #![tactic(auto)]
@@ -34,6 +35,7 @@ mod report;
 mod running;
 mod shared;
 mod stage;
+mod stop;
 mod tally;
 mod turn;
 

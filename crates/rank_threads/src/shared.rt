@@ -1,38 +1,13 @@
 //! What all ranks of a run share.
-ghost use Rattle.std.specs.Prelude.{◌≡◌, IfSome};
+ghost use Rattle.std.specs.Prelude.{◌≡◌};
 
 use crate::leaving::Mark;
 use crate::running::RunLimits;
 use crossbeam_utils::CachePadded;
 use limits::Heap;
 use ports::Console;
-use rank_node::NodeFault;
+use std::sync::OnceLock;
 use std::sync::atomic::{AtomicBool, Ordering};
-use std::sync::{OnceLock, OnceToken, Wait};
-
-/// All ranks are told to leave: their flag is set, which the token alone shows. It
-/// must be spent: who tells them notes why, so that the run has no report.
-pub struct Stop<'a> {
-    flag: OnceToken<'a, ()>,
-    why: NodeFault,
-}
-
-impl<'a> Stop<'a> {
-    /// Why, to be noted of the rank that can't go on.
-    pub fn spend(self) -> (NodeFault, Stopped<'a>)
-        ensures why { result.0 ≡ self.entry.why }
-        ensures set { result.1.flag.of ≡ self.entry.flag.of }
-    {
-        let Stop { flag, why } = self;
-        (why, Stopped { flag })
-    }
-}
-
-/// All ranks were told to leave: their flag is set, which the token alone shows.
-#[derive(Drop)]
-pub struct Stopped<'a> {
-    flag: OnceToken<'a, ()>,
-}
 
 /// What the mark of a rank says. Only `Shared::set_mark` makes one.
 #[derive(Clone, Copy)]
@@ -81,29 +56,7 @@ impl<H> Drop for Shared<'_, H> {
     }
 }
 
-impl<'a, H> Shared<'a, H> {
-    /// All ranks are to leave, as one can't go on. The call that notes a fault of
-    /// a rank takes what this answers, which must be spent.
-    pub fn stop_all<W: Wait>(&self, rt: &W, why: NodeFault) -> Stop<'a>
-        ensures set { result.flag.of ≡ self.now.stop.now.id }
-        ensures why { result.why ≡ why }
-    {
-        let stop = self.stop;
-        let flag = stop.init(rt, || ());
-        Stop { flag, why }
-    }
-
-    /// Whether all ranks are to leave.
-    pub fn stopped(&self) -> Option<Stopped<'a>>
-        ensures set { IfSome result (λ stopped. stopped.flag.of ≡ self.now.stop.now.id) }
-    {
-        let stop = self.stop;
-        match stop.witness() {
-            Some(flag) => Some(Stopped { flag }),
-            None => None,
-        }
-    }
-
+impl<H> Shared<'_, H> {
     /// A frame was put into a lane to this rank.
     pub fn ring(&self, rank: u8) {
         if let Some(bell) = self.bells.get(usize::from(rank)) {

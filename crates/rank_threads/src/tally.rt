@@ -1,9 +1,9 @@
 //! What a run counts of a rank over all its lives.
-ghost use Rattle.std.specs.Prelude.{◌≡◌, true, false, Some, slice_index_or, slice_set};
+ghost use Rattle.std.specs.Prelude.{◌≡◌, true, false, slice_index_or, slice_set};
 ghost use Rattle.rank_threads.specs.Tally.{new_tally, one_more, begun_again, after_steps, is_last_idle, after_idle, after_wait};
 
 use crate::life::KillToken;
-use crate::shared::{ClearedMark, SetMark, Stop, Stopped};
+use crate::shared::{ClearedMark, SetMark};
 use limits::MOST_RANKS;
 use rank_node::NodeFault;
 
@@ -57,15 +57,6 @@ impl Tally {
             seen: [0; MOST_RANKS],
             fault: None,
         }
-    }
-
-    /// The rank can't go on, and all were told to leave.
-    pub fn refuse<'s>(&mut self, stop: Stop<'s>) -> Stopped<'s>
-        ensures { self.new ≡ record self.old { fault = Some stop.entry.why } }
-    {
-        let (why, stopped) = stop.spend();
-        self.fault = Some(why);
-        stopped
     }
 
     /// The rank was refused by a limit.

@@ -1,5 +1,6 @@
 //! How a life of a rank (an incarnation) ends.
 ghost use Rattle.std.specs.Prelude.{◌≡◌, is_some, IfSome};
+ghost use Rattle.rank_node.specs.Phases.{stable_in};
 ghost use Rattle.rank_threads.specs.Endings.{IsKilledAt, end_after, is_rest, stood_after};
 ghost use Rattle.rank_threads.specs.Ends.{end_at, end_of};
 ghost use Rattle.rank_threads.specs.Orders.{is_kill};
@@ -8,7 +9,7 @@ ghost use Rattle.rank_threads.specs.Stations.{IsLifeOf};
 use super::station::Station;
 use crate::leaving::AllAtRest;
 use crate::life::Life;
-use crate::shared::Stopped;
+use crate::stop::Stopped;
 use audit::End;
 use rank_machine::Want;
 use rank_node::Phase;
@@ -53,6 +54,7 @@ pub fn end_life<'l>(life: Life<'_, 'l>, ended: Ending<'_>) -> Station<'l>
     requires at { IsKilledAt ended life.node.phase }
     ensures end { result.end ≡ end_after ended.entry life.entry.kit.tally.is_spent life.entry.node.phase }
     ensures stood { result.stood ≡ stood_after ended.entry life.entry.node.phase }
+    ensures down { result.down ≡ stable_in life.entry.node.phase }
     ensures plan { result.kit.plan ≡ life.entry.kit.plan }
     ensures tally { result.kit.tally ≡ life.entry.kit.tally }
     ensures same { IsLifeOf result life.entry }

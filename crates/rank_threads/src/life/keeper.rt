@@ -1,6 +1,7 @@
 //! A keeper, the supervisor of a rank, starts and joins the threads of the
 //! rank's lives (its incarnations).
 ghost use Rattle.std.specs.Prelude.{◌≡◌, ◌≢◌, Some, None};
+ghost use Rattle.event_logger.specs.Desks.{own_row};
 ghost use Rattle.rank_node.specs.declared.fault.NodeFault.TheVariants.{Memory};
 ghost use Rattle.rank_threads.specs.Keeping.{HasLived, IsToldToLeave, Lives};
 ghost use Rattle.rank_threads.specs.Stations.{SameStation, HasRow};
@@ -11,7 +12,8 @@ use super::living::{refuse_life, run_life};
 use super::parcel::{AfterLife, Parcel};
 use super::station::Station;
 use crate::hold::Hold;
-use crate::shared::{Shared, Stop, Stopped};
+use crate::shared::Shared;
+use crate::stop::{Stop, Stopped};
 use audit::End;
 use rank_node::NodeFault;
 use std::snapshot::Snapshot;
@@ -92,6 +94,8 @@ fn fetch_row<'l, W: Wait, H>(rt: &W, shared: &Shared<'_, H>, station: Station<'l
     ensures plan { result.kit.plan ≡ station.entry.kit.plan }
     ensures end { result.end ≡ station.entry.end }
     ensures stood { result.stood ≡ station.entry.stood }
+    ensures shelf { result.down.shelf ≡ station.entry.down.shelf }
+    ensures stored { own_row result.down.desk ≡ own_row station.entry.down.desk }
     ensures tally { result.kit.tally ≡ record (begun_again station.entry.kit.tally) { taken = result.kit.tally.taken; fault = result.kit.tally.fault } }
     ensures fault { result.kit.tally.fault ≢ Some Memory → result.kit.tally.fault ≡ station.entry.kit.tally.fault }
     ensures same { SameStation station.entry result }

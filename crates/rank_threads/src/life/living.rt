@@ -12,7 +12,8 @@ use super::station::Station;
 use super::waiting::Patience;
 use crate::hold::Hold;
 use crate::life::Life;
-use crate::shared::{Shared, Stop};
+use crate::shared::Shared;
+use crate::stop::Stop;
 use crate::turn::{After, begin, finish, settle};
 use audit::End;
 use rank_language::Program;
@@ -88,6 +89,7 @@ fn make_turns<'p, 'l, 's, W: Wait, H: Hold>(
 pub fn refuse_life<'l>(station: Station<'l>, stop: Stop<'_>) -> Station<'l>
     requires { stop.why ≡ NodeFault.Memory }
     ensures fault { result.kit.tally ≡ record station.entry.kit.tally { fault = Some NodeFault.Memory } }
+    ensures down { result.down ≡ station.entry.down }
     ensures rest { SameRest station.entry result }
     ensures same { SameStation station.entry result }
 {

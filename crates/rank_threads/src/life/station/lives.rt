@@ -1,6 +1,8 @@
 //! From a station (a process slot) to a life (an incarnation) and back.
 ghost use Rattle.std.specs.Prelude.{◌≡◌, ◌<◌, ◌≤◌, None, IfErr, OnOk, OnErr};
+ghost use Rattle.event_logger.specs.Desks.{own_row};
 ghost use Rattle.limits.specs.Limits.{most_ranks};
+ghost use Rattle.rank_node.specs.Phases.{stable_in};
 ghost use Rattle.rank_threads.specs.Costs.{after_log, log_size_in};
 ghost use Rattle.rank_threads.specs.Endings.{stood_at};
 ghost use Rattle.rank_threads.specs.Phases.{Begins, is_replaying};
@@ -133,6 +135,8 @@ impl<'l> Station<'l> {
         ensures row { OnOk result (HasRow self.new) }
         ensures kit { self.new.kit ≡ self.old.kit }
         ensures rest { (self.new.end ≡ self.old.end) × (self.new.stood ≡ self.old.stood) }
+        ensures shelf { self.new.down.shelf ≡ self.old.down.shelf }
+        ensures stored { own_row self.new.down.desk ≡ own_row self.old.down.desk }
         ensures memory { IfErr result (λ e. e ≡ NodeFault.Memory) }
         ensures err { OnErr result ((self.new.down ≡ self.old.down) × (self.new.row ≡ self.old.row)) }
         ensures same { SameStation self.old self.new }
@@ -149,6 +153,7 @@ impl<'p, 'l> Life<'p, 'l> {
     /// didn't. `is_at_rest` says whether it left as all ranks were at rest.
     pub fn leave(self, end: Option<End>, is_at_rest: bool) -> Station<'l>
         ensures end { result.end ≡ end }
+        ensures down { result.down ≡ stable_in self.entry.node.phase }
         ensures stood { result.stood ≡ stood_at is_at_rest self.entry.node.phase }
         ensures kit { result.kit ≡ record self.entry.kit { meter = after_log self.entry.kit.meter (log_size_in self.entry.node.phase) } }
         ensures row { result.row ≡ None }

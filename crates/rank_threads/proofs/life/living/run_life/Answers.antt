@@ -14,5 +14,5 @@ returns-clause-lived g c =
     let well : c.begin-life.result.kit.tally.fault ≡ None = search rules in
     has_lived c.args.shared.now.text.now _ c.args.station c.end_life.result c.begin-life.result c.make_turns-life.result.0 c.make_turns-life.result.1
     c.in-Ok.ensures.program well c.begin-life.ensures.begins (ap (λ k. k.plan) c.begin-life.ensures.kit) c.begin-life.ensures.well c.make_turns-life.ensures.same
-    c.make_turns-life.ensures.lines c.make_turns-life.ensures.at c.make_turns-life.ensures.crashes c.end_life.ensures.end c.end_life.ensures.plan
+    c.make_turns-life.ensures.lines c.make_turns-life.ensures.at c.make_turns-life.ensures.crashes c.end_life.ensures.end c.end_life.ensures.down c.end_life.ensures.plan
     c.end_life.ensures.tally c.end_life.ensures.stood

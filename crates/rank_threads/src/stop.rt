@@ -1,0 +1,57 @@
+//! All ranks are told to leave, as one of them can't go on.
+ghost use Rattle.std.specs.Prelude.{◌≡◌, Some, IfSome};
+
+use crate::shared::Shared;
+use crate::tally::Tally;
+use rank_node::NodeFault;
+use std::sync::{OnceToken, Wait};
+
+/// All ranks are told to leave: their flag is set, which the token alone shows. It
+/// must be spent, and only `Tally::refuse` can: who tells them notes why, so that
+/// the run has no report.
+pub struct Stop<'a> {
+    flag: OnceToken<'a, ()>,
+    why: NodeFault,
+}
+
+/// All ranks were told to leave: their flag is set, which the token alone shows.
+#[derive(Drop)]
+pub struct Stopped<'a> {
+    flag: OnceToken<'a, ()>,
+}
+
+impl<'a, H> Shared<'a, H> {
+    /// All ranks are to leave, as one can't go on. The call that notes a fault of
+    /// a rank takes what this answers, which must be spent.
+    pub fn stop_all<W: Wait>(&self, rt: &W, why: NodeFault) -> Stop<'a>
+        ensures set { result.flag.of ≡ self.now.stop.now.id }
+        ensures why { result.why ≡ why }
+    {
+        let stop = self.stop;
+        let flag = stop.init(rt, || ());
+        Stop { flag, why }
+    }
+
+    /// Whether all ranks are to leave.
+    pub fn stopped(&self) -> Option<Stopped<'a>>
+        ensures set { IfSome result (λ stopped. stopped.flag.of ≡ self.now.stop.now.id) }
+    {
+        let stop = self.stop;
+        match stop.witness() {
+            Some(flag) => Some(Stopped { flag }),
+            None => None,
+        }
+    }
+}
+
+impl Tally {
+    /// The rank can't go on, and all were told to leave.
+    pub fn refuse<'s>(&mut self, stop: Stop<'s>) -> Stopped<'s>
+        ensures fault { self.new ≡ record self.old { fault = Some stop.entry.why } }
+        ensures set { result.flag.of ≡ stop.entry.flag.of }
+    {
+        let Stop { flag, why } = stop;
+        self.fault = Some(why);
+        Stopped { flag }
+    }
+}
