@@ -2,6 +2,7 @@
 //! none.
 ghost use Rattle.std.specs.Prelude.{◌≡◌, ◌≤◌, None, IfOk, length, map, vec_len};
 ghost use Rattle.limits.specs.Limits.{most_ranks};
+ghost use Rattle.audit.specs.FinalRuns.Final.{IsConfirmed};
 ghost use Rattle.audit.specs.Reachable.{IsReachable};
 ghost use Rattle.event_logger.specs.Desks.{AreDesks};
 ghost use Rattle.rank_threads.specs.Causes.{AreCaused, uncaused_from};
@@ -12,9 +13,9 @@ use super::cause::{causes_of, find_uncaused};
 use crate::costs::Costs;
 use crate::life::Account;
 use crate::playing::Played;
-use crate::report::{Report, RunFault};
+use crate::report::{Certified, Report, RunFault};
 use crate::running::RunLimits;
-use audit::final_runs::confirm;
+use audit::final_runs::confirmed_run;
 use audit::{End, Outcome};
 use event_logger::{Counts, Desk, Ledger, Logger};
 use limits::Heap;
@@ -25,30 +26,31 @@ use rank_text::script::Script;
 use std::alloc::AllocError;
 
 /// Closes the logger at whose desks a program was played, and answers the report
-/// of the play, once it is confirmed. The report is of these desks, and of lives
-/// by this script, which clauses alone read.
+/// of the play, once it is confirmed, with the run that confirms it. The report is
+/// of these desks, and of lives by this script, which clauses alone read.
 #[tactic(auto, using(crate::proofs::ReportLemmas::report_laws, crate::proofs::CauseLemmas::caused_report))]
-pub fn certify(
+pub fn certify<'p>(
     alloc: Heap,
-    program: &Program,
+    program: &'p Program,
     ranks: u8,
     _script: &Script,
     limits: RunLimits,
     played: Played,
     logger: Logger,
     desks: Vec<Desk, Heap>,
-) -> Result<Report, RunFault>
+) -> Result<Certified<'p>, RunFault>
     requires some { 1 ≤ ranks }
     requires few { ranks ≤ most_ranks }
     requires ranks { logger.ranks ≡ ranks }
     requires desks { AreDesks logger.table desks.items }
     requires a_desk_each { vec_len desks ≡ ranks }
     requires played { IsPlayed program.now ranks _script.now logger desks.items played }
-    ensures report { IfOk result (λ report. IsReport program.now ranks report) }
-    ensures within { IfOk result (λ report. IsReachable program.now ranks report.outcome limits.steps) }
-    ensures history { IfOk result (λ report. IsOfDesks ranks desks.items report) }
-    ensures lives { IfOk result (λ report. IsOfLives program.now ranks _script.now limits.steps logger desks.items report) }
-    ensures unfinished { IfOk result (λ report. AreCaused limits.steps report) }
+    ensures report { IfOk result (λ certified. IsReport program.entry.now ranks certified.report) }
+    ensures within { IfOk result (λ certified. IsReachable program.entry.now ranks certified.report.outcome limits.steps) }
+    ensures run { IfOk result (λ certified. IsConfirmed program.entry.now ranks certified.report.outcome limits.steps certified.run) }
+    ensures history { IfOk result (λ certified. IsOfDesks ranks desks.items certified.report) }
+    ensures lives { IfOk result (λ certified. IsOfLives program.entry.now ranks _script.now limits.steps logger desks.items certified.report) }
+    ensures unfinished { IfOk result (λ certified. AreCaused limits.steps certified.report) }
 {
     let ledger = logger.close(alloc, desks)?;
     if let Some(fault) = fault_of(played.accounts.as_slice()) {
@@ -58,8 +60,8 @@ pub fn certify(
         return Err(RunFault::NoCause(rank));
     }
     let report = make_report(alloc, limits, played, ledger)?;
-    confirm(alloc, program, ranks, &report.outcome, limits.steps)?;
-    Ok(report)
+    let run = confirmed_run(alloc, program, ranks, &report.outcome, limits.steps)?;
+    Ok(Certified { report, run })
 }
 
 /// Why the run has no report: refused memory, or else the fault of the lowest

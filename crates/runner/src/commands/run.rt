@@ -1,5 +1,6 @@
 //! A job's run, and its report.
 ghost use Rattle.std.specs.Prelude.{◌≡◌, ◌≤◌, IfOk, length};
+ghost use Rattle.audit.specs.Found.{IsFound};
 ghost use Rattle.limits.specs.Limits.{most_ranks};
 ghost use Rattle.runner.specs.Answers.{IsReportText, IsRunAnswer};
 ghost use Rattle.runner.specs.Reports.{IsReportOf, IsReportUnder};
@@ -14,7 +15,7 @@ use command_line::RunJob;
 use limits::Heap;
 use rank_language::Program;
 use rank_text::script::Script;
-use rank_threads::{Hold, Report, RunFault, RunLimits, run};
+use rank_threads::{Certified, Hold, Report, RunFault, RunLimits, certified_run, run};
 use std::alloc::AllocError;
 use std::sync::Wait;
 use std::thread::Threads;
@@ -80,6 +81,24 @@ pub fn report_under<R: Threads + Wait + Sync + Copy + Send>(
     ensures { IfOk result (λ report. IsReportUnder program.now ranks script.now limits.steps report) }
 {
     run(rt, alloc, program, ranks, script, limits, &Nobody)
+}
+
+/// As `report_under`, with the run without crashes that has the report's outcome.
+#[tactic(auto, using(crate::proofs::Answers::is_report_under))]
+pub fn certified_under<'p, R: Threads + Wait + Sync + Copy + Send>(
+    rt: &R,
+    alloc: Heap,
+    program: &'p Program,
+    ranks: u8,
+    script: &Script,
+    limits: RunLimits,
+) -> Result<Certified<'p>, RunFault>
+    requires some { 1 ≤ ranks }
+    requires few { ranks ≤ most_ranks }
+    ensures report { IfOk result (λ certified. IsReportUnder program.entry.now ranks script.now limits.steps certified.report) }
+    ensures run { IfOk result (λ certified. IsFound program.entry.now ranks certified.report.outcome limits.steps certified.run) }
+{
+    certified_run(rt, alloc, program, ranks, script, limits, &Nobody)
 }
 
 /// The limits of the job's run.

@@ -5,11 +5,10 @@ ghost use Rattle.runner.specs.Soaks.{AreSoaked, HasSoakStatus, IsDrawn, IsOneMor
 
 use crate::commands::reading::text_in;
 use crate::commands::refusal::Refusal;
-use crate::commands::run::report_under;
+use crate::commands::run::{certified_under, report_under};
 use crate::commands::said::Said;
 use crate::files::Files;
 use crate::soaked::{Soaked, print_soaked};
-use audit::find_run;
 use command_line::SoakJob;
 use crash_free::Sim;
 use explore::{Limits, Watch, explore};
@@ -157,11 +156,8 @@ fn acts_of<'a, R: Threads + Wait + Sync + Copy + Send>(
 ) -> Result<Vec<u32, Heap>, Refusal<'a>> {
     let (ranks, limits) = (job.ranks, limits_of(job));
     let script = Script::new(alloc);
-    let report = report_under(rt, alloc, program, ranks, &script, limits)?;
-    match find_run(alloc, program, ranks, &report.outcome, job.steps) {
-        Ok(found) => Ok(acts_in(alloc, &found, ranks)?),
-        Err(fault) => Err(Refusal::from(RunFault::from(fault))),
-    }
+    let certified = certified_under(rt, alloc, program, ranks, &script, limits)?;
+    Ok(acts_in(alloc, &certified.run, ranks)?)
 }
 
 fn acts_in(alloc: Heap, run: &Sim<'_>, ranks: u8) -> Result<Vec<u32, Heap>, AllocError> {

@@ -1,5 +1,6 @@
 //! A job's run, told act by act, or given as events.
 ghost use Rattle.std.specs.Prelude.{◌≡◌, ◌≢◌, ◌≤◌, ◌++◌, [], IfOk, reverse, string_bytes};
+ghost use Rattle.audit.specs.Found.{IsFound};
 ghost use Rattle.limits.specs.Limits.{most_ranks};
 ghost use Rattle.run_events.specs.Plays.{IsPlayText};
 ghost use Rattle.run_events.specs.Scripted.{IsScriptText};
@@ -11,16 +12,15 @@ ghost use Rattle.rank_language.specs.StandOn.{IsLinedOf};
 
 use crate::commands::reading::{ScriptFile, script_by, text_in};
 use crate::commands::refusal::Refusal;
-use crate::commands::run::{limits_of, report_under};
+use crate::commands::run::{certified_under, limits_of};
 use crate::commands::said::Said;
 use crate::files::Files;
 use crate::output::{all_halted, calls_of, print_cost};
-use audit::find_run;
 use command_line::{RunJob, TraceForm, TraceJob};
 use crash_free::Sim;
 use limits::Heap;
 use rank_language::{LinedProgram, Program};
-use rank_threads::{Cause, Report, RunFault};
+use rank_threads::{Cause, Certified, Report};
 use run_events::{PlayFault, play_script_text, play_text};
 use run_shown::trace::{Given, Why, trace_json, trace_text};
 use std::alloc::AllocError;
@@ -52,7 +52,7 @@ pub fn traced<'a, R: Threads + Wait + Sync + Copy + Send, F: Files>(
     said
 }
 
-// The run is made, found without crashes, and told.
+// The run is made, and that which confirms its report is told.
 fn told<'a, R: Threads + Wait + Sync + Copy + Send>(
     rt: &R,
     alloc: Heap,
@@ -67,8 +67,8 @@ fn told<'a, R: Threads + Wait + Sync + Copy + Send>(
     let limits = limits_of(job.run);
     let program = &lined.program;
     let script = &asked.script;
-    let report = report_under(rt, alloc, program, job.run.ranks, script, limits)?;
-    match told_of(alloc, job, text, lined, asked, &report) {
+    let certified = certified_under(rt, alloc, program, job.run.ranks, script, limits)?;
+    match told_of(alloc, job, text, lined, asked, &certified) {
         Ok(said) => Ok(said),
         Err(refusal) => Err(refusal),
     }
@@ -81,18 +81,19 @@ fn told_of<'a>(
     text: &[u8],
     lined: &LinedProgram,
     asked: &ScriptFile,
-    report: &Report,
+    certified: &Certified<'_>,
 ) -> Result<Said, Refusal<'a>>
-    requires { IsLinedOf text.now lined.now.program lined.now.lines.items }
-    ensures status { IfOk result (λ said. HasStatus report.now.outcome said.status) }
+    requires lined { IsLinedOf text.now lined.now.program lined.now.lines.items }
+    requires found { IsFound lined.now.program job.run.ranks certified.now.report.outcome job.run.steps certified.now.run }
+    ensures status { IfOk result (λ said. HasStatus certified.now.report.outcome said.status) }
     ensures text { IfOk result (λ said. job.entry.form ≡ TraceForm.Text
-        → TracesReport text.now lined.now.program job.entry.run.ranks report.now.outcome job.entry.run.steps said.out.items) }
+        → TracesReport text.now lined.now.program job.entry.run.ranks certified.now.report.outcome job.entry.run.steps said.out.items) }
     ensures events { IfOk result (λ said. job.entry.form ≡ TraceForm.Events → asked.now.script ≡ []
-        → PlaysReport lined.now.program job.entry.run.ranks report.now.outcome job.entry.run.steps said.out.items) }
+        → PlaysReport lined.now.program job.entry.run.ranks certified.now.report.outcome job.entry.run.steps said.out.items) }
     ensures script { IfOk result (λ said. job.entry.form ≡ TraceForm.Events → asked.now.script ≢ []
-        → PlaysScriptOf lined.now.program job.entry.run.ranks report.now job.entry.run.steps asked.now.script said.out.items) }
+        → PlaysScriptOf lined.now.program job.entry.run.ranks certified.now.report job.entry.run.steps asked.now.script said.out.items) }
 {
-    let program = &lined.program;
+    let report = &certified.report;
     let whys = whys_of(alloc, report.causes.as_slice())?;
     let given = Given {
         text,
@@ -106,12 +107,7 @@ fn told_of<'a>(
         crashes: report.crashes,
         calls: calls_of(report),
     };
-    let (ranks, steps) = (job.run.ranks, job.run.steps);
-    let found = match find_run(alloc, program, ranks, &report.outcome, steps) {
-        Ok(found) => found,
-        Err(fault) => return Err(Refusal::from(RunFault::from(fault))),
-    };
-    let answer = in_form(alloc, job, program, &found, given, report)?;
+    let answer = in_form(alloc, job, &lined.program, &certified.run, given, report)?;
     let status = if all_halted(&report.outcome) { 0 } else { 1 };
     Ok(Said::answer(alloc, status, answer.into_bytes()))
 }
