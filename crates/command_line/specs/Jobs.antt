@@ -17,6 +17,7 @@ use Rattle.command_line.specs.declared.job.RunJob.{RunJob}
 use Rattle.command_line.specs.declared.job.WorldJob.{WorldJob}
 use Rattle.command_line.specs.declared.judging.JudgeJob.{JudgeJob}
 use Rattle.command_line.specs.declared.soaking.SoakJob.{SoakJob}
+use Rattle.command_line.specs.declared.soaking.SoakScriptJob.{SoakScriptJob}
 use Rattle.command_line.specs.declared.tracing.TraceForm.{TraceForm}
 use Rattle.command_line.specs.declared.tracing.TraceForm.TheVariants as trace_form
 use Rattle.command_line.specs.declared.tracing.TraceJob.{TraceJob}
@@ -118,6 +119,11 @@ pub record IsSoakOf (command : List ℕ) (arguments : List (List ℕ)) (runs : S
   pub steps : IsSpelledOr 1000000 (value_of (codes "steps") arguments) runs.steps
   pub files : files_of command arguments ≡ runs.program.now ∷ []
 
+-- The script is that of the run whose number `--script-of` gives, of a soak by the other arguments.
+pub record IsSoakScriptOf (command : List ℕ) (arguments : List (List ℕ)) (script : SoakScriptJob) : Type 0 where
+  pub soak : IsSoakOf command arguments script.soak
+  pub number : IsSomeAnd (value_of (codes "script-of") arguments) (λ text. Spells text script.number)
+
 -- the job that a command has with these arguments
 abbrev pub IsJobBy : List ℕ → List (List ℕ) → Job → Type 0
 IsJobBy command arguments (job.Check check) = (command ≡ codes "check") × IsCheckOf command arguments check
@@ -136,7 +142,9 @@ IsJobBy command arguments (job.Finish finish) =
 IsJobBy command arguments (job.Explain texts) = (command ≡ codes "explain") × IsExplainOf command arguments texts
 IsJobBy command arguments (job.Explore search) = (command ≡ codes "explore") × IsExploreOf command arguments search
 IsJobBy command arguments (job.Judge outcome) = (command ≡ codes "judge") × IsJudgeOf command arguments outcome
-IsJobBy command arguments (job.Soak runs) = (command ≡ codes "soak") × IsSoakOf command arguments runs
+IsJobBy command arguments (job.Soak runs) =
+    (command ≡ codes "soak") × (value_of (codes "script-of") arguments ≡ None) × IsSoakOf command arguments runs
+IsJobBy command arguments (job.SoakScript script) = (command ≡ codes "soak") × IsSoakScriptOf command arguments script
 
 -- The words name this job: the first word is the program's own name, the second one the command, and the
 -- others are its arguments.

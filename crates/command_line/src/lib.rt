@@ -28,5 +28,5 @@ pub use job::{CheckJob, Job, RunJob, WorldJob};
 pub use judging::JudgeJob;
 pub use named::job_of;
 pub use no_job::NoJob;
-pub use soaking::SoakJob;
+pub use soaking::{SoakJob, SoakScriptJob};
 pub use tracing::{TraceForm, TraceJob};

@@ -17,11 +17,11 @@ use crate::named::checks::{check_of, explain_of};
 use crate::named::commands::{CommandName, command_called};
 use crate::named::runs::{cost_form_of, run_of, trace_of};
 use crate::named::searches::{explore_of, judge_of};
-use crate::named::soaks::soak_of;
+use crate::named::soaks::{script_of, soak_of};
 use crate::named::worlds::{finish_of, world_of};
 use crate::no_job::NoJob;
 use crate::syntax::syntax;
-use crate::words::{is_given, next_word};
+use crate::words::{is_given, next_word, value_of};
 use clap::error::ErrorKind;
 use clap::{Command, Error};
 use std::alloc::Global;
@@ -89,7 +89,7 @@ fn chosen<'a>(command: &str, arguments: &'a [String]) -> Option<Job<'a>>
         CommandName::Explain => explain_of(command, arguments).map(Job::Explain),
         CommandName::Explore => explore_of(command, arguments).map(Job::Explore),
         CommandName::Judge => judge_of(command, arguments).map(Job::Judge),
-        CommandName::Soak => soak_of(command, arguments).map(Job::Soak),
+        CommandName::Soak => soak_job(command, arguments),
     }
 }
 
@@ -112,5 +112,15 @@ fn catch_up_job<'a>(command: &str, arguments: &'a [String]) -> Option<Job<'a>>
         finish_of(command, arguments).map(Job::Finish)
     } else {
         world_of(command, arguments).map(Job::CatchUp)
+    }
+}
+
+fn soak_job<'a>(command: &str, arguments: &'a [String]) -> Option<Job<'a>>
+    requires { command.now ≡ codes "soak" }
+    ensures { IfSome result (λ job. IsJobBy command.now (texts arguments.entry.now) job) }
+{
+    match value_of("script-of", arguments) {
+        Some(_) => script_of(command, arguments).map(Job::SoakScript),
+        None => soak_of(command, arguments).map(Job::Soak),
     }
 }

@@ -33,6 +33,14 @@ pub struct SoakJob<'a> {
     pub ghost some_steps: { 1 ≤ steps },
 }
 
+/// The script of one of these runs.
+#[derive(Clone, Copy)]
+pub struct SoakScriptJob<'a> {
+    pub soak: SoakJob<'a>,
+    /// Which run, from 1, at most 1000000000.
+    pub number: u32,
+}
+
 /// The form of the words.
 pub fn soak<'a>(alloc: Global) -> Result<Command<'a>, AllocError> {
     command(
@@ -53,6 +61,13 @@ pub fn soak<'a>(alloc: Global) -> Result<Command<'a>, AllocError> {
             Argument::lines("kills", "Kills in a run, 0 to M, at most 128", "2"),
             Argument::lines("images", "Images in a run, 0 to M, at most 128", "2"),
             images_every(),
+            Argument::number(
+                "script-of",
+                "K",
+                "Prints the script of run K alone (below)",
+                1,
+                None,
+            ),
             idle(),
             steps_of_a_run(),
             program(),

@@ -1,10 +1,12 @@
 //! The runs of a soak that arguments name.
 ghost use Rattle.std.specs.Prelude.{IfSome};
-ghost use Rattle.command_line.specs.Jobs.{IsSoakOf};
+ghost use Rattle.command_line.specs.Jobs.{IsSoakOf, IsSoakScriptOf};
 ghost use Rattle.command_line.specs.Words.{texts};
 
-use crate::soaking::SoakJob;
-use crate::words::{count_if, limit_or, number_or, one_file, ranks_of, small_or};
+use crate::soaking::{SoakJob, SoakScriptJob};
+use crate::words::{
+    count_if, limit_or, number_in, number_or, one_file, ranks_of, small_or, value_of,
+};
 use limits::MOST_SCRIPT_LINES;
 
 /// The runs that the arguments ask for.
@@ -45,5 +47,16 @@ pub fn soak_of<'a>(command: &str, arguments: &'a [String]) -> Option<SoakJob<'a>
         idle,
         steps,
         program,
+    })
+}
+
+/// The run whose script the arguments ask for.
+pub fn script_of<'a>(command: &str, arguments: &'a [String]) -> Option<SoakScriptJob<'a>>
+    ensures { IfSome result (λ script. IsSoakScriptOf command.now (texts arguments.entry.now) script) }
+{
+    let number = number_in(value_of("script-of", arguments)?)?;
+    Some(SoakScriptJob {
+        soak: soak_of(command, arguments)?,
+        number,
     })
 }
