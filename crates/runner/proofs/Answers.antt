@@ -8,7 +8,10 @@ use Rattle.command_line.specs.declared.job.RunJob.{RunJob}
 use Rattle.runner.specs.Answers.{IsCheckAnswer, IsJobAnswer, IsReportText, IsRunAnswer}
 use Rattle.runner.proofs.Reading.{script_held_before}
 use Rattle.runner.specs.Reading.{IsProgramIn, IsScriptBy}
+use Rattle.runner.specs.Reasons.{IsRefusalOf}
+use Rattle.runner.specs.Refusals.{status_of}
 use Rattle.runner.specs.Reports.{IsReportOf, IsReportUnder}
+use Rattle.runner.specs.declared.commands.refusal.Refusal.{Refusal}
 use Rattle.runner.specs.declared.commands.refusal.Refusal.TheVariants as refusal
 use Rattle.rank_language.specs.Correct.{IsProgramOf}
 use Rattle.rank_language.specs.Named.{forms_of}
@@ -65,7 +68,12 @@ is_check_answer holds program text out status read canonical again same done = r
 
 -- if there is no memory, each job is answered by that refusal
 pub no_memory : (holds : List ℕ → List ℕ → Type 0) (job : Job) → IsJobAnswer holds job [] 4
-no_memory holds job = inl (record { silent = refl; refusal = refusal.Memory; code = refl })
+no_memory holds job = inl (record { silent = refl; refusal = refusal.Memory; reason = λ other. absurd (other refl); code = refl })
+
+-- a refusal that has its reason is an answer
+pub is_refused : (holds : List ℕ → List ℕ → Type 0) (job : Job) (refused : Refusal) (out : List ℕ) (status : ℕ) → IsRefusalOf holds job refused
+    → out ≡ [] → status ≡ status_of refused → IsJobAnswer holds job out status
+is_refused holds job refused out status reason silent code = inl (record { silent = silent; refusal = refused; reason = reason; code = code })
 
 -- a stream that isn't written to grows by nothing
 pub nothing_written : (held : Option (List ℕ)) → Appends held held []

@@ -14,11 +14,11 @@ use Rattle.runner.specs.Explanations.{IsExplainAnswer}
 use Rattle.runner.specs.Judgments.{IsJudgeAnswer}
 use Rattle.runner.specs.Objects.{IsObjectsAnswer}
 use Rattle.runner.specs.Reading.{IsProgramIn}
-use Rattle.runner.specs.Refusals.{IsRefusal}
+use Rattle.runner.specs.Refusals.{IsRefused}
 use Rattle.runner.specs.ReportText.{report_text}
 use Rattle.runner.specs.Reports.{IsReportOf}
 use Rattle.runner.specs.Searches.{IsExploreAnswer}
-use Rattle.runner.specs.Soaks.{IsSoakAnswer}
+use Rattle.runner.specs.Soaks.{IsSoakAnswer, IsSoakScriptAnswer}
 use Rattle.runner.specs.Statuses.{HasStatus}
 use Rattle.runner.specs.Traces.{IsTraceAnswer}
 use Rattle.runner.specs.Translations.{IsCAnswer}
@@ -62,7 +62,8 @@ IsDone holds (job.Explain texts) out status = IsExplainAnswer holds texts out st
 IsDone holds (job.Explore search) out status = IsExploreAnswer (holds search.program.now) search out status
 IsDone holds (job.Judge outcome) out status = IsJudgeAnswer holds outcome out status
 IsDone holds (job.Soak runs) out status = IsSoakAnswer (holds runs.program.now) runs out status
+IsDone holds (job.SoakScript script) out status = IsSoakScriptAnswer (holds script.soak.program.now) script out status
 
--- What is answered to a job: a refusal, or the job is done.
+-- What is answered to a job: it is refused for a reason, or it is done.
 abbrev pub IsJobAnswer : (List ℕ → List ℕ → Type 0) → Job → List ℕ → ℕ → Type 0
-IsJobAnswer holds named out status = IsRefusal out status ⊎ IsDone holds named out status
+IsJobAnswer holds named out status = IsRefused holds named out status ⊎ IsDone holds named out status

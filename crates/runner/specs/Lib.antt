@@ -1,8 +1,9 @@
-pub mod Refusals
 pub mod Statuses
 pub mod ReportText
 pub mod CostsText
 pub mod FinishText
+pub mod Reasons
+pub mod Refusals
 pub mod Worlds
 pub mod Reading
 pub mod Reports

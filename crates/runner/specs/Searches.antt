@@ -18,10 +18,10 @@ use Rattle.runner.specs.Reading.{IsProgramIn}
 
 -- What a search found: the program may have each outcome. If the search is complete, it has no
 -- other, however its ranks go on they come to an end that was found, and crashes add none to those of
--- runs; so where there is one outcome, it is all that a run prints. The search of a small program is complete. One
--- that isn't looked at as many runs as the job allows, or a rank came to the limit of steps, and
--- then some rank goes beyond it. No outcome stands there twice, and no more runs were looked at than
--- the job allows.
+-- runs; so where there is one outcome, it is all that a run prints. The search of a small program is
+-- complete. One that isn't looked at as many runs as the job allows, or a rank came to the limit of
+-- steps, and then some rank goes beyond it. No outcome stands there twice, and no more runs were looked
+-- at than the job allows.
 pub record IsFoundBy (program : ProgramValue) (job : ExploreJob) (found : ExploredValue) : Type 0 where
   pub possible : (outcome : List RankOutcome) → IsAmong found.outcomes outcome → IsPossible program job.ranks outcome
   pub complete : found.complete ≡ true → AreAll program job.ranks found.outcomes

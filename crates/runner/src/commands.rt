@@ -97,7 +97,7 @@ pub fn command_watched<
 
 /// Does this job, and answers the exit status. Unless that is 5, an answer to the
 /// job is written to `out`, whole.
-#[tactic(auto, using(crate::proofs::Answers::nothing_written, crate::proofs::Answers::no_memory))]
+#[tactic(auto, using(crate::proofs::Answers::nothing_written, crate::proofs::Answers::no_memory, crate::proofs::Answers::is_refused))]
 pub fn do_job<R: Threads + Wait + Sync + Copy + Send, F: Files, O: Write, E: Write, W: Watch>(
     rt: &R,
     alloc: Heap,

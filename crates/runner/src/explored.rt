@@ -95,7 +95,8 @@ fn part_at(found: &Explored, index: usize, parted: &mut Vec<Parted, Heap>) -> Re
     part(parted, last.choices.as_slice(), outcome.choices.as_slice())
 }
 
-fn outcome_at(found: &Explored, index: usize) -> &Outcome
+/// The outcome at this place.
+pub fn outcome_at(found: &Explored, index: usize) -> &Outcome
     requires { index < length found.now.outcomes }
     ensures outcome { slice_get found.now.outcomes index ≡ Some result.now.ranks }
     ensures choices { slice_get found.now.choices index ≡ Some result.now.choices }

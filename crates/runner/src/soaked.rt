@@ -1,5 +1,5 @@
 //! What the runs of a soak came to.
-ghost use Rattle.std.specs.Prelude.{◌≡◌, ◌↔◌, ◌+◌, [], false, true, nat_lt, IsTrue, OnOk, string_bytes};
+ghost use Rattle.std.specs.Prelude.{◌≡◌, ◌↔◌, ◌+◌, ◌++◌, ℕ, List, [], false, true, nat_lt, IsTrue, OnOk, string_bytes};
 ghost use Rattle.audit.specs.FinalRuns.Final.{seen_of};
 ghost use Rattle.run_events.specs.Halting.{HaveHalted};
 ghost use Rattle.outcomes.specs.Soak.Histogram.{Notes, up_to};
@@ -8,13 +8,13 @@ mod text;
 
 use crate::commands::Refusal;
 use crate::output::all_halted;
+use crate::soaked::text::print_failed;
 pub use crate::soaked::text::print_soaked;
 use limits::Heap;
 use outcomes::soak::{Histogram, images_used, seen_of};
 use rank_text::script::Script;
 use rank_threads::Report;
 use std::alloc::AllocError;
-use std::fmt::Write;
 
 /// What is counted of the runs of a soak.
 #[derive(Drop)]
@@ -31,11 +31,14 @@ pub struct Soaked {
 }
 
 impl Soaked {
+    ghost use Rattle.runner.specs.SoakText.{failed_text};
+
     /// Of no runs.
     pub fn new(alloc: Heap) -> Soaked
         ensures none { result.histogram ≡ [] }
         ensures crashes { result.crashes ≡ 0 }
         ensures halted { result.all_halted ≡ true }
+        ensures failed { string_bytes result.failed ≡ [] }
     {
         Soaked {
             histogram: Histogram::new(alloc),
@@ -51,6 +54,7 @@ impl Soaked {
         ensures counted { OnOk result (Notes self.old.histogram (seen_of report.now.outcome) (nat_lt 0 report.now.crashes) self.new.histogram) }
         ensures crashes { OnOk result (self.new.crashes ≡ up_to (self.old.crashes + report.now.crashes)) }
         ensures halted { OnOk result (IsTrue self.new.all_halted ↔ (IsTrue self.old.all_halted × HaveHalted report.now.outcome.ends)) }
+        ensures failed { OnOk result (string_bytes self.new.failed ≡ string_bytes self.old.failed) }
     {
         let images = images_used(alloc, script, report.unused.as_slice())?;
         let seen = seen_of(alloc, &report.outcome)?;
@@ -63,14 +67,20 @@ impl Soaked {
 
     /// The run of this number, under a script of this text, has no report. An
     /// `Err` means out of memory.
-    pub fn fail(&mut self, number: u32, why: Refusal<'_>, script: &str) -> Result<(), AllocError>
+    pub fn fail(
+        &mut self,
+        alloc: Heap,
+        number: u32,
+        why: Refusal<'_>,
+        script: &str,
+    ) -> Result<(), AllocError>
         ensures counted { self.new.histogram ≡ self.old.histogram }
         ensures crashes { self.new.crashes ≡ self.old.crashes }
         ensures halted { self.new.all_halted ≡ false }
+        ensures told { OnOk result ((why : List ℕ) × (string_bytes self.new.failed ≡ string_bytes self.old.failed ++ failed_text number why script.now)) }
     {
         self.all_halted = false;
-        writeln!(self.failed, "run {number} has no report: {why}")?;
-        self.failed.push_str(script)?;
-        Ok(())
+        let why = format!(in alloc; "{why}")?;
+        print_failed(&mut self.failed, number, why.as_str(), script)
     }
 }

@@ -1,5 +1,6 @@
 //! A program as a C program for MPI.
-ghost use Rattle.std.specs.Prelude.{IfOk};
+ghost use Rattle.std.specs.Prelude.{IfErr, IfOk};
+ghost use Rattle.runner.specs.Reasons.{IsProgramRefusal, UnlessMemory};
 ghost use Rattle.runner.specs.Translations.{IsCAnswer};
 
 use crate::commands::reading::text_in;
@@ -11,13 +12,14 @@ use command_line::CheckJob;
 use limits::Heap;
 
 /// The C text of the job's program.
-#[tactic(auto, using(crate::proofs::Tools::is_c_answer))]
+#[tactic(auto, using(crate::proofs::Tools::is_c_answer, crate::proofs::Reasons::unread, crate::proofs::Reasons::faulty_program))]
 pub fn translated<'a, F: Files>(
     alloc: Heap,
     job: CheckJob<'a>,
     files: &mut F,
 ) -> Result<Said, Refusal<'a>>
-    ensures { IfOk result (λ said. IsCAnswer (F.holds files.old job.entry.program.now) said.out.items said.status) }
+    ensures answer { IfOk result (λ said. IsCAnswer (F.holds files.old job.entry.program.now) said.out.items said.status) }
+    ensures refused { IfErr result (UnlessMemory (IsProgramRefusal (F.holds files.old) job.entry.program)) }
 {
     let text = text_in(job.program, files)?;
     match c_text(alloc, text.as_slice()) {

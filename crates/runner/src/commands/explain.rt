@@ -1,6 +1,7 @@
 //! The first fault of a job's texts, explained.
-ghost use Rattle.std.specs.Prelude.{ℕ, List, IfOk, is_err, is_some};
+ghost use Rattle.std.specs.Prelude.{ℕ, List, IfErr, IfOk, is_err, is_some};
 ghost use Rattle.runner.specs.Explanations.{HoldsEvents, HoldsEventsIn, HoldsProgram, HoldsScript, HoldsScriptIn, IsExplainAnswer, SaysNone};
+ghost use Rattle.runner.specs.Reasons.{IsExplainRefusal, IsUnread, IsUnreadBy, UnlessMemory};
 
 use crate::commands::reading::text_in;
 use crate::commands::refusal::Refusal;
@@ -16,13 +17,14 @@ use world_model::events_text::{EventsFault, parse_events};
 
 /// What is said of the job's texts: the first fault, with status 2, or that there
 /// is none. Each text is read once the one before has no fault.
-#[tactic(auto, using(crate::proofs::Explanations::in_program, crate::proofs::Explanations::in_script, crate::proofs::Explanations::in_events, crate::proofs::Explanations::in_none))]
+#[tactic(auto, using(crate::proofs::Explanations::in_program, crate::proofs::Explanations::in_script, crate::proofs::Explanations::in_events, crate::proofs::Explanations::in_none, crate::proofs::Reasons::explain_of_program, crate::proofs::Reasons::explain_of_script, crate::proofs::Reasons::explain_of_events, crate::proofs::Reasons::of_memory))]
 pub fn explained<'a, F: Files>(
     alloc: Heap,
     job: ExplainJob<'a>,
     files: &mut F,
 ) -> Result<Said, Refusal<'a>>
-    ensures { IfOk result (λ said. IsExplainAnswer (F.holds files.old) job.entry said.out.items said.status) }
+    ensures answer { IfOk result (λ said. IsExplainAnswer (F.holds files.old) job.entry said.out.items said.status) }
+    ensures refused { IfErr result (UnlessMemory (IsExplainRefusal job.entry)) }
 {
     if let Some(told) = of_program(alloc, job.program, files)? {
         return Ok(Said::answer(alloc, 2, told.into_bytes()));
@@ -48,13 +50,14 @@ fn faultless(alloc: Heap, unmet: &str) -> Result<Said, AllocError>
 }
 
 // The fault of the program, explained, if it has one.
-#[tactic(auto, using(crate::proofs::Explanations::has_program, crate::proofs::Explanations::has_faulty_program))]
+#[tactic(auto, using(crate::proofs::Explanations::has_program, crate::proofs::Explanations::has_faulty_program, crate::proofs::Reasons::of_memory))]
 fn of_program<'a, F: Files>(
     alloc: Heap,
     name: &'a str,
     files: &mut F,
 ) -> Result<Option<String<Heap>>, Refusal<'a>>
     ensures said { IfOk result (λ told. HoldsProgram (F.holds files.old name.entry.now) (is_some told)) }
+    ensures refused { IfErr result (UnlessMemory (IsUnread name.entry)) }
     ensures kept { (file text : List ℕ) → F.holds files.new file text → F.holds files.old file text }
 {
     let text = text_in(name, files)?;
@@ -76,6 +79,7 @@ fn of_script<'a, F: Files>(
     files: &mut F,
 ) -> Result<Result<String<Heap>, String<Heap>>, Refusal<'a>>
     ensures said { IfOk result (λ told. HoldsScript (F.holds files.old) ranks name.entry (is_err told)) }
+    ensures refused { IfErr result (UnlessMemory (IsUnreadBy name.entry)) }
     ensures kept { (file text : List ℕ) → F.holds files.new file text → F.holds files.old file text }
 {
     match name {
@@ -84,7 +88,7 @@ fn of_script<'a, F: Files>(
     }
 }
 
-#[tactic(auto, using(crate::proofs::Explanations::has_script, crate::proofs::Explanations::has_faulty_script))]
+#[tactic(auto, using(crate::proofs::Explanations::has_script, crate::proofs::Explanations::has_faulty_script, crate::proofs::Reasons::of_memory))]
 fn of_script_in<'a, F: Files>(
     alloc: Heap,
     name: &'a str,
@@ -92,6 +96,7 @@ fn of_script_in<'a, F: Files>(
     files: &mut F,
 ) -> Result<Result<String<Heap>, String<Heap>>, Refusal<'a>>
     ensures said { IfOk result (λ told. HoldsScriptIn (F.holds files.old name.entry.now) ranks (is_err told)) }
+    ensures refused { IfErr result (UnlessMemory (IsUnread name.entry)) }
     ensures kept { (file text : List ℕ) → F.holds files.new file text → F.holds files.old file text }
 {
     let text = text_in(name, files)?;
@@ -113,7 +118,8 @@ fn of_events<'a, F: Files>(
     name: Option<&'a str>,
     files: &mut F,
 ) -> Result<Option<String<Heap>>, Refusal<'a>>
-    ensures { IfOk result (λ told. HoldsEvents (F.holds files.old) name.entry (is_some told)) }
+    ensures said { IfOk result (λ told. HoldsEvents (F.holds files.old) name.entry (is_some told)) }
+    ensures refused { IfErr result (UnlessMemory (IsUnreadBy name.entry)) }
 {
     match name {
         Some(name) => of_events_in(alloc, name, files),
@@ -121,13 +127,14 @@ fn of_events<'a, F: Files>(
     }
 }
 
-#[tactic(auto, using(crate::proofs::Explanations::has_events, crate::proofs::Explanations::has_faulty_events))]
+#[tactic(auto, using(crate::proofs::Explanations::has_events, crate::proofs::Explanations::has_faulty_events, crate::proofs::Reasons::of_memory))]
 fn of_events_in<'a, F: Files>(
     alloc: Heap,
     name: &'a str,
     files: &mut F,
 ) -> Result<Option<String<Heap>>, Refusal<'a>>
-    ensures { IfOk result (λ told. HoldsEventsIn (F.holds files.old name.entry.now) (is_some told)) }
+    ensures said { IfOk result (λ told. HoldsEventsIn (F.holds files.old name.entry.now) (is_some told)) }
+    ensures refused { IfErr result (UnlessMemory (IsUnread name.entry)) }
 {
     let text = text_in(name, files)?;
     match parse_events(alloc, text.as_slice()) {

@@ -1,9 +1,10 @@
 //! All outcomes of a job's program, or a run of one of them as events.
-ghost use Rattle.std.specs.Prelude.{◌≡◌, ◌+◌, ℕ, IfOk, IfSome, Some, slice_get, string_bytes};
+ghost use Rattle.std.specs.Prelude.{◌≡◌, ◌+◌, ℕ, IfErr, IfOk, IfSome, Some, slice_get, string_bytes};
 ghost use Rattle.runner.specs.Events.{PlaysOutcome};
 ghost use Rattle.explore.specs.Shown.{AreMarked};
 ghost use Rattle.rank_language.specs.Correct.{IsProgramOf};
 ghost use Rattle.runner.specs.OutcomesText.{IsMarkedObject, IsMarkedSummary, IsMarkedText};
+ghost use Rattle.runner.specs.Reasons.{HasNoOutcome, HasNoOutcomeOf, IsSearchRefusal, UnlessMemory};
 ghost use Rattle.runner.specs.Searches.{HasSearchStatus, IsExploreAnswer, IsFoundBy, IsPrinted, IsSearchAnswer};
 
 use crate::commands::reading::text_in;
@@ -21,22 +22,26 @@ use std::alloc::AllocError;
 
 /// What is found of the job's program, or the events of the outcome that the job
 /// names; with status 0 where all is found and each rank halts.
-#[tactic(auto, using(crate::proofs::Searches::is_explore_answer))]
+#[tactic(auto, using(crate::proofs::Searches::is_explore_answer, crate::proofs::Reasons::search_unread, crate::proofs::Reasons::search_faulty, crate::proofs::Reasons::search_of_outcome))]
 pub fn explored_by<'a, F: Files, W: Watch>(
     alloc: Heap,
     job: ExploreJob<'a>,
     files: &mut F,
     watch: &mut W,
 ) -> Result<Said, Refusal<'a>>
-    ensures { IfOk result (λ said. IsExploreAnswer (F.holds files.old job.entry.program.now) job.entry said.out.items said.status) }
+    ensures answer { IfOk result (λ said. IsExploreAnswer (F.holds files.old job.entry.program.now) job.entry said.out.items said.status) }
+    ensures refused { IfErr result (UnlessMemory (IsSearchRefusal (F.holds files.old) job.entry)) }
 {
     let text = text_in(job.program, files)?;
     let program = Program::parse(alloc, text.as_slice())?;
-    found_of(alloc, job, text.as_slice(), &program, watch)
+    match found_of(alloc, job, text.as_slice(), &program, watch) {
+        Ok(said) => Ok(said),
+        Err(refusal) => Err(refusal),
+    }
 }
 
 // The same, of a program that is parsed.
-#[tactic(auto, using(crate::proofs::Searches::is_search_answer))]
+#[tactic(auto, using(crate::proofs::Searches::is_search_answer, crate::proofs::Reasons::of_memory))]
 fn found_of<'a, W: Watch>(
     alloc: Heap,
     job: ExploreJob<'a>,
@@ -45,7 +50,8 @@ fn found_of<'a, W: Watch>(
     watch: &mut W,
 ) -> Result<Said, Refusal<'a>>
     requires { IsProgramOf text.now program.now }
-    ensures { IfOk result (λ said. IsSearchAnswer text.now program.now job.entry said.out.items said.status) }
+    ensures answer { IfOk result (λ said. IsSearchAnswer text.now program.now job.entry said.out.items said.status) }
+    ensures refused { IfErr result (UnlessMemory (HasNoOutcomeOf job.entry)) }
 {
     let found = searched(alloc, job, program, watch)?;
     let answer = answer_of(alloc, job, text, program, &found)?;
@@ -75,7 +81,7 @@ fn status_of(found: &Explored) -> u8
     }
 }
 
-#[tactic(auto, using(crate::proofs::Searches::text_printed, crate::proofs::Searches::summary_printed, crate::proofs::Searches::json_printed, crate::proofs::Searches::events_printed))]
+#[tactic(auto, using(crate::proofs::Searches::text_printed, crate::proofs::Searches::summary_printed, crate::proofs::Searches::json_printed, crate::proofs::Searches::events_printed, crate::proofs::Reasons::of_memory, crate::proofs::Reasons::outcome_of_job))]
 fn answer_of<'a>(
     alloc: Heap,
     job: ExploreJob<'a>,
@@ -84,10 +90,14 @@ fn answer_of<'a>(
     found: &Explored,
 ) -> Result<String<Heap>, Refusal<'a>>
     requires { IsProgramOf text.now program.now }
-    ensures { IfOk result (λ answer. IsPrinted text.now program.now job.entry found.now (string_bytes answer)) }
+    ensures answer { IfOk result (λ answer. IsPrinted text.now program.now job.entry found.now (string_bytes answer)) }
+    ensures refused { IfErr result (UnlessMemory (HasNoOutcomeOf job.entry)) }
 {
     match job.form {
-        ExploreForm::Events(number) => events_of(alloc, job, number, program, found),
+        ExploreForm::Events(number) => match events_of(alloc, job, number, program, found) {
+            Ok(text) => Ok(text),
+            Err(refusal) => Err(refusal),
+        },
         ExploreForm::Text => Ok(found_text(alloc, job, text, program, found)?),
         ExploreForm::Summary => Ok(summary_text(alloc, job, text, program, found)?),
         ExploreForm::Json => Ok(json_text(alloc, job, text, program, found)?),
@@ -170,7 +180,7 @@ fn marks_in(
 }
 
 // The events of a run that has the outcome of this number, from 1.
-#[tactic(auto, using(crate::proofs::Events::plays_outcome))]
+#[tactic(auto, using(crate::proofs::Events::plays_outcome, crate::proofs::Reasons::no_outcome, crate::proofs::Reasons::outcome_not_played, crate::proofs::Reasons::of_memory))]
 fn events_of<'a>(
     alloc: Heap,
     job: ExploreJob<'a>,
@@ -178,7 +188,8 @@ fn events_of<'a>(
     program: &Program,
     found: &Explored,
 ) -> Result<String<Heap>, Refusal<'a>>
-    ensures { IfOk result (λ text. PlaysOutcome program.now job.entry.ranks found.now.outcomes number (string_bytes text)) }
+    ensures played { IfOk result (λ text. PlaysOutcome program.now job.entry.ranks found.now.outcomes number (string_bytes text)) }
+    ensures refused { IfErr result (UnlessMemory (HasNoOutcome number)) }
 {
     let Some(outcome) = outcome_at(found, number) else {
         return Err(Refusal::NoOutcome(number));

@@ -1,7 +1,8 @@
 //! Whether some run without crashes has the outcome of a file.
-ghost use Rattle.std.specs.Prelude.{IfOk, string_bytes};
+ghost use Rattle.std.specs.Prelude.{IfErr, IfOk, string_bytes};
 ghost use Rattle.outcomes.specs.Text.Outcomes.{outcome_of};
 ghost use Rattle.runner.specs.Judgments.{IsJudgeAnswer, IsYesText, TellsVerdict, TellsVerdictOf};
+ghost use Rattle.runner.specs.Reasons.{IsJudgeRefusal, IsOutcomeRefusal, UnlessMemory};
 ghost use Rattle.runner.specs.Traces.{TracesReport};
 ghost use Rattle.rank_language.specs.StandOn.{IsLinedOf};
 
@@ -27,23 +28,27 @@ struct Texts {
 
 /// The verdict on the job's outcome, with status 0 for yes and 1 for no. The
 /// program is read and parsed before the outcome is read.
-#[tactic(auto, using(crate::proofs::Judging::is_judge_answer))]
+#[tactic(auto, using(crate::proofs::Judging::is_judge_answer, crate::proofs::Reasons::judge_unread, crate::proofs::Reasons::judge_faulty, crate::proofs::Reasons::judge_of_outcome))]
 pub fn judged<'a, F: Files>(
     alloc: Heap,
     job: JudgeJob<'a>,
     files: &mut F,
 ) -> Result<Said, Refusal<'a>>
-    ensures { IfOk result (λ said. IsJudgeAnswer (F.holds files.old) job.entry said.out.items said.status) }
+    ensures answer { IfOk result (λ said. IsJudgeAnswer (F.holds files.old) job.entry said.out.items said.status) }
+    ensures refused { IfErr result (UnlessMemory (IsJudgeRefusal (F.holds files.old) job.entry)) }
 {
     let text = text_in(job.program, files)?;
     let lined = LinedProgram::parse(alloc, text.as_slice())?;
     let said = judged_by(alloc, job, &lined, text, files);
     drop(lined);
-    said
+    match said {
+        Ok(said) => Ok(said),
+        Err(refusal) => Err(refusal),
+    }
 }
 
 // The same, of a program that is parsed.
-#[tactic(auto, using(crate::proofs::Judging::tells_verdict_of))]
+#[tactic(auto, using(crate::proofs::Judging::tells_verdict_of, crate::proofs::Reasons::unread, crate::proofs::Reasons::faulty_outcome, crate::proofs::Reasons::of_memory))]
 fn judged_by<'a, F: Files>(
     alloc: Heap,
     job: JudgeJob<'a>,
@@ -52,8 +57,9 @@ fn judged_by<'a, F: Files>(
     files: &mut F,
 ) -> Result<Said, Refusal<'a>>
     requires { IsLinedOf text.items lined.now.program lined.now.lines.items }
-    ensures { IfOk result (λ said. TellsVerdictOf (F.holds files.old job.entry.outcome.now) text.items lined.now.program job.entry
+    ensures told { IfOk result (λ said. TellsVerdictOf (F.holds files.old job.entry.outcome.now) text.items lined.now.program job.entry
         said.out.items said.status) }
+    ensures refused { IfErr result (UnlessMemory (IsOutcomeRefusal (F.holds files.old) job.entry.ranks job.entry.outcome)) }
 {
     let texts = Texts {
         program: text,

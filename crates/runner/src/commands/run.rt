@@ -1,8 +1,9 @@
 //! A job's run, and its report.
-ghost use Rattle.std.specs.Prelude.{◌≡◌, ◌≤◌, IfOk, length};
+ghost use Rattle.std.specs.Prelude.{◌≡◌, ◌≤◌, IfErr, IfOk, length};
 ghost use Rattle.audit.specs.Found.{IsFound};
 ghost use Rattle.limits.specs.Limits.{most_ranks};
 ghost use Rattle.runner.specs.Answers.{IsReportText, IsRunAnswer};
+ghost use Rattle.runner.specs.Reasons.{IsRunRefusal, UnlessMemory};
 ghost use Rattle.runner.specs.Reports.{IsReportOf, IsReportUnder};
 
 use crate::commands::reading::{program_in, script_by};
@@ -30,14 +31,15 @@ impl Hold for Nobody {
 
 /// The text of the report of the job's run. The status is 1 where a rank isn't
 /// halted.
-#[tactic(auto, using(crate::proofs::Answers::is_run_answer, crate::proofs::Answers::as_many_ends))]
+#[tactic(auto, using(crate::proofs::Answers::is_run_answer, crate::proofs::Answers::as_many_ends, crate::proofs::Reasons::of_memory))]
 pub fn ran<'a, R: Threads + Wait + Sync + Copy + Send, F: Files>(
     rt: &R,
     alloc: Heap,
     job: RunJob<'a>,
     files: &mut F,
 ) -> Result<Said, Refusal<'a>>
-    ensures { IfOk result (λ said. IsRunAnswer (F.holds files.old) job.entry said.out.items said.status) }
+    ensures answer { IfOk result (λ said. IsRunAnswer (F.holds files.old) job.entry said.out.items said.status) }
+    ensures refused { IfErr result (UnlessMemory (IsRunRefusal (F.holds files.old) job.entry)) }
 {
     let report = report_of(rt, alloc, job, files)?;
     match answer(alloc, job, &report) {
@@ -47,14 +49,15 @@ pub fn ran<'a, R: Threads + Wait + Sync + Copy + Send, F: Files>(
 }
 
 // The program is read and parsed before the script is read.
-#[tactic(auto, using(crate::proofs::Answers::is_report_of))]
+#[tactic(auto, using(crate::proofs::Answers::is_report_of, crate::proofs::Reasons::run_of_program, crate::proofs::Reasons::run_of_script, crate::proofs::Reasons::run_of_fault))]
 fn report_of<'a, R: Threads + Wait + Sync + Copy + Send, F: Files>(
     rt: &R,
     alloc: Heap,
     job: RunJob<'a>,
     files: &mut F,
 ) -> Result<Report, Refusal<'a>>
-    ensures { IfOk result (λ report. IsReportOf (F.holds files.old) job.entry report) }
+    ensures report { IfOk result (λ report. IsReportOf (F.holds files.old) job.entry report) }
+    ensures refused { IfErr result (UnlessMemory (IsRunRefusal (F.holds files.old) job.entry)) }
 {
     let program = program_in(alloc, job.program, files)?;
     let asked = script_by(alloc, job.script, job.ranks, files)?;

@@ -1,22 +1,24 @@
 //! Many runs of a job's program, under scripts that are drawn at random.
-ghost use Rattle.std.specs.Prelude.{◌≡◌, IfOk, OnOk, string_bytes};
+ghost use Rattle.std.specs.Prelude.{◌≡◌, IfErr, IfOk, OnOk, string_bytes};
+ghost use Rattle.runner.specs.Reasons.{IsSoakRefusal, IsSoakScriptRefusal, IsUndrawn, UnlessMemory};
 ghost use Rattle.runner.specs.SoakText.{IsSoakText};
-ghost use Rattle.runner.specs.Soaks.{AreSoaked, HasSoakStatus, IsDrawn, IsOneMore, IsSoakAnswer};
+ghost use Rattle.runner.specs.Soaks.{AreSoaked, HasSoakStatus, IsDrawn, IsOneMore, IsSearched, IsSoakAnswer, IsSoakScriptAnswer};
 
-use crate::commands::reading::text_in;
+use crate::commands::reading::{program_in, text_in};
 use crate::commands::refusal::Refusal;
 use crate::commands::run::{certified_under, report_under};
 use crate::commands::said::Said;
 use crate::files::Files;
 use crate::soaked::{Soaked, print_soaked};
-use command_line::SoakJob;
+use command_line::{SoakJob, SoakScriptJob};
 use crash_free::Sim;
-use explore::{Limits, Watch, explore};
+use explore::{Explored, Limits, Watch, explore};
 use limits::Heap;
 use outcomes::soak::{Most, draw, text_of};
 use rank_language::Program;
 use rank_text::script::Script;
 use rank_threads::{RunFault, RunLimits};
+use run_events::laws::law_masks_reports;
 use std::alloc::AllocError;
 use std::sync::Wait;
 use std::thread::Threads;
@@ -38,7 +40,7 @@ struct Drawn {
 
 /// What the job's runs came to. The status is 1 where a rank isn't halted in one
 /// of them, or one has no report.
-#[tactic(auto, using(crate::proofs::Soaks::is_soak_answer))]
+#[tactic(auto, using(crate::proofs::Soaks::is_soak_answer, crate::proofs::Reasons::soak_unread, crate::proofs::Reasons::soak_faulty, crate::proofs::Reasons::soak_undrawn, crate::proofs::Reasons::of_memory))]
 pub fn soaked<'a, R: Threads + Wait + Sync + Copy + Send, F: Files, W: Watch>(
     rt: &R,
     alloc: Heap,
@@ -46,13 +48,35 @@ pub fn soaked<'a, R: Threads + Wait + Sync + Copy + Send, F: Files, W: Watch>(
     files: &mut F,
     watch: &mut W,
 ) -> Result<Said, Refusal<'a>>
-    ensures { IfOk result (λ said. IsSoakAnswer (F.holds files.old job.entry.program.now) job.entry said.out.items said.status) }
+    ensures answer { IfOk result (λ said. IsSoakAnswer (F.holds files.old job.entry.program.now) job.entry said.out.items said.status) }
+    ensures refused { IfErr result (UnlessMemory (IsSoakRefusal (F.holds files.old) job.entry)) }
 {
     let text = text_in(job.program, files)?;
     let program = Program::parse(alloc, text.as_slice())?;
     let soaked = made(rt, alloc, job, &program, watch)?;
-    let text = told(alloc, job, &program, &soaked, watch)?;
+    let found = searched(alloc, job, &program, &soaked, watch)?;
+    let text = print_soaked(alloc, &soaked, &found, job.runs)?;
     Ok(Said::answer(alloc, status_of(&soaked), text.into_bytes()))
+}
+
+/// The script of the run that the job names, if that is one of the job's runs.
+#[tactic(auto, using(crate::proofs::Soaks::is_script_answer, crate::proofs::Reasons::script_of_program, crate::proofs::Reasons::script_of_number, crate::proofs::Reasons::script_undrawn))]
+pub fn script_said<'a, R: Threads + Wait + Sync + Copy + Send, F: Files>(
+    rt: &R,
+    alloc: Heap,
+    job: SoakScriptJob<'a>,
+    files: &mut F,
+) -> Result<Said, Refusal<'a>>
+    ensures answer { IfOk result (λ said. IsSoakScriptAnswer (F.holds files.old job.entry.soak.program.now) job.entry said.out.items said.status) }
+    ensures refused { IfErr result (UnlessMemory (IsSoakScriptRefusal (F.holds files.old) job.entry)) }
+{
+    let program = program_in(alloc, job.soak.program, files)?;
+    if job.number > job.soak.runs {
+        return Err(Refusal::NoRun(job.number));
+    }
+    let acts = acts_of(rt, alloc, job.soak, &program)?;
+    let drawn = drawn_for(alloc, job.soak, acts.as_slice(), job.number)?;
+    Ok(Said::answer(alloc, 0, drawn.text.into_bytes()))
 }
 
 fn status_of(soaked: &Soaked) -> u8
@@ -61,18 +85,20 @@ fn status_of(soaked: &Soaked) -> u8
     if soaked.all_halted { 0 } else { 1 }
 }
 
-// What is printed of the runs, beside what a search finds.
-fn told<W: Watch>(
+// What a search finds beside the runs, so that their outcomes are among its own.
+#[tactic(auto, using(crate::proofs::Soaks::is_searched))]
+fn searched<W: Watch>(
     alloc: Heap,
     job: SoakJob<'_>,
     program: &Program,
-    soaked: &Soaked,
+    _soaked: &Soaked,
     watch: &mut W,
-) -> Result<String<Heap>, AllocError>
-    ensures { IfOk result (λ text. IsSoakText soaked.now job.entry.runs (string_bytes text)) }
+) -> Result<Explored, AllocError>
+    requires { AreSoaked program.now job job.runs _soaked.now }
+    ensures { IfOk result (λ found. IsSearched program.now job.entry.ranks _soaked.now.histogram found) }
 {
-    let found = explore(alloc, program, job.ranks, SEARCH, watch)?;
-    print_soaked(alloc, soaked, &found, job.runs)
+    law_masks_reports();
+    explore(alloc, program, job.ranks, SEARCH, watch)
 }
 
 // The runs, from number 1 on.
@@ -84,7 +110,8 @@ fn made<'a, R: Threads + Wait + Sync + Copy + Send, W: Watch>(
     program: &Program,
     watch: &mut W,
 ) -> Result<Soaked, Refusal<'a>>
-    ensures { IfOk result (λ soaked. AreSoaked program.now job.entry job.entry.runs soaked) }
+    ensures made { IfOk result (λ soaked. AreSoaked program.now job.entry job.entry.runs soaked) }
+    ensures refused { IfErr result (UnlessMemory (IsUndrawn job.entry.ranks)) }
 {
     let acts = acts_of(rt, alloc, job, program)?;
     let mut soaked = Soaked::new(alloc);
@@ -104,7 +131,7 @@ fn made<'a, R: Threads + Wait + Sync + Copy + Send, W: Watch>(
 }
 
 // The run of this number: its script follows from that and the job's seed.
-#[tactic(auto, using(crate::proofs::Soaks::is_failed))]
+#[tactic(auto, using(crate::proofs::Soaks::is_failed, crate::proofs::Reasons::of_memory))]
 fn make<'a, R: Threads + Wait + Sync + Copy + Send>(
     rt: &R,
     alloc: Heap,
@@ -114,25 +141,30 @@ fn make<'a, R: Threads + Wait + Sync + Copy + Send>(
     number: u32,
     soaked: &mut Soaked,
 ) -> Result<(), Refusal<'a>>
-    ensures { OnOk result (IsOneMore program.now job.entry soaked.old soaked.new) }
+    ensures more { OnOk result (IsOneMore program.now job.entry number soaked.old soaked.new) }
+    ensures refused { IfErr result (UnlessMemory (IsUndrawn job.entry.ranks)) }
 {
     let drawn = drawn_for(alloc, job, acts, number)?;
     let (ranks, script) = (job.ranks, &drawn.script);
     match report_under(rt, alloc, program, ranks, script, limits_of(job)) {
         Ok(report) => Ok(soaked.note(alloc, &report, script)?),
         Err(RunFault::Memory) => Err(Refusal::Memory),
-        Err(fault) => Ok(soaked.fail(number, Refusal::from(fault), drawn.text.as_str())?),
+        Err(fault) => {
+            let why = Refusal::from(fault);
+            Ok(soaked.fail(alloc, number, why, drawn.text.as_str())?)
+        }
     }
 }
 
-#[tactic(auto, using(crate::proofs::Soaks::is_drawn))]
+#[tactic(auto, using(crate::proofs::Soaks::is_drawn, crate::proofs::Reasons::drawn_faulty, crate::proofs::Reasons::of_memory))]
 fn drawn_for<'a>(
     alloc: Heap,
     job: SoakJob<'a>,
     acts: &[u32],
     number: u32,
 ) -> Result<Drawn, Refusal<'a>>
-    ensures { IfOk result (λ drawn. IsDrawn job.entry drawn.script) }
+    ensures drawn { IfOk result (λ drawn. IsDrawn job.entry (string_bytes drawn.text) drawn.script) }
+    ensures refused { IfErr result (UnlessMemory (IsUndrawn job.entry.ranks)) }
 {
     let most = Most {
         kills: job.kills,
@@ -148,12 +180,15 @@ fn drawn_for<'a>(
 }
 
 // How many acts each rank makes in a run without a script.
+#[tactic(auto, using(crate::proofs::Reasons::undrawn_run, crate::proofs::Reasons::of_memory))]
 fn acts_of<'a, R: Threads + Wait + Sync + Copy + Send>(
     rt: &R,
     alloc: Heap,
     job: SoakJob<'a>,
     program: &Program,
-) -> Result<Vec<u32, Heap>, Refusal<'a>> {
+) -> Result<Vec<u32, Heap>, Refusal<'a>>
+    ensures { IfErr result (UnlessMemory (IsUndrawn job.entry.ranks)) }
+{
     let (ranks, limits) = (job.ranks, limits_of(job));
     let script = Script::new(alloc);
     let certified = certified_under(rt, alloc, program, ranks, &script, limits)?;

@@ -1,5 +1,5 @@
 //! A job's run, told act by act, or given as events.
-ghost use Rattle.std.specs.Prelude.{◌≡◌, ◌≢◌, ◌≤◌, ◌++◌, [], IfOk, reverse, string_bytes};
+ghost use Rattle.std.specs.Prelude.{◌≡◌, ◌≢◌, ◌≤◌, ◌++◌, [], IfErr, IfOk, reverse, string_bytes};
 ghost use Rattle.audit.specs.Found.{IsFound};
 ghost use Rattle.limits.specs.Limits.{most_ranks};
 ghost use Rattle.run_events.specs.Plays.{IsPlayText};
@@ -7,6 +7,7 @@ ghost use Rattle.run_events.specs.Scripted.{IsScriptText};
 ghost use Rattle.run_shown.specs.Trace.Lines.{BeginsWithActs};
 ghost use Rattle.runner.specs.Statuses.{HasStatus};
 ghost use Rattle.runner.specs.Events.{PlaysReport, PlaysScriptOf};
+ghost use Rattle.runner.specs.Reasons.{IsTraceRefusal, IsUntold, UnlessMemory};
 ghost use Rattle.runner.specs.Traces.{IsTold, IsTraceAnswer, TracesReport};
 ghost use Rattle.rank_language.specs.StandOn.{IsLinedOf};
 
@@ -29,14 +30,15 @@ use std::thread::Threads;
 
 /// The run without crashes behind the job's report. The status is 1 where a rank
 /// isn't halted.
-#[tactic(auto, using(crate::proofs::Traces::is_trace_answer))]
+#[tactic(auto, using(crate::proofs::Traces::is_trace_answer, crate::proofs::Reasons::trace_unread, crate::proofs::Reasons::trace_faulty, crate::proofs::Reasons::trace_of_script, crate::proofs::Reasons::trace_untold))]
 pub fn traced<'a, R: Threads + Wait + Sync + Copy + Send, F: Files>(
     rt: &R,
     alloc: Heap,
     job: TraceJob<'a>,
     files: &mut F,
 ) -> Result<Said, Refusal<'a>>
-    ensures { IfOk result (λ said. IsTraceAnswer (F.holds files.old) job.entry said.out.items said.status) }
+    ensures answer { IfOk result (λ said. IsTraceAnswer (F.holds files.old) job.entry said.out.items said.status) }
+    ensures refused { IfErr result (UnlessMemory (IsTraceRefusal (F.holds files.old) job.entry.run)) }
 {
     let text = text_in(job.run.program, files)?;
     let lined = LinedProgram::parse(alloc, text.as_slice())?;
@@ -49,10 +51,14 @@ pub fn traced<'a, R: Threads + Wait + Sync + Copy + Send, F: Files>(
     };
     let said = told(rt, alloc, job, text.as_slice(), &lined, &asked);
     drop(lined);
-    said
+    match said {
+        Ok(said) => Ok(said),
+        Err(refusal) => Err(refusal),
+    }
 }
 
 // The run is made, and that which confirms its report is told.
+#[tactic(auto, using(crate::proofs::Reasons::untold_run))]
 fn told<'a, R: Threads + Wait + Sync + Copy + Send>(
     rt: &R,
     alloc: Heap,
@@ -62,7 +68,8 @@ fn told<'a, R: Threads + Wait + Sync + Copy + Send>(
     asked: &ScriptFile,
 ) -> Result<Said, Refusal<'a>>
     requires { IsLinedOf text.now lined.now.program lined.now.lines.items }
-    ensures { IfOk result (λ said. IsTold text.now lined.now.program job.entry asked.now.script said.out.items said.status) }
+    ensures told { IfOk result (λ said. IsTold text.now lined.now.program job.entry asked.now.script said.out.items said.status) }
+    ensures refused { IfErr result (UnlessMemory IsUntold) }
 {
     let limits = limits_of(job.run);
     let program = &lined.program;
@@ -74,7 +81,7 @@ fn told<'a, R: Threads + Wait + Sync + Copy + Send>(
     }
 }
 
-#[tactic(auto, using(crate::proofs::Events::plays_report, crate::proofs::Events::plays_script, crate::proofs::Traces::traces_report))]
+#[tactic(auto, using(crate::proofs::Events::plays_report, crate::proofs::Events::plays_script, crate::proofs::Traces::traces_report, crate::proofs::Reasons::untold_run, crate::proofs::Reasons::untold_events, crate::proofs::Reasons::of_memory))]
 fn told_of<'a>(
     alloc: Heap,
     job: TraceJob<'a>,
@@ -92,6 +99,7 @@ fn told_of<'a>(
         → PlaysReport lined.now.program job.entry.run.ranks certified.now.report.outcome job.entry.run.steps said.out.items) }
     ensures script { IfOk result (λ said. job.entry.form ≡ TraceForm.Events → asked.now.script ≢ []
         → PlaysScriptOf lined.now.program job.entry.run.ranks certified.now.report job.entry.run.steps asked.now.script said.out.items) }
+    ensures refused { IfErr result (UnlessMemory IsUntold) }
 {
     let report = &certified.report;
     let whys = whys_of(alloc, report.causes.as_slice())?;

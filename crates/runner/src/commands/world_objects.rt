@@ -1,6 +1,8 @@
 //! A world under the events of a file, as JSON.
-ghost use Rattle.std.specs.Prelude.{IfOk, OnOk};
+ghost use Rattle.std.specs.Prelude.{IfErr, IfOk, OnOk};
 ghost use Rattle.runner.specs.Objects.{HasEvents, IsObjectsAnswer};
+ghost use Rattle.runner.specs.Reasons.{IsEventsRefusal, IsWorldRefusal, UnlessMemory};
+ghost use Rattle.runner.specs.declared.commands.world.Wanted.TheVariants.{Replies};
 
 use crate::commands::reading::text_in;
 use crate::commands::refusal::Refusal;
@@ -14,13 +16,14 @@ use world_model::events_text::parse_events;
 
 /// What each event changes in the job's world, an object a line. The program is
 /// read and parsed before the events are read.
-#[tactic(auto, using(crate::proofs::Tools::is_objects_answer))]
+#[tactic(auto, using(crate::proofs::Tools::is_objects_answer, crate::proofs::Reasons::world_unread, crate::proofs::Reasons::world_faulty, crate::proofs::Reasons::world_of_events))]
 pub fn objects_said<'a, F: Files>(
     alloc: Heap,
     job: WorldJob<'a>,
     files: &mut F,
 ) -> Result<Said, Refusal<'a>>
-    ensures { IfOk result (λ said. IsObjectsAnswer (F.holds files.old) job.entry said.status) }
+    ensures answer { IfOk result (λ said. IsObjectsAnswer (F.holds files.old) job.entry said.status) }
+    ensures refused { IfErr result (UnlessMemory (IsWorldRefusal (F.holds files.old) job.entry Replies)) }
 {
     let text = text_in(job.program, files)?;
     let program = Program::parse(alloc, text.as_slice())?;
@@ -33,7 +36,7 @@ pub fn objects_said<'a, F: Files>(
 }
 
 // The objects, of a program that is parsed and that no early return lets go of.
-#[tactic(auto, using(crate::proofs::Tools::has_events))]
+#[tactic(auto, using(crate::proofs::Tools::has_events, crate::proofs::Reasons::unread, crate::proofs::Reasons::faulty_events, crate::proofs::Reasons::of_memory))]
 fn json_of<'a, F: Files>(
     alloc: Heap,
     job: WorldJob<'a>,
@@ -41,7 +44,8 @@ fn json_of<'a, F: Files>(
     text: &[u8],
     files: &mut F,
 ) -> Result<String<Heap>, Refusal<'a>>
-    ensures { OnOk result (HasEvents (F.holds files.old job.entry.events.now)) }
+    ensures events { OnOk result (HasEvents (F.holds files.old job.entry.events.now)) }
+    ensures refused { IfErr result (UnlessMemory (IsEventsRefusal (F.holds files.old) job.entry.events)) }
 {
     let events = text_in(job.events, files)?;
     let parsed = parse_events(alloc, events.as_slice())?;

@@ -1,12 +1,9 @@
 //! What the program prints of the runs of a soak.
-ghost use Rattle.std.specs.Prelude.{◌≡◌, ◌++◌, true, false, IfOk, OnOk, string_bytes};
-ghost use Rattle.explore.specs.Explored.{rank_outcomes};
-ghost use Rattle.explore.specs.Outcomes.{IsAmong};
-ghost use Rattle.runner.specs.SoakText.{IsSoakText, bar_text, bars_text, count_text};
+ghost use Rattle.std.specs.Prelude.{◌≡◌, ◌++◌, [], IfOk, OnOk, length, string_bytes};
+ghost use Rattle.runner.specs.SoakText.{AreUnmet, IsSearchText, IsSoakText, IsUnmetLine, bar_text, bars_text, complete_text, count_text, failed_text};
 
-use crate::explored::print_outcome;
+use crate::explored::{outcome_at, print_outcome};
 use crate::soaked::Soaked;
-use audit::End;
 use explore::{Explored, Outcome};
 use limits::Heap;
 use outcomes::soak::{Bar, Histogram};
@@ -21,7 +18,7 @@ pub fn print_soaked(
     found: &Explored,
     runs: u32,
 ) -> Result<String<Heap>, AllocError>
-    ensures { IfOk result (λ text. IsSoakText soaked.now runs (string_bytes text)) }
+    ensures { IfOk result (λ text. IsSoakText soaked.now found.now runs (string_bytes text)) }
 {
     let search = search_text(alloc, found, &soaked.histogram)?;
     let mut text = String::new(alloc);
@@ -62,75 +59,77 @@ fn print_count(text: &mut String<Heap>, soaked: &Soaked, runs: u32) -> Result<()
     writeln!(text, ", images {images}, outcomes {outcomes}")
 }
 
+/// That the run of this number has no report, and why, with its script. An `Err`
+/// means out of memory.
+pub fn print_failed(
+    text: &mut String<Heap>,
+    number: u32,
+    why: &str,
+    script: &str,
+) -> Result<(), AllocError>
+    ensures { OnOk result (string_bytes text.new ≡ string_bytes text.old ++ failed_text number why.now script.now) }
+{
+    write!(text, "run {number} has no report: ")?;
+    text.push_str(why)?;
+    text.push_str("\n")?;
+    text.push_str(script)
+}
+
 // What a search says of the outcomes that were met.
+#[tactic(auto, using(crate::proofs::Soaks::is_complete_text, crate::proofs::Soaks::is_stopped_text))]
 fn search_text(
     alloc: Heap,
     found: &Explored,
     histogram: &Histogram,
-) -> Result<String<Heap>, AllocError> {
+) -> Result<String<Heap>, AllocError>
+    ensures { IfOk result (λ text. IsSearchText found.now histogram.now (string_bytes text)) }
+{
     let mut text = String::new(alloc);
-    if found.complete {
-        let outcomes = found.outcomes.len();
-        writeln!(text, "# explore is complete: outcomes {outcomes}")?;
-        print_unmet(&mut text, found.outcomes.as_slice(), histogram)?;
-        print_foreign(&mut text, found.outcomes.as_slice(), histogram.bars())?;
-    } else {
-        writeln!(text, "# explore isn't complete: others may be possible")?;
+    if !found.complete {
+        text.push_str("# explore isn't complete: others may be possible\n")?;
+        return Ok(text);
     }
+    let mut unmet = String::new(alloc);
+    print_unmet(&mut unmet, found, histogram)?;
+    print_complete(&mut text, found)?;
+    text.push_str(unmet.as_str())?;
     Ok(text)
 }
 
+fn print_complete(text: &mut String<Heap>, found: &Explored) -> Result<(), AllocError>
+    ensures { OnOk result (string_bytes text.new ≡ string_bytes text.old ++ complete_text found.now) }
+{
+    let outcomes = found.outcomes.len();
+    writeln!(text, "# explore is complete: outcomes {outcomes}")
+}
+
 // The outcomes that no run had.
+#[tactic(auto, using(crate::proofs::Soaks::none_unmet))]
 fn print_unmet(
     text: &mut String<Heap>,
-    outcomes: &[Outcome],
+    found: &Explored,
     histogram: &Histogram,
-) -> Result<(), AllocError> {
-    for index in 0..outcomes.len() {
-        let outcome = &outcomes[index];
-        if !histogram.has(outcome.ranks.as_slice()) {
-            let number = index + 1;
-            writeln!(text, "# outcome {number} of explore wasn't met")?;
-        }
-    }
-    Ok(())
-}
-
-// The outcomes of runs that the search didn't find. It looks for none in which
-// a rank is unfinished.
-fn print_foreign(
-    text: &mut String<Heap>,
-    outcomes: &[Outcome],
-    bars: &[Bar],
-) -> Result<(), AllocError> {
-    for index in 0..bars.len() {
-        let bar = &bars[index];
-        if !is_among(outcomes, bar) && !is_unfinished(bar) {
-            let number = index + 1;
-            writeln!(text, "# outcome {number} is foreign to explore")?;
-        }
-    }
-    Ok(())
-}
-
-// Whether the outcome is among these.
-fn is_among(outcomes: &[Outcome], bar: &Bar) -> bool
-    ensures yes { result ≡ true → IsAmong (rank_outcomes outcomes.now) bar.now.outcome }
-    ensures no { result ≡ false → IsAmong (rank_outcomes outcomes.now) bar.now.outcome → ⊥ }
+) -> Result<(), AllocError>
+    requires { string_bytes text.old ≡ [] }
+    ensures { OnOk result (AreUnmet histogram.now found.now.outcomes (length found.now.outcomes) (string_bytes text.new)) }
 {
-    for other in outcomes {
-        if bar.is_of(other.ranks.as_slice()) {
-            return true;
-        }
+    for index in 0..found.outcomes.len() {
+        print_if_unmet(text, index + 1, outcome_at(found, index), histogram)?;
     }
-    false
+    Ok(())
 }
 
-fn is_unfinished(bar: &Bar) -> bool {
-    for seen in bar.ranks.as_slice() {
-        if seen.end == End::Unfinished {
-            return true;
-        }
+// A line, if no run had the outcome of this number.
+fn print_if_unmet(
+    text: &mut String<Heap>,
+    number: usize,
+    outcome: &Outcome,
+    histogram: &Histogram,
+) -> Result<(), AllocError>
+    ensures { OnOk result (IsUnmetLine histogram.now number outcome.now.ranks (string_bytes text.old) (string_bytes text.new)) }
+{
+    if histogram.has(outcome.ranks.as_slice()) {
+        return Ok(());
     }
-    false
+    writeln!(text, "# outcome {number} of explore wasn't met")
 }

@@ -6,4 +6,4 @@ use Rattle.runner.proofs.commands.run.ran.Goals as goal
 pub returns-in-Ok : goal.returns-in-Ok
 returns-in-Ok g c =
     is_run_answer (g.F.Files.holds c.args.files.now) c.args.job c.in_ok-report.report c.in-Ok.said.out.items c.in-Ok.said.status
-    c.in_ok-report.ensures c.in-Ok.ensures
+    c.in_ok-report.ensures.report c.in-Ok.ensures
