@@ -9,6 +9,7 @@
     claims     the claims of a crate's README
     wrapping   text in lines of 100 columns
     pages      docs/reference/CLAUSES.md and DEFINITIONS.md
+    carried    docs/reference/CARRIED.md, from scripts/theorems.carried
     proof_map  proofs/README.md of a crate that has one
     naming     whether each name of a claim exists, and fits the contract it is named for
     mutants    whether each mutant stands at a claim

@@ -121,13 +121,24 @@ def faults_of_form(path: str, rows: list[Row], parts: list[tuple[str, Part]]) ->
 
 
 def claims_of(path: str, text: str) -> Claims:
+    """The claims in the section of a README."""
     rows = rows_of_section(text)
+    found = claims_among(path, rows[1:])
+    return found._replace(line=rows[0].number if rows else None)
+
+
+def claims_in(path: str, text: str) -> Claims:
+    """The claims of a whole text, which has no sections."""
+    return claims_among(path, list(rows_of(text)))
+
+
+def claims_among(path: str, rows: list[Row]) -> Claims:
     claims, faults = [], []
-    for group, lines in items_of_section(rows[1:]):
+    for group, lines in items_of_section(rows):
         parts = parts_of(lines)
         # (a list without bold and labels is prose)
         if not lines[0].text.startswith("- **") and len(parts) == 1:
             continue
         faults += faults_of_form(path, lines, parts)
         claims.append(Claim(group, parts[0][1], {label: part for label, part in parts[1:]}))
-    return Claims(rows[0].number if rows else None, claims, faults)
+    return Claims(None, claims, faults)

@@ -15,6 +15,7 @@ DOCUMENTS = (
     "README.md",
     "CONTRIBUTING.md",
     "docs/THEOREMS.md",
+    "docs/LIMITS.md",
     "docs/ASSUMPTIONS.md",
     "docs/PROTOCOL.md",
     "docs/ARCHITECTURE.md",

@@ -6,6 +6,7 @@ import os
 import tempfile
 from typing import NamedTuple
 
+from .carried import PAGE as CARRIED_PAGE
 from .pages import CLAUSES
 from .places import text_of, write
 from .tried import PAGE as MUTANTS
@@ -24,7 +25,12 @@ FILES = {
     ),
     "docs/TESTING.md": "# Testing\n\n## Mutants\n",
     "docs/GLOSSARY.md": "# Glossary\n\n## A letter\n\n## A `letter`\n",
-    "docs/THEOREMS.md": "# Theorems\n\n`IsInbox` holds of each inbox, by `Inbox::accept`: `ok` (`after_arrival`).\n",
+    "docs/THEOREMS.md": "# Theorems\n\n## 1. Letters\n\n`IsInbox` holds of each inbox, by `Inbox::accept`: `ok` (`after_arrival`).\n",
+    "docs/reference/CARRIED.md": "",
+    "scripts/theorems.carried": (
+        "## 1. Letters\n\n"
+        "- **A letter counts.**\n  Clauses: `post::Inbox::accept`: `ok` (`after_arrival`).\n  Mutants: `post/accepts_a_gap`.\n"
+    ),
     "docs/TUTORIAL.md": "# Tutorial\n\nWrite `tour/letter.rank`:\n\n```\nprint 1\n```\n\nThen run `tour/letter.rank`.\n",
     "crates/post/README.md": (
         "# post\n\n## Claims\n\n"
@@ -98,6 +104,7 @@ TUTORIAL = "docs/TUTORIAL.md"
 LETTERS = "crates/post/proofs/Letters.antt"
 MAP = "crates/post/proofs/README.md"
 TRIED = "scripts/mutants.tried"
+CARRIED = "scripts/theorems.carried"
 OPENING = "crates/office/proofs/Opening.antt"
 SAME_AS_BELOW = "(i j : ℕ) → i ≡ j → i + 1 ≡ j + 1"
 CASES = (
@@ -138,6 +145,11 @@ CASES = (
     Case("a folder of mutants without a row", TRIED, "post/letters", "post/stamps", TRIED, "`post/letters` has mutants and no row"),
     Case("a row of mutants that aren't there", TRIED, "answer accepts_a_repeat", "answer accepts_all", TRIED, "`accepts_all` is no mutant of"),
     Case("a table of mutants that isn't up to date", MUTANTS, "| 1 | 0 | 1 |", "| 1 | 1 | 0 |", MUTANTS, "isn't what scripts/claims --write writes"),
+    Case("a clause that carries no theorem", CARRIED, "`ok`", "`back`", CARRIED, "`back` is no clause of `post::Inbox::accept`"),
+    Case("a definition that carries no theorem", CARRIED, "after_arrival", "empty", CARRIED, "`empty` isn't applied"),
+    Case("a mutant of a theorem at no claim", CARRIED, "accepts_a_gap", "accepts_all", CARRIED, "is no mutant at a claim"),
+    Case("a theorem that nothing carries", THEOREMS, "1. Letters", "1. Mail", CARRIED, "the headings aren't those of docs/THEOREMS.md"),
+    Case("a page of theorems that isn't up to date", CARRIED_PAGE, "Inbox", "Outbox", CARRIED_PAGE, "isn't what scripts/claims --write writes"),
     Case("a page that isn't up to date", CLAUSES, "post", "mail", CLAUSES, "isn't what scripts/claims --write writes"),
 )
 
@@ -155,7 +167,7 @@ def edit(top: str, case: Case) -> None:
     if case.old not in text:
         raise ValueError(f"{case.name}: {case.file} has no {case.old!r}")
     write(path, text.replace(case.old, case.new, 1))
-    if case.file not in (CLAUSES, MAP, MUTANTS):
+    if case.file not in (CLAUSES, CARRIED_PAGE, MAP, MUTANTS):
         Whole(top).write()
 
 

@@ -3,9 +3,10 @@
 from __future__ import annotations
 
 import os
-from typing import Iterator
+from typing import Iterator, Optional
 
-from . import columns, links, mutants, pages, pairs, proof_map, tried
+from . import carried, columns, links, mutants, pages, pairs, proof_map, tried
+from .carried import Carried
 from .claims import Claims, claims_of
 from .code import items_of_code
 from .items import Item, segments_of
@@ -34,6 +35,7 @@ class Whole:
         self.claims = {it.name: self.claims_of(it) for it in self.crates}
         self.mutants = {it.name: mutants.mutants_of(top, it.name) for it in self.crates}
         self.links = {it: links.links_in(top, it) for it in documents(top)}
+        self.carried = self.carried_of()
 
     def text(self, path: str) -> str:
         whole = os.path.join(self.top, path)
@@ -54,11 +56,17 @@ class Whole:
     def claims_of(self, crate: Crate) -> Claims:
         return claims_of(crate.readme(), self.text(crate.readme()))
 
+    def carried_of(self) -> Optional[Carried]:
+        items = [it for found in self.items.values() for it in found]
+        text = self.text(carried.DATA)
+        return Carried(text, Naming(items, [], self.reach)) if text else None
+
     def written(self) -> list[Written]:
         mapped = [it for it in self.crates if os.path.isfile(os.path.join(self.top, proof_map.path_of(it)))]
         maps = [proof_map.page_of(it, self.proofs[it.name]) for it in mapped]
         tables = [tried.page_of(self.top, self.crates)] if os.path.isfile(os.path.join(self.top, tried.DATA)) else []
-        return [pages.clauses_page(self.crates, self.claims), pages.definitions_page(self.crates, self.pages), *maps, *tables]
+        theorems = [self.carried.page()] if self.carried else []
+        return [pages.clauses_page(self.crates, self.claims), pages.definitions_page(self.crates, self.pages), *theorems, *maps, *tables]
 
     def write(self) -> None:
         for it in self.written():
@@ -108,6 +116,15 @@ class Whole:
         for crate in self.crates:
             yield from lemmas.faults(crate, named)
 
+    def faults_of_theorems(self) -> Iterator[Fault]:
+        if self.carried:
+            yield from self.carried.faults(self.text(carried.THEOREMS), self.mutants_at_claims())
+
+    def mutants_at_claims(self) -> set[str]:
+        """The mutants that stand at claims, each with its crate."""
+        parts = [(name, claim.parts["Mutants"]) for name, it in self.claims.items() for claim in it.claims if "Mutants" in claim.parts]
+        return {span.text if "/" in span.text else f"{name}/{span.text}" for name, part in parts for span in part.spans()}
+
     def faults_of_documents(self) -> Iterator[Fault]:
         items = [it for found in self.items.values() for it in found]
         sources = "\n".join(text for found in self.sources.values() for text in found.values())
@@ -126,7 +143,7 @@ class Whole:
     def faults(self) -> list[Fault]:
         found = [it for crate in self.crates for it in self.faults_of_crate(crate)]
         of_tried = tried.faults_of(self.top, self.crates)
-        return sorted({*self.faults_of_pages(), *found, *self.faults_of_lemmas(), *self.faults_of_documents(), *of_tried})
+        return sorted({*self.faults_of_pages(), *found, *self.faults_of_lemmas(), *self.faults_of_documents(), *self.faults_of_theorems(), *of_tried})
 
     def notes(self) -> list[str]:
         """What is no fault, and a reader should know."""
