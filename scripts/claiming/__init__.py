@@ -8,6 +8,7 @@
     reach      which definitions a contract applies, and these in turn
     claims     the claims of a crate's README
     wrapping   text in lines of 100 columns
+    linking    a link at each function and definition of a claim
     pages      docs/reference/CLAUSES.md and DEFINITIONS.md
     carried    docs/reference/CARRIED.md, from scripts/theorems.carried
     proof_map  proofs/README.md of a crate that has one

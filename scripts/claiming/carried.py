@@ -2,14 +2,13 @@
 
 from __future__ import annotations
 
-import os
 import re
 from typing import Iterator
 
-from .claims import Claim, Part, claims_in
-from .items import DEFINITION, FUNCTION, LEMMA, TYPE, Item
-from .markdown import HEADING, SPAN, rows_of, slug
-from .naming import Naming, groups_of
+from .claims import Claim, claims_in
+from .linking import Linking
+from .markdown import HEADING, rows_of, slug
+from .naming import Naming
 from .pages import FOLDER, Written, paragraphs
 from .places import Fault
 from .wrapping import wrapped
@@ -18,7 +17,6 @@ DATA = "scripts/theorems.carried"
 PAGE = f"{FOLDER}/CARRIED.md"
 THEOREMS = "docs/THEOREMS.md"
 NUMBERED = re.compile(r"\d+\. ")
-LINKED = (FUNCTION, TYPE, DEFINITION, LEMMA)
 HEAD = (
     "`scripts/claims --write` writes this page from `scripts/theorems.carried`, and `./check` compares it with the code: each clause"
     " belongs to its function, each definition is one that the clause applies, and each mutant is one that stands at a claim of its crate.",
@@ -34,40 +32,12 @@ class Carried:
     def __init__(self, text: str, naming: Naming) -> None:
         self.claims = claims_in(DATA, text)
         self.naming = naming
-
-    def linked(self, name: str, places: list[list[Item]]) -> str:
-        """The name with a link to where it stands, in the first of these lists that has it in one file."""
-        meant = [it for it in self.naming.meant(name) if it.kind in LINKED]
-        for place in places:
-            files = {it.file for it in meant if (it.file, it.name) in {(one.file, one.name) for one in place}}
-            if len(files) == 1:
-                return f"[`{name}`]({os.path.relpath(files.pop(), FOLDER)})"
-        return f"`{name}`"
-
-    def links_of(self, part: Part) -> dict[str, str]:
-        """Each function and each definition that is named, with its link."""
-        found: dict[str, str] = {}
-        subjects: list[Item] = []
-        reached: list[Item] = []
-        for group in groups_of(part):
-            items = self.naming.items_of(group)
-            subjects += items
-            reached += self.naming.reached(items, {it.text for it in group.clauses})
-            crates = {it.within[0] for it in subjects}
-            near = [it for it in reached if it.within[0] in crates]
-            found |= {it.text: self.linked(it.text, [items]) for it in group.subjects}
-            found |= {it.text: self.linked(it.text, [reached, near]) for it in group.applied}
-        return found
-
-    def clauses(self, part: Part) -> str:
-        """The text of the clauses, with a link at each function and each definition."""
-        links = self.links_of(part)
-        return SPAN.sub(lambda it: links.get(it.group(2), it.group(0)), part.text())
+        self.linking = Linking(naming, FOLDER)
 
     def lines_of(self, claim: Claim) -> list[str]:
         lines = wrapped(claim.sentence.text(), "- ", "  ")
         for label, part in claim.parts.items():
-            text = self.clauses(part) if label == "Clauses" else part.text()
+            text = self.linking.clauses(part) if label == "Clauses" else part.text()
             lines += wrapped(f"{label}: {text}", "  - ", "    ")
         return lines
 

@@ -7,7 +7,9 @@ import re
 from typing import NamedTuple
 
 from .claims import Claim, Claims
+from .linking import Linking
 from .markdown import slug
+from .naming import Naming
 from .places import Crate
 from .specs import Definition, Page
 from .wrapping import escaped, wrapped
@@ -23,8 +25,8 @@ CLAUSES_HEAD = (
     "Each claim is a sentence in bold. Below it stand:",
 )
 CLAUSES_LABELS = (
-    "**Clauses**: what the prover checked. A clause is named by its function, then by the name of its `ensures`. In parentheses stand the"
-    " definitions that it applies; [DEFINITIONS.md](DEFINITIONS.md) has a sentence for each. A function without the name of a clause"
+    "**Clauses**: what the prover checked. A clause is named by its function, which leads to its file, then by the name of its `ensures`. In"
+    " parentheses stand the definitions that it applies, which lead to theirs; [DEFINITIONS.md](DEFINITIONS.md) has a sentence for each. A function without the name of a clause"
     " is named for its whole contract, which often has one clause, without a name. \"Type\" names a type whose invariant says it,"
     " \"law\" a function that exists only for its clauses, and \"lemma\" a proof about definitions.",
     "**Mutants**: deliberately wrong edits of the code that would break the claim, and that the prover must refuse. They are the files"
@@ -87,32 +89,33 @@ def paragraphs(texts: tuple[str, ...]) -> list[str]:
     return [line for text in texts for line in [*wrapped(text), ""]]
 
 
-def lines_of_claim(claim: Claim, folder: str) -> list[str]:
+def lines_of_claim(claim: Claim, folder: str, linking: Linking) -> list[str]:
     lines = wrapped(rebased(claim.sentence.text(), folder), "- ", "  ")
     for label, part in claim.parts.items():
-        lines += wrapped(f"{label}: {rebased(part.text(), folder)}", "  - ", "    ")
+        text = linking.clauses(part) if label == "Clauses" else rebased(part.text(), folder)
+        lines += wrapped(f"{label}: {text}", "  - ", "    ")
     return lines
 
 
-def lines_of_crate(crate: Crate, claims: Claims) -> list[str]:
+def lines_of_crate(crate: Crate, claims: Claims, naming: Naming) -> list[str]:
     lines = [f"## {crate.name}", "", f"From [the crate's README](../../{crate.readme()}#claims).", ""]
-    group = ""
+    group, linking = "", Linking(naming, FOLDER)
     for claim in claims.claims:
         if claim.group != group:
             lines += ["", f"### {claim.group}", ""] if lines[-1] else [f"### {claim.group}", ""]
             group = claim.group
-        lines += lines_of_claim(claim, crate.folder())
+        lines += lines_of_claim(claim, crate.folder(), linking)
     return lines + [""]
 
 
-def clauses_page(crates: list[Crate], claims: dict[str, Claims]) -> Written:
+def clauses_page(crates: list[Crate], claims: dict[str, Claims], namings: dict[str, Naming]) -> Written:
     shown = [it for it in crates if claims[it.name].claims]
     lines = ["# Clauses", "", *paragraphs(CLAUSES_HEAD)]
     for text in CLAUSES_LABELS:
         lines += wrapped(text, "- ", "  ")
     lines += ["", *paragraphs(CLAUSES_TAIL), *index_of([it.name for it in shown]), ""]
     for crate in shown:
-        lines += lines_of_crate(crate, claims[crate.name])
+        lines += lines_of_crate(crate, claims[crate.name], namings[crate.name])
     return Written(CLAUSES, "\n".join(lines).rstrip("\n") + "\n")
 
 

@@ -149,6 +149,7 @@ CASES = (
     Case("a definition that carries no theorem", CARRIED, "after_arrival", "empty", CARRIED, "`empty` isn't applied"),
     Case("a mutant of a theorem at no claim", CARRIED, "accepts_a_gap", "accepts_all", CARRIED, "is no mutant at a claim"),
     Case("a theorem that nothing carries", THEOREMS, "1. Letters", "1. Mail", CARRIED, "the headings aren't those of docs/THEOREMS.md"),
+    Case("a link of a clause to another file", CLAUSES, "post/src/inbox.rt", "post/src/lib.rt", CLAUSES, "isn't what scripts/claims --write writes"),
     Case("a page of theorems that isn't up to date", CARRIED_PAGE, "Inbox", "Outbox", CARRIED_PAGE, "isn't what scripts/claims --write writes"),
     Case("a page that isn't up to date", CLAUSES, "post", "mail", CLAUSES, "isn't what scripts/claims --write writes"),
 )

@@ -61,12 +61,16 @@ class Whole:
         text = self.text(carried.DATA)
         return Carried(text, Naming(items, [], self.reach)) if text else None
 
+    def naming_of(self, crate: Crate) -> Naming:
+        return Naming(self.items[crate.name], [it for name in crate.below for it in self.items[name]], self.reach)
+
     def written(self) -> list[Written]:
         mapped = [it for it in self.crates if os.path.isfile(os.path.join(self.top, proof_map.path_of(it)))]
         maps = [proof_map.page_of(it, self.proofs[it.name]) for it in mapped]
         tables = [tried.page_of(self.top, self.crates)] if os.path.isfile(os.path.join(self.top, tried.DATA)) else []
         theorems = [self.carried.page()] if self.carried else []
-        return [pages.clauses_page(self.crates, self.claims), pages.definitions_page(self.crates, self.pages), *theorems, *maps, *tables]
+        namings = {it.name: self.naming_of(it) for it in self.crates}
+        return [pages.clauses_page(self.crates, self.claims, namings), pages.definitions_page(self.crates, self.pages), *theorems, *maps, *tables]
 
     def write(self) -> None:
         for it in self.written():
@@ -90,7 +94,7 @@ class Whole:
                 yield Fault(crate.readme(), 1, "there is no section '## Claims', though the crate has mutants or definitions")
             return
         yield from claims.faults
-        naming = Naming(self.items[crate.name], [it for name in crate.below for it in self.items[name]], self.reach)
+        naming = self.naming_of(crate)
         for claim in claims.claims:
             yield from naming.faults(crate.readme(), claim)
         yield from mutants.faults_of_claims(crate, claims, self.mutants)
