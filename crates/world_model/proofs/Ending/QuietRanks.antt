@@ -22,20 +22,19 @@ quiet_is C r v settled made idle = record { none = settled_nil v.pending settled
 
 -- a rank at work that is quiet and has accepted all that was sent to it is at rest
 pub rests_is : (w : WorldValue) (r : ℕ) (v : Rank) → slice_get w.ranks r ≡ Some (at_work v) → IsQuietAs w.run r v → HearsAll w r v.inbox → RestsAt w r
-rests_is w r v live quiet hears =
-    (
-      record {
-        rank = record { rank = v; left = [] };
-        live = live;
-        left = refl;
-        none = quiet.none;
-        made = quiet.made;
-        idle = quiet.idle;
-      },
-      λ s l u there.
-          subst (λ (z : Live). length (sent w.run s r) ≤ accepted_from z.rank.inbox s) (same_live w r (record { rank = v; left = [] }) u live there)
-          (hears s l),
-    )
+rests_is w r v live quiet hears = (
+  record {
+    rank = record { rank = v; left = [] };
+    live = live;
+    left = refl;
+    none = quiet.none;
+    made = quiet.made;
+    idle = quiet.idle;
+  },
+  λ s l u there.
+      subst (λ (z : Live). length (sent w.run s r) ≤ accepted_from z.rank.inbox s) (same_live w r (record { rank = v; left = [] }) u live there)
+      (hears s l),
+)
 
 -- a rank at work that rests has the value that it has
 rests_as : (w : WorldValue) (r : ℕ) (v : Rank) → slice_get w.ranks r ≡ Some (at_work v) → (rests : RestsAt w r)
