@@ -20,12 +20,12 @@ use Rattle.audit.specs.FinalRuns.Maximal.{IsPossible, RankOutcome}
 use Rattle.rank_language.specs.Correct.{IsProgramOf}
 use Rattle.rank_language.specs.Program.{ProgramValue}
 use Rattle.rank_threads.specs.declared.report.Report.{Report}
-use Rattle.runner.specs.SoakText.{AreUnmet, IsSearchText, IsSoakText, complete_text, failed_text}
+use Rattle.runner.specs.SoakText.{AreUnmet, IsSearchText, IsSoakText, IsUnmetLine, complete_text, failed_text, unmet_text}
 use Rattle.runner.specs.Soaks.{AreSoaked, HasSoakStatus, IsDrawn, IsFinished, IsOneMore, IsSearched, IsSoakAnswer, IsSoakScriptAnswer}
 use Rattle.runner.specs.declared.soaked.Soaked.{Soaked}
 use Rattle.rank_text.specs.Scripts.Script.{script_lines}
 use Rattle.rank_text.specs.declared.script.line.ScriptLine.{ScriptLine}
-use Rattle.outcomes.specs.Soak.Histogram.{BarValue, Notes, again, first, first_bar, up_to, with_one}
+use Rattle.outcomes.specs.Soak.Histogram.{AreOthers, BarValue, HasAt, Notes, again, first, first_bar, up_to, with_one}
 use Rattle.outcomes.specs.Soak.Lines.{CanBeUsed, images_in, kills_in}
 use Rattle.outcomes.specs.Soak.Text.{text_of}
 
@@ -98,6 +98,21 @@ is_script_answer holds job program script text out status read one_of drawn same
 }
 
 -- ---- what a search says beside the runs
+
+-- a run without a report is told with some words that say why
+pub is_told : (before after : List ℕ) (number : ℕ) (why script : List ℕ) → after ≡ before ++ failed_text number why script
+    → (words : List ℕ) × (after ≡ before ++ failed_text number words script)
+is_told before after number why script told = (why, told)
+
+-- an outcome that a run had has no line
+pub met_line : (bars : List BarValue) (number : ℕ) (outcome : List RankOutcome) (text : List ℕ) → ((at : ℕ) × HasAt bars outcome at)
+    → IsUnmetLine bars number outcome text text
+met_line bars number outcome text has = IsUnmetLine.met has.0 has.1 refl
+
+-- one that no run had has one
+pub unmet_line : (bars : List BarValue) (number : ℕ) (outcome : List RankOutcome) (before after : List ℕ) → AreOthers bars outcome
+    → after ≡ before ++ unmet_text number → IsUnmetLine bars number outcome before after
+unmet_line bars number outcome before after others told = IsUnmetLine.unmet others told
 
 -- of no outcomes none is named
 pub none_unmet : (bars : List BarValue) (outcomes : List (List RankOutcome)) (text : List ℕ) → text ≡ [] → AreUnmet bars outcomes 0 text
@@ -180,7 +195,7 @@ end_seen k lines (x ∷ ends) (suc r) e there = end_seen (suc k) lines ends r e 
 -- so if no rank is seen as unfinished, none is
 none_unfinished : (o : OutcomeValue) → IsFinished (seen_of o) → NoneIsUnfinished o.ends
 none_unfinished o finished r there =
-    let seen = end_seen 0 o.lines o.ends r end.Unfinished there in finished r seen.0 seen.1.0 seen.1.1
+    let seen = end_seen 0 o.lines o.ends r end.Unfinished there in finished r seen.0 seen.1 seen.2
 
 -- what is seen of a final outcome without an unfinished rank is an outcome of a complete search
 among : (program : ProgramValue) (n : ℕ) (outcomes : List (List RankOutcome)) (outcome : List RankOutcome)

@@ -67,6 +67,7 @@ impl Soaked {
 
     /// The run of this number, under a script of this text, has no report. An
     /// `Err` means out of memory.
+    #[tactic(auto, using(crate::proofs::Soaks::is_told))]
     pub fn fail(
         &mut self,
         alloc: Heap,
@@ -81,6 +82,7 @@ impl Soaked {
     {
         self.all_halted = false;
         let why = format!(in alloc; "{why}")?;
-        print_failed(&mut self.failed, number, why.as_str(), script)
+        print_failed(&mut self.failed, number, why.as_str(), script)?;
+        Ok(())
     }
 }

@@ -45,6 +45,7 @@ fetched_stands w r w' s f =
     (record {
       run = record {
         is_run = s.run.is_run;
+        missed = s.run.missed;
         as_many_rows = ap (λ z. length (map expand z)) rows ∙ s.run.as_many_rows;
         rows = λ q events e. s.run.rows q events (subst (λ z. slice_get (map expand z) q ≡ Some events) rows e);
         as_many_wires = s.run.as_many_wires;

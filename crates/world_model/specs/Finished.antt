@@ -231,16 +231,17 @@ pub record IsStill (w : WorldValue) : Type 0 where
 abbrev pub HasMoreSteps : (ℕ → ℕ) → List WorldEvent → List WorldEvent → Type 0
 HasMoreSteps more events events' = (r : ℕ) → steps_in r events' ≤ steps_in r events + more r
 
+-- what is new on the longer list leads from the one world to the other
+unfoldable pub HasLed : WorldValue → List WorldEvent → WorldValue → List WorldEvent → Type 0
+HasLed w events w' events' = (late : List WorldEvent) × (events' ≡ events ++ late) × Leads w late w'
+
 -- The world was played on: there are as many ranks, and what led to the one world leads to the
--- other by the longer list, which has so many more steps of each rank at most. What is new on it
--- leads from the one world to the other.
+-- other by the longer list, which has so many more steps of each rank at most.
 pub record Played (more : ℕ → ℕ) (w : WorldValue) (events : List WorldEvent) (w' : WorldValue) (events' : List WorldEvent) : Type 0 where
   pub same_size : size w' ≡ size w
   pub leads : (start : WorldValue) → Leads start events w → Leads start events' w'
   pub steps : HasMoreSteps more events events'
-  pub late : List WorldEvent
-  pub listed : events' ≡ events ++ late
-  pub leads_on : Leads w late w'
+  pub led : HasLed w events w' events'
 
 -- The same where memory was refused.
 pub record PlayedAlmost (more : ℕ → ℕ) (w : WorldValue) (events : List WorldEvent) (w' : WorldValue) (events' : List WorldEvent) : Type 0 where
@@ -252,28 +253,24 @@ pub record Tried (Holds : WorldValue → Type 0) (w : WorldValue) (events : List
   pub longer : length events ≤ length events'
   pub quiet : length events' ≤ length events → (w' ≡ w) × Holds w'
 
--- what is new on the longer list is this
-abbrev pub Adds : (List WorldEvent → Type 0) → List WorldEvent → List WorldEvent → Type 0
-Adds Is events events' = (late : List WorldEvent) × (events' ≡ events ++ late) × Is late
-
 -- a rank had its turn in what is new
-abbrev pub HadTurn : ℕ → WorldValue → List WorldEvent → WorldValue → List WorldEvent → Type 0
-HadTurn r w events w' events' = Adds (λ late. HasTurn r w late w') events events'
+unfoldable pub HadTurn : ℕ → WorldValue → List WorldEvent → WorldValue → List WorldEvent → Type 0
+HadTurn r w events w' events' = (late : List WorldEvent) × (events' ≡ events ++ late) × HasTurn r w late w'
 
 -- so had each rank
 abbrev pub HadTurns : WorldValue → List WorldEvent → WorldValue → List WorldEvent → Type 0
 HadTurns w events w' events' = (r : ℕ) → r < size w → HadTurn r w events w' events'
 
 -- what is new is a round
-abbrev pub HadRound : WorldValue → List WorldEvent → WorldValue → List WorldEvent → Type 0
-HadRound w events w' events' = Adds (λ late. IsRound w late w') events events'
+unfoldable pub HadRound : WorldValue → List WorldEvent → WorldValue → List WorldEvent → Type 0
+HadRound w events w' events' = (late : List WorldEvent) × (events' ≡ events ++ late) × IsRound w late w'
 
 -- what is new are so many rounds
-abbrev pub HadRounds : ℕ → WorldValue → List WorldEvent → WorldValue → List WorldEvent → Type 0
-HadRounds n w events w' events' = Adds (λ late. AreRounds n w late w') events events'
+unfoldable pub HadRounds : ℕ → WorldValue → List WorldEvent → WorldValue → List WorldEvent → Type 0
+HadRounds n w events w' events' = (late : List WorldEvent) × (events' ≡ events ++ late) × AreRounds n w late w'
 
 -- the event goes last on the list and happens, or it was tried in vain
-abbrev pub IsTaken : WorldEvent → WorldValue → List WorldEvent → WorldValue → List WorldEvent → Type 0
+unfoldable pub IsTaken : WorldEvent → WorldValue → List WorldEvent → WorldValue → List WorldEvent → Type 0
 IsTaken event w events w' events' =
     (Leads w (event ∷ []) w' × (events' ≡ events ++ event ∷ [])) ⊎ ((w' ≡ w) × (events' ≡ events) × IsInVain w event)
 

@@ -1,5 +1,7 @@
 //! What the program prints of the runs of a soak.
 ghost use Rattle.std.specs.Prelude.{◌≡◌, ◌++◌, [], IfOk, OnOk, length, string_bytes};
+ghost use Rattle.std.specs.Fmt.{decimal};
+ghost use Rattle.explore.specs.Explored.{rank_outcomes};
 ghost use Rattle.runner.specs.SoakText.{AreUnmet, IsSearchText, IsSoakText, IsUnmetLine, bar_text, bars_text, complete_text, count_text, failed_text};
 
 use crate::explored::{outcome_at, print_outcome};
@@ -72,7 +74,8 @@ pub fn print_failed(
     write!(text, "run {number} has no report: ")?;
     text.push_str(why)?;
     text.push_str("\n")?;
-    text.push_str(script)
+    text.push_str(script)?;
+    Ok(())
 }
 
 // What a search says of the outcomes that were met.
@@ -96,11 +99,13 @@ fn search_text(
     Ok(text)
 }
 
+#[tactic(auto, using(crate::proofs::Written::as_many))]
 fn print_complete(text: &mut String<Heap>, found: &Explored) -> Result<(), AllocError>
     ensures { OnOk result (string_bytes text.new ≡ string_bytes text.old ++ complete_text found.now) }
 {
     let outcomes = found.outcomes.len();
-    writeln!(text, "# explore is complete: outcomes {outcomes}")
+    writeln!(text, "# explore is complete: outcomes {outcomes}")?;
+    Ok(())
 }
 
 // The outcomes that no run had.
@@ -120,6 +125,7 @@ fn print_unmet(
 }
 
 // A line, if no run had the outcome of this number.
+#[tactic(auto, using(crate::proofs::Soaks::met_line, crate::proofs::Soaks::unmet_line))]
 fn print_if_unmet(
     text: &mut String<Heap>,
     number: usize,
@@ -131,5 +137,6 @@ fn print_if_unmet(
     if histogram.has(outcome.ranks.as_slice()) {
         return Ok(());
     }
-    writeln!(text, "# outcome {number} of explore wasn't met")
+    writeln!(text, "# outcome {number} of explore wasn't met")?;
+    Ok(())
 }

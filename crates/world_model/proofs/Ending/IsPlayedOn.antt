@@ -11,7 +11,7 @@ use Rattle.world_model.specs.Follows.{Follows, Happens}
 use Rattle.world_model.specs.Memory.{Unchanged, Fetched}
 use Rattle.world_model.specs.Onward.{IsWorld}
 use Rattle.world_model.specs.ToTheEnd.{IsNoCrash, Leads}
-use Rattle.world_model.specs.Finished.{leaves_all, step_of, steps_in, LeadsAlmost, IsAfter, Played, PlayedAlmost, below, for_all, no_steps}
+use Rattle.world_model.specs.Finished.{leaves_all, step_of, steps_in, LeadsAlmost, IsAfter, HasLed, Played, PlayedAlmost, below, for_all, no_steps}
 use Rattle.world_model.proofs.HeadlineKept.{happens_can}
 use Rattle.world_model.proofs.Alike.OneEventMore.{happened}
 use Rattle.world_model.proofs.Ending.LeadsOn.{later_after, program_after, size_same}
@@ -49,6 +49,23 @@ pub leads_append : (a b c : WorldValue) (x y : List WorldEvent) → Leads a x b 
 leads_append a b c [] y e g = subst (λ z. Leads z y c) e g
 leads_append a b c (event ∷ x) y f g = (f.0, f.1, (f.2.0, f.2.1, f.2.2, leads_append f.2.1 b c x y f.2.3 g))
 
+-- one event that led on is what is new
+pub led_one : (w : WorldValue) (events : List WorldEvent) (event : WorldEvent) (w' : WorldValue) (events' : List WorldEvent) → Leads w (event ∷ []) w'
+    → events' ≡ events ++ event ∷ [] → HasLed w events w' events'
+unfolding HasLed
+led_one w events event w' events' l e = (event ∷ [], e, l)
+
+-- where nothing happened nothing is
+led_same : (w : WorldValue) (events : List WorldEvent) (w' : WorldValue) → w' ≡ w → HasLed w events w' events
+unfolding HasLed
+led_same w events w' e = ([], sym (append-nil events), e)
+
+-- and what is new in two parts
+led_more : (u v w : WorldValue) (x y z : List WorldEvent) → HasLed u x v y → HasLed v y w z → HasLed u x w z
+unfolding HasLed
+led_more u v w x y z f g =
+    (f.0 ++ g.0, g.1 ∙ ap (λ k. k ++ g.0) f.1 ∙ append_assoc x f.0 g.0, leads_append u v w f.0 g.0 f.2 g.2)
+
 -- an event that changed something goes last
 pub played_one : (w : WorldValue) (events : List WorldEvent) (event : WorldEvent) (answer : Reply) (w' : WorldValue) (events' : List WorldEvent)
     → IsWorld w → IsNoCrash event → leaves_all answer ≡ false → Follows w event answer w' → events' ≡ events ++ event ∷ []
@@ -60,9 +77,7 @@ played_one w events event answer w' events' i mild l f e =
       leads = λ start led.
           leads_append start w w' events (event ∷ []) led (mild, happens_can w event answer w' i.stands h, (answer, w', h, refl));
       steps = λ r. (let q = steps_append r events event in omega (arith, q));
-      late = event ∷ [];
-      listed = refl;
-      leads_on = (mild, happens_can w event answer w' i.stands h, (answer, w', h, refl));
+      led = led_one w events event w' (events ++ event ∷ []) (mild, happens_can w event answer w' i.stands h, (answer, w', h, refl)) refl;
     })
   where
     h : Happens w event answer w'
@@ -77,9 +92,7 @@ played_same more w events w' events' e f =
       same_size = ap (λ z. size z) e;
       leads = λ start led. subst (λ z. Leads start events z) (sym e) led;
       steps = λ r. omega arith;
-      late = [];
-      listed = sym (append-nil events);
-      leads_on = e;
+      led = led_same w events w' e;
     })
 
 -- an event that left all as it was isn't on it
@@ -125,9 +138,7 @@ played_more c d e u v w x y z l f g =
       same_size = g.same_size ∙ f.same_size;
       leads = λ start led. g.leads start (f.leads start led);
       steps = λ r. (let m = l r in let a = f.steps r in let b = g.steps r in omega (arith, m, a, b));
-      late = f.late ++ g.late;
-      listed = g.listed ∙ ap (λ k. k ++ g.late) f.listed ∙ append_assoc x f.late g.late;
-      leads_on = leads_append u v w f.late g.late f.leads_on g.leads_on;
+      led = led_more u v w x y z f.led g.led;
     }
 
 -- the same where memory is refused at last
@@ -146,6 +157,11 @@ quiet_last c u v w x y z f g = played_more c no_steps c u v w x y z (λ r. omega
 -- the same where memory is refused at last
 pub quiet_then : (c : ℕ → ℕ) (u v w : WorldValue) (x y z : List WorldEvent) → Played c u x v y → PlayedAlmost no_steps v y w z → PlayedAlmost c u x w z
 quiet_then c u v w x y z f g = played_then c no_steps c u v w x y z (λ r. omega arith) f g
+
+-- an arrival is no step
+pub arrive_quiet : (e : WorldEvent) (s d i : ℕ) (v w : WorldValue) (y z : List WorldEvent) → e ≡ Arrive s d i → Played (λ r. step_of r e) v y w z
+    → Played no_steps v y w z
+arrive_quiet e s d i v w y z is p = subst (λ (x : WorldEvent). Played (λ r. step_of r x) v y w z) is p
 
 -- ---- at a gate
 
@@ -184,9 +200,7 @@ one_each k u v x y f = record {
   same_size = f.same_size;
   leads = f.leads;
   steps = λ r. (let l = below_one k r in let a = f.steps r in omega (arith, l, a));
-  late = f.late;
-  listed = f.listed;
-  leads_on = f.leads_on;
+  led = f.led;
 }
 
 -- the same where memory is refused

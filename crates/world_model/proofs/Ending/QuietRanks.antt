@@ -32,14 +32,14 @@ rests_is w r v live quiet hears = (
     idle = quiet.idle;
   },
   λ s l u there.
-      subst (λ (z : Live). length (sent w.run s r) ≤ accepted_from z.rank.inbox s) (same_live w r (record { rank = v; left = [] }) u live there)
+      subst (λ (z : Live). length (sent w.run s r) ≤ accepted_from z.rank.inbox s) (sym (same_live w r v u live there))
       (hears s l),
 )
 
 -- a rank at work that rests has the value that it has
 rests_as : (w : WorldValue) (r : ℕ) (v : Rank) → slice_get w.ranks r ≡ Some (at_work v) → (rests : RestsAt w r)
     → rests.0.rank ≡ record { rank = v; left = [] }
-rests_as w r v live rests = same_live w r rests.0.rank (record { rank = v; left = [] }) rests.0.live live
+rests_as w r v live rests = same_live w r v rests.0.rank live rests.0.live
 
 -- so one that isn't quiet isn't at rest
 pub busy_restless : (w : WorldValue) (r : ℕ) (v : Rank) → slice_get w.ranks r ≡ Some (at_work v) → (IsQuietAs w.run r v → ⊥) → RestsAt w r → ⊥
@@ -68,17 +68,6 @@ rest_next k b w same all one r l = go (cases_eq r k)
 pub first_is : (k : ℕ) (b w : WorldValue) → b ≡ w → k < size w → ((r : ℕ) → r < k → RestsAt w r) → (RestsAt b k → ⊥) → IsFirstRestless w k
 first_is k b w same low all restless =
     record { is_rank = low; restless = subst (λ z. RestsAt z k → ⊥) same restless; first = all }
-
--- ---- what was accepted, source by source
-
--- from one source more
-pub hears_next : (w : WorldValue) (r k : ℕ) (box : Mailbox) → ((s : ℕ) → s < k → length (sent w.run s r) ≤ accepted_from box s)
-    → length (sent w.run k r) ≤ accepted_from box k → (s : ℕ) → s < k + 1 → length (sent w.run s r) ≤ accepted_from box s
-hears_next w r k box all one s l = go (cases_eq s k)
-  where
-    go : (s ≡ k) ⊎ (s ≡ k → ⊥) → length (sent w.run s r) ≤ accepted_from box s
-    go (inl e) = subst (λ q. length (sent w.run q r) ≤ accepted_from box q) (sym e) one
-    go (inr ne) = all s (omega (arith, l, ne))
 
 -- ---- ranks that are spent
 

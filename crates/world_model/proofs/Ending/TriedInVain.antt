@@ -1,7 +1,10 @@
 -- A world in which events are tried: where the list of what happened gets no longer, each was tried in vain.
 use Rattle.std.proofs.Common.{◌≡◌, ℕ, ◌+◌, ◌≤◌, ◌⊎◌, inl, inr, true, List, [], ◌∷◌, ◌++◌, length, refl, sym, ap, subst, ◌∙◌, arith}
+use Rattle.std.proofs.Common.{Some, slice_get}
 use Rattle.std.proofs.lemmas.Bool.{cases_eq}
 use Rattle.std.proofs.lemmas.List.{length-append}
+use Rattle.matching.specs.PacketValue as packet
+use Rattle.rank_node.specs.declared.frame.Frame.TheVariants as frame
 use Rattle.world_model.specs.declared.event.WorldEvent.{WorldEvent}
 use Rattle.world_model.specs.declared.event.WorldEvent.TheVariants.{Step, Store, Ack, Restart, Release}
 use Rattle.world_model.specs.declared.reply.Reply.{Reply}
@@ -128,6 +131,11 @@ row_all P s k u v x y low f =
     }
 
 -- ---- every packet on a wire
+
+-- a frame that is no packet isn't tried
+pub tried_no_packet : (s d i : ℕ) (w : WorldValue) (x : List WorldEvent)
+    → ((p : packet.PacketValue) → slice_get (wire_of w.wires s d) i ≡ Some (frame.Data p) → ⊥) → Tried (ArrivesInVain s d i) w x w x
+tried_no_packet s d i w x none = record { longer = omega arith; quiet = λ l. (refl, λ p at. absurd (none p at)) }
 
 -- so for each frame of the wire as it was, which it is still where all was in vain
 pub wire_all : (s d k : ℕ) (u v : WorldValue) (x y : List WorldEvent) → length (wire_of u.wires s d) ≤ k

@@ -113,7 +113,7 @@ found_is_eligible w box inbound h k p i f =
         absurd (clash j x.0 m x.1 l x.2 x.3 x.4 e c)
 
 -- what was shown in a history and one act more was shown in the history, or in that act
-pub shown_push : (h : History) (x : Act × Option Message) (s j : ℕ) → IsShown (h ++ x ∷ []) s j → IsShown h s j ⊎ Shows s j x.0
+shown_push : (h : History) (x : Act × Option Message) (s j : ℕ) → IsShown (h ++ x ∷ []) s j → IsShown h s j ⊎ Shows s j x.0
 shown_push [] x s j (inl t) = inr t
 shown_push [] x s j (inr t) = absurd t
 shown_push (y ∷ h) x s j (inl t) = inl (inl t)

@@ -4,7 +4,11 @@
 //! Which events the driver chooses is in no contract of the whole. What it played
 //! is, and so is what it has come to: where a round has nothing to do, the world
 //! has ended or a rank is spent.
-ghost use Rattle.std.specs.Prelude.{◌≡◌, ◌≢◌, ◌<◌, ◌≤◌, ℕ, [], length, IfOk, OnOk, OnErr, MatchBool};
+ghost use Rattle.std.specs.Prelude.{◌≡◌, ◌≢◌, ◌<◌, ◌≤◌, ℕ, [], length, IfOk, OnOk, OnErr, MatchBool, Some, slice_get};
+ghost use Rattle.std.specs.Bool.{OnFalse};
+ghost use Rattle.matching.specs.PacketValue.{PacketValue};
+ghost use Rattle.rank_node.specs.declared.frame.Frame.TheVariants.{Data};
+ghost use Rattle.world_model.specs.Wires.{wire_of};
 ghost use Rattle.world_model.specs.declared.event.WorldEvent.TheVariants.{Arrive, Step};
 ghost use Rattle.world_model.specs.World.{size};
 ghost use Rattle.world_model.specs.Finished.{Played, PlayedAlmost, step_of, for_all, no_steps};
@@ -244,16 +248,26 @@ impl<'p> World<'p> {
         ensures err { OnErr result (PlayedAlmost no_steps self.old events.old.items self.new events.new.items) }
         ensures tried { OnOk result (Tried (ArrivesInVain source dest index) self.old events.old.items self.new events.new.items) }
     {
-        let Some(Frame::Data(_)) = self.frames(source, dest).get(index) else {
+        if !self.has_packet(source, dest, index) {
             return Ok(());
-        };
+        }
         self.play(arrive(source, dest, index as u64), events)?;
         Ok(())
     }
 
+    /// Whether the frame of this index on the wire from a rank to another is a
+    /// packet.
+    fn has_packet(&self, source: u8, dest: u8, index: usize) -> bool
+        requires source { source < size self.now }
+        requires dest { dest < size self.now }
+        ensures no { OnFalse result ((p : PacketValue) → slice_get (wire_of self.now.wires source dest) index ≡ Some (Data p) → ⊥) }
+    {
+        matches!(self.frames(source, dest).get(index), Some(Frame::Data(_)))
+    }
+
     /// An event, which goes last on the list if it changed something. There is
     /// room for it on the list before it happens.
-    #[tactic(auto, using(crate::proofs::Ending::IsPlayedOn::played_one, crate::proofs::Ending::IsPlayedOn::played_none, crate::proofs::Ending::IsPlayedOn::played_failed, crate::proofs::Ending::IsPlayedOn::played_nothing, crate::proofs::Ending::TriedInVain::tried_one, crate::proofs::Ending::TriedInVain::tried_none))]
+    #[tactic(auto, using(crate::proofs::Ending::IsPlayedOn::played_one, crate::proofs::Ending::IsPlayedOn::played_none, crate::proofs::Ending::IsPlayedOn::played_failed, crate::proofs::Ending::IsPlayedOn::played_nothing, crate::proofs::Ending::TriedInVain::tried_one, crate::proofs::Ending::TriedInVain::tried_none, crate::proofs::Ending::Rounds::taken_one, crate::proofs::Ending::Rounds::taken_none))]
     fn play(
         &mut self,
         event: WorldEvent,

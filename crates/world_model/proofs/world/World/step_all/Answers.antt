@@ -2,6 +2,7 @@ use Rattle.std.proofs.Common.{refl, arith}
 use Rattle.world_model.specs.Finished.{below, StepsInVain}
 use Rattle.world_model.proofs.Calls.RankOfEvent.{on_err}
 use Rattle.world_model.proofs.Ending.IsPlayedOn.{played_same, one_step, one_each, one_then}
+use Rattle.world_model.proofs.Ending.Rounds.{turns_next}
 use Rattle.world_model.proofs.Ending.TriedInVain.{tried_nothing, each_next, each_all}
 use Rattle.world_model.proofs.world.World.step_all.Goals as goal
 
@@ -17,13 +18,14 @@ returns-clause-ok c =
 
 -- src/world/finishing.rt
 pub loop-rank-init : goal.loop-rank-init
-loop-rank-init c = (played_same (below 0) _ _ _ _ refl refl, tried_nothing StepsInVain _ _)
+loop-rank-init c = (played_same (below 0) _ _ _ _ refl refl, tried_nothing StepsInVain _ _, λ r l. absurd (omega (arith, l)))
 
 -- src/world/finishing.rt
 pub loop-rank-preserved : goal.loop-rank-preserved
 loop-rank-preserved c = (
   one_step _ _ _ _ _ _ _ c.loop-rank.invariant.0 c.in_ok-step_rank.ensures.ok,
   each_next StepsInVain _ _ _ _ _ _ _ c.loop-rank.invariant.1 c.in_ok-step_rank.ensures.tried,
+  turns_next _ _ _ _ _ _ _ _ _ c.loop-rank.invariant.0 c.loop-rank.invariant.2 c.in_ok-step_rank.ensures.ok c.in_ok-step_rank.ensures.turn,
 )
 
 -- src/world/finishing.rt
@@ -34,3 +36,11 @@ returns-clause-tried c =
     let e = c.ranks-rank-end.ensures in
     let t = c.loop-rank-test.false in
     omega (arith, a, e, t)) c.loop-rank.invariant.1
+
+-- src/world/finishing.rt
+pub returns-clause-turns : goal.returns-clause-turns
+returns-clause-turns c =
+    λ r l. c.loop-rank.invariant.2 r
+    (let e = c.ranks-rank-end.ensures in
+    let t = c.loop-rank-test.false in
+    omega (arith, l, e, t))
