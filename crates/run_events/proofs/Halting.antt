@@ -1,4 +1,5 @@
--- Why all ranks have halted where each outcome that was found says so: what is seen of a report is one of these.
+-- Why all ranks have halted where each outcome that was found says so: what is seen of a report is
+-- one of these.
 use Rattle.std.proofs.Common.{◌≡◌, ℕ, zero, suc, List, [], ◌∷◌, Some, slice_get, refl, sym, subst, ◌∙◌}
 use Rattle.std.specs.List.{get_or}
 use Rattle.std.proofs.lemmas.List.Elements.{All-get_or, All-from_get_or}

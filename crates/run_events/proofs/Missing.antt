@@ -1,5 +1,5 @@
--- Why no execution misses what it was shown: what a search calls shown is what the rank's own acts took or hit, of which the world says that
--- no probe that misses names it.
+-- Why no execution misses what it was shown: what a search calls shown is what the rank's own acts
+-- took or hit, of which the world says that no probe that misses names it.
 use Rattle.std.proofs.Common.{◌≡◌, ℕ, suc, ◌+◌, ◌<◌, ◌≤◌, ◌⊎◌, inl, inr, ⊎_elim, Bool, true, false, ◌==◌, ◌&&◌, ◌||◌, nat_lt, List, [], ◌∷◌, ◌++◌}
 use Rattle.std.proofs.Common.{Some, Option, sym, ap, subst, ◌∙◌, arith}
 use Rattle.std.proofs.lemmas.Bool.{eqb-true, ltb-true, and_parts, or_cases}

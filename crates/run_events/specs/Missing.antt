@@ -1,6 +1,6 @@
--- No execution misses what it was shown: in the run that a world stands for no probe misses a message
--- that its rank was shown, whatever crashed. A crash-free run of the reference may, and a search
--- marks the outcomes of such runs.
+-- No execution misses what it was shown: in the run that a world stands for no probe misses a
+-- message that its rank was shown, whatever crashed. A crash-free run of the reference may, and a
+-- search marks the outcomes of such runs.
 use Rattle.crash_free.specs.Sim.{start_of}
 use Rattle.explore.specs.Shown.{MissesShown}
 use Rattle.world_model.specs.World.{WorldValue, size}

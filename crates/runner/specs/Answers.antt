@@ -31,15 +31,15 @@ pub record IsReportText (form : CostForm) (report : Report) (out : List ℕ) (st
   pub text : out ≡ report_text report ++ costs_text form report
   pub ended : HasStatus report.outcome status
 
--- What `run` answers: the text and the status of a report of the job's run, and its costs if the job
--- asks for them.
+-- What `run` answers: the text and the status of a report of the job's run, and its costs if the
+-- job asks for them.
 pub record IsRunAnswer (holds : List ℕ → List ℕ → Type 0) (job : RunJob) (out : List ℕ) (status : ℕ) : Type 0 where
   pub report : Report
   pub of_run : IsReportOf holds job report
   pub printed : IsReportText job.costs report out status
 
--- What `check` answers: the canonical text of the program that the file holds, which is again a text
--- of that program, and status 0.
+-- What `check` answers: the canonical text of the program that the file holds, which is again a
+-- text of that program, and status 0.
 pub record IsCheckAnswer (holds : List ℕ → Type 0) (out : List ℕ) (status : ℕ) : Type 0 where
   pub program : ProgramValue
   pub read : IsProgramIn holds program
@@ -47,8 +47,8 @@ pub record IsCheckAnswer (holds : List ℕ → Type 0) (out : List ℕ) (status 
   pub again : IsProgramOf out program
   pub done : status ≡ 0
 
--- The job is done, where files hold what they do: this is what its command answers. Nothing is claimed
--- of the text of `world --json`, nor of the words of an explanation.
+-- The job is done, where files hold what they do: this is what its command answers. Nothing is
+-- claimed of the text of `world --json`, nor of the words of an explanation.
 abbrev pub IsDone : (List ℕ → List ℕ → Type 0) → Job → List ℕ → ℕ → Type 0
 IsDone holds (job.Check check) out status = IsCheckAnswer (holds check.program.now) out status
 IsDone holds (job.C check) out status = IsCAnswer (holds check.program.now) out status

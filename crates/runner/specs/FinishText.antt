@@ -14,9 +14,9 @@ use Rattle.world_model.specs.declared.finish.FinishEnd.TheVariants as finish
 use Rattle.world_model.specs.declared.reply.Reply.{Reply}
 
 -- These events lead from one world to another in which the program has ended: none is a crash, and
--- one after another can happen. The other world is of the same program on as many ranks, and its run
--- goes on from the first one's. Every rank of it is at rest, so none has a step left. No rank makes
--- more steps than so many.
+-- one after another can happen. The other world is of the same program on as many ranks, and its
+-- run goes on from the first one's. Every rank of it is at rest, so none has a step left. No rank
+-- makes more steps than so many.
 pub record EndsBy (steps : ℕ) (w : WorldValue) (events : List WorldEvent) (w' : WorldValue) : Type 0 where
   pub leads : Leads w events w'
   pub after : IsAfter w w'

@@ -38,9 +38,9 @@ outcome_text number outcome = codes "outcome " ++ decimal number ++ codes "\n" +
 unfoldable pub one_text : ℕ → List RankOutcome → List ℕ → List Parted → List ℕ
 one_text number outcome lines parted = outcome_text number outcome ++ choices_text lines parted ++ codes "\n"
 
--- Of these outcomes, which have these choices, the first so many are written, one after another, each
--- with its number, from 1, and with the places where its choices part from those of outcomes before
--- it. The statement at position K of the program stands on line K of these.
+-- Of these outcomes, which have these choices, the first so many are written, one after another,
+-- each with its number, from 1, and with the places where its choices part from those of outcomes
+-- before it. The statement at position K of the program stands on line K of these.
 pub data AreWritten (outcomes : List (List RankOutcome)) (choices : List (List Noted)) (lines : List ℕ) : ℕ → List ℕ → Type 0 where
   none : AreWritten outcomes choices lines 0 []
   more : {count : ℕ} {text : List ℕ} (outcome : List RankOutcome) (parted : List Parted)
@@ -60,8 +60,8 @@ pub record IsSummary (found : ExploredValue) (marks : List (Option Bool)) (runs 
   pub races : List ℕ
   pub whole : text ≡ races ++ meaning_text found marks runs
 
--- The outcomes of the program of this text on so many ranks are printed with marks of their own, and
--- with the lines of the text on which its statements stand.
+-- The outcomes of the program of this text on so many ranks are printed with marks of their own,
+-- and with the lines of the text on which its statements stand.
 pub record IsMarkedText (source : List ℕ) (program : ProgramValue) (ranks : ℕ) (found : ExploredValue) (runs : ℕ) (text : List ℕ) : Type 0 where
   pub marks : List (Option Bool)
   pub marked : AreMarked program ranks found.outcomes found.choices marks

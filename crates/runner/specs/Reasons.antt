@@ -1,5 +1,5 @@
--- Why a job is refused: what a refusal says is so (docs/FORMATS.md, "Command"). Lack of memory needs no
--- reason, and of `CannotRead` nothing more is said than that the file is one of the job's.
+-- Why a job is refused: what a refusal says is so (docs/FORMATS.md, "Command"). Lack of memory
+-- needs no reason, and of `CannotRead` nothing more is said than that the file is one of the job's.
 use Rattle.std.specs.Prelude.{◌≡◌, ◌≢◌, ◌<◌, ◌⊎◌, ℕ, List, [], Option, Some, None, Err}
 use Rattle.std.specs.Borrow.{Bor}
 use Rattle.command_line.specs.declared.explain.ExplainJob.{ExplainJob}
@@ -224,8 +224,8 @@ pub data IsJudgeRefusal (holds : List ℕ → List ℕ → Type 0) (job : JudgeJ
   judge_program : IsProgramRefusal holds job.program refused → IsJudgeRefusal holds job refused
   judge_outcome : IsOutcomeRefusal holds job.ranks job.outcome refused → IsJudgeRefusal holds job refused
 
--- A soak: its program isn't read, or there are no scripts for its runs. A run of its own that has no
--- report is no refusal.
+-- A soak: its program isn't read, or there are no scripts for its runs. A run of its own that has
+-- no report is no refusal.
 pub data IsSoakRefusal (holds : List ℕ → List ℕ → Type 0) (job : SoakJob) (refused : Refusal) : Type 0 where
   soak_program : IsProgramRefusal holds job.program refused → IsSoakRefusal holds job refused
   soak_drawn : IsUndrawn job.ranks refused → IsSoakRefusal holds job refused

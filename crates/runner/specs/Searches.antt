@@ -17,11 +17,11 @@ use Rattle.runner.specs.OutcomesText.{IsMarkedObject, IsMarkedSummary, IsMarkedT
 use Rattle.runner.specs.Reading.{IsProgramIn}
 
 -- What a search found: the program may have each outcome. If the search is complete, it has no
--- other, however its ranks go on they come to an end that was found, and crashes add none to those of
--- runs; so where there is one outcome, it is all that a run prints. The search of a small program is
--- complete. One that isn't looked at as many runs as the job allows, or a rank came to the limit of
--- steps, and then some rank goes beyond it. No outcome stands there twice, and no more runs were looked
--- at than the job allows.
+-- other, however its ranks go on they come to an end that was found, and crashes add none to those
+-- of runs; so where there is one outcome, it is all that a run prints. The search of a small
+-- program is complete. One that isn't looked at as many runs as the job allows, or a rank came to
+-- the limit of steps, and then some rank goes beyond it. No outcome stands there twice, and no more
+-- runs were looked at than the job allows.
 pub record IsFoundBy (program : ProgramValue) (job : ExploreJob) (found : ExploredValue) : Type 0 where
   pub possible : (outcome : List RankOutcome) → IsAmong found.outcomes outcome → IsPossible program job.ranks outcome
   pub complete : found.complete ≡ true → AreAll program job.ranks found.outcomes
@@ -40,9 +40,9 @@ pub record HasSearchStatus (found : ExploredValue) (status : ℕ) : Type 0 where
   pub halts : (status ≡ 0) ↔ ((found.complete ≡ true) × AllHalt found.outcomes)
   pub else_one : status ≤ 1
 
--- Standard output has the text of what was found, or the short one, or the object of JSON, or a run of
--- the outcome that the job names, as events, of the program of this text. Of JSON nothing is said of
--- the races.
+-- Standard output has the text of what was found, or the short one, or the object of JSON, or a run
+-- of the outcome that the job names, as events, of the program of this text. Of JSON nothing is
+-- said of the races.
 pub record IsPrinted (source : List ℕ) (program : ProgramValue) (job : ExploreJob) (found : ExploredValue) (out : List ℕ) : Type 0 where
   pub text : job.form ≡ form.Text → IsMarkedText source program job.ranks found job.runs out
   pub summary : job.form ≡ form.Summary → IsMarkedSummary program job.ranks found job.runs out

@@ -29,13 +29,14 @@ failed_text number why script = codes "run " ++ decimal number ++ codes " has no
 abbrev pub unmet_text : ℕ → List ℕ
 unmet_text number = codes "# outcome " ++ decimal number ++ codes " of explore wasn't met\n"
 
--- Behind what stands before comes a line if no bar is of the outcome of this number, and else nothing.
+-- Behind what stands before comes a line if no bar is of the outcome of this number, and else
+-- nothing.
 pub data IsUnmetLine (bars : List BarValue) (number : ℕ) (outcome : List RankOutcome) (before after : List ℕ) : Type 0 where
   met : (at : ℕ) → HasAt bars outcome at → after ≡ before → IsUnmetLine bars number outcome before after
   unmet : AreOthers bars outcome → after ≡ before ++ unmet_text number → IsUnmetLine bars number outcome before after
 
--- These lines name which of the first so many outcomes of a search no run had, by their numbers from 1:
--- those without a bar, in their order, and no other.
+-- These lines name which of the first so many outcomes of a search no run had, by their numbers
+-- from 1: those without a bar, in their order, and no other.
 pub data AreUnmet (bars : List BarValue) (outcomes : List (List RankOutcome)) : ℕ → List ℕ → Type 0 where
   of_none : AreUnmet bars outcomes 0 []
   of_one : {count : ℕ} {before after : List ℕ} (outcome : List RankOutcome) → AreUnmet bars outcomes count before
@@ -45,15 +46,15 @@ pub data AreUnmet (bars : List BarValue) (outcomes : List (List RankOutcome)) : 
 abbrev pub complete_text : ExploredValue → List ℕ
 complete_text found = codes "# explore is complete: outcomes " ++ decimal (length found.outcomes) ++ codes "\n"
 
--- What is said of a search beside the runs: how many outcomes it found and which no run had, if it is
--- complete, and else that there may be others.
+-- What is said of a search beside the runs: how many outcomes it found and which no run had, if it
+-- is complete, and else that there may be others.
 pub record IsSearchText (found : ExploredValue) (bars : List BarValue) (text : List ℕ) : Type 0 where
   pub complete : found.complete ≡ true → (lines : List ℕ) × AreUnmet bars found.outcomes (length found.outcomes) lines
       × (text ≡ complete_text found ++ lines)
   pub stopped : found.complete ≡ false → text ≡ codes "# explore isn't complete: others may be possible\n"
 
--- What is printed: the outcomes, the runs without a report, what is said of the search, and the last
--- line.
+-- What is printed: the outcomes, the runs without a report, what is said of the search, and the
+-- last line.
 pub record IsSoakText (soaked : Soaked) (found : ExploredValue) (runs : ℕ) (text : List ℕ) : Type 0 where
   pub search : List ℕ
   pub told : IsSearchText found soaked.histogram search

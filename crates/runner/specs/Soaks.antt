@@ -1,5 +1,5 @@
--- What is answered to a soak: runs under scripts that were drawn, one after another (docs/FORMATS.md,
--- "Standard output of `soak`").
+-- What is answered to a soak: runs under scripts that were drawn, one after another
+-- (docs/FORMATS.md, "Standard output of `soak`").
 use Rattle.std.specs.Prelude.{◌≡◌, ◌≢◌, ◌↔◌, ◌≤◌, ◌+◌, ◌++◌, ℕ, List, [], Some, true, false, nat_lt, slice_get, string_bytes, IsTrue}
 use Rattle.command_line.specs.declared.soaking.SoakJob.{SoakJob}
 use Rattle.command_line.specs.declared.soaking.SoakScriptJob.{SoakScriptJob}
@@ -36,8 +36,8 @@ pub record CountsReport (report : Report) (old new : Soaked) : Type 0 where
   pub halted : IsTrue new.all_halted ↔ (IsTrue old.all_halted × HaveHalted report.outcome.ends)
   pub failed : string_bytes new.failed ≡ string_bytes old.failed
 
--- A run without a report counts in no bar, and not every run had all its ranks halt. Its number and its
--- script are told; of the words that say why nothing is claimed.
+-- A run without a report counts in no bar, and not every run had all its ranks halt. Its number and
+-- its script are told; of the words that say why nothing is claimed.
 pub record CountsNone (number : ℕ) (script : List ℕ) (old new : Soaked) : Type 0 where
   pub counted : new.histogram ≡ old.histogram
   pub crashes : new.crashes ≡ old.crashes
@@ -45,8 +45,8 @@ pub record CountsNone (number : ℕ) (script : List ℕ) (old new : Soaked) : Ty
   pub why : List ℕ
   pub told : string_bytes new.failed ≡ string_bytes old.failed ++ failed_text number why script
 
--- The script is read of this text of lines that were drawn: each can be used once those before it are,
--- and there are no more kills and images than the job allows.
+-- The script is read of this text of lines that were drawn: each can be used once those before it
+-- are, and there are no more kills and images than the job allows.
 pub record IsDrawn (job : SoakJob) (text : List ℕ) (script : List ScriptLine) : Type 0 where
   pub lines : List ScriptLine
   pub spelled : text ≡ text_of lines
@@ -55,7 +55,8 @@ pub record IsDrawn (job : SoakJob) (text : List ℕ) (script : List ScriptLine) 
   pub kills : kills_in lines ≤ job.kills
   pub images : images_in lines ≤ job.images
 
--- The run of this number was made, under a script that was drawn: it has a validated report, or none.
+-- The run of this number was made, under a script that was drawn: it has a validated report, or
+-- none.
 pub data IsOneMore (program : ProgramValue) (job : SoakJob) (number : ℕ) (old new : Soaked) : Type 0 where
   reported : (text : List ℕ) (script : List ScriptLine) (report : Report) → IsDrawn job text script
       → IsReportUnder program job.ranks script job.steps report → CountsReport report old new → IsOneMore program job number old new
@@ -100,8 +101,8 @@ pub record IsSoakAnswer (holds : List ℕ → Type 0) (job : SoakJob) (out : Lis
   pub printed : IsSoakText soaked found job.runs out
   pub ended : HasSoakStatus soaked status
 
--- What `soak --script-of` answers: the text of a script that was drawn, if the run is one of those that
--- the job asks for, and status 0.
+-- What `soak --script-of` answers: the text of a script that was drawn, if the run is one of those
+-- that the job asks for, and status 0.
 pub record IsSoakScriptAnswer (holds : List ℕ → Type 0) (job : SoakScriptJob) (out : List ℕ) (status : ℕ) : Type 0 where
   pub program : ProgramValue
   pub read : IsProgramIn holds program

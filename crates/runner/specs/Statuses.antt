@@ -1,4 +1,5 @@
--- What the program answers if its words name no job of its own, and behind a run (docs/FORMATS.md, "Command").
+-- What the program answers if its words name no job of its own, and behind a run (docs/FORMATS.md,
+-- "Command").
 use Rattle.std.specs.Prelude.{◌≡◌, ◌≤◌, ◌↔◌, ℕ, List, []}
 use Rattle.std.specs.String.{string_bytes}
 use Rattle.audit.specs.Outcome.{OutcomeValue}
