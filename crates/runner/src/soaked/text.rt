@@ -71,11 +71,7 @@ pub fn print_failed(
 ) -> Result<(), AllocError>
     ensures { OnOk result (string_bytes text.new ≡ string_bytes text.old ++ failed_text number why.now script.now) }
 {
-    write!(text, "run {number} has no report: ")?;
-    text.push_str(why)?;
-    text.push_str("\n")?;
-    text.push_str(script)?;
-    Ok(())
+    write!(text, "run {number} has no report: {why}\n{script}")
 }
 
 // What a search says of the outcomes that were met.
