@@ -33,6 +33,7 @@ use Rattle.runner.specs.declared.commands.refusal.Refusal.TheVariants as refusal
 use Rattle.runner.specs.declared.commands.world.Wanted.{Wanted}
 use Rattle.runner.specs.declared.commands.world.Wanted.TheVariants as wanted
 use Rattle.world_model.specs.EventsText.Events.{events_of}
+use Rattle.world_model.specs.declared.event.WorldEvent.{WorldEvent}
 use Rattle.world_model.specs.World.{WorldValue}
 use Rattle.world_model.specs.declared.events_text.fault.EventsFault.{EventsFault}
 use Rattle.world_model.specs.declared.events_text.fault.EventsFault.TheVariants as events_fault
@@ -198,8 +199,9 @@ pub unplayed_end : (holds : List ℕ → List ℕ → Type 0) (job : WorldJob) (
 unplayed_end holds job wants refused is other = inr (is other)
 
 -- as the world says that it came to
-pub no_end : (steps : ℕ) (after : WorldValue) (refused : Refusal) → IsWithoutEnd steps after refused → UnlessMemory (HasNoEnd (wanted.TheEnd steps)) refused
-no_end steps after refused is other = (after, is)
+pub no_end : (steps : ℕ) (before : WorldValue) (events : List WorldEvent) (after : WorldValue) (refused : Refusal)
+    → IsWithoutEnd steps before events after refused → UnlessMemory (HasNoEnd (wanted.TheEnd steps)) refused
+no_end steps before events after refused is other = (before, events, after, is)
 
 -- ---- texts that are explained
 

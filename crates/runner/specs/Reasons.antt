@@ -36,6 +36,7 @@ use Rattle.runner.specs.declared.commands.refusal.Refusal.TheVariants as refusal
 use Rattle.runner.specs.declared.commands.world.Wanted.{Wanted}
 use Rattle.runner.specs.declared.commands.world.Wanted.TheVariants as wanted
 use Rattle.world_model.specs.EventsText.Events.{events_of}
+use Rattle.world_model.specs.declared.event.WorldEvent.{WorldEvent}
 use Rattle.world_model.specs.World.{WorldValue}
 use Rattle.world_model.specs.declared.events_text.fault.EventsFault.{EventsFault}
 use Rattle.world_model.specs.declared.events_text.fault.EventsFault.TheVariants as events_fault
@@ -162,7 +163,7 @@ HasNoEvents refused = (fault : PlayFault) × (refused ≡ of_play fault)
 abbrev pub HasNoEnd : Wanted → Refusal → Type 0
 HasNoEnd wanted.Replies refused = ⊥
 HasNoEnd wanted.WayOn refused = ⊥
-HasNoEnd (wanted.TheEnd steps) refused = (after : WorldValue) × IsWithoutEnd steps after refused
+HasNoEnd (wanted.TheEnd steps) refused = (before : WorldValue) × (events : List WorldEvent) × (after : WorldValue) × IsWithoutEnd steps before events after refused
 
 -- the outcome of this number isn't there, or its run gives no events
 abbrev pub HasNoOutcome : ℕ → Refusal → Type 0

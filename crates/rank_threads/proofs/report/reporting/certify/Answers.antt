@@ -1,7 +1,13 @@
 use Rattle.std.proofs.Common.{rules, ◌≡◌, None, sym, arith}
-use Rattle.rank_threads.proofs.ReportLemmas.{of_desks, of_lives}
+use Rattle.rank_threads.proofs.ReportLemmas.{is_report, of_desks, of_lives}
 use Rattle.rank_threads.specs.Faults.{fault_of}
 use Rattle.rank_threads.proofs.report.reporting.certify.Goals as goal
+
+-- the run that was found confirms the report, whose lines are the console's
+pub returns-clause-report : goal.returns-clause-report
+returns-clause-report c =
+    is_report c.args.program.now c.args.ranks c.args.limits.steps _ _ c.in_ok-run.ensures.ok
+    (rw (c.in_ok-report.ensures.made.lines) c.requires.played.console)
 
 -- the ledger is that of these desks
 pub returns-clause-history : goal.returns-clause-history
