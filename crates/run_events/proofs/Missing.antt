@@ -42,7 +42,7 @@ shown_last (y ∷ h) x s j t = inr (shown_last h x s j t)
 -- what a rank was shown in a run its history shows
 shown_there : (P : List Passed) (r s i : ℕ) → was_shown P r s i ≡ true → IsShown (history P r) s (suc i)
 shown_there [] r s i e = absurd cc
-shown_there (p ∷ P) r s i e = at (or_cases (shows_to r s i p) (was_shown P r s i) e)
+shown_there (p ∷ P) r s i e = at (or_cases (shows_to r s i p) (was_shown P r s i) e) (shown_there P r s i)
   where
     x : Act × Option Message
     x = (p.act, looked_up (λ q. sends_from 0 p.rank (history P q)) p.act)
@@ -55,9 +55,10 @@ shown_there (p ∷ P) r s i e = at (or_cases (shows_to r s i p) (was_shown P r s
     older true t = shown_still (history P r) x s (suc i) t
     older false t = t
 
-    at : (shows_to r s i p ≡ true) ⊎ (was_shown P r s i ≡ true) → IsShown (history (p ∷ P) r) s (suc i)
-    at (inl f) = own (p.rank == r) f
-    at (inr f) = older (p.rank == r) (shown_there P r s i f)
+    at : (shows_to r s i p ≡ true) ⊎ (was_shown P r s i ≡ true) → (was_shown P r s i ≡ true → IsShown (history P r) s (suc i))
+        → IsShown (history (p ∷ P) r) s (suc i)
+    at (inl f) before = own (p.rank == r) f
+    at (inr f) before = older (p.rank == r) (before f)
 
 -- ---- so none is missed
 

@@ -1,5 +1,7 @@
 -- How runs under scripts that were drawn are counted, one after another.
 use Rattle.std.proofs.Common.{◌≡◌, ◌≢◌, ◌↔◌, ◌≤◌, ◌+◌, ◌⊎◌, ◌++◌, ℕ, zero, suc, Bool, List, [], ◌∷◌, Some, true, false, codes, length, nat_lt, IsTrue}
+use Rattle.std.proofs.lemmas.List.{append_assoc}
+use Rattle.std.specs.Fmt.{decimal}
 use Rattle.std.proofs.Common.{inl, inr, slice_get, slice_set, string_bytes, subst, sym, refl, ap, ◌∙◌}
 use Rattle.command_line.specs.declared.soaking.SoakJob.{SoakJob}
 use Rattle.command_line.specs.declared.soaking.SoakScriptJob.{SoakScriptJob}
@@ -119,10 +121,11 @@ pub none_unmet : (bars : List BarValue) (outcomes : List (List RankOutcome)) (te
 none_unmet bars outcomes text empty = subst (AreUnmet bars outcomes 0) (sym empty) AreUnmet.of_none
 
 -- the text on a search that is complete
-pub is_complete_text : (found : ExploredValue) (bars : List BarValue) (lines text : List ℕ) → found.complete ≡ true
-    → AreUnmet bars found.outcomes (length found.outcomes) lines → text ≡ complete_text found ++ lines → IsSearchText found bars text
-is_complete_text found bars lines text is unmet whole = record {
-  complete = λ _. (lines, unmet, whole);
+pub is_complete_text : (found : ExploredValue) (bars : List BarValue) (count : ℕ) (lines text : List ℕ) → found.complete ≡ true
+    → AreUnmet bars found.outcomes (length found.outcomes) lines → count ≡ length found.outcomes → text ≡ complete_text count ++ lines
+    → IsSearchText found bars text
+is_complete_text found bars count lines text is unmet many whole = record {
+  complete = λ _. (lines, unmet, subst (λ (n : ℕ). text ≡ complete_text n ++ lines) many whole);
   stopped = λ other. (let e : true ≡ false = sym is ∙ other in absurd cc);
 }
 
@@ -219,3 +222,10 @@ is_searched program job soaked found law made possible complete ends distinct = 
   none_foreign = λ is at bar there finished. among program job.ranks found.outcomes bar.outcome
       (λ o final. law program job.ranks found.outcomes o (ends is) final) (seen_each program job job.runs soaked made at bar there) finished;
 }
+
+-- a text to which four parts were added, one after another
+pub in_parts : (old a b c d one two three four : List ℕ) → one ≡ old ++ a → two ≡ one ++ b → three ≡ two ++ c → four ≡ three ++ d
+    → four ≡ old ++ a ++ b ++ c ++ d
+in_parts old a b c d one two three four first second third fourth =
+    fourth ∙ ap (λ l. l ++ d) third ∙ append_assoc two c d ∙ ap (λ l. l ++ (c ++ d)) second ∙ append_assoc one b (c ++ d)
+    ∙ ap (λ l. l ++ (b ++ c ++ d)) first ∙ append_assoc old a (b ++ c ++ d)

@@ -21,9 +21,13 @@ abbrev pub count_text : Soaked → ℕ → List ℕ
 count_text soaked runs = codes "runs " ++ decimal runs ++ codes ", crashes " ++ decimal soaked.crashes
     ++ codes ", images " ++ decimal soaked.images ++ codes ", outcomes " ++ decimal (length soaked.histogram) ++ codes "\n"
 
--- that the run of this number has no report, why, and its script
+-- that the run of this number has no report
+abbrev pub no_report_text : ℕ → List ℕ
+no_report_text number = codes "run " ++ decimal number ++ codes " has no report: "
+
+-- the same, why, and its script
 abbrev pub failed_text : ℕ → List ℕ → List ℕ → List ℕ
-failed_text number why script = codes "run " ++ decimal number ++ codes " has no report: " ++ why ++ codes "\n" ++ script
+failed_text number why script = no_report_text number ++ why ++ codes "\n" ++ script
 
 -- that no run had the outcome of this number of a search
 abbrev pub unmet_text : ℕ → List ℕ
@@ -42,15 +46,15 @@ pub data AreUnmet (bars : List BarValue) (outcomes : List (List RankOutcome)) : 
   of_one : {count : ℕ} {before after : List ℕ} (outcome : List RankOutcome) → AreUnmet bars outcomes count before
       → slice_get outcomes count ≡ Some outcome → IsUnmetLine bars (count + 1) outcome before after → AreUnmet bars outcomes (count + 1) after
 
--- how many outcomes a search found that is complete
-abbrev pub complete_text : ExploredValue → List ℕ
-complete_text found = codes "# explore is complete: outcomes " ++ decimal (length found.outcomes) ++ codes "\n"
+-- that a search is complete, which found so many outcomes
+abbrev pub complete_text : ℕ → List ℕ
+complete_text outcomes = codes "# explore is complete: outcomes " ++ decimal outcomes ++ codes "\n"
 
 -- What is said of a search beside the runs: how many outcomes it found and which no run had, if it
 -- is complete, and else that there may be others.
 pub record IsSearchText (found : ExploredValue) (bars : List BarValue) (text : List ℕ) : Type 0 where
   pub complete : found.complete ≡ true → (lines : List ℕ) × AreUnmet bars found.outcomes (length found.outcomes) lines
-      × (text ≡ complete_text found ++ lines)
+      × (text ≡ complete_text (length found.outcomes) ++ lines)
   pub stopped : found.complete ≡ false → text ≡ codes "# explore isn't complete: others may be possible\n"
 
 -- What is printed: the outcomes, the runs without a report, what is said of the search, and the

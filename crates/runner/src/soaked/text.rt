@@ -63,6 +63,7 @@ fn print_count(text: &mut String<Heap>, soaked: &Soaked, runs: u32) -> Result<()
 
 /// That the run of this number has no report, and why, with its script. An `Err`
 /// means out of memory.
+#[tactic(auto, using(crate::proofs::Soaks::in_parts))]
 pub fn print_failed(
     text: &mut String<Heap>,
     number: u32,
@@ -71,11 +72,14 @@ pub fn print_failed(
 ) -> Result<(), AllocError>
     ensures { OnOk result (string_bytes text.new ≡ string_bytes text.old ++ failed_text number why.now script.now) }
 {
-    write!(text, "run {number} has no report: {why}\n{script}")
+    write!(text, "run {number} has no report: ")?;
+    text.push_str(why)?;
+    text.push_str("\n")?;
+    text.push_str(script)
 }
 
 // What a search says of the outcomes that were met.
-#[tactic(auto, using(crate::proofs::Soaks::is_complete_text, crate::proofs::Soaks::is_stopped_text))]
+#[tactic(auto, using(crate::proofs::Soaks::is_complete_text, crate::proofs::Soaks::is_stopped_text, crate::proofs::Written::as_many))]
 fn search_text(
     alloc: Heap,
     found: &Explored,
@@ -90,18 +94,15 @@ fn search_text(
     }
     let mut unmet = String::new(alloc);
     print_unmet(&mut unmet, found, histogram)?;
-    print_complete(&mut text, found)?;
+    print_complete(&mut text, found.outcomes.len())?;
     text.push_str(unmet.as_str())?;
     Ok(text)
 }
 
-#[tactic(auto, using(crate::proofs::Written::as_many))]
-fn print_complete(text: &mut String<Heap>, found: &Explored) -> Result<(), AllocError>
-    ensures { OnOk result (string_bytes text.new ≡ string_bytes text.old ++ complete_text found.now) }
+fn print_complete(text: &mut String<Heap>, outcomes: usize) -> Result<(), AllocError>
+    ensures { OnOk result (string_bytes text.new ≡ string_bytes text.old ++ complete_text outcomes) }
 {
-    let outcomes = found.outcomes.len();
-    writeln!(text, "# explore is complete: outcomes {outcomes}")?;
-    Ok(())
+    writeln!(text, "# explore is complete: outcomes {outcomes}")
 }
 
 // The outcomes that no run had.
@@ -133,6 +134,5 @@ fn print_if_unmet(
     if histogram.has(outcome.ranks.as_slice()) {
         return Ok(());
     }
-    writeln!(text, "# outcome {number} of explore wasn't met")?;
-    Ok(())
+    writeln!(text, "# outcome {number} of explore wasn't met")
 }
