@@ -226,6 +226,6 @@ is_searched program job soaked found law made possible complete ends distinct = 
 -- a text to which four parts were added, one after another
 pub in_parts : (old a b c d one two three four : List ℕ) → one ≡ old ++ a → two ≡ one ++ b → three ≡ two ++ c → four ≡ three ++ d
     → four ≡ old ++ a ++ b ++ c ++ d
-in_parts old a b c d one two three four first second third fourth =
-    fourth ∙ ap (λ l. l ++ d) third ∙ append_assoc two c d ∙ ap (λ l. l ++ (c ++ d)) second ∙ append_assoc one b (c ++ d)
-    ∙ ap (λ l. l ++ (b ++ c ++ d)) first ∙ append_assoc old a (b ++ c ++ d)
+in_parts old a b c d one two three four with_a with_b with_c with_d =
+    with_d ∙ ap (λ l. l ++ d) with_c ∙ append_assoc two c d ∙ ap (λ l. l ++ (c ++ d)) with_b ∙ append_assoc one b (c ++ d)
+    ∙ ap (λ l. l ++ (b ++ c ++ d)) with_a ∙ append_assoc old a (b ++ c ++ d)
