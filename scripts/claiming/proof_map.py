@@ -20,6 +20,19 @@ def path_of(crate: Crate) -> str:
     return f"{crate.folder()}/proofs/README.md"
 
 
+def without_counts(text: str) -> str:
+    """The page without its counts of files and lines. It stands in proofs/, all of which is part of what a proof is kept by: so
+    it is written anew for another sentence or file, and not for a line more."""
+    return re.sub(r"(?<=\()\d+(?= lines\))|(?<=: )\d+(?=[;.])|\d+(?= files)|\d+(?= lines)", "", " ".join(text.split()))
+
+
+def is_as_written(page: Written, there: str) -> bool:
+    """Whether the page that is there is what is to be written; of a map the counts may differ."""
+    if page.path.endswith("/proofs/README.md"):
+        return without_counts(there) == without_counts(page.text)
+    return there == page.text
+
+
 def lines_in(texts: list[str]) -> int:
     return sum(it.count("\n") for it in texts)
 
