@@ -225,7 +225,8 @@ is_searched program job soaked found law made possible complete ends distinct = 
 
 -- a text to which four parts were added, one after another
 pub in_parts : (old a b c d one two three four : List ℕ) → one ≡ old ++ a → two ≡ one ++ b → three ≡ two ++ c → four ≡ three ++ d
-    → four ≡ old ++ a ++ b ++ c ++ d
+    → four ≡ old ++ (a ++ b ++ c ++ d)
 in_parts old a b c d one two three four with_a with_b with_c with_d =
-    with_d ∙ ap (λ l. l ++ d) with_c ∙ append_assoc two c d ∙ ap (λ l. l ++ (c ++ d)) with_b ∙ append_assoc one b (c ++ d)
-    ∙ ap (λ l. l ++ (b ++ c ++ d)) with_a ∙ append_assoc old a (b ++ c ++ d)
+    let two_parts : two ≡ old ++ (a ++ b) = with_b ∙ ap (λ l. l ++ b) with_a ∙ append_assoc old a b in
+    let three_parts : three ≡ old ++ (a ++ b ++ c) = with_c ∙ ap (λ l. l ++ c) two_parts ∙ append_assoc old (a ++ b) c in
+    with_d ∙ ap (λ l. l ++ d) three_parts ∙ append_assoc old (a ++ b ++ c) d

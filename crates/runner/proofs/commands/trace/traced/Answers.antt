@@ -1,13 +1,15 @@
-use Rattle.std.proofs.Common.{refl, rules, sym, subst}
-use Rattle.std.proofs.lemmas.Result.{IfOk-weaker}
-use Rattle.runner.proofs.Traces.{is_trace_answer}
+use Rattle.runner.proofs.Reasons.{trace_of_script, trace_untold}
 use Rattle.runner.proofs.commands.trace.traced.Goals as goal
 
--- what is told is an answer, of what the files hold
+-- the script isn't read, and the files hold what they held before the program was read
+pub returns-in-Err-clause-refused : goal.returns-in-Err-clause-refused
+returns-in-Err-clause-refused g c =
+    trace_of_script (g.F.Files.holds c.text_in.new.files) (g.F.Files.holds c.args.files.now) c.args.job.run c.in-Err.refusal c.in_ok-text.ensures.kept
+    c.in-Err.ensures.refused
+
+-- its run isn't told
 pub returns : goal.returns
-returns g c = IfOk-weaker c.told-said.result _ _
-    (λ said told. is_trace_answer (g.F.Files.holds c.text_in.new.files) (g.F.Files.holds c.args.files.now) c.args.job c.as_slice.result.now
-    c.in_ok-lined.lined.program c.in_ok-lined.lined.lines.items c.in-Ok.asked.script said.out.items said.status
-    (subst (g.F.Files.holds c.args.files.now c.args.job.run.program.now) (sym c.as_slice.ensures.value) c.in_ok-text.ensures.text)
-    c.in_ok-lined.ensures.lined c.in_ok-text.ensures.kept c.in-Ok.ensures told)
-    (search rules)
+returns g c = record {
+  answer = tt;
+  refused = trace_untold (g.F.Files.holds c.args.files.now) c.args.job.run c.in-Err-said.refusal c.in-Err-said.ensures.refused;
+}
