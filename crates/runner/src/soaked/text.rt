@@ -63,7 +63,6 @@ fn print_count(text: &mut String<Heap>, soaked: &Soaked, runs: u32) -> Result<()
 
 /// That the run of this number has no report, and why, with its script. An `Err`
 /// means out of memory.
-#[tactic(auto, using(crate::proofs::Soaks::in_parts))]
 pub fn print_failed(
     text: &mut String<Heap>,
     number: u32,
@@ -75,7 +74,8 @@ pub fn print_failed(
     write!(text, "run {number} has no report: ")?;
     text.push_str(why)?;
     text.push_str("\n")?;
-    text.push_str(script)
+    text.push_str(script)?;
+    Ok(())
 }
 
 // What a search says of the outcomes that were met.
