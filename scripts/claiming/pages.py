@@ -31,7 +31,8 @@ CLAUSES_LABELS = (
     " \"law\" a function that exists only for its clauses, and \"lemma\" a proof about definitions.",
     "**Mutants**: deliberately wrong edits of the code that would break the claim, and that the prover must refuse. They are the files"
     " `NAME.edit` in `must-fail/` and `wrong/` of the crate.",
-    "**Limit**: what the clauses don't say. No claim says that there is memory for a call, when it is made, or how long it takes.",
+    "**Limit**: what the clauses don't say. No claim says that there is memory for a call, when it is made, or how long it takes. A README may"
+    " state limits of many claims once, above them.",
 )
 CLAUSES_TAIL = (
     "A clause holds of each call that returns. [THEOREMS.md](../THEOREMS.md) says which promises the claims add up to, on which premises"
