@@ -1,9 +1,11 @@
 //! The messages of one rank to another, once there is one.
-ghost use Rattle.std.specs.Prelude.{◌≡◌, [], ◌∷◌, ◌++◌, Some, None, IfOk, OnOk, OnErr, IsSomeAnd, IsSome, position, slice_get, slice_set};
+ghost use Rattle.std.specs.Prelude.{◌≡◌, [], ◌∷◌, ◌++◌, Some, None, IfOk, OnOk, OnErr, IsSomeAnd, IsSome, map, position, slice_get, slice_set};
 ghost use Rattle.crash_free.specs.Slots.{passes};
 ghost use Rattle.crash_free.specs.Alike.{packets_in};
+ghost use Rattle.crash_free.specs.Leftovers.{left_by};
 ghost use Rattle.crash_free.specs.Standing.{and_all, and_packet};
 
+use crate::leftover::{Leftover, add_left};
 use crate::mail::index::Index;
 use crate::standing::{Standing, write_packets};
 use limits::Heap;
@@ -82,6 +84,18 @@ impl Slots {
         ensures { OnOk result (out.new ≡ and_all and_packet out.old (packets_in self.now)) }
     {
         write_packets(out, &self.slots)
+    }
+
+    /// Adds the messages that aren't taken, which the source sent to the rank.
+    pub fn add_left(
+        &self,
+        source: u8,
+        rank: u8,
+        out: &mut Vec<Leftover, Heap>,
+    ) -> Result<(), AllocError>
+        ensures { OnOk result (out.new.items ≡ out.old.items ++ map (left_by rank source) (packets_in self.now)) }
+    {
+        add_left(&self.slots, source, rank, out)
     }
 
     /// The packet is one message more.
