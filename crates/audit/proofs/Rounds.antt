@@ -86,7 +86,7 @@ pub record Turned (o : OutcomeValue) (first left : List ℕ) (start s : SimValue
 -- after the turn of one rank more the round has moved if it had before, or if that rank has fewer steps left
 pub turned_one : (o : OutcomeValue) (first left : List ℕ) (start s s' : SimValue) (rank before after : ℕ) (moved moved' : Bool)
     → Turned o first left start s rank moved → slice_get left rank ≡ Some before → Plays o rank before after s s' → after ≤ before
-    → (after ≡ before → s' ≡ s) → (0 < after → IsStuck o s' rank) → moved' ≡ moved || not (after == before)
+    → (after ≡ before → s' ≡ s) → (after ≡ before → 0 < after → IsStuck o s' rank) → moved' ≡ moved || not (after == before)
     → Turned o first (slice_set left rank after) start s' (rank + 1) moved'
 turned_one o first left start s s' rank before after moved moved' turned there plays few same stuck is = record {
   width = length-set left rank after ∙ turned.width;
@@ -102,7 +102,7 @@ turned_one o first left start s s' rank before after moved moved' turned there p
       subst (λ ks. (r k : ℕ) → r < rank + 1 → slice_get ks r ≡ Some k → 0 < k → IsStuck o s' r) (sym left_same)
       (stuck_one_more o left s' rank
       (subst (λ z. (r k : ℕ) → r < rank → slice_get left r ≡ Some k → 0 < k → IsStuck o z r) (sym (same both.1)) (turned.stuck both.0))
-      (λ k at some. stuck (let one : Some k ≡ Some before = sym at ∙ there in let value : k ≡ before = cc in omega (arith, some, value, both.1))));
+      (λ k at some. stuck both.1 (let one : Some k ≡ Some before = sym at ∙ there in let value : k ≡ before = cc in omega (arith, some, value, both.1))));
 }
   where
     sums : sum (slice_set left rank after) + before ≡ sum left + after

@@ -8,6 +8,7 @@ ghost use Rattle.audit.specs.Counts.{AreCounted};
 ghost use Rattle.audit.specs.Reachable.{IsReachable};
 ghost use Rattle.audit.specs.Found.{IsFound};
 
+use crate::auditor::stretching::{InTurn, Stretching};
 use crate::auditor::{Auditor, Goal};
 use crate::fault::AuditFault;
 use crate::outcome::Outcome;
@@ -65,6 +66,24 @@ pub fn find_run<'p>(
     ensures ok { IfOk result (λ run. IsFound program.entry.now ranks outcome.now steps run) }
     ensures err { IfErr result (λ fault. IsReachable program.entry.now ranks outcome.now steps → fault ≡ AuditFault.Memory) }
 {
+    find_with(&InTurn, alloc, program, ranks, outcome, steps)
+}
+
+/// The same, with long stretches of steps of the ranks' own left to `stretching`.
+pub(crate) fn find_with<'p, S: Stretching>(
+    stretching: &S,
+    alloc: Heap,
+    program: &'p Program,
+    ranks: u8,
+    outcome: &Outcome,
+    steps: u32,
+) -> Result<Sim<'p>, AuditFault>
+    requires can { S.can stretching.now }
+    requires some { 1 ≤ ranks }
+    requires few { ranks ≤ most_ranks }
+    ensures ok { IfOk result (λ run. IsFound program.entry.now ranks outcome.now steps run) }
+    ensures err { IfErr result (λ fault. IsReachable program.entry.now ranks outcome.now steps → fault ≡ AuditFault.Memory) }
+{
     if outcome.rows_count() != usize::from(ranks) {
         return Err(AuditFault::RowLeft);
     }
@@ -82,17 +101,19 @@ pub fn find_run<'p>(
         counts: counts.as_slice(),
         lines: lines.as_slice(),
     };
-    come_to(alloc, program, ranks, &goal, steps)
+    come_to(stretching, alloc, program, ranks, &goal, steps)
 }
 
 /// The same, if the outcome has a row, its lines and an end of each rank.
-fn come_to<'p>(
+fn come_to<'p, S: Stretching>(
+    stretching: &S,
     alloc: Heap,
     program: &'p Program,
     ranks: u8,
     goal: &Goal<'_>,
     steps: u32,
 ) -> Result<Sim<'p>, AuditFault>
+    requires can { S.can stretching.now }
     requires some { 1 ≤ ranks }
     requires few { ranks ≤ most_ranks }
     requires rows { length goal.now.outcome.now.rows ≡ ranks }
@@ -104,7 +125,7 @@ fn come_to<'p>(
 {
     let mut left = vec![in alloc; steps; usize::from(ranks)]?;
     let mut auditor = Auditor::new(alloc, program, ranks)?;
-    auditor.play(goal, &mut left)?;
+    auditor.play(stretching, goal, &mut left)?;
     auditor.verdict(goal, left.as_slice())?;
     Ok(auditor.into_run())
 }

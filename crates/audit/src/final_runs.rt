@@ -5,6 +5,6 @@ mod fault;
 mod outcome;
 mod stalled;
 
-pub use confirming::{Final, confirm, confirmed_run};
+pub use confirming::{Final, confirm, confirmed_run, confirmed_run_on};
 pub use fault::FinalFault;
 pub use outcome::{RankEnd, has_lines, outcome_of};

@@ -6,12 +6,15 @@ ghost use Rattle.audit.specs.Reachable.{IsReachable};
 ghost use Rattle.audit.specs.FinalRuns.Final.{IsConfirmed, IsFinal, IsWhy, NoneIsUnfinished, seen_of};
 ghost use Rattle.audit.specs.FinalRuns.Maximal.{IsPossible};
 
+use crate::Outcome;
+use crate::auditing::find_with;
+use crate::auditor::stretching::{InTurn, SideBySide, Stretching};
 use crate::final_runs::fault::FinalFault;
 use crate::final_runs::stalled::not_stalled;
-use crate::{Outcome, find_run};
 use crash_free::Sim;
 use limits::Heap;
 use rank_language::Program;
+use std::thread::Threads;
 
 /// That an outcome is one of a run without crashes, in which each rank reported
 /// as stalled has stalled.
@@ -64,7 +67,43 @@ pub fn confirmed_run<'p>(
     ensures ok { IfOk result (λ run. IsConfirmed program.entry.now ranks outcome.now steps run) }
     ensures err { IfErr result (λ fault. IsWhy program.entry.now ranks outcome.now steps fault) }
 {
-    match find_run(alloc, program, ranks, outcome, steps) {
+    confirmed_with(&InTurn, alloc, program, ranks, outcome, steps)
+}
+
+/// The same, and it goes through long stretches of steps of the ranks' own side by
+/// side, on threads. Where a thread can't be made it does what that thread would.
+pub fn confirmed_run_on<'p, R: Threads + Sync>(
+    rt: &R,
+    alloc: Heap,
+    program: &'p Program,
+    ranks: u8,
+    outcome: &Outcome,
+    steps: u32,
+) -> Result<Sim<'p>, FinalFault>
+    requires some { 1 ≤ ranks }
+    requires few { ranks ≤ most_ranks }
+    ensures ok { IfOk result (λ run. IsConfirmed program.entry.now ranks outcome.now steps run) }
+    ensures err { IfErr result (λ fault. IsWhy program.entry.now ranks outcome.now steps fault) }
+{
+    confirmed_with(&SideBySide { rt }, alloc, program, ranks, outcome, steps)
+}
+
+/// The same, with long stretches of steps of the ranks' own left to `stretching`.
+fn confirmed_with<'p, S: Stretching>(
+    stretching: &S,
+    alloc: Heap,
+    program: &'p Program,
+    ranks: u8,
+    outcome: &Outcome,
+    steps: u32,
+) -> Result<Sim<'p>, FinalFault>
+    requires can { S.can stretching.now }
+    requires some { 1 ≤ ranks }
+    requires few { ranks ≤ most_ranks }
+    ensures ok { IfOk result (λ run. IsConfirmed program.entry.now ranks outcome.now steps run) }
+    ensures err { IfErr result (λ fault. IsWhy program.entry.now ranks outcome.now steps fault) }
+{
+    match find_with(stretching, alloc, program, ranks, outcome, steps) {
         Ok(run) => match not_stalled(&run, outcome.ends.as_slice()) {
             None => Ok(run),
             Some(rank) => Err(FinalFault::FalseStall(rank)),

@@ -18,7 +18,7 @@ loop-rank-preserved c = elim c.if-place-left.branch [
       let turned = turned_one o c.args.left.now c.loop-rank.left c.args.self.now.sim c.loop-rank.self.sim w.go_on.new.self.sim c.loop-rank.rank
       (get_or c.loop-rank.left c.loop-rank.rank 0) w.in_ok-after.after c.loop-rank.moved c.if-place-left.moved c.loop-rank.invariant.turned
       (slice_get-get_or c.loop-rank.left c.loop-rank.rank 0 low) (rw read at w.in_ok-after.ensures.plays) (rw read at w.in_ok-after.ensures.few)
-      (rw read at w.in_ok-after.ensures.same) w.in_ok-after.ensures.stuck (rw read at w.moved-is) in
+      (rw read at w.in_ok-after.ensures.same) (rw read at w.in_ok-after.ensures.stuck) (rw read at w.moved-is) in
       let goes = goes_on c.args.self.now.sim c.loop-rank.self.sim w.go_on.new.self.sim c.loop-rank.self.traces.items w.go_on.new.self.traces.items
       c.loop-rank.invariant.goes w.in_ok-after.ensures.goes in
       let lists = w.left-is ∙ ap (λ k. slice_set c.loop-rank.left k w.in_ok-after.after) at in

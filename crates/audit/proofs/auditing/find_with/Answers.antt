@@ -4,10 +4,10 @@ use Rattle.crash_free.specs.Sim.{start_of}
 use Rattle.crash_free.proofs.Taking.{no_history}
 use Rattle.audit.specs.Outcome.{OutcomeValue, lines_of}
 use Rattle.audit.proofs.Confirming.{too_long}
-use Rattle.audit.proofs.auditing.find_run.Goals as goal
+use Rattle.audit.proofs.auditing.find_with.Goals as goal
 
 pub returns-in_default-clause-err : goal.returns-in_default-clause-err
-returns-in_default-clause-err c = λ reach.
+returns-in_default-clause-err g c = λ reach.
     let none = rw c.in_default.is at c.in_ok-lines.ensures.none in
     let lines = c.as_slice.ensures.value ∙ ap (λ (o : OutcomeValue). o.lines) c.outcome.view_is in
     let outcome = reach.1 in
@@ -15,6 +15,6 @@ returns-in_default-clause-err c = λ reach.
     ∙ ap (λ h. prints_from 0 h) (no_history (start_of c.args.program.now c.args.ranks) c.args.ranks reach.0 outcome.is_run none.0 none.1)))
 
 pub returns-in_default-2-clause-err : goal.returns-in_default-2-clause-err
-returns-in_default-2-clause-err c = λ reach.
+returns-in_default-2-clause-err g c = λ reach.
     let many = rw c.in_default-2.is at c.in_ok-counts.ensures.none in
     absurd (too_long c.args.program.now c.args.ranks c.args.steps c.args.outcome.now many reach)
