@@ -15,7 +15,7 @@ use crate::life::Account;
 use crate::playing::Played;
 use crate::report::{Certified, Report, RunFault};
 use crate::running::RunLimits;
-use audit::final_runs::confirmed_run;
+use audit::final_runs::confirmed_run_on;
 use audit::{End, Outcome};
 use event_logger::{Counts, Desk, Ledger, Logger};
 use limits::Heap;
@@ -24,12 +24,15 @@ use rank_language::Program;
 use rank_node::NodeFault;
 use rank_text::script::Script;
 use std::alloc::AllocError;
+use std::thread::Threads;
 
 /// Closes the logger at whose desks a program was played, and answers the report
 /// of the play, once it is confirmed, with the run that confirms it. The report is
-/// of these desks, and of lives by this script, which clauses alone read.
+/// of these desks, and of lives by this script, which clauses alone read. Threads of
+/// `rt` go through what ranks did between two acts side by side.
 #[tactic(auto, using(crate::proofs::ReportLemmas::report_laws, crate::proofs::CauseLemmas::caused_report))]
-pub fn certify<'p>(
+pub fn certify<'p, R: Threads + Sync>(
+    rt: &R,
     alloc: Heap,
     program: &'p Program,
     ranks: u8,
@@ -60,7 +63,7 @@ pub fn certify<'p>(
         return Err(RunFault::NoCause(rank));
     }
     let report = make_report(alloc, limits, played, ledger)?;
-    let run = confirmed_run(alloc, program, ranks, &report.outcome, limits.steps)?;
+    let run = confirmed_run_on(rt, alloc, program, ranks, &report.outcome, limits.steps)?;
     Ok(Certified { report, run })
 }
 
