@@ -10,6 +10,7 @@ use Rattle.crash_free.specs.Sim.{SimValue, AreBegun}
 use Rattle.crash_free.specs.Wanted.{Wants}
 use Rattle.crash_free.specs.Advances.{Advances, still, first_machine}
 use Rattle.crash_free.proofs.Advancing.{begun_there}
+use Rattle.crash_free.proofs.Lists.{there_is}
 use Rattle.audit.specs.declared.outcome.End.{End}
 use Rattle.audit.specs.Outcome.{OutcomeValue, lines_of, MayWant}
 use Rattle.audit.specs.Lines.{IsSorted}
@@ -21,7 +22,7 @@ use Rattle.audit.specs.Found.{IsFound}
 use Rattle.audit.specs.Trace.{TraceValue}
 use Rattle.audit.specs.Playing.{IsWithin, HasLeft, PlayAll, AreStuck}
 use Rattle.audit.proofs.Counting.{row_few}
-use Rattle.audit.proofs.Reaching.{there_is, some_there, comes_to}
+use Rattle.audit.proofs.Reaching.{some_there, comes_to}
 use Rattle.audit.proofs.Traces.{replicate_each}
 use Rattle.audit.proofs.Outcomes.{come}
 

@@ -20,7 +20,7 @@ use Rattle.crash_free.specs.Sim.{SimValue, Simulates, start_of}
 use Rattle.crash_free.specs.Wanted.{Wants, WantsAt}
 use Rattle.crash_free.specs.Parts.{IsBeginning, IsNext}
 use Rattle.crash_free.specs.Advances.{Advances, first_machine}
-use Rattle.crash_free.proofs.Lists.{printed-own}
+use Rattle.crash_free.proofs.Lists.{printed-own, there_is}
 use Rattle.crash_free.proofs.Taking.{no_history}
 use Rattle.crash_free.proofs.Reorder.{next_act}
 use Rattle.crash_free.proofs.Advancing.{behind, IsUpTo, up_to}
@@ -36,12 +36,6 @@ use Rattle.audit.proofs.Rows.{row-own}
 use Rattle.audit.proofs.Fitting.{take_fits, hit_fits}
 use Rattle.audit.proofs.Growing.{next_event, next_line, events_of_sends, prints_of_sends}
 use Rattle.audit.proofs.Following.{along, follows}
-
--- an element below the length
-pub there_is : {A : Type 0} (xs : List A) (i : ℕ) → i < length xs → (x : A) × (slice_get xs i ≡ Some x)
-there_is [] i low = absurd (omega arith)
-there_is (x ∷ xs) zero low = (x, refl)
-there_is (x ∷ xs) (suc i) low = there_is xs i (omega arith)
 
 -- what holds of what is there
 pub some_there : {A : Type 0} (o : Option A) (P : A → Type 0) → IsSomeAnd o P → (x : A) × (o ≡ Some x) × P x

@@ -8,9 +8,9 @@ use Rattle.std.proofs.lemmas.List.Sums.{sum_by-set}
 use Rattle.std.proofs.lemmas.Option.{slice_get_within, get_or_from_slice_get}
 use Rattle.crash_free.specs.Sim.{SimValue}
 use Rattle.crash_free.proofs.Keeping.{set_cases}
+use Rattle.crash_free.proofs.Lists.{there_is}
 use Rattle.audit.specs.Outcome.{OutcomeValue}
 use Rattle.audit.specs.Playing.{HasLeft, Plays, PlayAll, IsStuck}
-use Rattle.audit.proofs.Reaching.{there_is}
 
 -- one more rank goes on
 all_play_one : (o : OutcomeValue) (first left : List ℕ) (start s s' : SimValue) (r before after : ℕ) → PlayAll o first left start s

@@ -10,12 +10,13 @@ use Rattle.crash_free.specs.Advances.{Advances, first_machine}
 use Rattle.crash_free.specs.Parts.{IsBeginning}
 use Rattle.crash_free.specs.SideBySide.{MakesSteps, GoSideBySide}
 use Rattle.crash_free.proofs.Advancing.{Advances-stride}
+use Rattle.crash_free.proofs.Lists.{there_is}
 use Rattle.audit.specs.Outcome.{OutcomeValue, lines_of}
 use Rattle.audit.specs.Rows.{row, expand}
 use Rattle.audit.specs.Trace.{TraceValue}
 use Rattle.audit.specs.Audits.{Keeps, GoesTo}
 use Rattle.audit.specs.Playing.{HasLeft, PlayAll}
-use Rattle.audit.proofs.Reaching.{there_is, some_there}
+use Rattle.audit.proofs.Reaching.{some_there}
 use Rattle.audit.proofs.Steps.{goes_same}
 
 -- no rank makes a step

@@ -10,6 +10,12 @@ use Rattle.rank_machine.proofs.CollectiveParts.{longer_at}
 use Rattle.crash_free.specs.Runs.{Passed, History, at_place, history, sent, printed, sends_from, send_at, prints_from, print_at, cons_if}
 use Rattle.crash_free.specs.Runs.{looked_up, taken, takes_it, IsRun}
 
+-- where a place is within a list something stands there
+pub there_is : {A : Type 0} (xs : List A) (i : ℕ) → i < length xs → (x : A) × (slice_get xs i ≡ Some x)
+there_is [] i low = absurd (omega arith)
+there_is (x ∷ xs) zero low = (x, refl)
+there_is (x ∷ xs) (suc i) low = there_is xs i (omega arith)
+
 -- what stands in a longer list, before something of the shorter one, stands in the shorter one
 slice_get-append_before : {A : Type 0} (xs ys : List A) (i j : ℕ) (x y : A) → i < j → slice_get xs j ≡ Some y → slice_get (xs ++ ys) i ≡ Some x
     → slice_get xs i ≡ Some x

@@ -43,7 +43,7 @@ collective_sync = variants_sync Collective.enum (search (expression_sync, buffer
 statement_sync : IsSync Statement.the_row
 statement_sync = variants_sync Statement.enum (search (expression_sync, payload_sync, pattern_sync, buffer_sync, collective_sync, crosses, sendable) depth 60)
 
-pub program_sync : IsSync Program.the_row
+program_sync : IsSync Program.the_row
 program_sync = search (statement_sync, name_sync, array_sync, crosses, sendable) depth 60
 
 items_send : IsSend Items.the_row

@@ -16,7 +16,7 @@ use Rattle.crash_free.specs.Sim.{SimValue}
 use Rattle.crash_free.specs.Slots.{Slot, IsKept}
 use Rattle.crash_free.specs.SideBySide.{MakesSteps, GoSideBySide, StopAtActs}
 use Rattle.crash_free.specs.Stretches.{GoesAhead, GoAhead, IsBefore, AreBefore, GoFrom, with_machine}
-use Rattle.crash_free.proofs.Lists.{push_cases}
+use Rattle.crash_free.proofs.Lists.{push_cases, there_is}
 use Rattle.crash_free.proofs.Keeping.{set_there, set_apart, kept_inside}
 
 -- one more stretch
@@ -27,12 +27,6 @@ before_push machines left xs x before this r y at = go (push_cases xs x r y at)
     go : (slice_get xs r ≡ Some y) ⊎ ((r ≡ length xs) × (y ≡ x)) → IsBefore machines left r y
     go (inl h) = before r y h
     go (inr h) = rw (h.0, h.1) this
-
--- what stands in a list where one of the same length has something
-there_is : {A : Type 0} (xs : List A) (i : ℕ) → i < length xs → (x : A) × (slice_get xs i ≡ Some x)
-there_is [] i low = absurd (omega arith)
-there_is (x ∷ xs) zero low = (x, refl)
-there_is (x ∷ xs) (suc i) low = there_is xs i (omega arith)
 
 -- what was read at a place stands there
 read_there : {A : Type 0} (xs : List A) (i : ℕ) (d x : A) → slice_get xs i ≡ Some x → slice_index_or xs i d ≡ x

@@ -14,6 +14,7 @@ use Rattle.rank_machine.proofs.Determined.{still, same_stop, same_runs}
 use Rattle.crash_free.specs.Runs.{Passed, History, history, sent, sends_from, printed, at_place, looked_up, taken, receives, probes, IsEligible, MayMake}
 use Rattle.crash_free.proofs.Senders.{Cut, cut, runs_of}
 use Rattle.crash_free.proofs.Taking.{no_history}
+use Rattle.crash_free.proofs.Lists.{there_is}
 use Rattle.audit.specs.declared.outcome.End.{End}
 use Rattle.audit.specs.declared.outcome.End.TheVariants as end
 use Rattle.audit.specs.Outcome.{OutcomeValue, HasEnded, IsOutcome}
@@ -23,7 +24,6 @@ use Rattle.audit.proofs.Alike.{take_event, hit_event}
 use Rattle.audit.proofs.Fitting.{IsTake, IsHit}
 use Rattle.audit.proofs.Following.{follows}
 use Rattle.audit.proofs.Growing.{next_event}
-use Rattle.audit.proofs.Reaching.{there_is}
 use Rattle.audit.specs.FinalRuns.Maximal.{MayFollow}
 use Rattle.audit.specs.FinalRuns.Final.{IsOfUnfinished, HasNotStalled}
 use Rattle.audit.proofs.FinalRunsLaws.Simulating.{no_step, sender_there}

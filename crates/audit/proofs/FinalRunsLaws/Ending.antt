@@ -10,11 +10,11 @@ use Rattle.rank_machine.specs.Acts.{Act, Message, Fits, sends, takes, hits, miss
 use Rattle.rank_machine.proofs.Determined.{still, same_stop, same_runs}
 use Rattle.crash_free.specs.Runs.{Passed, History, history, sent, looked_up, MayMake}
 use Rattle.crash_free.specs.Sim.{start_of}
+use Rattle.crash_free.proofs.Lists.{there_is}
 use Rattle.audit.specs.declared.outcome.End.{End}
 use Rattle.audit.specs.declared.outcome.End.TheVariants as end
 use Rattle.audit.specs.Outcome.{OutcomeValue, lines_of, IsWaiting, MayWant, HasEnded, IsOutcome}
 use Rattle.audit.proofs.Fitting.{IsTake, IsHit, take_fits, hit_fits}
-use Rattle.audit.proofs.Reaching.{there_is}
 use Rattle.audit.specs.FinalRuns.Maximal.{MayFollow, IsMaximal, end_of, IsOutcomeOf, IsPossible}
 use Rattle.audit.specs.FinalRuns.Final.{IsOfUnfinished, HaveStalled, IsFinal, NoneIsUnfinished, seen_of}
 use Rattle.audit.proofs.FinalRunsLaws.Simulating.{no_step}

@@ -10,8 +10,7 @@ use Rattle.matching.specs.declared.packet.Context.{Context}
 use Rattle.rank_machine.specs.Acts.{Message, Act, sends, takes, hits, misses, prints}
 use Rattle.crash_free.specs.Runs.{Passed, add_if, history, sent, send_at, at_place, cons_if, looked_up}
 use Rattle.crash_free.specs.Sim.{inbound_of}
-use Rattle.crash_free.proofs.Lists.{as_many_before, sent-own, sent-other, history-own, one_more}
-use Rattle.audit.proofs.Reaching.{there_is}
+use Rattle.crash_free.proofs.Lists.{as_many_before, sent-own, sent-other, history-own, one_more, there_is}
 use Rattle.crash_free.specs.SendIndex.Sends.{matched_by, matching_send, nth_send, run_before, send_indices, sends_to}
 use Rattle.crash_free.proofs.SendIndexLaws.SendLemmas.{none_added}
 use Rattle.run_shown.specs.Trace.Deliveries.{AreOfRanks, delivered, sent_as, sent_at, sent_by}
