@@ -7,7 +7,9 @@ use Rattle.crash_free.proofs.LiveVariablesLaws.Wanting.{wants_same}
 use Rattle.crash_free.specs.Runs.{Passed, history, IsRun}
 use Rattle.crash_free.specs.Alike.{StandsAlike, StandAlike}
 use Rattle.crash_free.proofs.Alike.{comes_too, alike_back, each_follows_too}
+use Rattle.crash_free.proofs.Unreceived.{left_same}
 use Rattle.audit.specs.FinalRuns.Maximal.{IsMaximal, RankOutcome, end_of, IsRankOutcome, IsOutcomeOf}
+use Rattle.explore.specs.Endings.{Ending, IsEndingOf}
 use Rattle.explore.specs.Exploring.{and_then, HasOneAnswer, IsExplored, ends, fixed, alone, branch}
 use Rattle.explore.specs.Exploring.{AlwaysEndsIn, at_end, goes_on}
 use Rattle.explore.specs.Onward.{GoesOnTo, there, further, MayEndSo}
@@ -51,6 +53,15 @@ outcome_too start n P Q o run' alike is_its =
           rank_too (start r) n P Q r x (alike r low) (is_its.each r x e));
     }
 
+-- and so is what was never received in it
+ending_too : (start : ℕ → State) (n : ℕ) (P Q : List Passed) (e : Ending) → IsRun start n Q → StandAlike start n P Q → IsEndingOf start n P e
+    → IsEndingOf start n Q e
+ending_too start n P Q e run' alike is_its =
+    record {
+      outcome = outcome_too start n P Q e.ranks run' alike is_its.outcome;
+      left = is_its.left ∙ left_same n P Q (λ s r low low'. (alike r low').left s low);
+    }
+
 -- A run that goes on from the other, and stands alike with one that goes on from the first.
 pub record Onward (start : ℕ → State) (n : ℕ) (Q C : List Passed) : Type 0 where
   pub run : List Passed
@@ -87,9 +98,9 @@ always_ends_too start n found P Q run run' alike (goes_on r act may ending) =
     (alike_back start n (and_then Q q a) (and_then P q g.other) g.alike) (ending q g.other (may'.0, g.may))))
 
 -- and where all was searched that may follow the one, all was that may follow the other
-pub explored_too : (start : ℕ → State) (n : ℕ) (found : List RankOutcome → Type 0) (P Q : List Passed) → IsRun start n P → IsRun start n Q
+pub explored_too : (start : ℕ → State) (n : ℕ) (found : Ending → Type 0) (P Q : List Passed) → IsRun start n P → IsRun start n Q
     → StandAlike start n P Q → IsExplored start n found P → IsExplored start n found Q
-explored_too start n found P Q run run' alike (ends o is_its is_found) = ends o (outcome_too start n P Q o run' alike is_its) is_found
+explored_too start n found P Q run run' alike (ends e is_its is_found) = ends e (ending_too start n P Q e run' alike is_its) is_found
 explored_too start n found P Q run run' alike (fixed r act fix explored) =
     let f = each_follows_too start n P Q run run' alike r act fix.low fix.may in
     fixed r f.other

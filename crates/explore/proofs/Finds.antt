@@ -6,13 +6,20 @@ use Rattle.std.specs.BTreeMap as tree
 use Rattle.std.specs.BTreeMap.{BTreeMap, is_at}
 use Rattle.std.specs.Map.{lookup}
 use Rattle.audit.specs.FinalRuns.Maximal.{RankOutcome}
-use Rattle.explore.specs.Found.{hash_of, HaveEntries}
+use Rattle.explore.specs.Explored.{OutcomeValue, rank_outcomes}
+use Rattle.explore.specs.Found.{AreFound, hash_of, HaveEntries}
 use Rattle.explore.specs.Outcomes.{IsAmong}
 use Rattle.explore.proofs.Among.{among_none, among_push}
 
 -- of no outcomes
-pub no_entries : (m : BTreeMap ℕ ℕ) → HaveEntries [] m
-no_entries m o a = absurd (among_none o a)
+pub found_none : (m : BTreeMap ℕ ℕ) → AreFound [] m
+found_none m =
+    record {
+      entries = λ o a. absurd (among_none o a);
+      distinct = λ i j x p q. absurd (among_none x (i, p));
+      some = λ i x e. absurd (among_none x (i, e));
+      once = λ i x e. absurd (among_none x (i, e));
+    }
 
 -- where one entry more is put in
 pub entries_kept : (outcomes : List (List RankOutcome)) (old new : BTreeMap ℕ ℕ) (k v : ℕ) → HaveEntries outcomes old
@@ -33,9 +40,19 @@ entries_more outcomes o new k v before same get x a = go (among_push outcomes o 
     go (inr e) = subst (λ z. IsSome (tree.get nat_cmp new (hash_of z))) (sym e) (subst (λ q. IsSome (tree.get nat_cmp new q)) same (subst IsSome (sym get) refl))
 
 -- where the map has the same entries
-pub entries_same : (outcomes : List (List RankOutcome)) (old new : BTreeMap ℕ ℕ) → HaveEntries outcomes old → new.entries ≡ old.entries
+entries_same : (outcomes : List (List RankOutcome)) (old new : BTreeMap ℕ ℕ) → HaveEntries outcomes old → new.entries ≡ old.entries
     → HaveEntries outcomes new
 entries_same outcomes old new before same o a = subst (λ es. IsSome (lookup (is_at (nat_cmp (hash_of o))) es)) (sym same) (before o a)
+
+-- then all is as it was
+pub found_same : (xs : List OutcomeValue) (old new : BTreeMap ℕ ℕ) → AreFound xs old → new.entries ≡ old.entries → AreFound xs new
+found_same xs old new found same =
+    record {
+      entries = entries_same (rank_outcomes xs) old new found.entries same;
+      distinct = found.distinct;
+      some = found.some;
+      once = found.once;
+    }
 
 -- where there is no entry under the hash of an outcome, it isn't among them
 pub none_there : (outcomes : List (List RankOutcome)) (m : BTreeMap ℕ ℕ) (k : ℕ) (o : List RankOutcome) → HaveEntries outcomes m → k ≡ hash_of o

@@ -6,7 +6,7 @@ use Rattle.crash_free.specs.Standing.{Rows}
 use Rattle.crash_free.specs.Sim.{SimValue}
 use Rattle.explore.specs.declared.branch.Branch.{Branch}
 use Rattle.explore.specs.declared.moves.Move.{Move}
-use Rattle.audit.specs.FinalRuns.Maximal.{RankOutcome}
+use Rattle.explore.specs.Endings.{Ending}
 use Rattle.explore.specs.Counting.{GoesBeyond}
 use Rattle.explore.specs.Searching.{IsAlike, IsOn, Looks, NeedsFewer, Searches}
 use Rattle.explore.specs.Small.{EnoughForAll, Spares}
@@ -43,14 +43,14 @@ on_begins program n s b same ranks none shared chosen =
 -- The same program and number of ranks
 
 -- how far a search has come, by the program and the number of ranks of a simulation
-pub on_own : (program : ProgramValue) (n : ℕ) (s : SimValue) (pending : List Branch) (outcomes : List (List RankOutcome)) (met : List Rows) (cut : Bool)
+pub on_own : (program : ProgramValue) (n : ℕ) (s : SimValue) (pending : List Branch) (outcomes : List Ending) (met : List Rows) (cut : Bool)
     → IsOn program n s pending outcomes met cut → IsOn s.program (length s.machines) s pending outcomes met cut
 on_own program n s pending outcomes met cut on =
     subst (λ k. IsOn s.program k s pending outcomes met cut) (sym on.ranks)
     (subst (λ p. IsOn p n s pending outcomes met cut) (sym on.program_same) on)
 
 -- and back
-pub on_back : (program : ProgramValue) (n : ℕ) (s s' : SimValue) (pending : List Branch) (outcomes : List (List RankOutcome)) (met : List Rows)
+pub on_back : (program : ProgramValue) (n : ℕ) (s s' : SimValue) (pending : List Branch) (outcomes : List Ending) (met : List Rows)
     (cut : Bool) → s.program ≡ program → length s.machines ≡ n → IsOn s.program (length s.machines) s' pending outcomes met cut
     → IsOn program n s' pending outcomes met cut
 on_back program n s s' pending outcomes met cut same ranks on =
@@ -78,7 +78,7 @@ beyond_on program n s steps cut cut' same ranks before on e =
 
 -- One branch
 
-module _ (s t : SimValue) (pending : List Branch) (b : Branch) (outcomes : List (List RankOutcome)) (met : List Rows) (cut : Bool)
+module _ (s t : SimValue) (pending : List Branch) (b : Branch) (outcomes : List Ending) (met : List Rows) (cut : Bool)
     (on : IsOn s.program (length s.machines) s (pending ++ b ∷ []) outcomes met cut) (alike : IsAlike s t)
     (shares : (k : ℕ) → k ≤ b.shared → first_acts k t.run ≡ first_acts k s.run) (long : b.shared ≤ length t.run) where
   -- the branches before the last one go off its run, once that is made
@@ -119,7 +119,7 @@ module _ (s t : SimValue) (pending : List Branch) (b : Branch) (outcomes : List 
   -- where it was looked at
   module _ (only : (P : List Passed) → IsRunOf s.program (length s.machines) (stem_of s.run b) P → P ≡ t.run) (t' : SimValue) (new : List Branch)
       (alike' : IsAlike t t') (off : GoOff t.program (length t.machines) t'.run new) where
-    pub on_looked : (outcomes' : List (List RankOutcome)) (met' : List Rows) (cut' ended : Bool)
+    pub on_looked : (outcomes' : List Ending) (met' : List Rows) (cut' ended : Bool)
         → Looks t ended (stems_of t.run pending) (stems_of t'.run new) outcomes outcomes' met met' → (cut' ≡ false → (cut ≡ false) × (ended ≡ true))
         → IsOn s.program (length s.machines) t' new outcomes' met' cut'
     on_looked outcomes' met' cut' ended looks uncut =

@@ -5,24 +5,25 @@ use Rattle.rank_machine.specs.Acts.{Act}
 use Rattle.crash_free.specs.Runs.{Passed, history, IsRun}
 use Rattle.crash_free.specs.Parts.{IsPartOf}
 use Rattle.crash_free.proofs.Reorder.{IsBeginning-trans, history_grows}
-use Rattle.audit.specs.FinalRuns.Maximal.{MayFollow, RankOutcome, IsOutcomeOf}
+use Rattle.audit.specs.FinalRuns.Maximal.{MayFollow}
+use Rattle.explore.specs.Endings.{Ending, IsEndingOf}
 use Rattle.explore.specs.Exploring.{and_then, IsExplored, ends, fixed, alone, branch}
 use Rattle.explore.proofs.Alone.{persistent_act}
 use Rattle.explore.proofs.Exploring.{all_or_next, all_of_maximal, both_ways, follows_both}
 use Rattle.explore.proofs.Fixed.{fixed_act}
 
--- The run is a part of one whose outcome was found.
-pub record IsKnown (start : ℕ → State) (n : ℕ) (found : List RankOutcome → Type 0) (C : List Passed) : Type 0 where
+-- The run is a part of one that has what was found: an outcome, or an ending.
+pub record IsKnown {E : Type 0} (has : List Passed → E → Type 0) (found : E → Type 0) (C : List Passed) : Type 0 where
   pub run : List Passed
-  pub outcome : List RankOutcome
-  pub is_its : IsOutcomeOf start n run outcome
+  pub outcome : E
+  pub is_its : has run outcome
   pub is_found : found outcome
   pub part : IsPartOf C run
 
 -- a part of a run that is known is known
-known_part : (start : ℕ → State) (n : ℕ) (found : List RankOutcome → Type 0) (C D : List Passed) → IsPartOf C D → IsKnown start n found D
-    → IsKnown start n found C
-known_part start n found C D part k =
+known_part : {E : Type 0} (has : List Passed → E → Type 0) (found : E → Type 0) (C D : List Passed) → IsPartOf C D → IsKnown has found D
+    → IsKnown has found C
+known_part has found C D part k =
     record {
       run = k.run;
       outcome = k.outcome;
@@ -32,40 +33,40 @@ known_part start n found C D part k =
     }
 
 -- Where all was searched that may follow a run, each run that it is a part of is known.
-pub each_is_known : (start : ℕ → State) (n : ℕ) (found : List RankOutcome → Type 0) (P C : List Passed) → IsExplored start n found P → IsRun start n P
-    → IsRun start n C → IsPartOf P C → IsKnown start n found C
+pub each_is_known : (start : ℕ → State) (n : ℕ) (found : Ending → Type 0) (P C : List Passed) → IsExplored start n found P → IsRun start n P
+    → IsRun start n C → IsPartOf P C → IsKnown (IsEndingOf start n) found C
 each_is_known start n found P C (ends o is_its is_found) run whole part =
-    record { run = P; outcome = o; is_its = is_its; is_found = is_found; part = all_of_maximal start n P C run whole is_its.maximal part }
+    record { run = P; outcome = o; is_its = is_its; is_found = is_found; part = all_of_maximal start n P C run whole is_its.outcome.maximal part }
 each_is_known start n found P C (fixed r act fix explored) run whole part =
     go (λ D whole' part'. each_is_known start n found (and_then P r act) D explored (run, fix.low, fix.may) whole' part')
     (fixed_act start n P C r act run whole part fix)
   where
-    go : ((D : List Passed) → IsRun start n D → IsPartOf (and_then P r act) D → IsKnown start n found D)
-        → IsPartOf (and_then P r act) C ⊎ ((history C r ≡ history P r) × MayFollow start n C r act) → IsKnown start n found C
+    go : ((D : List Passed) → IsRun start n D → IsPartOf (and_then P r act) D → IsKnown (IsEndingOf start n) found D)
+        → IsPartOf (and_then P r act) C ⊎ ((history C r ≡ history P r) × MayFollow start n C r act) → IsKnown (IsEndingOf start n) found C
     go known (inl more) = known C whole more
     go known (inr still) =
         let both = follows_both start n P C r act part still.0 (fix.low, fix.may) in
-        known_part start n found C (and_then C r act) (λ q. history_grows C (record { rank = r; act = act }) q)
+        known_part (IsEndingOf start n) found C (and_then C r act) (λ q. history_grows C (record { rank = r; act = act }) q)
         (known (and_then C r act) (whole, both.0.0, both.0.1) both.1)
 each_is_known start n found P C (alone r act may persistent explored) run whole part =
     go (λ a may' D whole' part'. each_is_known start n found (and_then P r a) D (explored a may') (run, may'.0, may'.1) whole' part')
     (persistent_act start n P C r run whole part persistent)
   where
-    go : ((a : Act) → MayFollow start n P r a → (D : List Passed) → IsRun start n D → IsPartOf (and_then P r a) D → IsKnown start n found D)
-        → ((a : Act) × MayFollow start n P r a × IsPartOf (and_then P r a) C) ⊎ (history C r ≡ history P r) → IsKnown start n found C
+    go : ((a : Act) → MayFollow start n P r a → (D : List Passed) → IsRun start n D → IsPartOf (and_then P r a) D → IsKnown (IsEndingOf start n) found D)
+        → ((a : Act) × MayFollow start n P r a × IsPartOf (and_then P r a) C) ⊎ (history C r ≡ history P r) → IsKnown (IsEndingOf start n) found C
     go known (inl next) = known next.0 next.1 C whole next.2
     go known (inr still) =
         let both = follows_both start n P C r act part still may in
-        known_part start n found C (and_then C r act) (λ q. history_grows C (record { rank = r; act = act }) q)
+        known_part (IsEndingOf start n) found C (and_then C r act) (λ q. history_grows C (record { rank = r; act = act }) q)
         (known act may (and_then C r act) (whole, both.0.0, both.0.1) both.1)
 each_is_known start n found P C (branch r act may explored) run whole part =
     go (λ q a may' D whole' part'. each_is_known start n found (and_then P q a) D (explored q a may') (run, may'.0, may'.1) whole' part')
     (all_or_next start n P C run whole part)
   where
-    go : ((q : ℕ) (a : Act) → MayFollow start n P q a → (D : List Passed) → IsRun start n D → IsPartOf (and_then P q a) D → IsKnown start n found D)
-        → IsPartOf C P ⊎ ((q : ℕ) × (a : Act) × MayFollow start n P q a × IsPartOf (and_then P q a) C) → IsKnown start n found C
+    go : ((q : ℕ) (a : Act) → MayFollow start n P q a → (D : List Passed) → IsRun start n D → IsPartOf (and_then P q a) D → IsKnown (IsEndingOf start n) found D)
+        → IsPartOf C P ⊎ ((q : ℕ) × (a : Act) × MayFollow start n P q a × IsPartOf (and_then P q a) C) → IsKnown (IsEndingOf start n) found C
     go known (inl all) =
         let both = follows_both start n P C r act part (both_ways (history C r) (history P r) (all r) (part r)) may in
-        known_part start n found C (and_then C r act) (λ q. history_grows C (record { rank = r; act = act }) q)
+        known_part (IsEndingOf start n) found C (and_then C r act) (λ q. history_grows C (record { rank = r; act = act }) q)
         (known r act may (and_then C r act) (whole, both.0.0, both.0.1) both.1)
     go known (inr next) = known next.0 next.1 next.2 C whole next.3

@@ -15,7 +15,7 @@ pub choices_at : (xs : List OutcomeValue) (i : ℕ) (x : OutcomeValue) → slice
 choices_at xs i x there = slice_get-map (λ (o : OutcomeValue). o.choices) xs i ∙ ap (option_map (λ (o : OutcomeValue). o.choices)) there
 
 -- what is seen at a place is seen of the outcome there
-seen_back : (xs : List OutcomeValue) (i : ℕ) (o : List RankOutcome) → slice_get (rank_outcomes xs) i ≡ Some o
+pub seen_back : (xs : List OutcomeValue) (i : ℕ) (o : List RankOutcome) → slice_get (rank_outcomes xs) i ≡ Some o
     → (x : OutcomeValue) × (slice_get xs i ≡ Some x) × (x.ranks ≡ o)
 seen_back [] i o e = absurd cc
 seen_back (x ∷ xs) zero o e = (x, refl, cc)

@@ -1,7 +1,8 @@
 //! The outcomes that a search has found, each once.
-ghost use Rattle.std.specs.Prelude.{◌≡◌, [], true, false, OnOk};
-ghost use Rattle.explore.specs.Explored.{rank_outcomes};
-ghost use Rattle.explore.specs.Found.{hash_of};
+ghost use Rattle.std.specs.Prelude.{◌≡◌, ◌≢◌, ◌<◌, [], true, false, List, Some, IfSome, IsNone, OnErr, OnOk, length, slice_get};
+ghost use Rattle.crash_free.specs.declared.leftover.Leftover.{Leftover};
+ghost use Rattle.explore.specs.Explored.{listed_left, rank_outcomes};
+ghost use Rattle.explore.specs.Found.{AddsLeft, AreGrouped, hash_of};
 ghost use Rattle.explore.specs.Outcomes.{IsAmong};
 ghost use Rattle.explore.specs.Searching.{Notes};
 
@@ -11,12 +12,14 @@ use crate::explored::{Outcome, are_same};
 use crate::found::hashing::hash_of;
 use crate::moves::Noted;
 use audit::final_runs::RankEnd;
+use crash_free::Leftover;
 use limits::Heap;
 use std::alloc::AllocError;
 use std::collections::BTreeMap;
 use std::marker::Model;
 
-/// Outcomes, in the order in which they were found.
+/// Outcomes, in the order in which they were found, each with what was never
+/// received in runs that have it.
 #[derive(Drop)]
 pub struct Found {
     outcomes: Vec<Outcome, Heap>,
@@ -26,19 +29,18 @@ pub struct Found {
 
 impl Model for Found {
     ghost use Rattle.std.specs.Prelude.{List};
-    ghost use Rattle.explore.specs.Explored.{rank_outcomes};
-    ghost use Rattle.explore.specs.Found.{HaveEntries};
-    ghost use Rattle.audit.specs.FinalRuns.Maximal.{RankOutcome};
+    ghost use Rattle.explore.specs.Endings.{Ending};
+    ghost use Rattle.explore.specs.Found.{AreFound, endings_of};
 
-    ghost Value = { List (List RankOutcome) };
+    ghost Value = { List Ending };
 
-    ghost view = { λ f. rank_outcomes f.outcomes.items };
+    ghost view = { λ f. endings_of f.outcomes.items };
 
-    ghost invariant = { λ f. HaveEntries (rank_outcomes f.outcomes.items) f.by_hash };
+    ghost invariant = { λ f. AreFound f.outcomes.items f.by_hash };
 }
 
 impl Found {
-    #[tactic(auto, using(crate::proofs::Finds::no_entries))]
+    #[tactic(auto, using(crate::proofs::Finds::found_none))]
     pub fn new(alloc: Heap) -> Found
         ensures { result ≡ [] }
     {
@@ -48,37 +50,46 @@ impl Found {
         }
     }
 
-    /// Notes an outcome with the choices that lead to it, unless it is there
-    /// already. An `Err` means out of memory.
-    pub fn note(&mut self, ranks: Vec<RankEnd, Heap>, choices: &[Noted]) -> Result<(), AllocError>
-        ensures { OnOk result (Notes self.old ranks.items self.new) }
+    /// Notes an outcome with what was never received, and with the choices that
+    /// lead to it if it is new. An `Err` means out of memory.
+    pub fn note(
+        &mut self,
+        ranks: Vec<RankEnd, Heap>,
+        left: Vec<Leftover, Heap>,
+        choices: &[Noted],
+    ) -> Result<(), AllocError>
+        ensures { OnOk result (Notes self.old (record { ranks = ranks.items; left = left.items }) self.new) }
     {
         let hash = hash_of(&ranks);
-        if self.has(hash, &ranks) {
-            return Ok(());
+        let likely = self.by_hash.get(&hash).copied();
+        match place_of(&self.outcomes, likely, &ranks) {
+            Some(place) => add_left(&mut self.outcomes, place, left),
+            None => self.add(hash, ranks, left, choices),
         }
-        let choices = choices.to_vec(*ranks.allocator())?;
+    }
+
+    // Notes an outcome that is new.
+    fn add(
+        &mut self,
+        hash: u64,
+        ranks: Vec<RankEnd, Heap>,
+        left: Vec<Leftover, Heap>,
+        choices: &[Noted],
+    ) -> Result<(), AllocError>
+        requires hash { hash ≡ hash_of ranks.items }
+        requires new { (l : List Leftover) → IsAmong self.old (record { ranks = ranks.items; left = l }) → ⊥ }
+        ensures { OnOk result (Notes self.old (record { ranks = ranks.items; left = left.items }) self.new) }
+    {
+        let outcome = Outcome::new(ranks, choices, left)?;
         self.by_hash.insert(hash, self.outcomes.len())?;
-        self.outcomes.push(Outcome { ranks, choices })?;
+        self.outcomes.push(outcome)?;
         Ok(())
     }
 
-    // Whether the outcome with this hash is among them.
-    fn has(&self, hash: u64, ranks: &[RankEnd]) -> bool
-        requires { hash ≡ hash_of ranks.now }
-        ensures yes { result ≡ true → IsAmong self.now ranks.now }
-        ensures no { result ≡ false → IsAmong self.now ranks.now → ⊥ }
-    {
-        let Some(place) = self.by_hash.get(&hash) else {
-            return false;
-        };
-        // two outcomes may have one hash, so a no of the one there isn't enough
-        has_at(&self.outcomes, *place, ranks) || has(&self.outcomes, ranks)
-    }
-
     /// The outcomes.
+    #[tactic(auto, using(crate::proofs::Grouping::are_grouped))]
     pub fn into_outcomes(self) -> Vec<Outcome, Heap>
-        ensures { rank_outcomes result.items ≡ self }
+        ensures { AreGrouped self (rank_outcomes result.items) (listed_left result.items) }
     {
         let Found {
             outcomes,
@@ -88,9 +99,42 @@ impl Found {
     }
 }
 
+// Notes these leftovers with the outcome at this place, unless they are already.
+fn add_left(
+    outcomes: &mut Vec<Outcome, Heap>,
+    place: usize,
+    left: Vec<Leftover, Heap>,
+) -> Result<(), AllocError>
+    requires { place < length outcomes.old.items }
+    ensures ok { OnOk result (AddsLeft place left.items outcomes.old.items outcomes.new.items) }
+    ensures err { OnErr result (outcomes.new.items ≡ outcomes.old.items) }
+{
+    let outcome = &outcomes[place];
+    if outcome.has_left(&left) {
+        return Ok(());
+    }
+    let outcome = &mut outcomes[place];
+    outcome.add_left(left)
+}
+
+// Where the outcome stands among these, if there is a likely place. Two may have one hash, so a no
+// of that isn't enough.
+fn place_of(outcomes: &[Outcome], likely: Option<usize>, ranks: &[RankEnd]) -> Option<usize>
+    requires { IsNone likely → IsAmong (rank_outcomes outcomes.now) ranks.now → ⊥ }
+    ensures some { IfSome result (λ place. slice_get (rank_outcomes outcomes.now) place ≡ Some ranks.now) }
+    ensures none { IsNone result → IsAmong (rank_outcomes outcomes.now) ranks.now → ⊥ }
+{
+    let likely = likely?;
+    if is_at(outcomes, likely, ranks) {
+        return Some(likely);
+    }
+    find(outcomes, ranks)
+}
+
 // Whether it stands at the place.
-fn has_at(outcomes: &[Outcome], place: usize, ranks: &[RankEnd]) -> bool
-    ensures { result ≡ true → IsAmong (rank_outcomes outcomes.now) ranks.now }
+fn is_at(outcomes: &[Outcome], place: usize, ranks: &[RankEnd]) -> bool
+    ensures yes { result ≡ true → slice_get (rank_outcomes outcomes.now) place ≡ Some ranks.now }
+    ensures no { result ≡ false → slice_get (rank_outcomes outcomes.now) place ≢ Some ranks.now }
 {
     if place >= outcomes.len() {
         return false;
@@ -99,15 +143,17 @@ fn has_at(outcomes: &[Outcome], place: usize, ranks: &[RankEnd]) -> bool
     are_same(&other.ranks, ranks)
 }
 
-// Whether the outcome is among these.
-fn has(outcomes: &[Outcome], ranks: &[RankEnd]) -> bool
-    ensures yes { result ≡ true → IsAmong (rank_outcomes outcomes.now) ranks.now }
-    ensures no { result ≡ false → IsAmong (rank_outcomes outcomes.now) ranks.now → ⊥ }
+// Where it stands, the first place first.
+fn find(outcomes: &[Outcome], ranks: &[RankEnd]) -> Option<usize>
+    ensures some { IfSome result (λ place. slice_get (rank_outcomes outcomes.now) place ≡ Some ranks.now) }
+    ensures none { IsNone result → IsAmong (rank_outcomes outcomes.now) ranks.now → ⊥ }
 {
-    for other in outcomes {
-        if are_same(&other.ranks, ranks) {
-            return true;
+    let mut place = 0usize;
+    while place < outcomes.len() {
+        if is_at(outcomes, place, ranks) {
+            return Some(place);
         }
+        place += 1;
     }
-    false
+    None
 }

@@ -2,6 +2,7 @@
 ghost use Rattle.std.specs.Prelude.{◌≡◌, ◌≤◌, ◌<◌, ◌++◌, ◌∷◌, ℕ, true, false, [], IfOk, Ok, length};
 ghost use Rattle.limits.specs.Limits.{most_ranks};
 ghost use Rattle.explore.specs.Counting.{GoesBeyond};
+ghost use Rattle.explore.specs.Found.{AreGrouped};
 ghost use Rattle.explore.specs.Searching.{IsOn, NeedsFewer};
 ghost use Rattle.explore.specs.Stems.{stems_of, whole};
 ghost use Rattle.explore.specs.Stops.{CanGoBack, KeepsStops};
@@ -135,7 +136,8 @@ impl<'p> Search<'p> {
         )? {
             Played::Still => {
                 let ranks = outcome_of(alloc, &self.path.sim)?;
-                self.found.note(ranks, self.path.choices.as_slice())?;
+                let left = self.path.sim.left()?;
+                self.found.note(ranks, left, self.path.choices.as_slice())?;
                 Ok(true)
             }
             Played::Met => Ok(self.pending.len() > others),
@@ -148,7 +150,7 @@ impl<'p> Search<'p> {
 
     /// What it found, by so many runs.
     pub fn into_explored(self, runs: u32) -> Explored
-        ensures found { result.outcomes ≡ self.entry.found }
+        ensures found { AreGrouped self.entry.found result.outcomes result.left }
         ensures runs { result.runs ≡ runs }
         ensures steps { result.out_of_steps ≡ self.entry.out_of_steps }
         ensures yes { result.complete ≡ true → (self.entry.pending.items ≡ []) × (self.entry.out_of_steps ≡ false) }

@@ -1,37 +1,56 @@
-use Rattle.std.proofs.Common.{[], ◌∷◌, ◌++◌, ap, sym, subst, ◌∙◌}
-use Rattle.explore.specs.Explored.{rank_outcomes}
-use Rattle.explore.specs.Found.{HaveEntries}
+use Rattle.std.proofs.Common.{◌≡◌, ℕ, List, Option, Some, None, slice_get, refl, sym, subst, ◌∙◌}
+use Rattle.std.specs.Prelude.{IsNone, OnOk}
+use Rattle.audit.specs.FinalRuns.Maximal.{RankOutcome}
+use Rattle.explore.specs.Endings.{Ending}
+use Rattle.explore.specs.Explored.{OutcomeValue, rank_outcomes}
+use Rattle.explore.specs.Found.{endings_of}
 use Rattle.explore.specs.Outcomes.{IsAmong}
 use Rattle.explore.specs.Searching.{Notes}
-use Rattle.explore.proofs.Among.{noted_new}
-use Rattle.explore.proofs.SeenOf.{seen_push}
-use Rattle.explore.proofs.Finds.{entries_kept, entries_more, entries_same}
+use Rattle.explore.proofs.Finds.{none_there}
+use Rattle.explore.proofs.Grouping.{found_left_on, no_ending, noted_left_on, place_within}
 use Rattle.explore.proofs.found.Found.note.Goals as goal
+
+-- what isn't there is none
+is_none : {A : Type 0} (o : Option A) → IsNone o → o ≡ None
+is_none None e = refl
+is_none (Some x) e = cc
+
+-- an outcome is among some that are the same
+among_as : {xs ys : List OutcomeValue} {o p : List RankOutcome} → xs ≡ ys → o ≡ p → IsAmong (rank_outcomes xs) o → IsAmong (rank_outcomes ys) p
+among_as {xs} {ys} {o} {p} same same' a =
+    subst (λ z. IsAmong (rank_outcomes ys) z) same' (subst (λ (zs : List OutcomeValue). IsAmong (rank_outcomes zs) o) same a)
+
+-- and stands where it did
+there_as : {xs ys : List OutcomeValue} {o p : List RankOutcome} (i : ℕ) → xs ≡ ys → o ≡ p → slice_get (rank_outcomes xs) i ≡ Some o
+    → slice_get (rank_outcomes ys) i ≡ Some p
+there_as {xs} {ys} {o} {p} i same same' at =
+    subst (λ z. slice_get (rank_outcomes ys) i ≡ Some z) same' (subst (λ (zs : List OutcomeValue). slice_get (rank_outcomes zs) i ≡ Some o) same at)
+
+pub place_of-requires : goal.place_of-requires
+place_of-requires c = λ none a.
+    none_there (rank_outcomes c.self.inside.outcomes.items) c.self.inside.by_hash c.hash_of-hash.result c.args.ranks.items c.self.invariant.entries
+    (rw c.deref.ensures.value at c.hash_of-hash.ensures)
+    (sym c.get.ensures.value ∙ sym c.copied-likely.ensures ∙ is_none c.copied-likely.result none)
+    (among_as c.deref-2.ensures.value c.deref-3.ensures.value a)
+
+pub add_left-requires : goal.add_left-requires
+add_left-requires c = place_within c.self.inside.outcomes.items c.in-Some.place c.args.ranks.items
+    (there_as c.in-Some.place c.deref-2.ensures.value c.deref-3.ensures.value c.in-Some.ensures.some)
 
 pub invariant_of-self : goal.invariant_of-self
 invariant_of-self c =
-    entries_same (rank_outcomes c.self.inside.outcomes.items) c.self.inside.by_hash c.insert.new.self c.self.invariant c.in_err-insert.ensures.err
+    found_left_on c.add_left.result c.in-Some.place c.args.left.items c.self.inside.outcomes.items c.add_left.new.outcomes.items c.self.inside.by_hash
+    c.self.invariant c.add_left.ensures.ok c.add_left.ensures.err
 
-pub invariant_of-self-in_err-push : goal.invariant_of-self-in_err-push
-invariant_of-self-in_err-push c =
-    subst (λ xs. HaveEntries (rank_outcomes xs) c.insert.new.self) (sym c.in_err-push.ensures.items)
-    (entries_kept (rank_outcomes c.self.inside.outcomes.items) c.self.inside.by_hash c.insert.new.self c.hash_of-hash.result c.len.result c.self.invariant
-    c.in_ok-insert.ensures.updates.0)
+pub add-requires-clause-new : goal.add-requires-clause-new
+add-requires-clause-new c = λ l a.
+    no_ending c.self.inside.outcomes.items c.args.ranks.items
+    (λ b. c.in-None.ensures.none refl (among_as (sym c.deref-2.ensures.value) (sym c.deref-3.ensures.value) b)) l
+    (subst (λ (es : List Ending). IsAmong es (record { ranks = c.args.ranks.items; left = l })) (sym c.self.view_is) a)
 
-pub invariant_of-self-2 : goal.invariant_of-self-2
-invariant_of-self-2 c =
-    let kept =
-    entries_kept (rank_outcomes c.self.inside.outcomes.items) c.self.inside.by_hash c.insert.new.self c.hash_of-hash.result c.len.result c.self.invariant
-    c.in_ok-insert.ensures.updates.0 in
-    subst (λ xs. HaveEntries xs c.insert.new.self) (sym (ap rank_outcomes c.in_ok-push.ensures.items ∙ seen_push c.self.inside.outcomes.items _))
-    (entries_more (rank_outcomes c.self.inside.outcomes.items) c.args.ranks.items c.insert.new.self c.hash_of-hash.result c.len.result kept
-    (rw c.deref.ensures.value at c.hash_of-hash.ensures)
-    c.in_ok-insert.ensures.updates.1)
-
-pub returns : goal.returns
-returns c =
-    subst (λ xs. Notes c.args.self.now c.args.ranks.items xs)
-    (sym (ap rank_outcomes c.in_ok-push.ensures.items ∙ seen_push c.self.inside.outcomes.items _))
-    (subst (λ xs. Notes xs c.args.ranks.items (rank_outcomes c.self.inside.outcomes.items ++ c.args.ranks.items ∷ [])) c.self.view_is
-    (noted_new (rank_outcomes c.self.inside.outcomes.items) c.args.ranks.items
-    (λ a. c.has.ensures.no c.if-has.false (rw c.deref-2.ensures.value (subst (λ xs. IsAmong xs c.args.ranks.items) c.self.view_is a)))))
+pub returns-in-Some : goal.returns-in-Some
+returns-in-Some c =
+    let e : Ending = record { ranks = c.args.ranks.items; left = c.args.left.items } in
+    subst (λ (es : List Ending). OnOk c.add_left.result (Notes es e (endings_of c.add_left.new.outcomes.items))) c.self.view_is
+    (noted_left_on c.add_left.result c.in-Some.place c.args.ranks.items c.args.left.items c.self.inside.outcomes.items c.add_left.new.outcomes.items
+    (there_as c.in-Some.place c.deref-2.ensures.value c.deref-3.ensures.value c.in-Some.ensures.some) c.add_left.ensures.ok)

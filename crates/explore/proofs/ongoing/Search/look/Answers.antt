@@ -58,8 +58,9 @@ returns-in_ok-note-in-Still-clause-on c =
     c.note.new.self c.play.new.met c.args.self.now.out_of_steps true
     (looks_ended c.take_up.new.path.sim c.play.new.path.sim (stems_of c.take_up.new.path.sim.run c.args.self.now.pending.items) (stems_of
     c.play.new.path.sim.run c.play.new.pending.items) c.args.self.now.found c.note.new.self
-    c.args.self.now.met c.play.new.met c.in_ok-ranks-in-Still.ranks.items c.in_ok-play.ensures.plays c.in_ok-play.ensures.remembers
-    c.in_ok-ranks-in-Still.ensures c.in_ok-note-in-Still.ensures)
+    c.args.self.now.met c.play.new.met (record { ranks = c.in_ok-ranks-in-Still.ranks.items; left = c.in_ok-left-in-Still.left.items })
+    c.in_ok-play.ensures.plays c.in_ok-play.ensures.remembers
+    (record { outcome = c.in_ok-ranks-in-Still.ensures; left = c.in_ok-left-in-Still.ensures }) c.in_ok-note-in-Still.ensures)
     (λ e. (e, refl))
 
 pub returns-in-Met-clause-on : goal.returns-in-Met-clause-on
