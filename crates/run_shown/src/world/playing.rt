@@ -4,10 +4,12 @@ ghost use Rattle.limits.specs.Limits.{most_ranks};
 ghost use Rattle.world_model.specs.World.{size};
 
 use crate::json::{Lines, List, Object};
+use crate::world::acts::{Outlook, act_object, outlook_of};
 use crate::world::determinants::determinant_object;
 use crate::world::frames::frame_object;
 use crate::world::head::{put_first, put_texts};
 use crate::world::names::names_of;
+use crate::world::parts::parts_object;
 use crate::world::ranks::{Known, rank_object};
 use limits::Heap;
 use matching::Line;
@@ -62,6 +64,7 @@ fn played(
     for index in 0..events.len() {
         let event = events[index];
         let shown = world.lines().len();
+        let outlook = stepping(world, event);
         let reply = world.apply(event)?;
         let mut object = Object::new(alloc);
         object.number("event", index as u64 + 1);
@@ -70,6 +73,7 @@ fn played(
         }
         put_event(alloc, &mut object, event, reply);
         put_changes(alloc, &mut object, known, world, event, reply);
+        put_act(alloc, &mut object, world, event, reply, outlook);
         put_lines(
             alloc,
             &mut object,
@@ -80,8 +84,17 @@ fn played(
     to.done()
 }
 
-// The words of the event and of its reply.
+// What the rank does with its next step, if the event is a step of it.
+fn stepping(world: &World<'_>, event: WorldEvent) -> Option<Outlook> {
+    let WorldEvent::Step { rank } = event else {
+        return None;
+    };
+    outlook_of(world, rank_of(world, rank)?)
+}
+
+// The event in words and by its parts, and its reply.
 fn put_event(alloc: Heap, object: &mut Object, event: WorldEvent, reply: Reply) {
+    object.object("parts", parts_object(alloc, event));
     let event = EventLine(event);
     object.made_text("text", format!(in alloc; "{event}"));
     let reply = ReplyLine(reply);
@@ -109,6 +122,26 @@ fn put_changes(
     }
     if let WorldEvent::Put { dest, .. } = event {
         put_frame(alloc, object, world, rank, dest);
+    }
+}
+
+// The act that a step made, if it made one.
+fn put_act(
+    alloc: Heap,
+    object: &mut Object,
+    world: &World<'_>,
+    event: WorldEvent,
+    reply: Reply,
+    outlook: Option<Outlook>,
+) {
+    let (Reply::Moved, Some(outlook)) = (reply, outlook) else {
+        return;
+    };
+    if !outlook.want.is_act() {
+        return;
+    }
+    if let Some(rank) = rank_of(world, changed_by(event)) {
+        object.object("act", act_object(alloc, world, rank, outlook));
     }
 }
 
