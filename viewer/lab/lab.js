@@ -8,7 +8,6 @@
 
 const PROGRAM = "program.rank";
 const EVENTS = "it.events";
-const OUTCOME = "it.outcome";
 
 // A worker gets the engine once, and then calls: it answers each by its number. What the program
 // writes to standard error meanwhile, such as the progress of a search, comes at once.
@@ -186,30 +185,54 @@ async function lead(words) {
 // ---- which events may happen at a step (docs/WORLDS.md): from the members of the world's objects
 
 /**
- * The events that aren't refused at a step, by rank: each with its text, what it is about, and
- * whether it is `again`: of a frame that has arrived before.
+ * The events that aren't refused at a step, by rank: each with its kind, its text, and what it is
+ * about. Frames that haven't arrived come first, so many of them, and then others, newest first; such
+ * an event is `later`, and it is `again` if its frame has arrived before.
  */
-function nextEvents(step) {
-  const frames = framesAt(step);
+function nextEvents(step, most = Infinity, others = Infinity) {
+  const flying = [...standingAt(world, step).flying];
   return world.steps[step].ranks.map((rank, number) => {
-    if (rank.phase === "down") {
-      return [{ text: `restart ${number}`, about: rank.image ? "from its image" : "from the beginning" }];
-    }
     const found = [];
-    const put = (text, about, more = {}) => found.push({ text, about, ...more });
-    put(`step ${number}`, wantsWords(rank.wants));
+    const put = (kind, numbers, about, more = {}) => found.push({ kind, text: [kind, ...numbers].join(" "), about, ...more });
+    if (rank.phase === "down") {
+      put("restart", [number], rank.image ? "from its image" : "from the beginning");
+      return found;
+    }
+    put("step", [number], wantsWords(rank.wants));
     for (const it of rank.next) {
-      put(`put ${number} ${it.destination}`, nextWords(it));
+      put("put", [number, it.destination], nextWords(it));
     }
     if (rank.phase === "running") {
       putGate(put, number, rank.waiting);
     }
-    for (const frame of frames.filter((it) => it.destination === number)) {
-      put(`arrive ${frame.source} ${number} ${frame.index}`, frameWords(frame), { again: frame.arrivals.length > 0 });
-    }
-    put(`crash ${number}`, "loses all but row and image", { harms: true });
+    const first = flying.filter((it) => it.destination === number).slice(0, most);
+    const arrive = (frame, more) => put("arrive", [frame.source, number, frame.index], frameWords(frame), more);
+    first.forEach((frame) => arrive(frame));
+    newestFor(number, step, others, new Set(first)).forEach((frame) => arrive(frame, { later: true, again: frame.arrivals.some((it) => it.at <= step) }));
+    put("crash", [number], "loses all but row and image", { harms: true });
     return found;
   });
+}
+
+/** The newest frames for a rank that were put up to a step, so many at most, and without these. */
+function newestFor(rank, step, most, without) {
+  const [all, found] = [world.framesFor[rank], []];
+  for (let index = countUpTo(all, step) - 1; index >= 0 && found.length < most; index -= 1) {
+    if (!without.has(all[index])) {
+      found.push(all[index]);
+    }
+  }
+  return found;
+}
+
+/** How many of these frames, which stand in the order in which they were put, were put up to a step. */
+function countUpTo(frames, step) {
+  let [low, high] = [0, frames.length];
+  while (low < high) {
+    const middle = (low + high) >> 1;
+    [low, high] = frames[middle].put <= step ? [middle + 1, high] : [low, middle];
+  }
+  return low;
 }
 
 /** What may happen at the gate of a rank that doesn't replay. */
@@ -220,16 +243,16 @@ function putGate(put, number, waiting) {
   const effect = waiting.findIndex(isEffect);
   const unstored = waiting.slice(0, effect < 0 ? waiting.length : effect).find((it) => it.stored === false);
   if (unstored) {
-    put(`store ${number}`, determinantWords(unstored));
+    put("store", [number], determinantWords(unstored));
   }
   if (first && first.stored === true) {
-    put(`ack ${number}`, determinantWords(first));
+    put("ack", [number], determinantWords(first));
   }
   if (first && isEffect(first)) {
-    put(`release ${number}`, determinantWords(first));
+    put("release", [number], determinantWords(first));
   }
   if (!first) {
-    put(`image ${number}`, "puts all it knows on its shelf");
+    put("image", [number], "puts all it knows on its shelf");
   }
 }
 
@@ -249,7 +272,7 @@ function showActs() {
     element("acts").replaceChildren(make("p", { class: "empty" }, "The program has a fault: mend it to go on. What stands below is the last one without."));
     return;
   }
-  element("acts").replaceChildren(...nextEvents(now).map((found, number) => rowOf(found, number)));
+  element("acts").replaceChildren(...nextEvents(now, MOST_BUTTONS, MOST_FRAMES).map(rowOf));
   // (the focus stays at its event, or else at its rank)
   if (place >= 0) {
     const again = element("acts").querySelector(`[data-event="${focused}"]`);
@@ -259,14 +282,12 @@ function showActs() {
 
 function rowOf(found, number) {
   const { phase } = world.steps[now].ranks[number];
-  const fresh = found.filter((it) => it.text.startsWith("arrive ") && !it.again).slice(0, MOST_BUTTONS);
-  const shown = found.filter((it) => !it.text.startsWith("arrive ") || fresh.includes(it));
-  const rest = found.filter((it) => !shown.includes(it));
+  const rest = found.filter((it) => it.later);
   const row = make("div", { class: "row", role: "group", "aria-label": `Rank ${number}` },
-    make("h3", {}, `Rank ${number}`, make("small", {}, phase)), ...shown.map(buttonOf));
+    make("h3", {}, `Rank ${number}`, make("small", {}, phase)), ...found.filter((it) => !it.later).map(buttonOf));
   if (rest.length > 0) {
     const list = make("select", { "aria-label": `More frames for rank ${number}` },
-      ...rest.reverse().slice(0, MOST_FRAMES).map((it) => make("option", { value: it.text }, `${it.text}: ${it.about}${it.again ? " (again)" : ""}`)));
+      ...rest.map((it) => make("option", { value: it.text }, `${it.text}: ${it.about}${it.again ? " (again)" : ""}`)));
     const arrive = make("button", { type: "button" }, "arrives");
     arrive.addEventListener("click", () => happen(list.value));
     row.append(make("span", { class: "later" }, list, arrive));
@@ -478,71 +499,25 @@ function showOutcomes(found, program, count, took) {
 
 /** Opens a run of an outcome as a world. */
 async function openOutcome(outcome, program, count) {
-  if (source() !== program || String(ranks()) !== count) {
-    element("busy").textContent = "the program isn't the one whose outcomes these are";
-    return;
-  }
-  const done = await ftmpi(["explore", "--events", String(outcome), "--ranks", count, PROGRAM]);
+  const done = await ftmpi(["explore", "--events", String(outcome), "--ranks", count, PROGRAM], { [PROGRAM]: program });
   if (done.out === "") {
     element("busy").textContent = done.err.trim();
-    return;
+  } else {
+    await openEvents(events(done.out), program, Number(count));
   }
-  const opened = events(done.out);
-  if (countOf(lines()) > 0) {
+}
+
+/** Opens events of a program as a world, as another future if there is one. Shows their end. */
+async function openEvents(opened, program, count) {
+  if (source() !== program || ranks() !== count) {
+    element("busy").textContent = "the program isn't the one whose events these are";
+  } else if (countOf(lines()) > 0) {
     futures.push({ lines: opened, at: 0 });
     current = futures.length - 1;
     await playAll(opened.length);
   } else {
     await startWith(opened, opened.length);
   }
-}
-
-/** What the ranks did up to the step that is shown, in the form of an outcome. */
-function outcomeOf(step) {
-  const after = world.steps[step].ranks;
-  return after.flatMap((rank, number) => {
-    // (of an act that was made several times the last one counts; what was lost isn't there)
-    const acts = new Map();
-    for (const act of world.steps.slice(0, step + 1).flatMap((it) => it.acts)) {
-      if (act.rank === number && act.clock <= Math.max(rank.clock || 0, rank.passed)) {
-        acts.set(act.clock, act);
-      }
-    }
-    const said = [...acts.values()].sort((one, other) => one.clock - other.clock).flatMap((act) => outcomeLine(act));
-    const { kind, number: fault } = rank.wants || {};
-    const end = kind === "halted" ? "halted" : kind === "fault" ? `fault ${fault}` : "unfinished";
-    return [...said, `end ${number} ${end}`];
-  });
-}
-
-function outcomeLine({ rank, clock, kind, value, determinant }) {
-  if (kind === "print") {
-    return [`print ${rank} at ${clock} ${value}`];
-  }
-  if (!determinant || kind === "send") {
-    return [];
-  }
-  const { kind: of, source: from, sent_at: sent } = determinant;
-  return [of.startsWith("miss") ? `miss ${rank} at ${clock}` : `${of === "hit" ? "hit" : "recv"} ${rank} at ${clock} from ${from} at ${sent}`];
-}
-
-function askOutcome() {
-  const text = make("textarea", { id: "outcome", rows: "6", spellcheck: "false", "aria-label": "Outcome" });
-  text.value = asText(outcomeOf(now));
-  const ask = make("button", { type: "button", id: "ask", class: "main" }, "Judge it");
-  const said = make("div", { id: "judged", role: "status" });
-  ask.addEventListener("click", async () => {
-    const done = await ftmpi(["judge", "--trace", "--ranks", String(ranks()), PROGRAM, OUTCOME], { ...files(), [OUTCOME]: text.value });
-    said.replaceChildren(...judgement(done));
-  });
-  answer("Judge an outcome", make("p", {}, "Does some run without crashes have this outcome? These are the receptions, probes, lines and "
-    + "ends of the world at the step that is shown. Change a number, and judge that."), text, make("div", { class: "bar" }, ask), said);
-}
-
-/** What `ftmpi judge --trace` says: yes with a run, or no with the place. */
-function judgement({ out, err }) {
-  const [word, ...rest] = (out || err).trimEnd().split("\n");
-  return [make("p", { id: "verdict", class: word === "yes" ? "yes" : "no" }, word), make("pre", {}, rest.join("\n"))];
 }
 
 async function showC() {
