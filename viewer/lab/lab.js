@@ -265,7 +265,7 @@ function showActs() {
   const [focused, row] = [active.dataset.event, active.closest(".row")];
   const place = [...element("acts").children].indexOf(row);
   const isStale = document.body.classList.contains("stale");
-  for (const id of ["to-end", "catch-up", "explore", "judge", "canonical", "to-c"]) {
+  for (const id of ["to-end", "catch-up", "explore", "judge", "runs", "canonical", "to-c"]) {
     element(id).disabled = isStale;
   }
   if (isStale || !world) {
@@ -672,6 +672,7 @@ async function beginLab() {
   element("files").hidden = true;
   element("origin").textContent = stored.origin;
   listChoices();
+  offerRuns();
   const click = (id, does) => element(id).addEventListener("click", does);
   element("choice").addEventListener("change", () => choose(element("choice").value));
   element("count").addEventListener("change", typed);
@@ -682,6 +683,7 @@ async function beginLab() {
   click("anew", () => startWith([]));
   click("explore", explore);
   click("judge", askOutcome);
+  click("runs", askRuns);
   click("canonical", canonical);
   click("to-c", showC);
   click("as-events", showEventsText);
