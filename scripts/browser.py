@@ -130,8 +130,10 @@ class Browser:
 
     def press(self, key: str) -> None:
         """Presses a key."""
-        for kind in ("rawKeyDown", "keyUp"):
-            self.call("Input.dispatchKeyEvent", type=kind, key=key, code=key, windowsVirtualKeyCode=KEYS[key])
+        # (a key without a text does nothing to a button)
+        text = {"text": TEXTS[key]} if key in TEXTS else {}
+        self.call("Input.dispatchKeyEvent", type="keyDown" if text else "rawKeyDown", key=key, code=key, windowsVirtualKeyCode=KEYS[key], **text)
+        self.call("Input.dispatchKeyEvent", type="keyUp", key=key, code=key, windowsVirtualKeyCode=KEYS[key])
 
     def go(self, step: int) -> None:
         """Goes to a step by the address."""
@@ -149,4 +151,5 @@ class Browser:
             file.write(base64.b64decode(data))
 
 
-KEYS = {"ArrowLeft": 37, "ArrowRight": 39, "Home": 36, "End": 35}
+KEYS = {"ArrowLeft": 37, "ArrowRight": 39, "Home": 36, "End": 35, "Tab": 9, "Enter": 13}
+TEXTS = {"Enter": "\r"}
