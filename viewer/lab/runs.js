@@ -5,7 +5,7 @@
 const SCRIPT = "it.script";
 // What decides who has the next turn, by the words of `--schedule`, with what it means.
 const POLICIES = [
-  ["in-turn", "one rank after another"],
+  ["round-robin", "one rank after another"],
   ["uniform", "any rank, each as likely"],
   ["starve", "one rank is held for long, and then another"],
   ["run-on", "a rank goes on until it has nothing to do"],
