@@ -39,7 +39,7 @@ map_back f (x ∷ xs) zero y e = (x, (zero, refl), cc)
 map_back f (x ∷ xs) (suc i) y e = (let more = map_back f xs i y e in (more.0, (suc more.1.0, more.1.1), more.2))
 
 -- an outcome at a place, with leftovers of it, is an ending
-pub ending_there : (xs : List OutcomeValue) (i : ℕ) (x : OutcomeValue) (l : List Leftover) → slice_get xs i ≡ Some x → IsAmong x.left l
+ending_there : (xs : List OutcomeValue) (i : ℕ) (x : OutcomeValue) (l : List Leftover) → slice_get xs i ≡ Some x → IsAmong x.left l
     → IsAmong (endings_of xs) (record { ranks = x.ranks; left = l })
 ending_there [] i x l e a = absurd cc
 ending_there (y ∷ xs) zero x l e a =
@@ -62,7 +62,7 @@ pub record Stands (xs : List OutcomeValue) (e : Ending) : Type 0 where
   pub left : IsAmong outcome.left e.left
 
 -- and each ending is that of one
-pub ending_back : (xs : List OutcomeValue) (e : Ending) → IsAmong (endings_of xs) e → Stands xs e
+ending_back : (xs : List OutcomeValue) (e : Ending) → IsAmong (endings_of xs) e → Stands xs e
 ending_back [] e a = absurd (among_none e a)
 ending_back (y ∷ xs) e a = go (λ b. ending_back xs e b) (either_at (endings_with y.ranks y.left) (endings_of xs) a.0 e a.1)
   where
@@ -156,7 +156,7 @@ seen_set (y ∷ xs) zero x l e = (let same : y ≡ x = cc in ap (λ (z : Outcome
 seen_set (y ∷ xs) (suc i) x l e = ap (λ (z : List (List RankOutcome)). y.ranks ∷ z) (seen_set xs i x l e)
 
 -- the ending is noted
-pub noted_left : (place : ℕ) (o : List RankOutcome) (l : List Leftover) (old new : List OutcomeValue) → slice_get (rank_outcomes old) place ≡ Some o
+noted_left : (place : ℕ) (o : List RankOutcome) (l : List Leftover) (old new : List OutcomeValue) → slice_get (rank_outcomes old) place ≡ Some o
     → AddsLeft place l old new → Notes (endings_of old) (record { ranks = o; left = l }) (endings_of new)
 unfolding with_left
 noted_left place o l old new at adds = go adds.added
@@ -213,7 +213,7 @@ noted_left place o l old new at adds = go adds.added
         only e s (inr it') = inl (ending_of old s.place s.outcome e it'.1 s.ranks s.left)
 
 -- and all is as it has to be
-pub found_left : (place : ℕ) (l : List Leftover) (old new : List OutcomeValue) (m : BTreeMap ℕ ℕ) → AreFound old m → AddsLeft place l old new
+found_left : (place : ℕ) (l : List Leftover) (old new : List OutcomeValue) (m : BTreeMap ℕ ℕ) → AreFound old m → AddsLeft place l old new
     → AreFound new m
 found_left place l old new m found adds = go adds.added
   where

@@ -1,10 +1,9 @@
 -- Outcomes that were found, and what is seen of their ranks and noted of their choices.
-use Rattle.std.proofs.Common.{◌≡◌, ◌≢◌, ℕ, zero, suc, ◌<◌, List, [], ◌∷◌, ◌++◌, Some, length, slice_get, refl, ap, ◌∙◌}
+use Rattle.std.proofs.Common.{◌≡◌, ℕ, zero, suc, List, [], ◌∷◌, ◌++◌, Some, slice_get, refl, ap, ◌∙◌}
 use Rattle.std.specs.Prelude.{option_map}
-use Rattle.std.proofs.lemmas.Option.{slice_get-map, slice_get_within}
+use Rattle.std.proofs.lemmas.Option.{slice_get-map}
 use Rattle.audit.specs.FinalRuns.Maximal.{RankOutcome}
 use Rattle.explore.specs.Explored.{OutcomeValue, noted_choices, rank_outcomes}
-use Rattle.explore.specs.Outcomes.{IsAmong}
 
 -- what is seen of an outcome at a place stands there
 pub seen_at : (xs : List OutcomeValue) (i : ℕ) (x : OutcomeValue) → slice_get xs i ≡ Some x → slice_get (rank_outcomes xs) i ≡ Some x.ranks
@@ -25,15 +24,3 @@ seen_back (x ∷ xs) (suc i) o e = seen_back xs i o e
 pub seen_push : (xs : List OutcomeValue) (x : OutcomeValue) → rank_outcomes (xs ++ x ∷ []) ≡ rank_outcomes xs ++ x.ranks ∷ []
 seen_push [] x = refl
 seen_push (y ∷ xs) x = ap (λ (r : List (List RankOutcome)). y.ranks ∷ r) (seen_push xs x)
-
--- an outcome at a place of which just that is seen is among them
-pub seen_among : (xs : List OutcomeValue) (i : ℕ) (x : OutcomeValue) (o : List RankOutcome) → slice_get xs i ≡ Some x → x.ranks ≡ o
-    → IsAmong (rank_outcomes xs) o
-seen_among xs i x o there same = (i, seen_at xs i x there ∙ ap (λ r. Some r) same)
-
--- where it is seen of none, it isn't among them
-pub seen_nowhere : (xs : List OutcomeValue) (o : List RankOutcome)
-    → ((i : ℕ) (x : OutcomeValue) → i < length xs → slice_get xs i ≡ Some x → x.ranks ≢ o) → IsAmong (rank_outcomes xs) o → ⊥
-seen_nowhere xs o none a =
-    let x = seen_back xs a.0 o a.1 in
-    none a.0 x.0 (slice_get_within xs a.0 x.0 x.1) x.1 x.2
