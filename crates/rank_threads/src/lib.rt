@@ -42,6 +42,6 @@ mod turn;
 pub use costs::{Costs, LogSize};
 pub use hold::Hold;
 pub use playing::{Played, play};
-pub use report::{Cause, Certified, Report, RunFault, certify};
+pub use report::{Cause, Certified, Report, RunFault, certify, certify_in_turn};
 pub use running::{RunLimits, certified_run, run};
 pub use stage::Stage;

@@ -5,6 +5,7 @@ ghost use Rattle.limits.specs.Limits.{most_ranks};
 ghost use Rattle.audit.specs.FinalRuns.Final.{IsConfirmed};
 ghost use Rattle.audit.specs.Reachable.{IsReachable};
 ghost use Rattle.event_logger.specs.Desks.{AreDesks};
+ghost use Rattle.ports.specs.Console.{IsConsole};
 ghost use Rattle.rank_threads.specs.Causes.{AreCaused, uncaused_from};
 ghost use Rattle.rank_threads.specs.Faults.{crashes_from, fault_of, is_memory, lacked_memory, lowest_from};
 ghost use Rattle.rank_threads.specs.Report.{IsMadeOf, IsOfDesks, IsOfLives, IsPlayed, IsReport};
@@ -15,7 +16,7 @@ use crate::life::Account;
 use crate::playing::Played;
 use crate::report::{Certified, Report, RunFault};
 use crate::running::RunLimits;
-use audit::final_runs::confirmed_run_on;
+use audit::final_runs::{confirmed_run, confirmed_run_on};
 use audit::{End, Outcome};
 use event_logger::{Counts, Desk, Ledger, Logger};
 use limits::Heap;
@@ -30,13 +31,13 @@ use std::thread::Threads;
 /// of the play, once it is confirmed, with the run that confirms it. The report is
 /// of these desks, and of lives by this script, which clauses alone read. Threads of
 /// `rt` go through what ranks did between two acts side by side.
-#[tactic(auto, using(crate::proofs::ReportLemmas::report_laws, crate::proofs::CauseLemmas::caused_report))]
+#[tactic(auto, using(crate::proofs::ReportLemmas::is_within))]
 pub fn certify<'p, R: Threads + Sync>(
     rt: &R,
     alloc: Heap,
     program: &'p Program,
     ranks: u8,
-    _script: &Script,
+    script: &Script,
     limits: RunLimits,
     played: Played,
     logger: Logger,
@@ -47,13 +48,70 @@ pub fn certify<'p, R: Threads + Sync>(
     requires ranks { logger.ranks ≡ ranks }
     requires desks { AreDesks logger.table desks.items }
     requires a_desk_each { vec_len desks ≡ ranks }
-    requires played { IsPlayed program.now ranks _script.now logger desks.items played }
+    requires played { IsPlayed program.now ranks script.now logger desks.items played }
     ensures report { IfOk result (λ certified. IsReport program.entry.now ranks certified.report) }
     ensures within { IfOk result (λ certified. IsReachable program.entry.now ranks certified.report.outcome limits.steps) }
     ensures run { IfOk result (λ certified. IsConfirmed program.entry.now ranks certified.report.outcome limits.steps certified.run) }
     ensures history { IfOk result (λ certified. IsOfDesks ranks desks.items certified.report) }
-    ensures lives { IfOk result (λ certified. IsOfLives program.entry.now ranks _script.now limits.steps logger desks.items certified.report) }
+    ensures lives { IfOk result (λ certified. IsOfLives program.entry.now ranks script.now limits.steps logger desks.items certified.report) }
     ensures unfinished { IfOk result (λ certified. AreCaused limits.steps certified.report) }
+{
+    let report = report_of(alloc, program, ranks, script, limits, played, logger, desks)?;
+    let run = confirmed_run_on(rt, alloc, program, ranks, &report.outcome, limits.steps)?;
+    Ok(Certified { report, run })
+}
+
+/// The same, on the caller's thread alone.
+#[tactic(auto, using(crate::proofs::ReportLemmas::is_within))]
+pub fn certify_in_turn<'p>(
+    alloc: Heap,
+    program: &'p Program,
+    ranks: u8,
+    script: &Script,
+    limits: RunLimits,
+    played: Played,
+    logger: Logger,
+    desks: Vec<Desk, Heap>,
+) -> Result<Certified<'p>, RunFault>
+    requires some { 1 ≤ ranks }
+    requires few { ranks ≤ most_ranks }
+    requires ranks { logger.ranks ≡ ranks }
+    requires desks { AreDesks logger.table desks.items }
+    requires a_desk_each { vec_len desks ≡ ranks }
+    requires played { IsPlayed program.now ranks script.now logger desks.items played }
+    ensures report { IfOk result (λ certified. IsReport program.entry.now ranks certified.report) }
+    ensures within { IfOk result (λ certified. IsReachable program.entry.now ranks certified.report.outcome limits.steps) }
+    ensures run { IfOk result (λ certified. IsConfirmed program.entry.now ranks certified.report.outcome limits.steps certified.run) }
+    ensures history { IfOk result (λ certified. IsOfDesks ranks desks.items certified.report) }
+    ensures lives { IfOk result (λ certified. IsOfLives program.entry.now ranks script.now limits.steps logger desks.items certified.report) }
+    ensures unfinished { IfOk result (λ certified. AreCaused limits.steps certified.report) }
+{
+    let report = report_of(alloc, program, ranks, script, limits, played, logger, desks)?;
+    let run = confirmed_run(alloc, program, ranks, &report.outcome, limits.steps)?;
+    Ok(Certified { report, run })
+}
+
+// The report of a play, whose logger is closed, unless a rank met a fault. No run confirms it yet.
+#[tactic(auto, using(crate::proofs::ReportLemmas::report_laws, crate::proofs::CauseLemmas::caused_report))]
+fn report_of(
+    alloc: Heap,
+    _program: &Program,
+    ranks: u8,
+    _script: &Script,
+    limits: RunLimits,
+    played: Played,
+    logger: Logger,
+    desks: Vec<Desk, Heap>,
+) -> Result<Report, RunFault>
+    requires few { ranks ≤ most_ranks }
+    requires ranks { logger.ranks ≡ ranks }
+    requires desks { AreDesks logger.table desks.items }
+    requires a_desk_each { vec_len desks ≡ ranks }
+    requires played { IsPlayed _program.now ranks _script.now logger desks.items played }
+    ensures console { IfOk result (λ report. IsConsole report.outcome.lines) }
+    ensures history { IfOk result (λ report. IsOfDesks ranks desks.items report) }
+    ensures lives { IfOk result (λ report. IsOfLives _program.now ranks _script.now limits.steps logger desks.items report) }
+    ensures unfinished { IfOk result (λ report. AreCaused limits.steps report) }
 {
     let ledger = logger.close(alloc, desks)?;
     if let Some(fault) = fault_of(played.accounts.as_slice()) {
@@ -62,9 +120,7 @@ pub fn certify<'p, R: Threads + Sync>(
     if let Some(rank) = find_uncaused(limits.steps, played.accounts.as_slice(), &ledger) {
         return Err(RunFault::NoCause(rank));
     }
-    let report = make_report(alloc, limits, played, ledger)?;
-    let run = confirmed_run_on(rt, alloc, program, ranks, &report.outcome, limits.steps)?;
-    Ok(Certified { report, run })
+    Ok(make_report(alloc, limits, played, ledger)?)
 }
 
 /// Why the run has no report: refused memory, or else the fault of the lowest

@@ -1,25 +1,7 @@
-use Rattle.std.proofs.Common.{rules, ◌≡◌, None, sym, arith}
-use Rattle.rank_threads.proofs.ReportLemmas.{is_report, of_desks, of_lives}
-use Rattle.rank_threads.specs.Faults.{fault_of}
+use Rattle.rank_threads.proofs.ReportLemmas.{is_report}
 use Rattle.rank_threads.proofs.report.reporting.certify.Goals as goal
 
 -- the run that was found confirms the report, whose lines are the console's
 pub returns-clause-report : goal.returns-clause-report
 returns-clause-report g c =
-    is_report c.args.program.now c.args.ranks c.args.limits.steps _ _ c.in_ok-run.ensures.ok
-    (rw (c.in_ok-report.ensures.made.lines) c.requires.played.console)
-
--- the ledger is that of these desks
-pub returns-clause-history : goal.returns-clause-history
-returns-clause-history g c =
-    of_desks c.args.ranks c.args.logger c.args.desks.items c.in_ok-ledger.ledger _ c.requires.desks
-    (omega (arith, c.args.desks.ok.0, c.requires.a_desk_each)) (rw (sym c.requires.ranks) c.in_ok-ledger.ensures.rows) c.in_ok-ledger.ensures.counts
-    c.in_ok-report.ensures.made.rows c.in_ok-report.ensures.made.calls
-
--- the lives are those of the play
-pub returns-clause-lives : goal.returns-clause-lives
-returns-clause-lives g c =
-    let none : fault_of c.args.played.accounts.items ≡ None = search rules in
-    of_lives c.args.program.now c.args.ranks c.args._script.now c.args.limits.steps c.args.logger c.args.desks.items _ c.args.played _ c.requires.played none
-    c.in_ok-report.ensures.made.ends c.in_ok-report.ensures.made.rows c.in_ok-report.ensures.made.causes c.in_ok-report.ensures.made.crashes c.in_ok-report.ensures.made.unused
-    c.in_ok-report.ensures.made.costs
+    is_report c.args.program.now c.args.ranks c.args.limits.steps _ _ c.in_ok-run.ensures.ok c.in_ok-report.ensures.console
