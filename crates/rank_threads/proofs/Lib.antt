@@ -16,6 +16,7 @@ mod ReleasingLemmas
 mod ReportLemmas
 mod RestingLemmas
 mod RowLemmas
+mod SeatLemmas
 mod SeatingLemmas
 mod StepLaws
 mod TakingLemmas

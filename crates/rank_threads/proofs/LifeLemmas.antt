@@ -24,20 +24,19 @@ by_end (ending.Left reason) is_spent p crashes = refl
 
 -- a life that began at a station and ended so was lived, and is counted by the end
 pub has_lived : (text : List ℕ) (program : ProgramValue) (old new : Station) (begun ended : Life) (how : Ending)
-    → IsProgramOf text program → begun.kit.tally.fault ≡ None → (begun.kit.tally.fault ≡ None → Begins program old.down old.row begun.node.phase)
-    → begun.kit.plan ≡ old.kit.plan → (begun.kit.tally.fault ≡ None → begun.kit.tally ≡ old.kit.tally)
+    → IsProgramOf text program → Begins program old.down old.row begun.node.phase → begun.kit.plan ≡ old.kit.plan → begun.kit.tally ≡ old.kit.tally
     → SamePlace begun ended → UsesLines how begun.kit.plan ended.kit.plan → IsKilledAt how ended.node.phase
     → ended.kit.tally.crashes ≡ crashes_after how begun.kit.tally.crashes
     → new.end ≡ end_after how ended.kit.tally.is_spent ended.node.phase
     → new.down ≡ stable_in ended.node.phase → new.kit.plan ≡ ended.kit.plan → new.kit.tally ≡ ended.kit.tally
     → new.stood ≡ stood_after how ended.node.phase → HasLived text old new
-has_lived text program old new begun ended how reads well begins plan counts same lines killed counted leaves down left tally stands none = record {
+has_lived text program old new begun ended how reads begins plan counts same lines killed counted leaves down left tally stands none = record {
   program = program;
   reads = reads;
   begun = begun;
-  begins = begins well;
+  begins = begins;
   plan = plan;
-  counts = counts well;
+  counts = counts;
   ended = ended;
   same = same;
   how = how;
@@ -51,7 +50,7 @@ has_lived text program old new begun ended how reads well begins plan counts sam
   steps = ap (λ t. t.steps) tally;
   spent = ap (λ t. t.is_spent) tally;
   crashes =
-      ap (λ t. t.crashes) tally ∙ counted ∙ ap (λ t. crashes_after how t.crashes) (counts well)
+      ap (λ t. t.crashes) tally ∙ counted ∙ ap (λ t. crashes_after how t.crashes) counts
       ∙ by_end how ended.kit.tally.is_spent ended.node.phase old.kit.tally.crashes
       ∙ ap (λ e. crashes_by e old.kit.tally.crashes) (sym leaves);
 }

@@ -4,6 +4,8 @@ pub mod Lives
 pub mod NodeSteps
 pub mod Releasing
 pub mod Keeping
+pub mod Seats
+pub mod Following
 pub mod Used
 pub mod Clearing
 pub mod Stations
@@ -11,6 +13,7 @@ pub mod Seating
 pub mod Report
 pub mod Kills
 pub mod Stage
+pub mod Playing
 pub mod Putting
 pub mod Resting
 pub mod Tally

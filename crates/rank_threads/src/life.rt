@@ -14,7 +14,9 @@ mod keeper;
 mod kit;
 mod living;
 mod parcel;
+mod rounds;
 mod row;
+mod seat;
 mod seating;
 mod station;
 mod stood;
@@ -25,7 +27,9 @@ pub use crew::keep_all;
 pub use ending::{KillToken, Why, kill_of};
 use kit::Kit;
 pub use parcel::Parcel;
+pub use rounds::keep_by_turns;
 pub use row::Row;
+pub use seat::Seat;
 pub use seating::{Account, Remains, Unseated, seat_all, unseat_all};
 
 /// A rank in one life. It never leaves its thread, and must be spent.

@@ -1,5 +1,5 @@
-//! All ranks are told to leave, as one of them can't go on.
-ghost use Rattle.std.specs.Prelude.{◌≡◌, Some, IfSome};
+//! All ranks are told to leave, as one of them can't go on, or as all turns are used up.
+ghost use Rattle.std.specs.Prelude.{◌≡◌, ◌≤◌, Some, IfSome};
 
 use crate::shared::Shared;
 use crate::tally::Tally;
@@ -20,6 +20,24 @@ pub struct Stopped<'a> {
     flag: OnceToken<'a, ()>,
 }
 
+/// The turns of a schedule are used up, and not all ranks have left. It must be
+/// spent, and only `TurnsFault::of` can: such a run has no report.
+pub struct OutOfTurns(());
+
+impl OutOfTurns {
+    /// So many turns were made, of at most so many.
+    pub fn after(_made: u64, _most: u64) -> OutOfTurns
+        requires { _most ≤ _made }
+    {
+        OutOfTurns(())
+    }
+
+    /// Why such a run has no report.
+    pub fn spend(self) {
+        let OutOfTurns(()) = self;
+    }
+}
+
 impl<'a, H> Shared<'a, H> {
     /// All ranks are to leave, as one can't go on. The call that notes a fault of
     /// a rank takes what this answers, which must be spent.
@@ -30,6 +48,15 @@ impl<'a, H> Shared<'a, H> {
         let stop = self.stop;
         let flag = stop.init(rt, || ());
         Stop { flag, why }
+    }
+
+    /// All ranks are to leave, as the turns of their schedule are used up.
+    pub fn end_all<W: Wait>(&self, rt: &W, _: &OutOfTurns) -> Stopped<'a>
+        ensures set { result.flag.of ≡ self.now.stop.now.id }
+    {
+        let stop = self.stop;
+        let flag = stop.init(rt, || ());
+        Stopped { flag }
     }
 
     /// Whether all ranks are to leave.

@@ -3,6 +3,7 @@
 ghost use Rattle.std.specs.Prelude.{◌≡◌, ◌≢◌, Some, None};
 ghost use Rattle.event_logger.specs.Desks.{own_row};
 ghost use Rattle.rank_node.specs.declared.fault.NodeFault.TheVariants.{Memory};
+ghost use Rattle.rank_threads.specs.Following.{Follows, station_in};
 ghost use Rattle.rank_threads.specs.Keeping.{HasLived, IsToldToLeave, Lives};
 ghost use Rattle.rank_threads.specs.Stations.{SameStation, HasRow};
 ghost use Rattle.rank_threads.specs.Tally.{begun_again};
@@ -38,15 +39,36 @@ pub fn keep<'l, R: Threads + Wait + Sync + Copy + Send, H: Hold + Sync>(
         if let Some(stopped) = shared.stopped() {
             return leave_unfinished(station, stopped);
         }
-        station = play_life(rt, shared, station);
-        if station.end.is_some() {
-            return station;
-        }
-        if station.kit.tally.fault.is_some() {
-            return give_up(station);
+        match follow(&rt, shared, spawn_life(rt, shared, station)) {
+            Next::Life(next) => station = next,
+            Next::Gone(gone) => return gone,
         }
     }
     unreachable!()
+}
+
+/// What follows a life. It must be spent.
+pub enum Next<'l> {
+    /// Another life, which begins at this station.
+    Life(Station<'l>),
+    /// Nothing: the rank lives no more.
+    Gone(Station<'l>),
+}
+
+/// What follows a life from which the rank came back so. Where it crashed, its row
+/// is fetched for the next life; it is given up if it has met a fault.
+pub fn follow<'l, W: Wait, H>(rt: &W, shared: &Shared<'_, H>, station: Station<'l>) -> Next<'l>
+    ensures follows { Follows shared.now.text.now station.entry result }
+    ensures same { SameStation station.entry (station_in result) }
+{
+    if station.end.is_some() {
+        return Next::Gone(station);
+    }
+    let station = fetch_row(rt, shared, station);
+    if station.kit.tally.fault.is_some() {
+        return Next::Gone(give_up(station));
+    }
+    Next::Life(station)
 }
 
 // A rank that has a fault lives no more, and keeps it.
@@ -60,32 +82,14 @@ fn give_up<'l>(station: Station<'l>) -> Station<'l>
     station
 }
 
-// All were told to leave, so the rank lives no more.
-fn leave_unfinished<'l>(station: Station<'l>, _: Stopped<'_>) -> Station<'l>
+/// All were told to leave, so the rank lives no more.
+pub fn leave_unfinished<'l>(station: Station<'l>, _: Stopped<'_>) -> Station<'l>
     ensures told { IsToldToLeave station.entry result }
     ensures same { SameStation station.entry result }
 {
     let mut station = station;
     station.end = Some(End::Unfinished);
     station
-}
-
-// A life, and the row for the next one where the rank is to live on.
-#[tactic(auto, using(crate::proofs::LifeLemmas::lived_on))]
-fn play_life<'l, R: Threads + Wait + Sync + Copy + Send, H: Hold + Sync>(
-    rt: R,
-    shared: &Shared<'_, H>,
-    station: Station<'l>,
-) -> Station<'l>
-    ensures row { result.end ≡ None → result.kit.tally.fault ≡ None → HasRow result }
-    ensures lived { HasLived shared.now.text.now station.entry result }
-    ensures same { SameStation station.entry result }
-{
-    let station = spawn_life(rt, shared, station);
-    if station.end.is_some() {
-        return station;
-    }
-    fetch_row(&rt, shared, station)
 }
 
 // The frames in the lanes into the rank are dropped, and its row is fetched.

@@ -1,29 +1,32 @@
-//! A rank's life, turn by turn.
-ghost use Rattle.std.specs.Prelude.{◌≡◌, true, false, Some, None};
-ghost use Rattle.rank_threads.specs.Endings.{IsKilledAt, crashes_after, is_at_rest};
+//! A rank's life, turn by turn. Whoever schedules ranks calls `live`: a thread of
+//! their own does it again and again, and `rounds` once a turn.
+ghost use Rattle.std.specs.Prelude.{◌≡◌, ℕ, List, true, false, Some, None};
+ghost use Rattle.rank_language.specs.Correct.{IsProgramOf};
+ghost use Rattle.rank_node.specs.Phases.{settled_in};
 ghost use Rattle.rank_threads.specs.Keeping.{HasLived};
-ghost use Rattle.rank_threads.specs.Lives.{SamePlace};
+ghost use Rattle.rank_threads.specs.Lives.{SameLife, SamePlace, SamePlan};
 ghost use Rattle.rank_threads.specs.Phases.{NoneWaits};
+ghost use Rattle.rank_threads.specs.Seats.{IsOverAt, IsSeat, KeepsSeat, SeatIsSettled, UsesBy, crashes_in, rests};
 ghost use Rattle.rank_threads.specs.Stations.{SameStation, SameRest};
-ghost use Rattle.rank_threads.specs.Used.{UsesLines};
 
 use super::ending::{Ending, Why, end_life};
+use super::seat::{Seat, put, settle_seat};
 use super::station::Station;
 use super::waiting::Patience;
 use crate::hold::Hold;
 use crate::life::Life;
 use crate::shared::Shared;
-use crate::stop::Stop;
-use crate::turn::{After, begin, finish, settle};
+use crate::stop::{Stop, Stopped};
+use crate::turn::{After, TurnStart, begin, finish};
 use audit::End;
 use rank_language::Program;
 use rank_node::NodeFault;
+use std::mem::replace;
 use std::sync::Wait;
 
-/// Plays a life, until the rank crashes or leaves. The rank reads the program
-/// for itself: all that a crash loses is of this thread alone. Where it can't
-/// begin, or all were told to leave, it makes no turn.
-#[tactic(auto, using(crate::proofs::LifeLemmas::met_fault))]
+/// Plays a life on a thread of its own, until the rank crashes or leaves. The rank
+/// reads the program for itself: all that a crash loses is of this thread alone.
+/// Where it can't begin, or all were told to leave, it makes no turn.
 pub fn run_life<'l, W: Wait, H: Hold>(
     rt: &W,
     shared: &Shared<'_, H>,
@@ -36,53 +39,169 @@ pub fn run_life<'l, W: Wait, H: Hold>(
     let Ok(program) = Program::parse(shared.alloc, shared.text) else {
         return refuse_life(station, shared.stop_all(rt, NodeFault::Memory));
     };
-    let life = station.begin(rt, shared, &program);
-    if life.kit.tally.fault.is_some() {
-        return life.leave(Some(End::Unfinished), false);
-    }
-    let (life, ended) = make_turns(rt, shared, life);
-    end_life(life, ended)
-}
-
-// Turns, until the rank is killed or leaves.
-#[tactic(auto, using(crate::proofs::PhaseLaws::stays_settled, crate::proofs::UsedLines::line_laws))]
-fn make_turns<'p, 'l, 's, W: Wait, H: Hold>(
-    rt: &W,
-    shared: &Shared<'s, H>,
-    life: Life<'p, 'l>,
-) -> (Life<'p, 'l>, Ending<'s>)
-    ensures at { IsKilledAt result.1 result.0.node.phase }
-    ensures lines { UsesLines result.1 life.entry.kit.plan result.0.kit.plan }
-    ensures crashes { result.0.kit.tally.crashes ≡ crashes_after result.1 life.entry.kit.tally.crashes }
-    ensures left { is_at_rest result.1 ≡ true → result.0.kit.tally.fault ≡ None → result.0.kit.tally.is_refused ≡ false → NoneWaits result.0.node.phase }
-    ensures same { SamePlace life.entry result.0 }
-{
-    let mut life = life;
+    let mut seat = Seat::Between(station);
     let mut patience = Patience::new();
     for _ in rt.forever() {
-        if let Some(stopped) = shared.stopped() {
-            return (life, Ending::Left(Why::Told(stopped)));
+        let is_idle = live(rt, shared, &program, &mut seat);
+        if seat.is_over() {
+            return seat.into_station();
         }
-        let begun = begin(rt, shared, &mut life);
-        // a rank is moved in memory only here, once a life
-        if life.node.has_replayed() {
-            life = settle(life);
-        }
-        match finish(rt, shared, &mut life, begun) {
-            After::Crash(killed) => {
-                life.kit.tally.count_crash(&killed);
-                return (life, Ending::Crashed(killed));
-            }
-            After::Leave(why) => return (life, Ending::Left(why)),
-            After::Turn { is_idle: false } => patience.end_wait(),
-            After::Turn { is_idle: true } => {
-                if patience.wait() {
-                    life.kit.tally.count_wait();
-                }
-            }
-        }
+        wait_if(is_idle, &mut patience, &mut seat);
     }
     unreachable!()
+}
+
+// After an idle turn others go first.
+fn wait_if(is_idle: bool, patience: &mut Patience, seat: &mut Seat<'_, '_>)
+    ensures { (text : List ℕ) → KeepsSeat text seat.old seat.new }
+{
+    if !is_idle {
+        patience.end_wait();
+        return;
+    }
+    if !patience.wait() {
+        return;
+    }
+    if let Seat::Living(life) = seat {
+        life.kit.tally.count_wait();
+    }
+}
+
+/// A turn of a rank between two lives or in one: its life begins, goes on, or is
+/// over by it. Answers whether the rank found nothing to do.
+pub fn live<'p, 'l, W: Wait, H: Hold>(
+    rt: &W,
+    shared: &Shared<'_, H>,
+    program: &'p Program,
+    seat: &mut Seat<'p, 'l>,
+) -> bool
+    requires reads { IsProgramOf shared.now.text.now program.now }
+    ensures { KeepsSeat shared.now.text.now seat.old seat.new }
+{
+    let Seat::Living(life) = seat else {
+        let taken = replace(seat, Seat::Empty);
+        put(seat, begun_at(rt, shared, program, taken));
+        return false;
+    };
+    let begun = begin_turn(rt, shared, life);
+    settle_seat(seat);
+    finish_turn(rt, shared, seat, begun)
+}
+
+fn begun_at<'p, 'l, W: Wait, H>(
+    rt: &W,
+    shared: &Shared<'_, H>,
+    program: &'p Program,
+    seat: Seat<'p, 'l>,
+) -> Seat<'p, 'l>
+    requires reads { IsProgramOf shared.now.text.now program.now }
+    ensures { KeepsSeat shared.now.text.now seat.entry result }
+{
+    match seat {
+        Seat::Between(station) => begun(rt, shared, program, station),
+        other => other,
+    }
+}
+
+/// A life of the rank begins. Where it can't, it is over.
+pub fn begun<'p, 'l, W: Wait, H>(
+    rt: &W,
+    shared: &Shared<'_, H>,
+    program: &'p Program,
+    station: Station<'l>,
+) -> Seat<'p, 'l>
+    requires reads { IsProgramOf shared.now.text.now program.now }
+    ensures { IsSeat shared.now.text.now station.entry result }
+{
+    let life = station.begin(rt, shared, program);
+    if life.kit.tally.fault.is_some() {
+        return Seat::Over(life.leave(Some(End::Unfinished), false));
+    }
+    Seat::Living(life)
+}
+
+// What the first half of a turn came to.
+#[derive(Drop)]
+enum TurnBegun<'s> {
+    // all were told to leave, so that no turn was made
+    Told(Stopped<'s>),
+    Made(Result<TurnStart, NodeFault>),
+}
+
+// The first half of a turn, unless all were told to leave.
+fn begin_turn<'s, W: Wait, H: Hold>(
+    rt: &W,
+    shared: &Shared<'s, H>,
+    life: &mut Life<'_, '_>,
+) -> TurnBegun<'s>
+    ensures plan { SamePlan life.old life.new }
+    ensures same { SameLife life.old life.new }
+{
+    match shared.stopped() {
+        Some(stopped) => TurnBegun::Told(stopped),
+        None => TurnBegun::Made(begin(rt, shared, life)),
+    }
+}
+
+// What follows a turn. It must be spent.
+enum TurnEnd<'s> {
+    On { is_idle: bool },
+    // the life is over
+    Over(Ending<'s>),
+}
+
+// The other half of the turn of a rank that lives. Answers whether it was idle.
+fn finish_turn<'s, W: Wait, H: Hold>(
+    rt: &W,
+    shared: &Shared<'s, H>,
+    seat: &mut Seat<'_, '_>,
+    begun: TurnBegun<'s>,
+) -> bool
+    requires { SeatIsSettled seat.old }
+    ensures { KeepsSeat shared.now.text.now seat.old seat.new }
+{
+    let Seat::Living(life) = seat else {
+        return false;
+    };
+    match end_turn(rt, shared, life, begun) {
+        TurnEnd::On { is_idle } => is_idle,
+        TurnEnd::Over(ended) => {
+            let taken = replace(seat, Seat::Empty);
+            let Seat::Living(life) = taken else {
+                unreachable!()
+            };
+            put(seat, Seat::Over(end_life(life, ended)));
+            false
+        }
+    }
+}
+
+// How a turn that began so ends. A crash is counted, and nothing else as one.
+fn end_turn<'s, W: Wait, H: Hold>(
+    rt: &W,
+    shared: &Shared<'s, H>,
+    life: &mut Life<'_, '_>,
+    begun: TurnBegun<'s>,
+) -> TurnEnd<'s>
+    requires { settled_in life.old.node.phase ≡ life.old.node.phase }
+    ensures at { IsOverAt result life.new.node.phase }
+    ensures lines { UsesBy result life.old.kit.plan life.new.kit.plan }
+    ensures crashes { life.new.kit.tally.crashes ≡ crashes_in result life.old.kit.tally.crashes }
+    ensures left { rests result ≡ true → life.new.kit.tally.fault ≡ None → life.new.kit.tally.is_refused ≡ false → NoneWaits life.new.node.phase }
+    ensures same { SamePlace life.old life.new }
+{
+    let begun = match begun {
+        TurnBegun::Told(stopped) => return TurnEnd::Over(Ending::Left(Why::Told(stopped))),
+        TurnBegun::Made(begun) => begun,
+    };
+    match finish(rt, shared, life, begun) {
+        After::Crash(killed) => {
+            life.kit.tally.count_crash(&killed);
+            TurnEnd::Over(Ending::Crashed(killed))
+        }
+        After::Leave(why) => TurnEnd::Over(Ending::Left(why)),
+        After::Turn { is_idle } => TurnEnd::On { is_idle },
+    }
 }
 
 /// The rank has met refused memory, and all were told to leave.

@@ -1,0 +1,19 @@
+-- What follows a life (an incarnation) of a rank: its next one, which begins with the row that was
+-- fetched, or none.
+use Rattle.std.specs.Prelude.{◌≡◌, ◌≢◌, ℕ, List, None}
+use Rattle.rank_threads.specs.Keeping.{HasLived, Lives}
+use Rattle.rank_threads.specs.Seats.{LeadsTo}
+use Rattle.rank_threads.specs.declared.life.keeper.Next.{Next}
+use Rattle.rank_threads.specs.declared.life.keeper.Next.TheVariants as next
+use Rattle.rank_threads.specs.declared.life.station.Station.{Station}
+
+-- the station from which the rank lives on, or which it left for good
+abbrev pub station_in : Next → Station
+station_in (next.Life s) = s
+station_in (next.Gone s) = s
+
+-- A life that was lived from some station to the first is followed so: from there on the next lives
+-- are lived, or the rank has come to its end.
+abbrev pub Follows : List ℕ → Station → Next → Type 0
+Follows text mid (next.Life s) = (old : Station) → HasLived text old mid → LeadsTo text old s
+Follows text mid (next.Gone s) = (s.end ≢ None) × ((old : Station) → HasLived text old mid → Lives text old s)

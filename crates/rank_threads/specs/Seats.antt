@@ -1,0 +1,140 @@
+-- A rank at its seat, whose scheduler goes on with it turn by turn: in a life (an incarnation) that
+-- goes on, between two, or behind its last one.
+-- Source: coroutines, Conway 1963; simulation of a distributed system by one thread that a seed
+-- decides, Zhou et al. 2021, "FoundationDB: A Distributed Unbundled Transactional Key Value Store".
+use Rattle.std.specs.Prelude.{◌≡◌, ℕ, ◌<◌, Bool, true, false, List, [], ◌∷◌, length, slice_index_or}
+use Rattle.rank_language.specs.Correct.{IsProgramOf}
+use Rattle.rank_language.specs.Program.{ProgramValue}
+use Rattle.rank_node.specs.Phases.{clock_in, settled_in}
+use Rattle.rank_text.specs.declared.script.line.ScriptLine.{ScriptLine}
+use Rattle.rank_threads.specs.Endings.{IsKilledAt, crashes_after, is_at_rest}
+use Rattle.rank_threads.specs.Keeping.{HasLived, Lives, WereKept}
+use Rattle.rank_threads.specs.Lives.{SameLife}
+use Rattle.rank_threads.specs.Phases.{Begins, Phase}
+use Rattle.rank_threads.specs.Stations.{IsLifeOf, SameStation}
+use Rattle.rank_threads.specs.Used.{MayUseImage, UsesImages, UsesKill}
+use Rattle.rank_threads.specs.declared.life.ending.Ending.{Ending}
+use Rattle.rank_threads.specs.declared.life.ending.Ending.TheVariants as ending
+use Rattle.rank_threads.specs.declared.life.living.TurnEnd.{TurnEnd}
+use Rattle.rank_threads.specs.declared.life.living.TurnEnd.TheVariants as turn
+use Rattle.rank_threads.specs.declared.life.Life.{Life}
+use Rattle.rank_threads.specs.declared.life.seat.Seat.{Seat}
+use Rattle.rank_threads.specs.declared.life.seat.Seat.TheVariants as seat
+use Rattle.rank_threads.specs.declared.life.station.Station.{Station}
+
+-- One life of a rank that reads this text, as it goes on. It began at this station, with the program
+-- of the text, and with the row, the lines of the script and the counts that the station has. It has
+-- used lines that ask for images, and no crash was counted in it.
+pub record IsLiving (text : List ℕ) (old : Station) (life : Life) : Type 0 where
+  pub program : ProgramValue
+  pub reads : IsProgramOf text program
+  pub begun : Life
+  pub begins : Begins program old.down old.row begun.node.phase
+  pub plan : begun.kit.plan ≡ old.kit.plan
+  pub counts : begun.kit.tally ≡ old.kit.tally
+  pub place : IsLifeOf old begun
+  pub same : SameLife begun life
+  pub lines : UsesImages begun.kit.plan life.kit.plan
+
+-- The rank of this station, as it was between two lives, is at this seat: its next life hasn't begun,
+-- or goes on, or is over, or the rank lives no more.
+abbrev pub IsSeat : List ℕ → Station → Seat → Type 0
+IsSeat text old (seat.Between s) = s ≡ old
+IsSeat text old (seat.Living life) = IsLiving text old life
+IsSeat text old (seat.Over s) = SameStation old s × HasLived text old s
+IsSeat text old (seat.Gone s) = SameStation old s × Lives text old s
+IsSeat text old seat.Empty = ⊥
+
+-- whoever was at this seat still is, in the same life or behind it
+abbrev pub KeepsSeat : List ℕ → Seat → Seat → Type 0
+KeepsSeat text a b = (old : Station) → IsSeat text old a → IsSeat text old b
+
+-- lives from this station on are lives from that one on, behind those so far
+abbrev pub LeadsTo : List ℕ → Station → Station → Type 0
+LeadsTo text first now = (end : Station) → Lives text now end → Lives text first end
+
+-- The rank that was first at this station is at this seat: it has lived from there on, life after
+-- life, and stood between two of them as the seat says.
+pub record IsSeated (text : List ℕ) (first : Station) (s : Seat) : Type 0 where
+  pub old : Station
+  pub same : SameStation first old
+  pub led : LeadsTo text first old
+  pub here : IsSeat text old s
+
+-- whoever was at this seat still is, whichever life it is in
+abbrev pub MovesOn : List ℕ → Seat → Seat → Type 0
+MovesOn text a b = (first : Station) → IsSeated text first a → IsSeated text first b
+
+-- The ranks that were first at these stations are at these seats, in the same order, but for those
+-- of the last stations, which were kept already.
+abbrev pub AreSeatedBut : List ℕ → List Station → List Seat → List Station → Type 0
+AreSeatedBut text [] [] kept = WereKept text [] kept
+AreSeatedBut text [] (s ∷ ss) kept = ⊥
+AreSeatedBut text (x ∷ xs) [] kept = WereKept text (x ∷ xs) kept
+AreSeatedBut text (x ∷ xs) (s ∷ ss) kept = IsSeated text x s × AreSeatedBut text xs ss kept
+
+-- the ranks that were first at these stations are at these seats, in the same order
+abbrev pub AreSeated : List ℕ → List Station → List Seat → Type 0
+AreSeated text firsts seats = AreSeatedBut text firsts seats []
+
+-- the rank at this seat is in a life
+abbrev pub is_living : Seat → Bool
+is_living (seat.Between s) = false
+is_living (seat.Living life) = true
+is_living (seat.Over s) = false
+is_living (seat.Gone s) = false
+is_living seat.Empty = false
+
+-- its life is over
+abbrev pub is_over : Seat → Bool
+is_over (seat.Between s) = false
+is_over (seat.Living life) = false
+is_over (seat.Over s) = true
+is_over (seat.Gone s) = false
+is_over seat.Empty = false
+
+-- it lives no more
+abbrev pub is_gone : Seat → Bool
+is_gone (seat.Between s) = false
+is_gone (seat.Living life) = false
+is_gone (seat.Over s) = false
+is_gone (seat.Gone s) = true
+is_gone seat.Empty = false
+
+-- none of these ranks lives any more
+abbrev pub AreGone : List Seat → Type 0
+AreGone seats = (at : ℕ) (other : Seat) → at < length seats → is_gone (slice_index_or seats at other) ≡ true
+
+-- a rank in a life has nothing left to settle
+abbrev pub SeatIsSettled : Seat → Type 0
+SeatIsSettled (seat.Between s) = Unit {0}
+SeatIsSettled (seat.Living life) = settled_in life.node.phase ≡ life.node.phase
+SeatIsSettled (seat.Over s) = Unit {0}
+SeatIsSettled (seat.Gone s) = Unit {0}
+SeatIsSettled seat.Empty = Unit {0}
+
+-- a life that is over by a turn that ended so is over by a kill of the clock at which the rank
+-- stands, or not by one
+abbrev pub IsOverAt : TurnEnd → Phase → Type 0
+IsOverAt (turn.On is_idle) p = Unit {0}
+IsOverAt (turn.Over how) p = IsKilledAt how p
+
+-- what the last turn of a life uses
+abbrev pub UsesLast : Ending → List ScriptLine → List ScriptLine → Type 0
+UsesLast (ending.Crashed killed) old new = UsesKill old new killed.at
+UsesLast (ending.Left reason) old new = MayUseImage old new
+
+-- what a turn uses that ended so
+abbrev pub UsesBy : TurnEnd → List ScriptLine → List ScriptLine → Type 0
+UsesBy (turn.On is_idle) old new = MayUseImage old new
+UsesBy (turn.Over how) old new = UsesLast how old new
+
+-- how often a rank has crashed, after a turn that ended so
+abbrev pub crashes_in : TurnEnd → ℕ → ℕ
+crashes_in (turn.On is_idle) crashes = crashes
+crashes_in (turn.Over how) crashes = crashes_after how crashes
+
+-- the rank left by this turn since all are at rest
+abbrev pub rests : TurnEnd → Bool
+rests (turn.On is_idle) = false
+rests (turn.Over how) = is_at_rest how
