@@ -1,5 +1,5 @@
 -- A rank at its seat, from turn to turn, and from life to life.
-use Rattle.std.proofs.Common.{◌≡◌, ◌≢◌, ◌⊎◌, inl, inr, ℕ, zero, suc, ◌+◌, ◌<◌, Bool, true, false, is_some, List, [], ◌∷◌, ◌++◌, map, length, slice_index_or, slice_set, get_or-set_other, get_or-set_same, Option, Some, None, refl, sym, ap, subst, ◌∙◌, arith, length-append}
+use Rattle.std.proofs.Common.{◌≡◌, ◌≢◌, ◌⊎◌, inl, inr, ℕ, zero, suc, ◌+◌, ◌<◌, true, false, is_some, List, [], ◌∷◌, ◌++◌, map, length, slice_index_or, slice_set, get_or-set_other, get_or-set_same, Option, Some, None, refl, sym, ap, subst, ◌∙◌, arith, length-append}
 use Rattle.std.proofs.lemmas.List.{get_or_append_left}
 use Rattle.std.proofs.Math.Seq.{get_or-append_seam}
 use Rattle.checkpoint.specs.declared.memory_shelf.MemoryShelf.{MemoryShelf}
@@ -8,13 +8,11 @@ use Rattle.rank_language.specs.Correct.{IsProgramOf}
 use Rattle.rank_language.specs.Program.{ProgramValue}
 use Rattle.rank_node.specs.Phases.{stable_in}
 use Rattle.rank_node.specs.Stored.{Stored}
-use Rattle.rank_node.specs.declared.fault.NodeFault.{NodeFault}
 use Rattle.rank_text.specs.declared.script.line.ScriptLine.{ScriptLine}
-use Rattle.rank_threads.proofs.LifeLemmas.{has_fault, has_lived, lives_last}
+use Rattle.rank_threads.proofs.LifeLemmas.{has_fault, has_lived}
 use Rattle.rank_threads.proofs.UsedLines.{images_on, kill_last, none_yet}
 use Rattle.rank_threads.specs.Endings.{IsKilledAt, crashes_after, end_after, stood_after}
-use Rattle.rank_threads.specs.Following.{Follows, station_in}
-use Rattle.rank_threads.specs.Keeping.{HasLived, IsLife, IsToldToLeave, Lives, WasKept, WereKept, told, failed, last, again}
+use Rattle.rank_threads.specs.Keeping.{HasLived, Lives, WasKept, WereKept}
 use Rattle.rank_threads.specs.Lives.{SameLife, SamePlace}
 use Rattle.rank_threads.specs.Phases.{Begins, SameStable}
 use Rattle.rank_threads.specs.Seats.{AreGone, AreSeated, AreSeatedBut, IsLiving, IsSeat, IsSeated, KeepsSeat, LeadsTo, MovesOn, UsesLast, is_gone}

@@ -1,6 +1,6 @@
 -- What follows a life (an incarnation) of a rank: its next one, which begins with the row that was
 -- fetched, or none.
-use Rattle.std.specs.Prelude.{◌≡◌, ◌≢◌, ℕ, List, None}
+use Rattle.std.specs.Prelude.{◌≢◌, ℕ, List, None}
 use Rattle.rank_threads.specs.Keeping.{HasLived, Lives}
 use Rattle.rank_threads.specs.Seats.{LeadsTo}
 use Rattle.rank_threads.specs.declared.life.keeper.Next.{Next}

@@ -5,7 +5,7 @@
 use Rattle.std.specs.Prelude.{◌≡◌, ℕ, ◌<◌, Bool, true, false, List, [], ◌∷◌, length, slice_index_or}
 use Rattle.rank_language.specs.Correct.{IsProgramOf}
 use Rattle.rank_language.specs.Program.{ProgramValue}
-use Rattle.rank_node.specs.Phases.{clock_in, settled_in}
+use Rattle.rank_node.specs.Phases.{settled_in}
 use Rattle.rank_text.specs.declared.script.line.ScriptLine.{ScriptLine}
 use Rattle.rank_threads.specs.Endings.{IsKilledAt, crashes_after, is_at_rest}
 use Rattle.rank_threads.specs.Keeping.{HasLived, Lives, WereKept}

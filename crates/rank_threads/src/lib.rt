@@ -45,7 +45,7 @@ pub use hold::Hold;
 pub use life::Seat;
 pub use playing::{Played, play, play_by_turns};
 pub use report::{Cause, Certified, Report, RunFault, certify, certify_in_turn};
-pub use running::{RunLimits, TurnsFault, certified_run, certified_run_by_turns, run};
+pub use running::{RunLimits, certified_run, certified_run_by_turns, run};
 pub use schedule::{Policy, Schedule};
 pub use stage::Stage;
 pub use stop::OutOfTurns;

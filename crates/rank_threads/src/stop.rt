@@ -1,6 +1,7 @@
 //! All ranks are told to leave, as one of them can't go on, or as all turns are used up.
 ghost use Rattle.std.specs.Prelude.{◌≡◌, ◌≤◌, Some, IfSome};
 
+use crate::report::RunFault;
 use crate::shared::Shared;
 use crate::tally::Tally;
 use rank_node::NodeFault;
@@ -21,7 +22,7 @@ pub struct Stopped<'a> {
 }
 
 /// The turns of a schedule are used up, and not all ranks have left. It must be
-/// spent, and only `TurnsFault::of` can: such a run has no report.
+/// spent, which is to say why the run has no report.
 pub struct OutOfTurns(());
 
 impl OutOfTurns {
@@ -32,9 +33,12 @@ impl OutOfTurns {
         OutOfTurns(())
     }
 
-    /// Why such a run has no report.
-    pub fn spend(self) {
+    /// Why such a run has no report. No other call spends the token.
+    pub fn fault(self) -> RunFault
+        ensures { result ≡ RunFault.OutOfTurns }
+    {
         let OutOfTurns(()) = self;
+        RunFault::OutOfTurns
     }
 }
 

@@ -1,6 +1,5 @@
-use Rattle.std.proofs.Common.{subst, sym}
+use Rattle.std.proofs.Common.{subst}
 use Rattle.rank_threads.specs.Seats.{IsSeat}
-use Rattle.rank_threads.specs.declared.life.seat.Seat.TheVariants as seat
 use Rattle.rank_threads.proofs.life.living.begun_at.Goals as goal
 
 -- the station is that between two lives

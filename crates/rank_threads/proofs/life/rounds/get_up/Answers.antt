@@ -1,4 +1,4 @@
-use Rattle.std.proofs.Common.{◌≡◌, List, [], ◌∷◌, ◌++◌, sym, subst, arith, rules}
+use Rattle.std.proofs.Common.{◌≡◌, [], ◌∷◌, ◌++◌, subst, arith, rules}
 use Rattle.rank_threads.proofs.SeatLemmas.{but_less, but_none, gone_less}
 use Rattle.rank_threads.proofs.SeatingLemmas.{stations_snoc}
 use Rattle.rank_threads.specs.Seats.{AreGone, AreSeatedBut}

@@ -1,4 +1,4 @@
-use Rattle.std.proofs.Common.{sym, ap, subst}
+use Rattle.std.proofs.Common.{ap, subst}
 use Rattle.rank_threads.proofs.SeatLemmas.{living_same}
 use Rattle.rank_threads.specs.Seats.{IsSeat}
 use Rattle.rank_threads.proofs.life.seat.settled.Goals as goal
