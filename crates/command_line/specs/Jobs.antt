@@ -2,6 +2,7 @@
 -- option that is given twice, and it writes the helps.
 use Rattle.std.specs.Prelude.{◌≡◌, ℕ, true, false, List, [], ◌∷◌, codes, None, IsSomeAnd, option_map}
 use Rattle.limits.specs.Limits.{most_ranks}
+use Rattle.command_line.specs.Schedules.{IsSchedulingOf}
 use Rattle.command_line.specs.Words.{IsSpelledIf, IsSpelledOr, Spells, files_of, is_given, value_of}
 use Rattle.command_line.specs.declared.catching_up.FinishJob.{FinishJob}
 use Rattle.command_line.specs.declared.costing.CostForm.{CostForm}
@@ -28,13 +29,14 @@ pub record IsCheckOf (command : List ℕ) (arguments : List (List ℕ)) (check :
 
 -- The run has as many ranks as `--ranks` says, under the script in the file that `--script` names, with
 -- an image after so many acts as `--images-every` gives, and within the limits that `--idle` and `--steps`
--- give. The only file holds the program.
+-- give; its ranks are scheduled as the arguments say. The only file holds the program.
 pub record IsRunOf (command : List ℕ) (arguments : List (List ℕ)) (run : RunJob) : Type 0 where
   pub ranks : IsSomeAnd (value_of (codes "ranks") arguments) (λ text. Spells text run.ranks)
   pub script : option_map (λ name. name.now) run.script ≡ value_of (codes "script") arguments
   pub images_every : IsSpelledIf (value_of (codes "images-every") arguments) run.images_every
   pub idle : IsSpelledOr 1000000 (value_of (codes "idle") arguments) run.idle
   pub steps : IsSpelledOr 1000000 (value_of (codes "steps") arguments) run.steps
+  pub scheduling : IsSchedulingOf arguments run.scheduling
   pub files : files_of command arguments ≡ run.program.now ∷ []
 
 -- What a run cost is printed if `--costs` is there, as JSON if `--json` is there too.
@@ -107,7 +109,7 @@ pub record IsJudgeOf (command : List ℕ) (arguments : List (List ℕ)) (outcome
 -- There are as many runs as `--runs` says, on as many ranks as `--ranks` says, with scripts that are drawn
 -- from what `--seed` gives, with no more kills and images than `--kills` and `--images` allow, with an
 -- image after so many acts as `--images-every` gives, and within the limits that `--idle` and `--steps`
--- give. The only file holds the program.
+-- give; their ranks are scheduled as the arguments say. The only file holds the program.
 pub record IsSoakOf (command : List ℕ) (arguments : List (List ℕ)) (runs : SoakJob) : Type 0 where
   pub ranks : IsSomeAnd (value_of (codes "ranks") arguments) (λ text. Spells text runs.ranks)
   pub runs_made : IsSpelledOr 100 (value_of (codes "runs") arguments) runs.runs
@@ -117,6 +119,7 @@ pub record IsSoakOf (command : List ℕ) (arguments : List (List ℕ)) (runs : S
   pub images_every : IsSpelledIf (value_of (codes "images-every") arguments) runs.images_every
   pub idle : IsSpelledOr 1000000 (value_of (codes "idle") arguments) runs.idle
   pub steps : IsSpelledOr 1000000 (value_of (codes "steps") arguments) runs.steps
+  pub scheduling : IsSchedulingOf arguments runs.scheduling
   pub files : files_of command arguments ≡ runs.program.now ∷ []
 
 -- The script is that of the run whose number `--script-of` gives, of a soak by the other arguments.

@@ -1,4 +1,5 @@
 pub mod Words
 pub mod Commands
+pub mod Schedules
 pub mod Jobs
 pub mod Requests

@@ -27,8 +27,8 @@ enum Given {
     Nothing,
     /// Nothing, and the option is refused: no help has it.
     Gone,
-    /// The file of an option.
-    FileOf,
+    /// The file or the word of an option.
+    Text,
     /// A number of ranks.
     Ranks {
         required: bool,
@@ -73,7 +73,12 @@ impl Argument {
 
     /// An option that is given a file.
     pub fn file_of(name: &'static str, help: &'static str) -> Argument {
-        Argument::new(name, "FILE", help, Given::FileOf)
+        Argument::new(name, "FILE", help, Given::Text)
+    }
+
+    /// An option that is given a word.
+    pub fn word(name: &'static str, value: &'static str, help: &'static str) -> Argument {
+        Argument::new(name, value, help, Given::Text)
     }
 
     /// The number of ranks, which has to be given or not.
@@ -128,7 +133,7 @@ impl Argument {
                 .long(self.name)
                 .action(ArgAction::SetTrue)
                 .hide(true),
-            Given::FileOf => self.option(argument),
+            Given::Text => self.option(argument),
             Given::Ranks { required } => self
                 .option(argument)
                 .required(required)

@@ -20,6 +20,7 @@ use crate::named::searches::{explore_of, judge_of};
 use crate::named::soaks::{script_of, soak_of};
 use crate::named::worlds::{finish_of, world_of};
 use crate::no_job::NoJob;
+use crate::scheduling::is_unknown;
 use crate::syntax::syntax;
 use crate::words::{is_given, next_word, value_of};
 use clap::error::ErrorKind;
@@ -59,6 +60,8 @@ fn job_by<'a>(command: &mut Command<'a>, words: &'a [String]) -> Result<Job<'a>,
     let Some(job) = named(words) else {
         let (kind, text) = if is_given("picture", words) {
             (ErrorKind::UnknownArgument, help::NO_PICTURE)
+        } else if is_unknown(words) {
+            (ErrorKind::InvalidValue, help::NO_POLICY)
         } else {
             (ErrorKind::MissingSubcommand, "no command was given")
         };

@@ -4,6 +4,7 @@ ghost use Rattle.limits.specs.Limits.{most_ranks, most_script_lines};
 
 use crate::argument::{Argument, command};
 use crate::help;
+use crate::scheduling::{Scheduling, schedule, turns};
 use crate::syntax::{idle, images_every, program, steps_of_a_run};
 use clap::Command;
 use std::alloc::{AllocError, Global};
@@ -25,6 +26,7 @@ pub struct SoakJob<'a> {
     pub images_every: Option<NonZeroU32>,
     pub idle: u32,
     pub steps: u32,
+    pub scheduling: Scheduling,
     pub program: &'a str,
     pub ghost some_rank: { 1 ≤ ranks },
     pub ghost few_ranks: { ranks ≤ most_ranks },
@@ -70,6 +72,8 @@ pub fn soak<'a>(alloc: Global) -> Result<Command<'a>, AllocError> {
             ),
             idle(),
             steps_of_a_run(),
+            schedule(),
+            turns(),
             program(),
         ],
     )

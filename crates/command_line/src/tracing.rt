@@ -2,6 +2,7 @@
 use crate::argument::{Argument, command};
 use crate::help;
 use crate::job::RunJob;
+use crate::scheduling::{schedule, seed, turns};
 use crate::syntax::{idle, images_every, program, script, steps_of_a_run};
 use clap::Command;
 use std::alloc::{AllocError, Global};
@@ -37,6 +38,9 @@ pub fn trace<'a>(alloc: Global) -> Result<Command<'a>, AllocError> {
             images_every(),
             idle(),
             steps_of_a_run(),
+            schedule(),
+            seed(),
+            turns(),
             program(),
             Argument::flag("json", "Prints the same as JSON, an object a line"),
             Argument::flag("events", "Prints that run as events, for `ftmpi world`").without(&[

@@ -71,6 +71,7 @@ of_run (run.Audit fault) = refusal.Audit fault
 of_run (run.FalseStall rank) = refusal.FalseStall rank
 of_run (run.NoCause rank) = refusal.NoCause rank
 of_run (run.Node rank fault) = refusal.Node rank fault
+of_run run.OutOfTurns = refusal.OutOfTurns
 
 -- why a run gives no events
 abbrev pub of_play : PlayFault → Refusal

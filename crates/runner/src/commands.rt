@@ -30,6 +30,7 @@ mod reading;
 mod refusal;
 mod run;
 mod said;
+mod scheduling;
 mod soaking;
 mod telling;
 mod trace;

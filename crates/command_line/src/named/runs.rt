@@ -5,6 +5,7 @@ ghost use Rattle.command_line.specs.Words.{texts};
 
 use crate::costing::CostForm;
 use crate::job::RunJob;
+use crate::scheduling::scheduling_of;
 use crate::tracing::{TraceForm, TraceJob};
 use crate::words::{count_if, is_given, limit_or, one_file, ranks_of, value_of};
 
@@ -19,6 +20,7 @@ pub fn run_of<'a>(command: &str, arguments: &'a [String], costs: CostForm) -> Op
         images_every: count_if("images-every", arguments)?,
         idle: limit_or(1000000, "idle", arguments)?,
         steps: limit_or(1000000, "steps", arguments)?,
+        scheduling: scheduling_of(arguments)?,
         costs,
         program: one_file(command, arguments)?,
     })

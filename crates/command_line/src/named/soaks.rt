@@ -3,6 +3,7 @@ ghost use Rattle.std.specs.Prelude.{IfSome};
 ghost use Rattle.command_line.specs.Jobs.{IsSoakOf, IsSoakScriptOf};
 ghost use Rattle.command_line.specs.Words.{texts};
 
+use crate::scheduling::scheduling_of;
 use crate::soaking::{SoakJob, SoakScriptJob};
 use crate::words::{
     count_if, limit_or, number_in, number_or, one_file, ranks_of, small_or, value_of,
@@ -37,6 +38,7 @@ pub fn soak_of<'a>(command: &str, arguments: &'a [String]) -> Option<SoakJob<'a>
     ) else {
         return None;
     };
+    let scheduling = scheduling_of(arguments)?;
     Some(SoakJob {
         ranks,
         runs,
@@ -46,6 +48,7 @@ pub fn soak_of<'a>(command: &str, arguments: &'a [String]) -> Option<SoakJob<'a>
         images_every,
         idle,
         steps,
+        scheduling,
         program,
     })
 }

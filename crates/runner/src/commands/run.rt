@@ -1,6 +1,5 @@
 //! A job's run, and its report.
 ghost use Rattle.std.specs.Prelude.{◌≡◌, ◌≤◌, IfErr, IfOk, length};
-ghost use Rattle.audit.specs.Found.{IsFound};
 ghost use Rattle.limits.specs.Limits.{most_ranks};
 ghost use Rattle.runner.specs.Answers.{IsReportText, IsRunAnswer};
 ghost use Rattle.runner.specs.Reasons.{IsRunRefusal, UnlessMemory};
@@ -9,6 +8,7 @@ ghost use Rattle.runner.specs.Reports.{IsReportOf, IsReportUnder};
 use crate::commands::reading::{program_in, script_by};
 use crate::commands::refusal::Refusal;
 use crate::commands::said::Said;
+use crate::commands::scheduling::{certified_by, schedule_of};
 use crate::costs::print_costs;
 use crate::files::Files;
 use crate::output::{all_halted, print_report};
@@ -16,7 +16,7 @@ use command_line::RunJob;
 use limits::Heap;
 use rank_language::Program;
 use rank_text::script::Script;
-use rank_threads::{Certified, Hold, Report, RunFault, RunLimits, certified_run, run};
+use rank_threads::{Certified, Hold, Report, RunFault, RunLimits, Schedule};
 use std::alloc::AllocError;
 use std::sync::Wait;
 use std::thread::Threads;
@@ -62,46 +62,31 @@ fn report_of<'a, R: Threads + Wait + Sync + Copy + Send, F: Files>(
     let program = program_in(alloc, job.program, files)?;
     let asked = script_by(alloc, job.script, job.ranks, files)?;
     let script = &asked.script;
-    match report_under(rt, alloc, &program, job.ranks, script, limits_of(job)) {
+    let (limits, schedule) = (limits_of(job), schedule_of(job.scheduling));
+    match report_by(rt, alloc, &program, job.ranks, script, limits, schedule) {
         Ok(report) => Ok(report),
         Err(fault) => Err(Refusal::from(fault)),
     }
 }
 
-/// The report of a run of the program under this script, in which nobody waits for
-/// an act.
-#[tactic(auto, using(crate::proofs::Answers::is_report_under))]
-pub fn report_under<R: Threads + Wait + Sync + Copy + Send>(
+/// The report of a run of the program under this script, scheduled so.
+pub fn report_by<R: Threads + Wait + Sync + Copy + Send>(
     rt: &R,
     alloc: Heap,
     program: &Program,
     ranks: u8,
     script: &Script,
     limits: RunLimits,
+    schedule: Option<Schedule>,
 ) -> Result<Report, RunFault>
     requires some { 1 ≤ ranks }
     requires few { ranks ≤ most_ranks }
     ensures { IfOk result (λ report. IsReportUnder program.now ranks script.now limits.steps report) }
 {
-    run(rt, alloc, program, ranks, script, limits, &Nobody)
-}
-
-/// As `report_under`, with the run without crashes that has the report's outcome.
-#[tactic(auto, using(crate::proofs::Answers::is_report_under))]
-pub fn certified_under<'p, R: Threads + Wait + Sync + Copy + Send>(
-    rt: &R,
-    alloc: Heap,
-    program: &'p Program,
-    ranks: u8,
-    script: &Script,
-    limits: RunLimits,
-) -> Result<Certified<'p>, RunFault>
-    requires some { 1 ≤ ranks }
-    requires few { ranks ≤ most_ranks }
-    ensures report { IfOk result (λ certified. IsReportUnder program.entry.now ranks script.now limits.steps certified.report) }
-    ensures run { IfOk result (λ certified. IsFound program.entry.now ranks certified.report.outcome limits.steps certified.run) }
-{
-    certified_run(rt, alloc, program, ranks, script, limits, &Nobody)
+    let Certified { report, run: _ } = certified_by(
+        rt, alloc, program, ranks, script, limits, schedule,
+    )?;
+    Ok(report)
 }
 
 /// The limits of the job's run.

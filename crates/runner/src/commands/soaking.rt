@@ -6,8 +6,9 @@ ghost use Rattle.runner.specs.Soaks.{AreSoaked, HasSoakStatus, IsDrawn, IsOneMor
 
 use crate::commands::reading::{program_in, text_in};
 use crate::commands::refusal::Refusal;
-use crate::commands::run::{certified_under, report_under};
+use crate::commands::run::report_by;
 use crate::commands::said::Said;
+use crate::commands::scheduling::{certified_by, schedule_of, schedule_of_run};
 use crate::files::Files;
 use crate::soaked::{Soaked, print_soaked};
 use command_line::{SoakJob, SoakScriptJob};
@@ -146,7 +147,8 @@ fn make<'a, R: Threads + Wait + Sync + Copy + Send>(
 {
     let drawn = drawn_for(alloc, job, acts, number)?;
     let (ranks, script) = (job.ranks, &drawn.script);
-    match report_under(rt, alloc, program, ranks, script, limits_of(job)) {
+    let (limits, schedule) = (limits_of(job), schedule_of_run(job.scheduling, number));
+    match report_by(rt, alloc, program, ranks, script, limits, schedule) {
         Ok(report) => Ok(soaked.note(alloc, &report, script)?),
         Err(RunFault::Memory) => Err(Refusal::Memory),
         Err(fault) => {
@@ -191,7 +193,8 @@ fn acts_of<'a, R: Threads + Wait + Sync + Copy + Send>(
 {
     let (ranks, limits) = (job.ranks, limits_of(job));
     let script = Script::new(alloc);
-    let certified = certified_under(rt, alloc, program, ranks, &script, limits)?;
+    let schedule = schedule_of(job.scheduling);
+    let certified = certified_by(rt, alloc, program, ranks, &script, limits, schedule)?;
     Ok(acts_in(alloc, &certified.run, ranks)?)
 }
 

@@ -13,8 +13,9 @@ ghost use Rattle.rank_language.specs.StandOn.{IsLinedOf};
 
 use crate::commands::reading::{ScriptFile, script_by, text_in};
 use crate::commands::refusal::Refusal;
-use crate::commands::run::{certified_under, limits_of};
+use crate::commands::run::limits_of;
 use crate::commands::said::Said;
+use crate::commands::scheduling::{certified_by, schedule_of};
 use crate::files::Files;
 use crate::output::{all_halted, calls_of, print_cost};
 use command_line::{RunJob, TraceForm, TraceJob};
@@ -74,7 +75,8 @@ fn told<'a, R: Threads + Wait + Sync + Copy + Send>(
     let limits = limits_of(job.run);
     let program = &lined.program;
     let script = &asked.script;
-    let certified = certified_under(rt, alloc, program, job.run.ranks, script, limits)?;
+    let schedule = schedule_of(job.run.scheduling);
+    let certified = certified_by(rt, alloc, program, job.run.ranks, script, limits, schedule)?;
     match told_of(alloc, job, text, lined, asked, &certified) {
         Ok(said) => Ok(said),
         Err(refusal) => Err(refusal),

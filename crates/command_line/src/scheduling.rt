@@ -1,0 +1,98 @@
+//! The words that say in which order the ranks of a run take their turns.
+ghost use Rattle.std.specs.Prelude.{◌≡◌, IfSome, codes};
+ghost use Rattle.command_line.specs.Schedules.{IsPolicyIf, IsSchedulingOf, policy_word};
+ghost use Rattle.command_line.specs.Words.{texts, value_of};
+
+use crate::argument::Argument;
+use crate::words::{limit_or, number_or, value_of};
+
+/// In which order ranks take turns that take them on one thread.
+#[derive(Clone, Copy, Debug, PartialEq, Eq)]
+pub enum Policy {
+    /// One after another.
+    RoundRobin,
+    /// Any of them.
+    Uniform,
+    /// One of them is held for long, and then another.
+    Starve,
+    /// A rank goes on as long as it can.
+    RunOn,
+    /// A rank that has crashed goes first until it is back.
+    RecoveryFirst,
+}
+
+/// How the ranks of a run are scheduled. `seed` and `turns` are at most 1000000000.
+#[derive(Clone, Copy)]
+pub struct Scheduling {
+    /// None if each rank runs on a thread of its own.
+    pub policy: Option<Policy>,
+    pub seed: u32,
+    /// How many turns there are at most, of all ranks together.
+    pub turns: u32,
+}
+
+/// Whether the ranks take turns on one thread, and how.
+pub fn schedule() -> Argument {
+    let help = "Runs all ranks on one thread, in turns (below)";
+    Argument::word("schedule", "POLICY", help)
+}
+
+/// What the turns are drawn from.
+pub fn seed() -> Argument {
+    let help = "Seed of the turns, 0 to 1000000000; 1 if not given";
+    Argument::number("seed", "S", help, 0, None)
+}
+
+/// How many turns there may be.
+pub fn turns() -> Argument {
+    let help = "Turns of all ranks, 1 to 1000000000";
+    Argument::number("turns", "T", help, 1, None)
+}
+
+/// The policy that the word names, if it names one.
+pub fn policy_called(word: &str) -> Option<Policy>
+    ensures { IfSome result (λ policy. word.now ≡ policy_word policy) }
+{
+    if word == "round-robin" {
+        Some(Policy::RoundRobin)
+    } else if word == "uniform" {
+        Some(Policy::Uniform)
+    } else if word == "starve" {
+        Some(Policy::Starve)
+    } else if word == "run-on" {
+        Some(Policy::RunOn)
+    } else if word == "recovery-first" {
+        Some(Policy::RecoveryFirst)
+    } else {
+        None
+    }
+}
+
+/// Whether a policy is asked for that there isn't.
+pub fn is_unknown(arguments: &[String]) -> bool {
+    match value_of("schedule", arguments) {
+        Some(word) => policy_called(word).is_none(),
+        None => false,
+    }
+}
+
+// The policy that the option names, if it is there.
+fn policy_if(arguments: &[String]) -> Option<Option<Policy>>
+    ensures { IfSome result (λ policy. IsPolicyIf (value_of (codes "schedule") (texts arguments.now)) policy) }
+{
+    match value_of("schedule", arguments) {
+        Some(word) => Some(Some(policy_called(word)?)),
+        None => Some(None),
+    }
+}
+
+/// How the arguments schedule the ranks of a run.
+pub fn scheduling_of(arguments: &[String]) -> Option<Scheduling>
+    ensures { IfSome result (λ scheduling. IsSchedulingOf (texts arguments.now) scheduling) }
+{
+    Some(Scheduling {
+        policy: policy_if(arguments)?,
+        seed: number_or(1, "seed", arguments)?,
+        turns: limit_or(100000000, "turns", arguments)?,
+    })
+}
