@@ -9,7 +9,6 @@ mod LaneLists
 mod LifeLemmas
 mod LivesLemmas
 mod LookLemmas
-mod PhaseLaws
 mod PlanLaws
 mod PuttingLemmas
 mod ReleasingLemmas

@@ -1,7 +1,6 @@
 -- A rank at its seat, from turn to turn, and from life to life.
 use Rattle.std.proofs.Common.{◌≡◌, ◌≢◌, ◌⊎◌, inl, inr, ℕ, zero, suc, ◌+◌, ◌<◌, true, false, is_some, List, [], ◌∷◌, ◌++◌, map, length, slice_index_or, slice_set, get_or-set_other, get_or-set_same, Option, Some, None, refl, sym, ap, subst, ◌∙◌, arith, length-append}
 use Rattle.std.proofs.lemmas.List.{get_or_append_left}
-use Rattle.std.proofs.Math.Seq.{get_or-append_seam}
 use Rattle.checkpoint.specs.declared.memory_shelf.MemoryShelf.{MemoryShelf}
 use Rattle.event_logger.specs.Desks.{DeskValue}
 use Rattle.rank_language.specs.Correct.{IsProgramOf}
@@ -34,7 +33,7 @@ stable_on a b c one two = record {
 }
 
 -- the same place, twice
-pub place_on : (a b c : Life) → SamePlace a b → SamePlace b c → SamePlace a c
+place_on : (a b c : Life) → SamePlace a b → SamePlace b c → SamePlace a c
 place_on a b c one two = (
   two.0 ∙ one.0,
   (stable_on (stable_in a.node.phase) (stable_in b.node.phase) (stable_in c.node.phase) one.1.0 two.1.0, two.1.1 ∙ one.1.1),
@@ -48,7 +47,7 @@ station_on a b c one two =
     (two.0 ∙ one.0, stable_on a.down b.down c.down one.1 two.1, two.2 ∙ one.2, two.3 ∙ one.3, two.4 ∙ one.4)
 
 -- a station is that of its rank
-pub station_same : (a : Station) → SameStation a a
+station_same : (a : Station) → SameStation a a
 station_same a = (refl, record { desk = (refl, refl); rank = refl; size = refl }, refl, refl, refl)
 
 -- the station of a life that began at a station
@@ -122,15 +121,15 @@ pub moves_on : (text : List ℕ) (a b : Seat) → KeepsSeat text a b → MovesOn
 moves_on text a b keeps first before = record { old = before.old; same = before.same; led = before.led; here = keeps before.old before.here }
 
 -- a rank that is seated between two lives
-pub seated_between : (text : List ℕ) (first now : Station) → SameStation first now → LeadsTo text first now → IsSeated text first (seat.Between now)
+seated_between : (text : List ℕ) (first now : Station) → SameStation first now → LeadsTo text first now → IsSeated text first (seat.Between now)
 seated_between text first now same led = record { old = now; same = same; led = led; here = refl }
 
 -- a rank whose lives are over was kept
-pub seated_gone : (text : List ℕ) (first now : Station) → IsSeated text first (seat.Gone now) → WasKept text first now
+seated_gone : (text : List ℕ) (first now : Station) → IsSeated text first (seat.Gone now) → WasKept text first now
 seated_gone text first now seated = (station_on first seated.old now seated.same seated.here.0, seated.led now seated.here.1)
 
 -- a rank hasn't lived yet
-pub seated_first : (text : List ℕ) (first : Station) → IsSeated text first (seat.Between first)
+seated_first : (text : List ℕ) (first : Station) → IsSeated text first (seat.Between first)
 seated_first text first = seated_between text first first (station_same first) (λ end lives. lives)
 
 -- a life is in its place
@@ -227,12 +226,6 @@ pub gone_less : (seats : List Seat) (s : Seat) → AreGone (seats ++ s ∷ []) �
 gone_less seats s all = λ at other low.
     let longer : at < length (seats ++ s ∷ []) = grind (arith, low, length-append) in
     ap is_gone (sym (get_or_append_left seats (s ∷ []) other at low)) ∙ all at other longer
-
--- and so is that one
-pub gone_last : (seats : List Seat) (s : Seat) → AreGone (seats ++ s ∷ []) → is_gone s ≡ true
-gone_last seats s all =
-    let there : length seats < length (seats ++ s ∷ []) = grind (arith, length-append) in
-    ap is_gone (sym (get_or-append_seam seats s [] s)) ∙ all (length seats) s there
 
 -- the ranks below this number are gone
 abbrev pub GoneBelow : ℕ → List Seat → Type 0
