@@ -22,6 +22,7 @@ mod words;
 
 pub use due::last_due;
 pub use given::Given;
+pub use message::kind_name;
 pub use place::Place;
 pub use places::places_of;
 pub use trace::{trace_json, trace_text};

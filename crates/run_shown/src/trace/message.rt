@@ -52,8 +52,15 @@ fn put_kind(to: &mut String<Heap>, items: &[i64]) -> Result<(), AllocError>
 pub fn call_name(items: &[i64]) -> &'static str
     ensures { result.now ≡ name_text (slice_get items.now 0) }
 {
+    kind_name(items.first().copied())
+}
+
+/// The word for a kind of collective, by the number that a packet has of it.
+pub fn kind_name(kind: Option<i64>) -> &'static str
+    ensures { result.now ≡ name_text kind }
+{
     // by the numbers that `rank_machine` has for kinds (`kind_number`)
-    match items.first() {
+    match kind {
         Some(0) => "barrier",
         Some(1) => "bcast",
         Some(2) => "reduce sum",
