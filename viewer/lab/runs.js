@@ -8,7 +8,7 @@ const POLICIES = [
   ["round-robin", "one rank after another"],
   ["uniform", "any rank, each as likely"],
   ["starve", "one rank is held for long, and then another"],
-  ["run-on", "a rank goes on until it has nothing to do"],
+  ["run-on", "a rank goes on until it finds nothing to do"],
   ["recovery-first", "a rank that has crashed goes on alone until it is back"],
 ];
 
@@ -31,7 +31,7 @@ function chosenRun() {
 }
 
 function wordsOf({ count, policy, seed }) {
-  return ["--ranks", String(count), "--schedule", `${policy}:${seed}`];
+  return ["--ranks", String(count), "--schedule", policy, "--seed", String(seed)];
 }
 
 /** Asks for a schedule, a script and how many runs. */
@@ -111,7 +111,7 @@ async function openRun(one) {
 async function makeSoak() {
   const of = chosenRun();
   const many = String(Math.max(1, Number.parseInt(element("many").value, 10) || 1));
-  const words = (more) => ["soak", "--ranks", String(of.count), "--schedule", of.policy, "--runs", many, "--seed", String(of.seed), ...more, PROGRAM];
+  const words = (more) => ["soak", ...wordsOf(of), "--runs", many, ...more, PROGRAM];
   await inWorker("runs", async (worker) => {
     const { out, err } = await worker.call(words([]), { [PROGRAM]: of.source });
     const which = make("input", { id: "soak-run", type: "number", min: "1", max: many, value: "1", "aria-label": "Run" });
@@ -121,7 +121,8 @@ async function makeSoak() {
       if (done.out === "") {
         element("busy").textContent = done.err.trim();
       } else {
-        await openRun({ ...of, script: done.out });
+        // (run K takes the turns of the seed K - 1 further)
+        await openRun({ ...of, seed: of.seed + Number(which.value) - 1, script: done.out });
       }
     });
     element("ran").append(make("pre", { id: "soaked" }, out || err), make("div", { class: "bar" }, make("label", {}, "Run", which), open));
