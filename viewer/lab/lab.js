@@ -41,6 +41,7 @@ class Engine {
     this.number = 0;
     this.waiting = new Map();
     this.isHeard = hear !== null;
+    this.isStopped = false;
     this.worker = new Worker(URL.createObjectURL(new Blob([element("host").textContent, WORKER], { type: "text/javascript" })));
     this.ready = new Promise((ready) => {
       this.worker.onmessage = ({ data }) => {
@@ -71,6 +72,7 @@ class Engine {
 
   /** Ends it in the middle of a call, which is never answered. */
   stop() {
+    this.isStopped = true;
     this.worker.terminate();
   }
 }

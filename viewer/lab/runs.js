@@ -40,7 +40,7 @@ function askRuns() {
   const number = (id, value, most) => make("input", { id, type: "number", min: "1", max: String(most), value: String(value) });
   const choice = make("select", { id: "policy" }, ...policies.map(([value, words]) => make("option", { value }, `${value}: ${words}`)));
   const script = make("textarea", { id: "script", rows: "3", spellcheck: "false", "aria-label": "Script", placeholder: "kill 1 at 1" });
-  script.value = "kill 1 at 1\n";
+  script.value = `kill ${ranks() - 1} at 1\n`;
   const button = (id, words, does) => {
     const made = make("button", { type: "button", id, class: "main" }, words);
     made.addEventListener("click", does);
@@ -65,6 +65,7 @@ async function inWorker(title, work) {
   worker.stop();
   stop.remove();
   progress.textContent = isStopped === true ? "Stopped." : "";
+  element("ran").scrollIntoView({ block: "nearest" });
 }
 
 /** Makes a run for each of some seeds, and shows their outcomes, each with its seeds. */
@@ -75,7 +76,7 @@ async function makeRuns() {
   const list = make("div", { id: "run-outcomes" });
   await inWorker("runs", async (worker, tell) => {
     element("ran").append(list);
-    for (let seed = of.seed; seed < of.seed + many; seed += 1) {
+    for (let seed = of.seed; seed < of.seed + many && !worker.isStopped; seed += 1) {
       tell(`seed ${seed}`);
       const one = { ...of, seed };
       const { out, err } = await worker.call(["run", ...wordsOf(one), "--script", SCRIPT, PROGRAM], { [PROGRAM]: of.source, [SCRIPT]: of.script });
