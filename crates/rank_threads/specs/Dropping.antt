@@ -31,6 +31,14 @@ abbrev pub DroppedBelow : ℕ → Station → Station → Type 0
 DroppedBelow zero old new = new ≡ old
 DroppedBelow (suc k) old new = (mid : Station) × DroppedBelow k old mid × DroppedFrom k mid new
 
+-- The frames on their way to the rank were dropped, those of each lane from rank 0 on, and none came
+-- or went since.
+pub record DropsAll (old new : Station) : Type 0 where
+  pub dropped : Station
+  pub lanes : DroppedBelow old.size old dropped
+  pub left : new.kit.from ≡ dropped.kit.from
+  pub taken : new.kit.tally.taken ≡ dropped.kit.tally.taken
+
 -- Only frames on their way to the rank were dropped: its desk and shelf, the lines of its script,
 -- its row and how it stood are as they were, and of its counts all but what a frame that is dropped
 -- changes.

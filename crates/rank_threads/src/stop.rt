@@ -59,8 +59,8 @@ impl<'a, H> Shared<'a, H> {
         ensures set { result.flag.of ≡ self.now.stop.now.id }
     {
         let stop = self.stop;
-        let flag = stop.init(rt, || ());
-        Stopped { flag }
+        let told = stop.init(rt, || ());
+        Stopped { flag: told }
     }
 
     /// Whether all ranks are to leave.

@@ -3,7 +3,8 @@
 ghost use Rattle.std.specs.Prelude.{◌≡◌, ◌≢◌, Some, None};
 ghost use Rattle.event_logger.specs.Desks.{own_row};
 ghost use Rattle.rank_node.specs.declared.fault.NodeFault.TheVariants.{Memory};
-ghost use Rattle.rank_threads.specs.Following.{Follows, station_in};
+ghost use Rattle.rank_threads.specs.Dropping.{DropsAll};
+ghost use Rattle.rank_threads.specs.Following.{Follows, LosesFrames, station_in};
 ghost use Rattle.rank_threads.specs.Keeping.{HasLived, IsToldToLeave, Lives};
 ghost use Rattle.rank_threads.specs.Stations.{SameStation, HasRow};
 ghost use Rattle.rank_threads.specs.Tally.{begun_again};
@@ -59,6 +60,7 @@ pub enum Next<'l> {
 /// is fetched for the next life; it is given up if it has met a fault.
 pub fn follow<'l, W: Wait, H>(rt: &W, shared: &Shared<'_, H>, station: Station<'l>) -> Next<'l>
     ensures follows { Follows shared.now.text.now station.entry result }
+    ensures dropped { LosesFrames station.entry result }
     ensures same { SameStation station.entry (station_in result) }
 {
     if station.end.is_some() {
@@ -95,6 +97,7 @@ pub fn leave_unfinished<'l>(station: Station<'l>, _: Stopped<'_>) -> Station<'l>
 // The frames in the lanes into the rank are dropped, and its row is fetched.
 fn fetch_row<'l, W: Wait, H>(rt: &W, shared: &Shared<'_, H>, station: Station<'l>) -> Station<'l>
     ensures row { result.kit.tally.fault ≡ None → HasRow result }
+    ensures dropped { result.kit.tally.fault ≡ None → DropsAll station.entry result }
     ensures plan { result.kit.plan ≡ station.entry.kit.plan }
     ensures end { result.end ≡ station.entry.end }
     ensures stood { result.stood ≡ station.entry.stood }

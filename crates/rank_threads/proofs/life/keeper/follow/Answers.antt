@@ -17,6 +17,11 @@ returns-then-is_some-2-clause-follows g c = (
       (sym c.is_some-2.ensures ∙ c.if-is_some-2.true) c.give_up.ensures.counts,
 )
 
+-- else it has lost its frames
+pub returns-clause-dropped : goal.returns-clause-dropped
+returns-clause-dropped g c =
+    c.fetch_row-station.ensures.dropped (none_of c.fetch_row-station.result.kit.tally.fault (sym c.is_some-2.ensures ∙ c.if-is_some-2.false))
+
 -- it crashed without one, so its next life is behind this one
 pub returns-clause-follows : goal.returns-clause-follows
 returns-clause-follows g c =
