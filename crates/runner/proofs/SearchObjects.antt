@@ -1,5 +1,6 @@
 -- No number in what a search found is a float, so its text is that of its parts.
-use Rattle.std.proofs.Common.{◌≡◌, ℕ, ◌+◌, ℤ, pos, negsuc, Bool, false, ◌||◌, List, [], ◌∷◌, ◌++◌, Option, Some, None, map, codes, refl, ap, ◌∙◌}
+use Rattle.std.proofs.Common.{◌≡◌, ℕ, ◌+◌, ℤ, pos, negsuc, Bool, true, false, ◌||◌, List, [], ◌∷◌, ◌++◌, Option, Some, None, map, codes, refl, ap, ◌∙◌}
+use Rattle.std.specs.Prelude.{if◌then◌else◌}
 use Rattle.std.proofs.Common.{slice_get, Ordering, Less, Equal, Greater, nat_cmp}
 use Rattle.std.proofs.lemmas.Bool.{or_from, or_parts}
 use Rattle.std.specs.Cmp.Lexicographic.{slice_cmp}
@@ -8,6 +9,9 @@ use Rattle.audit.specs.declared.outcome.End.{End}
 use Rattle.audit.specs.declared.outcome.End.TheVariants as end
 use Rattle.crash_free.specs.declared.choice.Choice.{Choice}
 use Rattle.crash_free.specs.declared.choice.Choice.TheVariants as choice
+use Rattle.crash_free.specs.declared.leftover.Leftover.{Leftover}
+use Rattle.crash_free.specs.declared.leftover.Mark.{Mark}
+use Rattle.crash_free.specs.declared.leftover.Mark.TheVariants as known
 use Rattle.explore.specs.declared.moves.Noted.{Noted}
 use Rattle.explore.specs.Explored.{ExploredValue}
 use Rattle.audit.specs.FinalRuns.Maximal.{RankOutcome}
@@ -18,7 +22,7 @@ use Rattle.serde_json.specs.declared.value.Value.{Value}
 use Rattle.serde_json.specs.Written.{compact_text, has_float, items_have_float, members_have_float}
 use Rattle.runner.specs.SearchObject.{IsSearchObject, array_of, choice_members, choice_object, count, count_members, end_members, mark_at}
 use Rattle.runner.specs.SearchObject.{mark_value, object_of, outcome_object, outcome_objects, place_members, rank_object, rank_objects}
-use Rattle.runner.specs.SearchObject.{search_object, value, with_members}
+use Rattle.runner.specs.SearchObject.{behind_first, first_of, known_members, left_array, left_members, left_object, says_none, search_object, value, with_members}
 
 -- of three lists of members without a float the order picks one
 no_float-put_at : (o : Ordering) (a b c : Members) → members_have_float a ≡ false → members_have_float b ≡ false → members_have_float c ≡ false
@@ -117,32 +121,62 @@ no_float-mark : (mark : Option Bool) → has_float (mark_value mark) ≡ false
 no_float-mark (Some mark) = refl
 no_float-mark None = refl
 
--- an outcome, with its choices and its mark
-no_float-outcome : (lines : List ℕ) (number : ℕ) (outcome : List RankOutcome) (choices : List Noted) (mark : Option Bool)
-    → has_float (outcome_object lines number outcome choices mark) ≡ false
-no_float-outcome lines number outcome choices mark =
+-- by what a message is known
+no_float-known : (x : Mark) → HaveNoFloat (known_members x)
+no_float-known (known.Tag tag) = (refl, tt)
+no_float-known (known.Call kind (Some ordinal)) = (refl, (no_float-value ordinal, tt))
+no_float-known (known.Call kind None) = (refl, tt)
+
+-- a message that was never received
+no_float-left : (x : Leftover) → has_float (left_object x) ≡ false
+no_float-left x =
+    no_float-object_of ((codes "rank", count x.rank) ∷ (codes "source", count x.source) ∷ known_members x.mark) (refl, (refl, no_float-known x.mark))
+
+-- those of a run
+no_float-messages : (xs : List Leftover) → items_have_float (items_of (map left_object xs)) ≡ false
+no_float-messages [] = refl
+no_float-messages (x ∷ xs) = or_from (has_float (left_object x)) (items_have_float (items_of (map left_object xs))) (no_float-left x) (no_float-messages xs)
+
+-- of each of some runs
+no_float-listed : (listed : List (List Leftover)) → items_have_float (items_of (map left_array listed)) ≡ false
+no_float-listed [] = refl
+no_float-listed (xs ∷ others) =
+    or_from (has_float (left_array xs)) (items_have_float (items_of (map left_array others))) (no_float-messages xs) (no_float-listed others)
+
+-- so if something is said of it
+no_float-left_members : (listed : List (List Leftover)) → HaveNoFloat (left_members listed)
+no_float-left_members listed = go (says_none listed)
+  where
+    go : (b : Bool) → HaveNoFloat (if b then [] else ((codes "unreceived", array_of (map left_array listed)) ∷ []))
+    go true = tt
+    go false = (no_float-listed listed, tt)
+
+-- an outcome, with its choices, its mark and its leftovers
+no_float-outcome : (lines : List ℕ) (number : ℕ) (outcome : List RankOutcome) (choices : List Noted) (mark : Option Bool) (listed : List (List Leftover))
+    → has_float (outcome_object lines number outcome choices mark listed) ≡ false
+no_float-outcome lines number outcome choices mark listed =
     no_float-object_of
     ((codes "outcome", count number) ∷ (codes "ranks", array_of (rank_objects 0 outcome))
-    ∷ (codes "choices", array_of (map (choice_object lines) choices)) ∷ (codes "misses_shown", mark_value mark) ∷ [])
-    (refl, (no_float-ranks 0 outcome, (no_float-choices lines choices, (no_float-mark mark, tt))))
+    ∷ (codes "choices", array_of (map (choice_object lines) choices)) ∷ (codes "misses_shown", mark_value mark)
+    ∷ left_members listed)
+    (refl, (no_float-ranks 0 outcome, (no_float-choices lines choices, (no_float-mark mark, no_float-left_members listed))))
 
 -- so of all outcomes
 no_float-outcomes : (lines : List ℕ) (marks : List (Option Bool)) (index : ℕ) (outcomes : List (List RankOutcome)) (choices : List (List Noted))
-    → items_have_float (items_of (outcome_objects lines marks index outcomes choices)) ≡ false
-no_float-outcomes lines marks index [] choices = refl
-no_float-outcomes lines marks index (outcome ∷ outcomes) [] =
-    or_from _ _ (no_float-outcome lines (index + 1) outcome [] (mark_at marks index)) (no_float-outcomes lines marks (index + 1) outcomes [])
-no_float-outcomes lines marks index (outcome ∷ outcomes) (own ∷ choices) =
-    or_from _ _ (no_float-outcome lines (index + 1) outcome own (mark_at marks index)) (no_float-outcomes lines marks (index + 1) outcomes choices)
+    (left : List (List (List Leftover))) → items_have_float (items_of (outcome_objects lines marks index outcomes choices left)) ≡ false
+no_float-outcomes lines marks index [] choices left = refl
+no_float-outcomes lines marks index (outcome ∷ outcomes) choices left =
+    or_from _ _ (no_float-outcome lines (index + 1) outcome (first_of choices) (mark_at marks index) (first_of left))
+    (no_float-outcomes lines marks (index + 1) outcomes (behind_first choices) (behind_first left))
 
 -- nor is there one in all that was found, if there is none in the races
 no_float-search : (found : ExploredValue) (marks : List (Option Bool)) (lines : List ℕ) (races : Items) → items_have_float races ≡ false
     → has_float (search_object found marks lines races) ≡ false
 no_float-search found marks lines races clean =
     no_float-object_of
-    ((codes "outcomes", array_of (outcome_objects lines marks 0 found.outcomes found.choices)) ∷ (codes "races", json.array races)
+    ((codes "outcomes", array_of (outcome_objects lines marks 0 found.outcomes found.choices found.left)) ∷ (codes "races", json.array races)
     ∷ count_members found)
-    (no_float-outcomes lines marks 0 found.outcomes found.choices, (clean, (refl, (refl, (refl, (refl, (refl, tt)))))))
+    (no_float-outcomes lines marks 0 found.outcomes found.choices found.left, (clean, (refl, (refl, (refl, (refl, (refl, tt)))))))
 
 -- a value without a float is pushed to some without
 pub pushed : (list : List Value) (one : Value) → items_have_float (items_view list) ≡ false → has_float (view one) ≡ false

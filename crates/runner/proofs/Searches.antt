@@ -5,6 +5,7 @@ use Rattle.command_line.specs.declared.exploring.ExploreForm.TheVariants as form
 use Rattle.command_line.specs.declared.exploring.ExploreJob.{ExploreJob}
 use Rattle.crash_free.specs.Sim.{start_of}
 use Rattle.explore.specs.Counting.{GoesBeyond}
+use Rattle.explore.specs.Endings.{AreLeftovers}
 use Rattle.explore.specs.Explored.{ExploredValue}
 use Rattle.explore.specs.Exploring.{AlwaysEndsIn}
 use Rattle.explore.specs.Outcomes.{AreAll, AreDistinct, IsAmong}
@@ -27,14 +28,16 @@ pub is_found_by : (program : ProgramValue) (job : ExploreJob) (found : ExploredV
     → IsMasked outcomes n o)
     → ((outcome : List RankOutcome) → IsAmong found.outcomes outcome → IsPossible program job.ranks outcome)
     → (found.complete ≡ true → AreAll program job.ranks found.outcomes)
+    → AreLeftovers program job.ranks found.complete found.outcomes found.left
     → (found.complete ≡ true → AlwaysEndsIn (start_of program job.ranks) job.ranks (IsAmong found.outcomes) [])
     → (IsSmall program job.ranks runs steps → found.complete ≡ true)
     → (found.complete ≡ false → (found.runs ≡ runs) ⊎ IsTrue found.out_of_steps)
     → (found.out_of_steps ≡ true → GoesBeyond program job.ranks steps) → AreDistinct found.outcomes → found.runs ≤ runs
     → IsFoundBy program job found
-is_found_by program job found runs steps these those law possible complete ends small stopped beyond distinct few_runs = record {
+is_found_by program job found runs steps these those law possible complete left ends small stopped beyond distinct few_runs = record {
   possible = possible;
   complete = complete;
+  left = left;
   ends = ends;
   masks = masks;
   only = λ all outcome is. prints_only program job.ranks found.outcomes outcome (masks all) is;

@@ -1,6 +1,7 @@
 -- How one outcome after another is written.
 use Rattle.std.proofs.Common.{◌≡◌, ℕ, ◌+◌, Bool, List, [], ◌++◌, Option, Some, length, slice_get, subst, sym}
 use Rattle.std.proofs.lemmas.List.{length-map}
+use Rattle.crash_free.specs.declared.leftover.Leftover.{Leftover}
 use Rattle.explore.specs.declared.moves.Noted.{Noted}
 use Rattle.explore.specs.Explored.{ExploredValue, OutcomeValue, rank_outcomes}
 use Rattle.explore.specs.Shown.{AreMarked}
@@ -8,6 +9,7 @@ use Rattle.explore.proofs.SeenOf.{seen_at}
 use Rattle.audit.specs.FinalRuns.Maximal.{RankOutcome}
 use Rattle.rank_language.specs.Correct.{IsProgramOf}
 use Rattle.rank_language.specs.Program.{ProgramValue}
+use Rattle.runner.specs.LeftText.{shorts_text}
 use Rattle.runner.specs.Meanings.{meaning_text}
 use Rattle.runner.specs.OutcomesText.{AreWritten, IsExploredText, IsMarkedObject, IsMarkedSummary, IsMarkedText, IsSummary, one_text}
 use Rattle.runner.specs.Partings.{ArePartings}
@@ -16,21 +18,22 @@ use Rattle.runner.specs.declared.explored.parting.Parted.{Parted}
 use Rattle.rank_language.specs.StandOn.{IsLinedOf, StandOn}
 
 -- in an empty text none is written
-pub none_written : (outcomes : List (List RankOutcome)) (choices : List (List Noted)) (lines text : List ℕ) → text ≡ []
-    → AreWritten outcomes choices lines 0 text
-none_written outcomes choices lines text empty = subst (AreWritten outcomes choices lines 0) (sym empty) AreWritten.none
+pub none_written : (outcomes : List (List RankOutcome)) (choices : List (List Noted)) (left : List (List (List Leftover))) (lines text : List ℕ)
+    → text ≡ [] → AreWritten outcomes choices left lines 0 text
+none_written outcomes choices left lines text empty = subst (AreWritten outcomes choices left lines 0) (sym empty) AreWritten.none
 
 -- behind the first ones the next is written
-pub one_more : (outcomes : List (List RankOutcome)) (choices : List (List Noted)) (lines : List ℕ) (count : ℕ) (before after : List ℕ)
-    (outcome : List RankOutcome) (parted : List Parted) → AreWritten outcomes choices lines count before → slice_get outcomes count ≡ Some outcome
-    → ArePartings choices count parted → after ≡ before ++ one_text (count + 1) outcome lines parted
-    → AreWritten outcomes choices lines (count + 1) after
-one_more outcomes choices lines count before after outcome parted written there partings appended =
-    subst (AreWritten outcomes choices lines (count + 1)) (sym appended) (AreWritten.more outcome parted written there partings)
+pub one_more : (outcomes : List (List RankOutcome)) (choices : List (List Noted)) (left : List (List (List Leftover))) (lines : List ℕ) (count : ℕ)
+    (before after : List ℕ) (outcome : List RankOutcome) (parted : List Parted) (listed : List (List Leftover))
+    → AreWritten outcomes choices left lines count before → slice_get outcomes count ≡ Some outcome → ArePartings choices count parted
+    → slice_get left count ≡ Some listed → after ≡ before ++ one_text (count + 1) outcome lines parted listed
+    → AreWritten outcomes choices left lines (count + 1) after
+one_more outcomes choices left lines count before after outcome parted listed written there partings listed_there appended =
+    subst (AreWritten outcomes choices left lines (count + 1)) (sym appended) (AreWritten.more outcome parted listed written there partings listed_there)
 
 -- behind some lines what the outcomes mean
 pub is_summary : (found : ExploredValue) (marks : List (Option Bool)) (runs : ℕ) (races text : List ℕ)
-    → text ≡ races ++ meaning_text found marks runs → IsSummary found marks runs text
+    → text ≡ races ++ shorts_text 1 found.left ++ meaning_text found marks runs → IsSummary found marks runs text
 is_summary found marks runs races text whole = record { races = races; whole = whole }
 
 -- the outcomes, with their own marks

@@ -10,6 +10,7 @@ pub mod Reports
 pub mod Events
 pub mod Traces
 pub mod Partings
+pub mod LeftText
 pub mod Meanings
 pub mod SearchObject
 pub mod OutcomesText
@@ -22,4 +23,5 @@ pub mod Translations
 pub mod Objects
 pub mod Explanations
 pub mod Answers
+pub mod Unreceived
 pub mod Commands

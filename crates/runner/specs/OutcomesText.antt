@@ -2,11 +2,13 @@
 use Rattle.std.specs.Prelude.{◌≡◌, ℕ, ℤ, ◌+◌, Bool, length, List, [], ◌∷◌, ◌++◌, Option, Some, slice_get, codes}
 use Rattle.std.specs.Fmt.{decimal}
 use Rattle.world_model.specs.EventsText.Output.{line_text}
+use Rattle.crash_free.specs.declared.leftover.Leftover.{Leftover}
 use Rattle.explore.specs.declared.moves.Noted.{Noted}
 use Rattle.explore.specs.Explored.{ExploredValue}
 use Rattle.explore.specs.Shown.{AreMarked}
 use Rattle.audit.specs.FinalRuns.Maximal.{RankOutcome}
 use Rattle.rank_language.specs.Program.{ProgramValue}
+use Rattle.runner.specs.LeftText.{listed_text, shorts_text}
 use Rattle.runner.specs.Meanings.{meaning_text}
 use Rattle.runner.specs.Partings.{ArePartings, choices_text}
 use Rattle.runner.specs.SearchObject.{IsSearchObject}
@@ -33,32 +35,36 @@ endings_text rank (seen ∷ others) = end_text rank seen.end ++ endings_text (ra
 abbrev pub outcome_text : ℕ → List RankOutcome → List ℕ
 outcome_text number outcome = codes "outcome " ++ decimal number ++ codes "\n" ++ lines_text 0 outcome ++ endings_text 0 outcome
 
--- an outcome of this number, with the lines that say where runs part that lead there, and an empty
--- line
-unfoldable pub one_text : ℕ → List RankOutcome → List ℕ → List Parted → List ℕ
-one_text number outcome lines parted = outcome_text number outcome ++ choices_text lines parted ++ codes "\n"
+-- an outcome of this number, with the lines that say where runs part that lead there, those on what
+-- was never received in runs that have it, and an empty line
+unfoldable pub one_text : ℕ → List RankOutcome → List ℕ → List Parted → List (List Leftover) → List ℕ
+one_text number outcome lines parted listed = outcome_text number outcome ++ choices_text lines parted ++ listed_text (codes "# ") listed ++ codes "\n"
 
--- Of these outcomes, which have these choices, the first so many are written, one after another,
--- each with its number, from 1, and with the places where its choices part from those of outcomes
--- before it. The statement at position K of the program stands on line K of these.
-pub data AreWritten (outcomes : List (List RankOutcome)) (choices : List (List Noted)) (lines : List ℕ) : ℕ → List ℕ → Type 0 where
-  none : AreWritten outcomes choices lines 0 []
-  more : {count : ℕ} {text : List ℕ} (outcome : List RankOutcome) (parted : List Parted)
-      → AreWritten outcomes choices lines count text → slice_get outcomes count ≡ Some outcome → ArePartings choices count parted
-      → AreWritten outcomes choices lines (count + 1) (text ++ one_text (count + 1) outcome lines parted)
+-- Of these outcomes, which have these choices and these leftovers, the first so many are written, one
+-- after another, each with its number, from 1, with the places where its choices part from those of
+-- outcomes before it, and with its leftovers. The statement at position K of the program stands on
+-- line K of these.
+pub data AreWritten (outcomes : List (List RankOutcome)) (choices : List (List Noted)) (left : List (List (List Leftover))) (lines : List ℕ)
+    : ℕ → List ℕ → Type 0 where
+  none : AreWritten outcomes choices left lines 0 []
+  more : {count : ℕ} {text : List ℕ} (outcome : List RankOutcome) (parted : List Parted) (listed : List (List Leftover))
+      → AreWritten outcomes choices left lines count text → slice_get outcomes count ≡ Some outcome → ArePartings choices count parted
+      → slice_get left count ≡ Some listed
+      → AreWritten outcomes choices left lines (count + 1) (text ++ one_text (count + 1) outcome lines parted listed)
 
 -- What is printed of what a search found, with the marks of its outcomes, which looked at no more
 -- than so many runs, of a program whose statements stand on these lines: each outcome, what that
 -- means, and the last line.
 pub record IsExploredText (found : ExploredValue) (marks : List (Option Bool)) (runs : ℕ) (lines text : List ℕ) : Type 0 where
   pub outcomes : List ℕ
-  pub each : AreWritten found.outcomes found.choices lines (length found.outcomes) outcomes
+  pub each : AreWritten found.outcomes found.choices found.left lines (length found.outcomes) outcomes
   pub whole : text ≡ outcomes ++ meaning_text found marks runs
 
--- what is printed of it in short: some lines, and behind them what the outcomes mean
+-- what is printed of it in short: some lines, and behind them what was never received, and what the
+-- outcomes mean
 pub record IsSummary (found : ExploredValue) (marks : List (Option Bool)) (runs : ℕ) (text : List ℕ) : Type 0 where
   pub races : List ℕ
-  pub whole : text ≡ races ++ meaning_text found marks runs
+  pub whole : text ≡ races ++ shorts_text 1 found.left ++ meaning_text found marks runs
 
 -- The outcomes of the program of this text on so many ranks are printed with marks of their own,
 -- and with the lines of the text on which its statements stand.

@@ -1,15 +1,19 @@
 -- What a search found, as an object of JSON (RFC 8259; docs/FORMATS.md, "Standard output of
 -- `explore`"). The object's text has its members sorted by their names.
-use Rattle.std.specs.Prelude.{◌≡◌, ℕ, ℤ, ◌+◌, Bool, false, if◌then◌else◌, List, [], ◌∷◌, ◌++◌, Option, Some, None, map, slice_get, codes}
+use Rattle.std.specs.Prelude.{◌≡◌, ◌==◌, ℕ, ℤ, ◌+◌, Bool, true, false, if◌then◌else◌, List, [], ◌∷◌, ◌++◌, Option, Some, None, length, map, slice_get, codes}
 use Rattle.std.specs.Option.{option_flatten}
 use Rattle.audit.specs.declared.outcome.End.{End}
 use Rattle.audit.specs.declared.outcome.End.TheVariants as end
 use Rattle.crash_free.specs.declared.choice.Choice.{Choice}
 use Rattle.crash_free.specs.declared.choice.Choice.TheVariants as choice
+use Rattle.crash_free.specs.declared.leftover.Leftover.{Leftover}
+use Rattle.crash_free.specs.declared.leftover.Mark.{Mark}
+use Rattle.crash_free.specs.declared.leftover.Mark.TheVariants as known
 use Rattle.explore.specs.declared.moves.Noted.{Noted}
 use Rattle.explore.specs.Explored.{ExploredValue}
 use Rattle.audit.specs.FinalRuns.Maximal.{RankOutcome}
 use Rattle.rank_machine.specs.Faults.{fault_name, fault_number}
+use Rattle.run_shown.specs.Trace.Words.{name_text}
 use Rattle.serde_json.specs.Data.{Data, Items, Members, put}
 use Rattle.serde_json.specs.Data as json
 use Rattle.serde_json.specs.Find.{of_integer}
@@ -78,25 +82,63 @@ abbrev pub mark_value : Option Bool → Data
 mark_value (Some mark) = json.boolean mark
 mark_value None = json.null
 
--- the outcome of this number: what is seen of its ranks, the choices that are noted with it, and its
--- mark
-abbrev pub outcome_object : List ℕ → ℕ → List RankOutcome → List Noted → Option Bool → Data
-outcome_object lines number outcome choices mark =
+-- the number of a collective among those of its rank, if a packet has it
+abbrev pub ordinal_members : Option ℤ → List (List ℕ × Data)
+ordinal_members (Some ordinal) = (codes "number", value ordinal) ∷ []
+ordinal_members None = []
+
+-- by what to know a message: its tag, or the collective that it is of
+abbrev pub known_members : Mark → List (List ℕ × Data)
+known_members (known.Tag tag) = (codes "tag", count tag) ∷ []
+known_members (known.Call kind ordinal) = (codes "collective", json.string (name_text kind)) ∷ ordinal_members ordinal
+
+-- a message that was never received
+abbrev pub left_object : Leftover → Data
+left_object x = object_of ((codes "rank", count x.rank) ∷ (codes "source", count x.source) ∷ known_members x.mark)
+
+-- those of a run
+abbrev pub left_array : List Leftover → Data
+left_array messages = array_of (map left_object messages)
+
+-- what is listed is one run, in which nothing was left
+abbrev pub says_none : List (List Leftover) → Bool
+says_none [] = true
+says_none (messages ∷ []) = length messages == 0
+says_none (messages ∷ others ∷ more) = false
+
+-- what was never received in runs that have an outcome, if something was
+abbrev pub left_members : List (List Leftover) → List (List ℕ × Data)
+left_members listed = if says_none listed then [] else ((codes "unreceived", array_of (map left_array listed)) ∷ [])
+
+-- the outcome of this number: what is seen of its ranks, the choices that are noted with it, its mark,
+-- and what was never received in runs that have it
+abbrev pub outcome_object : List ℕ → ℕ → List RankOutcome → List Noted → Option Bool → List (List Leftover) → Data
+outcome_object lines number outcome choices mark listed =
     object_of ((codes "outcome", count number) ∷ (codes "ranks", array_of (rank_objects 0 outcome))
-    ∷ (codes "choices", array_of (map (choice_object lines) choices)) ∷ (codes "misses_shown", mark_value mark) ∷ [])
+    ∷ (codes "choices", array_of (map (choice_object lines) choices)) ∷ (codes "misses_shown", mark_value mark)
+    ∷ left_members listed)
+
+-- the first of these, and none if there is none
+abbrev pub first_of : {A : Type 0} → List (List A) → List A
+first_of [] = []
+first_of (x ∷ xs) = x
+
+-- those behind the first
+abbrev pub behind_first : {A : Type 0} → List A → List A
+behind_first [] = []
+behind_first (x ∷ xs) = xs
 
 -- the mark of the outcome at this index, if there is one
 abbrev pub mark_at : List (Option Bool) → ℕ → Option Bool
 mark_at marks index = option_flatten (slice_get marks index)
 
--- the outcomes from this index on, with their choices, none where these are too few; numbers are from
--- 1, an index from 0
-abbrev pub outcome_objects : List ℕ → List (Option Bool) → ℕ → List (List RankOutcome) → List (List Noted) → List Data
-outcome_objects lines marks index [] choices = []
-outcome_objects lines marks index (outcome ∷ outcomes) [] =
-    outcome_object lines (index + 1) outcome [] (mark_at marks index) ∷ outcome_objects lines marks (index + 1) outcomes []
-outcome_objects lines marks index (outcome ∷ outcomes) (own ∷ choices) =
-    outcome_object lines (index + 1) outcome own (mark_at marks index) ∷ outcome_objects lines marks (index + 1) outcomes choices
+-- the outcomes from this index on, with their choices and their leftovers; numbers are from 1, an
+-- index from 0
+abbrev pub outcome_objects : List ℕ → List (Option Bool) → ℕ → List (List RankOutcome) → List (List Noted) → List (List (List Leftover)) → List Data
+outcome_objects lines marks index [] choices left = []
+outcome_objects lines marks index (outcome ∷ outcomes) choices left =
+    outcome_object lines (index + 1) outcome (first_of choices) (mark_at marks index) (first_of left)
+    ∷ outcome_objects lines marks (index + 1) outcomes (behind_first choices) (behind_first left)
 
 -- how the search ended, and how many runs it looked at and states it kept
 abbrev pub count_members : ExploredValue → List (List ℕ × Data)
@@ -107,7 +149,7 @@ count_members found =
 -- all that a search found, with these marks and these races
 abbrev pub search_object : ExploredValue → List (Option Bool) → List ℕ → Items → Data
 search_object found marks lines races =
-    object_of ((codes "outcomes", array_of (outcome_objects lines marks 0 found.outcomes found.choices))
+    object_of ((codes "outcomes", array_of (outcome_objects lines marks 0 found.outcomes found.choices found.left))
     ∷ (codes "races", json.array races) ∷ count_members found)
 
 -- The text is this object on a line of its own. Of the races it only says that they are an array in

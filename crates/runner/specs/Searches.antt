@@ -4,6 +4,7 @@ use Rattle.std.specs.Prelude.{◌≡◌, ◌≤◌, ◌↔◌, ◌⊎◌, ℕ, t
 use Rattle.command_line.specs.declared.exploring.ExploreForm.TheVariants as form
 use Rattle.command_line.specs.declared.exploring.ExploreJob.{ExploreJob}
 use Rattle.explore.specs.Counting.{GoesBeyond}
+use Rattle.explore.specs.Endings.{AreLeftovers}
 use Rattle.explore.specs.Explored.{ExploredValue}
 use Rattle.explore.specs.Outcomes.{AreAll, AreDistinct, IsAmong}
 use Rattle.explore.specs.Small.{IsSmall}
@@ -16,7 +17,8 @@ use Rattle.run_events.specs.Halting.{AllHalt}
 use Rattle.runner.specs.OutcomesText.{IsMarkedObject, IsMarkedSummary, IsMarkedText}
 use Rattle.runner.specs.Reading.{IsProgramIn}
 
--- What a search found: the program may have each outcome. If the search is complete, it has no
+-- What a search found: the program may have each outcome, and what is listed of it was never received
+-- in some run that has it; if the search is complete, in no such run something else was left. If the search is complete, it has no
 -- other, however its ranks go on they come to an end that was found, and crashes add none to those
 -- of runs; so where there is one outcome, it is all that a run prints. The search of a small
 -- program is complete. One that isn't looked at as many runs as the job allows, or a rank came to
@@ -25,6 +27,7 @@ use Rattle.runner.specs.Reading.{IsProgramIn}
 pub record IsFoundBy (program : ProgramValue) (job : ExploreJob) (found : ExploredValue) : Type 0 where
   pub possible : (outcome : List RankOutcome) → IsAmong found.outcomes outcome → IsPossible program job.ranks outcome
   pub complete : found.complete ≡ true → AreAll program job.ranks found.outcomes
+  pub left : AreLeftovers program job.ranks found.complete found.outcomes found.left
   pub ends : found.complete ≡ true → EndsAmong program job.ranks found.outcomes
   pub masks : found.complete ≡ true → AreMasked program job.ranks found.outcomes
   pub only : found.complete ≡ true → (outcome : List RankOutcome) → found.outcomes ≡ outcome ∷ [] → PrintsOnly program job.ranks outcome

@@ -34,6 +34,7 @@ mod scheduling;
 mod soaking;
 mod telling;
 mod trace;
+mod unreceived;
 mod world;
 mod world_objects;
 

@@ -1,5 +1,6 @@
 //! What the program prints of all outcomes of a program.
-ghost use Rattle.std.specs.Prelude.{◌≡◌, ◌<◌, ◌+◌, ◌++◌, ◌↔◌, IfOk, IsTrue, OnOk, Some, [], length, slice_get, string_bytes};
+ghost use Rattle.std.specs.Prelude.{◌≡◌, ◌<◌, ◌+◌, ◌++◌, ◌↔◌, IfOk, IsTrue, OnOk, Some, [], codes, length, slice_get, string_bytes};
+ghost use Rattle.runner.specs.LeftText.{listed_text};
 ghost use Rattle.explore.specs.Explored.{rank_outcomes};
 ghost use Rattle.runner.specs.Partings.{AreOfLast, ArePartings};
 ghost use Rattle.run_events.specs.Halting.{AllHalt, Halts};
@@ -7,11 +8,14 @@ ghost use Rattle.runner.specs.OutcomesText.{AreWritten, IsExploredText};
 ghost use Rattle.runner.specs.OutcomesText.{endings_text, lines_text, one_text, outcome_text, values_text};
 
 mod json;
+mod leftover;
 mod meaning;
 mod parting;
 mod racing;
 
 pub use crate::explored::json::explored_json;
+pub use crate::explored::leftover::print_left;
+use crate::explored::leftover::print_listed;
 use crate::explored::meaning::print_meaning;
 use crate::explored::parting::{Parted, part, print_choices};
 pub use crate::explored::racing::print_summary;
@@ -69,7 +73,7 @@ fn print_outcomes(
     lines: &[usize],
 ) -> Result<(), AllocError>
     requires { string_bytes text.old ≡ [] }
-    ensures { OnOk result (AreWritten found.now.outcomes found.now.choices lines.now (length found.now.outcomes) (string_bytes text.new)) }
+    ensures { OnOk result (AreWritten found.now.outcomes found.now.choices found.now.left lines.now (length found.now.outcomes) (string_bytes text.new)) }
 {
     let mut parted = Vec::new(alloc);
     for index in 0..found.outcomes.len() {
@@ -100,6 +104,7 @@ pub fn outcome_at(found: &Explored, index: usize) -> &Outcome
     requires { index < length found.now.outcomes }
     ensures outcome { slice_get found.now.outcomes index ≡ Some result.now.ranks }
     ensures choices { slice_get found.now.choices index ≡ Some result.now.choices }
+    ensures left { slice_get found.now.left index ≡ Some result.now.left }
 {
     &found.outcomes[index]
 }
@@ -112,11 +117,18 @@ fn print_one(
     parted: &[Parted],
     lines: &[usize],
 ) -> Result<(), AllocError>
-    ensures { OnOk result (string_bytes text.new ≡ string_bytes text.old ++ one_text number outcome.now.ranks lines.now parted.now) }
+    ensures { OnOk result (string_bytes text.new ≡ string_bytes text.old ++ one_text number outcome.now.ranks lines.now parted.now outcome.now.left) }
 {
     print_outcome(text, number, outcome.ranks.as_slice())?;
     print_choices(text, parted, lines)?;
+    print_left_of(text, outcome)?;
     writeln!(text)
+}
+
+fn print_left_of(text: &mut String<Heap>, outcome: &Outcome) -> Result<(), AllocError>
+    ensures { OnOk result (string_bytes text.new ≡ string_bytes text.old ++ listed_text (codes "# ") outcome.now.left) }
+{
+    print_listed(text, "# ", outcome.left.as_slice())
 }
 
 /// The outcome of this number: what each rank printed, and how it ended.

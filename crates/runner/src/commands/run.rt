@@ -1,14 +1,16 @@
 //! A job's run, and its report.
-ghost use Rattle.std.specs.Prelude.{◌≡◌, ◌≤◌, IfErr, IfOk, length};
+ghost use Rattle.std.specs.Prelude.{◌≡◌, ◌≤◌, IfErr, IfOk, length, string_bytes};
 ghost use Rattle.limits.specs.Limits.{most_ranks};
 ghost use Rattle.runner.specs.Answers.{IsReportText, IsRunAnswer};
 ghost use Rattle.runner.specs.Reasons.{IsRunRefusal, UnlessMemory};
 ghost use Rattle.runner.specs.Reports.{IsReportOf, IsReportUnder};
+ghost use Rattle.runner.specs.Unreceived.{IsRunTold, TellsLeft};
 
 use crate::commands::reading::{program_in, script_by};
 use crate::commands::refusal::Refusal;
 use crate::commands::said::Said;
 use crate::commands::scheduling::{certified_by, schedule_of};
+use crate::commands::unreceived::left_text;
 use crate::costs::print_costs;
 use crate::files::Files;
 use crate::output::{all_halted, print_report};
@@ -31,7 +33,7 @@ impl Hold for Nobody {
 
 /// The text of the report of the job's run. The status is 1 where a rank isn't
 /// halted.
-#[tactic(auto, using(crate::proofs::Answers::is_run_answer, crate::proofs::Answers::as_many_ends, crate::proofs::Reasons::of_memory))]
+#[tactic(auto, using(crate::proofs::Answers::is_run_answer, crate::proofs::Answers::as_many_ends, crate::proofs::Reasons::of_memory, crate::proofs::Unreceived::is_run_told))]
 pub fn ran<'a, R: Threads + Wait + Sync + Copy + Send, F: Files>(
     rt: &R,
     alloc: Heap,
@@ -39,32 +41,45 @@ pub fn ran<'a, R: Threads + Wait + Sync + Copy + Send, F: Files>(
     files: &mut F,
 ) -> Result<Said, Refusal<'a>>
     ensures answer { IfOk result (λ said. IsRunAnswer (F.holds files.old) job.entry said.out.items said.status) }
+    ensures told { IfOk result (λ said. IsRunTold (F.holds files.old) job.entry said.out.items (string_bytes said.err) said.status) }
     ensures refused { IfErr result (UnlessMemory (IsRunRefusal (F.holds files.old) job.entry)) }
 {
-    let report = report_of(rt, alloc, job, files)?;
-    match answer(alloc, job, &report) {
+    let made = report_of(rt, alloc, job, files)?;
+    match answer(alloc, job, made) {
         Ok(said) => Ok(said),
         Err(error) => Err(Refusal::from(error)),
     }
 }
 
+// A report, and what is told of messages that were never received.
+#[derive(Drop)]
+struct Reported {
+    report: Report,
+    left: String<Heap>,
+}
+
 // The program is read and parsed before the script is read.
-#[tactic(auto, using(crate::proofs::Answers::is_report_of, crate::proofs::Reasons::run_of_program, crate::proofs::Reasons::run_of_script, crate::proofs::Reasons::run_of_fault))]
+#[tactic(auto, using(crate::proofs::Answers::is_report_of, crate::proofs::Reasons::of_memory, crate::proofs::Reasons::run_of_program, crate::proofs::Reasons::run_of_script, crate::proofs::Reasons::run_of_fault, crate::proofs::Unreceived::tells_left))]
 fn report_of<'a, R: Threads + Wait + Sync + Copy + Send, F: Files>(
     rt: &R,
     alloc: Heap,
     job: RunJob<'a>,
     files: &mut F,
-) -> Result<Report, Refusal<'a>>
-    ensures report { IfOk result (λ report. IsReportOf (F.holds files.old) job.entry report) }
+) -> Result<Reported, Refusal<'a>>
+    ensures report { IfOk result (λ made. IsReportOf (F.holds files.old) job.entry made.report) }
+    ensures left { IfOk result (λ made. TellsLeft (F.holds files.old) job.entry made.report (string_bytes made.left)) }
     ensures refused { IfErr result (UnlessMemory (IsRunRefusal (F.holds files.old) job.entry)) }
 {
     let program = program_in(alloc, job.program, files)?;
     let asked = script_by(alloc, job.script, job.ranks, files)?;
     let script = &asked.script;
     let (limits, schedule) = (limits_of(job), schedule_of(job.scheduling));
-    match report_by(rt, alloc, &program, job.ranks, script, limits, schedule) {
-        Ok(report) => Ok(report),
+    match certified_by(rt, alloc, &program, job.ranks, script, limits, schedule) {
+        Ok(certified) => {
+            let left = left_text(alloc, &certified.run)?;
+            let Certified { report, run: _ } = certified;
+            Ok(Reported { report, left })
+        }
         Err(fault) => Err(Refusal::from(fault)),
     }
 }
@@ -102,12 +117,18 @@ pub fn limits_of(job: RunJob<'_>) -> RunLimits
     }
 }
 
-fn answer(alloc: Heap, job: RunJob<'_>, report: &Report) -> Result<Said, AllocError>
-    requires { length report.now.outcome.ends ≡ job.ranks }
-    ensures { IfOk result (λ said. IsReportText job.entry.costs report.now said.out.items said.status) }
+fn answer(alloc: Heap, job: RunJob<'_>, made: Reported) -> Result<Said, AllocError>
+    requires { length made.report.outcome.ends ≡ job.ranks }
+    ensures out { IfOk result (λ said. IsReportText job.entry.costs made.report said.out.items said.status) }
+    ensures err { IfOk result (λ said. string_bytes said.err ≡ string_bytes made.left) }
 {
-    let mut text = print_report(alloc, job.ranks, report)?;
-    print_costs(&mut text, job.costs, report)?;
+    let Reported { report, left } = made;
+    let mut text = print_report(alloc, job.ranks, &report)?;
+    print_costs(&mut text, job.costs, &report)?;
     let status = if all_halted(&report.outcome) { 0 } else { 1 };
-    Ok(Said::answer(alloc, status, text.into_bytes()))
+    Ok(Said {
+        status,
+        out: text.into_bytes(),
+        err: left,
+    })
 }

@@ -1,17 +1,19 @@
 //! What a search found, as JSON.
 ghost use Rattle.std.specs.Prelude.{◌≡◌, IfOk, OnOk, false, map, slice_get, string_bytes};
-ghost use Rattle.explore.specs.Explored.{noted_choices, rank_outcomes};
+ghost use Rattle.explore.specs.Explored.{listed_left, noted_choices, rank_outcomes};
 ghost use Rattle.serde_json.specs.Data.{put as with_member, string};
 ghost use Rattle.serde_json.specs.View.{items_view, members_view, view};
 ghost use Rattle.serde_json.specs.Written.{has_float, items_have_float};
 ghost use Rattle.runner.specs.SearchObject.{IsSearchObject, choice_members, choice_object, count_members, end_members};
 ghost use Rattle.runner.specs.SearchObject.{mark_at, mark_value, outcome_object, outcome_objects, place_members};
+ghost use Rattle.runner.specs.SearchObject.{known_members, left_array, left_members, left_object, ordinal_members, says_none};
 ghost use Rattle.runner.specs.SearchObject.{rank_object, rank_objects, value, with_members};
 
 use audit::End;
-use crash_free::Choice;
-use explore::{Explored, Noted, Outcome, Race, RankEnd};
+use crash_free::{Choice, Leftover, Mark};
+use explore::{Explored, Leftovers, Noted, Outcome, Race, RankEnd};
 use limits::Heap;
+use run_shown::trace::kind_name;
 use serde_json::{Map, Value, put};
 use std::alloc::AllocError;
 
@@ -59,7 +61,7 @@ fn outcomes_of(
     marks: &[Option<bool>],
     lines: &[usize],
 ) -> Result<Vec<Value, Heap>, AllocError>
-    ensures { IfOk result (λ list. map view list.items ≡ outcome_objects lines.now marks.now 0 (rank_outcomes outcomes.now) (noted_choices outcomes.now)) }
+    ensures { IfOk result (λ list. map view list.items ≡ outcome_objects lines.now marks.now 0 (rank_outcomes outcomes.now) (noted_choices outcomes.now) (listed_left outcomes.now)) }
 {
     let mut list = Vec::new(alloc);
     let mut index = 0usize;
@@ -88,7 +90,7 @@ fn outcome_value(
     mark: Option<bool>,
     lines: &[usize],
 ) -> Result<Value, AllocError>
-    ensures { IfOk result (λ v. view v ≡ outcome_object lines.now number outcome.now.ranks outcome.now.choices mark) }
+    ensures { IfOk result (λ v. view v ≡ outcome_object lines.now number outcome.now.ranks outcome.now.choices mark outcome.now.left) }
 {
     let mut one = Map::new(alloc);
     put(&mut one, alloc, "outcome", Value::from(number as u64))?;
@@ -97,6 +99,7 @@ fn outcome_value(
     let choices = choices_of(alloc, outcome.choices.as_slice(), lines)?;
     put(&mut one, alloc, "choices", Value::from(choices))?;
     put(&mut one, alloc, "misses_shown", shown(mark))?;
+    put_left(alloc, &mut one, outcome.left.as_slice())?;
     Ok(Value::from(one))
 }
 
@@ -106,6 +109,105 @@ fn shown(mark: Option<bool>) -> Value
     match mark {
         Some(yes) => Value::from(yes),
         None => Value::Null,
+    }
+}
+
+// What was never received in runs that have an outcome, if something was.
+fn put_left(
+    alloc: Heap,
+    to: &mut Map<String<Heap>, Value>,
+    listed: &[Leftovers],
+) -> Result<(), AllocError>
+    ensures { OnOk result (members_view to.new.entries ≡ with_members (left_members listed.now) (members_view to.old.entries)) }
+{
+    if says_none(listed) {
+        return Ok(());
+    }
+    let left = listed_of(alloc, listed)?;
+    put(to, alloc, "unreceived", Value::from(left))
+}
+
+fn says_none(listed: &[Leftovers]) -> bool
+    ensures { result ≡ says_none listed.now }
+{
+    match listed {
+        [] => true,
+        [only] => only.messages.is_empty(),
+        [_, _, ..] => false,
+    }
+}
+
+// The same, a list for each run.
+fn listed_of(alloc: Heap, listed: &[Leftovers]) -> Result<Vec<Value, Heap>, AllocError>
+    ensures { IfOk result (λ list. map view list.items ≡ map left_array listed.now) }
+{
+    let mut list = Vec::new(alloc);
+    for some in listed {
+        list.push(messages_value(alloc, some)?)?;
+    }
+    Ok(list)
+}
+
+fn messages_value(alloc: Heap, some: &Leftovers) -> Result<Value, AllocError>
+    ensures { IfOk result (λ v. view v ≡ left_array some.now) }
+{
+    let messages = messages_of(alloc, some.messages.as_slice())?;
+    Ok(Value::from(messages))
+}
+
+fn messages_of(alloc: Heap, messages: &[Leftover]) -> Result<Vec<Value, Heap>, AllocError>
+    ensures { IfOk result (λ list. map view list.items ≡ map left_object messages.now) }
+{
+    let mut list = Vec::new(alloc);
+    for one in messages {
+        list.push(message_value(alloc, *one)?)?;
+    }
+    Ok(list)
+}
+
+fn message_value(alloc: Heap, message: Leftover) -> Result<Value, AllocError>
+    ensures { IfOk result (λ v. view v ≡ left_object message) }
+{
+    let mut one = Map::new(alloc);
+    put(
+        &mut one,
+        alloc,
+        "rank",
+        Value::from(u64::from(message.rank)),
+    )?;
+    put(
+        &mut one,
+        alloc,
+        "source",
+        Value::from(u64::from(message.source)),
+    )?;
+    put_known(alloc, &mut one, message.mark)?;
+    Ok(Value::from(one))
+}
+
+// By what to know a message.
+fn put_known(alloc: Heap, to: &mut Map<String<Heap>, Value>, mark: Mark) -> Result<(), AllocError>
+    ensures { OnOk result (members_view to.new.entries ≡ with_members (known_members mark) (members_view to.old.entries)) }
+{
+    match mark {
+        Mark::Tag(tag) => put(to, alloc, "tag", Value::from(u64::from(tag))),
+        Mark::Call { kind, number } => {
+            put_text(alloc, to, "collective", kind_name(kind))?;
+            put_ordinal(alloc, to, number)
+        }
+    }
+}
+
+fn put_ordinal(
+    alloc: Heap,
+    to: &mut Map<String<Heap>, Value>,
+    number: Option<i64>,
+) -> Result<(), AllocError>
+    ensures { OnOk result (members_view to.new.entries ≡ with_members (ordinal_members number) (members_view to.old.entries)) }
+{
+    match number {
+        Some(number) => put(to, alloc, "number", Value::from(number)),
+        None => Ok(()),
     }
 }
 

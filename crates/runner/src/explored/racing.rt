@@ -2,6 +2,7 @@
 ghost use Rattle.std.specs.Prelude.{IfOk, string_bytes};
 ghost use Rattle.runner.specs.OutcomesText.{IsSummary};
 
+use crate::explored::leftover::print_shorts;
 use crate::explored::meaning::print_meaning;
 use crate::explored::parting::print_place;
 use explore::{Explored, Limits, Race};
@@ -26,6 +27,7 @@ pub fn print_summary(
     for race in found.races.iter() {
         print_race(&mut text, race, lines)?;
     }
+    print_shorts(&mut text, found.outcomes.as_slice())?;
     print_meaning(&mut text, found, marks, limits.runs)?;
     Ok(text)
 }
