@@ -34,7 +34,7 @@ pub struct Scheduling {
 /// Whether the ranks take turns on one thread, and how.
 pub fn schedule() -> Argument {
     let help = "Runs all ranks on one thread, in turns (below)";
-    Argument::word("schedule", "POLICY", help)
+    Argument::word("schedule", "ORDER", help)
 }
 
 /// What the turns are drawn from.
