@@ -108,3 +108,12 @@ pub rank_in_parts : (t : Table) (s : SimValue) (c : Rows) (r : ℕ) → and_rank
 rank_in_parts t s c r =
     ap (λ z. and_mail s z r) (appended (and_own t s) (own_behind t s) c r)
     ∙ appended (and_mail s) (mail_behind s) (behind c (and_own t s no_rows r)) r
+
+-- where a rank stands
+rank_behind : (t : Table) (s : SimValue) (c d : Rows) (r : ℕ) → and_rank t s (behind c d) r ≡ behind c (and_rank t s d r)
+rank_behind t s c d r = ap (λ z. and_mail s z r) (own_behind t s c d r) ∙ mail_behind s c (and_own t s d r) r
+
+-- so where the ranks stand is the same rows behind whatever was written before
+pub ranks_behind : (t : Table) (s : SimValue) (c : Rows) (n : ℕ) → and_below (and_rank t s) c n ≡ behind c (and_below (and_rank t s) no_rows n)
+ranks_behind t s c n =
+    ap (λ z. and_below (and_rank t s) z n) (sym (behind_nothing c)) ∙ below_behind (and_rank t s) (λ x y r. rank_behind t s x y r) c no_rows n
