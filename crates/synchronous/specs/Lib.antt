@@ -1,0 +1,3 @@
+pub mod Acknowledged
+pub mod Free
+pub mod Synchronous

@@ -1,0 +1,16 @@
+//! A rank program whose sends are synchronous, as a program with acknowledgements.
+//!
+//! [`acknowledged`] puts a receive of an acknowledgement behind each send, and a send of one
+//! behind each receive. So a run of that program is one in which no message is buffered.
+#![tactic(auto)]
+
+mod acknowledging;
+pub mod added;
+pub mod fault;
+mod free;
+mod heard;
+mod heard_form;
+mod statements;
+
+pub use acknowledging::acknowledged;
+pub use fault::SynchronousFault;
