@@ -89,13 +89,14 @@ IsExploreFormOf arguments (explore_form.Events outcome) =
     IsSomeAnd (value_of (codes "events") arguments) (λ text. Spells text outcome)
 
 -- The search is on as many ranks as `--ranks` says, and within the limits that `--runs`, `--steps` and
--- `--states` give. The only file holds the program.
+-- `--states` give; sends are synchronous if `--synchronous` is there. The only file holds the program.
 pub record IsExploreOf (command : List ℕ) (arguments : List (List ℕ)) (search : ExploreJob) : Type 0 where
   pub ranks : IsSomeAnd (value_of (codes "ranks") arguments) (λ text. Spells text search.ranks)
   pub runs : IsSpelledOr 100000 (value_of (codes "runs") arguments) search.runs
   pub steps : IsSpelledOr 100000 (value_of (codes "steps") arguments) search.steps
   pub states : IsSpelledOr 1000000 (value_of (codes "states") arguments) search.states
   pub form : IsExploreFormOf arguments search.form
+  pub synchronous : search.synchronous ≡ is_given (codes "synchronous") arguments
   pub files : files_of command arguments ≡ search.program.now ∷ []
 
 -- The outcome is judged for as many ranks as `--ranks` says, within the steps that `--steps` gives, and a

@@ -30,6 +30,8 @@ pub struct ExploreJob<'a> {
     pub steps: u32,
     pub states: u32,
     pub form: ExploreForm,
+    /// Whether each send waits until its message is received.
+    pub synchronous: bool,
     pub program: &'a str,
     pub ghost some_rank: { 1 ≤ ranks },
     pub ghost few_ranks: { ranks ≤ most_ranks },
@@ -63,6 +65,10 @@ pub fn explore<'a>(alloc: Global) -> Result<Command<'a>, AllocError> {
             ),
             Argument::flag("json", "Prints all of it as JSON, one object").without(&["summary"]),
             events(),
+            Argument::flag(
+                "synchronous",
+                "Lets each send wait until its message is received",
+            ),
             program(),
         ],
     )
@@ -79,5 +85,5 @@ fn limit(
 
 fn events() -> Argument {
     let help = "Prints a run of outcome K as events, for `ftmpi world`";
-    Argument::number("events", "K", help, 1, None).without(&["summary", "json"])
+    Argument::number("events", "K", help, 1, None).without(&["summary", "json", "synchronous"])
 }

@@ -126,6 +126,7 @@ fn is_flag(command: &str, name: &str) -> bool
         || name == "json"
         || name == "picture"
         || name == "summary"
+        || name == "synchronous"
         || name == "to-the-end"
         || name == "trace"
         || (name == "events" && command == "trace")

@@ -13,14 +13,13 @@ use Rattle.explore.specs.Small.{IsSmall}
 use Rattle.audit.specs.Outcome.{OutcomeValue}
 use Rattle.audit.specs.FinalRuns.Final.{IsFinal}
 use Rattle.audit.specs.FinalRuns.Maximal.{IsPossible, RankOutcome}
-use Rattle.rank_language.specs.Correct.{IsProgramOf}
 use Rattle.rank_language.specs.Program.{ProgramValue}
 use Rattle.runner.proofs.Crashes.{prints_only}
 use Rattle.run_events.specs.Masking.{EndsAmong, IsMasked}
 use Rattle.runner.specs.Crashes.{AreMasked}
 use Rattle.runner.specs.Events.{PlaysOutcome}
 use Rattle.runner.specs.OutcomesText.{IsMarkedObject, IsMarkedSummary, IsMarkedText}
-use Rattle.runner.specs.Searches.{HasSearchStatus, IsExploreAnswer, IsFoundBy, IsPrinted, IsSearchAnswer}
+use Rattle.runner.specs.Searches.{HasSearchStatus, IsExploreAnswer, IsFoundBy, IsPrinted, IsSearchAnswer, IsSearchedOf}
 
 -- what a search found within limits that are the job's, where crashes add no outcome to those of a complete one
 pub is_found_by : (program : ProgramValue) (job : ExploreJob) (found : ExploredValue) (runs steps : ℕ) → runs ≡ job.runs → steps ≡ job.steps
@@ -53,9 +52,9 @@ is_found_by program job found runs steps these those law possible complete left 
     masks all o final = law program job.ranks found.outcomes o (ends all) final
 
 -- the text of what was found is printed where it is asked for
-pub text_printed : (source : List ℕ) (program : ProgramValue) (job : ExploreJob) (found : ExploredValue) (out : List ℕ)
-    → job.form ≡ form.Text → IsMarkedText source program job.ranks found job.runs out → IsPrinted source program job found out
-text_printed source program job found out is text =
+pub text_printed : (lines : List ℕ) (program : ProgramValue) (job : ExploreJob) (found : ExploredValue) (out : List ℕ)
+    → job.form ≡ form.Text → IsMarkedText job.synchronous lines program job.ranks found job.runs out → IsPrinted lines program job found out
+text_printed lines program job found out is text =
     record {
       text = λ _. text;
       summary = λ other. (let e : form.Text ≡ form.Summary = sym is ∙ other in absurd cc);
@@ -64,9 +63,9 @@ text_printed source program job found out is text =
     }
 
 -- so is the short one
-pub summary_printed : (source : List ℕ) (program : ProgramValue) (job : ExploreJob) (found : ExploredValue) (out : List ℕ)
-    → job.form ≡ form.Summary → IsMarkedSummary program job.ranks found job.runs out → IsPrinted source program job found out
-summary_printed source program job found out is text =
+pub summary_printed : (lines : List ℕ) (program : ProgramValue) (job : ExploreJob) (found : ExploredValue) (out : List ℕ)
+    → job.form ≡ form.Summary → IsMarkedSummary job.synchronous program job.ranks found job.runs out → IsPrinted lines program job found out
+summary_printed lines program job found out is text =
     record {
       text = λ other. (let e : form.Summary ≡ form.Text = sym is ∙ other in absurd cc);
       summary = λ _. text;
@@ -75,9 +74,9 @@ summary_printed source program job found out is text =
     }
 
 -- so is the object of JSON
-pub json_printed : (source : List ℕ) (program : ProgramValue) (job : ExploreJob) (found : ExploredValue) (out : List ℕ)
-    → job.form ≡ form.Json → IsMarkedObject source program job.ranks found out → IsPrinted source program job found out
-json_printed source program job found out is text =
+pub json_printed : (lines : List ℕ) (program : ProgramValue) (job : ExploreJob) (found : ExploredValue) (out : List ℕ)
+    → job.form ≡ form.Json → IsMarkedObject lines program job.ranks found out → IsPrinted lines program job found out
+json_printed lines program job found out is text =
     record {
       text = λ other. (let e : form.Json ≡ form.Text = sym is ∙ other in absurd cc);
       summary = λ other. (let e : form.Json ≡ form.Summary = sym is ∙ other in absurd cc);
@@ -86,9 +85,9 @@ json_printed source program job found out is text =
     }
 
 -- the events of the outcome that is named are printed
-pub events_printed : (source : List ℕ) (program : ProgramValue) (job : ExploreJob) (found : ExploredValue) (out : List ℕ) (number : ℕ)
-    → job.form ≡ form.Events number → PlaysOutcome program job.ranks found.outcomes number out → IsPrinted source program job found out
-events_printed source program job found out number is played = record {
+pub events_printed : (lines : List ℕ) (program : ProgramValue) (job : ExploreJob) (found : ExploredValue) (out : List ℕ) (number : ℕ)
+    → job.form ≡ form.Events number → PlaysOutcome program job.ranks found.outcomes number out → IsPrinted lines program job found out
+events_printed lines program job found out number is played = record {
   text = λ other. (let e : form.Events number ≡ form.Text = sym is ∙ other in absurd cc);
   summary = λ other. (let e : form.Events number ≡ form.Summary = sym is ∙ other in absurd cc);
   json = λ other. (let e : form.Events number ≡ form.Json = sym is ∙ other in absurd cc);
@@ -98,13 +97,13 @@ events_printed source program job found out number is played = record {
 }
 
 -- what was found, printed with its status, is an answer
-pub is_search_answer : (source : List ℕ) (program : ProgramValue) (job : ExploreJob) (found : ExploredValue) (out : List ℕ) (status : ℕ)
-    → IsFoundBy program job found → IsPrinted source program job found out → HasSearchStatus found status → IsSearchAnswer source program job out status
-is_search_answer source program job found out status searched printed ended =
+pub is_search_answer : (lines : List ℕ) (program : ProgramValue) (job : ExploreJob) (found : ExploredValue) (out : List ℕ) (status : ℕ)
+    → IsFoundBy program job found → IsPrinted lines program job found out → HasSearchStatus found status → IsSearchAnswer lines program job out status
+is_search_answer lines program job found out status searched printed ended =
     record { found = found; searched = searched; printed = printed; ended = ended }
 
--- an answer of the program of a text that the file holds
-pub is_explore_answer : (holds : List ℕ → Type 0) (job : ExploreJob) (text : List ℕ) (program : ProgramValue) (out : List ℕ) (status : ℕ)
-    → holds text → IsProgramOf text program → IsSearchAnswer text program job out status → IsExploreAnswer holds job out status
-is_explore_answer holds job text program out status held read answer =
-    record { program = program; read = record { text = text; held = held; read = read }; answer = answer }
+-- an answer of what is searched of a text that the file holds
+pub is_explore_answer : (holds : List ℕ → Type 0) (job : ExploreJob) (text lines : List ℕ) (program : ProgramValue) (out : List ℕ) (status : ℕ)
+    → holds text → IsSearchedOf job.synchronous text program lines → IsSearchAnswer lines program job out status → IsExploreAnswer holds job out status
+is_explore_answer holds job text lines program out status held searched answer =
+    record { text = text; held = held; program = program; lines = lines; searched = searched; answer = answer }

@@ -1,21 +1,20 @@
 -- How one outcome after another is written.
-use Rattle.std.proofs.Common.{◌≡◌, ℕ, ◌+◌, Bool, List, [], ◌++◌, Option, Some, length, slice_get, subst, sym}
-use Rattle.std.proofs.lemmas.List.{length-map}
+use Rattle.std.proofs.Common.{◌≡◌, ℕ, ◌+◌, Bool, true, List, [], ◌++◌, Option, Some, codes, length, slice_get, refl, ap, subst, sym, ◌∙◌}
+use Rattle.std.proofs.lemmas.List.{append-nil, length-map}
 use Rattle.crash_free.specs.declared.leftover.Leftover.{Leftover}
 use Rattle.explore.specs.declared.moves.Noted.{Noted}
 use Rattle.explore.specs.Explored.{ExploredValue, OutcomeValue, rank_outcomes}
 use Rattle.explore.specs.Shown.{AreMarked}
 use Rattle.explore.proofs.SeenOf.{seen_at}
 use Rattle.audit.specs.FinalRuns.Maximal.{RankOutcome}
-use Rattle.rank_language.specs.Correct.{IsProgramOf}
 use Rattle.rank_language.specs.Program.{ProgramValue}
 use Rattle.runner.specs.LeftText.{shorts_text}
 use Rattle.runner.specs.Meanings.{meaning_text}
-use Rattle.runner.specs.OutcomesText.{AreWritten, IsExploredText, IsMarkedObject, IsMarkedSummary, IsMarkedText, IsSummary, one_text}
+use Rattle.runner.specs.OutcomesText.{AreWritten, GoesOnAt, IsExploredText, IsMarkedObject, IsMarkedSummary, IsMarkedText, IsSafe, IsSafeText, IsSummary, one_text}
 use Rattle.runner.specs.Partings.{ArePartings}
 use Rattle.runner.specs.SearchObject.{IsSearchObject}
 use Rattle.runner.specs.declared.explored.parting.Parted.{Parted}
-use Rattle.rank_language.specs.StandOn.{IsLinedOf, StandOn}
+use Rattle.run_events.specs.Halting.{AllHalt}
 
 -- in an empty text none is written
 pub none_written : (outcomes : List (List RankOutcome)) (choices : List (List Noted)) (left : List (List (List Leftover))) (lines text : List ℕ)
@@ -31,34 +30,61 @@ pub one_more : (outcomes : List (List RankOutcome)) (choices : List (List Noted)
 one_more outcomes choices left lines count before after outcome parted listed written there partings listed_there appended =
     subst (AreWritten outcomes choices left lines (count + 1)) (sym appended) (AreWritten.more outcome parted listed written there partings listed_there)
 
--- behind some lines what the outcomes mean
-pub is_summary : (found : ExploredValue) (marks : List (Option Bool)) (runs : ℕ) (races text : List ℕ)
-    → text ≡ races ++ shorts_text 1 found.left ++ meaning_text found marks runs → IsSummary found marks runs text
-is_summary found marks runs races text whole = record { races = races; whole = whole }
+-- the line that says that the program is safe
+pub safe_text : (synchronous : Bool) (found : ExploredValue) (before after : List ℕ) → synchronous ≡ true → found.complete ≡ true → AllHalt found.outcomes
+    → after ≡ before ++ codes "# safe: no send needs a buffer\n"
+    → (safe : List ℕ) × IsSafeText synchronous found safe × (after ≡ before ++ safe)
+safe_text synchronous found before after asked complete halts appended =
+    (codes "# safe: no send needs a buffer\n", IsSafeText.safe (record { asked = asked; complete = complete; halts = halts }) refl, appended)
+
+-- no line where it isn't
+pub not_safe_text : (synchronous : Bool) (found : ExploredValue) (before after : List ℕ) → (IsSafe synchronous found → ⊥) → after ≡ before
+    → (safe : List ℕ) × IsSafeText synchronous found safe × (after ≡ before ++ safe)
+not_safe_text synchronous found before after not same = ([], IsSafeText.not_safe not refl, same ∙ sym (append-nil before))
+
+-- each outcome, whether the program is safe, and what the outcomes mean
+pub is_explored_text : (synchronous : Bool) (found : ExploredValue) (marks : List (Option Bool)) (cycle : List ℕ) (runs : ℕ) (lines outcomes between text : List ℕ)
+    → AreWritten found.outcomes found.choices found.left lines (length found.outcomes) outcomes
+    → (safe : List ℕ) × IsSafeText synchronous found safe × (between ≡ outcomes ++ safe) → text ≡ between ++ meaning_text found marks cycle runs
+    → IsExploredText synchronous found marks cycle runs lines text
+is_explored_text synchronous found marks cycle runs lines outcomes between text each safe whole = record {
+  outcomes = outcomes;
+  each = each;
+  safe = safe.0;
+  is_safe = safe.1;
+  whole = whole ∙ ap (λ z. z ++ meaning_text found marks cycle runs) safe.2;
+}
+
+-- behind some lines whether the program is safe, and what the outcomes mean
+pub is_summary : (synchronous : Bool) (found : ExploredValue) (marks : List (Option Bool)) (cycle : List ℕ) (runs : ℕ) (races shorts between text : List ℕ)
+    → shorts ≡ races ++ shorts_text 1 found.left → (safe : List ℕ) × IsSafeText synchronous found safe × (between ≡ shorts ++ safe)
+    → text ≡ between ++ meaning_text found marks cycle runs → IsSummary synchronous found marks cycle runs text
+is_summary synchronous found marks cycle runs races shorts between text listed safe whole = record {
+  races = races;
+  safe = safe.0;
+  is_safe = safe.1;
+  whole = whole ∙ ap (λ z. z ++ meaning_text found marks cycle runs) (safe.2 ∙ ap (λ z. z ++ safe.0) listed);
+}
 
 -- the outcomes, with their own marks
-pub is_marked : (source : List ℕ) (program : ProgramValue) (ranks : ℕ) (found : ExploredValue) (marks : List (Option Bool)) (runs : ℕ)
-    (lines text : List ℕ) → AreMarked program ranks found.outcomes found.choices marks → IsLinedOf source program lines
-    → IsExploredText found marks runs lines text → IsMarkedText source program ranks found runs text
-is_marked source program ranks found marks runs lines text marked lined printed =
-    record { marks = marks; marked = marked; lines = lines; lined = lined; printed = printed }
+pub is_marked : (synchronous : Bool) (lines : List ℕ) (program : ProgramValue) (ranks : ℕ) (found : ExploredValue) (marks : List (Option Bool))
+    (cycle : List ℕ) (runs : ℕ) (text : List ℕ) → AreMarked program ranks found.outcomes found.choices marks → GoesOnAt program ranks cycle
+    → IsExploredText synchronous found marks cycle runs lines text → IsMarkedText synchronous lines program ranks found runs text
+is_marked synchronous lines program ranks found marks cycle runs text marked goes_on printed =
+    record { marks = marks; marked = marked; cycle = cycle; goes_on = goes_on; printed = printed }
 
 -- so they are as an object
-pub is_marked_object : (source : List ℕ) (program : ProgramValue) (ranks : ℕ) (found : ExploredValue) (marks : List (Option Bool))
-    (lines text : List ℕ) → AreMarked program ranks found.outcomes found.choices marks → IsLinedOf source program lines
-    → IsSearchObject found marks lines text → IsMarkedObject source program ranks found text
-is_marked_object source program ranks found marks lines text marked lined written =
-    record { marks = marks; marked = marked; lines = lines; lined = lined; written = written }
-
--- the statements of a program that was read from a text stand on its lines
-pub is_lined : (source : List ℕ) (program : ProgramValue) (lines : List ℕ) (read : IsProgramOf source program) → StandOn source read.forms lines
-    → IsLinedOf source program lines
-is_lined source program lines read stand = record { forms = read.forms; reads = read.reads; program = read.program; stand = stand }
+pub is_marked_object : (lines : List ℕ) (program : ProgramValue) (ranks : ℕ) (found : ExploredValue) (marks : List (Option Bool))
+    (text : List ℕ) → AreMarked program ranks found.outcomes found.choices marks
+    → IsSearchObject found marks lines text → IsMarkedObject lines program ranks found text
+is_marked_object lines program ranks found marks text marked written =
+    record { marks = marks; marked = marked; written = written }
 
 -- in short too
-pub is_marked_summary : (program : ProgramValue) (ranks : ℕ) (found : ExploredValue) (marks : List (Option Bool)) (runs : ℕ) (text : List ℕ)
-    → AreMarked program ranks found.outcomes found.choices marks → IsSummary found marks runs text → IsMarkedSummary program ranks found runs text
-is_marked_summary program ranks found marks runs text marked printed = record { marks = marks; marked = marked; printed = printed }
+pub is_marked_summary : (synchronous : Bool) (program : ProgramValue) (ranks : ℕ) (found : ExploredValue) (marks : List (Option Bool)) (cycle : List ℕ)
+    (runs : ℕ) (text : List ℕ) → AreMarked program ranks found.outcomes found.choices marks → GoesOnAt program ranks cycle → IsSummary synchronous found marks cycle runs text → IsMarkedSummary synchronous program ranks found runs text
+is_marked_summary synchronous program ranks found marks cycle runs text marked goes_on printed =
+    record { marks = marks; marked = marked; cycle = cycle; goes_on = goes_on; printed = printed }
 
 -- as many outcomes as are seen were found
 pub as_many : (xs : List OutcomeValue) → length (rank_outcomes xs) ≡ length xs

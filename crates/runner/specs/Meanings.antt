@@ -96,9 +96,25 @@ abbrev pub runs_text : ExploredValue → ℕ → List ℕ
 runs_text found runs =
     if found.runs == runs then codes "# not all was looked at: allow more runs (--runs)\n" else []
 
--- which limits were reached, if these aren't all outcomes
-abbrev pub limits_text : ExploredValue → ℕ → List ℕ
-limits_text found runs = if found.complete then [] else (steps_text found ++ runs_text found runs)
+-- these lines, as `line 3` or `lines 3 and 4`
+abbrev pub named_lines : List ℕ → List ℕ
+named_lines lines = (if length lines == 1 then codes "line " else codes "lines ") ++ enumeration lines
+
+-- that a state came back
+unfoldable pub cycle_words : List ℕ
+cycle_words = codes "# a state came back: the ranks may go on for ever, at "
+
+-- the line that says so, and at which lines of the text ranks went on meanwhile
+abbrev pub cycle_line : List ℕ → List ℕ
+cycle_line lines = cycle_words ++ named_lines lines ++ codes "\n"
+
+-- this line, if one came back
+abbrev pub cycle_text : List ℕ → List ℕ
+cycle_text lines = if length lines == 0 then [] else cycle_line lines
+
+-- whether a state came back, and which limits were reached, if these aren't all outcomes
+abbrev pub limits_text : ExploredValue → List ℕ → ℕ → List ℕ
+limits_text found cycle runs = if found.complete then [] else (cycle_text cycle ++ steps_text found ++ runs_text found runs)
 
 -- the line that says how many states were kept, if there were more
 abbrev pub states_text : ExploredValue → List ℕ
@@ -110,8 +126,8 @@ abbrev pub count_text : ExploredValue → List ℕ
 count_text found = codes "outcomes " ++ decimal (length found.outcomes) ++ codes ", runs " ++ decimal found.runs
     ++ (if found.complete then codes ", complete" else codes ", stopped") ++ codes "\n"
 
--- what the outcomes mean, with these marks, that were found in no more than so many runs, and the
--- last line
-abbrev pub meaning_text : ExploredValue → List (Option Bool) → ℕ → List ℕ
-meaning_text found marks runs =
-    only_text found ++ unhalted_text 1 found.outcomes ++ marks_text 1 marks ++ states_text found ++ limits_text found runs ++ count_text found
+-- what the outcomes mean, with these marks, that were found in no more than so many runs, while a state came back at these lines, and
+-- the last line
+abbrev pub meaning_text : ExploredValue → List (Option Bool) → List ℕ → ℕ → List ℕ
+meaning_text found marks cycle runs =
+    only_text found ++ unhalted_text 1 found.outcomes ++ marks_text 1 marks ++ states_text found ++ limits_text found cycle runs ++ count_text found

@@ -1,9 +1,10 @@
 -- The text of all outcomes of a program (docs/FORMATS.md, "Standard output of `explore`").
-use Rattle.std.specs.Prelude.{◌≡◌, ℕ, ℤ, ◌+◌, Bool, length, List, [], ◌∷◌, ◌++◌, Option, Some, slice_get, codes}
+use Rattle.std.specs.Prelude.{◌≡◌, ◌≢◌, ℕ, ℤ, ◌+◌, Bool, true, length, List, [], ◌∷◌, ◌++◌, Option, Some, slice_get, codes}
 use Rattle.std.specs.Fmt.{decimal}
 use Rattle.world_model.specs.EventsText.Output.{line_text}
 use Rattle.crash_free.specs.declared.leftover.Leftover.{Leftover}
 use Rattle.explore.specs.declared.moves.Noted.{Noted}
+use Rattle.explore.specs.Cycles.{MayGoOnForEver}
 use Rattle.explore.specs.Explored.{ExploredValue}
 use Rattle.explore.specs.Shown.{AreMarked}
 use Rattle.audit.specs.FinalRuns.Maximal.{RankOutcome}
@@ -14,7 +15,7 @@ use Rattle.runner.specs.Partings.{ArePartings, choices_text}
 use Rattle.runner.specs.SearchObject.{IsSearchObject}
 use Rattle.runner.specs.ReportText.{end_text}
 use Rattle.runner.specs.declared.explored.parting.Parted.{Parted}
-use Rattle.rank_language.specs.StandOn.{IsLinedOf}
+use Rattle.run_events.specs.Halting.{AllHalt}
 
 -- the values that a rank printed, a line each
 abbrev pub values_text : ℕ → List ℤ → List ℕ
@@ -52,41 +53,59 @@ pub data AreWritten (outcomes : List (List RankOutcome)) (choices : List (List N
       → slice_get left count ≡ Some listed
       → AreWritten outcomes choices left lines (count + 1) (text ++ one_text (count + 1) outcome lines parted listed)
 
--- What is printed of what a search found, with the marks of its outcomes, which looked at no more
--- than so many runs, of a program whose statements stand on these lines: each outcome, what that
--- means, and the last line.
-pub record IsExploredText (found : ExploredValue) (marks : List (Option Bool)) (runs : ℕ) (lines text : List ℕ) : Type 0 where
+-- the search was of synchronous runs, it is complete, and each rank halts in each outcome
+pub record IsSafe (synchronous : Bool) (found : ExploredValue) : Type 0 where
+  pub asked : synchronous ≡ true
+  pub complete : found.complete ≡ true
+  pub halts : AllHalt found.outcomes
+
+-- the line that says so, if it is so
+pub data IsSafeText (synchronous : Bool) (found : ExploredValue) (text : List ℕ) : Type 0 where
+  safe : IsSafe synchronous found → text ≡ codes "# safe: no send needs a buffer\n" → IsSafeText synchronous found text
+  not_safe : (IsSafe synchronous found → ⊥) → text ≡ [] → IsSafeText synchronous found text
+
+-- What is printed of what a search found, of synchronous runs or of others, with the marks of its
+-- outcomes, which looked at no more than so many runs, of a program whose statements stand on these
+-- lines: each outcome, whether the program is safe, what that means, and the last line.
+pub record IsExploredText (synchronous : Bool) (found : ExploredValue) (marks : List (Option Bool)) (cycle : List ℕ) (runs : ℕ) (lines text : List ℕ) : Type 0 where
   pub outcomes : List ℕ
   pub each : AreWritten found.outcomes found.choices found.left lines (length found.outcomes) outcomes
-  pub whole : text ≡ outcomes ++ meaning_text found marks runs
+  pub safe : List ℕ
+  pub is_safe : IsSafeText synchronous found safe
+  pub whole : text ≡ outcomes ++ safe ++ meaning_text found marks cycle runs
 
--- what is printed of it in short: some lines, and behind them what was never received, and what the
--- outcomes mean
-pub record IsSummary (found : ExploredValue) (marks : List (Option Bool)) (runs : ℕ) (text : List ℕ) : Type 0 where
+-- what is printed of it in short: some lines, and behind them what was never received, whether the
+-- program is safe, and what the outcomes mean
+pub record IsSummary (synchronous : Bool) (found : ExploredValue) (marks : List (Option Bool)) (cycle : List ℕ) (runs : ℕ) (text : List ℕ) : Type 0 where
   pub races : List ℕ
-  pub whole : text ≡ races ++ shorts_text 1 found.left ++ meaning_text found marks runs
+  pub safe : List ℕ
+  pub is_safe : IsSafeText synchronous found safe
+  pub whole : text ≡ races ++ shorts_text 1 found.left ++ safe ++ meaning_text found marks cycle runs
 
--- The outcomes of the program of this text on so many ranks are printed with marks of their own,
--- and with the lines of the text on which its statements stand.
-pub record IsMarkedText (source : List ℕ) (program : ProgramValue) (ranks : ℕ) (found : ExploredValue) (runs : ℕ) (text : List ℕ) : Type 0 where
+-- If a state came back at some lines, the program may go on for ever.
+abbrev pub GoesOnAt : ProgramValue → ℕ → List ℕ → Type 0
+GoesOnAt program ranks cycle = cycle ≢ [] → MayGoOnForEver program ranks
+
+-- The outcomes of the program on so many ranks, whose statements stand on these lines, are printed
+-- with marks of their own.
+pub record IsMarkedText (synchronous : Bool) (lines : List ℕ) (program : ProgramValue) (ranks : ℕ) (found : ExploredValue) (runs : ℕ) (text : List ℕ) : Type 0 where
   pub marks : List (Option Bool)
   pub marked : AreMarked program ranks found.outcomes found.choices marks
-  pub lines : List ℕ
-  pub lined : IsLinedOf source program lines
-  pub printed : IsExploredText found marks runs lines text
+  pub cycle : List ℕ
+  pub goes_on : GoesOnAt program ranks cycle
+  pub printed : IsExploredText synchronous found marks cycle runs lines text
 
 -- so they are in short
-pub record IsMarkedSummary (program : ProgramValue) (ranks : ℕ) (found : ExploredValue) (runs : ℕ) (text : List ℕ) : Type 0 where
+pub record IsMarkedSummary (synchronous : Bool) (program : ProgramValue) (ranks : ℕ) (found : ExploredValue) (runs : ℕ) (text : List ℕ) : Type 0 where
   pub marks : List (Option Bool)
   pub marked : AreMarked program ranks found.outcomes found.choices marks
-  pub printed : IsSummary found marks runs text
+  pub cycle : List ℕ
+  pub goes_on : GoesOnAt program ranks cycle
+  pub printed : IsSummary synchronous found marks cycle runs text
 
--- The outcomes of the program of this text on so many ranks are an object of JSON, with marks of
--- their own and with the lines of the text on which its statements stand. Nothing is said of the
--- races.
-pub record IsMarkedObject (source : List ℕ) (program : ProgramValue) (ranks : ℕ) (found : ExploredValue) (text : List ℕ) : Type 0 where
+-- The outcomes of the program on so many ranks, whose statements stand on these lines, are an object
+-- of JSON, with marks of their own. Nothing is said of the races.
+pub record IsMarkedObject (lines : List ℕ) (program : ProgramValue) (ranks : ℕ) (found : ExploredValue) (text : List ℕ) : Type 0 where
   pub marks : List (Option Bool)
   pub marked : AreMarked program ranks found.outcomes found.choices marks
-  pub lines : List ℕ
-  pub lined : IsLinedOf source program lines
   pub written : IsSearchObject found marks lines text

@@ -1,6 +1,6 @@
 -- What is answered to a search for all outcomes of a program (docs/FORMATS.md, "Standard output of
 -- `explore`").
-use Rattle.std.specs.Prelude.{◌≡◌, ◌≤◌, ◌↔◌, ◌⊎◌, ℕ, true, false, IsTrue, List, [], ◌∷◌}
+use Rattle.std.specs.Prelude.{◌≡◌, ◌≤◌, ◌↔◌, ◌⊎◌, ℕ, Bool, true, false, IsTrue, List, [], ◌∷◌}
 use Rattle.command_line.specs.declared.exploring.ExploreForm.TheVariants as form
 use Rattle.command_line.specs.declared.exploring.ExploreJob.{ExploreJob}
 use Rattle.explore.specs.Counting.{GoesBeyond}
@@ -15,7 +15,8 @@ use Rattle.runner.specs.Crashes.{AreMasked, PrintsOnly}
 use Rattle.runner.specs.Events.{PlaysOutcome}
 use Rattle.run_events.specs.Halting.{AllHalt}
 use Rattle.runner.specs.OutcomesText.{IsMarkedObject, IsMarkedSummary, IsMarkedText}
-use Rattle.runner.specs.Reading.{IsProgramIn}
+use Rattle.rank_language.specs.StandOn.{IsLinedOf}
+use Rattle.synchronous.specs.Synchronous.{IsSynchronousOf}
 
 -- What a search found: the program may have each outcome, and what is listed of it was never received
 -- in some run that has it; if the search is complete, in no such run something else was left. If the search is complete, it has no
@@ -44,23 +45,33 @@ pub record HasSearchStatus (found : ExploredValue) (status : ℕ) : Type 0 where
   pub else_one : status ≤ 1
 
 -- Standard output has the text of what was found, or the short one, or the object of JSON, or a run
--- of the outcome that the job names, as events, of the program of this text. Of JSON nothing is
--- said of the races.
-pub record IsPrinted (source : List ℕ) (program : ProgramValue) (job : ExploreJob) (found : ExploredValue) (out : List ℕ) : Type 0 where
-  pub text : job.form ≡ form.Text → IsMarkedText source program job.ranks found job.runs out
-  pub summary : job.form ≡ form.Summary → IsMarkedSummary program job.ranks found job.runs out
-  pub json : job.form ≡ form.Json → IsMarkedObject source program job.ranks found out
+-- of the outcome that the job names, as events, of the program whose statements stand on these
+-- lines. Of JSON nothing is said of the races.
+pub record IsPrinted (lines : List ℕ) (program : ProgramValue) (job : ExploreJob) (found : ExploredValue) (out : List ℕ) : Type 0 where
+  pub text : job.form ≡ form.Text → IsMarkedText job.synchronous lines program job.ranks found job.runs out
+  pub summary : job.form ≡ form.Summary → IsMarkedSummary job.synchronous program job.ranks found job.runs out
+  pub json : job.form ≡ form.Json → IsMarkedObject lines program job.ranks found out
   pub events : (number : ℕ) → job.form ≡ form.Events number → PlaysOutcome program job.ranks found.outcomes number out
 
--- What was found by a search of the program of this text is printed, with its status.
-pub record IsSearchAnswer (source : List ℕ) (program : ProgramValue) (job : ExploreJob) (out : List ℕ) (status : ℕ) : Type 0 where
+-- What was found by a search of the program whose statements stand on these lines is printed, with
+-- its status.
+pub record IsSearchAnswer (lines : List ℕ) (program : ProgramValue) (job : ExploreJob) (out : List ℕ) (status : ℕ) : Type 0 where
   pub found : ExploredValue
   pub searched : IsFoundBy program job found
-  pub printed : IsPrinted source program job found out
+  pub printed : IsPrinted lines program job found out
   pub ended : HasSearchStatus found status
 
--- What `explore` answers: that, of the program that the file holds.
+-- What is searched of a text is its program, whose statements stand on these lines; if sends are
+-- synchronous, it is the text's program with acknowledgements.
+abbrev pub IsSearchedOf : Bool → List ℕ → ProgramValue → List ℕ → Type 0
+IsSearchedOf false text program lines = IsLinedOf text program lines
+IsSearchedOf true text program lines = IsSynchronousOf text program lines
+
+-- What `explore` answers: that, of what is searched of a text that the file holds.
 pub record IsExploreAnswer (holds : List ℕ → Type 0) (job : ExploreJob) (out : List ℕ) (status : ℕ) : Type 0 where
+  pub text : List ℕ
+  pub held : holds text
   pub program : ProgramValue
-  pub read : IsProgramIn holds program
-  pub answer : IsSearchAnswer read.text program job out status
+  pub lines : List ℕ
+  pub searched : IsSearchedOf job.synchronous text program lines
+  pub answer : IsSearchAnswer lines program job out status

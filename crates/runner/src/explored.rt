@@ -1,10 +1,10 @@
 //! What the program prints of all outcomes of a program.
-ghost use Rattle.std.specs.Prelude.{◌≡◌, ◌<◌, ◌+◌, ◌++◌, ◌↔◌, IfOk, IsTrue, OnOk, Some, [], codes, length, slice_get, string_bytes};
+ghost use Rattle.std.specs.Prelude.{◌≡◌, ◌<◌, ◌+◌, ◌++◌, ◌↔◌, ℕ, List, IfOk, IsTrue, OnOk, Some, [], codes, length, slice_get, string_bytes};
 ghost use Rattle.runner.specs.LeftText.{listed_text};
 ghost use Rattle.explore.specs.Explored.{rank_outcomes};
 ghost use Rattle.runner.specs.Partings.{AreOfLast, ArePartings};
 ghost use Rattle.run_events.specs.Halting.{AllHalt, Halts};
-ghost use Rattle.runner.specs.OutcomesText.{AreWritten, IsExploredText};
+ghost use Rattle.runner.specs.OutcomesText.{AreWritten, IsExploredText, IsSafeText};
 ghost use Rattle.runner.specs.OutcomesText.{endings_text, lines_text, one_text, outcome_text, values_text};
 
 mod json;
@@ -27,21 +27,40 @@ use std::alloc::AllocError;
 use std::fmt::Write;
 
 /// Each outcome with the choices that lead there, and what all of it means, with
-/// the marks that `marks_of` of `explore` gives. The statement at position K of the program stands on line `lines[K]` of its text.
+/// the marks that `marks_of` of `explore` gives, and the lines of the text at which a state came back. The statement at position K of the program stands on line `lines[K]` of its text.
 /// An `Err` means out of memory.
+#[tactic(auto, using(crate::proofs::Written::is_explored_text))]
 pub fn print_explored(
     alloc: Heap,
     found: &Explored,
     marks: &[Option<bool>],
+    cycle: &[usize],
     limits: Limits,
     lines: &[usize],
+    synchronous: bool,
 ) -> Result<String<Heap>, AllocError>
-    ensures { IfOk result (λ text. IsExploredText found.now marks.now limits.runs lines.now (string_bytes text)) }
+    ensures { IfOk result (λ text. IsExploredText synchronous found.now marks.now cycle.now limits.runs lines.now (string_bytes text)) }
 {
     let mut text = String::new(alloc);
     print_outcomes(alloc, &mut text, found, lines)?;
-    print_meaning(&mut text, found, marks, limits.runs)?;
+    print_safe(&mut text, found, synchronous)?;
+    print_meaning(&mut text, found, marks, cycle, limits.runs)?;
     Ok(text)
+}
+
+/// That the program is safe, if the search was of synchronous runs, it is complete, and all halts.
+#[tactic(auto, using(crate::proofs::Written::safe_text, crate::proofs::Written::not_safe_text))]
+pub fn print_safe(
+    text: &mut String<Heap>,
+    found: &Explored,
+    synchronous: bool,
+) -> Result<(), AllocError>
+    ensures { OnOk result ((safe : List ℕ) × IsSafeText synchronous found.now safe × (string_bytes text.new ≡ string_bytes text.old ++ safe)) }
+{
+    if synchronous && found.complete && all_halt(found) {
+        return writeln!(text, "# safe: no send needs a buffer");
+    }
+    Ok(())
 }
 
 /// Whether each rank halts in each outcome.

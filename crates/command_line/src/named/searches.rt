@@ -17,6 +17,7 @@ pub fn explore_of<'a>(command: &str, arguments: &'a [String]) -> Option<ExploreJ
         steps: number_or(100000, "steps", arguments)?,
         states: number_or(1000000, "states", arguments)?,
         form: form_of(arguments)?,
+        synchronous: is_given("synchronous", arguments),
         program: one_file(command, arguments)?,
     })
 }

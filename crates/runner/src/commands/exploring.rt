@@ -2,10 +2,9 @@
 ghost use Rattle.std.specs.Prelude.{◌≡◌, ◌+◌, ℕ, IfErr, IfOk, IfSome, Some, slice_get, string_bytes};
 ghost use Rattle.runner.specs.Events.{PlaysOutcome};
 ghost use Rattle.explore.specs.Shown.{AreMarked};
-ghost use Rattle.rank_language.specs.Correct.{IsProgramOf};
-ghost use Rattle.runner.specs.OutcomesText.{IsMarkedObject, IsMarkedSummary, IsMarkedText};
-ghost use Rattle.runner.specs.Reasons.{HasNoOutcome, HasNoOutcomeOf, IsSearchRefusal, UnlessMemory};
-ghost use Rattle.runner.specs.Searches.{HasSearchStatus, IsExploreAnswer, IsFoundBy, IsPrinted, IsSearchAnswer};
+ghost use Rattle.runner.specs.OutcomesText.{GoesOnAt, IsMarkedObject, IsMarkedSummary, IsMarkedText};
+ghost use Rattle.runner.specs.Reasons.{HasNoOutcome, HasNoOutcomeOf, IsSearchRefusal, IsUnsearched, UnlessMemory};
+ghost use Rattle.runner.specs.Searches.{HasSearchStatus, IsExploreAnswer, IsFoundBy, IsPrinted, IsSearchAnswer, IsSearchedOf};
 
 use crate::commands::reading::text_in;
 use crate::commands::refusal::Refusal;
@@ -13,16 +12,17 @@ use crate::commands::said::Said;
 use crate::explored::{all_halt, explored_json, print_explored, print_summary};
 use crate::files::Files;
 use command_line::{ExploreForm, ExploreJob};
-use explore::{Explored, Limits, Outcome, Watch, explore, marks_of, run_of};
+use explore::{Explored, Limits, Outcome, Watch, came_back, explore, marks_of, run_of};
 use limits::Heap;
-use rank_language::{Program, statement_lines};
+use rank_language::{LinedProgram, ParseFault, Program};
 use run_events::laws::law_masks_reports;
 use run_events::play_text;
 use std::alloc::AllocError;
+use synchronous::{SynchronousFault, acknowledged};
 
 /// What is found of the job's program, or the events of the outcome that the job
 /// names; with status 0 where all is found and each rank halts.
-#[tactic(auto, using(crate::proofs::Searches::is_explore_answer, crate::proofs::Reasons::search_unread, crate::proofs::Reasons::search_faulty, crate::proofs::Reasons::search_of_outcome))]
+#[tactic(auto, using(crate::proofs::Searches::is_explore_answer, crate::proofs::Reasons::search_unread, crate::proofs::Reasons::search_unsearched, crate::proofs::Reasons::search_of_outcome))]
 pub fn explored_by<'a, F: Files, W: Watch>(
     alloc: Heap,
     job: ExploreJob<'a>,
@@ -33,33 +33,58 @@ pub fn explored_by<'a, F: Files, W: Watch>(
     ensures refused { IfErr result (UnlessMemory (IsSearchRefusal (F.holds files.old) job.entry)) }
 {
     let text = text_in(job.program, files)?;
-    let program = Program::parse(alloc, text.as_slice())?;
-    match found_of(alloc, job, text.as_slice(), &program, watch) {
+    let searched = match searched_of(alloc, job.synchronous, text.as_slice()) {
+        Ok(searched) => searched,
+        Err(fault) => return Err(Refusal::from(fault)),
+    };
+    match found_of(alloc, job, &searched, watch) {
         Ok(said) => Ok(said),
         Err(refusal) => Err(refusal),
     }
 }
 
-// The same, of a program that is parsed.
+// What is searched of a text, with the lines on which its statements stand: its program, or that
+// with acknowledgements.
+fn searched_of(
+    alloc: Heap,
+    synchronous: bool,
+    text: &[u8],
+) -> Result<LinedProgram, SynchronousFault>
+    ensures searched { IfOk result (λ searched. IsSearchedOf synchronous text.now searched.program searched.lines.items) }
+    ensures refused { IfErr result (λ fault. IsUnsearched synchronous text.now fault) }
+{
+    if synchronous {
+        return match acknowledged(alloc, text) {
+            Ok(searched) => Ok(searched),
+            Err(fault) => Err(fault),
+        };
+    }
+    match LinedProgram::parse(alloc, text) {
+        Ok(searched) => Ok(searched),
+        Err(ParseFault::Fault(fault)) => Err(SynchronousFault::Fault(fault)),
+        Err(ParseFault::Memory) => Err(SynchronousFault::Memory),
+    }
+}
+
+// What is found of this program.
 #[tactic(auto, using(crate::proofs::Searches::is_search_answer, crate::proofs::Reasons::of_memory))]
 fn found_of<'a, W: Watch>(
     alloc: Heap,
     job: ExploreJob<'a>,
-    text: &[u8],
-    program: &Program,
+    searched: &LinedProgram,
     watch: &mut W,
 ) -> Result<Said, Refusal<'a>>
-    requires { IsProgramOf text.now program.now }
-    ensures answer { IfOk result (λ said. IsSearchAnswer text.now program.now job.entry said.out.items said.status) }
+    ensures answer { IfOk result (λ said. IsSearchAnswer searched.now.lines.items searched.now.program job.entry said.out.items said.status) }
     ensures refused { IfErr result (UnlessMemory (HasNoOutcomeOf job.entry)) }
 {
-    let found = searched(alloc, job, program, watch)?;
-    let answer = answer_of(alloc, job, text, program, &found)?;
+    let program = &searched.program;
+    let found = search(alloc, job, program, watch)?;
+    let answer = answer_of(alloc, job, searched.lines.as_slice(), program, &found)?;
     Ok(Said::answer(alloc, status_of(&found), answer.into_bytes()))
 }
 
 #[tactic(auto, using(crate::proofs::Searches::is_found_by))]
-fn searched<W: Watch>(
+fn search<W: Watch>(
     alloc: Heap,
     job: ExploreJob<'_>,
     program: &Program,
@@ -85,12 +110,11 @@ fn status_of(found: &Explored) -> u8
 fn answer_of<'a>(
     alloc: Heap,
     job: ExploreJob<'a>,
-    text: &[u8],
+    lines: &[usize],
     program: &Program,
     found: &Explored,
 ) -> Result<String<Heap>, Refusal<'a>>
-    requires { IsProgramOf text.now program.now }
-    ensures answer { IfOk result (λ answer. IsPrinted text.now program.now job.entry found.now (string_bytes answer)) }
+    ensures answer { IfOk result (λ answer. IsPrinted lines.now program.now job.entry found.now (string_bytes answer)) }
     ensures refused { IfErr result (UnlessMemory (HasNoOutcomeOf job.entry)) }
 {
     match job.form {
@@ -98,30 +122,31 @@ fn answer_of<'a>(
             Ok(text) => Ok(text),
             Err(refusal) => Err(refusal),
         },
-        ExploreForm::Text => Ok(found_text(alloc, job, text, program, found)?),
-        ExploreForm::Summary => Ok(summary_text(alloc, job, text, program, found)?),
-        ExploreForm::Json => Ok(json_text(alloc, job, text, program, found)?),
+        ExploreForm::Text => Ok(found_text(alloc, job, lines, program, found)?),
+        ExploreForm::Summary => Ok(summary_text(alloc, job, lines, program, found)?),
+        ExploreForm::Json => Ok(json_text(alloc, job, lines, program, found)?),
     }
 }
 
 fn found_text(
     alloc: Heap,
     job: ExploreJob<'_>,
-    text: &[u8],
+    lines: &[usize],
     program: &Program,
     found: &Explored,
 ) -> Result<String<Heap>, AllocError>
-    requires { IsProgramOf text.now program.now }
-    ensures { IfOk result (λ answer. IsMarkedText text.now program.now job.entry.ranks found.now job.entry.runs (string_bytes answer)) }
+    ensures { IfOk result (λ answer. IsMarkedText job.entry.synchronous lines.now program.now job.entry.ranks found.now job.entry.runs (string_bytes answer)) }
 {
-    let lines = statement_lines(alloc, text)?;
     let marks = marks_in(alloc, job, program, found)?;
+    let cycle = cycle_in(alloc, job, program, found, lines)?;
     print_explored(
         alloc,
         found,
         marks.as_slice(),
+        cycle.as_slice(),
         limits_of(job),
-        lines.as_slice(),
+        lines,
+        job.synchronous,
     )
 }
 
@@ -129,36 +154,79 @@ fn found_text(
 fn summary_text(
     alloc: Heap,
     job: ExploreJob<'_>,
-    text: &[u8],
+    lines: &[usize],
     program: &Program,
     found: &Explored,
 ) -> Result<String<Heap>, AllocError>
-    ensures { IfOk result (λ answer. IsMarkedSummary program.now job.entry.ranks found.now job.entry.runs (string_bytes answer)) }
+    ensures { IfOk result (λ answer. IsMarkedSummary job.entry.synchronous program.now job.entry.ranks found.now job.entry.runs (string_bytes answer)) }
 {
-    let lines = statement_lines(alloc, text)?;
     let marks = marks_in(alloc, job, program, found)?;
+    let cycle = cycle_in(alloc, job, program, found, lines)?;
     print_summary(
         alloc,
         found,
         marks.as_slice(),
+        cycle.as_slice(),
         limits_of(job),
-        lines.as_slice(),
+        lines,
+        job.synchronous,
     )
 }
 
 fn json_text(
     alloc: Heap,
     job: ExploreJob<'_>,
-    text: &[u8],
+    lines: &[usize],
     program: &Program,
     found: &Explored,
 ) -> Result<String<Heap>, AllocError>
-    requires { IsProgramOf text.now program.now }
-    ensures { IfOk result (λ answer. IsMarkedObject text.now program.now job.entry.ranks found.now (string_bytes answer)) }
+    ensures { IfOk result (λ answer. IsMarkedObject lines.now program.now job.entry.ranks found.now (string_bytes answer)) }
 {
-    let lines = statement_lines(alloc, text)?;
     let marks = marks_in(alloc, job, program, found)?;
-    explored_json(alloc, found, marks.as_slice(), lines.as_slice())
+    explored_json(alloc, found, marks.as_slice(), lines)
+}
+
+// The lines at which ranks went on until a state came back, if all wasn't searched and one did.
+fn cycle_in(
+    alloc: Heap,
+    job: ExploreJob<'_>,
+    program: &Program,
+    found: &Explored,
+    lines: &[usize],
+) -> Result<Vec<usize, Heap>, AllocError>
+    ensures { IfOk result (λ cycle. GoesOnAt program.now job.entry.ranks cycle.items) }
+{
+    if found.complete {
+        return Ok(Vec::new(alloc));
+    }
+    match came_back(alloc, program, job.ranks, limits_of(job))? {
+        Some(cycle) => lines_at(alloc, cycle.positions.as_slice(), lines),
+        None => Ok(Vec::new(alloc)),
+    }
+}
+
+// The lines of the statements at these positions, each once, in order.
+fn lines_at(
+    alloc: Heap,
+    positions: &[usize],
+    lines: &[usize],
+) -> Result<Vec<usize, Heap>, AllocError> {
+    let mut found = Vec::new(alloc);
+    for position in positions {
+        add_line(&mut found, lines.get(*position).copied())?;
+    }
+    found.sort()?;
+    Ok(found)
+}
+
+fn add_line(found: &mut Vec<usize, Heap>, line: Option<usize>) -> Result<(), AllocError> {
+    let Some(line) = line else {
+        return Ok(());
+    };
+    if !found.contains(&line) {
+        found.push(line)?;
+    }
+    Ok(())
 }
 
 // The mark of each outcome that was found.

@@ -2,7 +2,7 @@
 ghost use Rattle.std.specs.Prelude.{◌≡◌, ◌++◌, OnOk, length, string_bytes};
 ghost use Rattle.std.specs.Fmt.{decimal};
 ghost use Rattle.explore.specs.Explored.{rank_outcomes};
-ghost use Rattle.runner.specs.Meanings.{between, enumeration, fault_line, fault_words, faults_text, is_of, limits_text, named_ranks};
+ghost use Rattle.runner.specs.Meanings.{between, cycle_line, cycle_text, cycle_words, enumeration, fault_line, fault_words, faults_text, is_of, limits_text, named_lines, named_ranks};
 ghost use Rattle.runner.specs.Meanings.{count_text, mark_text, marks_text, meaning_text, only_text, ranks_line, ranks_of, runs_text, stalls_text};
 ghost use Rattle.runner.specs.Meanings.{states_text, steps_text, unhalted_text};
 
@@ -13,20 +13,21 @@ use std::alloc::AllocError;
 use std::fmt::Write;
 
 /// What the outcomes mean that a search found, which looked at no more than so
-/// many runs, which of them have a mark, and how many they are.
+/// many runs, which of them have a mark, at which lines a state came back, and how many they are.
 pub fn print_meaning(
     text: &mut String<Heap>,
     found: &Explored,
     marks: &[Option<bool>],
+    cycle: &[usize],
     runs: u32,
 ) -> Result<(), AllocError>
-    ensures { OnOk result (string_bytes text.new ≡ string_bytes text.old ++ meaning_text found.now marks.now runs) }
+    ensures { OnOk result (string_bytes text.new ≡ string_bytes text.old ++ meaning_text found.now marks.now cycle.now runs) }
 {
     print_only(text, found)?;
     print_unhalted(text, found.outcomes.as_slice())?;
     print_marks(text, marks)?;
     print_state_limit(text, found)?;
-    print_limits(text, found, runs)?;
+    print_limits(text, found, cycle, runs)?;
     print_count(text, found)
 }
 
@@ -83,15 +84,71 @@ fn print_state_limit(text: &mut String<Heap>, found: &Explored) -> Result<(), Al
     )
 }
 
-// Which limits the search reached, if not all was looked at.
-fn print_limits(text: &mut String<Heap>, found: &Explored, runs: u32) -> Result<(), AllocError>
-    ensures { OnOk result (string_bytes text.new ≡ string_bytes text.old ++ limits_text found.now runs) }
+// Whether a state came back, and which limits the search reached, if not all was looked at.
+fn print_limits(
+    text: &mut String<Heap>,
+    found: &Explored,
+    cycle: &[usize],
+    runs: u32,
+) -> Result<(), AllocError>
+    ensures { OnOk result (string_bytes text.new ≡ string_bytes text.old ++ limits_text found.now cycle.now runs) }
 {
     if found.complete {
         return Ok(());
     }
+    print_cycle(text, cycle)?;
     print_step_limit(text, found)?;
     print_run_limit(text, found, runs)
+}
+
+// That a state came back, if one did.
+fn print_cycle(text: &mut String<Heap>, cycle: &[usize]) -> Result<(), AllocError>
+    ensures { OnOk result (string_bytes text.new ≡ string_bytes text.old ++ cycle_text cycle.now) }
+{
+    if cycle.is_empty() {
+        return Ok(());
+    }
+    print_cycle_line(text, cycle)
+}
+
+// That one did, and at which lines ranks went on meanwhile.
+fn print_cycle_line(text: &mut String<Heap>, cycle: &[usize]) -> Result<(), AllocError>
+    ensures { OnOk result (string_bytes text.new ≡ string_bytes text.old ++ cycle_line cycle.now) }
+{
+    print_cycle_words(text)?;
+    print_lines(text, cycle)?;
+    writeln!(text)
+}
+
+#[tactic(auto, unfolding(crate::specs::Meanings::cycle_words))]
+fn print_cycle_words(text: &mut String<Heap>) -> Result<(), AllocError>
+    ensures { OnOk result (string_bytes text.new ≡ string_bytes text.old ++ cycle_words) }
+{
+    write!(
+        text,
+        "# a state came back: the ranks may go on for ever, at "
+    )
+}
+
+// The lines: `line 3`, `lines 3 and 4`.
+fn print_lines(text: &mut String<Heap>, lines: &[usize]) -> Result<(), AllocError>
+    ensures { OnOk result (string_bytes text.new ≡ string_bytes text.old ++ named_lines lines.now) }
+{
+    let count = lines.len();
+    write!(text, "{}", if count == 1 { "line " } else { "lines " })?;
+    print_numbers(text, lines)
+}
+
+// The numbers: `3`, `3 and 4`, `3, 4 and 6`.
+fn print_numbers(text: &mut String<Heap>, numbers: &[usize]) -> Result<(), AllocError>
+    ensures { OnOk result (string_bytes text.new ≡ string_bytes text.old ++ enumeration numbers.now) }
+{
+    let mut rest = numbers;
+    while let [number, more @ ..] = rest {
+        print_number(text, *number, more.len())?;
+        rest = more;
+    }
+    Ok(())
 }
 
 fn print_step_limit(text: &mut String<Heap>, found: &Explored) -> Result<(), AllocError>

@@ -5,6 +5,7 @@ ghost use Rattle.runner.specs.OutcomesText.{IsSummary};
 use crate::explored::leftover::print_shorts;
 use crate::explored::meaning::print_meaning;
 use crate::explored::parting::print_place;
+use crate::explored::print_safe;
 use explore::{Explored, Limits, Race};
 use limits::Heap;
 use std::alloc::AllocError;
@@ -13,22 +14,24 @@ use std::fmt::Write;
 /// Which receives and probes had several answers, a line each, and what the
 /// outcomes mean. The statement at position K of the program stands on line
 /// `lines[K]` of its text. An `Err` means out of memory.
-#[tactic(auto, using(crate::proofs::Written::is_summary))]
 pub fn print_summary(
     alloc: Heap,
     found: &Explored,
     marks: &[Option<bool>],
+    cycle: &[usize],
     limits: Limits,
     lines: &[usize],
+    synchronous: bool,
 ) -> Result<String<Heap>, AllocError>
-    ensures { IfOk result (λ text. IsSummary found.now marks.now limits.runs (string_bytes text)) }
+    ensures { IfOk result (λ text. IsSummary synchronous found.now marks.now cycle.now limits.runs (string_bytes text)) }
 {
     let mut text = String::new(alloc);
     for race in found.races.iter() {
         print_race(&mut text, race, lines)?;
     }
     print_shorts(&mut text, found.outcomes.as_slice())?;
-    print_meaning(&mut text, found, marks, limits.runs)?;
+    print_safe(&mut text, found, synchronous)?;
+    print_meaning(&mut text, found, marks, cycle, limits.runs)?;
     Ok(text)
 }
 

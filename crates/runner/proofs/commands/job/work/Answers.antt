@@ -8,3 +8,8 @@ pub returns-in-Finish-clause-refused : goal.returns-in-Finish-clause-refused
 returns-in-Finish-clause-refused g c =
     subst (λ j. IfErr c.world_said-in-Finish.result (IsRefusalOf (g.F.Files.holds c.args.files.now) j)) (sym c.in-Finish.is)
     c.world_said-in-Finish.ensures.refused
+
+-- a search is refused for the reason that it gives
+pub returns-in-Explore-clause-refused : goal.returns-in-Explore-clause-refused
+returns-in-Explore-clause-refused g c =
+    subst (λ j. IfErr c.explored_by.result (IsRefusalOf (g.F.Files.holds c.args.files.now) j)) (sym c.in-Explore.is) c.explored_by.ensures.refused
