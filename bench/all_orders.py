@@ -5,6 +5,9 @@ A program is a list of statements, as tuples; `text` writes them in the language
 doesn't wait may miss at any time, as the definition of a crash-free run allows. Collectives are
 packets of a context of their own, as in the machine: a barrier goes to rank 0 and back. A state
 that was searched before, with the same printed lines, isn't searched again.
+
+If sends are synchronous, a rank with a message that isn't received yet makes no step, not even one
+that no other rank sees. Packets of collectives don't count.
 """
 from __future__ import annotations
 
@@ -108,19 +111,26 @@ def set_to(r: Rank, **changes: int) -> Rank:
     return r._replace(values=tuple(sorted(values.items())))
 
 
-def successors(state, size: int):
+def waits(queues, k: int, size: int) -> bool:
+    """Whether a message that the rank sent isn't received yet."""
+    return any(packet[0] == "user" for a in range(size) for packet in queues[k * size + a])
+
+
+def successors(state, size: int, synchronous: bool = False):
     """The states after one step of one rank."""
     ranks, queues = state
     for k in range(size):
         r = ranks[k]
-        if r.fault or not r.todo:
+        if r.fault or not r.todo or (synchronous and waits(queues, k, size)):
             continue
         try:
             found = list(steps(r, k, size, queues))
         except Fault as fault:
             found = [(r._replace(fault=fault.args[0]), queues)]
         for after, left in found:
-            yield (ranks[:k] + (settled(after, k, size),) + ranks[k + 1 :], left)
+            following = ranks[:k] + (after,) + ranks[k + 1 :]
+            # a receive frees another rank than the one that made it
+            yield (tuple(a if synchronous and waits(left, i, size) else settled(a, i, size) for i, a in enumerate(following)), left)
 
 
 def settled(r: Rank, k: int, size: int) -> Rank:
@@ -254,21 +264,28 @@ def parts(r: Rank, on: Rank, s, k: int, size: int, queues, of):
     yield ended, left
 
 
-def outcomes(body, size: int, most_states: int = 50_000) -> set | None:
+def outcomes(body, size: int, most_states: int = 50_000, synchronous: bool = False) -> set | None:
     """The outcomes, each a tuple of (lines, end) of each rank; None if there are too many
     states."""
-    return search(body, size, most_states)[0]
+    return search(body, size, most_states, synchronous)[0]
 
 
-def search(body, size: int, most_states: int) -> tuple[set | None, int]:
+def search(body, size: int, most_states: int, synchronous: bool = False) -> tuple[set | None, int]:
     """The same, and how many states there are, or how many were met until these were too many."""
+
+    def end(state, k: int) -> str:
+        r = state[0][k]
+        if r.fault:
+            return f"fault {r.fault}"
+        return "stalled" if r.todo or (synchronous and waits(state[1], k, size)) else "halted"
+
     begin = (tuple(settled(Rank(tuple(body), (), ()), k, size) for k in range(size)), ((),) * (size * size))
     seen, left, found = {begin}, [begin], set()
     while left:
         state = left.pop()
-        following = list(successors(state, size))
+        following = list(successors(state, size, synchronous))
         if not following:
-            found.add(tuple((r.lines, f"fault {r.fault}" if r.fault else "stalled" if r.todo else "halted") for r in state[0]))
+            found.add(tuple((r.lines, end(state, k)) for k, r in enumerate(state[0])))
         for after in following:
             if after not in seen:
                 seen.add(after)

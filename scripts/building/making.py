@@ -106,12 +106,15 @@ def quick(sources: Sources, folder: str) -> str:
 
 def stand_in(kit: str, to: str, module: str) -> str:
     """Makes links to a toolchain, with a clang that keeps the module. Returns the path of its `rt`."""
+    # (beside the compiler `rt try` starts a check, for a hint only, which would take as long again)
     for part in ("", "bin", "toolchain", "toolchain/bin"):
         os.makedirs(f"{to}/{part}")
-        for it in {*os.listdir(f"{kit}/{part}")} - {"bin", "toolchain", "clang", "rt", "rtlib.py"}:
+        own = {"bin", "toolchain", "clang", "rt", "rtlib.py", *(["rattle"] if part == "bin" else [])}
+        for it in {*os.listdir(f"{kit}/{part}")} - own:
             os.symlink(f"{kit}/{part}/{it}", f"{to}/{part}/{it}")
     for it in ("rt", "rtlib.py"):
         shutil.copy(f"{kit}/bin/{it}", f"{to}/bin")
+    os.symlink(shutil.which("true"), f"{to}/bin/rattle")
     write(f"{to}/toolchain/bin/clang", CLANG.format(kept=shlex.quote(module), real=shlex.quote(f"{kit}/toolchain/bin/clang")))
     os.chmod(f"{to}/toolchain/bin/clang", 0o755)
     return f"{to}/bin/rt"
