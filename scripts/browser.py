@@ -23,7 +23,7 @@ SEEN = """(() => {
     event: text("event"), reply: text("reply"),
     ranks: [...document.querySelectorAll("[data-rank]")].map((panel) => Object.fromEntries(
       [...panel.querySelectorAll("[data-member]")].map((one) => [one.dataset.member, one.textContent]))),
-    logger: rows("logger"), wires: rows("wires"), console: rows("console"),
+    logger: rows("logger"), wires: rows("wires"), console: rows("console"), printed: text("printed"),
     markers: [...document.querySelectorAll("#program li")].map((line) =>
       line.querySelector(".marker").textContent),
     frames: document.querySelectorAll("#diagram [data-frame]").length,

@@ -105,14 +105,16 @@ const events = (of) => linesIn(of).filter(isEvent);
 /** Calls the program over the experiment as it is, and says in the page that it works. */
 async function ftmpi(words, given = files()) {
   const began = performance.now();
-  element("busy").textContent = `${words[0]} ..`;
+  element("busy").textContent = `ftmpi ${words[0]} ..`;
   const done = await engine.call(words, given);
-  element("busy").textContent = done.status < 0 ? done.err : `${words[0]}: ${(performance.now() - began).toFixed(0)} ms`;
+  element("busy").textContent = done.status < 0 ? done.err : `ftmpi ${words[0]}: ${(performance.now() - began).toFixed(0)} ms`;
   return done;
 }
 
 /** Plays the experiment and shows it at a step. Answers whether there is a world. */
 async function playAll(at) {
+  // (what was typed just now is played with it)
+  clearTimeout(typing);
   turn += 1;
   const mine = turn;
   const of = { source: source(), ranks: ranks() };
@@ -128,7 +130,7 @@ async function playAll(at) {
   }
   played = of;
   sayFault("");
-  open(done.out, called || "Your program", at);
+  open(done.out, `ftmpi laboratory: ${called || "your program"}`, at);
   showFutures();
   await keep();
   // (the address holds it too: what follows may begin)
@@ -147,7 +149,7 @@ async function happen(...more) {
   const cut = linesUpTo(now);
   const behind = lines().slice(cut).filter(isEvent);
   if (more.every((event, index) => behind[index] === event)) {
-    show(now + more.length);
+    go(now + more.length);
     return;
   }
   const next = lines().slice(0, cut).concat(more);
@@ -177,12 +179,51 @@ async function lead(words) {
     return;
   }
   const more = events(done.out);
+  if (words.includes("--to-the-end")) {
+    ended = [experimentUpTo(now), ...more].join("\n");
+  }
   if (more.length > 0) {
     await happen(...more);
   } else {
     element("busy").textContent = "nothing is to be done";
+    showHint();
   }
 }
+
+// The experiment behind which no rank can go on, as *To the end* found it.
+let ended = "";
+
+const experimentUpTo = (step) => [ranks(), source(), ...lines().slice(0, linesUpTo(step)).filter(isEvent)].join("\n");
+
+// ---- what to do next: a sentence where no comment stands
+
+function showHint() {
+  if (element("note").textContent === "" && !document.body.classList.contains("stale")) {
+    element("note").replaceChildren(...inline(hintAt(world.steps[now], now === world.events.length)));
+  }
+}
+
+/** What a reader may do at a step, which is the last one or not. */
+function hintAt({ ranks: all }, isLast) {
+  const down = all.findIndex((it) => it.phase === "down");
+  const waits = all.findIndex((it) => it.phase !== "down" && !isOver(it));
+  if (down >= 0) {
+    return `Rank ${down} is down: *Recover* brings every rank back. Or click \`restart ${down}\`, and go on by single events.`;
+  }
+  if (!isLast) {
+    return now === 0 ? "Go on by *>* or the right arrow key. Or click another event: it happens here." : "";
+  }
+  if (waits >= 0 && ended !== experimentUpTo(now)) {
+    return "*To the end* runs the program: change it as you like. Or click one event after another.";
+  }
+  if (waits >= 0) {
+    return `It ends here: rank ${waits} waits for a message that doesn't come.`;
+  }
+  return world.events.some((it) => it.parts.kind === "crash") ? "It has ended. *All outcomes* lists what the program can print without crashes."
+    : "It has ended. Go back by *<* or by a click in the diagram, and crash a rank there.";
+}
+
+const isOver = ({ wants, waiting }) => ["halted", "fault"].includes(wants.kind) && waiting.length === 0;
 
 // ---- which events may happen at a step (docs/WORLDS.md): from the members of the world's objects
 
@@ -200,7 +241,7 @@ function nextEvents(step, most = Infinity, others = Infinity) {
       put("restart", [number], rank.image ? "from its image" : "from the beginning");
       return found;
     }
-    put("step", [number], wantsWords(rank.wants));
+    put("step", [number], rank.line === undefined ? wantsWords(rank.wants) : `line ${rank.line}: ${wantsWords(rank.wants)}`);
     for (const it of rank.next) {
       put("put", [number, it.destination], nextWords(it));
     }
@@ -211,7 +252,7 @@ function nextEvents(step, most = Infinity, others = Infinity) {
     const arrive = (frame, more) => put("arrive", [frame.source, number, frame.index], frameWords(frame), more);
     first.forEach((frame) => arrive(frame));
     newestFor(number, step, others, new Set(first)).forEach((frame) => arrive(frame, { later: true, again: frame.arrivals.some((it) => it.at <= step) }));
-    put("crash", [number], "loses all but row and image", { harms: true });
+    put("crash", [number], "loses all that isn't stored", { harms: true });
     return found;
   });
 }
@@ -254,7 +295,7 @@ function putGate(put, number, waiting) {
     put("release", [number], determinantWords(first));
   }
   if (!first) {
-    put("image", [number], "puts all it knows on its shelf");
+    put("image", [number], "stores a checkpoint");
   }
 }
 
@@ -262,7 +303,6 @@ function putGate(put, number, waiting) {
 const MOST_BUTTONS = 6;
 
 function showActs() {
-  element("hint").hidden = !world || world.events.length > 0 || document.body.classList.contains("stale");
   const { activeElement: active } = document;
   const [focused, row] = [active.dataset.event, active.closest(".row")];
   const place = [...element("acts").children].indexOf(row);
@@ -271,10 +311,14 @@ function showActs() {
     element(id).disabled = isStale;
   }
   if (isStale || !world) {
-    element("acts").replaceChildren(make("p", { class: "empty" }, "The program has a fault: mend it to go on. What stands below is the last one without."));
+    const words = "The program has a fault: mend it to go on. What is shown is the last one without.";
+    element("note").textContent = words;
+    element("acts").replaceChildren(make("p", { class: "empty" }, words));
     return;
   }
   element("acts").replaceChildren(...nextEvents(now, MOST_BUTTONS, MOST_FRAMES).map(rowOf));
+  element("catch-up").classList.toggle("main", world.steps[now].ranks.some((it) => it.phase !== "running"));
+  showHint();
   // (the focus stays at its event, or else at its rank)
   if (place >= 0) {
     const again = element("acts").querySelector(`[data-event="${focused}"]`);
@@ -307,7 +351,7 @@ function buttonOf({ text, about, harms }) {
 function showFutures() {
   const several = futures.length > 1;
   element("futures").replaceChildren(...(several ? futures : []).map((one, index) => {
-    const parted = index === 0 ? "" : `, parted behind step ${one.at}`;
+    const parted = index === 0 ? "" : `, another from step ${one.at} on`;
     const button = make("button", { type: "button", ...(index === current ? { "aria-current": "true" } : {}) },
       `Future ${index + 1}: ${counted(countOf(one.lines), "event")}${parted}`);
     button.addEventListener("click", () => {
@@ -383,7 +427,7 @@ let typing;
 function typed() {
   raced = new Set();
   if (source() !== (choices.get(element("choice").value) || {}).source) {
-    called = "Your program";
+    called = "your program";
     element("choice").value = "";
     element("about").replaceChildren();
   }
@@ -520,6 +564,7 @@ async function openEvents(opened, program, count) {
   } else {
     await startWith(opened, opened.length);
   }
+  element("diagram-head").scrollIntoView({ block: "nearest" });
 }
 
 async function showC() {
@@ -634,13 +679,20 @@ function listChoices() {
   })));
 }
 
+/** The statements of the language, as its reference has them. */
+function listStatements() {
+  const { about, rows } = stored.statements;
+  element("forms").replaceChildren(...inline(about));
+  element("statements").replaceChildren(...rows.map(([form, what]) => make("tr", {}, make("th", { scope: "row" }, ...inline(form)), make("td", {}, ...inline(what)))));
+}
+
 const nameOf = (path) => path.split("/").pop();
 
 // What stands between `, * or ** in a sentence, and the element that shows it.
 const MARKED = /`([^`]+)`|\*\*([^*]+)\*\*|\*([^*]+)\*/g;
 
-/** A paragraph of a lesson, with its words in bold, italics and code. */
-function paragraph(text) {
+/** The words of a sentence, those in bold, italics and code as elements. */
+function inline(text) {
   const [words, parts] = [text.replace(/\n/g, " "), []];
   let from = 0;
   for (const found of words.matchAll(MARKED)) {
@@ -648,19 +700,21 @@ function paragraph(text) {
     parts.push(words.slice(from, found.index), code ? make("code", {}, code) : bold ? make("b", {}, bold) : make("i", {}, slanted));
     from = found.index + found[0].length;
   }
-  return make("p", {}, ...parts, words.slice(from));
+  return [...parts, words.slice(from)];
 }
+
+const paragraph = (text) => make("p", {}, ...inline(text));
+
+/** A sentence as it stands alone: with a capital letter and a full stop. */
+const sentence = (text) => (/[.?!*]$/.test(text) ? text : `${text[0].toUpperCase()}${text.slice(1)}.`);
 
 /** Opens a lesson, a program or a world. */
 async function choose(value) {
-  const it = choices.get(value) || { name: "Your program", source: "# on each rank, this prints its number\nprint rank\n", ranks: 2, lines: [], about: "" };
+  const it = choices.get(value) || { name: "your program", source: "# on each rank, this prints its number\nprint rank\n", ranks: 2, lines: [], about: "" };
   [called, element("source").value, element("count").value] = [it.name, it.source, String(it.ranks)];
-  const parts = it.about.split(/\n\n+/).filter(Boolean).map(paragraph);
+  const parts = it.about.split(/\n\n+/).filter(Boolean).map((text) => paragraph(sentence(text)));
   element("choice").value = choices.has(value) ? value : "";
   element("about").replaceChildren(...parts);
-  if (it.lines.length > 0) {
-    element("about").append(make("p", {}, "Go on by the right arrow key, or make something else happen."));
-  }
   element("answer").hidden = true;
   raced = new Set();
   return startWith(it.lines);
@@ -674,6 +728,7 @@ async function beginLab() {
   element("files").hidden = true;
   element("origin").textContent = stored.origin;
   listChoices();
+  listStatements();
   offerRuns();
   const click = (id, does) => element(id).addEventListener("click", does);
   element("choice").addEventListener("change", () => choose(element("choice").value));

@@ -39,6 +39,8 @@ function askRuns() {
   const field = (words, input) => make("label", {}, words, input);
   const number = (id, value, most) => make("input", { id, type: "number", min: "1", max: String(most), value: String(value) });
   const choice = make("select", { id: "policy" }, ...policies.map(([value, words]) => make("option", { value }, `${value}: ${words}`)));
+  // (by turns in a row each seed makes the same run)
+  choice.value = policies.some(([value]) => value === "uniform") ? "uniform" : policies[0][0];
   const script = make("textarea", { id: "script", rows: "3", spellcheck: "false", "aria-label": "Script", placeholder: "kill 1 at 1" });
   script.value = `kill ${ranks() - 1} at 1\n`;
   const button = (id, words, does) => {
@@ -95,7 +97,8 @@ function outcomeOfRuns(words, runs, number) {
     button.addEventListener("click", () => openRun(one));
     return button;
   });
-  return make("section", {}, make("h3", {}, `Outcome ${number}: ${counted(runs.length, "run")}`), make("pre", {}, words), make("div", { class: "bar" }, ...buttons));
+  return make("section", {}, make("h3", {}, `Outcome ${number}: ${counted(runs.length, "run")}`), make("pre", {}, words),
+    make("div", { class: "bar" }, "Open as a world:", ...buttons));
 }
 
 /** Opens a run as a world: its events, with the crashes and images of its script. */
