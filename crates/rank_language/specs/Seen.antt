@@ -3,6 +3,8 @@ use Rattle.std.specs.Prelude.{Option, Some, None}
 use Rattle.std.specs.Borrow.{Bor}
 use Rattle.rank_language.specs.declared.expression.Expression.{Expression}
 use Rattle.rank_language.specs.declared.expression.Expression.TheVariants as made
+use Rattle.rank_language.specs.declared.expression.Operand.{Operand}
+use Rattle.rank_language.specs.declared.expression.Operand.TheVariants as operand
 use Rattle.rank_language.specs.declared.statement.Pattern as source_pattern
 use Rattle.rank_language.specs.declared.statement.Payload as source_payload
 use Rattle.rank_language.specs.declared.statement.Buffer as source_buffer
@@ -13,6 +15,11 @@ use Rattle.rank_language.specs.Placed.{one, all_of, Buffer, into_variable, into_
 use Rattle.rank_language.specs.Placed.{send, receive, probe, try_probe, print, Collective, barrier, broadcast, reduce, collect}
 use Rattle.rank_language.specs.Block.{Line, simple_line, if_line, else_line, end_line, while_line, back_line}
 
+-- an operand as an expression
+abbrev pub operand_of : Operand → Placed
+operand_of (operand.Number n) = number n
+operand_of (operand.Variable p) = variable p
+
 -- an expression without where it lies
 abbrev pub placed_of : Expression → Placed
 placed_of (made.Number n) = number n
@@ -21,6 +28,7 @@ placed_of (made.Item' p l e) = item p (placed_of e)
 placed_of (made.Reading r) = reading r
 placed_of (made.Negation' l e) = negation (placed_of e)
 placed_of (made.Operation' o l a m b) = operation o (placed_of a) (placed_of b)
+placed_of (made.Simple o p b) = operation o (variable p) (operand_of b)
 
 -- a pattern without where it lies
 abbrev pub pattern_of : source_pattern.Pattern → Pattern

@@ -13,4 +13,14 @@ pub enum Expression {
     Reading(Reading),
     Negation(Box<Expression, Heap>),
     Operation(Operator, Box<Expression, Heap>, Box<Expression, Heap>),
+    /// An operation on a variable, by its place, and a number or a variable: both stand in it
+    /// themselves.
+    Simple(Operator, usize, Operand),
+}
+
+/// A number, or a variable by its place.
+#[derive(Clone, Copy)]
+pub enum Operand {
+    Number(i64),
+    Variable(usize),
 }

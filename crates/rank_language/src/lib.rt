@@ -13,7 +13,7 @@ mod resolve_form;
 pub mod statement;
 mod text_line;
 
-pub use expression::Expression;
+pub use expression::{Expression, Operand};
 pub use line_numbers::statement_lines;
 pub use lined::LinedProgram;
 pub use program::Program;

@@ -8,14 +8,14 @@ ghost use Rattle.rank_language.specs.Named.{named, payload_named, value_named};
 ghost use Rattle.rank_language.specs.Placed.{assign, assign_item, declare_array, does};
 ghost use Rattle.rank_language.specs.Program.{AllPlaced, IsPlaced, IsWithin};
 ghost use Rattle.rank_language.specs.Program.{IsBufferWithin, IsPatternWithin, IsPayloadWithin};
-ghost use Rattle.rank_language.specs.Seen.{buffer_of, pattern_of, line_of, payload_of, placed_of};
+ghost use Rattle.rank_language.specs.Seen.{buffer_of, pattern_of, line_of, operand_of, payload_of, placed_of};
 ghost use Rattle.rank_language.specs.SeenTables.{tables_seen};
 ghost use Rattle.rank_language.specs.Shape.{step_of};
 
 mod collectives;
 mod messages;
 
-use crate::expression::Expression;
+use crate::expression::{Expression, Operand};
 use crate::resolve::Tables;
 use crate::statement::{Buffer, Pattern, Payload, Statement};
 use collectives::name_collective;
@@ -32,6 +32,17 @@ fn array_at(tables: Tables<'_>, place: usize) -> Array
     ensures { (result.name, result.length) ≡ array_at (tables_seen tables.entry) place }
 {
     tables.arrays[place]
+}
+
+/// The operand with a name for its place.
+fn name_operand(tables: Tables<'_>, operand: Operand) -> Written
+    requires { IsWithin (length (tables_seen tables).variables) (length (tables_seen tables).arrays) (operand_of operand) }
+    ensures { tree_of result ≡ named (tables_seen tables.entry) (operand_of operand) }
+{
+    match operand {
+        Operand::Number(number) => Written::Number(number.unsigned_abs()),
+        Operand::Variable(place) => Written::Variable(tables.variables[place]),
+    }
 }
 
 /// The expression with names for its places.
@@ -54,6 +65,11 @@ fn name(alloc: Heap, tables: Tables<'_>, expression: &Expression) -> Result<Writ
         Expression::Operation(operator, left, right) => {
             let left = Box::new(alloc, name(alloc, tables, left)?)?;
             let right = Box::new(alloc, name(alloc, tables, right)?)?;
+            Ok(Written::Operation(*operator, left, right))
+        }
+        Expression::Simple(operator, place, right) => {
+            let left = Box::new(alloc, Written::Variable(tables.variables[*place]))?;
+            let right = Box::new(alloc, name_operand(tables, *right))?;
             Ok(Written::Operation(*operator, left, right))
         }
     }
@@ -89,7 +105,8 @@ fn name_value(
         | Expression::Item(..)
         | Expression::Reading(_)
         | Expression::Negation(_)
-        | Expression::Operation(..) => name(alloc, tables, expression).map(form::Payload::One),
+        | Expression::Operation(..)
+        | Expression::Simple(..) => name(alloc, tables, expression).map(form::Payload::One),
     }
 }
 

@@ -1,16 +1,16 @@
 //! Places for names: an expression as it is written becomes one that a machine reads.
-ghost use Rattle.std.specs.Prelude.{◌≡◌, Some, IfOk, true, false, position};
+ghost use Rattle.std.specs.Prelude.{◌≡◌, Some, IfOk, IfSome, true, false, position};
 ghost use Rattle.std.specs.Str.{bytes_eq};
-ghost use Rattle.rank_text.specs.Grammar.Tree.{tree_of};
+ghost use Rattle.rank_text.specs.Grammar.Tree.{operation, tree_of};
 ghost use Rattle.rank_text.specs.Checker.Scope.{all_declared, is_array, is_declared, is_great, is_variable};
 ghost use Rattle.rank_language.specs.Resolved.{array_place, place_in, resolved, variable_place};
-ghost use Rattle.rank_language.specs.Seen.{placed_of};
+ghost use Rattle.rank_language.specs.Seen.{operand_of, placed_of};
 ghost use Rattle.rank_language.specs.SeenTables.{IsPlaceOf, tables_seen};
 
-use crate::expression::Expression;
+use crate::expression::{Expression, Operand};
 use limits::Heap;
 use rank_text::checker::Array;
-use rank_text::grammar::{Name, Written};
+use rank_text::grammar::{Name, Operator, Written};
 use std::alloc::AllocError;
 
 /// The names that a text declares, in their order.
@@ -88,6 +88,39 @@ pub(crate) enum Declared {
     Array(usize),
 }
 
+/// The operand that stands in an operation, if the expression is a number or a variable.
+fn resolve_operand(tables: Tables<'_>, written: &Written) -> Option<Operand>
+    requires declared { all_declared (tables_seen tables) (tree_of written.now) ≡ true }
+    requires fitting { is_great (tree_of written.now) ≡ false }
+    ensures { IfSome result (λ o. resolved (tables_seen tables.entry) (tree_of written.now) ≡ Some (operand_of o)) }
+{
+    match written {
+        Written::Number(number) => Some(Operand::Number(*number as i64)),
+        Written::Variable(name) => Some(Operand::Variable(tables.variable(*name))),
+        Written::Item(..) | Written::Reading(_) | Written::Negation(_) | Written::Operation(..) =>
+            None,
+    }
+}
+
+/// The operation, if it is one on a variable and a number or a variable.
+fn resolve_simple(
+    tables: Tables<'_>,
+    operator: Operator,
+    left: &Written,
+    right: &Written,
+) -> Option<Expression>
+    requires left { all_declared (tables_seen tables) (tree_of left.now) ≡ true }
+    requires right { all_declared (tables_seen tables) (tree_of right.now) ≡ true }
+    requires fitting { is_great (tree_of right.now) ≡ false }
+    ensures { IfSome result (λ e. resolved (tables_seen tables.entry) (operation operator (tree_of left.now) (tree_of right.now)) ≡ Some (placed_of e)) }
+{
+    let Written::Variable(name) = left else {
+        return None;
+    };
+    let right = resolve_operand(tables, right)?;
+    Some(Expression::Simple(operator, tables.variable(*name), right))
+}
+
 /// The expression with places for its names.
 pub(crate) fn resolve(
     alloc: Heap,
@@ -111,6 +144,9 @@ pub(crate) fn resolve(
             Ok(Expression::Negation(Box::new(alloc, operand)?))
         }
         Written::Operation(operator, left, right) => {
+            if let Some(simple) = resolve_simple(tables, *operator, left, right) {
+                return Ok(simple);
+            }
             let left = Box::new(alloc, resolve(alloc, tables, left)?)?;
             let right = Box::new(alloc, resolve(alloc, tables, right)?)?;
             Ok(Expression::Operation(*operator, left, right))

@@ -45,7 +45,8 @@ fn may_have_tag(sought: Option<u16>, tag: &Expression) -> bool
         | Expression::Item(..)
         | Expression::Reading(_)
         | Expression::Negation(_)
-        | Expression::Operation(..) => true,
+        | Expression::Operation(..)
+        | Expression::Simple(..) => true,
     }
 }
 
@@ -59,7 +60,8 @@ pub fn tag_of(statement: &Statement) -> Option<u16> {
             | Expression::Item(..)
             | Expression::Reading(_)
             | Expression::Negation(_)
-            | Expression::Operation(..) => None,
+            | Expression::Operation(..)
+            | Expression::Simple(..) => None,
         },
         Statement::Declare(_)
         | Statement::DeclareArray(_)

@@ -1,10 +1,10 @@
 //! What statements read and write.
 ghost use Rattle.std.specs.Prelude.{◌≡◌};
-ghost use Rattle.rank_language.specs.Seen.{placed_of};
+ghost use Rattle.rank_language.specs.Seen.{operand_of, placed_of};
 ghost use Rattle.crash_free.specs.LiveVariables.Names.{is_place, is_status, reads_status, mentions};
 ghost use Rattle.crash_free.specs.LiveVariables.Seen.{name_of};
 
-use rank_language::{Expression, Reading};
+use rank_language::{Expression, Operand, Reading};
 
 /// What may be read and written.
 #[derive(Clone, Copy)]
@@ -47,6 +47,17 @@ impl Name {
             Expression::Reading(reading) => self.is_status() && reads_status(*reading),
             Expression::Negation(operand) => self.is_in(operand),
             Expression::Operation(_, left, right) => self.is_in(left) || self.is_in(right),
+            Expression::Simple(_, place, right) => self.is_place(*place) || self.is_operand(*right),
+        }
+    }
+
+    // Whether it is the operand.
+    fn is_operand(self, operand: Operand) -> bool
+        ensures { result ≡ mentions (name_of self) (operand_of operand) }
+    {
+        match operand {
+            Operand::Number(_) => false,
+            Operand::Variable(place) => self.is_place(place),
         }
     }
 }

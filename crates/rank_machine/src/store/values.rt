@@ -1,14 +1,14 @@
 //! Values of expressions over what a rank has stored.
 ghost use Rattle.std.specs.Prelude.{◌≡◌, ◌<◌, ◌-◌, IfOk, IfSome, Ok, Some, [], length, slice_index_or};
-ghost use Rattle.rank_language.specs.Seen.{placed_of};
+ghost use Rattle.rank_language.specs.Seen.{operand_of, placed_of};
 ghost use Rattle.rank_language.specs.Program.{IsWithin};
 ghost use Rattle.rank_machine.specs.Values.{value, read, rank_in};
 ghost use Rattle.rank_machine.specs.States.{item_value};
 
 use crate::fault::MachineFault;
-use crate::operate::{negated, operated};
+use crate::operate::{difference, negated, operated, sum};
 use crate::store::Store;
-use rank_language::{Expression, Reading};
+use rank_language::{Expression, Operand, Operator, Reading};
 
 impl Store {
     /// The expression's value; operands go from left to right, and the first fault stands. A number
@@ -24,34 +24,36 @@ impl Store {
         }
     }
 
-    // The same value; an operation on numbers and variables needs no call either. Most steps of a
-    // loop are such.
+    // The same value; a sum or a difference of a variable and a number or a variable needs no call
+    // either. Most steps of a loop are such.
     #[inline(always)]
     pub(super) fn step_value(&self, expression: &Expression) -> Result<i64, MachineFault>
         requires { IsWithin (length self.now.variables) (length self.now.arrays) (placed_of expression.now) }
         ensures { result ≡ value self.now (placed_of expression.now) }
     {
-        match self.quick(expression) {
-            Some(value) => Ok(value),
-            None => self.computed(expression),
+        if let Expression::Simple(operator, place, right) = expression {
+            let (left, right) = (self.variables[*place], self.operand(*right));
+            match operator {
+                Operator::Add => return sum(left, right),
+                Operator::Subtract => return difference(left, right),
+                Operator::Multiply | Operator::Divide | Operator::Remainder => {}
+                Operator::Equal | Operator::NotEqual => {}
+                Operator::Less | Operator::LessEqual => {}
+                Operator::Greater | Operator::GreaterEqual => {}
+            }
         }
+        self.value_of(expression)
     }
 
-    // The value of a number, of a variable or of an operation on two such, if it doesn't fault: it
-    // needs no call.
+    // The value of an operand.
     #[inline(always)]
-    fn quick(&self, expression: &Expression) -> Option<i64>
-        requires { IsWithin (length self.now.variables) (length self.now.arrays) (placed_of expression.now) }
-        ensures { IfSome result (λ z. value self.now (placed_of expression.now) ≡ Ok z) }
+    pub(super) fn operand(&self, operand: Operand) -> i64
+        requires { IsWithin (length self.now.variables) (length self.now.arrays) (operand_of operand) }
+        ensures { value self.now (operand_of operand) ≡ Ok result }
     {
-        let Expression::Operation(operator, left, right) = expression else {
-            return self.leaf(expression);
-        };
-        let left = self.leaf(left)?;
-        let right = self.leaf(right)?;
-        match operated(*operator, left, right) {
-            Ok(value) => Some(value),
-            Err(_) => None,
+        match operand {
+            Operand::Number(number) => number,
+            Operand::Variable(place) => self.variables[place],
         }
     }
 
@@ -67,7 +69,8 @@ impl Store {
             Expression::Item(_, _)
             | Expression::Reading(_)
             | Expression::Negation(_)
-            | Expression::Operation(_, _, _) => None,
+            | Expression::Operation(_, _, _)
+            | Expression::Simple(_, _, _) => None,
         }
     }
 
@@ -98,6 +101,9 @@ impl Store {
                     None => self.computed(right)?,
                 };
                 operated(*operator, left, right)
+            }
+            Expression::Simple(operator, place, right) => {
+                operated(*operator, self.variables[*place], self.operand(*right))
             }
         }
     }

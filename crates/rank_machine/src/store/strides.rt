@@ -1,0 +1,50 @@
+//! Steps of a rank's own, one after another, over what it has stored.
+ghost use Rattle.std.specs.Prelude.{◌≡◌, ◌≢◌, ◌<◌, ◌≤◌};
+ghost use Rattle.rank_machine.specs.declared.want.Want.TheVariants.{Internal};
+ghost use Rattle.rank_machine.specs.Machine.{machine_want, standing, IsMachine, KeepsRank, Strides};
+
+use crate::store::Store;
+use rank_language::Program;
+
+/// Where a rank stands after steps of its own, and how many it made.
+#[derive(Clone, Copy)]
+pub struct Stride {
+    pub position: usize,
+    pub made: u32,
+}
+
+impl Store {
+    /// Makes steps of its own from a position on until something else stands there, but no more
+    /// than `most`. No such step leaves a fault.
+    pub fn stride(&mut self, program: &Program, from: usize, most: u32) -> Stride
+        requires machine { IsMachine (standing program.now from self.old) }
+        ensures machine { IsMachine (standing program.now result.position self.new) }
+        ensures made { Strides result.made (standing program.now from self.old) (standing program.now result.position self.new) }
+        ensures stays { KeepsRank (standing program.now from self.old) (standing program.now result.position self.new) }
+        ensures most { result.made ≤ most }
+        ensures stands { result.made < most → machine_want (standing program.now result.position self.new) ≢ Internal }
+    {
+        let mut position = from;
+        let mut left = most;
+        while left > 0 {
+            let Some(statement) = program.statement(position) else {
+                return Stride {
+                    position,
+                    made: most - left,
+                };
+            };
+            let Some(next) = self.follow(statement, position) else {
+                return Stride {
+                    position,
+                    made: most - left,
+                };
+            };
+            position = next;
+            left -= 1;
+        }
+        Stride {
+            position,
+            made: most,
+        }
+    }
+}
