@@ -40,4 +40,4 @@ above_last number (Some last) = nat_lt last number
 
 -- how many packets at most are walked before the index is asked
 abbrev pub most_walked : ℕ
-most_walked = 32
+most_walked = 512

@@ -14,9 +14,8 @@ use std::alloc::AllocError;
 use std::marker::Model;
 
 /// How many packets stand in a row. So few are walked, and moved up where one
-/// is taken, faster than an index is kept, and a rank that keeps up never has
-/// more.
-const MOST_WALKED: usize = 32;
+/// is taken, faster than an index is kept: it has five labels of each packet.
+const MOST_WALKED: usize = 512;
 
 /// The packets that wait, in the order of acceptance.
 #[derive(Drop)]
