@@ -1,17 +1,20 @@
-//! The parts of the C text that are the same for every program, in their order.
+//! The parts of the C text that are the same for every program, in their order; there are two of
+//! how a message is sent.
 ghost use Rattle.std.specs.Prelude.{◌≡◌};
-ghost use Rattle.c_program.specs.Whole.{fixed_collectives, fixed_ending, fixed_head, fixed_messages, fixed_values};
+ghost use Rattle.c_program.specs.Whole.{fixed_collectives, fixed_ending, fixed_head, fixed_messages, fixed_sending, fixed_values};
 
 mod collectives;
 mod ending;
 mod head;
 mod messages;
+mod sending;
 mod values;
 
 use collectives::COLLECTIVES;
 use ending::ENDING;
 use head::HEAD;
 use messages::MESSAGES;
+use sending::{AWAITED, STARTED};
 use values::VALUES;
 
 /// What stands in front of the program's own part.
@@ -36,6 +39,18 @@ pub(crate) fn fixed_messages() -> &'static [u8]
     ensures { result.now ≡ fixed_messages }
 {
     MESSAGES.as_bytes()
+}
+
+/// How a message is sent: its rank waits until it is received, or goes on.
+#[tactic(auto, unfolding(crate::specs::Whole::fixed_sending))]
+pub(crate) fn fixed_sending(synchronous: bool) -> &'static [u8]
+    ensures { result.now ≡ fixed_sending synchronous }
+{
+    if synchronous {
+        AWAITED.as_bytes()
+    } else {
+        STARTED.as_bytes()
+    }
 }
 
 /// Collectives.

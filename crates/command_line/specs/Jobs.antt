@@ -11,6 +11,7 @@ use Rattle.command_line.specs.declared.explain.ExplainJob.{ExplainJob}
 use Rattle.command_line.specs.declared.exploring.ExploreForm.{ExploreForm}
 use Rattle.command_line.specs.declared.exploring.ExploreForm.TheVariants as explore_form
 use Rattle.command_line.specs.declared.exploring.ExploreJob.{ExploreJob}
+use Rattle.command_line.specs.declared.job.CJob.{CJob}
 use Rattle.command_line.specs.declared.job.CheckJob.{CheckJob}
 use Rattle.command_line.specs.declared.job.Job.{Job}
 use Rattle.command_line.specs.declared.job.Job.TheVariants as job
@@ -26,6 +27,11 @@ use Rattle.command_line.specs.declared.tracing.TraceJob.{TraceJob}
 -- The only file holds the program.
 pub record IsCheckOf (command : List ℕ) (arguments : List (List ℕ)) (check : CheckJob) : Type 0 where
   pub files : files_of command arguments ≡ check.program.now ∷ []
+
+-- The only file holds the program; sends are synchronous if `--synchronous` is there.
+pub record IsCOf (command : List ℕ) (arguments : List (List ℕ)) (c : CJob) : Type 0 where
+  pub synchronous : c.synchronous ≡ is_given (codes "synchronous") arguments
+  pub files : files_of command arguments ≡ c.program.now ∷ []
 
 -- The run has as many ranks as `--ranks` says, under the script in the file that `--script` names, with
 -- an image after so many acts as `--images-every` gives, and within the limits that `--idle` and `--steps`
@@ -131,7 +137,7 @@ pub record IsSoakScriptOf (command : List ℕ) (arguments : List (List ℕ)) (sc
 -- the job that a command has with these arguments
 abbrev pub IsJobBy : List ℕ → List (List ℕ) → Job → Type 0
 IsJobBy command arguments (job.Check check) = (command ≡ codes "check") × IsCheckOf command arguments check
-IsJobBy command arguments (job.C check) = (command ≡ codes "c") × IsCheckOf command arguments check
+IsJobBy command arguments (job.C c) = (command ≡ codes "c") × IsCOf command arguments c
 IsJobBy command arguments (job.Run run) =
     (command ≡ codes "run") × IsRunOf command arguments run × IsCostFormOf arguments run.costs
 IsJobBy command arguments (job.Trace trace) = (command ≡ codes "trace") × IsTraceOf command arguments trace

@@ -25,7 +25,7 @@ pub use catching_up::FinishJob;
 pub use costing::CostForm;
 pub use explain::ExplainJob;
 pub use exploring::{ExploreForm, ExploreJob};
-pub use job::{CheckJob, Job, RunJob, WorldJob};
+pub use job::{CJob, CheckJob, Job, RunJob, WorldJob};
 pub use judging::JudgeJob;
 pub use named::job_of;
 pub use no_job::NoJob;

@@ -13,7 +13,7 @@ mod worlds;
 
 use crate::help;
 use crate::job::Job;
-use crate::named::checks::{check_of, explain_of};
+use crate::named::checks::{c_of, check_of, explain_of};
 use crate::named::commands::{CommandName, command_called};
 use crate::named::runs::{cost_form_of, run_of, trace_of};
 use crate::named::searches::{explore_of, judge_of};
@@ -84,7 +84,7 @@ fn chosen<'a>(command: &str, arguments: &'a [String]) -> Option<Job<'a>>
 {
     match command_called(command)? {
         CommandName::Check => check_of(command, arguments).map(Job::Check),
-        CommandName::C => check_of(command, arguments).map(Job::C),
+        CommandName::C => c_of(command, arguments).map(Job::C),
         CommandName::Run => run_of(command, arguments, cost_form_of(arguments)).map(Job::Run),
         CommandName::Trace => trace_of(command, arguments).map(Job::Trace),
         CommandName::World => world_job(command, arguments),

@@ -1,5 +1,5 @@
 -- What a tool answers, of the texts that the files hold.
-use Rattle.std.proofs.Common.{◌≡◌, ℕ, List, Ok, subst, sym}
+use Rattle.std.proofs.Common.{◌≡◌, ℕ, Bool, List, Ok, subst, sym}
 use Rattle.c_program.specs.Whole.{IsCText}
 use Rattle.command_line.specs.declared.job.WorldJob.{WorldJob}
 use Rattle.world_model.specs.EventsText.Events.{events_of}
@@ -10,10 +10,10 @@ use Rattle.runner.specs.Translations.{IsCAnswer}
 use Rattle.world_model.specs.declared.event.WorldEvent.{WorldEvent}
 
 -- the C text of a text that the file holds
-pub is_c_answer : (holds : List ℕ → Type 0) (text c out : List ℕ) (status : ℕ) → holds text → IsCText text c → out ≡ c → status ≡ 0
-    → IsCAnswer holds out status
-is_c_answer holds text c out status held translated same done =
-    record { text = text; held = held; translated = subst (IsCText text) (sym same) translated; done = done }
+pub is_c_answer : (holds : List ℕ → Type 0) (synchronous : Bool) (text c out : List ℕ) (status : ℕ) → holds text → IsCText synchronous text c → out ≡ c → status ≡ 0
+    → IsCAnswer holds synchronous out status
+is_c_answer holds synchronous text c out status held translated same done =
+    record { text = text; held = held; translated = subst (IsCText synchronous text) (sym same) translated; done = done }
 
 -- the events of a text that the file holds
 pub has_events : (holds : List ℕ → Type 0) (text : List ℕ) (events : List WorldEvent)

@@ -51,7 +51,7 @@ pub record IsCheckAnswer (holds : List ℕ → Type 0) (out : List ℕ) (status 
 -- claimed of the text of `world --json`, nor of the words of an explanation.
 abbrev pub IsDone : (List ℕ → List ℕ → Type 0) → Job → List ℕ → ℕ → Type 0
 IsDone holds (job.Check check) out status = IsCheckAnswer (holds check.program.now) out status
-IsDone holds (job.C check) out status = IsCAnswer (holds check.program.now) out status
+IsDone holds (job.C c) out status = IsCAnswer (holds c.program.now) c.synchronous out status
 IsDone holds (job.Run run) out status = IsRunAnswer holds run out status
 IsDone holds (job.Trace run) out status = IsTraceAnswer holds run out status
 IsDone holds (job.World world) out status = IsWorldAnswer holds world wanted.Replies out status

@@ -265,7 +265,7 @@ pub data IsSoakScriptRefusal (holds : List ℕ → List ℕ → Type 0) (job : S
 -- the reason for which a job is refused, where files hold what they do
 abbrev pub IsReasonOf : (List ℕ → List ℕ → Type 0) → Job → Refusal → Type 0
 IsReasonOf holds (job.Check check) refused = IsProgramRefusal holds check.program refused
-IsReasonOf holds (job.C check) refused = IsProgramRefusal holds check.program refused
+IsReasonOf holds (job.C c) refused = IsProgramRefusal holds c.program refused
 IsReasonOf holds (job.Run run) refused = IsRunRefusal holds run refused
 IsReasonOf holds (job.Trace trace) refused = IsTraceRefusal holds trace.run refused
 IsReasonOf holds (job.World world) refused = IsWorldRefusal holds world wanted.Replies refused

@@ -117,8 +117,8 @@ static void close_hits(const struct packet *packet)
 
 // ---- Sends ----
 
-// A send never waits: it is started, and its packet is kept until it is done (MPI 1.1,
-// section 3.7). So the library needs no room for messages that wait.
+// A send that is started never waits: its packet is kept until it is done (MPI 1.1,
+// section 3.7). So the library needs no room for what waits.
 struct outgoing {
     MPI_Request request;
     long long *packet;
@@ -171,6 +171,9 @@ static void start_send(enum context context, int destination, int tag, const lon
     sent[context][destination]++;
 }
 
+// Sends a message of the program.
+static void send_message(int destination, int tag, const long long *items, int count);
+
 static int rank_in(struct value value)
 {
     if (value.number < 0 || value.number >= self.size)
@@ -193,7 +196,7 @@ static void send_items(struct value destination, struct value tag, const long lo
     number_in(tag);
     to = rank_in(destination);
     with = tag_in(tag);
-    start_send(MESSAGE, to, with, NULL, 0, items, count);
+    send_message(to, with, items, count);
 }
 
 static void send_value(struct value destination, struct value tag, struct value value)

@@ -1,11 +1,11 @@
 //! A program that arguments name, or texts that are explained.
 ghost use Rattle.std.specs.Prelude.{IfSome};
-ghost use Rattle.command_line.specs.Jobs.{IsCheckOf, IsExplainOf};
+ghost use Rattle.command_line.specs.Jobs.{IsCOf, IsCheckOf, IsExplainOf};
 ghost use Rattle.command_line.specs.Words.{texts};
 
 use crate::explain::ExplainJob;
-use crate::job::CheckJob;
-use crate::words::{one_file, ranks_or_most, value_of};
+use crate::job::{CJob, CheckJob};
+use crate::words::{is_given, one_file, ranks_or_most, value_of};
 
 /// The program that the arguments name.
 pub fn check_of<'a>(command: &str, arguments: &'a [String]) -> Option<CheckJob<'a>>
@@ -13,6 +13,16 @@ pub fn check_of<'a>(command: &str, arguments: &'a [String]) -> Option<CheckJob<'
 {
     Some(CheckJob {
         program: one_file(command, arguments)?,
+    })
+}
+
+/// The program that the arguments name, and how its sends are written in C.
+pub fn c_of<'a>(command: &str, arguments: &'a [String]) -> Option<CJob<'a>>
+    ensures { IfSome result (λ c. IsCOf command.now (texts arguments.entry.now) c) }
+{
+    Some(CJob {
+        program: one_file(command, arguments)?,
+        synchronous: is_given("synchronous", arguments),
     })
 }
 
