@@ -9,7 +9,7 @@ use limits::{MOST_RANKS, MOST_RANKS_OF_FORMAT_1};
 pub const EVENT_VERSION: u8 = 2;
 
 /// In which format an image is spelled. Both are read, and the second is written.
-#[derive(Clone, Copy, PartialEq, Eq)]
+#[derive(Clone, Copy)]
 pub enum Format {
     /// Says nothing of event words, and has few ranks.
     One,

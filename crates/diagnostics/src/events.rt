@@ -3,9 +3,9 @@
 use crate::near::NearWord;
 use crate::piece::{Cut, Piece, pieces_of};
 use crate::shown::{line_of, put_piece};
-use crate::told::Told;
 use crate::wordless::put_wordless;
 use limits::Heap;
+use rank_text::text_writer::TextWriter;
 use std::alloc::AllocError;
 use world_model::events_text::EventsFaultKind;
 
@@ -73,7 +73,7 @@ pub fn explain_events(
 ) -> Result<String<Heap>, AllocError> {
     let line = line_of(text, number);
     let words = pieces_of(alloc, line, Cut::Words)?;
-    let mut told = Told::begun(heading(alloc, number, kind), alloc);
+    let mut told = TextWriter::begun(heading(alloc, number, kind), alloc);
     match kind {
         EventsFaultKind::BadLine => put_bad_line(&mut told, alloc, number, line, words.as_slice()),
         EventsFaultKind::Limit => {
@@ -89,7 +89,13 @@ fn heading(alloc: Heap, number: usize, kind: EventsFaultKind) -> Result<String<H
     format!(in alloc; "events line {number}: fault {} {kind}\n", kind.number())
 }
 
-fn put_bad_line(told: &mut Told, alloc: Heap, number: usize, line: &[u8], words: &[Piece<'_>]) {
+fn put_bad_line(
+    told: &mut TextWriter,
+    alloc: Heap,
+    number: usize,
+    line: &[u8],
+    words: &[Piece<'_>],
+) {
     if put_wordless(told, number, line, words) {
         return;
     }
@@ -114,7 +120,7 @@ fn form_of(word: Piece<'_>) -> Option<&'static Form> {
     None
 }
 
-fn put_no_event(told: &mut Told, alloc: Heap, line: &[u8], word: Piece<'_>) {
+fn put_no_event(told: &mut TextWriter, alloc: Heap, line: &[u8], word: Piece<'_>) {
     put_piece(told, line, Some(word));
     told.text("no event begins so");
     let mut nearest = NearWord::to(word.text);
@@ -128,7 +134,7 @@ fn put_no_event(told: &mut Told, alloc: Heap, line: &[u8], word: Piece<'_>) {
 }
 
 // The first word that is no number, or stands where none is.
-fn put_numbers(told: &mut Told, line: &[u8], words: &[Piece<'_>], form: &Form) {
+fn put_numbers(told: &mut TextWriter, line: &[u8], words: &[Piece<'_>], form: &Form) {
     let place = numbers_in_front(words).min(form.numbers);
     let expected = if place < form.numbers {
         "a number of at most 9 digits"

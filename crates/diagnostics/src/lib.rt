@@ -15,7 +15,6 @@ mod piece;
 mod program;
 mod script;
 mod shown;
-mod told;
 mod unmet;
 mod value;
 mod wordless;

@@ -1,7 +1,7 @@
 //! The word that was perhaps meant.
 
-use crate::told::Told;
 use limits::Heap;
+use rank_text::text_writer::TextWriter;
 use std::alloc::AllocError;
 use strsim::osa_distance;
 
@@ -48,7 +48,7 @@ impl<'a, 'w> NearWord<'a, 'w> {
     }
 
     /// Writes that the nearest was perhaps meant, if one is near.
-    pub fn put(&self, told: &mut Told) {
+    pub fn put(&self, told: &mut TextWriter) {
         if let Some(near) = self.found {
             told.text("; perhaps `");
             told.text(near);
@@ -69,7 +69,7 @@ pub fn nearest<'w>(
 }
 
 /// Writes the word among these that was perhaps meant, if one is near.
-pub fn put_nearest(told: &mut Told, alloc: Heap, word: &[u8], words: &[&str]) {
+pub fn put_nearest(told: &mut TextWriter, alloc: Heap, word: &[u8], words: &[&str]) {
     let mut nearest = NearWord::to(word);
     match nearest.look(alloc, words) {
         Ok(()) => nearest.put(told),

@@ -7,11 +7,11 @@ use crate::near::{NearWord, put_nearest};
 use crate::passed_limits::limit_passed;
 use crate::piece::{Cut, Piece, pieces_of};
 use crate::shown::{line_of, put_bytes, put_marked, put_piece};
-use crate::told::Told;
 use crate::wordless::put_no_text;
 use limits::Heap;
 use rank_language::{FaultKind, ProgramFault};
 use rank_text::lines::without_front;
+use rank_text::text_writer::TextWriter;
 use std::alloc::AllocError;
 
 /// What is wrong with the text of a program that has this fault: the fault as
@@ -25,7 +25,7 @@ pub fn explain_program(
     let line = line_of(text, fault.line);
     let pieces = pieces_of(alloc, line, Cut::Tokens)?;
     let before = Before::line(alloc, text, fault.line)?;
-    let mut told = Told::begun(format!(in alloc; "{fault}\n"), alloc);
+    let mut told = TextWriter::begun(format!(in alloc; "{fault}\n"), alloc);
     put_why(&mut told, alloc, fault, line, pieces.as_slice(), &before);
     told.text("manual: docs/LANGUAGE.md, ");
     told.text(page_of(fault.kind));
@@ -35,7 +35,7 @@ pub fn explain_program(
 
 // The line and why it is at fault.
 fn put_why(
-    told: &mut Told,
+    told: &mut TextWriter,
     alloc: Heap,
     fault: ProgramFault,
     line: &[u8],
@@ -66,7 +66,7 @@ fn page_of(kind: FaultKind) -> &'static str {
     }
 }
 
-fn put_no_statement(told: &mut Told, alloc: Heap, line: &[u8], pieces: &[Piece<'_>]) {
+fn put_no_statement(told: &mut TextWriter, alloc: Heap, line: &[u8], pieces: &[Piece<'_>]) {
     put_piece(told, line, pieces.first().copied());
     told.text("no statement begins so");
     match pieces {
@@ -78,7 +78,7 @@ fn put_no_statement(told: &mut Told, alloc: Heap, line: &[u8], pieces: &[Piece<'
 }
 
 // What to write in place of this word.
-fn put_meant(told: &mut Told, alloc: Heap, word: &[u8]) {
+fn put_meant(told: &mut TextWriter, alloc: Heap, word: &[u8]) {
     match aim_of(alloc, word) {
         Ok(Some(aim)) => put_aim(told, aim),
         Ok(None) => put_nearest(told, alloc, word, &STATEMENTS),
@@ -86,12 +86,12 @@ fn put_meant(told: &mut Told, alloc: Heap, word: &[u8]) {
     }
 }
 
-fn put_aim(told: &mut Told, aim: &str) {
+fn put_aim(told: &mut TextWriter, aim: &str) {
     told.text("; ");
     told.text(aim);
 }
 
-fn put_misfit(told: &mut Told, alloc: Heap, line: &[u8], pieces: &[Piece<'_>]) {
+fn put_misfit(told: &mut TextWriter, alloc: Heap, line: &[u8], pieces: &[Piece<'_>]) {
     match first_misfit(alloc, pieces) {
         Ok(Some(misfit)) => {
             put_piece(told, line, pieces.get(misfit.place).copied());
@@ -105,7 +105,7 @@ fn put_misfit(told: &mut Told, alloc: Heap, line: &[u8], pieces: &[Piece<'_>]) {
 }
 
 fn put_undeclared(
-    told: &mut Told,
+    told: &mut TextWriter,
     alloc: Heap,
     line: &[u8],
     pieces: &[Piece<'_>],
@@ -127,7 +127,7 @@ fn put_undeclared(
     }
 }
 
-fn put_other_sort(told: &mut Told, piece: Piece<'_>, declared: Declared<'_>) {
+fn put_other_sort(told: &mut TextWriter, piece: Piece<'_>, declared: Declared<'_>) {
     told.text(" is declared on line ");
     told.number(declared.line as u64);
     match declared.sort {
@@ -141,7 +141,7 @@ fn put_other_sort(told: &mut Told, piece: Piece<'_>, declared: Declared<'_>) {
 }
 
 // The declared name that was perhaps meant.
-fn put_near_name(told: &mut Told, alloc: Heap, piece: Piece<'_>, before: &Before<'_>) {
+fn put_near_name(told: &mut TextWriter, alloc: Heap, piece: Piece<'_>, before: &Before<'_>) {
     let mut nearest = NearWord::to(piece.text);
     for declared in &before.names {
         if let Ok(name) = std::str::from_utf8(declared.name) {
@@ -153,7 +153,7 @@ fn put_near_name(told: &mut Told, alloc: Heap, piece: Piece<'_>, before: &Before
     nearest.put(told);
 }
 
-fn put_twice(told: &mut Told, line: &[u8], pieces: &[Piece<'_>], before: &Before<'_>) {
+fn put_twice(told: &mut TextWriter, line: &[u8], pieces: &[Piece<'_>], before: &Before<'_>) {
     let name = pieces.get(1).copied();
     put_piece(told, line, name);
     let Some(piece) = name else {
@@ -168,23 +168,21 @@ fn put_twice(told: &mut Told, line: &[u8], pieces: &[Piece<'_>], before: &Before
 }
 
 // The block that was opened last and isn't closed.
-fn put_open(told: &mut Told, before: &Before<'_>) {
+fn put_open(told: &mut TextWriter, before: &Before<'_>) {
     if let Some(block) = before.blocks.last() {
         put_line_of(told, *block);
         told.text("this block has no `end`\n");
     }
 }
 
-fn put_line_of(told: &mut Told, block: Block<'_>) {
+fn put_line_of(told: &mut TextWriter, block: Block<'_>) {
     let length = without_front(block.text, b' ').len();
     let first = block.text.len().saturating_sub(length);
-    told.text("line ");
-    told.number(block.line as u64);
-    told.text(":\n");
+    told.numbered("line ", block.line as u64, ":\n");
     put_marked(told, block.text, first, length);
 }
 
-fn put_stray(told: &mut Told, line: &[u8], pieces: &[Piece<'_>], before: &Before<'_>) {
+fn put_stray(told: &mut TextWriter, line: &[u8], pieces: &[Piece<'_>], before: &Before<'_>) {
     put_piece(told, line, pieces.first().copied());
     let Some(block) = before.blocks.last() else {
         return told.text("no block is open here\n");
@@ -202,7 +200,7 @@ fn put_stray(told: &mut Told, line: &[u8], pieces: &[Piece<'_>], before: &Before
 }
 
 fn put_limit(
-    told: &mut Told,
+    told: &mut TextWriter,
     number: usize,
     line: &[u8],
     pieces: &[Piece<'_>],
@@ -214,7 +212,7 @@ fn put_limit(
     told.sign('\n');
 }
 
-fn put_great(told: &mut Told, line: &[u8], pieces: &[Piece<'_>]) {
+fn put_great(told: &mut TextWriter, line: &[u8], pieces: &[Piece<'_>]) {
     put_piece(told, line, first_great(pieces));
     told.text("the greatest number is 9223372036854775807\n");
 }
@@ -235,7 +233,7 @@ fn is_great(number: &[u8]) -> bool {
 }
 
 // A name, as it stands in the text.
-fn put_backed(told: &mut Told, name: &[u8]) {
+fn put_backed(told: &mut TextWriter, name: &[u8]) {
     told.sign('`');
     put_bytes(told, name);
     told.sign('`');

@@ -3,10 +3,10 @@
 use crate::near::{is_among, put_nearest};
 use crate::piece::{Cut, Piece, pieces_of};
 use crate::shown::{line_of, put_piece};
-use crate::told::Told;
 use crate::wordless::put_wordless;
 use limits::{GREATEST_CLOCK, Heap};
 use rank_text::script::{ScriptFault, ScriptFaultKind};
+use rank_text::text_writer::TextWriter;
 use std::alloc::AllocError;
 
 /// The words that a script's lines begin with.
@@ -30,7 +30,7 @@ pub fn explain_script(
 ) -> Result<String<Heap>, AllocError> {
     let line = line_of(text, fault.line);
     let words = pieces_of(alloc, line, Cut::Words)?;
-    let mut told = Told::begun(heading(alloc, fault), alloc);
+    let mut told = TextWriter::begun(heading(alloc, fault), alloc);
     put_why(&mut told, alloc, line, words.as_slice(), fault, ranks);
     told.text("manual: docs/RUNS.md\n");
     told.done()
@@ -42,7 +42,7 @@ fn heading(alloc: Heap, fault: ScriptFault) -> Result<String<Heap>, AllocError> 
 }
 
 fn put_why(
-    told: &mut Told,
+    told: &mut TextWriter,
     alloc: Heap,
     line: &[u8],
     words: &[Piece<'_>],
@@ -62,19 +62,27 @@ fn put_why(
     }
 }
 
-fn put_ranks(told: &mut Told, ranks: u8) {
+fn put_ranks(told: &mut TextWriter, ranks: u8) {
     match ranks {
         0 | 1 => told.text("the one rank of this run is 0\n"),
         _ => {
-            told.text("the ranks of this run are 0 to ");
-            told.number(u64::from(ranks - 1));
-            told.sign('\n');
+            told.numbered(
+                "the ranks of this run are 0 to ",
+                u64::from(ranks - 1),
+                "\n",
+            );
         }
     }
 }
 
 // The first word that doesn't go on as a line.
-fn put_bad_line(told: &mut Told, alloc: Heap, number: usize, line: &[u8], words: &[Piece<'_>]) {
+fn put_bad_line(
+    told: &mut TextWriter,
+    alloc: Heap,
+    number: usize,
+    line: &[u8],
+    words: &[Piece<'_>],
+) {
     if put_wordless(told, number, line, words) {
         return;
     }

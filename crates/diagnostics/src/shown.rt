@@ -1,7 +1,7 @@
 //! How a line is shown, with a mark below a place in it.
 
 use crate::piece::Piece;
-use crate::told::Told;
+use rank_text::text_writer::TextWriter;
 
 /// The most bytes of a line that are shown.
 const WIDTH: usize = 100;
@@ -12,14 +12,14 @@ pub fn is_shown(byte: u8) -> bool {
 }
 
 /// Writes a text whose bytes needn't be letters: each other byte as `?`.
-pub fn put_bytes(told: &mut Told, text: &[u8]) {
+pub fn put_bytes(told: &mut TextWriter, text: &[u8]) {
     for byte in text {
         let shown = if is_shown(*byte) { *byte } else { b'?' };
         told.sign(char::from(shown));
     }
 }
 
-fn put_times(told: &mut Told, letter: char, times: usize) {
+fn put_times(told: &mut TextWriter, letter: char, times: usize) {
     for _ in 0..times {
         told.sign(letter);
     }
@@ -27,7 +27,7 @@ fn put_times(told: &mut Told, letter: char, times: usize) {
 
 /// Writes the line, and below it a mark under so many bytes from a column on. Of
 /// a long line the part round the mark is shown.
-pub fn put_marked(told: &mut Told, line: &[u8], column: usize, length: usize) {
+pub fn put_marked(told: &mut TextWriter, line: &[u8], column: usize, length: usize) {
     let first = if column < WIDTH {
         0
     } else {
@@ -52,7 +52,7 @@ pub fn put_marked(told: &mut Told, line: &[u8], column: usize, length: usize) {
 }
 
 /// Writes the line with a mark under this piece, or behind the line's last byte.
-pub fn put_piece(told: &mut Told, line: &[u8], piece: Option<Piece<'_>>) {
+pub fn put_piece(told: &mut TextWriter, line: &[u8], piece: Option<Piece<'_>>) {
     match piece {
         Some(piece) => put_marked(told, line, piece.column, piece.text.len()),
         None => put_marked(told, line, line.len(), 1),

@@ -2,11 +2,16 @@
 
 use crate::piece::Piece;
 use crate::shown::{is_shown, put_marked, put_piece};
-use crate::told::Told;
+use rank_text::text_writer::TextWriter;
 
 /// Says so of a line with a byte that is no text, or with a `#` behind spaces.
 /// Answers whether the line is one of these.
-pub fn put_wordless(told: &mut Told, number: usize, line: &[u8], words: &[Piece<'_>]) -> bool {
+pub fn put_wordless(
+    told: &mut TextWriter,
+    number: usize,
+    line: &[u8],
+    words: &[Piece<'_>],
+) -> bool {
     if let Some((column, byte)) = first_foreign(line) {
         put_foreign(told, number, line, column, byte);
         return true;
@@ -29,7 +34,7 @@ fn is_comment(word: &[u8]) -> bool {
 }
 
 /// The first byte that is no text, with a mark under it and its name.
-pub fn put_no_text(told: &mut Told, number: usize, line: &[u8]) {
+pub fn put_no_text(told: &mut TextWriter, number: usize, line: &[u8]) {
     match first_foreign(line) {
         Some((column, byte)) => put_foreign(told, number, line, column, byte),
         None => put_marked(told, line, 0, 1),
@@ -48,7 +53,7 @@ fn first_foreign(line: &[u8]) -> Option<(usize, u8)> {
     None
 }
 
-fn put_foreign(told: &mut Told, number: usize, line: &[u8], column: usize, byte: u8) {
+fn put_foreign(told: &mut TextWriter, number: usize, line: &[u8], column: usize, byte: u8) {
     put_marked(told, line, column, 1);
     if byte == b'\r' {
         told.text("a carriage return: end the lines with a line feed alone\n");

@@ -1,7 +1,7 @@
 //! How far a search may go.
 
 /// How far a search may go.
-#[derive(Clone, Copy, PartialEq, Eq)]
+#[derive(Clone, Copy)]
 pub struct Limits {
     /// How many runs are looked at.
     pub runs: u32,

@@ -5,7 +5,7 @@ use crate::moves::Move;
 /// A run that is left to be searched, with all that may follow it: a beginning of
 /// the run that was played last, and a move that is to be made there. So it
 /// shares what is behind it with that run, and with all branches that go off it.
-#[derive(Clone, Copy, PartialEq, Eq)]
+#[derive(Clone, Copy)]
 pub struct Branch {
     /// How many acts of that run it begins with.
     pub shared: usize,

@@ -11,7 +11,7 @@ use rank_machine::Want;
 use std::alloc::AllocError;
 
 /// A receive or a probe of a rank that had several answers in some runs.
-#[derive(Clone, Copy, PartialEq, Eq)]
+#[derive(Clone, Copy)]
 pub struct Race {
     pub rank: u8,
     /// Which statement of the program stood, from 0.

@@ -6,7 +6,7 @@ ghost use Rattle.rank_threads.specs.Costs.{kind_of, no_costs};
 use rank_node::Frame;
 
 /// How much a payload log keeps.
-#[derive(Clone, Copy, Debug, PartialEq, Eq)]
+#[derive(Clone, Copy)]
 pub struct LogSize {
     pub messages: u64,
     /// Those of their items, 8 an item.
@@ -15,7 +15,7 @@ pub struct LogSize {
 
 /// What recovery, and being ready for it, cost a rank over all its lives. Each
 /// count stops at the greatest `u64`.
-#[derive(Clone, Copy, Debug, PartialEq, Eq)]
+#[derive(Clone, Copy)]
 pub struct Costs {
     /// Acts, each once.
     pub acts: u64,
@@ -66,7 +66,7 @@ impl Costs {
 }
 
 /// What a frame is.
-#[derive(Clone, Copy, Debug, PartialEq, Eq)]
+#[derive(Clone, Copy)]
 pub enum FrameKind {
     /// A message, with its number among those of its pair of ranks.
     Message { number: u32 },

@@ -7,7 +7,7 @@ use limits::MOST_RANKS;
 
 /// What counts the costs of a rank. It outlives the rank's lives, as its tally
 /// does.
-#[derive(Clone, Copy, Debug)]
+#[derive(Clone, Copy)]
 pub struct Meter {
     /// The greatest clock of an act so far.
     clock: u32,

@@ -9,7 +9,7 @@ use rand_pcg::Pcg32;
 
 /// In which order ranks take their turns. Only those are chosen that are still
 /// there, and each of them is again and again.
-#[derive(Clone, Copy, Debug, PartialEq, Eq)]
+#[derive(Clone, Copy)]
 pub enum Policy {
     /// One after another, in their order.
     RoundRobin,
@@ -26,7 +26,7 @@ pub enum Policy {
 
 /// The order of all turns of a run: it follows from this, and from the run,
 /// whatever the machine.
-#[derive(Clone, Copy, Debug, PartialEq, Eq)]
+#[derive(Clone, Copy)]
 pub struct Schedule {
     pub policy: Policy,
     pub seed: u64,

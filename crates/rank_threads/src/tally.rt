@@ -12,7 +12,7 @@ use rank_node::NodeFault;
 const TURNS_OF_WAIT: u32 = 8;
 
 /// What a run counts of a rank over all its lives.
-#[derive(Clone, Copy, Debug)]
+#[derive(Clone, Copy)]
 pub struct Tally {
     /// Frames put into lanes.
     pub put: u64,

@@ -10,7 +10,7 @@ use rank_language::Program;
 use rank_machine::Want;
 
 /// What a rank did before an act of its own, and which messages that act asked for.
-#[derive(Clone, Copy, Debug, PartialEq, Eq)]
+#[derive(Clone, Copy)]
 pub struct Asked {
     /// How many steps of its own it made since its act before.
     pub steps: u32,

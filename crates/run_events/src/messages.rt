@@ -6,7 +6,7 @@ use matching::{Context, Selector};
 use std::alloc::AllocError;
 
 /// A message.
-#[derive(Clone, Copy, Debug, PartialEq, Eq)]
+#[derive(Clone, Copy)]
 pub struct Message {
     /// The index of the act that sends it.
     pub send: usize,

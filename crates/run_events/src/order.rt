@@ -5,7 +5,7 @@ use limits::Heap;
 use std::alloc::AllocError;
 
 /// What happens in a world that plays a run.
-#[derive(Clone, Copy, Debug, PartialEq, Eq)]
+#[derive(Clone, Copy, PartialEq, Eq)]
 pub enum Happening {
     /// The act of this index is made.
     Act(usize),
@@ -14,7 +14,7 @@ pub enum Happening {
 }
 
 // How far an order has come with something that happens.
-#[derive(Clone, Copy, Debug, PartialEq, Eq)]
+#[derive(Clone, Copy)]
 enum Stage {
     Open,
     /// It stands in the order once what comes before it does.
@@ -23,14 +23,14 @@ enum Stage {
 }
 
 // Something that happens, and the first wait of it that wasn't looked at.
-#[derive(Clone, Copy, Debug, PartialEq, Eq)]
+#[derive(Clone, Copy)]
 struct Point {
     stage: Stage,
     wait: Option<usize>,
 }
 
 // That something waits for this, and the wait of it to look at next.
-#[derive(Clone, Copy, Debug, PartialEq, Eq)]
+#[derive(Clone, Copy)]
 struct Wait {
     before: Happening,
     next: Option<usize>,

@@ -409,14 +409,19 @@ fn report_of<R: Threads + Wait + Sync + Copy + Send + AllocGlobal + Abort>(
         "a number of ranks"
     );
     let alloc = rt.alloc();
-    let script = Script::parse(alloc, row.script.as_bytes(), row.ranks)?;
+    let Ok(script) = Script::parse(alloc, row.script.as_bytes(), row.ranks) else {
+        panic!(rt; "a script without a fault")
+    };
     let program = Program::parse(alloc, row.program.as_bytes())?;
     let limits = RunLimits {
         idle: row.idle,
         steps: row.steps,
         images_every: None,
     };
-    Ok(run(rt, alloc, &program, row.ranks, &script, limits, told)?)
+    let Ok(report) = run(rt, alloc, &program, row.ranks, &script, limits, told) else {
+        panic!(rt; "a run with a report")
+    };
+    Ok(report)
 }
 
 // The text of this run begins so.

@@ -5,7 +5,7 @@ use limits::Heap;
 use rank_node::NodeFault;
 
 /// Why no more events were played.
-#[derive(Clone, Copy, PartialEq, Eq)]
+#[derive(Clone, Copy)]
 pub enum FinishEnd {
     /// The world has ended: no rank can make an act any more.
     Ended,

@@ -18,7 +18,7 @@ use std::thread::Threads;
 
 /// That an outcome is one of a run without crashes, in which each rank reported
 /// as stalled has stalled.
-#[derive(Clone, Copy, PartialEq, Eq)]
+#[derive(Clone, Copy)]
 pub struct Final;
 
 /// Audits the outcome, and says yes only if each rank reported as stalled has,

@@ -2,7 +2,7 @@
 use crate::AuditFault;
 
 /// Why an outcome isn't confirmed as final.
-#[derive(Clone, Copy, PartialEq, Eq)]
+#[derive(Clone, Copy)]
 pub enum FinalFault {
     /// It isn't one of a run without crashes within the steps, or memory was
     /// refused.

@@ -3,16 +3,17 @@ ghost use Rattle.std.specs.Prelude.{◌≤◌};
 ghost use Rattle.limits.specs.Limits.{most_ranks};
 
 use audit::{Line, Outcome};
-use crash_free::{Choice, NotAllowed, Sim};
+use crash_free::send_index::Sends;
+use crash_free::{Act, Choice, NotAllowed, Passed, Sim};
 use event_logger::{Event, Kind};
-use limits::Heap;
+use limits::{Heap, MOST_RANKS};
 use matching::Selector;
 use rank_language::Program;
 use rank_machine::Want;
 use std::alloc::AllocError;
 
 /// How far a rank has come.
-#[derive(Drop)]
+#[derive(Clone, Copy)]
 struct Seat {
     /// Of its last act.
     clock: u32,
@@ -20,12 +21,8 @@ struct Seat {
     left: u32,
     /// How many events of its row it has made.
     events: usize,
-    /// How many of its lines it has printed.
-    printed: usize,
-    /// Its lines in the outcome.
-    lines: Vec<Line, Heap>,
-    /// The clocks of what it sent to each rank.
-    sent: Vec<Vec<u32, Heap>, Heap>,
+    /// Where its next line stands in the outcome, behind all lines where it has none.
+    line: usize,
 }
 
 /// A run without crashes that keeps to an outcome. Ranks go on in turn, each as
@@ -34,52 +31,41 @@ struct Seat {
 pub(crate) struct Follower<'a, 'p> {
     pub(crate) run: Sim<'p>,
     outcome: &'a Outcome,
-    seats: Vec<Seat, Heap>,
+    seats: [Seat; MOST_RANKS],
+    /// Each send, by the clock of its act.
+    sends: Sends,
+    /// Whether there was memory for all of it. If not, no rank goes on.
+    room: Result<(), AllocError>,
 }
 
-impl Seat {
-    fn new(
-        alloc: Heap,
-        outcome: &Outcome,
-        rank: u8,
-        ranks: u8,
-        steps: u32,
-    ) -> Result<Seat, AllocError> {
-        let lines = outcome
-            .lines
-            .iter()
-            .copied()
-            .filter(|line| line.rank == rank)
-            .collect(alloc)?;
-        let mut sent = Vec::new(alloc);
-        for _ in 0..ranks {
-            sent.push(Vec::new(alloc))?;
+// Of a rank that isn't there.
+const EMPTY: Seat = Seat {
+    clock: 0,
+    left: 0,
+    events: 0,
+    line: usize::MAX,
+};
+
+// Where the rank's first line from there on stands, behind all lines where it has none.
+fn line_from(lines: &[Line], rank: u8, first: usize) -> usize {
+    for index in first..lines.len() {
+        if lines[index].rank == rank {
+            return index;
         }
-        Ok(Seat {
-            clock: 0,
-            left: steps,
-            events: 0,
-            printed: 0,
-            lines,
-            sent,
-        })
     }
+    lines.len()
+}
 
-    fn spend(&mut self, steps: u32) {
-        self.left = self.left.saturating_sub(steps);
-    }
-
-    fn note(&mut self) {
-        self.clock = self.clock.saturating_add(1);
-    }
-
-    fn note_send(&mut self, dest: u8) -> Result<(), AllocError> {
-        self.note();
-        if let Some(clocks) = self.sent.get_mut(usize::from(dest)) {
-            clocks.push(self.clock)?;
+// No rank has made an act, and each may make so many steps.
+fn seats_of(outcome: &Outcome, ranks: u8, steps: u32) -> [Seat; MOST_RANKS] {
+    let mut seats = [EMPTY; MOST_RANKS];
+    for rank in 0..ranks {
+        if let Some(seat) = seats.get_mut(usize::from(rank)) {
+            seat.left = steps;
+            seat.line = line_from(outcome.lines.as_slice(), rank, 0);
         }
-        Ok(())
     }
+    seats
 }
 
 impl<'a, 'p> Follower<'a, 'p> {
@@ -94,176 +80,173 @@ impl<'a, 'p> Follower<'a, 'p> {
         requires some { 1 ≤ ranks }
         requires few { ranks ≤ most_ranks }
     {
-        let mut seats = Vec::new(alloc);
-        for rank in 0..ranks {
-            seats.push(Seat::new(alloc, outcome, rank, ranks, steps)?)?;
-        }
-        let run = Sim::new(alloc, program, ranks)?;
+        let sends = Sends::new(alloc)?;
         let mut follower = Follower {
-            run,
+            run: Sim::new(alloc, program, ranks)?,
             outcome,
-            seats,
+            seats: seats_of(outcome, ranks, steps),
+            sends,
+            room: Ok(()),
         };
-        follower.play()?;
+        follower.play();
+        if follower.room.is_err() {
+            return Err(AllocError);
+        }
         Ok(follower)
     }
 
-    fn play(&mut self) -> Result<(), AllocError> {
+    fn play(&mut self) {
         for _ in 0..u64::MAX {
-            if !self.round()? {
-                return Ok(());
+            if !self.round() {
+                return;
             }
         }
-        Ok(())
     }
 
     // Whether some rank could go on.
-    fn round(&mut self) -> Result<bool, AllocError> {
+    fn round(&mut self) -> bool {
         let mut moved = false;
         for rank in 0..self.run.ranks() {
-            if self.go_on(rank)? {
-                moved = true;
-            }
+            moved |= self.go_on(rank);
         }
-        Ok(moved)
+        moved
     }
 
     // Whether the rank could go on.
-    fn go_on(&mut self, rank: u8) -> Result<bool, AllocError> {
+    fn go_on(&mut self, rank: u8) -> bool {
         let mut moved = false;
         for _ in 0..u64::MAX {
-            if !self.step(rank)? {
-                return Ok(moved);
+            if !self.step(rank) {
+                break;
             }
             moved = true;
         }
-        Ok(moved)
+        moved
     }
 
     // Makes steps of the rank's own and one act, and answers whether the act was made.
-    fn step(&mut self, rank: u8) -> Result<bool, AllocError> {
+    fn step(&mut self, rank: u8) -> bool {
         let left = self.left(rank);
         if left == 0 || rank >= self.run.ranks() {
-            return Ok(false);
+            return false;
         }
         let made = self.run.stride(rank, left);
-        self.spend(rank, made);
-        if made >= left || !self.act(rank)? {
-            return Ok(false);
+        if let Some(seat) = self.seats.get_mut(usize::from(rank)) {
+            seat.left = left.saturating_sub(made);
         }
-        self.spend(rank, 1);
-        Ok(true)
+        made < left && self.act(rank)
     }
 
-    fn act(&mut self, rank: u8) -> Result<bool, AllocError> {
+    fn act(&mut self, rank: u8) -> bool {
         match self.wants(rank) {
-            Want::Send { dest, .. } => self.send(rank, dest),
+            Want::Send { .. } => self.make(rank, Choice::Next),
             Want::Print(value) => self.print(rank, value),
             Want::Receive(selector) => self.choose(rank, &selector, Kind::Reception),
             Want::Probe(selector) => self.choose(rank, &selector, Kind::Hit),
             Want::TryProbe(selector) => {
-                if self.choose(rank, &selector, Kind::Hit)? {
-                    return Ok(true);
-                }
-                self.miss(rank)
+                self.choose(rank, &selector, Kind::Hit) || self.miss(rank)
             }
-            Want::Internal | Want::Halted | Want::Faulted(_) => Ok(false),
+            Want::Internal | Want::Halted | Want::Faulted(_) => false,
         }
     }
 
-    fn send(&mut self, rank: u8, dest: u8) -> Result<bool, AllocError> {
-        if !self.make(rank, Choice::Next)? {
-            return Ok(false);
+    fn print(&mut self, rank: u8, value: i64) -> bool {
+        match self.next_line(rank) {
+            Some(line) if line.clock == self.next_clock(rank) && line.value == value => {
+                self.make(rank, Choice::Next)
+            }
+            Some(_) | None => false,
         }
-        if let Some(seat) = self.seats.get_mut(usize::from(rank)) {
-            seat.note_send(dest)?;
-        }
-        Ok(true)
-    }
-
-    fn print(&mut self, rank: u8, value: i64) -> Result<bool, AllocError> {
-        let next = self.next_clock(rank);
-        let Some(line) = self.next_line(rank) else {
-            return Ok(false);
-        };
-        if line.clock != next || line.value != value || !self.make(rank, Choice::Next)? {
-            return Ok(false);
-        }
-        if let Some(seat) = self.seats.get_mut(usize::from(rank)) {
-            seat.note();
-            seat.printed = seat.printed.saturating_add(1);
-        }
-        Ok(true)
     }
 
     // Takes or finds the message of the rank's next event, if it is of this kind.
-    fn choose(&mut self, rank: u8, selector: &Selector, kind: Kind) -> Result<bool, AllocError> {
+    fn choose(&mut self, rank: u8, selector: &Selector, kind: Kind) -> bool {
         let Some(event) = self.next_event(rank) else {
-            return Ok(false);
+            return false;
         };
         if event.kind() != kind || event.receiver_clock() != self.next_clock(rank) {
-            return Ok(false);
+            return false;
         }
         let source = event.sender();
-        if self.eligible(rank, selector, source) != Some(event.sender_clock()) {
-            return Ok(false);
-        }
-        let Some(index) = self.index(rank, selector, source) else {
-            return Ok(false);
+        let Some(place) = self.place(rank, selector, source) else {
+            return false;
         };
+        if self.sent_at(rank, source, place) != Some(event.sender_clock() as usize) {
+            return false;
+        }
         let choice = Choice::Take {
             source: u32::from(source),
-            index,
+            index: place,
         };
-        self.make_event(rank, choice)
+        self.make(rank, choice)
     }
 
-    fn miss(&mut self, rank: u8) -> Result<bool, AllocError> {
+    fn miss(&mut self, rank: u8) -> bool {
         match self.next_event(rank) {
             Some(event)
                 if event.kind() == Kind::Miss && event.receiver_clock() == self.next_clock(rank) =>
-                { self.make_event(rank, Choice::Miss) }
-            Some(_) | None => Ok(false),
+                { self.make(rank, Choice::Miss) }
+            Some(_) | None => false,
         }
-    }
-
-    fn make_event(&mut self, rank: u8, choice: Choice) -> Result<bool, AllocError> {
-        if !self.make(rank, choice)? {
-            return Ok(false);
-        }
-        if let Some(seat) = self.seats.get_mut(usize::from(rank)) {
-            seat.note();
-            seat.events = seat.events.saturating_add(1);
-        }
-        Ok(true)
     }
 
     // Whether the choice was allowed.
-    fn make(&mut self, rank: u8, choice: Choice) -> Result<bool, AllocError> {
-        if rank >= self.run.ranks() {
-            return Ok(false);
+    fn make(&mut self, rank: u8, choice: Choice) -> bool {
+        if self.room.is_err() || rank >= self.run.ranks() {
+            return false;
         }
         match self.run.act(rank, choice) {
-            Ok(()) => Ok(true),
-            Err(NotAllowed::Memory) => Err(AllocError),
-            Err(NotAllowed::WantsOther | NotAllowed::NotEligible | NotAllowed::Ended) => Ok(false),
+            Ok(()) => {
+                self.note(rank);
+                true
+            }
+            Err(NotAllowed::Memory) => {
+                self.room = Err(AllocError);
+                false
+            }
+            Err(NotAllowed::WantsOther | NotAllowed::NotEligible | NotAllowed::Ended) => false,
         }
     }
 
-    fn spend(&mut self, rank: u8, steps: u32) {
-        if let Some(seat) = self.seats.get_mut(usize::from(rank)) {
-            seat.spend(steps);
+    // Notes the act that the rank made last.
+    fn note(&mut self, rank: u8) {
+        let outcome = self.outcome;
+        let Some(passed) = self.run.acts().last() else {
+            return;
+        };
+        let Some(seat) = self.seats.get_mut(usize::from(rank)) else {
+            return;
+        };
+        seat.clock = seat.clock.saturating_add(1);
+        seat.left = seat.left.saturating_sub(1);
+        match &passed.act {
+            Act::Sends { .. } => self.room = self.sends.note(passed, seat.clock as usize),
+            Act::Prints(_) => {
+                let behind = seat.line.saturating_add(1);
+                seat.line = line_from(outcome.lines.as_slice(), rank, behind);
+            }
+            Act::Takes { .. } | Act::Hits { .. } | Act::Misses => {
+                seat.events = seat.events.saturating_add(1);
+            }
         }
     }
 
     // The place, from 1, of the source's message that the rank would take or find.
-    fn index(&self, rank: u8, selector: &Selector, source: u8) -> Option<u64> {
+    fn place(&self, rank: u8, selector: &Selector, source: u8) -> Option<u64> {
         let ranks = self.run.ranks();
         if rank >= ranks || source >= ranks {
             return None;
         }
-        let index = self.run.eligible(rank, selector, source)? as u64;
-        index.checked_add(1)
+        match self.run.eligible(rank, selector, source) {
+            Some(index) => (index as u64).checked_add(1),
+            None => None,
+        }
+    }
+
+    // The clock of the source's message of this place, from 1, to the rank.
+    fn sent_at(&self, rank: u8, source: u8, place: u64) -> Option<usize> {
+        let act = Act::Takes { source, place };
+        self.sends.send_for(&Passed { rank, act })
     }
 }
 
@@ -286,42 +269,43 @@ impl Follower<'_, '_> {
     }
 
     /// The clock of the message of this source that the rank would take or find.
-    pub(crate) fn eligible(&self, rank: u8, selector: &Selector, source: u8) -> Option<u32> {
-        let ranks = self.run.ranks();
-        if rank >= ranks || source >= ranks {
-            return None;
+    pub(crate) fn eligible(&self, rank: u8, selector: &Selector, source: u8) -> Option<usize> {
+        match self.place(rank, selector, source) {
+            Some(place) => self.sent_at(rank, source, place),
+            None => None,
         }
-        let index = self.run.eligible(rank, selector, source)?;
-        let sent = &self.seats.get(usize::from(source))?.sent;
-        sent.get(usize::from(rank))?.get(index).copied()
+    }
+
+    // How far the rank has come.
+    fn seat(&self, rank: u8) -> Seat {
+        match self.seats.get(usize::from(rank)) {
+            Some(seat) => *seat,
+            None => EMPTY,
+        }
     }
 
     /// How many steps the rank may still make.
     pub(crate) fn left(&self, rank: u8) -> u32 {
-        self.seats
-            .get(usize::from(rank))
-            .map_or(0, |seat| seat.left)
+        self.seat(rank).left
     }
 
     /// The clock of the rank's next act.
     pub(crate) fn next_clock(&self, rank: u8) -> u32 {
-        match self.seats.get(usize::from(rank)) {
-            Some(seat) => seat.clock.saturating_add(1),
-            None => 0,
-        }
+        self.seat(rank).clock.saturating_add(1)
     }
 
     /// The rank's next event in the outcome.
     pub(crate) fn next_event(&self, rank: u8) -> Option<Event> {
-        let rank = usize::from(rank);
-        let done = self.seats.get(rank)?.events;
         let outcome = self.outcome;
-        outcome.rows.get(rank)?.get(done).copied()
+        match outcome.rows.get(usize::from(rank)) {
+            Some(row) => row.get(self.seat(rank).events).copied(),
+            None => None,
+        }
     }
 
     /// The rank's next line in the outcome.
     pub(crate) fn next_line(&self, rank: u8) -> Option<Line> {
-        let seat = self.seats.get(usize::from(rank))?;
-        seat.lines.get(seat.printed).copied()
+        let outcome = self.outcome;
+        outcome.lines.get(self.seat(rank).line).copied()
     }
 }

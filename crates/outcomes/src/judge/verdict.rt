@@ -11,7 +11,7 @@ use std::alloc::AllocError;
 
 /// Whether an outcome is that of some run without crashes, in which each rank
 /// reported as stalled has stalled.
-#[derive(Clone, Copy, PartialEq, Eq)]
+#[derive(Clone, Copy)]
 pub enum Verdict {
     /// Some run has it.
     Yes,

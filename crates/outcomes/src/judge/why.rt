@@ -7,12 +7,12 @@ use crate::judge::could::put_could;
 use crate::judge::follower::Follower;
 use crate::text::OutcomeText;
 use audit::final_runs::FinalFault;
-use audit::{AuditFault, End, Outcome};
+use audit::{End, Line, Outcome};
 use limits::Heap;
 use rank_language::{Program, line_of_text};
 use rank_machine::Want;
+use rank_text::text_writer::TextWriter;
 use std::alloc::AllocError;
-use std::fmt::Write;
 
 /// What was asked: whether a run of the program on so many ranks, each with so
 /// many steps, has the outcome of a text.
@@ -34,7 +34,7 @@ pub struct Asked<'a> {
 }
 
 /// What of the outcome a rank doesn't come to.
-#[derive(Clone, Copy, PartialEq, Eq)]
+#[derive(Clone, Copy)]
 enum Missed {
     /// Its act of this clock, which it may make once another rank goes on.
     Awaited(u32),
@@ -65,38 +65,40 @@ fn reason_text(
     asked: &Asked<'_>,
     why: FinalFault,
 ) -> Result<String<Heap>, AllocError> {
-    let mut text = String::new(alloc);
-    put_reason(&mut text, why)?;
-    let follower = Follower::new(
+    let mut text = TextWriter::begun(reason_line(alloc, why), alloc);
+    put_departure(alloc, &mut text, asked, why);
+    text.done()
+}
+
+fn reason_line(alloc: Heap, why: FinalFault) -> Result<String<Heap>, AllocError> {
+    match why {
+        FinalFault::Audit(fault) => {
+            format!(in alloc; "audit fault {}: {fault}\n", fault.number())
+        }
+        FinalFault::FalseStall(rank) => format!(in alloc; "rank {rank}: false stall\n"),
+    }
+}
+
+// Where the outcome departs from the run that keeps to it as far as it can.
+fn put_departure(alloc: Heap, to: &mut TextWriter, asked: &Asked<'_>, why: FinalFault) {
+    let made = Follower::new(
         alloc,
         asked.program,
         asked.ranks,
         asked.outcome,
         asked.steps,
-    )?;
-    match why {
-        FinalFault::FalseStall(rank) => put_rank(&mut text, asked, &follower, rank, Missed::End)?,
-        FinalFault::Audit(_) => put_ranks(&mut text, asked, &follower)?,
-    }
-    Ok(text)
-}
-
-fn put_reason(to: &mut String<Heap>, why: FinalFault) -> Result<(), AllocError> {
-    match why {
-        FinalFault::Audit(fault) => {
-            let number = fault.number();
-            writeln!(to, "audit fault {number}: {fault}")
-        }
-        FinalFault::FalseStall(rank) => writeln!(to, "rank {rank}: false stall"),
+    );
+    match made {
+        Ok(follower) => match why {
+            FinalFault::FalseStall(rank) => put_rank(to, asked, &follower, rank, Missed::End),
+            FinalFault::Audit(_) => put_ranks(to, asked, &follower),
+        },
+        Err(error) => to.fail(error),
     }
 }
 
 // The lowest rank that others may wait for, or each of those that may wait.
-fn put_ranks(
-    to: &mut String<Heap>,
-    asked: &Asked<'_>,
-    follower: &Follower<'_, '_>,
-) -> Result<(), AllocError> {
+fn put_ranks(to: &mut TextWriter, asked: &Asked<'_>, follower: &Follower<'_, '_>) {
     for rank in 0..asked.ranks {
         match missed_by(asked, follower, rank) {
             Some(Missed::Awaited(_)) | None => {}
@@ -105,29 +107,24 @@ fn put_ranks(
     }
     for rank in 0..asked.ranks {
         if let Some(missed) = missed_by(asked, follower, rank) {
-            put_rank(to, asked, follower, rank, missed)?;
+            put_rank(to, asked, follower, rank, missed);
         }
     }
-    Ok(())
 }
 
 // What of the outcome the rank doesn't come to, if it doesn't: the first of it.
 fn missed_by(asked: &Asked<'_>, follower: &Follower<'_, '_>, rank: u8) -> Option<Missed> {
-    let event = follower
-        .next_event(rank)
-        .map(|event| event.receiver_clock());
-    let line = follower.next_line(rank).map(|line| line.clock);
     let want = follower.wants(rank);
-    match (event, line) {
+    match (follower.next_event(rank), follower.next_line(rank)) {
         (Some(event), line) => {
-            let clock = line.map_or(event, |line| line.min(event));
+            let clock = earlier(event.receiver_clock(), line);
             if is_of_message(want) && follower.left(rank) > 0 {
                 Some(Missed::Awaited(clock))
             } else {
                 Some(Missed::Act(clock))
             }
         }
-        (None, Some(clock)) => Some(Missed::Act(clock)),
+        (None, Some(line)) => Some(Missed::Act(line.clock)),
         (None, None) => {
             let outcome = asked.outcome;
             let end = outcome.ends.get(usize::from(rank)).copied();
@@ -137,6 +134,14 @@ fn missed_by(asked: &Asked<'_>, follower: &Follower<'_, '_>, rank: u8) -> Option
                 Some(Missed::End)
             }
         }
+    }
+}
+
+// This clock, or that of the line if it is lower.
+fn earlier(clock: u32, line: Option<Line>) -> u32 {
+    match line {
+        Some(line) => line.clock.min(clock),
+        None => clock,
     }
 }
 
@@ -160,53 +165,45 @@ fn may_want(end: Option<End>, want: Want) -> bool {
 }
 
 fn put_rank(
-    to: &mut String<Heap>,
+    to: &mut TextWriter,
     asked: &Asked<'_>,
     follower: &Follower<'_, '_>,
     rank: u8,
     missed: Missed,
-) -> Result<(), AllocError> {
+) {
     let number = match missed {
         Missed::Awaited(clock) | Missed::Act(clock) => asked.read.line_of_act(rank, clock),
         Missed::End => asked.read.line_of_end(rank),
     };
-    put_line(to, rank, "outcome", number, asked.outcome_text)?;
-    let position = follower.position(rank);
-    let line = position.and_then(|position| asked.lines.get(position).copied());
-    put_line(to, rank, "program", line, asked.text)?;
+    put_line(to, rank, "outcome", number, asked.outcome_text);
+    let line = line_at(asked, follower, rank);
+    put_line(to, rank, "program", line, asked.text);
     if follower.left(rank) == 0 {
-        let steps = asked.steps;
-        return writeln!(to, "rank {rank} has made {steps} steps");
+        to.numbered("rank ", u64::from(rank), " has made ");
+        to.numbered("", u64::from(asked.steps), " steps\n");
+    } else {
+        put_could(to, follower, rank);
     }
-    put_could(to, follower, rank)
+}
+
+// The line of the program on which the rank stands; none at its end.
+fn line_at(asked: &Asked<'_>, follower: &Follower<'_, '_>, rank: u8) -> Option<usize> {
+    asked.lines.get(follower.position(rank)?).copied()
 }
 
 // A line of a text with its number; a position behind the last statement has none.
-fn put_line(
-    to: &mut String<Heap>,
-    rank: u8,
-    name: &str,
-    number: Option<usize>,
-    text: &[u8],
-) -> Result<(), AllocError> {
-    let Some(number) = number else {
-        return writeln!(to, "rank {rank} stands at the end of the {name}");
-    };
-    write!(to, "rank {rank} {name} line {number}: ")?;
-    if let Some(line) = line_of_text(text, number) {
-        put_text(to, line)?;
-    }
-    to.push('\n')
-}
-
-// Writes what is printable of a line, without the spaces before it.
-fn put_text(to: &mut String<Heap>, line: &[u8]) -> Result<(), AllocError> {
-    let mut begun = false;
-    for byte in line {
-        begun |= *byte != b' ';
-        if begun && b' ' <= *byte && *byte <= b'~' {
-            to.push(char::from(*byte))?;
+fn put_line(to: &mut TextWriter, rank: u8, name: &str, number: Option<usize>, text: &[u8]) {
+    to.numbered("rank ", u64::from(rank), " ");
+    match number {
+        Some(number) => {
+            to.text(name);
+            to.numbered(" line ", number as u64, ": ");
+            to.printable(line_of_text(text, number).unwrap_or(&[]));
+        }
+        None => {
+            to.text("stands at the end of the ");
+            to.text(name);
         }
     }
-    Ok(())
+    to.sign('\n');
 }

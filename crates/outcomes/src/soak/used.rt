@@ -16,8 +16,11 @@ pub fn images_used(alloc: Heap, script: &Script, unused: &[usize]) -> Result<u64
 }
 
 fn images_in(lines: &[ScriptLine]) -> u64 {
-    lines
-        .iter()
-        .filter(|line| line.order == Order::Image)
-        .count() as u64
+    let mut images = 0u64;
+    for line in lines {
+        if line.order == Order::Image {
+            images = images.saturating_add(1);
+        }
+    }
+    images
 }

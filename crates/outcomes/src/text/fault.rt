@@ -5,7 +5,7 @@ ghost use Rattle.outcomes.specs.Text.Faults.{name_of, fault_number};
 use std::fmt;
 
 /// What is wrong with a line. The lowest number that holds of a line is answered.
-#[derive(Clone, Copy, Debug, PartialEq, Eq)]
+#[derive(Clone, Copy, Debug)]
 pub enum OutcomeFaultKind {
     /// The line has no form, or a clock in it is none of a rank.
     BadLine,
@@ -22,7 +22,7 @@ pub enum OutcomeFaultKind {
 }
 
 /// The first line that is at fault; of a rank without an end the one after the last.
-#[derive(Clone, Copy, Debug, PartialEq, Eq)]
+#[derive(Clone, Copy, Debug)]
 pub struct OutcomeFault {
     /// From 1.
     pub line: usize,
@@ -30,7 +30,7 @@ pub struct OutcomeFault {
 }
 
 /// Why a text gives no outcome.
-#[derive(Clone, Copy, Debug, PartialEq, Eq)]
+#[derive(Clone, Copy)]
 pub enum OutcomeParseFault {
     Fault(OutcomeFault),
     Memory,
@@ -50,19 +50,25 @@ impl OutcomeFaultKind {
             OutcomeFaultKind::Limit => 6,
         }
     }
+
+    fn name(self) -> &'static str
+        ensures { result.now ≡ name_of self }
+    {
+        match self {
+            OutcomeFaultKind::BadLine => "BadLine",
+            OutcomeFaultKind::BadRank => "BadRank",
+            OutcomeFaultKind::AfterEnd => "AfterEnd",
+            OutcomeFaultKind::NotRising => "NotRising",
+            OutcomeFaultKind::NoEnd => "NoEnd",
+            OutcomeFaultKind::Limit => "Limit",
+        }
+    }
 }
 
 impl fmt::Display for OutcomeFaultKind {
     ghost output = { λ kind. Some (name_of kind) };
 
     fn fmt<W: fmt::Write>(&self, f: &mut fmt::Formatter<W>) -> fmt::Result {
-        match self {
-            OutcomeFaultKind::BadLine => write!(f, "BadLine"),
-            OutcomeFaultKind::BadRank => write!(f, "BadRank"),
-            OutcomeFaultKind::AfterEnd => write!(f, "AfterEnd"),
-            OutcomeFaultKind::NotRising => write!(f, "NotRising"),
-            OutcomeFaultKind::NoEnd => write!(f, "NoEnd"),
-            OutcomeFaultKind::Limit => write!(f, "Limit"),
-        }
+        f.write_str(self.name())
     }
 }

@@ -30,7 +30,7 @@ pub(crate) struct Form {
 
 /// What a line says that isn't skipped: its number, from 1, a rank, and what it
 /// says of that rank.
-#[derive(Clone, Copy, PartialEq, Eq)]
+#[derive(Clone, Copy)]
 pub enum Entry {
     /// It received or found a message, or found none. A run of misses stands as
     /// single ones.

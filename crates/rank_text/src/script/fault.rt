@@ -5,7 +5,7 @@ ghost use Rattle.rank_text.specs.Scripts.Faults.{name_of, fault_number};
 use std::fmt;
 
 /// What is wrong with a line. The lowest number that holds of a line is answered.
-#[derive(Clone, Copy, Debug, PartialEq, Eq)]
+#[derive(Clone, Copy, Debug)]
 pub enum ScriptFaultKind {
     /// The line has no form, or its clock is none of a rank.
     BadLine,
@@ -16,7 +16,7 @@ pub enum ScriptFaultKind {
 }
 
 /// The first line that is at fault.
-#[derive(Clone, Copy, Debug, PartialEq, Eq)]
+#[derive(Clone, Copy, Debug)]
 pub struct ScriptFault {
     /// From 1.
     pub line: usize,
@@ -24,7 +24,7 @@ pub struct ScriptFault {
 }
 
 /// Why a text gives no script.
-#[derive(Clone, Copy, Debug, PartialEq, Eq)]
+#[derive(Clone, Copy)]
 pub enum ScriptParseFault {
     Fault(ScriptFault),
     Memory,

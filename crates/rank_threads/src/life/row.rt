@@ -6,7 +6,7 @@ use event_logger::Event;
 use limits::Heap;
 
 /// The whole row of a rank.
-#[derive(Debug, Drop)]
+#[derive(Drop)]
 pub struct Row {
     events: Vec<Event, Heap>,
     ghost most: { length events.items ≤ most_events },

@@ -29,7 +29,7 @@ pub struct Unseated {
 }
 
 /// What a rank came to.
-#[derive(Clone, Copy, PartialEq, Eq)]
+#[derive(Clone, Copy)]
 pub struct Account {
     pub end: End,
     pub crashes: u64,

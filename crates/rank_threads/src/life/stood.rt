@@ -1,7 +1,7 @@
 //! How a rank stood when its last life (its incarnation) ended.
 
 /// How a rank stood when its last life ended.
-#[derive(Clone, Copy, Debug, PartialEq, Eq)]
+#[derive(Clone, Copy)]
 pub struct Stood {
     /// How many acts it had made.
     pub clock: u32,

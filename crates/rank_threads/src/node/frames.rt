@@ -13,7 +13,7 @@ use rank_node::Frame;
 use std::alloc::AllocError;
 
 /// What became of one frame.
-#[derive(Clone, Copy, Debug, PartialEq, Eq)]
+#[derive(Clone, Copy)]
 pub enum PutResult {
     /// It is in the lane.
     Gone(FrameKind),

@@ -11,7 +11,7 @@ use limits::{GREATEST_CLOCK, Heap, MOST_EVENTS};
 use std::alloc::AllocError;
 
 /// Why a rank is unfinished.
-#[derive(Clone, Copy, Debug, PartialEq, Eq)]
+#[derive(Clone, Copy)]
 pub enum Cause {
     /// It made so many steps in all its lives, as many as the limits allow or more.
     Steps(u32),

@@ -17,7 +17,7 @@ use std::sync::Wait;
 const STRIDE: u32 = 1024;
 
 /// What became of a rank's step.
-#[derive(Clone, Copy, Debug, PartialEq, Eq)]
+#[derive(Clone, Copy)]
 pub enum Stepped {
     /// It made steps of its own.
     Moved,

@@ -2,6 +2,7 @@
 
 use crate::json::object::Object;
 use limits::Heap;
+use serde_json::Value;
 use std::alloc::AllocError;
 
 /// A text, to which objects are added.
@@ -40,7 +41,14 @@ impl Lines {
 }
 
 fn put_line(alloc: Heap, to: &mut String<Heap>, object: Object) -> Result<(), AllocError> {
-    let line = object.done()?.to_string(alloc)?;
+    match object.done() {
+        Ok(value) => put_value(alloc, to, &value),
+        Err(error) => Err(error),
+    }
+}
+
+fn put_value(alloc: Heap, to: &mut String<Heap>, value: &Value) -> Result<(), AllocError> {
+    let line = value.to_string(alloc)?;
     to.push_str(line.as_str())?;
     to.push('\n')
 }

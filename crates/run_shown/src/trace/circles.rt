@@ -4,18 +4,16 @@ use crate::trace::columns::put_between;
 use crate::trace::ends::waits_for;
 use crate::trace::given::Told;
 use audit::End;
-use limits::{Heap, MOST_RANKS};
-use std::alloc::AllocError;
-use std::fmt::Write;
+use limits::MOST_RANKS;
+use rank_text::text_writer::TextWriter;
 
 /// Writes a line for each circle of ranks in which each waits for the next one alone.
-pub fn put_circles(to: &mut String<Heap>, told: Told<'_, '_>) -> Result<(), AllocError> {
+pub fn put_circles(to: &mut TextWriter, told: Told<'_, '_>) {
     for rank in 0..told.run.ranks() {
         if let Some(members) = circle_from(told, rank) {
-            put_circle(to, &members)?;
+            put_circle(to, &members);
         }
     }
-    Ok(())
 }
 
 /// Of which ranks the circle is in which this one has the lowest number, if
@@ -54,16 +52,16 @@ fn is_lowest_of_circle(told: Told<'_, '_>, rank: u8, members: &mut [bool; MOST_R
     false
 }
 
-fn put_circle(to: &mut String<Heap>, members: &[bool; MOST_RANKS]) -> Result<(), AllocError> {
+fn put_circle(to: &mut TextWriter, members: &[bool; MOST_RANKS]) {
     let count = count_of(members);
     let (who, what) = if count == 1 {
         ("rank ", " waits for itself\n")
     } else {
         ("ranks ", " wait for each other\n")
     };
-    to.push_str(who)?;
-    put_members(to, members, count)?;
-    to.push_str(what)
+    to.text(who);
+    put_members(to, members, count);
+    to.text(what);
 }
 
 fn count_of(members: &[bool; MOST_RANKS]) -> usize {
@@ -76,18 +74,15 @@ fn count_of(members: &[bool; MOST_RANKS]) -> usize {
     count
 }
 
-fn put_members(
-    to: &mut String<Heap>,
-    members: &[bool; MOST_RANKS],
-    count: usize,
-) -> Result<(), AllocError> {
+fn put_members(to: &mut TextWriter, members: &[bool; MOST_RANKS], count: usize) {
     let mut shown = 0usize;
     for rank in 0..MOST_RANKS {
         if members[rank] {
-            put_between(to, shown, count)?;
-            write!(to, "{rank}")?;
+            if to.room.is_ok() {
+                to.room = put_between(&mut to.text, shown, count);
+            }
+            to.number(rank as u64);
             shown = shown.saturating_add(1);
         }
     }
-    Ok(())
 }

@@ -3,66 +3,61 @@
 use crate::trace::acts::message_at;
 use crate::trace::given::Told;
 use crate::trace::left::unreceived;
-use crate::trace::message::{Message, put_mark};
+use crate::trace::message::{Message, write_mark};
 use audit::End;
 use limits::Heap;
-use matching::{Context, Selector};
+use matching::Selector;
 use rank_language::line_of_text;
 use rank_machine::Want;
+use rank_text::text_writer::TextWriter;
 use std::alloc::AllocError;
-use std::fmt::Write;
 
 /// The most messages that a stalled rank's line shows.
 const SHOWN: usize = 8;
 
 /// Writes a line for each rank.
-pub fn put_ends(to: &mut String<Heap>, told: Told<'_, '_>) -> Result<(), AllocError> {
+pub fn put_ends(to: &mut TextWriter, told: Told<'_, '_>) {
     let outcome = told.given.outcome;
     for rank in 0..told.run.ranks() {
         if let Some(end) = outcome.ends.get(usize::from(rank)) {
-            put_end(to, told, rank, *end)?;
+            to.numbered("rank ", u64::from(rank), ": ");
+            put_end(to, told, rank, *end);
+            to.sign('\n');
         }
     }
-    Ok(())
 }
 
-fn put_end(
-    to: &mut String<Heap>,
-    told: Told<'_, '_>,
-    rank: u8,
-    end: End,
-) -> Result<(), AllocError> {
-    write!(to, "rank {rank}: ")?;
+fn put_end(to: &mut TextWriter, told: Told<'_, '_>, rank: u8, end: End) {
     match end {
-        End::Halted => to.push_str("halted")?,
+        End::Halted => to.text("halted"),
         End::Faulted(fault) => {
-            let number = fault.number();
-            let name = fault.name();
-            write!(to, "fault {number} {name}")?;
-            put_statement(to, told, rank)?;
+            to.numbered("fault ", u64::from(fault.number()), " ");
+            to.text(fault.name());
+            put_statement(to, told, rank);
         }
         End::Stalled => {
-            to.push_str("stalled")?;
-            put_statement(to, told, rank)?;
-            put_there(to, told, rank)?;
+            to.text("stalled");
+            put_statement(to, told, rank);
+            put_there(to, told, rank);
         }
         End::Unfinished => {
-            to.push_str("unfinished")?;
-            put_statement(to, told, rank)?;
-            to.push_str("; ")?;
-            to.push_str(why_unfinished(told, rank))?;
+            to.text("unfinished");
+            put_statement(to, told, rank);
+            to.text("; ");
+            to.text(why_unfinished(told, rank));
         }
     }
-    to.push('\n')
 }
 
 // Writes the line that the rank stands at, and its text.
-fn put_statement(to: &mut String<Heap>, told: Told<'_, '_>, rank: u8) -> Result<(), AllocError> {
-    let Some(line) = line_of(told, rank) else {
-        return to.push_str(" at the end");
-    };
-    write!(to, " at line {line}: ")?;
-    put_line(to, told, line)
+fn put_statement(to: &mut TextWriter, told: Told<'_, '_>, rank: u8) {
+    match line_of(told, rank) {
+        Some(line) => {
+            to.numbered(" at line ", line as u64, ": ");
+            put_line(to, told, line);
+        }
+        None => to.text(" at the end"),
+    }
 }
 
 /// The line that the rank stands at; none at the end of the text.
@@ -80,30 +75,15 @@ pub fn statement_of(
     told: Told<'_, '_>,
     line: usize,
 ) -> Result<String<Heap>, AllocError> {
-    let mut statement = String::new(alloc);
-    put_line(&mut statement, told, line)?;
-    Ok(statement)
+    let mut statement = TextWriter::new(alloc);
+    put_line(&mut statement, told, line);
+    statement.done()
 }
 
-fn put_line(to: &mut String<Heap>, told: Told<'_, '_>, line: usize) -> Result<(), AllocError> {
-    match line_of_text(told.given.text, line) {
-        Some(statement) => put_text(to, statement),
-        None => Ok(()),
+fn put_line(to: &mut TextWriter, told: Told<'_, '_>, line: usize) {
+    if let Some(statement) = line_of_text(told.given.text, line) {
+        to.printable(statement);
     }
-}
-
-// Writes a line of a program, which is printable, without the spaces before it.
-fn put_text(to: &mut String<Heap>, line: &[u8]) -> Result<(), AllocError> {
-    let mut begun = false;
-    for byte in line {
-        if *byte != b' ' {
-            begun = true;
-        }
-        if begun && b' ' <= *byte && *byte <= b'~' {
-            to.push(char::from(*byte))?;
-        }
-    }
-    Ok(())
 }
 
 /// What a rank waits for, if it waits.
@@ -124,20 +104,21 @@ pub fn waits_for(told: Told<'_, '_>, rank: u8) -> Option<Selector> {
 
 // Whether the selector names such a message of this source.
 fn names(selector: Selector, source: u8, message: Message<'_>) -> bool {
-    let same = match (selector.context, message.context) {
-        (Context::PointToPoint, Context::PointToPoint)
-        | (Context::Collective, Context::Collective) => true,
-        (Context::PointToPoint, Context::Collective)
-        | (Context::Collective, Context::PointToPoint) => false,
-    };
-    same && selector.source.is_none_or(|wanted| wanted == source)
-        && selector.tag.is_none_or(|tag| tag == message.tag)
+    selector.context == message.context
+        && match selector.source {
+            Some(wanted) => wanted == source,
+            None => true,
+        }
+        && match selector.tag {
+            Some(tag) => tag == message.tag,
+            None => true,
+        }
 }
 
 // Writes which messages are there that the rank doesn't wait for.
-fn put_there(to: &mut String<Heap>, told: Told<'_, '_>, rank: u8) -> Result<(), AllocError> {
+fn put_there(to: &mut TextWriter, told: Told<'_, '_>, rank: u8) {
     let Some(selector) = waits_for(told, rank) else {
-        return Ok(());
+        return;
     };
     let mut count = 0usize;
     for index in 0..told.acts.len() {
@@ -145,15 +126,17 @@ fn put_there(to: &mut String<Heap>, told: Told<'_, '_>, rank: u8) -> Result<(), 
             count = count.saturating_add(1);
         }
     }
-    if count == 0 {
-        return to.push_str("; no message is there");
+    to.text("; ");
+    match count {
+        0 => to.text("no message is there"),
+        1 => to.text("1 message is there that it doesn't match"),
+        _ => to.numbered(
+            "",
+            count as u64,
+            " messages are there that it doesn't match",
+        ),
     }
-    if count == 1 {
-        to.push_str("; 1 message is there that it doesn't match")?;
-    } else {
-        write!(to, "; {count} messages are there that it doesn't match")?;
-    }
-    put_others(to, told, rank, selector, count)
+    put_others(to, told, rank, selector, count);
 }
 
 /// The source and the message of the act of this index, where it sends the rank
@@ -173,28 +156,21 @@ pub fn other<'a>(
     }
 }
 
-fn put_others(
-    to: &mut String<Heap>,
-    told: Told<'_, '_>,
-    rank: u8,
-    selector: Selector,
-    count: usize,
-) -> Result<(), AllocError> {
+fn put_others(to: &mut TextWriter, told: Told<'_, '_>, rank: u8, selector: Selector, count: usize) {
     let mut shown = 0usize;
     for index in 0..told.acts.len() {
         if let Some((source, message)) = other(told, index, rank, selector) {
             if shown < SHOWN {
-                to.push_str(if shown == 0 { ": " } else { "; " })?;
-                write!(to, "from {source}")?;
-                put_mark(to, message)?;
+                to.text(if shown == 0 { ": from " } else { "; from " });
+                to.number(u64::from(source));
+                write_mark(to, message);
                 shown = shown.saturating_add(1);
             }
         }
     }
     if shown < count {
-        to.push_str("; ..")?;
+        to.text("; ..");
     }
-    Ok(())
 }
 
 /// Why a rank is unfinished, and what helps.

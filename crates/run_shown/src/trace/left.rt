@@ -2,11 +2,9 @@
 
 use crate::trace::acts::message_at;
 use crate::trace::given::Told;
-use crate::trace::message::put_mark;
+use crate::trace::message::write_mark;
 use crash_free::Act;
-use limits::Heap;
-use std::alloc::AllocError;
-use std::fmt::Write;
+use rank_text::text_writer::TextWriter;
 
 /// Whether the act of this index sends to the rank, which doesn't receive it.
 pub fn unreceived(told: Told<'_, '_>, index: usize, rank: u8) -> bool {
@@ -20,13 +18,12 @@ pub fn unreceived(told: Told<'_, '_>, index: usize, rank: u8) -> bool {
 }
 
 /// Writes for each rank how many messages it never received, and the first of them.
-pub fn put_unreceived(to: &mut String<Heap>, told: Told<'_, '_>) -> Result<(), AllocError> {
+pub fn put_unreceived(to: &mut TextWriter, told: Told<'_, '_>) {
     for rank in 0..told.run.ranks() {
         if let Some((count, first)) = unreceived_by(told, rank) {
-            put_count(to, told, rank, count, first)?;
+            put_count(to, told, rank, count, first);
         }
     }
-    Ok(())
 }
 
 /// How many messages a rank never received, and the index of the first one's
@@ -48,31 +45,18 @@ pub fn unreceived_by(told: Told<'_, '_>, rank: u8) -> Option<(usize, usize)> {
     }
 }
 
-fn put_count(
-    to: &mut String<Heap>,
-    told: Told<'_, '_>,
-    rank: u8,
-    count: usize,
-    first: usize,
-) -> Result<(), AllocError> {
-    let Some(passed) = told.acts.get(first) else {
-        return Ok(());
+fn put_count(to: &mut TextWriter, told: Told<'_, '_>, rank: u8, count: usize, first: usize) {
+    let (Some(passed), Some(message)) = (told.acts.get(first), message_at(told, first)) else {
+        return;
     };
-    let Some(message) = message_at(told, first) else {
-        return Ok(());
-    };
-    let source = passed.rank;
-    if count == 1 {
-        write!(
-            to,
-            "rank {rank}: 1 message was never received, from {source}"
-        )?;
+    to.numbered("rank ", u64::from(rank), ": ");
+    to.number(count as u64);
+    to.text(if count == 1 {
+        " message was never received, from "
     } else {
-        write!(
-            to,
-            "rank {rank}: {count} messages were never received, the first from {source}"
-        )?;
-    }
-    put_mark(to, message)?;
-    to.push('\n')
+        " messages were never received, the first from "
+    });
+    to.number(u64::from(passed.rank));
+    write_mark(to, message);
+    to.sign('\n');
 }

@@ -6,6 +6,7 @@ ghost use Rattle.run_shown.specs.Trace.Words.{mark_text, name_text, tag_text};
 
 use limits::Heap;
 use matching::Context;
+use rank_text::text_writer::TextWriter;
 use std::alloc::AllocError;
 use std::fmt::Write;
 
@@ -119,6 +120,13 @@ pub fn put_mark(to: &mut String<Heap>, message: Message<'_>) -> Result<(), Alloc
             to.push_str(", ")?;
             put_kind(to, message.items)
         }
+    }
+}
+
+/// The same behind what was written so far.
+pub fn write_mark(to: &mut TextWriter, message: Message<'_>) {
+    if to.room.is_ok() {
+        to.room = put_mark(&mut to.text, message);
     }
 }
 

@@ -6,51 +6,52 @@ use crate::trace::words::put_count;
 use crash_free::Act;
 use limits::Heap;
 use rank_text::script::Order;
+use rank_text::text_writer::TextWriter;
 use std::alloc::AllocError;
-use std::fmt::Write;
 
 /// Writes each line of the script that never came to pass, and why.
-pub fn put_unmet(to: &mut String<Heap>, told: Told<'_, '_>) -> Result<(), AllocError> {
+pub fn put_unmet(to: &mut TextWriter, told: Told<'_, '_>) {
     for order in told.orders {
         if !order.is_used() {
-            put_why(to, *order)?;
+            put_why(to, *order);
         }
     }
-    Ok(())
 }
 
-fn put_why(to: &mut String<Heap>, order: Fated) -> Result<(), AllocError> {
-    let (number, rank, clock) = (order.number, order.line.rank, order.line.clock);
-    let word = word_of(order.line.order);
-    write!(to, "line {number}: {word} {rank} at {clock}: ")?;
-    put_reason(to, order)?;
-    to.push('\n')
+fn put_why(to: &mut TextWriter, order: Fated) {
+    to.numbered("line ", order.number as u64, ": ");
+    to.text(word_of(order.line.order));
+    to.numbered(" ", u64::from(order.line.rank), " at ");
+    to.numbered("", u64::from(order.line.clock), ": ");
+    put_reason(to, order);
+    to.sign('\n');
 }
 
 /// Why a line never came to pass; nothing for one that did.
 pub fn reason_of(alloc: Heap, order: Fated) -> Result<String<Heap>, AllocError> {
-    let mut reason = String::new(alloc);
-    put_reason(&mut reason, order)?;
-    Ok(reason)
+    let mut reason = TextWriter::new(alloc);
+    put_reason(&mut reason, order);
+    reason.done()
 }
 
-fn put_reason(to: &mut String<Heap>, order: Fated) -> Result<(), AllocError> {
-    let (rank, image) = (order.line.rank, order.image);
+fn put_reason(to: &mut TextWriter, order: Fated) {
+    let rank = u64::from(order.line.rank);
     match order.fate {
-        Fate::Used => Ok(()),
+        Fate::Used => {}
         Fate::Short(made) => {
-            write!(to, "rank {rank} made ")?;
-            put_count(to, made as u64, "act")
+            to.numbered("rank ", rank, " made ");
+            put_count(to, made as u64, "act");
         }
-        Fate::Behind => write!(
-            to,
-            "behind its image at {image} rank {rank} doesn't make that act again"
+        Fate::Behind => {
+            to.numbered("behind its image at ", u64::from(order.image), " rank ");
+            to.numbered("", rank, " doesn't make that act again");
+        }
+        Fate::Passed => to.numbered(
+            "rank ",
+            rank,
+            " made that act in a replay, or before this line was next",
         ),
-        Fate::Passed => write!(
-            to,
-            "rank {rank} made that act in a replay, or before this line was next"
-        ),
-        Fate::Held(line) => write!(to, "line {line} stays next"),
+        Fate::Held(line) => to.numbered("line ", line as u64, " stays next"),
     }
 }
 
@@ -64,35 +65,33 @@ pub fn word_of(order: Order) -> &'static str {
 
 /// Writes a line for each crash and each image, in the order of the script, and
 /// before them by whom they are counted.
-pub fn put_crashes(to: &mut String<Heap>, told: Told<'_, '_>) -> Result<(), AllocError> {
+pub fn put_crashes(to: &mut TextWriter, told: Told<'_, '_>) {
     let mut is_first = true;
     for order in told.orders {
         if order.is_used() {
             if is_first {
-                to.push_str(
+                to.text(
                     "# crashes and images as the runner counted them; no audit certifies them\n",
-                )?;
+                );
                 is_first = false;
             }
-            put_used(to, told, *order)?;
+            put_used(to, told, *order);
         }
     }
-    Ok(())
 }
 
-fn put_used(to: &mut String<Heap>, told: Told<'_, '_>, order: Fated) -> Result<(), AllocError> {
-    let (rank, clock, image) = (order.line.rank, order.line.clock, order.image);
+fn put_used(to: &mut TextWriter, told: Told<'_, '_>, order: Fated) {
+    let (clock, image) = (order.line.clock, order.image);
+    to.numbered("rank ", u64::from(order.line.rank), ": ");
     match order.line.order {
-        Order::Image => writeln!(to, "rank {rank}: image at clock {clock}"),
+        Order::Image => to.numbered("image at clock ", u64::from(clock), "\n"),
         Order::Kill => {
-            write!(
-                to,
-                "rank {rank}: crash at clock {clock}, back to clock {image}: "
-            )?;
-            put_count(to, u64::from(clock.saturating_sub(image)), "act")?;
-            to.push_str(" made again, ")?;
-            put_count(to, received_again(told, order), "message")?;
-            to.push_str(" asked for again\n")
+            to.numbered("crash at clock ", u64::from(clock), ", back to clock ");
+            to.numbered("", u64::from(image), ": ");
+            put_count(to, u64::from(clock.saturating_sub(image)), "act");
+            to.text(" made again, ");
+            put_count(to, received_again(told, order), "message");
+            to.text(" asked for again\n");
         }
     }
 }

@@ -20,6 +20,7 @@ use crate::trace::places::places_of;
 use crash_free::Sim;
 use limits::Heap;
 use rank_language::Program;
+use rank_text::text_writer::TextWriter;
 use std::alloc::AllocError;
 
 /// What is found of the acts of a run, by their index, and of the lines of its
@@ -102,13 +103,13 @@ pub fn trace_text(
 
 // What is told behind the acts. It is a text of its own, so that whatever it is, the acts stay as they are.
 fn rest_of(alloc: Heap, told: Told<'_, '_>) -> Result<String<Heap>, AllocError> {
-    let mut text = String::new(alloc);
-    put_ends(&mut text, told)?;
-    put_circles(&mut text, told)?;
-    put_unreceived(&mut text, told)?;
-    put_unmet(&mut text, told)?;
-    put_crashes(&mut text, told)?;
-    Ok(text)
+    let mut text = TextWriter::new(alloc);
+    put_ends(&mut text, told);
+    put_circles(&mut text, told);
+    put_unreceived(&mut text, told);
+    put_unmet(&mut text, told);
+    put_crashes(&mut text, told);
+    text.done()
 }
 
 /// The same as JSON, an object a line, and what the run took.

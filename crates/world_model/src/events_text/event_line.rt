@@ -6,7 +6,7 @@ use crate::WorldEvent;
 use std::fmt;
 
 /// An event, shown as the line of an events text that tells it.
-#[derive(Clone, Copy, PartialEq, Eq)]
+#[derive(Clone, Copy)]
 pub struct EventLine(pub WorldEvent);
 
 impl fmt::Display for EventLine {

@@ -6,7 +6,7 @@ use std::fmt;
 use thiserror::Error;
 
 /// What is wrong with a line. The lowest number that holds of a line is answered.
-#[derive(Clone, Copy, Debug, PartialEq, Eq, Error)]
+#[derive(Clone, Copy, Debug, Error)]
 pub enum EventsFaultKind {
     /// The line has no form.
     BadLine,
@@ -15,7 +15,7 @@ pub enum EventsFaultKind {
 }
 
 /// Why a text gives no events.
-#[derive(Clone, Copy, PartialEq, Eq)]
+#[derive(Clone, Copy)]
 pub enum EventsFault {
     /// The first faulty line, from 1.
     Fault { line: usize, kind: EventsFaultKind },

@@ -6,7 +6,7 @@ use crate::Reply;
 use std::fmt;
 
 /// A reply, shown by its word with its numbers behind it.
-#[derive(Clone, Copy, PartialEq, Eq)]
+#[derive(Clone, Copy)]
 pub struct ReplyLine(pub Reply);
 
 impl fmt::Display for ReplyLine {
