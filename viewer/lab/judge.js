@@ -141,6 +141,7 @@ function askOutcome() {
     const of = { outcome: text.value, source: source(), count: ranks() };
     const done = await ftmpi(["judge", "--trace", "--ranks", String(of.count), PROGRAM, OUTCOME], { ...files(), [OUTCOME]: of.outcome });
     said.replaceChildren(...judgement(done, of));
+    said.scrollIntoView({ block: "nearest" });
   });
   answer("Judge an outcome", make("p", {}, "Does some run without crashes have this outcome? These are the receptions, probes, lines and "
     + "ends of the world at the step that is shown. Change a number, and judge that."), text, make("div", { class: "bar" }, ask), said);

@@ -87,8 +87,6 @@ let futures = [{ lines: [], at: 0 }];
 let current = 0;
 // How the experiment is called.
 let called = "";
-// What the world that is shown was made of.
-let played = { source: null, ranks: 0 };
 // Counts the calls for a world: an answer to an older one is dropped.
 let turn = 0;
 
@@ -117,25 +115,25 @@ async function playAll(at) {
   clearTimeout(typing);
   turn += 1;
   const mine = turn;
-  const of = { source: source(), ranks: ranks() };
-  const done = await ftmpi(["world", "--json", "--ranks", String(of.ranks), PROGRAM, EVENTS]);
+  const done = await ftmpi(["world", "--json", "--ranks", String(ranks()), PROGRAM, EVENTS]);
   if (mine !== turn) {
     return false;
   }
+  const title = `ftmpi laboratory: ${called || "your program"}`;
   document.body.classList.toggle("stale", done.status !== 0);
-  if (done.status !== 0) {
+  if (done.status === 0) {
+    sayFault("");
+    open(done.out, title, at);
+    showFutures();
+  } else {
+    element("title").textContent = title;
     await explain();
     showActs();
-    return false;
   }
-  played = of;
-  sayFault("");
-  open(done.out, `ftmpi laboratory: ${called || "your program"}`, at);
-  showFutures();
   await keep();
   // (the address holds it too: what follows may begin)
   document.body.dataset.turn = String(mine);
-  return true;
+  return done.status === 0;
 }
 
 /** How many lines of the events stand up to the step that is shown. */
@@ -163,7 +161,16 @@ async function happen(...more) {
   await playAll(to);
 }
 
-/** Begins anew with these events. */
+/** Begins anew. What has happened stays, as another future. */
+async function beginAnew() {
+  if (countOf(lines()) > 0) {
+    futures.push({ lines: [], at: 0 });
+    current = futures.length - 1;
+  }
+  return playAll(0);
+}
+
+/** Begins anew with these events, and no other future. */
 async function startWith(of, at = 0) {
   futures = [{ lines: of, at: 0 }];
   current = 0;
@@ -184,13 +191,14 @@ async function lead(words) {
   }
   if (more.length > 0) {
     await happen(...more);
+    revealDiagram();
   } else {
     element("busy").textContent = "nothing is to be done";
     showHint();
   }
 }
 
-// The experiment behind which no rank can go on, as *To the end* found it.
+// The experiment behind which no rank can go on, as *Run to the end* found it.
 let ended = "";
 
 const experimentUpTo = (step) => [ranks(), source(), ...lines().slice(0, linesUpTo(step)).filter(isEvent)].join("\n");
@@ -206,26 +214,58 @@ function showHint() {
 /** What a reader may do at a step, which is the last one or not. */
 function hintAt({ ranks: all }, isLast) {
   const down = all.findIndex((it) => it.phase === "down");
-  const waits = all.findIndex((it) => it.phase !== "down" && !isOver(it));
   if (down >= 0) {
     return `Rank ${down} is down: *Recover* brings every rank back. Or click \`restart ${down}\`, and go on by single events.`;
   }
-  if (!isLast) {
-    return now === 0 ? "Go on by *>* or the right arrow key. Or click another event: it happens here." : "";
+  return isLast ? hintAtLast(all) : hintBefore(world.events.length - now);
+}
+
+/** At a step that so many come after. */
+function hintBefore(after) {
+  return now === 0 ? "Go on by *>* or the right arrow key. Or click another event: it happens here."
+    : `Click *crash* at a rank, and it crashes here. ${after === 1 ? "The event" : `The ${after} events`} after this step ${after === 1 ? "is" : "are"} kept.`;
+}
+
+function hintAtLast(all) {
+  const crashed = world.events.some((it) => it.parts.kind === "crash");
+  const waits = all.findIndex((it) => !isOver(it));
+  if (waits < 0) {
+    return crashed ? "It has ended, and printed what one run without crashes prints. *All outcomes* lists each of them."
+      : "It has ended. Go back by *<* or by a click in the diagram, and crash a rank there.";
   }
-  if (waits >= 0 && ended !== experimentUpTo(now)) {
-    return "*To the end* runs the program: change it as you like. Or click one event after another.";
-  }
-  if (waits >= 0) {
+  if (ended === experimentUpTo(now)) {
     return `It ends here: rank ${waits} waits for a message that doesn't come.`;
   }
-  return world.events.some((it) => it.parts.kind === "crash") ? "It has ended. *All outcomes* lists what the program can print without crashes."
-    : "It has ended. Go back by *<* or by a click in the diagram, and crash a rank there.";
+  const behind = all.findIndex((it) => !isBack(it));
+  if (behind >= 0) {
+    return `Rank ${behind} makes its acts again: *Recover* brings it back to where it was.`;
+  }
+  if (crashed) {
+    return "Every rank is back. *Run to the end* goes on from here.";
+  }
+  return now === 0 ? "Change the program as you like. *Run to the end* runs it. Or click one event after another."
+    : "*Run to the end* goes on from here. Or click one event after another.";
 }
+
+/** Whether a rank is up and has made each act of its own that had passed. */
+const isBack = ({ phase, clock, passed }) => phase === "running" && clock >= passed;
 
 const isOver = ({ wants, waiting }) => ["halted", "fault"].includes(wants.kind) && waiting.length === 0;
 
 // ---- which events may happen at a step (docs/WORLDS.md): from the members of the world's objects
+
+// What each kind of event means.
+const KINDS = [
+  ["step", "the rank makes one step of its program"],
+  ["put", "its next frame goes on the wire: a packet, a request for packets (ask), or a notice that a checkpoint has them (kept)"],
+  ["arrive", "a frame on the wire comes to the rank: any of them, in any order, and again"],
+  ["store", "the event logger stores a determinant, such as which message was received"],
+  ["ack", "the logger's acknowledgment comes back"],
+  ["release", "a send or a line that waited for it goes out"],
+  ["image", "a checkpoint of the rank is stored: it begins there after a crash"],
+  ["crash", "the rank loses everything but what is stored"],
+  ["restart", "it begins again, at its last image if there is one, and replays the determinants that are stored"],
+];
 
 /**
  * The events that aren't refused at a step, by rank: each with its kind, its text, and what it is
@@ -307,17 +347,18 @@ function showActs() {
   const [focused, row] = [active.dataset.event, active.closest(".row")];
   const place = [...element("acts").children].indexOf(row);
   const isStale = document.body.classList.contains("stale");
-  for (const id of ["to-end", "catch-up", "explore", "judge", "runs", "canonical", "to-c"]) {
+  for (const id of ["to-end", "catch-up", "anew", "explore", "judge", "runs", "canonical", "to-c"]) {
     element(id).disabled = isStale;
   }
   if (isStale || !world) {
-    const words = "The program has a fault: mend it to go on. What is shown is the last one without.";
-    element("note").textContent = words;
+    const words = `The program has a fault: mend it to go on.${world ? " What is shown is the last one without." : ""}`;
+    // (no step was ever shown, if the page was opened with the fault)
+    (element("note") || element("now")).textContent = words;
     element("acts").replaceChildren(make("p", { class: "empty" }, words));
     return;
   }
   element("acts").replaceChildren(...nextEvents(now, MOST_BUTTONS, MOST_FRAMES).map(rowOf));
-  element("catch-up").classList.toggle("main", world.steps[now].ranks.some((it) => it.phase !== "running"));
+  showLeading(world.steps[now]);
   showHint();
   // (the focus stays at its event, or else at its rank)
   if (place >= 0) {
@@ -326,14 +367,31 @@ function showActs() {
   }
 }
 
+/** What is to be done next stands out: the next step of a world that is explained, or at its last step
+ * that the ranks come back, or else that the program runs on. */
+function showLeading({ ranks: all, event }) {
+  const isLast = now === world.events.length;
+  const areBack = all.every(isBack);
+  const isExplained = !event || commentBefore(event.line) !== "";
+  element("forward").classList.toggle("main", !isLast && isExplained);
+  element("catch-up").classList.toggle("main", isLast && !areBack);
+  element("to-end").classList.toggle("main", isLast && areBack && !all.every(isOver) && ended !== experimentUpTo(now));
+}
+
+/** What a rank is at, in a word or two: a program that has ended is still running. */
+function stateOf({ phase, wants }) {
+  const isOut = phase === "running" && ["halted", "fault"].includes(wants.kind);
+  return !isOut ? phase : wants.kind === "halted" ? "halted" : `fault ${wants.number}`;
+}
+
 function rowOf(found, number) {
-  const { phase } = world.steps[now].ranks[number];
+  const state = stateOf(world.steps[now].ranks[number]);
   const rest = found.filter((it) => it.later);
   const row = make("div", { class: "row", role: "group", "aria-label": `Rank ${number}` },
-    make("h3", {}, `Rank ${number}`, make("small", {}, phase)), ...found.filter((it) => !it.later).map(buttonOf));
+    make("h3", {}, `Rank ${number}`, make("small", {}, state)), ...found.filter((it) => !it.later).map(buttonOf));
   if (rest.length > 0) {
     const list = make("select", { "aria-label": `More frames for rank ${number}` },
-      ...rest.map((it) => make("option", { value: it.text }, `${it.text}: ${it.about}${it.again ? " (again)" : ""}`)));
+      ...rest.map((it) => make("option", { value: it.text }, `${it.text}${it.again ? " again" : ""}: ${it.about}`)));
     const arrive = make("button", { type: "button" }, "arrives");
     arrive.addEventListener("click", () => happen(list.value));
     row.append(make("span", { class: "later" }, list, arrive));
@@ -342,7 +400,8 @@ function rowOf(found, number) {
 }
 
 function buttonOf({ text, about, harms }) {
-  const button = make("button", { type: "button", "data-event": text, ...(harms ? { class: "harm" } : {}) },
+  const [, title] = KINDS.find(([kind]) => kind === text.split(" ")[0]);
+  const button = make("button", { type: "button", "data-event": text, title, ...(harms ? { class: "harm" } : {}) },
     make("code", {}, text), make("small", {}, about));
   button.addEventListener("click", () => happen(text));
   return button;
@@ -456,13 +515,25 @@ function write(text) {
 
 // ---- answers: all outcomes, judge, C, events
 
-/** Shows an answer below the editor. */
+// The button that asked for the answer that is shown.
+let asking = null;
+
+/** Shows an answer below the editor. It gets the focus of the button that asked, which has it again at the end. */
 function answer(title, ...parts) {
-  const close = make("button", { type: "button", "aria-label": "Close" }, "Close");
-  close.addEventListener("click", () => { element("answer").hidden = true; });
+  const { activeElement: active } = document;
+  const close = make("button", { type: "button" }, "Close");
+  close.addEventListener("click", () => {
+    element("answer").hidden = true;
+    (asking || document.body).focus();
+  });
+  asking = active.closest("#asks button") || asking;
+  const isAsked = active === document.body || active.closest("#asks, #answer") !== null;
   element("answer").hidden = false;
   element("answer").replaceChildren(make("div", { class: "bar" }, make("h2", {}, title), close), ...parts);
   element("answer").scrollIntoView({ block: "nearest" });
+  if (isAsked) {
+    element("answer").focus({ preventScroll: true });
+  }
 }
 
 function copyButton(text) {
@@ -526,7 +597,7 @@ async function explore() {
 }
 
 function showOutcomes(found, program, count, took) {
-  const head = make("tr", {}, ...["Outcome", "", ...found.outcomes[0].ranks.map((it) => `Rank ${it.rank}`)].map((it) => make("th", { scope: "col" }, it)));
+  const head = make("tr", {}, ...["Outcome", "World", ...found.outcomes[0].ranks.map((it) => `Rank ${it.rank}`)].map((it) => make("th", { scope: "col" }, it)));
   const rows = found.outcomes.map((one) => {
     const button = make("button", { type: "button", "data-outcome": String(one.outcome), title: "Open as a world" }, "Open");
     button.addEventListener("click", () => openOutcome(one.outcome, program, count));
@@ -537,7 +608,7 @@ function showOutcomes(found, program, count, took) {
   showSheet(null);
   answer(`All outcomes: ${found.outcomes.length}${found.complete ? "" : " so far"}`,
     make("p", { id: "explored", "data-complete": String(found.complete) },
-      `${found.complete ? "complete" : "stopped"}: ${counted(found.runs, "run")} looked at in ${took}. ${found.complete ? ALL : NOT_ALL}`),
+      `${found.complete ? "Complete" : "Stopped"}: ${counted(found.runs, "run")} looked at in ${took}. ${found.complete ? ALL : NOT_ALL}`),
     make("p", { id: "races" }, found.races.length === 0 ? "No receive and no probe had several answers." : "Races: ",
       ...found.races.flatMap((it, index) => [index > 0 ? "; " : "", make("span", {}, raceWords(it))])),
     make("div", { class: "wide-table" }, make("table", { id: "outcomes" }, make("thead", {}, head), make("tbody", {}, ...rows))));
@@ -564,7 +635,15 @@ async function openEvents(opened, program, count) {
   } else {
     await startWith(opened, opened.length);
   }
-  element("diagram-head").scrollIntoView({ block: "nearest" });
+  revealDiagram();
+}
+
+/** Scrolls to the diagram, if it isn't seen whole; or only if it is further down. */
+function revealDiagram(isDown = false) {
+  const { top, bottom } = element("diagram").getBoundingClientRect();
+  if (bottom > innerHeight || !isDown && top < document.querySelector("header").offsetHeight) {
+    element("diagram-head").scrollIntoView({ block: "start" });
+  }
 }
 
 async function showC() {
@@ -610,29 +689,47 @@ async function unpacked(part) {
 }
 
 async function keep() {
-  const text = JSON.stringify({ source: source(), ranks: ranks(), lines: lines(), called });
-  const part = await packed(text);
+  const it = { source: source(), ranks: ranks(), lines: lines(), called };
+  const part = await packed(JSON.stringify(it));
   const isLong = part.length > LONGEST;
   experiment = isLong ? "" : `;${part}`;
   element("link").disabled = isLong;
   history.replaceState(null, "", `#${now}${experiment}`);
   try {
-    localStorage.setItem(KEY, text);
+    localStorage.setItem(KEY, JSON.stringify({ ...it, futures, current }));
   } catch {
     // (a page from disk may have no storage)
   }
 }
 
-/** The experiment in the address, or else the one that was kept; or none. */
+/** The experiment in the address, or else the one that was kept; or none. If both are the same, with its futures. */
 async function kept() {
   const part = location.hash.split(";")[1];
+  const there = experimentIn(part ? await unpacked(part).catch(() => "") : "");
+  let local = null;
   try {
-    const text = part ? await unpacked(part) : localStorage.getItem(KEY);
+    local = experimentIn(localStorage.getItem(KEY) || "");
+  } catch {
+    // (a page from disk may have no storage)
+  }
+  return part && !(local && there && ["source", "ranks", "lines"].every((it) => isSame(local[it], there[it]))) ? there : local;
+}
+
+const isSame = (one, other) => JSON.stringify(one) === JSON.stringify(other);
+
+/** The experiment that a text holds, or none. */
+function experimentIn(text) {
+  try {
     const it = JSON.parse(text);
     return typeof it.source === "string" && Array.isArray(it.lines) ? it : null;
   } catch {
     return null;
   }
+}
+
+/** Whether futures are kept with an experiment. */
+function areFutures({ futures: all, current: which, lines: of }) {
+  return Array.isArray(all) && all.every((one) => Array.isArray(one.lines) && Number.isInteger(one.at)) && isSame((all[which] || {}).lines, of);
 }
 
 async function restore() {
@@ -642,8 +739,11 @@ async function restore() {
   }
   const at = stepInAddress();
   [called, element("source").value, element("count").value] = [String(it.called), it.source, String(it.ranks)];
-  element("about").replaceChildren();
-  await startWith(it.lines.map(String), at);
+  const [value] = [...choices].find(([, one]) => one.name === it.called && one.source === it.source) || [""];
+  showChoice(value);
+  futures = areFutures(it) ? it.futures : [{ lines: it.lines.map(String), at: 0 }];
+  current = areFutures(it) ? it.current : 0;
+  await playAll(at);
   return true;
 }
 
@@ -669,7 +769,7 @@ function listChoices() {
   })));
   for (const of of new Set(stored.programs.map((it) => it.group))) {
     group(of === "The manual" ? of : `Programs: ${of.toLowerCase()}`, stored.programs.filter((it) => it.group === of).map((it) => ({
-      value: it.name, words: it.about ? `${nameOf(it.name)}: ${it.about}` : nameOf(it.name),
+      value: it.name, words: `${nameOf(it.name)}: ${it.about.replaceAll("`", "")}`,
       experiment: { name: nameOf(it.name), source: it.text, ranks: it.ranks, lines: [], about: it.about },
     })));
   }
@@ -684,6 +784,11 @@ function listStatements() {
   const { about, rows } = stored.statements;
   element("forms").replaceChildren(...inline(about));
   element("statements").replaceChildren(...rows.map(([form, what]) => make("tr", {}, make("th", { scope: "row" }, ...inline(form)), make("td", {}, ...inline(what)))));
+}
+
+/** What each kind of event means. */
+function listKinds() {
+  element("kinds").replaceChildren(...KINDS.map(([kind, what]) => make("tr", {}, make("th", { scope: "row" }, make("code", {}, kind)), make("td", {}, what))));
 }
 
 const nameOf = (path) => path.split("/").pop();
@@ -708,13 +813,18 @@ const paragraph = (text) => make("p", {}, ...inline(text));
 /** A sentence as it stands alone: with a capital letter and a full stop. */
 const sentence = (text) => (/[.?!*]$/.test(text) ? text : `${text[0].toUpperCase()}${text.slice(1)}.`);
 
+/** Shows which choice is open, and what is said of it. */
+function showChoice(value) {
+  const { about } = choices.get(value) || { about: "" };
+  element("choice").value = choices.has(value) ? value : "";
+  element("about").replaceChildren(...about.split(/\n\n+/).filter(Boolean).map((text) => paragraph(sentence(text))));
+}
+
 /** Opens a lesson, a program or a world. */
 async function choose(value) {
   const it = choices.get(value) || { name: "your program", source: "# on each rank, this prints its number\nprint rank\n", ranks: 2, lines: [], about: "" };
   [called, element("source").value, element("count").value] = [it.name, it.source, String(it.ranks)];
-  const parts = it.about.split(/\n\n+/).filter(Boolean).map((text) => paragraph(sentence(text)));
-  element("choice").value = choices.has(value) ? value : "";
-  element("about").replaceChildren(...parts);
+  showChoice(value);
   element("answer").hidden = true;
   raced = new Set();
   return startWith(it.lines);
@@ -725,19 +835,25 @@ async function beginLab() {
   element("lab").hidden = false;
   // the diagram stands above what may happen next
   element("acts-head").before(element("diagram").closest("section"));
+  // and what leads on stands where it is always seen
+  element("controls").after(element("leading"));
   element("files").hidden = true;
   element("origin").textContent = stored.origin;
   listChoices();
   listStatements();
+  listKinds();
   offerRuns();
   const click = (id, does) => element(id).addEventListener("click", does);
   element("choice").addEventListener("change", () => choose(element("choice").value));
   element("count").addEventListener("change", typed);
   element("source").addEventListener("input", typed);
   element("source").addEventListener("scroll", scrollSheet);
+  for (const id of ["back", "play", "forward"]) {
+    click(id, () => revealDiagram(true));
+  }
   click("to-end", () => lead(["--to-the-end"]));
   click("catch-up", () => lead([]));
-  click("anew", () => startWith([]));
+  click("anew", beginAnew);
   click("explore", explore);
   click("judge", askOutcome);
   click("runs", askRuns);

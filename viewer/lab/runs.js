@@ -41,17 +41,17 @@ function askRuns() {
   const choice = make("select", { id: "policy" }, ...policies.map(([value, words]) => make("option", { value }, `${value}: ${words}`)));
   // (by turns in a row each seed makes the same run)
   choice.value = policies.some(([value]) => value === "uniform") ? "uniform" : policies[0][0];
-  const script = make("textarea", { id: "script", rows: "3", spellcheck: "false", "aria-label": "Script", placeholder: "kill 1 at 1" });
+  const script = make("textarea", { id: "script", rows: "3", spellcheck: "false", placeholder: "kill 1 at 1" });
   script.value = `kill ${ranks() - 1} at 1\n`;
-  const button = (id, words, does) => {
-    const made = make("button", { type: "button", id, class: "main" }, words);
+  const button = (id, kind, words, does) => {
+    const made = make("button", { type: "button", id, class: kind }, words);
     made.addEventListener("click", does);
     return made;
   };
-  answer("Runs with crashes", make("p", {}, "The ranks take turns on one thread, as the policy and the seed decide: the same seed makes the same run. "
-    + "Threads may have another order. A line of the script crashes a rank behind its act of a clock (kill R at C), or takes its image (image R at C)."),
-  script, make("div", { class: "bar" }, field("Policy", choice), field("Seed", number("seed", 1, 1e9)), field("Runs", number("many", 8, 1000))),
-  make("div", { class: "bar" }, button("make-runs", "Run, seed by seed", makeRuns), button("make-soak", "Soak: scripts at random", makeSoak)),
+  answer("Runs with crashes", make("p", {}, ...inline("The ranks take turns on one thread, as the policy and the seed decide: the same seed makes the same run. "
+    + "Threads may have another order. A line of the script crashes a rank after its act of a clock, `kill RANK at CLOCK`, or takes its image, `image RANK at CLOCK`.")),
+  make("label", { for: "script" }, "Script"), script, make("div", { class: "bar" }, field("Policy", choice), field("Seed", number("seed", 1, 1e9)), field("Runs", number("many", 8, 1000))),
+  make("div", { class: "bar" }, button("make-runs", "main", "Run, seed by seed", makeRuns), button("make-soak", "", "Soak: scripts at random", makeSoak)),
   make("div", { id: "ran", role: "status" }));
 }
 
