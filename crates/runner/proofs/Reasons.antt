@@ -29,8 +29,13 @@ use Rattle.runner.specs.FinishText.{IsWithoutEnd}
 use Rattle.synchronous.specs.Synchronous.{HasComputedTag, IsPastLimits}
 use Rattle.synchronous.specs.declared.fault.SynchronousFault.{SynchronousFault}
 use Rattle.synchronous.specs.declared.fault.SynchronousFault.TheVariants as synchronous
-use Rattle.runner.specs.Reasons.{HasDrawnFault, HasNoAcknowledged, IsUnsearched, of_synchronous, HasEventsFault, HasNoEnd, HasNoEvents, HasNoOutcome, HasNoOutcomeOf, HasNoReport, HasOutcomeFault, HasProgramFault, HasScriptFault, IsEventsRefusal, IsExplainRefusal, IsFileRefusal, IsJudgeRefusal, IsOutcomeRefusal, IsProgramRefusal, IsRunRefusal}
-use Rattle.runner.specs.Reasons.{IsScriptRefusal, IsSearchRefusal, IsSoakRefusal, IsSoakScriptRefusal, IsTraceRefusal, IsUndrawn, IsUnplayed, IsUnread, IsUnreadBy, IsUntold, IsWorldRefusal, UnlessMemory, of_events, of_outcome, of_parse, of_play, of_run, of_script}
+use Rattle.runner.specs.Reasons.{HasDrawnFault, HasNoAcknowledged, IsUnsearched, of_synchronous, HasEventsFault, HasNoEnd, HasNoEvents}
+use Rattle.runner.specs.Reasons.{HasNoOutcome, HasNoOutcomeOf, HasNoReport, HasOutcomeFault, HasProgramFault, HasScriptFault}
+use Rattle.runner.specs.Reasons.{IsEventsRefusal, IsExplainRefusal, IsFileRefusal, IsJudgeRefusal, IsOutcomeRefusal, IsProgramRefusal}
+use Rattle.runner.specs.Reasons.{IsRunRefusal}
+use Rattle.runner.specs.Reasons.{IsScriptRefusal, IsSearchRefusal, IsSoakRefusal, IsSoakScriptRefusal, IsTraceRefusal, IsUndrawn}
+use Rattle.runner.specs.Reasons.{IsUnplayed, IsUnread, IsUnreadBy, IsUntold, IsWorldRefusal, UnlessMemory, of_events, of_outcome, of_parse}
+use Rattle.runner.specs.Reasons.{of_play, of_run, of_script}
 use Rattle.runner.specs.declared.commands.refusal.Refusal.{Refusal}
 use Rattle.runner.specs.declared.commands.refusal.Refusal.TheVariants as refusal
 use Rattle.runner.specs.declared.commands.world.Wanted.{Wanted}
@@ -90,7 +95,8 @@ faulty_outcome holds name ranks text answer (outcome_parse.Fault f) refused held
 faulty_outcome holds name ranks text answer outcome_parse.Memory refused held is first told other = absurd (other told)
 
 -- what is refused of a script after something was read was so before
-script_before : (holds held : List ℕ → List ℕ → Type 0) (ranks : ℕ) (script : Option (Bor (List ℕ))) (refused : Refusal) → ((file text : List ℕ) → holds file text → held file text)
+script_before : (holds held : List ℕ → List ℕ → Type 0) (ranks : ℕ) (script : Option (Bor (List ℕ))) (refused : Refusal)
+    → ((file text : List ℕ) → holds file text → held file text)
     → IsScriptRefusal holds ranks script refused → IsScriptRefusal held ranks script refused
 script_before holds held ranks None refused kept is = is
 script_before holds held ranks (Some name) refused kept (inl is) = inl is
@@ -98,13 +104,15 @@ script_before holds held ranks (Some name) refused kept (inr is) =
     inr (record { text = is.text; held = kept name.now is.text is.held; fault = is.fault; first = is.first; told = is.told })
 
 -- of events
-events_before : (holds held : List ℕ → List ℕ → Type 0) (name : Bor (List ℕ)) (refused : Refusal) → ((file text : List ℕ) → holds file text → held file text) → IsEventsRefusal holds name refused → IsEventsRefusal held name refused
+events_before : (holds held : List ℕ → List ℕ → Type 0) (name : Bor (List ℕ)) (refused : Refusal)
+    → ((file text : List ℕ) → holds file text → held file text) → IsEventsRefusal holds name refused → IsEventsRefusal held name refused
 events_before holds held name refused kept (inl is) = inl is
 events_before holds held name refused kept (inr is) =
     inr (record { text = is.text; held = kept name.now is.text is.held; line = is.line; kind = is.kind; first = is.first; told = is.told })
 
 -- and of an outcome
-outcome_before : (holds held : List ℕ → List ℕ → Type 0) (ranks : ℕ) (name : Bor (List ℕ)) (refused : Refusal) → ((file text : List ℕ) → holds file text → held file text) → IsOutcomeRefusal holds ranks name refused
+outcome_before : (holds held : List ℕ → List ℕ → Type 0) (ranks : ℕ) (name : Bor (List ℕ)) (refused : Refusal)
+    → ((file text : List ℕ) → holds file text → held file text) → IsOutcomeRefusal holds ranks name refused
     → IsOutcomeRefusal held ranks name refused
 outcome_before holds held ranks name refused kept (inl is) = inl is
 outcome_before holds held ranks name refused kept (inr is) =
@@ -118,18 +126,21 @@ pub run_of_program : (holds : List ℕ → List ℕ → Type 0) (job : RunJob) (
 run_of_program holds job refused is other = IsRunRefusal.run_program (is other)
 
 -- its script, which is read once the program is, isn't
-pub run_of_script : (holds held : List ℕ → List ℕ → Type 0) (job : RunJob) (refused : Refusal) → ((file text : List ℕ) → holds file text → held file text) → UnlessMemory (IsScriptRefusal holds job.ranks job.script) refused
+pub run_of_script : (holds held : List ℕ → List ℕ → Type 0) (job : RunJob) (refused : Refusal)
+    → ((file text : List ℕ) → holds file text → held file text) → UnlessMemory (IsScriptRefusal holds job.ranks job.script) refused
     → UnlessMemory (IsRunRefusal held job) refused
 run_of_script holds held job refused kept is other = IsRunRefusal.run_script (script_before holds held job.ranks job.script refused kept (is other))
 
 -- it has no report
-pub run_of_fault : (holds : List ℕ → List ℕ → Type 0) (job : RunJob) (fault : RunFault) (refused : Refusal) → refused ≡ of_run fault → UnlessMemory (IsRunRefusal holds job) refused
+pub run_of_fault : (holds : List ℕ → List ℕ → Type 0) (job : RunJob) (fault : RunFault) (refused : Refusal) → refused ≡ of_run fault
+    → UnlessMemory (IsRunRefusal holds job) refused
 run_of_fault holds job fault refused told other = IsRunRefusal.run_report (fault, told)
 
 -- ---- a trace
 
 -- the file of its program can't be read
-pub trace_unread : (holds : List ℕ → List ℕ → Type 0) (job : RunJob) (refused : Refusal) → UnlessMemory (IsUnread job.program) refused → UnlessMemory (IsTraceRefusal holds job) refused
+pub trace_unread : (holds : List ℕ → List ℕ → Type 0) (job : RunJob) (refused : Refusal) → UnlessMemory (IsUnread job.program) refused
+    → UnlessMemory (IsTraceRefusal holds job) refused
 trace_unread holds job refused is other = IsTraceRefusal.trace_program (inl (is other))
 
 -- its program has a fault
@@ -140,13 +151,15 @@ trace_faulty holds job text answer fault refused held is first told other =
     IsTraceRefusal.trace_program (faulty_program (holds job.program.now) job.program text answer fault refused held is first told other)
 
 -- its script isn't read
-pub trace_of_script : (holds held : List ℕ → List ℕ → Type 0) (job : RunJob) (refused : Refusal) → ((file text : List ℕ) → holds file text → held file text) → UnlessMemory (IsScriptRefusal holds job.ranks job.script) refused
+pub trace_of_script : (holds held : List ℕ → List ℕ → Type 0) (job : RunJob) (refused : Refusal)
+    → ((file text : List ℕ) → holds file text → held file text) → UnlessMemory (IsScriptRefusal holds job.ranks job.script) refused
     → UnlessMemory (IsTraceRefusal held job) refused
 trace_of_script holds held job refused kept is other =
     IsTraceRefusal.trace_script (script_before holds held job.ranks job.script refused kept (is other))
 
 -- its run isn't told
-pub trace_untold : (holds : List ℕ → List ℕ → Type 0) (job : RunJob) (refused : Refusal) → UnlessMemory IsUntold refused → UnlessMemory (IsTraceRefusal holds job) refused
+pub trace_untold : (holds : List ℕ → List ℕ → Type 0) (job : RunJob) (refused : Refusal) → UnlessMemory IsUntold refused
+    → UnlessMemory (IsTraceRefusal holds job) refused
 trace_untold holds job refused is other = IsTraceRefusal.trace_run (is other)
 
 -- since it has no report
@@ -160,7 +173,8 @@ untold_events fault refused told other = inr (fault, told)
 -- ---- a world
 
 -- its program isn't read
-pub world_of_program : (holds : List ℕ → List ℕ → Type 0) (job : WorldJob) (wants : Wanted) (refused : Refusal) → UnlessMemory (IsProgramRefusal holds job.program) refused
+pub world_of_program : (holds : List ℕ → List ℕ → Type 0) (job : WorldJob) (wants : Wanted) (refused : Refusal)
+    → UnlessMemory (IsProgramRefusal holds job.program) refused
     → UnlessMemory (IsWorldRefusal holds job wants) refused
 world_of_program holds job wants refused is other = IsWorldRefusal.world_program (is other)
 
@@ -177,13 +191,15 @@ world_faulty holds job wants text answer fault refused held is first told other 
     IsWorldRefusal.world_program (faulty_program (holds job.program.now) job.program text answer fault refused held is first told other)
 
 -- its events, which are read once the program is, aren't
-pub world_of_events : (holds held : List ℕ → List ℕ → Type 0) (job : WorldJob) (wants : Wanted) (refused : Refusal) → ((file text : List ℕ) → holds file text → held file text) → UnlessMemory (IsEventsRefusal holds job.events) refused
+pub world_of_events : (holds held : List ℕ → List ℕ → Type 0) (job : WorldJob) (wants : Wanted) (refused : Refusal)
+    → ((file text : List ℕ) → holds file text → held file text) → UnlessMemory (IsEventsRefusal holds job.events) refused
     → UnlessMemory (IsWorldRefusal held job wants) refused
 world_of_events holds held job wants refused kept is other =
     IsWorldRefusal.world_unplayed (inl (events_before holds held job.events refused kept (is other)))
 
 -- it isn't played
-pub world_not_played : (holds held : List ℕ → List ℕ → Type 0) (job : WorldJob) (wants : Wanted) (refused : Refusal) → ((file text : List ℕ) → holds file text → held file text) → UnlessMemory (IsUnplayed holds job wants) refused
+pub world_not_played : (holds held : List ℕ → List ℕ → Type 0) (job : WorldJob) (wants : Wanted) (refused : Refusal)
+    → ((file text : List ℕ) → holds file text → held file text) → UnlessMemory (IsUnplayed holds job wants) refused
     → UnlessMemory (IsWorldRefusal held job wants) refused
 world_not_played holds held job wants refused kept is other = IsWorldRefusal.world_unplayed (before (is other))
   where
@@ -192,7 +208,8 @@ world_not_played holds held job wants refused kept is other = IsWorldRefusal.wor
     before (inr ends) = inr ends
 
 -- since its events aren't read
-pub unplayed_events : (holds : List ℕ → List ℕ → Type 0) (job : WorldJob) (wants : Wanted) (refused : Refusal) → UnlessMemory (IsEventsRefusal holds job.events) refused
+pub unplayed_events : (holds : List ℕ → List ℕ → Type 0) (job : WorldJob) (wants : Wanted) (refused : Refusal)
+    → UnlessMemory (IsEventsRefusal holds job.events) refused
     → UnlessMemory (IsUnplayed holds job wants) refused
 unplayed_events holds job wants refused is other = inl (is other)
 
@@ -223,7 +240,8 @@ explain_of_events job refused is other = IsExplainRefusal.explain_events (is oth
 -- ---- a search
 
 -- the file of its program can't be read
-pub search_unread : (holds : List ℕ → List ℕ → Type 0) (job : ExploreJob) (refused : Refusal) → UnlessMemory (IsUnread job.program) refused → UnlessMemory (IsSearchRefusal holds job) refused
+pub search_unread : (holds : List ℕ → List ℕ → Type 0) (job : ExploreJob) (refused : Refusal)
+    → UnlessMemory (IsUnread job.program) refused → UnlessMemory (IsSearchRefusal holds job) refused
 search_unread holds job refused is other = IsSearchRefusal.search_program (inl (is other))
 
 -- why a text has no acknowledged program
@@ -247,7 +265,8 @@ search_unsearched holds job text synchronous.PastLimits refused held is told oth
 search_unsearched holds job text synchronous.Memory refused held is told other = absurd (other told)
 
 -- the outcome whose events it asks for has none
-pub search_of_outcome : (holds : List ℕ → List ℕ → Type 0) (job : ExploreJob) (refused : Refusal) → UnlessMemory (HasNoOutcomeOf job) refused → UnlessMemory (IsSearchRefusal holds job) refused
+pub search_of_outcome : (holds : List ℕ → List ℕ → Type 0) (job : ExploreJob) (refused : Refusal)
+    → UnlessMemory (HasNoOutcomeOf job) refused → UnlessMemory (IsSearchRefusal holds job) refused
 search_of_outcome holds job refused is other = IsSearchRefusal.search_outcome (is other)
 
 -- it is the outcome of this number
@@ -266,7 +285,8 @@ outcome_not_played number fault refused told other = inr (fault, told)
 -- ---- a judged outcome
 
 -- the file of the program can't be read
-pub judge_unread : (holds : List ℕ → List ℕ → Type 0) (job : JudgeJob) (refused : Refusal) → UnlessMemory (IsUnread job.program) refused → UnlessMemory (IsJudgeRefusal holds job) refused
+pub judge_unread : (holds : List ℕ → List ℕ → Type 0) (job : JudgeJob) (refused : Refusal) → UnlessMemory (IsUnread job.program) refused
+    → UnlessMemory (IsJudgeRefusal holds job) refused
 judge_unread holds job refused is other = IsJudgeRefusal.judge_program (inl (is other))
 
 -- the program has a fault
@@ -277,7 +297,8 @@ judge_faulty holds job text answer fault refused held is first told other =
     IsJudgeRefusal.judge_program (faulty_program (holds job.program.now) job.program text answer fault refused held is first told other)
 
 -- the outcome, which is read once the program is, isn't
-pub judge_of_outcome : (holds held : List ℕ → List ℕ → Type 0) (job : JudgeJob) (refused : Refusal) → ((file text : List ℕ) → holds file text → held file text) → UnlessMemory (IsOutcomeRefusal holds job.ranks job.outcome) refused
+pub judge_of_outcome : (holds held : List ℕ → List ℕ → Type 0) (job : JudgeJob) (refused : Refusal)
+    → ((file text : List ℕ) → holds file text → held file text) → UnlessMemory (IsOutcomeRefusal holds job.ranks job.outcome) refused
     → UnlessMemory (IsJudgeRefusal held job) refused
 judge_of_outcome holds held job refused kept is other =
     IsJudgeRefusal.judge_outcome (outcome_before holds held job.ranks job.outcome refused kept (is other))
@@ -285,7 +306,8 @@ judge_of_outcome holds held job refused kept is other =
 -- ---- a soak
 
 -- the file of its program can't be read
-pub soak_unread : (holds : List ℕ → List ℕ → Type 0) (job : SoakJob) (refused : Refusal) → UnlessMemory (IsUnread job.program) refused → UnlessMemory (IsSoakRefusal holds job) refused
+pub soak_unread : (holds : List ℕ → List ℕ → Type 0) (job : SoakJob) (refused : Refusal) → UnlessMemory (IsUnread job.program) refused
+    → UnlessMemory (IsSoakRefusal holds job) refused
 soak_unread holds job refused is other = IsSoakRefusal.soak_program (inl (is other))
 
 -- its program has a fault
@@ -296,7 +318,8 @@ soak_faulty holds job text answer fault refused held is first told other =
     IsSoakRefusal.soak_program (faulty_program (holds job.program.now) job.program text answer fault refused held is first told other)
 
 -- its runs aren't made
-pub soak_undrawn : (holds : List ℕ → List ℕ → Type 0) (job : SoakJob) (refused : Refusal) → UnlessMemory (IsUndrawn job.ranks) refused → UnlessMemory (IsSoakRefusal holds job) refused
+pub soak_undrawn : (holds : List ℕ → List ℕ → Type 0) (job : SoakJob) (refused : Refusal) → UnlessMemory (IsUndrawn job.ranks) refused
+    → UnlessMemory (IsSoakRefusal holds job) refused
 soak_undrawn holds job refused is other = IsSoakRefusal.soak_drawn (is other)
 
 -- since the first one has no report
@@ -313,7 +336,8 @@ drawn_faulty ranks lines text answer (script_parse.Fault f) refused spelled is f
 drawn_faulty ranks lines text answer script_parse.Memory refused spelled is first told other = absurd (other told)
 
 -- of the script of a run, the program isn't read
-pub script_of_program : (holds : List ℕ → List ℕ → Type 0) (job : SoakScriptJob) (refused : Refusal) → UnlessMemory (IsProgramRefusal holds job.soak.program) refused
+pub script_of_program : (holds : List ℕ → List ℕ → Type 0) (job : SoakScriptJob) (refused : Refusal)
+    → UnlessMemory (IsProgramRefusal holds job.soak.program) refused
     → UnlessMemory (IsSoakScriptRefusal holds job) refused
 script_of_program holds job refused is other = IsSoakScriptRefusal.script_soak (IsSoakRefusal.soak_program (is other))
 
@@ -323,6 +347,7 @@ pub script_undrawn : (holds : List ℕ → List ℕ → Type 0) (job : SoakScrip
 script_undrawn holds job refused is other = IsSoakScriptRefusal.script_soak (IsSoakRefusal.soak_drawn (is other))
 
 -- or fewer runs are made
-pub script_of_number : (holds : List ℕ → List ℕ → Type 0) (job : SoakScriptJob) (refused : Refusal) → job.soak.runs < job.number → refused ≡ refusal.NoRun job.number
+pub script_of_number : (holds : List ℕ → List ℕ → Type 0) (job : SoakScriptJob) (refused : Refusal) → job.soak.runs < job.number
+    → refused ≡ refusal.NoRun job.number
     → UnlessMemory (IsSoakScriptRefusal holds job) refused
 script_of_number holds job refused fewer told other = IsSoakScriptRefusal.script_number fewer told

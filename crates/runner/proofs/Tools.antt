@@ -10,7 +10,8 @@ use Rattle.runner.specs.Translations.{IsCAnswer}
 use Rattle.world_model.specs.declared.event.WorldEvent.{WorldEvent}
 
 -- the C text of a text that the file holds
-pub is_c_answer : (holds : List ℕ → Type 0) (synchronous : Bool) (text c out : List ℕ) (status : ℕ) → holds text → IsCText synchronous text c → out ≡ c → status ≡ 0
+pub is_c_answer : (holds : List ℕ → Type 0) (synchronous : Bool) (text c out : List ℕ) (status : ℕ) → holds text
+    → IsCText synchronous text c → out ≡ c → status ≡ 0
     → IsCAnswer holds synchronous out status
 is_c_answer holds synchronous text c out status held translated same done =
     record { text = text; held = held; translated = subst (IsCText synchronous text) (sym same) translated; done = done }
