@@ -85,8 +85,11 @@ const engine = new Engine();
 // it parted from another one.
 let futures = [{ lines: [], at: 0 }];
 let current = 0;
-// How the experiment is called.
+// How the experiment is called, and the choice that is open: none for a program of one's own.
 let called = "";
+let chosen = "";
+// The experiment with a program of one's own, while a choice is open.
+let own = null;
 // Counts the calls for a world: an answer to an older one is dropped.
 let turn = 0;
 
@@ -230,7 +233,7 @@ function hintAtLast(all) {
   const crashed = world.events.some((it) => it.parts.kind === "crash");
   const waits = all.findIndex((it) => !isOver(it));
   if (waits < 0) {
-    return crashed ? "It has ended, and printed what one run without crashes prints. *All outcomes* lists each of them."
+    return crashed ? "It has ended, and printed what one run without crashes prints. *All outcomes* lists what such runs print."
       : "It has ended. Go back by *<* or by a click in the diagram, and crash a rank there.";
   }
   if (ended === experimentUpTo(now)) {
@@ -351,7 +354,7 @@ function showActs() {
     element(id).disabled = isStale;
   }
   if (isStale || !world) {
-    const words = `The program has a fault: mend it to go on.${world ? " What is shown is the last one without." : ""}`;
+    const words = `The program has a fault: mend it to go on.${world ? " The world that is shown is of the last text without a fault." : ""}`;
     // (no step was ever shown, if the page was opened with the fault)
     (element("note") || element("now")).textContent = words;
     element("acts").replaceChildren(make("p", { class: "empty" }, words));
@@ -374,8 +377,17 @@ function showLeading({ ranks: all, event }) {
   const areBack = all.every(isBack);
   const isExplained = !event || commentBefore(event.line) !== "";
   element("forward").classList.toggle("main", !isLast && isExplained);
+  const isEnd = isLast && areBack && (all.every(isOver) || ended === experimentUpTo(now));
   element("catch-up").classList.toggle("main", isLast && !areBack);
-  element("to-end").classList.toggle("main", isLast && areBack && !all.every(isOver) && ended !== experimentUpTo(now));
+  element("to-end").classList.toggle("main", isLast && areBack && !isEnd);
+  // what would do nothing can't be clicked
+  const { activeElement: active } = document;
+  element("catch-up").disabled = areBack;
+  element("to-end").disabled = isEnd;
+  element("anew").disabled = world.events.length === 0;
+  if (active.disabled && active.closest("#leading")) {
+    (element("leading").querySelector(".main") || element("back")).focus();
+  }
 }
 
 /** What a rank is at, in a word or two: a program that has ended is still running. */
@@ -485,10 +497,9 @@ let typing;
 /** Plays a changed program, when its reader pauses. Its events stay if none is refused by it that wasn't. */
 function typed() {
   raced = new Set();
-  if (source() !== (choices.get(element("choice").value) || {}).source) {
+  if (source() !== (choices.get(chosen) || {}).source) {
     called = "your program";
-    element("choice").value = "";
-    element("about").replaceChildren();
+    showChoice("");
   }
   showSheet(null);
   clearTimeout(typing);
@@ -553,8 +564,8 @@ async function copy(text, button) {
   setTimeout(() => { button.textContent = said; }, 2000);
 }
 
-const ALL = "Proved: a complete search has every outcome of the program, and no other; and whatever crashes, the ranks "
-  + "print a part of one of these.";
+const ALL = "Proved: a complete search has every outcome of the program, and no other. And whatever crashes, the ranks "
+  + "print one of these, or a beginning of it.";
 const NOT_ALL = "There may be other outcomes: the search stopped before it had looked at all.";
 
 /** A line for each receive or probe that had several answers. */
@@ -611,7 +622,7 @@ function showOutcomes(found, program, count, took) {
       `${found.complete ? "Complete" : "Stopped"}: ${counted(found.runs, "run")} looked at in ${took}. ${found.complete ? ALL : NOT_ALL}`),
     make("p", { id: "races" }, found.races.length === 0 ? "No receive and no probe had several answers." : "Races: ",
       ...found.races.flatMap((it, index) => [index > 0 ? "; " : "", make("span", {}, raceWords(it))])),
-    make("div", { class: "wide-table" }, make("table", { id: "outcomes" }, make("thead", {}, head), make("tbody", {}, ...rows))));
+    make("div", { class: "wide-table" }, make("table", { id: "outcomes" }, make("caption", {}, "What each rank prints, and how it ends"), make("thead", {}, head), make("tbody", {}, ...rows))));
 }
 
 /** Opens a run of an outcome as a world. */
@@ -656,7 +667,7 @@ function showEventsText() {
   const text = make("textarea", { id: "events-text", rows: "10", spellcheck: "false", "aria-label": "Events" });
   text.value = asText(lines());
   const again = make("button", { type: "button", class: "main" }, "Play these");
-  again.addEventListener("click", () => startWith(text.value.replace(/\n+$/, "").split("\n")));
+  again.addEventListener("click", () => openEvents(text.value.replace(/\n+$/, "").split("\n"), source(), ranks()));
   answer("Events", make("div", { class: "bar" }, again, copyButton(() => text.value)), text);
 }
 
@@ -688,30 +699,37 @@ async function unpacked(part) {
   return new TextDecoder().decode(await streamed(bytes, new DecompressionStream("deflate-raw")));
 }
 
+/** The experiment, with its futures. */
+const whole = () => ({ source: source(), ranks: ranks(), lines: lines(), called, futures, current });
+
 async function keep() {
-  const it = { source: source(), ranks: ranks(), lines: lines(), called };
-  const part = await packed(JSON.stringify(it));
+  const it = whole();
+  const part = await packed(JSON.stringify({ ...it, futures: undefined, current: undefined }));
   const isLong = part.length > LONGEST;
   experiment = isLong ? "" : `;${part}`;
   element("link").disabled = isLong;
   history.replaceState(null, "", `#${now}${experiment}`);
   try {
-    localStorage.setItem(KEY, JSON.stringify({ ...it, futures, current }));
+    localStorage.setItem(KEY, JSON.stringify({ ...it, own }));
   } catch {
     // (a page from disk may have no storage)
   }
 }
 
-/** The experiment in the address, or else the one that was kept; or none. If both are the same, with its futures. */
-async function kept() {
-  const part = location.hash.split(";")[1];
-  const there = experimentIn(part ? await unpacked(part).catch(() => "") : "");
-  let local = null;
+/** The experiment that the browser keeps, or none. */
+function keptHere() {
   try {
-    local = experimentIn(localStorage.getItem(KEY) || "");
+    return experimentIn(localStorage.getItem(KEY) || "");
   } catch {
     // (a page from disk may have no storage)
+    return null;
   }
+}
+
+/** The experiment in the address, or else the one that was kept; or none. If both are the same, with its futures. */
+async function kept(local) {
+  const part = location.hash.split(";")[1];
+  const there = experimentIn(part ? await unpacked(part).catch(() => "") : "");
   return part && !(local && there && ["source", "ranks", "lines"].every((it) => isSame(local[it], there[it]))) ? there : local;
 }
 
@@ -733,18 +751,27 @@ function areFutures({ futures: all, current: which, lines: of }) {
 }
 
 async function restore() {
-  const it = await kept();
+  const local = keptHere();
+  const it = await kept(local);
   if (!it) {
     return false;
   }
-  const at = stepInAddress();
+  // a program of one's own stays, if the address has another experiment
+  own = local && it !== local && choiceOf(local) === "" ? { ...local, own: null } : local && experimentIn(JSON.stringify(local.own || null));
+  await reopen(it, stepInAddress());
+  return true;
+}
+
+/** The choice that an experiment came from; none for a program of one's own. */
+const choiceOf = (it) => ([...choices].find(([, one]) => one.name === it.called && one.source === it.source) || [""])[0];
+
+/** Opens an experiment that was kept, at a step. */
+async function reopen(it, at) {
   [called, element("source").value, element("count").value] = [String(it.called), it.source, String(it.ranks)];
-  const [value] = [...choices].find(([, one]) => one.name === it.called && one.source === it.source) || [""];
-  showChoice(value);
+  showChoice(choiceOf(it));
   futures = areFutures(it) ? it.futures : [{ lines: it.lines.map(String), at: 0 }];
   current = areFutures(it) ? it.current : 0;
-  await playAll(at);
-  return true;
+  return playAll(at);
 }
 
 // ---- what there is to choose from
@@ -779,11 +806,13 @@ function listChoices() {
   })));
 }
 
-/** The statements of the language, as its reference has them. */
+/** The statements and expressions of the language, as its reference has them. */
 function listStatements() {
-  const { about, rows } = stored.statements;
+  const { about, rows, values } = stored.statements;
   element("forms").replaceChildren(...inline(about));
-  element("statements").replaceChildren(...rows.map(([form, what]) => make("tr", {}, make("th", { scope: "row" }, ...inline(form)), make("td", {}, ...inline(what)))));
+  const rowsOf = (of) => of.map(([form, what]) => make("tr", {}, make("th", { scope: "row" }, ...inline(form)), make("td", {}, ...inline(what))));
+  element("statements").replaceChildren(...rowsOf(rows));
+  element("values").replaceChildren(...rowsOf(values));
 }
 
 /** What each kind of event means. */
@@ -816,17 +845,24 @@ const sentence = (text) => (/[.?!*]$/.test(text) ? text : `${text[0].toUpperCase
 /** Shows which choice is open, and what is said of it. */
 function showChoice(value) {
   const { about } = choices.get(value) || { about: "" };
-  element("choice").value = choices.has(value) ? value : "";
+  chosen = choices.has(value) ? value : "";
+  element("choice").value = chosen;
   element("about").replaceChildren(...about.split(/\n\n+/).filter(Boolean).map((text) => paragraph(sentence(text))));
 }
 
-/** Opens a lesson, a program or a world. */
+/** Opens a lesson, a program or a world, or the program of one's own as it was left. */
 async function choose(value) {
+  if (chosen === "" && source() !== "") {
+    own = { ...whole(), at: now };
+  }
+  element("answer").hidden = true;
+  raced = new Set();
+  if (value === "" && own) {
+    return reopen(own, own.at || 0);
+  }
   const it = choices.get(value) || { name: "your program", source: "# on each rank, this prints its number\nprint rank\n", ranks: 2, lines: [], about: "" };
   [called, element("source").value, element("count").value] = [it.name, it.source, String(it.ranks)];
   showChoice(value);
-  element("answer").hidden = true;
-  raced = new Set();
   return startWith(it.lines);
 }
 
@@ -835,6 +871,7 @@ async function beginLab() {
   element("lab").hidden = false;
   // the diagram stands above what may happen next
   element("acts-head").before(element("diagram").closest("section"));
+  element("program-head").textContent = "Where each rank is";
   // and what leads on stands where it is always seen
   element("controls").after(element("leading"));
   element("files").hidden = true;
@@ -845,7 +882,11 @@ async function beginLab() {
   offerRuns();
   const click = (id, does) => element(id).addEventListener("click", does);
   element("choice").addEventListener("change", () => choose(element("choice").value));
-  element("count").addEventListener("change", typed);
+  element("count").addEventListener("change", () => {
+    // (a number out of range is the next one within it)
+    element("count").value = String(ranks());
+    typed();
+  });
   element("source").addEventListener("input", typed);
   element("source").addEventListener("scroll", scrollSheet);
   for (const id of ["back", "play", "forward"]) {
