@@ -708,6 +708,7 @@ async function keep() {
   const isLong = part.length > LONGEST;
   experiment = isLong ? "" : `;${part}`;
   element("link").disabled = isLong;
+  element("link").title = isLong ? "The experiment is too long for an address: copy its events as text" : "An address that holds the program and the events";
   history.replaceState(null, "", `#${now}${experiment}`);
   try {
     localStorage.setItem(KEY, JSON.stringify({ ...it, own }));
