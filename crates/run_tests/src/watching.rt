@@ -10,7 +10,7 @@ use std::sync::atomic::{AtomicU64, Ordering};
 use std::thread::Threads;
 use std::time::{Clock, Duration};
 
-/// Rank 0 takes a message of each of four others: 24 orders.
+/// Rank 0 takes a message of each of four others: 24 orders, also where each send waits.
 const FIRST_COME: &str =
     "var x\nvar i\nif rank == 0\nwhile i < 4\nrecv any, any, x\nprint source\nlet i = i + 1\nend\nelse\nsend 0, 0, 0\nend\n";
 
@@ -27,8 +27,10 @@ struct Counter {
 impl Watch for Counter {
     fn looked(&mut self, runs: u32) {
         self.calls = self.calls.saturating_add(1);
+        // a second search counts anew
+        let is_next = runs == 1 || runs == self.last.saturating_add(1);
         self.last = runs;
-        self.is_in_order = self.is_in_order && runs == self.calls;
+        self.is_in_order = self.is_in_order && is_next;
     }
 }
 
@@ -45,15 +47,18 @@ fn watched<R: Threads + Wait + Sync + Copy + Send + AllocGlobal, W: Watch>(
     let (mut out, mut err) = (Vec::new(alloc), Vec::new(alloc));
     let words = words.as_slice();
     let status = command_watched(rt, alloc, words, &mut files, &mut out, &mut err, watch);
-    let is_complete = out.ends_with(b"outcomes 24, runs 24, complete\n");
+    let is_complete = out.ends_with(
+        b"outcomes 24, runs 24, complete\n# safe: no send needs a buffer\n",
+    );
     Ok((status, is_complete && err.is_empty()))
 }
 
-// A search tells of so many runs, each once and in order.
+// So many searches tell of so many runs each, of each run once and in order.
 fn expect_told<R: Threads + Wait + Sync + Copy + Send + AllocGlobal + Abort>(
     rt: &R,
     words: &str,
     want: (u8, bool),
+    searches: u32,
     runs: u32,
 ) -> Result<(), AllocError> {
     let mut counter = Counter {
@@ -64,7 +69,12 @@ fn expect_told<R: Threads + Wait + Sync + Copy + Send + AllocGlobal + Abort>(
     let found = watched(rt, words, &mut counter)?;
     same(rt, words, &found, &want);
     let told = (counter.calls, counter.last, counter.is_in_order);
-    same(rt, words, &told, &(runs, runs, true));
+    same(
+        rt,
+        words,
+        &told,
+        &(searches.saturating_mul(runs), runs, true),
+    );
     Ok(())
 }
 
@@ -112,7 +122,7 @@ impl IsTerminal for Screen {
     }
 }
 
-// What a search of 24 runs shows by such a clock.
+// What two searches of 24 runs each show by such a clock.
 fn expect_shown<R: Threads + Wait + Sync + Copy + Send + AllocGlobal + Abort>(
     rt: &R,
     is_stopped: bool,
@@ -135,13 +145,15 @@ fn expect_shown<R: Threads + Wait + Sync + Copy + Send + AllocGlobal + Abort>(
 }
 
 // A terminal is told after one second, and then each time that it took twice as long.
-const TOLD: &str = "2 runs looked at\n4 runs looked at\n8 runs looked at\n16 runs looked at\n";
+// The second search has looked at 8 runs when 16 seconds are over.
+const TOLD: &str =
+    "2 runs looked at\n4 runs looked at\n8 runs looked at\n16 runs looked at\n8 runs looked at\n";
 
 #[test]
 fn searches_tell_of_their_runs(rt: HostRuntime) -> Result<(), AllocError> {
-    expect_told(&rt, WORDS, (0, true), 24)?;
-    expect_told(&rt, "ftmpi explore --ranks 5 --runs 7 p", (1, false), 7)?;
-    expect_told(&rt, "ftmpi run --ranks 5 p", (0, false), 0)?;
+    expect_told(&rt, WORDS, (0, true), 2, 24)?;
+    expect_told(&rt, "ftmpi explore --ranks 5 --runs 7 p", (1, false), 1, 7)?;
+    expect_told(&rt, "ftmpi run --ranks 5 p", (0, false), 0, 0)?;
     expect_shown(&rt, false, true, TOLD)?;
     expect_shown(&rt, false, false, "")?;
     expect_shown(&rt, true, true, "")

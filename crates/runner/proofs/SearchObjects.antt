@@ -22,7 +22,10 @@ use Rattle.serde_json.specs.declared.value.Value.{Value}
 use Rattle.serde_json.specs.Written.{compact_text, has_float, items_have_float, members_have_float}
 use Rattle.runner.specs.SearchObject.{IsSearchObject, array_of, choice_members, choice_object, count, count_members, end_members, mark_at}
 use Rattle.runner.specs.SearchObject.{mark_value, object_of, outcome_object, outcome_objects, place_members, rank_object, rank_objects}
-use Rattle.runner.specs.SearchObject.{behind_first, first_of, known_members, left_array, left_members, left_object, says_none, search_object, value, with_members}
+use Rattle.runner.specs.SearchObject.{behind_first, first_of, found_members, is_safe_if_known, known_members, left_array, left_members, left_object}
+use Rattle.runner.specs.SearchObject.{safety_members, says_none, search_object, value, wait_object, wait_objects, waits_objects, with_members}
+use Rattle.runner.specs.declared.explored.safety.Safety.{Safety}
+use Rattle.runner.specs.declared.explored.safety.Safety.TheVariants as safety
 
 -- of three lists of members without a float the order picks one
 no_float-put_at : (o : Ordering) (a b c : Members) → members_have_float a ≡ false → members_have_float b ≡ false → members_have_float c ≡ false
@@ -169,14 +172,36 @@ no_float-outcomes lines marks index (outcome ∷ outcomes) choices left =
     or_from _ _ (no_float-outcome lines (index + 1) outcome (first_of choices) (mark_at marks index) (first_of left))
     (no_float-outcomes lines marks (index + 1) outcomes (behind_first choices) (behind_first left))
 
--- nor is there one in all that was found, if there is none in the races
-no_float-search : (found : ExploredValue) (marks : List (Option Bool)) (lines : List ℕ) (races : Items) → items_have_float races ≡ false
-    → has_float (search_object found marks lines races) ≡ false
-no_float-search found marks lines races clean =
-    no_float-object_of
+-- nor is there one in what was found, if there is none in the races
+no_float-found : (found : ExploredValue) (marks : List (Option Bool)) (lines : List ℕ) (races : Items) → items_have_float races ≡ false
+    → members_have_float (found_members found marks lines races) ≡ false
+no_float-found found marks lines races clean =
+    no_float-with_members
     ((codes "outcomes", array_of (outcome_objects lines marks 0 found.outcomes found.choices found.left)) ∷ (codes "races", json.array races)
-    ∷ count_members found)
-    (no_float-outcomes lines marks 0 found.outcomes found.choices found.left, (clean, (refl, (refl, (refl, (refl, (refl, tt)))))))
+    ∷ count_members found) json.no_members
+    (no_float-outcomes lines marks 0 found.outcomes found.choices found.left, (clean, (refl, (refl, (refl, (refl, (refl, tt))))))) refl
+
+-- ranks that wait, and their lines
+no_float-wait_objects : (ranks lines : List ℕ) → items_have_float (items_of (wait_objects ranks lines)) ≡ false
+no_float-wait_objects [] lines = refl
+no_float-wait_objects (rank ∷ ranks) [] = refl
+no_float-wait_objects (rank ∷ ranks) (line ∷ lines) =
+    or_from (has_float (wait_object rank line)) (items_have_float (items_of (wait_objects ranks lines)))
+    (no_float-object_of ((codes "rank", count rank) ∷ (codes "line", count line) ∷ []) (refl, (refl, tt))) (no_float-wait_objects ranks lines)
+
+-- those that wait, if some do
+no_float-waits : (told : Safety) → items_have_float (items_of (waits_objects told)) ≡ false
+no_float-waits safety.Untold = refl
+no_float-waits safety.Safe = refl
+no_float-waits (safety.NotSafe waits) = no_float-wait_objects waits.ranks.items waits.lines.items
+no_float-waits (safety.Unknown why) = refl
+
+-- nor is there one in all, if there is none in the races
+no_float-search : (found : ExploredValue) (marks : List (Option Bool)) (lines : List ℕ) (races : Items) (told : Safety) → items_have_float races ≡ false
+    → has_float (search_object found marks lines races told) ≡ false
+no_float-search found marks lines races told clean =
+    no_float-with_members (safety_members told) (found_members found marks lines races)
+    (no_float-mark (is_safe_if_known told), (no_float-waits told, tt)) (no_float-found found marks lines races clean)
 
 -- a value without a float is pushed to some without
 pub pushed : (list : List Value) (one : Value) → items_have_float (items_view list) ≡ false → has_float (view one) ≡ false
@@ -187,11 +212,13 @@ pushed (first ∷ others) one rest clean =
     or_from (has_float (view first)) (items_have_float (items_view (others ++ one ∷ []))) list.0 (pushed others one list.1 clean)
 
 -- the object's text and a line feed
-pub is_search_object : (found : ExploredValue) (marks : List (Option Bool)) (lines : List ℕ) (races : Items) (all : Data) (written text : List ℕ)
-    → items_have_float races ≡ false → all ≡ search_object found marks lines races
-    → (has_float all ≡ false → written ≡ compact_text all) → text ≡ written ++ 10 ∷ [] → IsSearchObject found marks lines text
-is_search_object found marks lines races all written text clean is says whole =
-    let none : has_float all ≡ false = ap has_float is ∙ no_float-search found marks lines races clean in
+pub is_search_object : (found : ExploredValue) (marks : List (Option Bool)) (lines : List ℕ) (told : Safety) (races : Items) (before : Members) (all : Data)
+    (written text : List ℕ) → items_have_float races ≡ false → before ≡ found_members found marks lines races
+    → all ≡ json.object (with_members (safety_members told) before) → (has_float all ≡ false → written ≡ compact_text all) → text ≡ written ++ 10 ∷ []
+    → IsSearchObject found marks lines told text
+is_search_object found marks lines told races before all written text clean first last says whole =
+    let is : all ≡ search_object found marks lines races told = last ∙ ap (λ held. json.object (with_members (safety_members told) held)) first in
+    let none : has_float all ≡ false = ap has_float is ∙ no_float-search found marks lines races told clean in
     record {
       races = races;
       no_fractions = clean;

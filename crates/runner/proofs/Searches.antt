@@ -1,5 +1,5 @@
 -- How what is said of a search is an answer.
-use Rattle.std.proofs.Common.{◌≡◌, ◌≤◌, ◌⊎◌, ℕ, true, false, List, [], subst, sym, ◌∙◌}
+use Rattle.std.proofs.Common.{◌≡◌, ◌≤◌, ◌⊎◌, ℕ, true, false, List, [], refl, subst, sym, ◌∙◌}
 use Rattle.std.specs.Prelude.{IsTrue}
 use Rattle.command_line.specs.declared.exploring.ExploreForm.TheVariants as form
 use Rattle.command_line.specs.declared.exploring.ExploreJob.{ExploreJob}
@@ -19,7 +19,14 @@ use Rattle.run_events.specs.Masking.{EndsAmong, IsMasked}
 use Rattle.runner.specs.Crashes.{AreMasked}
 use Rattle.runner.specs.Events.{PlaysOutcome}
 use Rattle.runner.specs.OutcomesText.{IsMarkedObject, IsMarkedSummary, IsMarkedText}
-use Rattle.runner.specs.Searches.{HasSearchStatus, IsExploreAnswer, IsFoundBy, IsPrinted, IsSearchAnswer, IsSearchedOf}
+use Rattle.rank_text.specs.Checker.Faults.{IsFaultOf}
+use Rattle.rank_text.specs.declared.checker.fault.ProgramFault.{ProgramFault}
+use Rattle.runner.specs.Safety.{IsVerdict, needs_second}
+use Rattle.runner.specs.Searches.{HasSearchStatus, IsExploreAnswer, IsFoundBy, IsPrinted, IsSafetyOf, IsSearchAnswer, IsSearchedOf, IsSecond}
+use Rattle.runner.specs.declared.explored.safety.Safety.{Safety}
+use Rattle.runner.specs.declared.explored.safety.Safety.TheVariants as safety
+use Rattle.runner.specs.declared.explored.safety.Unknown.TheVariants as unknown
+use Rattle.synchronous.specs.Synchronous.{HasComputedTag, IsPastLimits, IsSynchronousOf}
 
 -- what a search found within limits that are the job's, where crashes add no outcome to those of a complete one
 pub is_found_by : (program : ProgramValue) (job : ExploreJob) (found : ExploredValue) (runs steps : ℕ) → runs ≡ job.runs → steps ≡ job.steps
@@ -52,9 +59,9 @@ is_found_by program job found runs steps these those law possible complete left 
     masks all o final = law program job.ranks found.outcomes o (ends all) final
 
 -- the text of what was found is printed where it is asked for
-pub text_printed : (lines : List ℕ) (program : ProgramValue) (job : ExploreJob) (found : ExploredValue) (out : List ℕ)
-    → job.form ≡ form.Text → IsMarkedText job.synchronous lines program job.ranks found job.runs out → IsPrinted lines program job found out
-text_printed lines program job found out is text =
+pub text_printed : (lines : List ℕ) (program : ProgramValue) (job : ExploreJob) (found : ExploredValue) (told : Safety) (out : List ℕ)
+    → job.form ≡ form.Text → IsMarkedText job.synchronous lines program job.ranks found told job.runs out → IsPrinted lines program job found told out
+text_printed lines program job found told out is text =
     record {
       text = λ _. text;
       summary = λ other. (let e : form.Text ≡ form.Summary = sym is ∙ other in absurd cc);
@@ -63,9 +70,9 @@ text_printed lines program job found out is text =
     }
 
 -- so is the short one
-pub summary_printed : (lines : List ℕ) (program : ProgramValue) (job : ExploreJob) (found : ExploredValue) (out : List ℕ)
-    → job.form ≡ form.Summary → IsMarkedSummary job.synchronous program job.ranks found job.runs out → IsPrinted lines program job found out
-summary_printed lines program job found out is text =
+pub summary_printed : (lines : List ℕ) (program : ProgramValue) (job : ExploreJob) (found : ExploredValue) (told : Safety) (out : List ℕ)
+    → job.form ≡ form.Summary → IsMarkedSummary job.synchronous program job.ranks found told job.runs out → IsPrinted lines program job found told out
+summary_printed lines program job found told out is text =
     record {
       text = λ other. (let e : form.Summary ≡ form.Text = sym is ∙ other in absurd cc);
       summary = λ _. text;
@@ -74,9 +81,9 @@ summary_printed lines program job found out is text =
     }
 
 -- so is the object of JSON
-pub json_printed : (lines : List ℕ) (program : ProgramValue) (job : ExploreJob) (found : ExploredValue) (out : List ℕ)
-    → job.form ≡ form.Json → IsMarkedObject lines program job.ranks found out → IsPrinted lines program job found out
-json_printed lines program job found out is text =
+pub json_printed : (lines : List ℕ) (program : ProgramValue) (job : ExploreJob) (found : ExploredValue) (told : Safety) (out : List ℕ)
+    → job.form ≡ form.Json → IsMarkedObject lines program job.ranks found told out → IsPrinted lines program job found told out
+json_printed lines program job found told out is text =
     record {
       text = λ other. (let e : form.Json ≡ form.Text = sym is ∙ other in absurd cc);
       summary = λ other. (let e : form.Json ≡ form.Summary = sym is ∙ other in absurd cc);
@@ -85,9 +92,9 @@ json_printed lines program job found out is text =
     }
 
 -- the events of the outcome that is named are printed
-pub events_printed : (lines : List ℕ) (program : ProgramValue) (job : ExploreJob) (found : ExploredValue) (out : List ℕ) (number : ℕ)
-    → job.form ≡ form.Events number → PlaysOutcome program job.ranks found.outcomes number out → IsPrinted lines program job found out
-events_printed lines program job found out number is played = record {
+pub events_printed : (lines : List ℕ) (program : ProgramValue) (job : ExploreJob) (found : ExploredValue) (told : Safety) (out : List ℕ) (number : ℕ)
+    → job.form ≡ form.Events number → PlaysOutcome program job.ranks found.outcomes number out → IsPrinted lines program job found told out
+events_printed lines program job found told out number is played = record {
   text = λ other. (let e : form.Events number ≡ form.Text = sym is ∙ other in absurd cc);
   summary = λ other. (let e : form.Events number ≡ form.Summary = sym is ∙ other in absurd cc);
   json = λ other. (let e : form.Events number ≡ form.Json = sym is ∙ other in absurd cc);
@@ -96,14 +103,57 @@ events_printed lines program job found out number is played = record {
       subst (λ (n : ℕ). PlaysOutcome program job.ranks found.outcomes n out) same played;
 }
 
--- what was found, printed with its status, is an answer
-pub is_search_answer : (lines : List ℕ) (program : ProgramValue) (job : ExploreJob) (found : ExploredValue) (out : List ℕ) (status : ℕ)
-    → IsFoundBy program job found → IsPrinted lines program job found out → HasSearchStatus found status → IsSearchAnswer lines program job out status
-is_search_answer lines program job found out status searched printed ended =
-    record { found = found; searched = searched; printed = printed; ended = ended }
+-- what was found, printed with whether the program is safe and its status, is an answer
+pub is_search_answer : (text lines : List ℕ) (program : ProgramValue) (job : ExploreJob) (found : ExploredValue) (told : Safety) (out : List ℕ) (status : ℕ)
+    → IsFoundBy program job found → IsSafetyOf text lines program job found told → IsPrinted lines program job found told out
+    → HasSearchStatus found status → IsSearchAnswer text lines program job out status
+is_search_answer text lines program job found told out status searched safety printed ended =
+    record { found = found; searched = searched; told = told; safety = safety; printed = printed; ended = ended }
 
 -- an answer of what is searched of a text that the file holds
 pub is_explore_answer : (holds : List ℕ → Type 0) (job : ExploreJob) (text lines : List ℕ) (program : ProgramValue) (out : List ℕ) (status : ℕ)
-    → holds text → IsSearchedOf job.synchronous text program lines → IsSearchAnswer lines program job out status → IsExploreAnswer holds job out status
+    → holds text → IsSearchedOf job.synchronous text program lines → IsSearchAnswer text lines program job out status → IsExploreAnswer holds job out status
 is_explore_answer holds job text lines program out status held searched answer =
     record { text = text; held = held; program = program; lines = lines; searched = searched; answer = answer }
+
+-- a search of synchronous runs says itself whether the program is safe
+pub is_itself : (text lines : List ℕ) (program : ProgramValue) (job : ExploreJob) (found : ExploredValue) (told : Safety) → job.synchronous ≡ true
+    → IsVerdict lines program job.ranks found told → IsSafetyOf text lines program job found told
+is_itself text lines program job found told is verdict = record {
+  itself = λ _. verdict;
+  untold = λ other. (let e : true ≡ false = sym is ∙ other in absurd cc);
+  second = λ other. (let e : true ≡ false = sym is ∙ other in absurd cc);
+}
+
+-- no second search is needed
+pub is_untold : (text lines : List ℕ) (program : ProgramValue) (job : ExploreJob) (found : ExploredValue) → job.synchronous ≡ false
+    → needs_second job program found ≡ false → IsSafetyOf text lines program job found safety.Untold
+is_untold text lines program job found is none = record {
+  itself = λ other. (let e : false ≡ true = sym is ∙ other in absurd cc);
+  untold = λ _ _. refl;
+  second = λ _ other. (let e : false ≡ true = sym none ∙ other in absurd cc);
+}
+
+-- a second one was made
+pub is_second : (text lines : List ℕ) (program : ProgramValue) (job : ExploreJob) (found : ExploredValue) (told : Safety) → job.synchronous ≡ false
+    → needs_second job program found ≡ true → IsSecond text job told → IsSafetyOf text lines program job found told
+is_second text lines program job found told is needed second = record {
+  itself = λ other. (let e : false ≡ true = sym is ∙ other in absurd cc);
+  untold = λ _ other. (let e : true ≡ false = sym needed ∙ other in absurd cc);
+  second = λ _ _. second;
+}
+
+-- what is said if there is no acknowledged program
+pub of_computed : (text : List ℕ) (job : ExploreJob) → HasComputedTag text → IsSecond text job (safety.Unknown unknown.ComputedTag)
+of_computed text job why = IsSecond.computed why
+
+pub of_limits : (text : List ℕ) (job : ExploreJob) → IsPastLimits text → IsSecond text job (safety.Unknown unknown.PastLimits)
+of_limits text job why = IsSecond.past why
+
+pub of_fault : (text : List ℕ) (job : ExploreJob) (fault : ProgramFault) → IsFaultOf text fault.line fault.kind → IsSecond text job safety.Untold
+of_fault text job fault is = IsSecond.faulty is
+
+-- and what is said of a search of it
+pub of_second : (text lines : List ℕ) (program : ProgramValue) (job : ExploreJob) (found : ExploredValue) (told : Safety) → IsSynchronousOf text program lines
+    → IsFoundBy program job found → IsVerdict lines program job.ranks found told → IsSecond text job told
+of_second text lines program job found told acknowledged searched verdict = IsSecond.searched program lines found acknowledged searched verdict

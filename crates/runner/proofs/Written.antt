@@ -12,8 +12,10 @@ use Rattle.runner.specs.LeftText.{shorts_text}
 use Rattle.runner.specs.Meanings.{meaning_text}
 use Rattle.runner.specs.OutcomesText.{AreWritten, GoesOnAt, IsExploredText, IsMarkedObject, IsMarkedSummary, IsMarkedText, IsSafe, IsSafeText, IsSummary, one_text}
 use Rattle.runner.specs.Partings.{ArePartings}
+use Rattle.runner.specs.Safety.{safety_behind}
 use Rattle.runner.specs.SearchObject.{IsSearchObject}
 use Rattle.runner.specs.declared.explored.parting.Parted.{Parted}
+use Rattle.runner.specs.declared.explored.safety.Safety.{Safety}
 use Rattle.run_events.specs.Halting.{AllHalt}
 
 -- in an empty text none is written
@@ -66,25 +68,28 @@ is_summary synchronous found marks cycle runs races shorts between text listed s
   whole = whole ∙ ap (λ z. z ++ meaning_text found marks cycle runs) (safe.2 ∙ ap (λ z. z ++ safe.0) listed);
 }
 
--- the outcomes, with their own marks
-pub is_marked : (synchronous : Bool) (lines : List ℕ) (program : ProgramValue) (ranks : ℕ) (found : ExploredValue) (marks : List (Option Bool))
-    (cycle : List ℕ) (runs : ℕ) (text : List ℕ) → AreMarked program ranks found.outcomes found.choices marks → GoesOnAt program ranks cycle
-    → IsExploredText synchronous found marks cycle runs lines text → IsMarkedText synchronous lines program ranks found runs text
-is_marked synchronous lines program ranks found marks cycle runs text marked goes_on printed =
-    record { marks = marks; marked = marked; cycle = cycle; goes_on = goes_on; printed = printed }
+-- the outcomes, with their own marks, and behind them whether the program is safe
+pub is_marked : (synchronous : Bool) (lines : List ℕ) (program : ProgramValue) (ranks : ℕ) (found : ExploredValue) (told : Safety)
+    (marks : List (Option Bool)) (cycle : List ℕ) (runs : ℕ) (before text : List ℕ) → AreMarked program ranks found.outcomes found.choices marks
+    → GoesOnAt program ranks cycle → IsExploredText synchronous found marks cycle runs lines before → text ≡ before ++ safety_behind synchronous told
+    → IsMarkedText synchronous lines program ranks found told runs text
+is_marked synchronous lines program ranks found told marks cycle runs before text marked goes_on printed whole =
+    record { marks = marks; marked = marked; cycle = cycle; goes_on = goes_on; before = before; printed = printed; whole = whole }
 
 -- so they are as an object
-pub is_marked_object : (lines : List ℕ) (program : ProgramValue) (ranks : ℕ) (found : ExploredValue) (marks : List (Option Bool))
-    (text : List ℕ) → AreMarked program ranks found.outcomes found.choices marks
-    → IsSearchObject found marks lines text → IsMarkedObject lines program ranks found text
-is_marked_object lines program ranks found marks text marked written =
+pub is_marked_object : (lines : List ℕ) (program : ProgramValue) (ranks : ℕ) (found : ExploredValue) (told : Safety)
+    (marks : List (Option Bool)) (text : List ℕ) → AreMarked program ranks found.outcomes found.choices marks
+    → IsSearchObject found marks lines told text → IsMarkedObject lines program ranks found told text
+is_marked_object lines program ranks found told marks text marked written =
     record { marks = marks; marked = marked; written = written }
 
 -- in short too
-pub is_marked_summary : (synchronous : Bool) (program : ProgramValue) (ranks : ℕ) (found : ExploredValue) (marks : List (Option Bool)) (cycle : List ℕ)
-    (runs : ℕ) (text : List ℕ) → AreMarked program ranks found.outcomes found.choices marks → GoesOnAt program ranks cycle → IsSummary synchronous found marks cycle runs text → IsMarkedSummary synchronous program ranks found runs text
-is_marked_summary synchronous program ranks found marks cycle runs text marked goes_on printed =
-    record { marks = marks; marked = marked; cycle = cycle; goes_on = goes_on; printed = printed }
+pub is_marked_summary : (synchronous : Bool) (program : ProgramValue) (ranks : ℕ) (found : ExploredValue) (told : Safety) (marks : List (Option Bool))
+    (cycle : List ℕ) (runs : ℕ) (before text : List ℕ) → AreMarked program ranks found.outcomes found.choices marks → GoesOnAt program ranks cycle
+    → IsSummary synchronous found marks cycle runs before → text ≡ before ++ safety_behind synchronous told
+    → IsMarkedSummary synchronous program ranks found told runs text
+is_marked_summary synchronous program ranks found told marks cycle runs before text marked goes_on printed whole =
+    record { marks = marks; marked = marked; cycle = cycle; goes_on = goes_on; before = before; printed = printed; whole = whole }
 
 -- as many outcomes as are seen were found
 pub as_many : (xs : List OutcomeValue) → length (rank_outcomes xs) ≡ length xs

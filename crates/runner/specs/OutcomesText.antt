@@ -12,9 +12,11 @@ use Rattle.rank_language.specs.Program.{ProgramValue}
 use Rattle.runner.specs.LeftText.{listed_text, shorts_text}
 use Rattle.runner.specs.Meanings.{meaning_text}
 use Rattle.runner.specs.Partings.{ArePartings, choices_text}
+use Rattle.runner.specs.Safety.{safety_behind}
 use Rattle.runner.specs.SearchObject.{IsSearchObject}
 use Rattle.runner.specs.ReportText.{end_text}
 use Rattle.runner.specs.declared.explored.parting.Parted.{Parted}
+use Rattle.runner.specs.declared.explored.safety.Safety.{Safety}
 use Rattle.run_events.specs.Halting.{AllHalt}
 
 -- the values that a rank printed, a line each
@@ -87,25 +89,31 @@ abbrev pub GoesOnAt : ProgramValue → ℕ → List ℕ → Type 0
 GoesOnAt program ranks cycle = cycle ≢ [] → MayGoOnForEver program ranks
 
 -- The outcomes of the program on so many ranks, whose statements stand on these lines, are printed
--- with marks of their own.
-pub record IsMarkedText (synchronous : Bool) (lines : List ℕ) (program : ProgramValue) (ranks : ℕ) (found : ExploredValue) (runs : ℕ) (text : List ℕ) : Type 0 where
+-- with marks of their own, and behind them whether it is safe.
+pub record IsMarkedText (synchronous : Bool) (lines : List ℕ) (program : ProgramValue) (ranks : ℕ) (found : ExploredValue) (told : Safety) (runs : ℕ)
+    (text : List ℕ) : Type 0 where
   pub marks : List (Option Bool)
   pub marked : AreMarked program ranks found.outcomes found.choices marks
   pub cycle : List ℕ
   pub goes_on : GoesOnAt program ranks cycle
-  pub printed : IsExploredText synchronous found marks cycle runs lines text
+  pub before : List ℕ
+  pub printed : IsExploredText synchronous found marks cycle runs lines before
+  pub whole : text ≡ before ++ safety_behind synchronous told
 
 -- so they are in short
-pub record IsMarkedSummary (synchronous : Bool) (program : ProgramValue) (ranks : ℕ) (found : ExploredValue) (runs : ℕ) (text : List ℕ) : Type 0 where
+pub record IsMarkedSummary (synchronous : Bool) (program : ProgramValue) (ranks : ℕ) (found : ExploredValue) (told : Safety) (runs : ℕ)
+    (text : List ℕ) : Type 0 where
   pub marks : List (Option Bool)
   pub marked : AreMarked program ranks found.outcomes found.choices marks
   pub cycle : List ℕ
   pub goes_on : GoesOnAt program ranks cycle
-  pub printed : IsSummary synchronous found marks cycle runs text
+  pub before : List ℕ
+  pub printed : IsSummary synchronous found marks cycle runs before
+  pub whole : text ≡ before ++ safety_behind synchronous told
 
 -- The outcomes of the program on so many ranks, whose statements stand on these lines, are an object
 -- of JSON, with marks of their own. Nothing is said of the races.
-pub record IsMarkedObject (lines : List ℕ) (program : ProgramValue) (ranks : ℕ) (found : ExploredValue) (text : List ℕ) : Type 0 where
+pub record IsMarkedObject (lines : List ℕ) (program : ProgramValue) (ranks : ℕ) (found : ExploredValue) (told : Safety) (text : List ℕ) : Type 0 where
   pub marks : List (Option Bool)
   pub marked : AreMarked program ranks found.outcomes found.choices marks
-  pub written : IsSearchObject found marks lines text
+  pub written : IsSearchObject found marks lines told text

@@ -14,6 +14,8 @@ use Rattle.explore.specs.Explored.{ExploredValue}
 use Rattle.audit.specs.FinalRuns.Maximal.{RankOutcome}
 use Rattle.rank_machine.specs.Faults.{fault_name, fault_number}
 use Rattle.run_shown.specs.Trace.Words.{name_text}
+use Rattle.runner.specs.declared.explored.safety.Safety.{Safety}
+use Rattle.runner.specs.declared.explored.safety.Safety.TheVariants as safety
 use Rattle.serde_json.specs.Data.{Data, Items, Members, put}
 use Rattle.serde_json.specs.Data as json
 use Rattle.serde_json.specs.Find.{of_integer}
@@ -146,15 +148,47 @@ count_members found =
     (codes "complete", json.boolean found.complete) ∷ (codes "out_of_steps", json.boolean found.out_of_steps)
     ∷ (codes "runs", count found.runs) ∷ (codes "states", count found.states) ∷ (codes "all_states_kept", json.boolean found.kept_all) ∷ []
 
--- all that a search found, with these marks and these races
-abbrev pub search_object : ExploredValue → List (Option Bool) → List ℕ → Items → Data
-search_object found marks lines races =
-    object_of ((codes "outcomes", array_of (outcome_objects lines marks 0 found.outcomes found.choices found.left))
-    ∷ (codes "races", json.array races) ∷ count_members found)
+-- the members on what a search found, with these marks and these races
+abbrev pub found_members : ExploredValue → List (Option Bool) → List ℕ → Items → Members
+found_members found marks lines races =
+    with_members ((codes "outcomes", array_of (outcome_objects lines marks 0 found.outcomes found.choices found.left))
+    ∷ (codes "races", json.array races) ∷ count_members found) json.no_members
+
+-- whether it is safe, if it is known
+abbrev pub is_safe_if_known : Safety → Option Bool
+is_safe_if_known safety.Untold = None
+is_safe_if_known safety.Safe = Some true
+is_safe_if_known (safety.NotSafe waits) = Some false
+is_safe_if_known (safety.Unknown why) = None
+
+-- a rank that waits, and its line
+abbrev pub wait_object : ℕ → ℕ → Data
+wait_object rank line = object_of ((codes "rank", count rank) ∷ (codes "line", count line) ∷ [])
+
+-- so of each of these, which wait at these lines
+abbrev pub wait_objects : List ℕ → List ℕ → List Data
+wait_objects [] lines = []
+wait_objects (rank ∷ ranks) [] = []
+wait_objects (rank ∷ ranks) (line ∷ lines) = wait_object rank line ∷ wait_objects ranks lines
+
+-- those that wait, if it isn't safe
+abbrev pub waits_objects : Safety → List Data
+waits_objects safety.Untold = []
+waits_objects safety.Safe = []
+waits_objects (safety.NotSafe waits) = wait_objects waits.ranks.items waits.lines.items
+waits_objects (safety.Unknown why) = []
+
+-- both members
+abbrev pub safety_members : Safety → List (List ℕ × Data)
+safety_members told = (codes "safe", mark_value (is_safe_if_known told)) ∷ (codes "waits", array_of (waits_objects told)) ∷ []
+
+-- all that a search found, with these marks and these races, and whether the program is safe
+abbrev pub search_object : ExploredValue → List (Option Bool) → List ℕ → Items → Safety → Data
+search_object found marks lines races told = json.object (with_members (safety_members told) (found_members found marks lines races))
 
 -- The text is this object on a line of its own. Of the races it only says that they are an array in
 -- which no number has a fraction or an exponent.
-pub record IsSearchObject (found : ExploredValue) (marks : List (Option Bool)) (lines text : List ℕ) : Type 0 where
+pub record IsSearchObject (found : ExploredValue) (marks : List (Option Bool)) (lines : List ℕ) (told : Safety) (text : List ℕ) : Type 0 where
   pub races : Items
   pub no_fractions : items_have_float races ≡ false
-  pub whole : text ≡ compact_text (search_object found marks lines races) ++ codes "\n"
+  pub whole : text ≡ compact_text (search_object found marks lines races told) ++ codes "\n"

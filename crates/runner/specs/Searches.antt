@@ -16,7 +16,13 @@ use Rattle.runner.specs.Events.{PlaysOutcome}
 use Rattle.run_events.specs.Halting.{AllHalt}
 use Rattle.runner.specs.OutcomesText.{IsMarkedObject, IsMarkedSummary, IsMarkedText}
 use Rattle.rank_language.specs.StandOn.{IsLinedOf}
-use Rattle.synchronous.specs.Synchronous.{IsSynchronousOf}
+use Rattle.rank_text.specs.Checker.Faults.{IsFaultOf}
+use Rattle.rank_text.specs.declared.checker.fault.FaultKind.{FaultKind}
+use Rattle.runner.specs.Safety.{IsVerdict, needs_second}
+use Rattle.runner.specs.declared.explored.safety.Safety.{Safety}
+use Rattle.runner.specs.declared.explored.safety.Safety.TheVariants as safety
+use Rattle.runner.specs.declared.explored.safety.Unknown.TheVariants as unknown
+use Rattle.synchronous.specs.Synchronous.{HasComputedTag, IsPastLimits, IsSynchronousOf}
 
 -- What a search found: the program may have each outcome, and what is listed of it was never received
 -- in some run that has it; if the search is complete, in no such run something else was left. If the search is complete, it has no
@@ -44,21 +50,39 @@ pub record HasSearchStatus (found : ExploredValue) (status : ℕ) : Type 0 where
   pub halts : (status ≡ 0) ↔ ((found.complete ≡ true) × AllHalt found.outcomes)
   pub else_one : status ≤ 1
 
+-- What is said after a second search, of the text's program with acknowledgements, within the limits
+-- of the job: why there is no such program, or the verdict of what was found of it.
+pub data IsSecond (text : List ℕ) (job : ExploreJob) : Safety → Type 0 where
+  computed : HasComputedTag text → IsSecond text job (safety.Unknown unknown.ComputedTag)
+  past : IsPastLimits text → IsSecond text job (safety.Unknown unknown.PastLimits)
+  faulty : {line : ℕ} {kind : FaultKind} → IsFaultOf text line kind → IsSecond text job safety.Untold
+  searched : {told : Safety} (program : ProgramValue) (lines : List ℕ) (found : ExploredValue) → IsSynchronousOf text program lines
+      → IsFoundBy program job found → IsVerdict lines program job.ranks found told → IsSecond text job told
+
+-- Whether the program is safe in whose text this was found. If that was found of its program with
+-- acknowledgements, this has the verdict; if not, a second search may be needed.
+pub record IsSafetyOf (text lines : List ℕ) (program : ProgramValue) (job : ExploreJob) (found : ExploredValue) (told : Safety) : Type 0 where
+  pub itself : job.synchronous ≡ true → IsVerdict lines program job.ranks found told
+  pub untold : job.synchronous ≡ false → needs_second job program found ≡ false → told ≡ safety.Untold
+  pub second : job.synchronous ≡ false → needs_second job program found ≡ true → IsSecond text job told
+
 -- Standard output has the text of what was found, or the short one, or the object of JSON, or a run
 -- of the outcome that the job names, as events, of the program whose statements stand on these
 -- lines. Of JSON nothing is said of the races.
-pub record IsPrinted (lines : List ℕ) (program : ProgramValue) (job : ExploreJob) (found : ExploredValue) (out : List ℕ) : Type 0 where
-  pub text : job.form ≡ form.Text → IsMarkedText job.synchronous lines program job.ranks found job.runs out
-  pub summary : job.form ≡ form.Summary → IsMarkedSummary job.synchronous program job.ranks found job.runs out
-  pub json : job.form ≡ form.Json → IsMarkedObject lines program job.ranks found out
+pub record IsPrinted (lines : List ℕ) (program : ProgramValue) (job : ExploreJob) (found : ExploredValue) (told : Safety) (out : List ℕ) : Type 0 where
+  pub text : job.form ≡ form.Text → IsMarkedText job.synchronous lines program job.ranks found told job.runs out
+  pub summary : job.form ≡ form.Summary → IsMarkedSummary job.synchronous program job.ranks found told job.runs out
+  pub json : job.form ≡ form.Json → IsMarkedObject lines program job.ranks found told out
   pub events : (number : ℕ) → job.form ≡ form.Events number → PlaysOutcome program job.ranks found.outcomes number out
 
--- What was found by a search of the program whose statements stand on these lines is printed, with
--- its status.
-pub record IsSearchAnswer (lines : List ℕ) (program : ProgramValue) (job : ExploreJob) (out : List ℕ) (status : ℕ) : Type 0 where
+-- What was found by a search of the program of a text, whose statements stand on these lines, is
+-- printed, with whether it is safe, and its status.
+pub record IsSearchAnswer (text lines : List ℕ) (program : ProgramValue) (job : ExploreJob) (out : List ℕ) (status : ℕ) : Type 0 where
   pub found : ExploredValue
   pub searched : IsFoundBy program job found
-  pub printed : IsPrinted lines program job found out
+  pub told : Safety
+  pub safety : IsSafetyOf text lines program job found told
+  pub printed : IsPrinted lines program job found told out
   pub ended : HasSearchStatus found status
 
 -- What is searched of a text is its program, whose statements stand on these lines; if sends are
@@ -74,4 +98,4 @@ pub record IsExploreAnswer (holds : List ℕ → Type 0) (job : ExploreJob) (out
   pub program : ProgramValue
   pub lines : List ℕ
   pub searched : IsSearchedOf job.synchronous text program lines
-  pub answer : IsSearchAnswer lines program job out status
+  pub answer : IsSearchAnswer text lines program job out status

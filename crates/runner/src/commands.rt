@@ -29,6 +29,7 @@ mod judging;
 mod reading;
 mod refusal;
 mod run;
+mod safety;
 mod said;
 mod scheduling;
 mod soaking;

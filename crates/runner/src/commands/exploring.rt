@@ -8,8 +8,11 @@ ghost use Rattle.runner.specs.Searches.{HasSearchStatus, IsExploreAnswer, IsFoun
 
 use crate::commands::reading::text_in;
 use crate::commands::refusal::Refusal;
+use crate::commands::safety::safety_of;
 use crate::commands::said::Said;
-use crate::explored::{all_halt, explored_json, print_explored, print_summary};
+use crate::explored::{
+    Safety, all_halt, explored_json, print_explored, print_safety, print_summary,
+};
 use crate::files::Files;
 use command_line::{ExploreForm, ExploreJob};
 use explore::{Explored, Limits, Outcome, Watch, came_back, explore, marks_of, run_of};
@@ -33,11 +36,12 @@ pub fn explored_by<'a, F: Files, W: Watch>(
     ensures refused { IfErr result (UnlessMemory (IsSearchRefusal (F.holds files.old) job.entry)) }
 {
     let text = text_in(job.program, files)?;
-    let searched = match searched_of(alloc, job.synchronous, text.as_slice()) {
+    let source = text.as_slice();
+    let searched = match searched_of(alloc, job.synchronous, source) {
         Ok(searched) => searched,
         Err(fault) => return Err(Refusal::from(fault)),
     };
-    match found_of(alloc, job, &searched, watch) {
+    match found_of(alloc, job, source, &searched, watch) {
         Ok(said) => Ok(said),
         Err(refusal) => Err(refusal),
     }
@@ -71,20 +75,30 @@ fn searched_of(
 fn found_of<'a, W: Watch>(
     alloc: Heap,
     job: ExploreJob<'a>,
+    text: &[u8],
     searched: &LinedProgram,
     watch: &mut W,
 ) -> Result<Said, Refusal<'a>>
-    ensures answer { IfOk result (λ said. IsSearchAnswer searched.now.lines.items searched.now.program job.entry said.out.items said.status) }
+    ensures answer { IfOk result (λ said. IsSearchAnswer text.now searched.now.lines.items searched.now.program job.entry said.out.items said.status) }
     ensures refused { IfErr result (UnlessMemory (HasNoOutcomeOf job.entry)) }
 {
     let program = &searched.program;
     let found = search(alloc, job, program, watch)?;
-    let answer = answer_of(alloc, job, searched.lines.as_slice(), program, &found)?;
+    let safety = safety_of(alloc, job, text, searched, &found, watch)?;
+    let answer = answer_of(
+        alloc,
+        job,
+        searched.lines.as_slice(),
+        program,
+        &found,
+        &safety,
+    )?;
     Ok(Said::answer(alloc, status_of(&found), answer.into_bytes()))
 }
 
+/// What a search of the program finds, within the limits of the job.
 #[tactic(auto, using(crate::proofs::Searches::is_found_by))]
-fn search<W: Watch>(
+pub fn search<W: Watch>(
     alloc: Heap,
     job: ExploreJob<'_>,
     program: &Program,
@@ -113,8 +127,9 @@ fn answer_of<'a>(
     lines: &[usize],
     program: &Program,
     found: &Explored,
+    safety: &Safety,
 ) -> Result<String<Heap>, Refusal<'a>>
-    ensures answer { IfOk result (λ answer. IsPrinted lines.now program.now job.entry found.now (string_bytes answer)) }
+    ensures answer { IfOk result (λ answer. IsPrinted lines.now program.now job.entry found.now safety.now (string_bytes answer)) }
     ensures refused { IfErr result (UnlessMemory (HasNoOutcomeOf job.entry)) }
 {
     match job.form {
@@ -122,9 +137,9 @@ fn answer_of<'a>(
             Ok(text) => Ok(text),
             Err(refusal) => Err(refusal),
         },
-        ExploreForm::Text => Ok(found_text(alloc, job, lines, program, found)?),
-        ExploreForm::Summary => Ok(summary_text(alloc, job, lines, program, found)?),
-        ExploreForm::Json => Ok(json_text(alloc, job, lines, program, found)?),
+        ExploreForm::Text => Ok(found_text(alloc, job, lines, program, found, safety)?),
+        ExploreForm::Summary => Ok(summary_text(alloc, job, lines, program, found, safety)?),
+        ExploreForm::Json => Ok(json_text(alloc, job, lines, program, found, safety)?),
     }
 }
 
@@ -134,12 +149,13 @@ fn found_text(
     lines: &[usize],
     program: &Program,
     found: &Explored,
+    safety: &Safety,
 ) -> Result<String<Heap>, AllocError>
-    ensures { IfOk result (λ answer. IsMarkedText job.entry.synchronous lines.now program.now job.entry.ranks found.now job.entry.runs (string_bytes answer)) }
+    ensures { IfOk result (λ answer. IsMarkedText job.entry.synchronous lines.now program.now job.entry.ranks found.now safety.now job.entry.runs (string_bytes answer)) }
 {
     let marks = marks_in(alloc, job, program, found)?;
     let cycle = cycle_in(alloc, job, program, found, lines)?;
-    print_explored(
+    let mut text = print_explored(
         alloc,
         found,
         marks.as_slice(),
@@ -147,7 +163,9 @@ fn found_text(
         limits_of(job),
         lines,
         job.synchronous,
-    )
+    )?;
+    print_safety(&mut text, safety, job.synchronous)?;
+    Ok(text)
 }
 
 #[tactic(auto, using(crate::proofs::Written::is_marked_summary))]
@@ -157,12 +175,13 @@ fn summary_text(
     lines: &[usize],
     program: &Program,
     found: &Explored,
+    safety: &Safety,
 ) -> Result<String<Heap>, AllocError>
-    ensures { IfOk result (λ answer. IsMarkedSummary job.entry.synchronous program.now job.entry.ranks found.now job.entry.runs (string_bytes answer)) }
+    ensures { IfOk result (λ answer. IsMarkedSummary job.entry.synchronous program.now job.entry.ranks found.now safety.now job.entry.runs (string_bytes answer)) }
 {
     let marks = marks_in(alloc, job, program, found)?;
     let cycle = cycle_in(alloc, job, program, found, lines)?;
-    print_summary(
+    let mut text = print_summary(
         alloc,
         found,
         marks.as_slice(),
@@ -170,7 +189,9 @@ fn summary_text(
         limits_of(job),
         lines,
         job.synchronous,
-    )
+    )?;
+    print_safety(&mut text, safety, job.synchronous)?;
+    Ok(text)
 }
 
 fn json_text(
@@ -179,11 +200,12 @@ fn json_text(
     lines: &[usize],
     program: &Program,
     found: &Explored,
+    safety: &Safety,
 ) -> Result<String<Heap>, AllocError>
-    ensures { IfOk result (λ answer. IsMarkedObject lines.now program.now job.entry.ranks found.now (string_bytes answer)) }
+    ensures { IfOk result (λ answer. IsMarkedObject lines.now program.now job.entry.ranks found.now safety.now (string_bytes answer)) }
 {
     let marks = marks_in(alloc, job, program, found)?;
-    explored_json(alloc, found, marks.as_slice(), lines)
+    explored_json(alloc, found, marks.as_slice(), lines, safety)
 }
 
 // The lines at which ranks went on until a state came back, if all wasn't searched and one did.
@@ -279,7 +301,8 @@ fn outcome_at(found: &Explored, number: u32) -> Option<&Outcome>
     found.outcomes.get(index)
 }
 
-fn limits_of(job: ExploreJob<'_>) -> Limits
+/// How far a search may go that the job asks for.
+pub fn limits_of(job: ExploreJob<'_>) -> Limits
     ensures runs { result.runs ≡ job.entry.runs }
     ensures steps { result.steps ≡ job.entry.steps }
 {

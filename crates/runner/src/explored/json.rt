@@ -8,7 +8,9 @@ ghost use Rattle.runner.specs.SearchObject.{IsSearchObject, choice_members, choi
 ghost use Rattle.runner.specs.SearchObject.{mark_at, mark_value, outcome_object, outcome_objects, place_members};
 ghost use Rattle.runner.specs.SearchObject.{known_members, left_array, left_members, left_object, ordinal_members, says_none};
 ghost use Rattle.runner.specs.SearchObject.{rank_object, rank_objects, value, with_members};
+ghost use Rattle.runner.specs.SearchObject.{is_safe_if_known, safety_members, wait_object, wait_objects, waits_objects};
 
+use crate::explored::safety::Safety;
 use audit::End;
 use crash_free::{Choice, Leftover, Mark};
 use explore::{Explored, Leftovers, Noted, Outcome, Race, RankEnd};
@@ -26,8 +28,9 @@ pub fn explored_json(
     found: &Explored,
     marks: &[Option<bool>],
     lines: &[usize],
+    safety: &Safety,
 ) -> Result<String<Heap>, AllocError>
-    ensures { IfOk result (λ text. IsSearchObject found.now marks.now lines.now (string_bytes text)) }
+    ensures { IfOk result (λ text. IsSearchObject found.now marks.now lines.now safety.now (string_bytes text)) }
 {
     let mut all = Map::new(alloc);
     let outcomes = outcomes_of(alloc, found.outcomes.as_slice(), marks, lines)?;
@@ -35,6 +38,7 @@ pub fn explored_json(
     let races = races_of(alloc, found.races.as_slice(), lines)?;
     put(&mut all, alloc, "races", Value::from(races))?;
     put_counts(alloc, &mut all, found)?;
+    put_safety(alloc, &mut all, safety)?;
     let mut text = Value::from(all).to_string(alloc)?;
     text.push('\n')?;
     Ok(text)
@@ -53,6 +57,71 @@ fn put_counts(
     put(to, alloc, "runs", Value::from(u64::from(found.runs)))?;
     put(to, alloc, "states", Value::from(u64::from(found.states)))?;
     put(to, alloc, "all_states_kept", Value::from(found.kept_all))
+}
+
+// Whether the program is safe, and who waits if it isn't.
+fn put_safety(
+    alloc: Heap,
+    to: &mut Map<String<Heap>, Value>,
+    safety: &Safety,
+) -> Result<(), AllocError>
+    ensures { OnOk result (members_view to.new.entries ≡ with_members (safety_members safety.now) (members_view to.old.entries)) }
+{
+    put(to, alloc, "safe", shown(is_safe(safety)))?;
+    let waits = waits_of(alloc, safety)?;
+    put(to, alloc, "waits", Value::from(waits))
+}
+
+fn is_safe(safety: &Safety) -> Option<bool>
+    ensures { result ≡ is_safe_if_known safety.now }
+{
+    match safety {
+        Safety::Safe => Some(true),
+        Safety::NotSafe(_) => Some(false),
+        Safety::Untold | Safety::Unknown(_) => None,
+    }
+}
+
+fn waits_of(alloc: Heap, safety: &Safety) -> Result<Vec<Value, Heap>, AllocError>
+    ensures { IfOk result (λ list. map view list.items ≡ waits_objects safety.now) }
+{
+    match safety {
+        Safety::NotSafe(waits) => {
+            wait_values(alloc, waits.ranks.as_slice(), waits.lines.as_slice())
+        }
+        Safety::Untold | Safety::Safe | Safety::Unknown(_) => Ok(Vec::new(alloc)),
+    }
+}
+
+// Each of these ranks, with its line.
+fn wait_values(
+    alloc: Heap,
+    ranks: &[usize],
+    lines: &[usize],
+) -> Result<Vec<Value, Heap>, AllocError>
+    ensures { IfOk result (λ list. map view list.items ≡ wait_objects ranks.now lines.now) }
+{
+    let mut list = Vec::new(alloc);
+    let mut ranks_left = ranks;
+    let mut left = lines;
+    while let [rank, more_ranks @ ..] = ranks_left {
+        let [line, more @ ..] = left else {
+            return Ok(list);
+        };
+        list.push(wait_value(alloc, *rank, *line)?)?;
+        ranks_left = more_ranks;
+        left = more;
+    }
+    Ok(list)
+}
+
+fn wait_value(alloc: Heap, rank: usize, line: usize) -> Result<Value, AllocError>
+    ensures { IfOk result (λ v. view v ≡ wait_object rank line) }
+{
+    let mut one = Map::new(alloc);
+    put(&mut one, alloc, "rank", Value::from(rank as u64))?;
+    put(&mut one, alloc, "line", Value::from(line as u64))?;
+    Ok(Value::from(one))
 }
 
 fn outcomes_of(

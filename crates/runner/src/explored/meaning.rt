@@ -130,8 +130,8 @@ fn print_cycle_words(text: &mut String<Heap>) -> Result<(), AllocError>
     )
 }
 
-// The lines: `line 3`, `lines 3 and 4`.
-fn print_lines(text: &mut String<Heap>, lines: &[usize]) -> Result<(), AllocError>
+/// The lines: `line 3`, `lines 3 and 4`.
+pub fn print_lines(text: &mut String<Heap>, lines: &[usize]) -> Result<(), AllocError>
     ensures { OnOk result (string_bytes text.new ≡ string_bytes text.old ++ named_lines lines.now) }
 {
     let count = lines.len();
@@ -139,8 +139,8 @@ fn print_lines(text: &mut String<Heap>, lines: &[usize]) -> Result<(), AllocErro
     print_numbers(text, lines)
 }
 
-// The numbers: `3`, `3 and 4`, `3, 4 and 6`.
-fn print_numbers(text: &mut String<Heap>, numbers: &[usize]) -> Result<(), AllocError>
+/// The numbers: `3`, `3 and 4`, `3, 4 and 6`.
+pub fn print_numbers(text: &mut String<Heap>, numbers: &[usize]) -> Result<(), AllocError>
     ensures { OnOk result (string_bytes text.new ≡ string_bytes text.old ++ enumeration numbers.now) }
 {
     let mut rest = numbers;

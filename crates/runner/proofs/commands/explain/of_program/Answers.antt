@@ -1,4 +1,4 @@
-use Rattle.std.proofs.Common.{refl, rules, sym, subst}
+use Rattle.std.proofs.Common.{rules, sym, subst}
 use Rattle.runner.proofs.commands.explain.of_program.Goals as goal
 
 -- the fault that was found is the first one of what the file holds

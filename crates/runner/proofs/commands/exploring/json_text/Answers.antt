@@ -7,7 +7,7 @@ use Rattle.runner.proofs.commands.exploring.json_text.Goals as goal
 -- the object that was written has the marks of the program
 pub returns : goal.returns
 returns c = IfOk-weaker c.explored_json.result _ _
-    (λ answer written. is_marked_object c.args.lines.now c.args.program.now c.args.job.ranks c.args.found.now c.as_slice.result.now (string_bytes answer)
+    (λ answer written. is_marked_object c.args.lines.now c.args.program.now c.args.job.ranks c.args.found.now c.args.safety.now c.as_slice.result.now (string_bytes answer)
     (subst (AreMarked c.args.program.now c.args.job.ranks c.args.found.now.outcomes c.args.found.now.choices) (sym c.as_slice.ensures.value)
     c.in_ok-marks.ensures)
     written)

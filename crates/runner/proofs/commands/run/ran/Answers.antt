@@ -1,4 +1,4 @@
-use Rattle.std.proofs.Common.{rules, string_bytes}
+use Rattle.std.proofs.Common.{string_bytes}
 use Rattle.runner.proofs.Answers.{is_run_answer}
 use Rattle.runner.proofs.Unreceived.{is_run_told}
 use Rattle.runner.proofs.commands.run.ran.Goals as goal

@@ -1,4 +1,4 @@
-use Rattle.std.proofs.Common.{◌≡◌, ◌++◌, ap, string_bytes, ◌∙◌}
+use Rattle.std.proofs.Common.{◌++◌, ap, string_bytes, ◌∙◌}
 use Rattle.explore.specs.Explored.{ExploredValue, listed_left}
 use Rattle.runner.specs.LeftText.{shorts_text}
 use Rattle.runner.proofs.Written.{is_summary}
