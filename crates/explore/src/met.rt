@@ -145,7 +145,7 @@ fn add_part(parts: &mut Parts, part: &Standing, state: &mut State) -> Result<boo
     ensures keeps { KeepsParts parts.old parts.new }
     ensures adds { result ≡ Ok true → (rows : Rows) → AreParts parts.old state.old rows → AreParts parts.new state.new (behind rows part.now) }
 {
-    let Some(place) = parts.place_of(part)? else {
+    let Some(place) = parts.place_of(part, state.len())? else {
         return Ok(false);
     };
     state.push(place)?;

@@ -3,7 +3,7 @@ ghost use Rattle.std.specs.Prelude.{◌≡◌, ◌∷◌, ◌++◌, [], true, So
 ghost use Rattle.explore.specs.Parts.{KeepsParts};
 
 use crash_free::Standing;
-use limits::Heap;
+use limits::{Heap, MOST_RANKS};
 use std::alloc::AllocError;
 use std::collections::BTreeMap;
 use std::marker::Model;
@@ -11,6 +11,9 @@ use std::marker::Model;
 /// What a part takes beside its own numbers, in numbers of 8 bytes: two vectors
 /// and its entry in the map.
 const NUMBERS_BESIDE: usize = 12;
+
+/// How many parts a state has at most: the length of the run, and two of each rank.
+const MOST_PARTS: usize = 1 + 2 * MOST_RANKS;
 
 /// Parts of where all ranks stand, each kept once. In the states of a search few
 /// parts are distinct, as an act leaves what most ranks have as it was.
@@ -21,6 +24,9 @@ pub struct Parts {
     kept: Vec<Standing, Heap>,
     // where the last one of each hash is among them
     by_hash: BTreeMap<u64, u32, Heap>,
+    // where each part of the state stands that was written last: most parts of the next one are the
+    // same, and are then found with no hash
+    last: [u32; MOST_PARTS],
     // how many numbers, of 8 bytes each, may still be kept
     room: usize,
 }
@@ -43,13 +49,46 @@ impl Parts {
             alloc,
             kept: Vec::new(alloc),
             by_hash: BTreeMap::new(alloc),
+            last: [0; MOST_PARTS],
             room,
         }
     }
 
     /// The place of this part, from 0, which is kept from now on if it wasn't
-    /// before. `None` if there is no room for it. An `Err` means out of memory.
-    pub fn place_of(&mut self, part: &Standing) -> Result<Option<u32>, AllocError>
+    /// before. It is the one of this number in its state, from 0. `None` if there
+    /// is no room for it. An `Err` means out of memory.
+    pub fn place_of(&mut self, part: &Standing, number: usize) -> Result<Option<u32>, AllocError>
+        ensures keeps { KeepsParts self.old self.new }
+        ensures there { IfOk result (λ found. IfSome found (λ place. slice_get self.new place ≡ Some part.now)) }
+    {
+        let last = self.last_of(number);
+        if is_at(&self.kept, last as usize, part) {
+            return Ok(Some(last));
+        }
+        let found = self.find_or_keep(part)?;
+        if let Some(place) = found {
+            self.note_last(number, place);
+        }
+        Ok(found)
+    }
+
+    // Where the part of this number in the last state stands, as far as is known.
+    fn last_of(&self, number: usize) -> u32 {
+        match self.last.get(number) {
+            Some(place) => *place,
+            None => 0,
+        }
+    }
+
+    fn note_last(&mut self, number: usize, place: u32)
+        ensures { self.new ≡ self.old }
+    {
+        if number < MOST_PARTS {
+            self.last[number] = place;
+        }
+    }
+
+    fn find_or_keep(&mut self, part: &Standing) -> Result<Option<u32>, AllocError>
         ensures keeps { KeepsParts self.old self.new }
         ensures there { IfOk result (λ found. IfSome found (λ place. slice_get self.new place ≡ Some part.now)) }
     {

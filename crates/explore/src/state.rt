@@ -42,6 +42,11 @@ impl State {
         Ok(())
     }
 
+    /// How many parts it has so far.
+    pub fn len(&self) -> usize {
+        self.places.len()
+    }
+
     /// Whether both have the same parts.
     pub fn is_same(&self, other: &State) -> bool
         ensures { result ≡ true → self.now ≡ other.now }
