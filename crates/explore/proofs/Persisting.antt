@@ -11,7 +11,7 @@ use Rattle.std.proofs.lemmas.Option.{slice_get_within}
 use Rattle.matching.specs.declared.selector.Selector.{Selector}
 use Rattle.rank_machine.specs.declared.want.Want.{Want}
 use Rattle.rank_machine.specs.declared.want.Want.TheVariants as want
-use Rattle.rank_machine.specs.States.{State, Inners, inner}
+use Rattle.rank_machine.specs.States.{State, Inners}
 use Rattle.rank_machine.specs.Wants.{wants}
 use Rattle.rank_machine.specs.Acts.{Act, Message, sends, takes, hits, misses, prints, Makes}
 use Rattle.rank_machine.specs.Machine.{MachineValue, state_of}
@@ -80,14 +80,14 @@ module _ (s : SimValue) (r : ℕ) where
     pub itself_settled : (q : ℕ) → q ≡ r → IsSettled s r w q
     itself_settled q same = subst (λ z. IsSettled s r w z) (sym same) own_settled
 
-    -- of a rank that has sent all messages of the context and the tag, if the answer says so
-    pub sent_settled : (q : ℕ) (answer : Bool) → (answer ≡ true → (x : ℕ) → HasSentAll s x w.context w.tag q) → answer ≡ true → IsSettled s r w q
+    -- of a rank that has sent this one all messages of the context and the tag, if the answer says so
+    pub sent_settled : (q : ℕ) (answer : Bool) → (answer ≡ true → HasSentAll s r w.context w.tag q) → answer ≡ true → IsSettled s r w q
     sent_settled q answer all said_so C place way e =
         let x = goes C way in
         let more = x.grows q in
         record {
           message = e.message;
-          there = all said_so r C r place e.message way (e.matching.0, e.matching.2) e.there;
+          there = all said_so C place e.message way (e.matching.0, e.matching.2) e.there;
           untaken = subst (λ k. taken k q place ≡ false) x.same e.untaken;
           matching = e.matching;
           not_overtaking = λ i m low f k. subst (λ h. taken h q i ≡ true) x.same

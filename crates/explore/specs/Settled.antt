@@ -24,9 +24,9 @@ IsSettled s r w source =
     (C : List Passed) (place : ℕ) → OthersGoOn s r C → IsEligible (inbound_of C r) (history C r) source place w
     → IsEligible (inbound_of s.run r) (history s.run r) source place w
 
--- however they do, each message of this context, with this tag or any, that rank q has sent then
--- stands in its place now
+-- however they do, each message of this context, with this tag or any, that rank q has sent this
+-- rank then stands in its place now
 abbrev pub HasSentAll : SimValue → ℕ → Context → Option ℕ → ℕ → Type 0
 HasSentAll s r context tag q =
-    (C : List Passed) (dest place : ℕ) (m : Message) → OthersGoOn s r C → (m.context ≡ context) × IsNamed tag m.tag
-    → at_place (sent C q dest) place ≡ Some m → at_place (sent s.run q dest) place ≡ Some m
+    (C : List Passed) (place : ℕ) (m : Message) → OthersGoOn s r C → (m.context ≡ context) × IsNamed tag m.tag
+    → at_place (sent C q r) place ≡ Some m → at_place (sent s.run q r) place ≡ Some m

@@ -1,10 +1,10 @@
 -- What a search knows of a program before it begins.
 use Rattle.rank_language.specs.Program.{ProgramValue}
 use Rattle.crash_free.specs.LiveVariables.Live as live
-use Rattle.crash_free.specs.LaterSends.LaterSends as later
+use Rattle.explore.specs.Silences as silences
 use Rattle.explore.specs.declared.tables.Tables.{Tables}
 
 -- each of the tables is right for the program
 pub record AreTablesOf (program : ProgramValue) (t : Tables) : Type 0 where
   pub live : live.IsTableOf program t.live
-  pub later : later.IsTableOf program t.later
+  pub silences : silences.IsTableOf program t.silences

@@ -2,41 +2,41 @@
 ghost use Rattle.std.specs.Prelude.{◌≡◌, IfSome};
 ghost use Rattle.std.specs.List.{filter, list_any};
 ghost use Rattle.crash_free.specs.Sim.{Simulates};
-ghost use Rattle.crash_free.specs.LaterSends.LaterSends.{IsTableOf};
 ghost use Rattle.explore.specs.Narrowing.{AreKept, IsEnough, is_of};
 ghost use Rattle.explore.specs.Settled.{AreOfProgram};
+ghost use Rattle.explore.specs.Silences.{IsTableOf};
 
 use crate::moves::Move;
 use crate::persistent::is_persistent;
+use crate::silences::Silences;
 use crash_free::Sim;
-use crash_free::later_sends::LaterSends;
 use limits::Heap;
 
 /// Keeps the moves of one rank alone, if they are enough: those of the first rank
 /// that has moves, and whose acts don't depend on what the others do next, as far
 /// as can be seen. Else all stay.
-pub fn keep_persistent(sim: &Sim<'_>, later: &LaterSends, moves: &mut Vec<Move, Heap>)
+pub fn keep_persistent(sim: &Sim<'_>, silences: &Silences, moves: &mut Vec<Move, Heap>)
     requires stands { Simulates sim.now }
     requires programs { AreOfProgram sim.now }
-    requires table { IsTableOf sim.now.program later.now }
+    requires table { IsTableOf sim.now.program silences.now }
     ensures kept { AreKept sim.now moves.old.items moves.new.items }
 {
-    if let Some(rank) = first_persistent(sim, later, moves) {
+    if let Some(rank) = first_persistent(sim, silences, moves) {
         keep_own(moves, rank);
     }
 }
 
 // The first rank that has moves, and whose acts are persistent.
-fn first_persistent(sim: &Sim<'_>, later: &LaterSends, moves: &[Move]) -> Option<u8>
+fn first_persistent(sim: &Sim<'_>, silences: &Silences, moves: &[Move]) -> Option<u8>
     requires stands { Simulates sim.now }
     requires programs { AreOfProgram sim.now }
-    requires table { IsTableOf sim.now.program later.now }
+    requires table { IsTableOf sim.now.program silences.now }
     ensures enough { IfSome result (λ rank. IsEnough sim.now moves.now rank) }
 {
     let ranks = sim.ranks();
     let mut rank = 0;
     while rank < ranks {
-        if has_own(moves, rank) && is_persistent(sim, later, rank) {
+        if has_own(moves, rank) && is_persistent(sim, silences, rank) {
             return Some(rank);
         }
         rank += 1;

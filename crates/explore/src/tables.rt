@@ -1,7 +1,7 @@
 //! What a search knows of a program before it begins.
 ghost use Rattle.std.specs.Prelude.{IfOk};
 
-use crash_free::later_sends::LaterSends;
+use crate::silences::Silences;
 use crash_free::live_variables::Live;
 use limits::Heap;
 use rank_language::Program;
@@ -12,20 +12,20 @@ use std::alloc::AllocError;
 pub struct Tables {
     /// What is unread at each position.
     pub live: Live,
-    /// From which positions on no message is sent.
-    pub later: LaterSends,
+    /// From which positions on a rank sends another no more.
+    pub silences: Silences,
 }
 
 impl Tables {
     ghost use Rattle.explore.specs.Tables.{AreTablesOf};
 
-    /// The tables of a program. An `Err` means out of memory.
-    pub fn of(alloc: Heap, program: &Program) -> Result<Tables, AllocError>
+    /// The tables of a program on so many ranks. An `Err` means out of memory.
+    pub fn of(alloc: Heap, program: &Program, ranks: u8) -> Result<Tables, AllocError>
         ensures { IfOk result (λ tables. AreTablesOf program.now tables) }
     {
         Ok(Tables {
             live: Live::of(alloc, program)?,
-            later: LaterSends::of(alloc, program)?,
+            silences: Silences::of(alloc, program, ranks)?,
         })
     }
 }
