@@ -50,14 +50,14 @@ DEFINITIONS_HEAD = (
 )
 # each with what it defines
 HEADLINES = (
-    ("world_model/specs/Headline.antt", "a world stands for a crash-free run"),
-    ("world_model/specs/Retained.antt", "what senders retain for a replay"),
+    ("bare_world/specs/Headline.antt", "a world stands for a crash-free run"),
+    ("bare_world/specs/Retained.antt", "what senders retain for a replay"),
     ("rank_threads/specs/Report.antt", "what the report of a threaded run promises"),
     ("event_logger/specs/Desks.antt", "one history has the calls of all clients of the event logger"),
     ("explore/specs/Outcomes.antt", "the outcomes of a program"),
     ("crash_free/specs/Runs.antt", "what a crash-free run is"),
-    ("world_model/specs/Way.antt", "a recovery schedule"),
-    ("world_model/specs/ToTheEnd.antt", "a recovery schedule that goes on to the program's end"),
+    ("bare_world/specs/Way.antt", "a recovery schedule"),
+    ("bare_world/specs/ToTheEnd.antt", "a recovery schedule that goes on to the program's end"),
 )
 
 

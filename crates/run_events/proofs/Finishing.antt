@@ -8,9 +8,9 @@ use Rattle.audit.specs.FinalRuns.Maximal.{IsMaximal, RankOutcome, IsOutcomeOf}
 use Rattle.explore.specs.Exploring.{and_then, AlwaysEndsIn, at_end, goes_on}
 use Rattle.explore.specs.Outcomes.{IsAmong}
 use Rattle.explore.proofs.Ending.{along}
-use Rattle.world_model.specs.World.{WorldValue, size, start_of}
-use Rattle.world_model.specs.Headline.{StandsFor}
-use Rattle.world_model.specs.ToTheEnd.{AllEnd, ends, on, ComesToTheEnd, CanEnd}
+use Rattle.bare_world.specs.World.{WorldValue, size, start_of}
+use Rattle.bare_world.specs.Headline.{StandsFor}
+use Rattle.bare_world.specs.ToTheEnd.{AllEnd, ends, on, ComesToTheEnd, CanEnd}
 use Rattle.run_events.specs.Finishing.{FinishesAmong}
 
 -- if each way on comes to an end that is found, each comes to an end

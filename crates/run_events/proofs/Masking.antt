@@ -18,8 +18,8 @@ use Rattle.audit.proofs.Growing.{prints_grow}
 use Rattle.explore.specs.Exploring.{and_then, AlwaysEndsIn, at_end, goes_on}
 use Rattle.explore.specs.Outcomes.{IsAmong}
 use Rattle.explore.proofs.Ending.{along, none_missing}
-use Rattle.world_model.specs.World.{WorldValue, size}
-use Rattle.world_model.specs.Headline.{StandsFor}
+use Rattle.bare_world.specs.World.{WorldValue, size}
+use Rattle.bare_world.specs.Headline.{StandsFor}
 use Rattle.run_events.specs.Masking.{values_of, ArePrintedIn, EndsAmong, MasksCrashes, IsMasked}
 
 -- a run that a run is part of, and that has an outcome which was found

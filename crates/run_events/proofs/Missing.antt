@@ -8,8 +8,8 @@ use Rattle.rank_machine.specs.Acts.{Act, Message, sends, takes, hits, misses, pr
 use Rattle.crash_free.specs.Runs.{Passed, History, at_place, history, sent, sends_from, looked_up, add_if}
 use Rattle.crash_free.specs.Sim.{start_of}
 use Rattle.explore.specs.Shown.{shows_it, shows_to, was_shown, MayMissShown, MissesShown}
-use Rattle.world_model.specs.World.{WorldValue, size}
-use Rattle.world_model.specs.Misses.{Shows, IsShown, NoneMissed}
+use Rattle.bare_world.specs.World.{WorldValue, size}
+use Rattle.bare_world.specs.Misses.{Shows, IsShown, NoneMissed}
 use Rattle.run_events.specs.Missing.{MissesNothingShown}
 
 -- ---- what was shown

@@ -23,20 +23,20 @@ use Rattle.rank_node.specs.Replay.{named, replayed_at, taken_named, shown_named,
 use Rattle.crash_free.specs.Runs.{Passed, history}
 use Rattle.crash_free.specs.Parts.{IsBeginning, IsPartOf}
 use Rattle.crash_free.proofs.Reorder.{IsBeginning-trans, history_grows}
-use Rattle.world_model.specs.declared.event.WorldEvent.{WorldEvent}
-use Rattle.world_model.specs.declared.event.WorldEvent.TheVariants.{Step, Put, Arrive, Store, Ack, Image, Crash, Restart, Release}
-use Rattle.world_model.specs.declared.reply.Reply.{Reply}
-use Rattle.world_model.specs.declared.reply.Reply.TheVariants as reply
-use Rattle.world_model.specs.World.{Rank, Live, WorldValue, size, IsLive}
-use Rattle.world_model.specs.Headline.{IsFresh, stable_of}
-use Rattle.world_model.specs.Follows.{Happens, Follows}
-use Rattle.world_model.specs.Finished.{IsAfter, leaves_all}
-use Rattle.world_model.specs.Sequences.{FollowsAll}
-use Rattle.world_model.proofs.Alike.OneEventMore.{happened}
-use Rattle.world_model.proofs.Ending.LeadsOn.{later_after, program_after, size_same}
-use Rattle.world_model.proofs.Ending.LeavesAll.{leaves}
-use Rattle.world_model.proofs.Lists.Places.{set_get_same, set_get_other, one_there}
-use Rattle.world_model.proofs.Lists.Replaced.{slice_set-get}
+use Rattle.bare_world.specs.declared.event.WorldEvent.{WorldEvent}
+use Rattle.bare_world.specs.declared.event.WorldEvent.TheVariants.{Step, Put, Arrive, Store, Ack, Image, Crash, Restart, Release}
+use Rattle.bare_world.specs.declared.reply.Reply.{Reply}
+use Rattle.bare_world.specs.declared.reply.Reply.TheVariants as reply
+use Rattle.bare_world.specs.World.{Rank, Live, WorldValue, size, IsLive}
+use Rattle.bare_world.specs.Headline.{IsFresh, stable_of}
+use Rattle.bare_world.specs.Follows.{Happens, Follows}
+use Rattle.bare_world.specs.Finished.{IsAfter, leaves_all}
+use Rattle.bare_world.specs.Sequences.{FollowsAll}
+use Rattle.bare_world.proofs.Alike.OneEventMore.{happened}
+use Rattle.bare_world.proofs.Ending.LeadsOn.{later_after, program_after, size_same}
+use Rattle.bare_world.proofs.Ending.LeavesAll.{leaves}
+use Rattle.bare_world.proofs.Lists.Places.{set_get_same, set_get_other, one_there}
+use Rattle.bare_world.proofs.Lists.Replaced.{slice_set-get}
 use Rattle.run_events.specs.NoDomino.{IsCrashOf, HasNoCrashOf, IsNotTakenBack, image_clock, AreAboveImages, NoDomino}
 
 -- ---- clocks

@@ -12,8 +12,8 @@ use Rattle.crash_free.specs.Runs.{History, at_place, history, sends_from, send_a
 use Rattle.crash_free.specs.Parts.{IsBeginning}
 use Rattle.crash_free.proofs.Taking.{no_history}
 use Rattle.audit.specs.Rows.{event_at, cons_some, events_from}
-use Rattle.world_model.specs.World.{WorldValue, size, start_of}
-use Rattle.world_model.specs.Headline.{StandsFor}
+use Rattle.bare_world.specs.World.{WorldValue, size, start_of}
+use Rattle.bare_world.specs.Headline.{StandsFor}
 use Rattle.run_events.specs.NoOrphan.{IsStable, NoOrphan}
 
 -- ---- acts by their clocks

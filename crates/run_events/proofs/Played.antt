@@ -6,12 +6,12 @@ use Rattle.rank_language.specs.Program.{ProgramValue}
 use Rattle.crash_free.specs.Runs.{Passed, history, prints_from, IsRun}
 use Rattle.crash_free.specs.Sim.{SimValue, Simulates, start_of}
 use Rattle.audit.specs.Rows.{events_from}
-use Rattle.world_model.specs.declared.event.WorldEvent.{WorldEvent}
-use Rattle.world_model.specs.declared.reply.Reply.{Reply}
-use Rattle.world_model.specs.World as world
-use Rattle.world_model.specs.World.{WorldValue, size}
-use Rattle.world_model.specs.Headline.{IsFresh, StandsFor}
-use Rattle.world_model.specs.Sequences.{FollowsAll}
+use Rattle.bare_world.specs.declared.event.WorldEvent.{WorldEvent}
+use Rattle.bare_world.specs.declared.reply.Reply.{Reply}
+use Rattle.bare_world.specs.World as world
+use Rattle.bare_world.specs.World.{WorldValue, size}
+use Rattle.bare_world.specs.Headline.{IsFresh, StandsFor}
+use Rattle.bare_world.specs.Sequences.{FollowsAll}
 use Rattle.world_model.specs.EventsText.Events.{events_of}
 use Rattle.world_model.specs.EventsText.Written.{events_text}
 use Rattle.explore.specs.Own.{own}

@@ -9,11 +9,11 @@ use Rattle.rank_machine.proofs.Determined.{same_runs}
 use Rattle.crash_free.specs.Runs.{Passed, History, history, continue}
 use Rattle.crash_free.specs.Parts.{IsBeginning, IsPartOf}
 use Rattle.crash_free.proofs.Reorder.{IsBeginning-trans, history_grows}
-use Rattle.world_model.specs.declared.event.WorldEvent.{WorldEvent}
-use Rattle.world_model.specs.declared.reply.Reply.{Reply}
-use Rattle.world_model.specs.World.{WorldValue, size, start_of}
-use Rattle.world_model.specs.Headline.{StandsFor, IsWhere}
-use Rattle.world_model.specs.Sequences.{FollowsAll}
+use Rattle.bare_world.specs.declared.event.WorldEvent.{WorldEvent}
+use Rattle.bare_world.specs.declared.reply.Reply.{Reply}
+use Rattle.bare_world.specs.World.{WorldValue, size, start_of}
+use Rattle.bare_world.specs.Headline.{StandsFor, IsWhere}
+use Rattle.bare_world.specs.Sequences.{FollowsAll}
 use Rattle.run_events.specs.NoDomino.{NoDomino}
 use Rattle.run_events.specs.Replaying.{AreSilentlyOne, ReplaysExactly}
 use Rattle.run_events.proofs.NoDomino.{events_have_no_domino}

@@ -10,14 +10,14 @@ use Rattle.rank_text.specs.declared.script.line.ScriptLine.{ScriptLine}
 use Rattle.rank_text.specs.Scripts.Script.{orders_of}
 use Rattle.crash_free.specs.Runs.{Passed, history}
 use Rattle.crash_free.specs.Sim.{SimValue, Simulates}
-use Rattle.world_model.specs.declared.event.WorldEvent.{WorldEvent}
-use Rattle.world_model.specs.declared.view.View.{View}
-use Rattle.world_model.specs.declared.reply.Reply.{Reply}
-use Rattle.world_model.specs.declared.reply.Reply.TheVariants as reply
-use Rattle.world_model.specs.Follows.{Follows}
-use Rattle.world_model.specs.View.{IsView, shown_of}
-use Rattle.world_model.specs.World.{Live, WorldValue, size}
-use Rattle.world_model.specs.Headline.{IsFresh, StandsFor}
+use Rattle.bare_world.specs.declared.event.WorldEvent.{WorldEvent}
+use Rattle.bare_world.specs.declared.view.View.{View}
+use Rattle.bare_world.specs.declared.reply.Reply.{Reply}
+use Rattle.bare_world.specs.declared.reply.Reply.TheVariants as reply
+use Rattle.bare_world.specs.Follows.{Follows}
+use Rattle.bare_world.specs.View.{IsView, shown_of}
+use Rattle.bare_world.specs.World.{Live, WorldValue, size}
+use Rattle.bare_world.specs.Headline.{IsFresh, StandsFor}
 use Rattle.world_model.specs.EventsText.Events.{events_of}
 use Rattle.world_model.specs.EventsText.Written.{events_text}
 use Rattle.explore.specs.Own.{own}

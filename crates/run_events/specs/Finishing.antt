@@ -7,8 +7,8 @@ use Rattle.std.specs.Prelude.{List, []}
 use Rattle.audit.specs.FinalRuns.Maximal.{RankOutcome, IsOutcomeOf}
 use Rattle.explore.specs.Exploring.{AlwaysEndsIn}
 use Rattle.explore.specs.Outcomes.{IsAmong}
-use Rattle.world_model.specs.World.{WorldValue, size, start_of}
-use Rattle.world_model.specs.ToTheEnd.{StaysWithin, CanEnd}
+use Rattle.bare_world.specs.World.{WorldValue, size, start_of}
+use Rattle.bare_world.specs.ToTheEnd.{StaysWithin, CanEnd}
 
 -- By events of which none is a crash the world comes to its end, and its run there is maximal and
 -- has one of these outcomes.

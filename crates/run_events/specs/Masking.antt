@@ -12,7 +12,7 @@ use Rattle.audit.specs.FinalRuns.Final.{NoneIsUnfinished, seen_of}
 use Rattle.audit.specs.FinalRuns.Maximal.{RankOutcome}
 use Rattle.explore.specs.Exploring.{AlwaysEndsIn}
 use Rattle.explore.specs.Outcomes.{IsAmong}
-use Rattle.world_model.specs.World.{WorldValue, size}
+use Rattle.bare_world.specs.World.{WorldValue, size}
 
 -- the values that a rank has printed, in order
 abbrev pub values_of : ℕ → List Line → List ℤ

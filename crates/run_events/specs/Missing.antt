@@ -3,7 +3,7 @@
 -- search marks the outcomes of such runs.
 use Rattle.crash_free.specs.Sim.{start_of}
 use Rattle.explore.specs.Shown.{MissesShown}
-use Rattle.world_model.specs.World.{WorldValue, size}
+use Rattle.bare_world.specs.World.{WorldValue, size}
 
 -- the run of the world has no such miss
 abbrev pub MissesNothingShown : WorldValue → Type 0

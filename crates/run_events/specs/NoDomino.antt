@@ -5,10 +5,10 @@
 use Rattle.std.specs.Prelude.{◌≡◌, ℕ, ◌≤◌, List, [], ◌∷◌, Option, Some, None, slice_get}
 use Rattle.checkpoint.specs.Image.{ImageValue}
 use Rattle.crash_free.specs.Parts.{IsPartOf}
-use Rattle.world_model.specs.declared.event.WorldEvent.{WorldEvent}
-use Rattle.world_model.specs.declared.event.WorldEvent.TheVariants.{Step, Put, Arrive, Store, Ack, Image, Crash, Restart, Release}
-use Rattle.world_model.specs.World.{Live, WorldValue, IsLive}
-use Rattle.world_model.specs.Finished.{IsAfter}
+use Rattle.bare_world.specs.declared.event.WorldEvent.{WorldEvent}
+use Rattle.bare_world.specs.declared.event.WorldEvent.TheVariants.{Step, Put, Arrive, Store, Ack, Image, Crash, Restart, Release}
+use Rattle.bare_world.specs.World.{Live, WorldValue, IsLive}
+use Rattle.bare_world.specs.Finished.{IsAfter}
 
 -- the event is a crash of this rank
 abbrev pub IsCrashOf : ℕ → WorldEvent → Type 0

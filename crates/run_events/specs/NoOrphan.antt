@@ -14,7 +14,7 @@ use Rattle.crash_free.specs.Parts.{IsBeginning}
 use Rattle.audit.specs.Outcome.{lines_of}
 use Rattle.audit.specs.Rows.{events_from, expand}
 use Rattle.explore.specs.Outcomes.{IsAmong}
-use Rattle.world_model.specs.World.{WorldValue, IsWire}
+use Rattle.bare_world.specs.World.{WorldValue, IsWire}
 
 -- The rank made this act in the run, with this clock, and its row at the event logger begins with
 -- the events of all its acts up to that.

@@ -1,6 +1,6 @@
 -- A list of events, kept as runs of the same one.
 use Rattle.std.specs.Prelude.{List, [], ◌∷◌, ◌++◌, replicate}
-use Rattle.world_model.specs.declared.event.WorldEvent.{WorldEvent}
+use Rattle.bare_world.specs.declared.event.WorldEvent.{WorldEvent}
 use Rattle.run_events.specs.declared.times.Times.{Times}
 
 -- each event as often as it happens in a row

@@ -7,13 +7,13 @@ use Rattle.event_logger.specs.Sequential.Event.{EventValue}
 use Rattle.crash_free.specs.Runs.{Passed, history, printed}
 use Rattle.audit.specs.Outcome.{lines_of}
 use Rattle.audit.specs.Rows.{IsRow}
-use Rattle.world_model.specs.declared.event.WorldEvent.{WorldEvent}
-use Rattle.world_model.specs.declared.event.WorldEvent.TheVariants.{Step, Put, Arrive, Store, Ack, Image, Crash, Restart, Release}
-use Rattle.world_model.specs.declared.reply.Reply.{Reply}
-use Rattle.world_model.specs.declared.reply.Reply.TheVariants as reply
-use Rattle.world_model.specs.World.{WorldValue, size}
-use Rattle.world_model.specs.Headline.{IsFresh, StandsFor}
-use Rattle.world_model.specs.Sequences.{FollowsAll}
+use Rattle.bare_world.specs.declared.event.WorldEvent.{WorldEvent}
+use Rattle.bare_world.specs.declared.event.WorldEvent.TheVariants.{Step, Put, Arrive, Store, Ack, Image, Crash, Restart, Release}
+use Rattle.bare_world.specs.declared.reply.Reply.{Reply}
+use Rattle.bare_world.specs.declared.reply.Reply.TheVariants as reply
+use Rattle.bare_world.specs.World.{WorldValue, size}
+use Rattle.bare_world.specs.Headline.{IsFresh, StandsFor}
+use Rattle.bare_world.specs.Sequences.{FollowsAll}
 use Rattle.world_model.specs.EventsText.Events.{events_of}
 use Rattle.world_model.specs.EventsText.Written.{events_text}
 

@@ -5,8 +5,8 @@
 use Rattle.std.specs.Prelude.{◌≡◌, ℕ, ◌⊎◌}
 use Rattle.rank_machine.specs.States.{State, Inners}
 use Rattle.rank_machine.specs.Machine.{state_of}
-use Rattle.world_model.specs.World.{Live, WorldValue, IsLive}
-use Rattle.world_model.specs.Headline.{owed}
+use Rattle.bare_world.specs.World.{Live, WorldValue, IsLive}
+use Rattle.bare_world.specs.Headline.{owed}
 
 -- one of the states is the other, or leads there by silent steps
 abbrev pub AreSilentlyOne : State → State → Type 0

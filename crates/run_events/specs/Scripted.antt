@@ -10,13 +10,13 @@ use Rattle.rank_text.specs.declared.script.line.Order.{Order}
 use Rattle.rank_text.specs.declared.script.line.Order.TheVariants as order
 use Rattle.rank_text.specs.declared.script.line.ScriptLine.{ScriptLine}
 use Rattle.crash_free.specs.Runs.{Passed, history}
-use Rattle.world_model.specs.declared.event.WorldEvent.{WorldEvent}
-use Rattle.world_model.specs.declared.event.WorldEvent.TheVariants.{Step, Put, Arrive, Store, Ack, Image, Crash, Restart, Release}
-use Rattle.world_model.specs.declared.reply.Reply.{Reply}
-use Rattle.world_model.specs.declared.reply.Reply.TheVariants as reply
-use Rattle.world_model.specs.World.{Live, WorldValue, size, IsLive}
-use Rattle.world_model.specs.Headline.{IsFresh, StandsFor}
-use Rattle.world_model.specs.Follows.{Follows}
+use Rattle.bare_world.specs.declared.event.WorldEvent.{WorldEvent}
+use Rattle.bare_world.specs.declared.event.WorldEvent.TheVariants.{Step, Put, Arrive, Store, Ack, Image, Crash, Restart, Release}
+use Rattle.bare_world.specs.declared.reply.Reply.{Reply}
+use Rattle.bare_world.specs.declared.reply.Reply.TheVariants as reply
+use Rattle.bare_world.specs.World.{Live, WorldValue, size, IsLive}
+use Rattle.bare_world.specs.Headline.{IsFresh, StandsFor}
+use Rattle.bare_world.specs.Follows.{Follows}
 use Rattle.world_model.specs.EventsText.Events.{events_of}
 use Rattle.world_model.specs.EventsText.Written.{events_text}
 use Rattle.run_events.specs.Plays.{IsThere}

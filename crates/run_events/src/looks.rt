@@ -1,6 +1,6 @@
 //! What a world shows of a rank, by the rank's number in an event.
 ghost use Rattle.std.specs.Prelude.{◌<◌, IfSome};
-ghost use Rattle.world_model.specs.World.{size};
+ghost use Rattle.bare_world.specs.World.{size};
 
 use rank_node::{Frame, Phase};
 use std::alloc::AllocError;

@@ -20,7 +20,7 @@ pub struct Plan {
 
 impl Model for Plan {
     ghost use Rattle.std.specs.Prelude.{List};
-    ghost use Rattle.world_model.specs.declared.event.WorldEvent.{WorldEvent};
+    ghost use Rattle.bare_world.specs.declared.event.WorldEvent.{WorldEvent};
     ghost use Rattle.run_events.specs.Planned.{events_in};
 
     ghost Value = { List WorldEvent };

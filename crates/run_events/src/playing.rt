@@ -2,7 +2,7 @@
 ghost use Rattle.std.specs.Prelude.{◌≡◌, ◌<◌, ◌≤◌, ℕ, true, IfOk, length, reverse};
 ghost use Rattle.limits.specs.Limits.{most_ranks};
 ghost use Rattle.crash_free.specs.Sim.{Simulates};
-ghost use Rattle.world_model.specs.World.{size};
+ghost use Rattle.bare_world.specs.World.{size};
 ghost use Rattle.explore.specs.Own.{own};
 ghost use Rattle.run_events.specs.Plays.{ArePlain, IsPlain, NoneRefused, Plays, PlaysFrom};
 

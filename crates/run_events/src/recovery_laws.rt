@@ -3,12 +3,12 @@
 //! Crates above may cite this.
 ghost use Rattle.std.specs.Prelude.{ℕ, List, [], ◌∷◌};
 ghost use Rattle.rank_language.specs.Program.{ProgramValue};
-ghost use Rattle.world_model.specs.declared.event.WorldEvent.{WorldEvent};
-ghost use Rattle.world_model.specs.declared.reply.Reply.{Reply};
-ghost use Rattle.world_model.specs.World.{WorldValue};
-ghost use Rattle.world_model.specs.Headline.{IsFresh, StandsFor};
-ghost use Rattle.world_model.specs.Follows.{Follows};
-ghost use Rattle.world_model.specs.Sequences.{FollowsAll};
+ghost use Rattle.bare_world.specs.declared.event.WorldEvent.{WorldEvent};
+ghost use Rattle.bare_world.specs.declared.reply.Reply.{Reply};
+ghost use Rattle.bare_world.specs.World.{WorldValue};
+ghost use Rattle.bare_world.specs.Headline.{IsFresh, StandsFor};
+ghost use Rattle.bare_world.specs.Follows.{Follows};
+ghost use Rattle.bare_world.specs.Sequences.{FollowsAll};
 ghost use Rattle.run_events.specs.NoDomino.{AreAboveImages, NoDomino};
 ghost use Rattle.run_events.specs.NoOrphan.{NoOrphan};
 ghost use Rattle.run_events.specs.Replaying.{ReplaysExactly};

@@ -3,7 +3,7 @@
 ghost use Rattle.std.specs.Prelude.{◌≡◌, ◌<◌, ◌≤◌, ℕ, true, IfOk, IfSome, OnOk, option_map, slice_get, string_bytes};
 ghost use Rattle.limits.specs.Limits.{most_event_lines, most_ranks};
 ghost use Rattle.rank_text.specs.Scripts.Script.{orders_of};
-ghost use Rattle.world_model.specs.World.{size};
+ghost use Rattle.bare_world.specs.World.{size};
 ghost use Rattle.run_events.specs.Scripted.{behind, IsBack, IsScriptText, PlaysScript, PlaysScriptFrom, Takes, line_at, line_of, used_lines};
 
 use crate::fault::PlayFault;

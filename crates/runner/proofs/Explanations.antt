@@ -13,7 +13,7 @@ use Rattle.runner.specs.Explanations.{HoldsEvents, HoldsEventsIn, HoldsProgram, 
 use Rattle.rank_text.specs.Scripts.Script.{first_fault, script_lines}
 use Rattle.rank_text.specs.declared.script.fault.ScriptFault.{ScriptFault}
 use Rattle.rank_text.specs.declared.script.line.ScriptLine.{ScriptLine}
-use Rattle.world_model.specs.declared.event.WorldEvent.{WorldEvent}
+use Rattle.bare_world.specs.declared.event.WorldEvent.{WorldEvent}
 
 -- a program
 pub has_program : (holds : List ℕ → Type 0) (text : List ℕ) (program : ProgramValue) → holds text → IsProgramOf text program

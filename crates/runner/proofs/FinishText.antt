@@ -4,13 +4,13 @@ use Rattle.runner.specs.FinishText.{EndsBy, IsFinishText, IsWithoutEnd, refusal_
 use Rattle.runner.specs.declared.commands.refusal.Refusal.{Refusal}
 use Rattle.runner.specs.declared.commands.refusal.Refusal.TheVariants as refusal
 use Rattle.world_model.specs.EventsText.Written.{events_text}
-use Rattle.world_model.specs.Finished.{ComesTo, IsAfter, LeadsTo, steps_in}
-use Rattle.world_model.specs.Sequences.{FollowsAll}
-use Rattle.world_model.specs.World.{WorldValue}
-use Rattle.world_model.specs.declared.event.WorldEvent.{WorldEvent}
-use Rattle.world_model.specs.declared.finish.FinishEnd.{FinishEnd}
-use Rattle.world_model.specs.declared.finish.FinishEnd.TheVariants as finish
-use Rattle.world_model.specs.declared.reply.Reply.{Reply}
+use Rattle.bare_world.specs.Finished.{ComesTo, IsAfter, LeadsTo, steps_in}
+use Rattle.bare_world.specs.Sequences.{FollowsAll}
+use Rattle.bare_world.specs.World.{WorldValue}
+use Rattle.bare_world.specs.declared.event.WorldEvent.{WorldEvent}
+use Rattle.bare_world.specs.declared.finish.FinishEnd.{FinishEnd}
+use Rattle.bare_world.specs.declared.finish.FinishEnd.TheVariants as finish
+use Rattle.bare_world.specs.declared.reply.Reply.{Reply}
 
 -- a text of events that came to the end, from where others led
 pub is_finish_text : (steps : ℕ) (before reached after : WorldValue) (events list : List WorldEvent) (replies : List Reply) (end : FinishEnd)

@@ -7,7 +7,7 @@ use Rattle.rank_language.specs.Program.{ProgramValue}
 use Rattle.runner.specs.Reading.{AreEventsIn, IsProgramIn, IsScriptBy, IsScriptIn}
 use Rattle.rank_text.specs.Scripts.Script.{first_fault, script_lines}
 use Rattle.rank_text.specs.declared.script.line.ScriptLine.{ScriptLine}
-use Rattle.world_model.specs.declared.event.WorldEvent.{WorldEvent}
+use Rattle.bare_world.specs.declared.event.WorldEvent.{WorldEvent}
 
 -- the program of a text that the file holds
 pub is_program_in : (holds : List ℕ → Type 0) (text : List ℕ) (program : ProgramValue)

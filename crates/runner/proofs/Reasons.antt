@@ -41,8 +41,8 @@ use Rattle.runner.specs.declared.commands.refusal.Refusal.TheVariants as refusal
 use Rattle.runner.specs.declared.commands.world.Wanted.{Wanted}
 use Rattle.runner.specs.declared.commands.world.Wanted.TheVariants as wanted
 use Rattle.world_model.specs.EventsText.Events.{events_of}
-use Rattle.world_model.specs.declared.event.WorldEvent.{WorldEvent}
-use Rattle.world_model.specs.World.{WorldValue}
+use Rattle.bare_world.specs.declared.event.WorldEvent.{WorldEvent}
+use Rattle.bare_world.specs.World.{WorldValue}
 use Rattle.world_model.specs.declared.events_text.fault.EventsFault.{EventsFault}
 use Rattle.world_model.specs.declared.events_text.fault.EventsFault.TheVariants as events_fault
 use Rattle.world_model.specs.declared.events_text.fault.EventsFaultKind.{EventsFaultKind}

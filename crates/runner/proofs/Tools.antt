@@ -7,7 +7,7 @@ use Rattle.rank_language.specs.Correct.{IsProgramOf}
 use Rattle.rank_language.specs.Program.{ProgramValue}
 use Rattle.runner.specs.Objects.{HasEvents, IsObjectsAnswer}
 use Rattle.runner.specs.Translations.{IsCAnswer}
-use Rattle.world_model.specs.declared.event.WorldEvent.{WorldEvent}
+use Rattle.bare_world.specs.declared.event.WorldEvent.{WorldEvent}
 
 -- the C text of a text that the file holds
 pub is_c_answer : (holds : List ℕ → Type 0) (synchronous : Bool) (text c out : List ℕ) (status : ℕ) → holds text

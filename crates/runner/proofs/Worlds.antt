@@ -5,9 +5,9 @@ use Rattle.rank_language.specs.Program.{ProgramValue}
 use Rattle.runner.specs.Reading.{AreEventsIn, IsProgramIn}
 use Rattle.runner.specs.Worlds.{IsAnswer, IsTextOf, IsWorldAnswer}
 use Rattle.runner.specs.declared.commands.world.Wanted.{Wanted}
-use Rattle.world_model.specs.Headline.{IsFresh}
-use Rattle.world_model.specs.World.{WorldValue}
-use Rattle.world_model.specs.declared.event.WorldEvent.{WorldEvent}
+use Rattle.bare_world.specs.Headline.{IsFresh}
+use Rattle.bare_world.specs.World.{WorldValue}
+use Rattle.bare_world.specs.declared.event.WorldEvent.{WorldEvent}
 
 -- a text of a world that was new
 pub is_answer : (program : ProgramValue) (ranks : ℕ) (wanted : Wanted) (events : List WorldEvent) (before after : WorldValue) (text : List ℕ)

@@ -12,7 +12,7 @@ use Rattle.rank_language.specs.Program.{ProgramValue}
 use Rattle.rank_text.specs.Scripts.Script.{first_fault}
 use Rattle.rank_text.specs.declared.script.fault.ScriptFault.{ScriptFault}
 use Rattle.rank_text.specs.declared.script.line.ScriptLine.{ScriptLine}
-use Rattle.world_model.specs.declared.event.WorldEvent.{WorldEvent}
+use Rattle.bare_world.specs.declared.event.WorldEvent.{WorldEvent}
 
 -- the file holds a program's text with a fault
 pub record HasFaultyProgram (holds : List ℕ → Type 0) : Type 0 where

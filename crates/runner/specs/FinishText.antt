@@ -4,14 +4,14 @@ use Rattle.std.specs.Prelude.{◌≡◌, ℕ, ◌≤◌, ◌⊎◌, List}
 use Rattle.runner.specs.declared.commands.refusal.Refusal.{Refusal}
 use Rattle.runner.specs.declared.commands.refusal.Refusal.TheVariants as refusal
 use Rattle.world_model.specs.EventsText.Written.{events_text}
-use Rattle.world_model.specs.Finished.{AllRest, ComesTo, IsAfter, steps_in}
-use Rattle.world_model.specs.Sequences.{FollowsAll}
-use Rattle.world_model.specs.ToTheEnd.{HasEnded, Leads}
-use Rattle.world_model.specs.World.{WorldValue}
-use Rattle.world_model.specs.declared.event.WorldEvent.{WorldEvent}
-use Rattle.world_model.specs.declared.finish.FinishEnd.{FinishEnd}
-use Rattle.world_model.specs.declared.finish.FinishEnd.TheVariants as finish
-use Rattle.world_model.specs.declared.reply.Reply.{Reply}
+use Rattle.bare_world.specs.Finished.{AllRest, ComesTo, IsAfter, steps_in}
+use Rattle.bare_world.specs.Sequences.{FollowsAll}
+use Rattle.bare_world.specs.ToTheEnd.{HasEnded, Leads}
+use Rattle.bare_world.specs.World.{WorldValue}
+use Rattle.bare_world.specs.declared.event.WorldEvent.{WorldEvent}
+use Rattle.bare_world.specs.declared.finish.FinishEnd.{FinishEnd}
+use Rattle.bare_world.specs.declared.finish.FinishEnd.TheVariants as finish
+use Rattle.bare_world.specs.declared.reply.Reply.{Reply}
 
 -- These events lead from one world to another in which the program has ended: none is a crash, and
 -- one after another can happen. The other world is of the same program on as many ranks, and its

@@ -4,7 +4,7 @@ use Rattle.std.specs.Prelude.{◌≡◌, ℕ, List}
 use Rattle.command_line.specs.declared.job.WorldJob.{WorldJob}
 use Rattle.runner.specs.Reading.{AreEventsIn, IsProgramIn}
 use Rattle.rank_language.specs.Program.{ProgramValue}
-use Rattle.world_model.specs.declared.event.WorldEvent.{WorldEvent}
+use Rattle.bare_world.specs.declared.event.WorldEvent.{WorldEvent}
 
 -- the file holds events
 pub record HasEvents (holds : List ℕ → Type 0) : Type 0 where

@@ -7,7 +7,7 @@ use Rattle.rank_language.specs.Correct.{IsProgramOf}
 use Rattle.rank_language.specs.Program.{ProgramValue}
 use Rattle.rank_text.specs.Scripts.Script.{first_fault, script_lines}
 use Rattle.rank_text.specs.declared.script.line.ScriptLine.{ScriptLine}
-use Rattle.world_model.specs.declared.event.WorldEvent.{WorldEvent}
+use Rattle.bare_world.specs.declared.event.WorldEvent.{WorldEvent}
 
 -- This is the program of a text that the file holds.
 pub record IsProgramIn (holds : List ℕ → Type 0) (program : ProgramValue) : Type 0 where

@@ -39,8 +39,8 @@ use Rattle.synchronous.specs.Synchronous.{HasComputedTag, IsPastLimits}
 use Rattle.synchronous.specs.declared.fault.SynchronousFault.{SynchronousFault}
 use Rattle.synchronous.specs.declared.fault.SynchronousFault.TheVariants as synchronous
 use Rattle.world_model.specs.EventsText.Events.{events_of}
-use Rattle.world_model.specs.declared.event.WorldEvent.{WorldEvent}
-use Rattle.world_model.specs.World.{WorldValue}
+use Rattle.bare_world.specs.declared.event.WorldEvent.{WorldEvent}
+use Rattle.bare_world.specs.World.{WorldValue}
 use Rattle.world_model.specs.declared.events_text.fault.EventsFault.{EventsFault}
 use Rattle.world_model.specs.declared.events_text.fault.EventsFault.TheVariants as events_fault
 use Rattle.world_model.specs.declared.events_text.fault.EventsFaultKind.{EventsFaultKind}

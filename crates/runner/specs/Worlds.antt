@@ -9,9 +9,9 @@ use Rattle.runner.specs.FinishText.{IsFinishText}
 use Rattle.runner.specs.Reading.{AreEventsIn, IsProgramIn}
 use Rattle.runner.specs.declared.commands.world.Wanted.{Wanted}
 use Rattle.runner.specs.declared.commands.world.Wanted.TheVariants.{Replies, WayOn, TheEnd}
-use Rattle.world_model.specs.Headline.{IsFresh}
-use Rattle.world_model.specs.World.{WorldValue}
-use Rattle.world_model.specs.declared.event.WorldEvent.{WorldEvent}
+use Rattle.bare_world.specs.Headline.{IsFresh}
+use Rattle.bare_world.specs.World.{WorldValue}
+use Rattle.bare_world.specs.declared.event.WorldEvent.{WorldEvent}
 
 -- what is wanted of a world, under these events that lead it to another, is this text; the other is
 -- the one at the end, where that is wanted

@@ -10,7 +10,7 @@ use Rattle.rank_node.specs.declared.phase.Phase.TheVariants as phase
 use Rattle.rank_node.specs.declared.waiting.Waiting.{Waiting}
 use Rattle.rank_node.specs.declared.waiting.Waiting.TheVariants as waits
 use Rattle.crash_free.specs.Runs.{history}
-use Rattle.world_model.specs.World.{Live, WorldValue}
+use Rattle.bare_world.specs.World.{Live, WorldValue}
 use Rattle.run_shown.specs.declared.world.acts.Outlook.{Outlook}
 
 -- A live rank does what its machine wants. Its next act has passed before if more of its acts have

@@ -1,7 +1,7 @@
 -- The parts of an event (docs/FORMATS.md, "Events of a world").
 use Rattle.std.specs.Prelude.{ℕ, List, codes}
-use Rattle.world_model.specs.declared.event.WorldEvent.{WorldEvent}
-use Rattle.world_model.specs.declared.event.WorldEvent.TheVariants.{Step, Put, Arrive, Store, Ack, Image, Crash, Restart, Release}
+use Rattle.bare_world.specs.declared.event.WorldEvent.{WorldEvent}
+use Rattle.bare_world.specs.declared.event.WorldEvent.TheVariants.{Step, Put, Arrive, Store, Ack, Image, Crash, Restart, Release}
 
 -- the word with which an event is told
 abbrev pub word_of : WorldEvent → List ℕ

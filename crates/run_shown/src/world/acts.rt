@@ -1,6 +1,6 @@
 //! The act that a step of a rank makes.
 ghost use Rattle.std.specs.Prelude.{◌≡◌, ◌<◌, IfOk};
-ghost use Rattle.world_model.specs.World.{size};
+ghost use Rattle.bare_world.specs.World.{size};
 ghost use Rattle.run_shown.specs.World.Acts.{IsOutlookOf, determinant_of, in_row, last_determinant, newest, stands_for};
 
 use crate::json::Object;

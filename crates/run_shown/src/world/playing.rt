@@ -1,7 +1,7 @@
 //! A world's events, one after another, an object a line.
 ghost use Rattle.std.specs.Prelude.{◌<◌, ◌≤◌, IfSome};
 ghost use Rattle.limits.specs.Limits.{most_ranks};
-ghost use Rattle.world_model.specs.World.{size};
+ghost use Rattle.bare_world.specs.World.{size};
 
 use crate::json::{Lines, List, Object};
 use crate::world::acts::{Outlook, act_object, outlook_of};

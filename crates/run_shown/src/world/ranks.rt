@@ -1,7 +1,7 @@
 //! A rank as it stands.
 ghost use Rattle.std.specs.Prelude.{◌<◌, ◌≤◌};
 ghost use Rattle.limits.specs.Limits.{most_ranks};
-ghost use Rattle.world_model.specs.World.{size};
+ghost use Rattle.bare_world.specs.World.{size};
 
 use crate::json::{List, Object};
 use crate::world::determinants::waiting_object;

@@ -2,7 +2,7 @@
 ghost use Rattle.std.specs.Prelude.{◌≡◌, IfOk, IfErr, string_bytes};
 ghost use Rattle.runner.specs.FinishText.{IsFinishText, IsWithoutEnd, refusal_of_end};
 ghost use Rattle.world_model.specs.EventsText.Written.{events_text};
-ghost use Rattle.world_model.specs.declared.finish.FinishEnd.TheVariants.{Ended};
+ghost use Rattle.bare_world.specs.declared.finish.FinishEnd.TheVariants.{Ended};
 
 use crate::commands::refusal::Refusal;
 use limits::Heap;

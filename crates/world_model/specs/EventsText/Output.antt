@@ -3,13 +3,13 @@
 use Rattle.std.specs.Prelude.{◌≡◌, ℕ, ℤ, zero, suc, List, [], ◌∷◌, ◌++◌, codes}
 use Rattle.std.specs.Fmt.{decimal, signed_decimal}
 use Rattle.matching.specs.declared.line.Line.{Line}
-use Rattle.world_model.specs.declared.event.WorldEvent.{WorldEvent}
-use Rattle.world_model.specs.declared.reply.Reply.{Reply}
-use Rattle.world_model.specs.declared.reply.Reply.TheVariants.{Moved, Blocked, Held, Ended, PutData, PutAsk, PutKept, Accepted, Repeated, Gap, Noted}
-use Rattle.world_model.specs.declared.reply.Reply.TheVariants.{Stored, Acked, Imaged, Crashed, Restarted, Released, Refused}
-use Rattle.world_model.specs.Headline.{lines_of}
-use Rattle.world_model.specs.World.{WorldValue, size}
-use Rattle.world_model.specs.Sequences.{FollowsAll}
+use Rattle.bare_world.specs.declared.event.WorldEvent.{WorldEvent}
+use Rattle.bare_world.specs.declared.reply.Reply.{Reply}
+use Rattle.bare_world.specs.declared.reply.Reply.TheVariants.{Moved, Blocked, Held, Ended, PutData, PutAsk, PutKept, Accepted, Repeated, Gap, Noted}
+use Rattle.bare_world.specs.declared.reply.Reply.TheVariants.{Stored, Acked, Imaged, Crashed, Restarted, Released, Refused}
+use Rattle.bare_world.specs.Headline.{lines_of}
+use Rattle.bare_world.specs.World.{WorldValue, size}
+use Rattle.bare_world.specs.Sequences.{FollowsAll}
 
 -- a reply's word, with its numbers behind it
 abbrev pub reply_text : Reply → List ℕ

@@ -2,12 +2,12 @@
 -- world").
 use Rattle.std.specs.Prelude.{◌≡◌, ℕ, List, [], ◌∷◌, ◌++◌, codes}
 use Rattle.std.specs.Fmt.{decimal}
-use Rattle.world_model.specs.declared.event.WorldEvent.{WorldEvent}
-use Rattle.world_model.specs.declared.event.WorldEvent.TheVariants.{Step, Put, Arrive, Store, Ack, Image, Crash, Restart, Release}
-use Rattle.world_model.specs.declared.reply.Reply.{Reply}
-use Rattle.world_model.specs.World.{WorldValue}
-use Rattle.world_model.specs.Sequences.{FollowsAll}
-use Rattle.world_model.specs.Way.{IsWayOn}
+use Rattle.bare_world.specs.declared.event.WorldEvent.{WorldEvent}
+use Rattle.bare_world.specs.declared.event.WorldEvent.TheVariants.{Step, Put, Arrive, Store, Ack, Image, Crash, Restart, Release}
+use Rattle.bare_world.specs.declared.reply.Reply.{Reply}
+use Rattle.bare_world.specs.World.{WorldValue}
+use Rattle.bare_world.specs.Sequences.{FollowsAll}
+use Rattle.bare_world.specs.Way.{IsWayOn}
 
 -- an event's word, with its numbers behind it
 abbrev pub event_text : WorldEvent → List ℕ

@@ -1,6 +1,6 @@
 //! The text of a world's run.
 ghost use Rattle.std.specs.Prelude.{◌≡◌, ◌++◌, IfOk, OnOk, string_bytes};
-ghost use Rattle.world_model.specs.Headline.{lines_of};
+ghost use Rattle.bare_world.specs.Headline.{lines_of};
 ghost use Rattle.world_model.specs.EventsText.Output.{IsRunText, line_text, printed_text, ranks_text, replies_text, world_text};
 
 use crate::events_text::reply_line::ReplyLine;

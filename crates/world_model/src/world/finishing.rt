@@ -8,22 +8,20 @@ ghost use Rattle.std.specs.Prelude.{◌≡◌, ◌≢◌, ◌<◌, ◌≤◌, �
 ghost use Rattle.std.specs.Bool.{OnFalse};
 ghost use Rattle.matching.specs.PacketValue.{PacketValue};
 ghost use Rattle.rank_node.specs.declared.frame.Frame.TheVariants.{Data};
-ghost use Rattle.world_model.specs.Wires.{wire_of};
-ghost use Rattle.world_model.specs.declared.event.WorldEvent.TheVariants.{Arrive, Step};
-ghost use Rattle.world_model.specs.World.{size};
-ghost use Rattle.world_model.specs.Finished.{Played, PlayedAlmost, step_of, for_all, no_steps};
-ghost use Rattle.world_model.specs.Finished.{LeadsTo, IsAfter, ComesTo, steps_in, Tried, IsInVain, IsStill, ForEach, ForEachTwo};
-ghost use Rattle.world_model.specs.Finished.{HadTurn, HadTurns, HadRound, HadRounds, IsTaken};
-ghost use Rattle.world_model.specs.Finished.{StepsInVain, OpensInVain, PutsInVain, ArrivesInVain, FindsInVain};
-ghost use Rattle.world_model.specs.Follows.{Follows};
-ghost use Rattle.world_model.specs.ToTheEnd.{IsNoCrash};
+ghost use Rattle.bare_world.specs.Wires.{wire_of};
+ghost use Rattle.bare_world.specs.declared.event.WorldEvent.TheVariants.{Arrive, Step};
+ghost use Rattle.bare_world.specs.World.{size};
+ghost use Rattle.bare_world.specs.Finished.{Played, PlayedAlmost, step_of, for_all, no_steps};
+ghost use Rattle.bare_world.specs.Finished.{LeadsTo, IsAfter, ComesTo, steps_in, Tried, IsInVain, IsStill, ForEach, ForEachTwo};
+ghost use Rattle.bare_world.specs.Finished.{HadTurn, HadTurns, HadRound, HadRounds, IsTaken};
+ghost use Rattle.bare_world.specs.Finished.{StepsInVain, OpensInVain, PutsInVain, ArrivesInVain, FindsInVain};
+ghost use Rattle.bare_world.specs.Follows.{Follows};
+ghost use Rattle.bare_world.specs.ToTheEnd.{IsNoCrash};
 
 mod resting;
 
-use crate::event::WorldEvent;
-use crate::finish::{Finish, FinishEnd};
-use crate::reply::Reply;
 use crate::world::World;
+use bare_world::{Finish, FinishEnd, Reply, WorldEvent};
 use limits::Heap;
 use rank_node::Frame;
 use std::alloc::AllocError;
@@ -121,7 +119,7 @@ impl<'p> World<'p> {
     }
 
     /// A rank makes a step; if it is down it starts again first.
-    #[tactic(auto, using(crate::proofs::Ending::IsPlayedOn::step_played, crate::proofs::Ending::IsPlayedOn::quiet_then))]
+    #[tactic(auto, using(bare_world::proofs::Ending::IsPlayedOn::step_played, bare_world::proofs::Ending::IsPlayedOn::quiet_then))]
     fn step_rank(&mut self, rank: u8, events: &mut Vec<WorldEvent, Heap>) -> Result<(), AllocError>
         ensures ok { OnOk result (Played (λ r. step_of r (Step rank)) self.old events.old.items self.new events.new.items) }
         ensures err { OnErr result (PlayedAlmost no_steps self.old events.old.items self.new events.new.items) }
@@ -148,7 +146,7 @@ impl<'p> World<'p> {
 
     /// At the gate of a rank the oldest event is stored and acknowledged, and
     /// the oldest send or line released, where it may be.
-    #[tactic(auto, using(crate::proofs::Ending::IsPlayedOn::gate_played, crate::proofs::Ending::IsPlayedOn::gate_almost, crate::proofs::Ending::TriedInVain::gate_tried))]
+    #[tactic(auto, using(bare_world::proofs::Ending::IsPlayedOn::gate_played, bare_world::proofs::Ending::IsPlayedOn::gate_almost, bare_world::proofs::Ending::TriedInVain::gate_tried))]
     fn open_gate(&mut self, rank: u8, events: &mut Vec<WorldEvent, Heap>) -> Result<(), AllocError>
         ensures ok { OnOk result (Played no_steps self.old events.old.items self.new events.new.items) }
         ensures err { OnErr result (PlayedAlmost no_steps self.old events.old.items self.new events.new.items) }
@@ -267,7 +265,7 @@ impl<'p> World<'p> {
 
     /// An event, which goes last on the list if it changed something. There is
     /// room for it on the list before it happens.
-    #[tactic(auto, using(crate::proofs::Ending::IsPlayedOn::played_one, crate::proofs::Ending::IsPlayedOn::played_none, crate::proofs::Ending::IsPlayedOn::played_failed, crate::proofs::Ending::IsPlayedOn::played_nothing, crate::proofs::Ending::TriedInVain::tried_one, crate::proofs::Ending::TriedInVain::tried_none, crate::proofs::Ending::Rounds::taken_one, crate::proofs::Ending::Rounds::taken_none))]
+    #[tactic(auto, using(bare_world::proofs::Ending::IsPlayedOn::played_one, bare_world::proofs::Ending::IsPlayedOn::played_none, bare_world::proofs::Ending::IsPlayedOn::played_failed, bare_world::proofs::Ending::IsPlayedOn::played_nothing, bare_world::proofs::Ending::TriedInVain::tried_one, bare_world::proofs::Ending::TriedInVain::tried_none, bare_world::proofs::Ending::Rounds::taken_one, bare_world::proofs::Ending::Rounds::taken_none))]
     fn play(
         &mut self,
         event: WorldEvent,

@@ -2,9 +2,9 @@
 //! the rows at the event logger and the wires.
 ghost use Rattle.std.specs.Prelude.{◌≡◌, ◌<◌};
 ghost use Rattle.event_logger.specs.Sequential.History.{row};
-ghost use Rattle.world_model.specs.Shown.{IsPhaseOf};
-ghost use Rattle.world_model.specs.Wires.{wire_of};
-ghost use Rattle.world_model.specs.World.{size};
+ghost use Rattle.bare_world.specs.Shown.{IsPhaseOf};
+ghost use Rattle.bare_world.specs.Wires.{wire_of};
+ghost use Rattle.bare_world.specs.World.{size};
 
 use crate::world::World;
 use checkpoint::MemoryShelf;
@@ -29,7 +29,7 @@ impl<'p> World<'p> {
     }
 
     /// The events of a rank that are stored, in order.
-    #[tactic(auto, using(crate::proofs::Plain::Worlds::as_many_rows))]
+    #[tactic(auto, using(bare_world::proofs::Plain::Worlds::as_many_rows))]
     pub fn row(&self, rank: u8) -> &[Event]
         requires { rank < size self.now }
         ensures { result.now ≡ row self.now.logger.rows rank }
@@ -39,7 +39,7 @@ impl<'p> World<'p> {
 
     /// The frames that were ever put on the wire from one rank to another,
     /// oldest first.
-    #[tactic(auto, using(crate::proofs::Calls::Frames::has_wire))]
+    #[tactic(auto, using(bare_world::proofs::Calls::Frames::has_wire))]
     pub fn frames(&self, source: u8, dest: u8) -> &[Frame]
         requires source { source < size self.now }
         requires dest { dest < size self.now }

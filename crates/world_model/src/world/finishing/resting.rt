@@ -1,13 +1,13 @@
 //! What a world that was played on has come to.
 ghost use Rattle.std.specs.Prelude.{◌≡◌, ◌≢◌, ◌<◌, ℕ, MatchBool, List, IfSome, IfNone};
-ghost use Rattle.world_model.specs.World.{WorldValue};
-ghost use Rattle.world_model.specs.Finished.{AreRounds, ComesTo, IsSpent, AllRest, IsFirstRestless};
-ghost use Rattle.world_model.specs.Finished.{IsStill, IsNowhereSpent};
-ghost use Rattle.world_model.specs.declared.event.WorldEvent.{WorldEvent};
-ghost use Rattle.world_model.specs.ToTheEnd.{HasEnded};
+ghost use Rattle.bare_world.specs.World.{WorldValue};
+ghost use Rattle.bare_world.specs.Finished.{AreRounds, ComesTo, IsSpent, AllRest, IsFirstRestless};
+ghost use Rattle.bare_world.specs.Finished.{IsStill, IsNowhereSpent};
+ghost use Rattle.bare_world.specs.declared.event.WorldEvent.{WorldEvent};
+ghost use Rattle.bare_world.specs.ToTheEnd.{HasEnded};
 
-use crate::finish::FinishEnd;
 use crate::world::World;
+use bare_world::FinishEnd;
 use rank_node::NodeFault;
 
 impl<'p> World<'p> {
@@ -60,7 +60,7 @@ impl<'p> World<'p> {
     }
 
     /// A law, for proofs alone: a world of which every rank is at rest has ended.
-    #[tactic(auto, using(crate::proofs::Ending::RestIsEnd::all_rest))]
+    #[tactic(auto, using(bare_world::proofs::Ending::RestIsEnd::all_rest))]
     fn law_rests(&self)
         ensures { AllRest self.now → HasEnded self.now }
     {
@@ -69,7 +69,7 @@ impl<'p> World<'p> {
 
     /// A law, for proofs alone: in a still world of which no rank is spent every
     /// rank is at rest.
-    #[tactic(auto, using(crate::proofs::Ending::StillIsEnd::still_rests))]
+    #[tactic(auto, using(bare_world::proofs::Ending::StillIsEnd::still_rests))]
     fn law_still(&self)
         ensures { IsStill self.now → IsNowhereSpent self.now → AllRest self.now }
     {

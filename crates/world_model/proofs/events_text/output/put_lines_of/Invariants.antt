@@ -1,5 +1,5 @@
 use Rattle.std.proofs.Common.{◌≡◌, ◌++◌, length, string_bytes}
-use Rattle.world_model.specs.Headline.{lines_of}
+use Rattle.bare_world.specs.Headline.{lines_of}
 use Rattle.world_model.specs.EventsText.Output.{printed_text}
 use Rattle.world_model.proofs.events_text.output.put_lines_of.Given as goal
 

@@ -1,4 +1,4 @@
-use Rattle.world_model.proofs.Sequences.{kept, world_stands, world_retains}
+use Rattle.bare_world.proofs.Sequences.{kept, world_stands, world_retains}
 use Rattle.world_model.proofs.world.World.apply.Goals as goal
 
 -- src/world.rt

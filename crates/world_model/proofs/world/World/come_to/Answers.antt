@@ -1,4 +1,4 @@
-use Rattle.world_model.proofs.Again.Loops.{where_true}
+use Rattle.bare_world.proofs.Again.Loops.{where_true}
 use Rattle.world_model.proofs.world.World.come_to.Goals as goal
 
 -- src/world/finishing/resting.rt

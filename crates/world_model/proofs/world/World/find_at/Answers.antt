@@ -1,8 +1,8 @@
 use Rattle.std.proofs.Common.{refl}
 use Rattle.std.proofs.lemmas.Bool.{OnFalse_at}
-use Rattle.world_model.specs.Finished.{no_steps}
-use Rattle.world_model.proofs.Ending.IsPlayedOn.{played_same}
-use Rattle.world_model.proofs.Ending.TriedInVain.{tried_no_packet}
+use Rattle.bare_world.specs.Finished.{no_steps}
+use Rattle.bare_world.proofs.Ending.IsPlayedOn.{played_same}
+use Rattle.bare_world.proofs.Ending.TriedInVain.{tried_no_packet}
 use Rattle.world_model.proofs.world.World.find_at.Goals as goal
 
 -- src/world/finishing.rt

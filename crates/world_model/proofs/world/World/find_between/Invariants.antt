@@ -1,4 +1,4 @@
-use Rattle.world_model.specs.Finished.{Played, no_steps, Tried, EachBelow, ArrivesInVain}
+use Rattle.bare_world.specs.Finished.{Played, no_steps, Tried, EachBelow, ArrivesInVain}
 use Rattle.world_model.proofs.world.World.find_between.Given as goal
 
 abbrev pub invariant-loop-index : goal.invariant-loop-index

@@ -1,8 +1,8 @@
 use Rattle.std.proofs.Common.{refl, arith}
-use Rattle.world_model.specs.Finished.{ForEach, no_steps, FindsInVain}
-use Rattle.world_model.proofs.Calls.RankOfEvent.{on_err}
-use Rattle.world_model.proofs.Ending.IsPlayedOn.{played_same, quiet_last, quiet_then}
-use Rattle.world_model.proofs.Ending.TriedInVain.{tried_nothing, row_first, row_next, row_all, each_all}
+use Rattle.bare_world.specs.Finished.{ForEach, no_steps, FindsInVain}
+use Rattle.bare_world.proofs.Calls.RankOfEvent.{on_err}
+use Rattle.bare_world.proofs.Ending.IsPlayedOn.{played_same, quiet_last, quiet_then}
+use Rattle.bare_world.proofs.Ending.TriedInVain.{tried_nothing, row_first, row_next, row_all, each_all}
 use Rattle.world_model.proofs.world.World.find_lost.Goals as goal
 
 -- src/world/finishing.rt

@@ -1,4 +1,4 @@
-use Rattle.world_model.proofs.Ending.IsPlayedOn.{whole_after, almost_whole}
+use Rattle.bare_world.proofs.Ending.IsPlayedOn.{whole_after, almost_whole}
 use Rattle.world_model.proofs.world.World.finish.Goals as goal
 
 -- src/world/finishing.rt

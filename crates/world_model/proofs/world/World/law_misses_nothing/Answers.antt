@@ -1,7 +1,7 @@
 use Rattle.std.proofs.Common.{subst}
-use Rattle.world_model.specs.World.{WorldValue, start_of}
-use Rattle.world_model.specs.Misses.{NoneMissed}
-use Rattle.world_model.proofs.Headline.{none_missed}
+use Rattle.bare_world.specs.World.{WorldValue, start_of}
+use Rattle.bare_world.specs.Misses.{NoneMissed}
+use Rattle.bare_world.proofs.Headline.{none_missed}
 use Rattle.world_model.proofs.world.World.law_misses_nothing.Goals as goal
 
 -- src/world.rt

@@ -1,8 +1,8 @@
 use Rattle.std.proofs.Common.{subst}
-use Rattle.world_model.specs.World.{WorldValue}
-use Rattle.world_model.specs.ToTheEnd.{HasEnded}
-use Rattle.world_model.specs.Finished.{AllRest}
-use Rattle.world_model.proofs.Ending.RestIsEnd.{all_rest}
+use Rattle.bare_world.specs.World.{WorldValue}
+use Rattle.bare_world.specs.ToTheEnd.{HasEnded}
+use Rattle.bare_world.specs.Finished.{AllRest}
+use Rattle.bare_world.proofs.Ending.RestIsEnd.{all_rest}
 use Rattle.world_model.proofs.world.World.law_rests.Goals as goal
 
 -- src/world/finishing/resting.rt

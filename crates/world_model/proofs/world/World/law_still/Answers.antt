@@ -1,7 +1,7 @@
 use Rattle.std.proofs.Common.{subst}
-use Rattle.world_model.specs.World.{WorldValue}
-use Rattle.world_model.specs.Finished.{AllRest, IsStill, IsNowhereSpent}
-use Rattle.world_model.proofs.Ending.StillIsEnd.{still_rests}
+use Rattle.bare_world.specs.World.{WorldValue}
+use Rattle.bare_world.specs.Finished.{AllRest, IsStill, IsNowhereSpent}
+use Rattle.bare_world.proofs.Ending.StillIsEnd.{still_rests}
 use Rattle.world_model.proofs.world.World.law_still.Goals as goal
 
 -- src/world/finishing/resting.rt

@@ -1,7 +1,7 @@
 use Rattle.std.proofs.Common.{subst}
-use Rattle.world_model.specs.Headline.{StandsFor}
-use Rattle.world_model.specs.Retained.{NothingGone}
-use Rattle.world_model.proofs.Sequences.{world_fresh, world_stands, world_retains}
+use Rattle.bare_world.specs.Headline.{StandsFor}
+use Rattle.bare_world.specs.Retained.{NothingGone}
+use Rattle.bare_world.proofs.Sequences.{world_fresh, world_stands, world_retains}
 use Rattle.world_model.proofs.world.World.new.Goals as goal
 
 -- src/world.rt

@@ -1,8 +1,8 @@
 use Rattle.std.proofs.Common.{refl, arith}
-use Rattle.world_model.specs.Finished.{no_steps, OpensInVain}
-use Rattle.world_model.proofs.Calls.RankOfEvent.{on_err}
-use Rattle.world_model.proofs.Ending.IsPlayedOn.{played_same, quiet_last, quiet_then}
-use Rattle.world_model.proofs.Ending.TriedInVain.{tried_nothing, each_next, each_all}
+use Rattle.bare_world.specs.Finished.{no_steps, OpensInVain}
+use Rattle.bare_world.proofs.Calls.RankOfEvent.{on_err}
+use Rattle.bare_world.proofs.Ending.IsPlayedOn.{played_same, quiet_last, quiet_then}
+use Rattle.bare_world.proofs.Ending.TriedInVain.{tried_nothing, each_next, each_all}
 use Rattle.world_model.proofs.world.World.open_gates.Goals as goal
 
 -- src/world/finishing.rt

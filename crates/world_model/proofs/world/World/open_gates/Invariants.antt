@@ -1,4 +1,4 @@
-use Rattle.world_model.specs.Finished.{Played, no_steps, Tried, EachBelow, OpensInVain}
+use Rattle.bare_world.specs.Finished.{Played, no_steps, Tried, EachBelow, OpensInVain}
 use Rattle.world_model.proofs.world.World.open_gates.Given as goal
 
 abbrev pub invariant-loop-rank : goal.invariant-loop-rank

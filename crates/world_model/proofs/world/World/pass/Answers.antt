@@ -1,5 +1,5 @@
-use Rattle.world_model.specs.Finished.{no_steps}
-use Rattle.world_model.proofs.Ending.IsPlayedOn.{quiet_last, arrive_quiet}
+use Rattle.bare_world.specs.Finished.{no_steps}
+use Rattle.bare_world.proofs.Ending.IsPlayedOn.{quiet_last, arrive_quiet}
 use Rattle.world_model.proofs.world.World.pass.Goals as goal
 
 -- src/world/finishing.rt

@@ -1,5 +1,5 @@
-use Rattle.world_model.specs.Finished.{Played, no_steps, Tried, PutsInVain}
-use Rattle.world_model.proofs.Ending.TriedInVain.{RowsBelow, RowTo}
+use Rattle.bare_world.specs.Finished.{Played, no_steps, Tried, PutsInVain}
+use Rattle.bare_world.proofs.Ending.TriedInVain.{RowsBelow, RowTo}
 use Rattle.world_model.proofs.world.World.pass_all.Given as goal
 
 abbrev pub invariant-loop-source : goal.invariant-loop-source

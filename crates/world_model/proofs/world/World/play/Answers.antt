@@ -1,8 +1,8 @@
 use Rattle.std.proofs.Common.{List, [], ◌∷◌, ◌++◌, sym, ap, subst, ◌∙◌}
-use Rattle.world_model.specs.World.{WorldValue}
-use Rattle.world_model.specs.Onward.{IsWorld}
-use Rattle.world_model.specs.declared.event.WorldEvent.{WorldEvent}
-use Rattle.world_model.proofs.Ending.IsPlayedOn.{played_one}
+use Rattle.bare_world.specs.World.{WorldValue}
+use Rattle.bare_world.specs.Onward.{IsWorld}
+use Rattle.bare_world.specs.declared.event.WorldEvent.{WorldEvent}
+use Rattle.bare_world.proofs.Ending.IsPlayedOn.{played_one}
 use Rattle.world_model.proofs.world.World.play.Goals as goal
 
 -- src/world/finishing.rt

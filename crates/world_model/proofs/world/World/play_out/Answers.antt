@@ -1,4 +1,4 @@
-use Rattle.world_model.proofs.Ending.Rounds.{rounds_whole}
+use Rattle.bare_world.proofs.Ending.Rounds.{rounds_whole}
 use Rattle.world_model.proofs.world.World.play_out.Goals as goal
 
 -- src/world/finishing.rt

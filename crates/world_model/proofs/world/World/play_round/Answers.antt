@@ -1,7 +1,7 @@
-use Rattle.world_model.specs.Finished.{for_all}
-use Rattle.world_model.proofs.Ending.IsPlayedOn.{quiet_last}
-use Rattle.world_model.proofs.Ending.TriedInVain.{round_still}
-use Rattle.world_model.proofs.Ending.Rounds.{round_of_two, round_of_three}
+use Rattle.bare_world.specs.Finished.{for_all}
+use Rattle.bare_world.proofs.Ending.IsPlayedOn.{quiet_last}
+use Rattle.bare_world.proofs.Ending.TriedInVain.{round_still}
+use Rattle.bare_world.proofs.Ending.Rounds.{round_of_two, round_of_three}
 use Rattle.world_model.proofs.world.World.play_round.Goals as goal
 
 -- src/world/finishing.rt

@@ -1,7 +1,7 @@
 use Rattle.std.proofs.Common.{refl, arith}
-use Rattle.world_model.specs.Finished.{for_all}
-use Rattle.world_model.proofs.Ending.IsPlayedOn.{played_same, played_more}
-use Rattle.world_model.proofs.Ending.Rounds.{rounds_none, rounds_played}
+use Rattle.bare_world.specs.Finished.{for_all}
+use Rattle.bare_world.proofs.Ending.IsPlayedOn.{played_same, played_more}
+use Rattle.bare_world.proofs.Ending.Rounds.{rounds_none, rounds_played}
 use Rattle.world_model.proofs.world.World.play_rounds.Goals as goal
 
 -- src/world/finishing.rt

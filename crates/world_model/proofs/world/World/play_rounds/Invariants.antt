@@ -1,4 +1,4 @@
-use Rattle.world_model.specs.Finished.{Played, for_all, HadRounds}
+use Rattle.bare_world.specs.Finished.{Played, for_all, HadRounds}
 use Rattle.world_model.proofs.world.World.play_rounds.Given as goal
 
 abbrev pub invariant-loop : goal.invariant-loop

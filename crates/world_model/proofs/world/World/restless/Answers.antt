@@ -1,6 +1,6 @@
 use Rattle.std.proofs.Common.{arith}
 use Rattle.std.proofs.lemmas.Bool.{OnTrue_at}
-use Rattle.world_model.proofs.Ending.QuietRanks.{rest_next}
+use Rattle.bare_world.proofs.Ending.QuietRanks.{rest_next}
 use Rattle.world_model.proofs.world.World.restless.Goals as goal
 
 -- src/world/finishing/resting.rt

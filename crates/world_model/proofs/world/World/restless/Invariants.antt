@@ -1,5 +1,5 @@
 use Rattle.std.proofs.Common.{ℕ, ◌<◌}
-use Rattle.world_model.specs.Finished.{RestsAt}
+use Rattle.bare_world.specs.Finished.{RestsAt}
 use Rattle.world_model.proofs.world.World.restless.Given as goal
 
 abbrev pub invariant-loop-rank : goal.invariant-loop-rank

@@ -1,13 +1,13 @@
 use Rattle.std.proofs.Common.{ℕ, ◌+◌, ◌<◌, List, [], ◌∷◌, ◌++◌, length, take, get_or, arith, refl, subst, sym, ◌∙◌}
 use Rattle.std.proofs.lemmas.List.{take_more}
-use Rattle.world_model.specs.World.{WorldValue}
-use Rattle.world_model.specs.Headline.{StandsFor}
-use Rattle.world_model.specs.Retained.{NothingGone}
-use Rattle.world_model.specs.Follows.{Follows}
-use Rattle.world_model.specs.Sequences.{FollowsAll}
-use Rattle.world_model.specs.declared.event.WorldEvent.{WorldEvent}
-use Rattle.world_model.specs.declared.reply.Reply.{Reply}
-use Rattle.world_model.proofs.Sequences.{follows_push, stops, world_stands, world_retains}
+use Rattle.bare_world.specs.World.{WorldValue}
+use Rattle.bare_world.specs.Headline.{StandsFor}
+use Rattle.bare_world.specs.Retained.{NothingGone}
+use Rattle.bare_world.specs.Follows.{Follows}
+use Rattle.bare_world.specs.Sequences.{FollowsAll}
+use Rattle.bare_world.specs.declared.event.WorldEvent.{WorldEvent}
+use Rattle.bare_world.specs.declared.reply.Reply.{Reply}
+use Rattle.bare_world.proofs.Sequences.{follows_push, stops, world_stands, world_retains}
 use Rattle.world_model.proofs.world.World.run.Goals as goal
 
 -- one more event of the list

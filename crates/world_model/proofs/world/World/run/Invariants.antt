@@ -1,7 +1,7 @@
 use Rattle.std.proofs.Common.{◌≡◌, ◌≤◌, length, take, vec_capacity, vec_len}
-use Rattle.world_model.specs.Sequences.{FollowsAll}
-use Rattle.world_model.specs.Headline.{StandsFor}
-use Rattle.world_model.specs.Retained.{NothingGone}
+use Rattle.bare_world.specs.Sequences.{FollowsAll}
+use Rattle.bare_world.specs.Headline.{StandsFor}
+use Rattle.bare_world.specs.Retained.{NothingGone}
 use Rattle.world_model.proofs.world.World.run.Given as goal
 
 abbrev pub invariant-loop-done : goal.invariant-loop-done

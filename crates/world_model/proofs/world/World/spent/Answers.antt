@@ -1,4 +1,4 @@
-use Rattle.world_model.proofs.Ending.QuietRanks.{unspent_next}
+use Rattle.bare_world.proofs.Ending.QuietRanks.{unspent_next}
 use Rattle.world_model.proofs.world.World.spent.Goals as goal
 
 -- src/world/finishing/resting.rt

@@ -1,6 +1,6 @@
 use Rattle.std.proofs.Common.{ℕ, ◌<◌}
 use Rattle.rank_node.specs.declared.fault.NodeFault.{NodeFault}
-use Rattle.world_model.specs.Finished.{IsSpent}
+use Rattle.bare_world.specs.Finished.{IsSpent}
 use Rattle.world_model.proofs.world.World.spent.Given as goal
 
 abbrev pub invariant-loop-rank : goal.invariant-loop-rank

@@ -1,9 +1,9 @@
 use Rattle.std.proofs.Common.{refl, arith}
-use Rattle.world_model.specs.Finished.{below, StepsInVain}
-use Rattle.world_model.proofs.Calls.RankOfEvent.{on_err}
-use Rattle.world_model.proofs.Ending.IsPlayedOn.{played_same, one_step, one_each, one_then}
-use Rattle.world_model.proofs.Ending.Rounds.{turns_next}
-use Rattle.world_model.proofs.Ending.TriedInVain.{tried_nothing, each_next, each_all}
+use Rattle.bare_world.specs.Finished.{below, StepsInVain}
+use Rattle.bare_world.proofs.Calls.RankOfEvent.{on_err}
+use Rattle.bare_world.proofs.Ending.IsPlayedOn.{played_same, one_step, one_each, one_then}
+use Rattle.bare_world.proofs.Ending.Rounds.{turns_next}
+use Rattle.bare_world.proofs.Ending.TriedInVain.{tried_nothing, each_next, each_all}
 use Rattle.world_model.proofs.world.World.step_all.Goals as goal
 
 -- src/world/finishing.rt

@@ -1,5 +1,5 @@
-use Rattle.world_model.specs.Finished.{Played, below, Tried, EachBelow, StepsInVain}
-use Rattle.world_model.proofs.Ending.Rounds.{TurnsBelow}
+use Rattle.bare_world.specs.Finished.{Played, below, Tried, EachBelow, StepsInVain}
+use Rattle.bare_world.proofs.Ending.Rounds.{TurnsBelow}
 use Rattle.world_model.proofs.world.World.step_all.Given as goal
 
 abbrev pub invariant-loop-rank : goal.invariant-loop-rank

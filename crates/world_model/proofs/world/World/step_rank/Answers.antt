@@ -1,6 +1,6 @@
-use Rattle.world_model.proofs.Ending.IsPlayedOn.{step_played}
-use Rattle.world_model.proofs.Ending.TriedInVain.{step_tried}
-use Rattle.world_model.proofs.Ending.Rounds.{turn_taken}
+use Rattle.bare_world.proofs.Ending.IsPlayedOn.{step_played}
+use Rattle.bare_world.proofs.Ending.TriedInVain.{step_tried}
+use Rattle.bare_world.proofs.Ending.Rounds.{turn_taken}
 use Rattle.world_model.proofs.world.World.step_rank.Goals as goal
 
 -- src/world/finishing.rt

@@ -1,0 +1,15 @@
+pub use Rattle.audit.proofs.Rows
+pub mod Lists
+pub mod Covers
+pub mod Standing
+pub mod Plain
+pub mod Runs
+pub mod Onward
+pub mod Calls
+pub mod Alike
+pub mod Way
+pub mod Again
+pub mod Ending
+pub mod Headline
+pub mod HeadlineKept
+pub mod Sequences

@@ -1,9 +1,0 @@
-use Rattle.world_model.specs.Driven.{Flushed}
-use Rattle.world_model.specs.Measures.{outstanding_at}
-use Rattle.world_model.proofs.bare_world.BareWorld.flush.Given as goal
-
-abbrev pub invariant-loop : goal.invariant-loop
-invariant-loop l = Flushed l.fn.self l.fn.events.items l.self l.events.items
-
-abbrev pub decreases-loop : goal.decreases-loop
-decreases-loop l = outstanding_at l.source l.dest l.self

@@ -1,5 +1,0 @@
-use Rattle.world_model.specs.Driven.{Listened, HeardTo}
-use Rattle.world_model.proofs.bare_world.BareWorld.hear.Given as goal
-
-abbrev pub invariant-loop-index : goal.invariant-loop-index
-invariant-loop-index l = Listened l.fn.self l.fn.events.items l.self l.events.items × HeardTo l.index l.source l.dest l.self

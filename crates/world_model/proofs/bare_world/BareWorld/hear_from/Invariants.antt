@@ -1,6 +1,0 @@
-use Rattle.std.proofs.Common.{ℕ, ◌<◌}
-use Rattle.world_model.specs.Driven.{Listened, Heard}
-use Rattle.world_model.proofs.bare_world.BareWorld.hear_from.Given as goal
-
-abbrev pub invariant-loop-dest : goal.invariant-loop-dest
-invariant-loop-dest l = Listened l.fn.self l.fn.events.items l.self l.events.items × ((s : ℕ) → s < l.dest → Heard l.source s l.self)

@@ -1,6 +1,0 @@
-use Rattle.std.proofs.Common.{◌≡◌}
-use Rattle.world_model.specs.RunIndex.{with_misses}
-use Rattle.world_model.proofs.run.Run.push_misses.Given as goal
-
-abbrev pub invariant-loop-done : goal.invariant-loop-done
-invariant-loop-done l = (l.self.acts ≡ with_misses l.fn.rank l.done l.fn.self.acts) × (l.self.ranks ≡ l.fn.self.ranks)
