@@ -37,7 +37,7 @@ back x c n m [] ys q h = moved x c n m ys (omega (arith, q)) h
 back x c n m (l ∷ ls) ys q h = back x c (n + 1) m ls ys (omega (arith, q)) h.1
 
 -- what is denied doesn't hold
-pub denied : (b : Bool) → not b ≡ true → b ≡ false
+denied : (b : Bool) → not b ≡ true → b ≡ false
 denied true e = absurd cc
 denied false e = refl
 

@@ -1,3 +1,0 @@
-pub mod Silent
-pub mod Sound
-pub mod Covering
