@@ -23,9 +23,10 @@ use Rattle.serde_json.specs.Written.{compact_text, has_float, items_have_float, 
 use Rattle.runner.specs.SearchObject.{IsSearchObject, array_of, choice_members, choice_object, count, count_members, end_members, mark_at}
 use Rattle.runner.specs.SearchObject.{mark_value, object_of, outcome_object, outcome_objects, place_members, rank_object, rank_objects}
 use Rattle.runner.specs.SearchObject.{behind_first, first_of, found_members, is_safe_if_known, known_members, left_array, left_members, left_object}
-use Rattle.runner.specs.SearchObject.{safety_members, says_none, search_object, value, wait_object, wait_objects, waits_objects, with_members}
+use Rattle.runner.specs.SearchObject.{safety_members, says_none, search_object, value, wait_object, waits_objects, with_members}
 use Rattle.runner.specs.declared.explored.safety.Safety.{Safety}
 use Rattle.runner.specs.declared.explored.safety.Safety.TheVariants as safety
+use Rattle.runner.specs.declared.explored.safety.Wait.{Wait}
 
 -- of three lists of members without a float the order picks one
 no_float-put_at : (o : Ordering) (a b c : Members) → members_have_float a ≡ false → members_have_float b ≡ false → members_have_float c ≡ false
@@ -182,18 +183,17 @@ no_float-found found marks lines races clean =
     (no_float-outcomes lines marks 0 found.outcomes found.choices found.left, (clean, (refl, (refl, (refl, (refl, (refl, tt))))))) refl
 
 -- ranks that wait, and their lines
-no_float-wait_objects : (ranks lines : List ℕ) → items_have_float (items_of (wait_objects ranks lines)) ≡ false
-no_float-wait_objects [] lines = refl
-no_float-wait_objects (rank ∷ ranks) [] = refl
-no_float-wait_objects (rank ∷ ranks) (line ∷ lines) =
-    or_from (has_float (wait_object rank line)) (items_have_float (items_of (wait_objects ranks lines)))
-    (no_float-object_of ((codes "rank", count rank) ∷ (codes "line", count line) ∷ []) (refl, (refl, tt))) (no_float-wait_objects ranks lines)
+no_float-wait_objects : (waits : List Wait) → items_have_float (items_of (map wait_object waits)) ≡ false
+no_float-wait_objects [] = refl
+no_float-wait_objects (wait ∷ waits) =
+    or_from (has_float (wait_object wait)) (items_have_float (items_of (map wait_object waits)))
+    (no_float-object_of (place_members wait.rank wait.line) (no_float-place _ _)) (no_float-wait_objects waits)
 
 -- those that wait, if some do
 no_float-waits : (told : Safety) → items_have_float (items_of (waits_objects told)) ≡ false
 no_float-waits safety.Untold = refl
 no_float-waits safety.Safe = refl
-no_float-waits (safety.NotSafe waits) = no_float-wait_objects waits.ranks.items waits.lines.items
+no_float-waits (safety.NotSafe waits) = no_float-wait_objects waits.ranks.items
 no_float-waits (safety.Unknown why) = refl
 
 -- nor is there one in all, if there is none in the races

@@ -143,13 +143,15 @@ is_second text lines program job found told is needed second = record {
   second = λ _ _. second;
 }
 
--- what is said if there is no acknowledged program
+-- what is said if a send computes its tag, so that there is no acknowledged program
 pub of_computed : (text : List ℕ) (job : ExploreJob) → HasComputedTag text → IsSecond text job (safety.Unknown unknown.ComputedTag)
 of_computed text job why = IsSecond.computed why
 
+-- if that passes a limit of texts
 pub of_limits : (text : List ℕ) (job : ExploreJob) → IsPastLimits text → IsSecond text job (safety.Unknown unknown.PastLimits)
 of_limits text job why = IsSecond.past why
 
+-- if the text has a fault
 pub of_fault : (text : List ℕ) (job : ExploreJob) (fault : ProgramFault) → IsFaultOf text fault.line fault.kind → IsSecond text job safety.Untold
 of_fault text job fault is = IsSecond.faulty is
 

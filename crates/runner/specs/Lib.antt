@@ -12,6 +12,7 @@ pub mod Traces
 pub mod Partings
 pub mod LeftText
 pub mod Meanings
+pub mod Waits
 pub mod Safety
 pub mod SearchObject
 pub mod OutcomesText

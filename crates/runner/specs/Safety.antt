@@ -1,113 +1,24 @@
 -- Whether a program is safe: it completes without buffering (MPI 1.1, section 3.5), so also if each
 -- send waits until its message is received (section 3.4). This is looked for among the runs of the
 -- acknowledged program (docs/MPI.md, "Safe programs").
-use Rattle.std.specs.Prelude.{◌≡◌, ℕ, Bool, true, false, not, ◌==◌, ◌&&◌, ◌||◌, if◌then◌else◌, List, [], ◌∷◌, ◌++◌, Option, Some, None, length, reverse, slice_get, codes}
-use Rattle.std.specs.List.{list_all, list_any}
-use Rattle.audit.specs.FinalRuns.Maximal.{IsOutcomeOf, RankOutcome}
+use Rattle.std.specs.Prelude.{◌≡◌, ℕ, Bool, true, false, ◌==◌, ◌&&◌, if◌then◌else◌, List, [], ◌++◌, Option, Some, None, length, map, codes}
+use Rattle.std.specs.List.{filter_map, list_any}
 use Rattle.command_line.specs.declared.exploring.ExploreForm.{ExploreForm}
 use Rattle.command_line.specs.declared.exploring.ExploreForm.TheVariants as form
 use Rattle.command_line.specs.declared.exploring.ExploreJob.{ExploreJob}
-use Rattle.crash_free.specs.Leftovers.{join_below, left_in}
-use Rattle.crash_free.specs.Runs.{Passed}
-use Rattle.crash_free.specs.Sim.{SimValue, Simulates, start_of}
-use Rattle.crash_free.specs.declared.leftover.Leftover.{Leftover}
-use Rattle.crash_free.specs.declared.leftover.Mark.{Mark}
-use Rattle.crash_free.specs.declared.leftover.Mark.TheVariants as mark
 use Rattle.explore.specs.Explored.{ExploredValue}
-use Rattle.explore.specs.Outcomes.{IsAmong}
 use Rattle.rank_language.specs.Block.{Line, simple_line, if_line, else_line, end_line, while_line, back_line}
 use Rattle.rank_language.specs.Placed.{Simple, declare, declare_array, assign, assign_item, send, receive, probe, try_probe, print, collect}
 use Rattle.rank_language.specs.Program.{ProgramValue}
-use Rattle.rank_machine.specs.Machine.{MachineValue}
 use Rattle.run_events.specs.Halting.{AllHalt}
 use Rattle.runner.specs.Meanings.{named_lines, named_ranks}
+use Rattle.runner.specs.Waits.{IsEmpty, WaitInARun, waits_somewhere}
 use Rattle.runner.specs.declared.explored.safety.Safety.{Safety}
 use Rattle.runner.specs.declared.explored.safety.Safety.TheVariants as safety
 use Rattle.runner.specs.declared.explored.safety.Unknown.{Unknown}
 use Rattle.runner.specs.declared.explored.safety.Unknown.TheVariants as unknown
+use Rattle.runner.specs.declared.explored.safety.Wait.{Wait}
 use Rattle.runner.specs.declared.explored.safety.Waits.{Waits}
-
--- the message is of a send, not of a collective
-abbrev pub is_tag : Mark → Bool
-is_tag (mark.Tag tag) = true
-is_tag (mark.Call kind number) = false
-
--- this rank sent it by a send
-abbrev pub is_sent_by : ℕ → Leftover → Bool
-is_sent_by rank x = is_tag x.mark && x.source == rank
-
--- A rank waits in its send: a message that it sent is among those that were never received.
-abbrev pub waits_in_send : List Leftover → ℕ → Bool
-waits_in_send left rank = list_any (is_sent_by rank) left
-
--- who sent the message by a send waits for another rank, which waits in a send too
-abbrev pub is_for_another : List Leftover → Leftover → Bool
-is_for_another left x = not (is_tag x.mark) || (not (x.rank == x.source) && waits_in_send left x.rank)
-
--- each rank that waits in its send waits for another one that does
-abbrev pub wait_for_each_other : List Leftover → Bool
-wait_for_each_other left = list_all (is_for_another left) left
-
--- the rank, if it waits in its send
-abbrev pub if_waits : List Leftover → ℕ → List ℕ
-if_waits left rank = if waits_in_send left rank then rank ∷ [] else []
-
--- the number, and 0 if there is none
-abbrev pub number_of : Option ℕ → ℕ
-number_of None = 0
-number_of (Some number) = number
-
--- the line on which the machine's statement stands, of these lines of statements; 0 if it isn't known
-abbrev pub line_of_machine : List ℕ → Option MachineValue → ℕ
-line_of_machine lines None = 0
-line_of_machine lines (Some machine) = number_of (slice_get lines machine.position)
-
--- the line at which the rank waits, if it waits in its send
-abbrev pub line_if_waits : List ℕ → List MachineValue → List Leftover → ℕ → List ℕ
-line_if_waits lines machines left rank =
-    if waits_in_send left rank then line_of_machine lines (slice_get machines rank) ∷ [] else []
-
--- after this run these ranks wait in their sends, at these lines
-pub record AreWaits (lines : List ℕ) (s : SimValue) (waits : Waits) : Type 0 where
-  pub ranks : waits.ranks.items ≡ join_below (if_waits (left_in (length s.machines) s.run)) (length s.machines)
-  pub at : waits.lines.items ≡ join_below (line_if_waits lines s.machines (left_in (length s.machines) s.run)) (length s.machines)
-  pub each_other : waits.each_other ≡ wait_for_each_other (left_in (length s.machines) s.run)
-
--- These acts are made, the oldest first, by this program on so many ranks, and each machine stands
--- where its rank does.
-pub record IsMadeOf (program : ProgramValue) (n : ℕ) (acts : List Passed) (s : SimValue) : Type 0 where
-  pub program_same : s.program ≡ program
-  pub size : length s.machines ≡ n
-  pub stands : Simulates s
-  pub run : s.run ≡ reverse acts
-
--- in some run of the program that has this outcome, and in which the machines stand where their ranks
--- do, these ranks wait in their sends
-pub record WaitWith (program : ProgramValue) (n : ℕ) (lines : List ℕ) (outcome : List RankOutcome) (waits : Waits) : Type 0 where
-  pub run : SimValue
-  pub program_same : run.program ≡ program
-  pub size : length run.machines ≡ n
-  pub stands : Simulates run
-  pub ended : IsOutcomeOf (start_of program n) n run.run outcome
-  pub wait : AreWaits lines run waits
-
--- so they do in some run that has one of these outcomes
-pub record WaitInARun (program : ProgramValue) (n : ℕ) (lines : List ℕ) (outcomes : List (List RankOutcome)) (waits : Waits) : Type 0 where
-  pub outcome : List RankOutcome
-  pub found : IsAmong outcomes outcome
-  pub wait : WaitWith program n lines outcome waits
-
--- No run is shown in which ranks wait.
-abbrev pub IsEmpty : Waits → Type 0
-IsEmpty waits = waits.ranks.items ≡ []
-
--- a message of a send was never received in one of these runs
-abbrev pub some_wait : List (List Leftover) → Bool
-some_wait listed = list_any (λ (left : List Leftover). list_any (λ (x : Leftover). is_tag x.mark) left) listed
-
--- so it is of one of the outcomes
-abbrev pub waits_somewhere : ExploredValue → Bool
-waits_somewhere found = list_any some_wait found.left
 
 -- the search is complete, and each rank halts in each outcome
 pub record IsHalting (found : ExploredValue) : Type 0 where
@@ -181,9 +92,18 @@ abbrev pub wait_words : Waits → List ℕ
 wait_words waits = if waits.each_other then codes " wait for each other, at " else
     (if length waits.ranks.items == 1 then codes " waits in its send, at " else codes " wait in their sends, at ")
 
+-- the numbers of the ranks that wait
+abbrev pub waiting_ranks : List Wait → List ℕ
+waiting_ranks waits = map (λ (w : Wait). w.rank) waits
+
+-- the lines at which they do, as far as they are known
+abbrev pub waiting_lines : List Wait → List ℕ
+waiting_lines waits = filter_map (λ (w : Wait). w.line) waits
+
 -- the line on these
 abbrev pub waits_line : Waits → List ℕ
-waits_line waits = unsafe_words ++ named_ranks waits.ranks.items ++ wait_words waits ++ named_lines waits.lines.items ++ codes "\n"
+waits_line waits =
+    unsafe_words ++ named_ranks (waiting_ranks waits.ranks.items) ++ wait_words waits ++ named_lines (waiting_lines waits.ranks.items) ++ codes "\n"
 
 -- the same, if no run was shown in which ranks wait
 abbrev pub waits_text : Waits → List ℕ

@@ -16,6 +16,7 @@ use Rattle.rank_machine.specs.Faults.{fault_name, fault_number}
 use Rattle.run_shown.specs.Trace.Words.{name_text}
 use Rattle.runner.specs.declared.explored.safety.Safety.{Safety}
 use Rattle.runner.specs.declared.explored.safety.Safety.TheVariants as safety
+use Rattle.runner.specs.declared.explored.safety.Wait.{Wait}
 use Rattle.serde_json.specs.Data.{Data, Items, Members, put}
 use Rattle.serde_json.specs.Data as json
 use Rattle.serde_json.specs.Find.{of_integer}
@@ -161,21 +162,15 @@ is_safe_if_known safety.Safe = Some true
 is_safe_if_known (safety.NotSafe waits) = Some false
 is_safe_if_known (safety.Unknown why) = None
 
--- a rank that waits, and its line
-abbrev pub wait_object : ℕ → ℕ → Data
-wait_object rank line = object_of ((codes "rank", count rank) ∷ (codes "line", count line) ∷ [])
-
--- so of each of these, which wait at these lines
-abbrev pub wait_objects : List ℕ → List ℕ → List Data
-wait_objects [] lines = []
-wait_objects (rank ∷ ranks) [] = []
-wait_objects (rank ∷ ranks) (line ∷ lines) = wait_object rank line ∷ wait_objects ranks lines
+-- a rank that waits, and the line at which it does
+abbrev pub wait_object : Wait → Data
+wait_object wait = object_of (place_members wait.rank wait.line)
 
 -- those that wait, if it isn't safe
 abbrev pub waits_objects : Safety → List Data
 waits_objects safety.Untold = []
 waits_objects safety.Safe = []
-waits_objects (safety.NotSafe waits) = wait_objects waits.ranks.items waits.lines.items
+waits_objects (safety.NotSafe waits) = map wait_object waits.ranks.items
 waits_objects (safety.Unknown why) = []
 
 -- both members

@@ -36,6 +36,7 @@ mod soaking;
 mod telling;
 mod trace;
 mod unreceived;
+mod waiting;
 mod world;
 mod world_objects;
 

@@ -20,7 +20,7 @@ use crate::explored::leftover::print_listed;
 use crate::explored::meaning::print_meaning;
 use crate::explored::parting::{Parted, part, print_choices};
 pub use crate::explored::racing::print_summary;
-pub use crate::explored::safety::{Safety, Unknown, Waits, print_safety};
+pub use crate::explored::safety::{Safety, Unknown, Wait, Waits, print_safety};
 use crate::output::{print_end, print_line};
 use audit::End;
 use explore::{Explored, Limits, Outcome, RankEnd};

@@ -164,7 +164,7 @@ fn found_text(
         lines,
         job.synchronous,
     )?;
-    print_safety(&mut text, safety, job.synchronous)?;
+    print_safety(alloc, &mut text, safety, job.synchronous)?;
     Ok(text)
 }
 
@@ -190,7 +190,7 @@ fn summary_text(
         lines,
         job.synchronous,
     )?;
-    print_safety(&mut text, safety, job.synchronous)?;
+    print_safety(alloc, &mut text, safety, job.synchronous)?;
     Ok(text)
 }
 

@@ -8,9 +8,9 @@ ghost use Rattle.runner.specs.SearchObject.{IsSearchObject, choice_members, choi
 ghost use Rattle.runner.specs.SearchObject.{mark_at, mark_value, outcome_object, outcome_objects, place_members};
 ghost use Rattle.runner.specs.SearchObject.{known_members, left_array, left_members, left_object, ordinal_members, says_none};
 ghost use Rattle.runner.specs.SearchObject.{rank_object, rank_objects, value, with_members};
-ghost use Rattle.runner.specs.SearchObject.{is_safe_if_known, safety_members, wait_object, wait_objects, waits_objects};
+ghost use Rattle.runner.specs.SearchObject.{is_safe_if_known, safety_members, wait_object, waits_objects};
 
-use crate::explored::safety::Safety;
+use crate::explored::safety::{Safety, Wait};
 use audit::End;
 use crash_free::{Choice, Leftover, Mark};
 use explore::{Explored, Leftovers, Noted, Outcome, Race, RankEnd};
@@ -86,41 +86,27 @@ fn waits_of(alloc: Heap, safety: &Safety) -> Result<Vec<Value, Heap>, AllocError
     ensures { IfOk result (λ list. map view list.items ≡ waits_objects safety.now) }
 {
     match safety {
-        Safety::NotSafe(waits) => {
-            wait_values(alloc, waits.ranks.as_slice(), waits.lines.as_slice())
-        }
+        Safety::NotSafe(waits) => wait_values(alloc, waits.ranks.as_slice()),
         Safety::Untold | Safety::Safe | Safety::Unknown(_) => Ok(Vec::new(alloc)),
     }
 }
 
 // Each of these ranks, with its line.
-fn wait_values(
-    alloc: Heap,
-    ranks: &[usize],
-    lines: &[usize],
-) -> Result<Vec<Value, Heap>, AllocError>
-    ensures { IfOk result (λ list. map view list.items ≡ wait_objects ranks.now lines.now) }
+fn wait_values(alloc: Heap, ranks: &[Wait]) -> Result<Vec<Value, Heap>, AllocError>
+    ensures { IfOk result (λ list. map view list.items ≡ map wait_object ranks.now) }
 {
     let mut list = Vec::new(alloc);
-    let mut ranks_left = ranks;
-    let mut left = lines;
-    while let [rank, more_ranks @ ..] = ranks_left {
-        let [line, more @ ..] = left else {
-            return Ok(list);
-        };
-        list.push(wait_value(alloc, *rank, *line)?)?;
-        ranks_left = more_ranks;
-        left = more;
+    for wait in ranks {
+        list.push(wait_value(alloc, *wait)?)?;
     }
     Ok(list)
 }
 
-fn wait_value(alloc: Heap, rank: usize, line: usize) -> Result<Value, AllocError>
-    ensures { IfOk result (λ v. view v ≡ wait_object rank line) }
+fn wait_value(alloc: Heap, wait: Wait) -> Result<Value, AllocError>
+    ensures { IfOk result (λ v. view v ≡ wait_object wait) }
 {
     let mut one = Map::new(alloc);
-    put(&mut one, alloc, "rank", Value::from(rank as u64))?;
-    put(&mut one, alloc, "line", Value::from(line as u64))?;
+    put_place(alloc, &mut one, wait.rank, wait.line)?;
     Ok(Value::from(one))
 }
 

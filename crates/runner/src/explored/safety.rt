@@ -1,19 +1,25 @@
 //! Whether a program is safe: it needs no buffer.
-ghost use Rattle.std.specs.Prelude.{◌≡◌, ◌++◌, OnOk, string_bytes};
+ghost use Rattle.std.specs.Prelude.{◌≡◌, ◌++◌, IfOk, OnOk, string_bytes};
 ghost use Rattle.runner.specs.Meanings.{named_ranks};
-ghost use Rattle.runner.specs.Safety.{safety_behind, safety_text, unknown_text, unsafe_words, wait_words, waits_line, waits_text};
+ghost use Rattle.runner.specs.Safety.{safety_behind, safety_text, unknown_text, unsafe_words, wait_words, waiting_lines, waiting_ranks, waits_line, waits_text};
 
 use crate::explored::meaning::{print_lines, print_numbers};
 use limits::Heap;
 use std::alloc::AllocError;
 use std::fmt::Write;
 
-/// Ranks that wait in their sends, if no message is buffered.
+/// A rank that waits in its send, if no message is buffered.
+#[derive(Clone, Copy)]
+pub struct Wait {
+    pub rank: u8,
+    /// The line at which it waits, if that is known.
+    pub line: Option<usize>,
+}
+
+/// The ranks that wait so after a run.
 #[derive(Drop)]
 pub struct Waits {
-    pub ranks: Vec<usize, Heap>,
-    /// The line of each: 0 if it isn't known.
-    pub lines: Vec<usize, Heap>,
+    pub ranks: Vec<Wait, Heap>,
     /// Whether each waits for another one of them.
     pub each_other: bool,
 }
@@ -44,6 +50,7 @@ pub enum Safety {
 
 /// The last line of what was found, unless the search itself was one of synchronous runs.
 pub fn print_safety(
+    alloc: Heap,
     text: &mut String<Heap>,
     safety: &Safety,
     synchronous: bool,
@@ -53,16 +60,16 @@ pub fn print_safety(
     if synchronous {
         return Ok(());
     }
-    print_told(text, safety)
+    print_told(alloc, text, safety)
 }
 
-fn print_told(text: &mut String<Heap>, safety: &Safety) -> Result<(), AllocError>
+fn print_told(alloc: Heap, text: &mut String<Heap>, safety: &Safety) -> Result<(), AllocError>
     ensures { OnOk result (string_bytes text.new ≡ string_bytes text.old ++ safety_text safety.now) }
 {
     match safety {
         Safety::Untold => Ok(()),
         Safety::Safe => writeln!(text, "# safe: no send needs a buffer"),
-        Safety::NotSafe(waits) => print_waits(text, waits),
+        Safety::NotSafe(waits) => print_waits(alloc, text, waits),
         Safety::Unknown(why) => print_unknown(text, *why),
     }
 }
@@ -90,23 +97,43 @@ fn print_unknown(text: &mut String<Heap>, why: Unknown) -> Result<(), AllocError
     }
 }
 
-fn print_waits(text: &mut String<Heap>, waits: &Waits) -> Result<(), AllocError>
+fn print_waits(alloc: Heap, text: &mut String<Heap>, waits: &Waits) -> Result<(), AllocError>
     ensures { OnOk result (string_bytes text.new ≡ string_bytes text.old ++ waits_text waits.now) }
 {
     if waits.ranks.is_empty() {
         return writeln!(text, "# not safe: without buffers a rank waits in its send");
     }
-    print_waits_line(text, waits)
+    print_waits_line(alloc, text, waits)
 }
 
-fn print_waits_line(text: &mut String<Heap>, waits: &Waits) -> Result<(), AllocError>
+fn print_waits_line(
+    alloc: Heap,
+    text: &mut String<Heap>,
+    waits: &Waits,
+) -> Result<(), AllocError>
     ensures { OnOk result (string_bytes text.new ≡ string_bytes text.old ++ waits_line waits.now) }
 {
+    let ranks = waiting_ranks(alloc, waits.ranks.as_slice())?;
+    let lines = waiting_lines(alloc, waits.ranks.as_slice())?;
     print_unsafe_words(text)?;
-    print_ranks(text, waits.ranks.as_slice())?;
+    print_ranks(text, ranks.as_slice())?;
     print_wait_words(text, waits)?;
-    print_lines(text, waits.lines.as_slice())?;
+    print_lines(text, lines.as_slice())?;
     writeln!(text)
+}
+
+// Which ranks wait.
+fn waiting_ranks(alloc: Heap, waits: &[Wait]) -> Result<Vec<usize, Heap>, AllocError>
+    ensures { IfOk result (λ ranks. ranks.items ≡ waiting_ranks waits.now) }
+{
+    waits.iter().map(|wait| usize::from(wait.rank)).collect(alloc)
+}
+
+// The lines at which they wait.
+fn waiting_lines(alloc: Heap, waits: &[Wait]) -> Result<Vec<usize, Heap>, AllocError>
+    ensures { IfOk result (λ lines. lines.items ≡ waiting_lines waits.now) }
+{
+    waits.iter().filter_map(|wait| wait.line).collect(alloc)
 }
 
 #[tactic(auto, unfolding(crate::specs::Safety::unsafe_words))]

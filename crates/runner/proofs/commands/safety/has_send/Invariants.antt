@@ -1,4 +1,4 @@
-use Rattle.runner.proofs.Waiting.{NoneSends}
+use Rattle.runner.proofs.Safety.{NoneSends}
 use Rattle.runner.proofs.commands.safety.has_send.Given as goal
 
 -- none so far

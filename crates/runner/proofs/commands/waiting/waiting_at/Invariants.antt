@@ -1,8 +1,8 @@
 use Rattle.std.proofs.Common.{◌≡◌, ◌+◌, length}
 use Rattle.std.specs.List.{list_any}
 use Rattle.explore.specs.Explored.{listed_left, rank_outcomes}
-use Rattle.runner.specs.Safety.{some_wait, waits_somewhere}
-use Rattle.runner.proofs.commands.safety.waiting_at.Given as goal
+use Rattle.runner.specs.Waits.{some_wait, waits_somewhere}
+use Rattle.runner.proofs.commands.waiting.waiting_at.Given as goal
 
 -- none of those before
 abbrev pub invariant-loop-rest : goal.invariant-loop-rest

@@ -1,0 +1,123 @@
+//! Who waits in a send, after runs of a program with acknowledgements.
+ghost use Rattle.std.specs.Prelude.{◌≡◌, ◌<◌, ◌⊎◌, false, true, IfOk, IfSome, IsNone, length, slice_get};
+ghost use Rattle.std.specs.List.{list_any};
+ghost use Rattle.runner.specs.Waits.{AreWaits, IsEmpty, WaitWith, is_for_another, is_sent_by, is_tag, line_of_machine};
+ghost use Rattle.runner.specs.Waits.{some_wait, wait_for_each_other, waits_in_send, waits_somewhere};
+
+use crate::commands::exploring::limits_of;
+use crate::explored::{Wait, Waits};
+use command_line::ExploreJob;
+use crash_free::{Leftover, Mark, Sim};
+use explore::{Explored, Leftovers, Outcome, run_of};
+use limits::Heap;
+use rank_language::LinedProgram;
+use std::alloc::AllocError;
+
+/// The first outcome of which a run was found in which a rank waits in its send.
+pub fn waiting_at(found: &Explored) -> Option<usize>
+    ensures there { IfSome result (λ index. index < length found.now.outcomes) }
+    ensures some { IfSome result (λ _. waits_somewhere found.now ≡ true) }
+    ensures none { IsNone result → waits_somewhere found.now ≡ false }
+{
+    let mut index = 0;
+    let mut rest = found.outcomes.as_slice();
+    while let [outcome, more @ ..] = rest {
+        if some_wait(outcome.left.as_slice()) {
+            return Some(index);
+        }
+        index += 1;
+        rest = more;
+    }
+    None
+}
+
+fn some_wait(listed: &[Leftovers]) -> bool
+    ensures { result ≡ some_wait listed.now }
+{
+    listed.iter().any(|left| are_sent(left.messages.as_slice()))
+}
+
+fn are_sent(messages: &[Leftover]) -> bool
+    ensures { result ≡ list_any (λ x. is_tag x.mark) messages.now }
+{
+    messages.iter().any(|message| is_tag(message.mark))
+}
+
+fn is_tag(mark: Mark) -> bool
+    ensures { result ≡ is_tag mark }
+{
+    match mark {
+        Mark::Tag(_) => true,
+        Mark::Call { .. } => false,
+    }
+}
+
+/// Which ranks wait in their sends in a run that has the outcome; none if no run of it is found again.
+#[tactic(auto, using(crate::proofs::Waiting::wait_with))]
+pub fn waits_in(
+    alloc: Heap,
+    job: ExploreJob<'_>,
+    searched: &LinedProgram,
+    outcome: &Outcome,
+) -> Result<Waits, AllocError>
+    ensures { IfOk result (λ waits. WaitWith searched.now.program job.entry.ranks searched.now.lines.items outcome.now.ranks waits ⊎ IsEmpty waits) }
+{
+    match run_of(alloc, &searched.program, job.ranks, limits_of(job), outcome)? {
+        Some(run) => waits_after(alloc, &run, searched.lines.as_slice()),
+        None => Ok(Waits {
+            ranks: Vec::new(alloc),
+            each_other: false,
+        }),
+    }
+}
+
+// Which ranks wait in their sends after a run.
+fn waits_after(alloc: Heap, run: &Sim<'_>, lines: &[usize]) -> Result<Waits, AllocError>
+    ensures { IfOk result (AreWaits lines.now run.now) }
+{
+    let left = run.left()?;
+    let mut ranks = Vec::new(alloc);
+    for rank in 0..run.ranks() {
+        if waits_in_send(left.as_slice(), rank) {
+            let line = line_of_rank(run, rank, lines);
+            ranks.push(Wait { rank, line })?;
+        }
+    }
+    Ok(Waits {
+        ranks,
+        each_other: wait_for_each_other(left.as_slice()),
+    })
+}
+
+// The line at which a rank stands, if it is known.
+fn line_of_rank(run: &Sim<'_>, rank: u8, lines: &[usize]) -> Option<usize>
+    requires { rank < length run.now.machines }
+    ensures { result ≡ line_of_machine lines.now (slice_get run.now.machines rank) }
+{
+    lines.get(run.machine(rank).position()).copied()
+}
+
+// Whether a message that the rank sent is among those that were never received.
+fn waits_in_send(left: &[Leftover], rank: u8) -> bool
+    ensures { result ≡ waits_in_send left.now rank }
+{
+    left.iter().any(|message| is_sent_by(rank, *message))
+}
+
+fn is_sent_by(rank: u8, message: Leftover) -> bool
+    ensures { result ≡ is_sent_by rank message }
+{
+    is_tag(message.mark) && message.source == rank
+}
+
+fn wait_for_each_other(left: &[Leftover]) -> bool
+    ensures { result ≡ wait_for_each_other left.now }
+{
+    left.iter().all(|message| is_for_another(left, *message))
+}
+
+fn is_for_another(left: &[Leftover], message: Leftover) -> bool
+    ensures { result ≡ is_for_another left.now message }
+{
+    !is_tag(message.mark) || (message.rank != message.source && waits_in_send(left, message.rank))
+}
