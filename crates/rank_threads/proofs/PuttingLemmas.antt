@@ -4,9 +4,16 @@ use Rattle.std.proofs.Common.{refl, sym, subst, ap, ◌∙◌, append_assoc, app
 use Rattle.std.proofs.lemmas.Bool.{cases_lt}
 use Rattle.ports.specs.Lanes.{TxValue, put_of}
 use Rattle.rank_threads.specs.Costs.{after_put, all_put, kind_of}
-use Rattle.rank_threads.specs.Putting.{HasNothing, NothingBelow, PutAll, Puts, PutsInto, Stays}
-use Rattle.rank_node.specs.Phases.{outgoing_in}
+use Rattle.rank_threads.specs.Putting.{HasNothing, KeepsOthers, NothingBelow, PutAll, Puts, PutsInto, Stays}
+use Rattle.checkpoint.specs.declared.memory_shelf.MemoryShelf.{MemoryShelf}
+use Rattle.event_logger.specs.Desks.{DeskValue}
+use Rattle.payload_log.specs.Backlog.{backlog, next_of}
+use Rattle.rank_node.specs.Frames.{due_to, first_of, outgoing_of, sent_off}
+use Rattle.rank_node.specs.Node.{Node, no_due}
+use Rattle.rank_node.specs.Phases.{outgoing_in, passed_in}
 use Rattle.rank_node.specs.declared.frame.Frame.{Frame}
+use Rattle.rank_node.specs.declared.frame.Frame.TheVariants as frame
+use Rattle.rank_node.specs.declared.phase.Phase.TheVariants as phase
 use Rattle.rank_threads.specs.Phases.{Phase}
 use Rattle.rank_threads.specs.declared.costs.FrameKind.{FrameKind}
 use Rattle.rank_threads.specs.declared.life.Life.{Life}
@@ -49,13 +56,42 @@ puts_into went p q dest lanes d y within puts = record {
   rank = stays went p q dest _ _ puts;
 }
 
--- where nothing goes to the ranks below this one, nor to this one, nothing goes to those below the next
-pub nothing_next : (k : ℕ) (p : Phase) → NothingBelow k p → HasNothing p k → NothingBelow (k + 1) p
-nothing_next k p below here dest low = go (cases_lt dest k)
+-- where nothing goes to the ranks below this one, and a put to this one leaves nothing to it, nothing
+-- goes to those below the next
+pub nothing_next : (k : ℕ) (p q : Phase) → NothingBelow k p → KeepsOthers k p q → HasNothing q k → NothingBelow (k + 1) q
+nothing_next k p q below others here dest low = go (cases_lt dest k)
   where
-    go : (dest < k) ⊎ (k ≤ dest) → HasNothing p dest
-    go (inl less) = below dest less
-    go (inr more) = (let same : k ≡ dest = omega (arith, low, more) in subst (HasNothing p) same here)
+    go : (dest < k) ⊎ (k ≤ dest) → HasNothing q dest
+    go (inl less) = (let apart : dest ≢ k = omega (arith, less) in others dest apart ∙ below dest less)
+    go (inr more) = (let same : k ≡ dest = omega (arith, low, more) in subst (HasNothing q) same here)
+
+-- what goes to the others stays where nothing is done
+pub none_other : (dest : ℕ) (p q : Phase) → q ≡ p → KeepsOthers dest p q
+none_other dest p q same other apart = ap (λ o. outgoing_in o other) same
+
+-- and where this is done twice
+pub others_on : (dest : ℕ) (p q r : Phase) → KeepsOthers dest p q → KeepsOthers dest q r → KeepsOthers dest p r
+others_on dest p q r one two other apart = two other apart ∙ one other apart
+
+-- a frame that has gone to a rank was none to another
+sent_elsewhere : (v : Node MemoryShelf DeskValue) (dest : ℕ) (f : Option Frame) (other : ℕ) → other ≢ dest
+    → outgoing_of (sent_off v dest f) other ≡ outgoing_of v other
+sent_elsewhere v dest None other apart = refl
+sent_elsewhere v dest (Some (frame.Ask number)) other apart =
+    ap (λ d. first_of d.ask d.kept (next_of (backlog v.log other))) (set_elsewhere v.dues dest other _ no_due apart)
+sent_elsewhere v dest (Some (frame.Kept number)) other apart =
+    ap (λ d. first_of d.ask d.kept (next_of (backlog v.log other))) (set_elsewhere v.dues dest other _ no_due apart)
+sent_elsewhere v dest (Some (frame.Data packet)) other apart =
+    ap (λ b. first_of (due_to v other).ask (due_to v other).kept (next_of b)) (set_elsewhere v.log dest other _ _ apart)
+
+-- so of a rank in any phase
+pub passed_others : (dest : ℕ) (p q : Phase) → q ≡ passed_in p dest → KeepsOthers dest p q
+passed_others dest p q gone other apart = ap (λ o. outgoing_in o other) gone ∙ go p
+  where
+    go : (o : Phase) → outgoing_in (passed_in o dest) other ≡ outgoing_in o other
+    go (phase.Running v) = sent_elsewhere v dest (outgoing_of v dest) other apart
+    go (phase.Replaying r) = sent_elsewhere r.node dest (outgoing_of r.node dest) other apart
+    go (phase.Down s) = refl
 
 -- where nothing went, all lanes are as they were
 pub no_lane : (p : Phase) (dest : ℕ) (lanes : List TxValue) → PutsInto put_result.Full p dest lanes p lanes
@@ -120,4 +156,7 @@ put_kept dest old mid new before to same = record {
 }
 
 -- what one frame more leaves
-pub ruleset put_laws = (put_nothing, put_more, put_full, put_no_more, put_kept)
+pub ruleset put_laws = (put_nothing, put_more, put_full, put_no_more, put_kept, none_other, others_on)
+
+-- what one frame leaves to the others
+pub ruleset others_laws = (none_other, passed_others)

@@ -14,7 +14,8 @@ use Rattle.rank_threads.specs.Endings.{IsKilledAt, crashes_after, end_after, sto
 use Rattle.rank_threads.specs.Keeping.{HasLived, Lives, WasKept, WereKept}
 use Rattle.rank_threads.specs.Lives.{SameLife, SamePlace}
 use Rattle.rank_threads.specs.Phases.{Begins, SameStable}
-use Rattle.rank_threads.specs.Seats.{AreGone, AreSeated, AreSeatedBut, IsLiving, IsSeat, IsSeated, KeepsSeat, LeadsTo, MovesOn, UsesLast, is_gone}
+use Rattle.rank_threads.specs.Seats.{AreGone, AreSeated, AreSeatedBut, EndsAt, IsBehind, IsLiving, IsSeat, IsSeated, KeepsSeat, LeadsTo, LeftBehind, MayEnd, MovesOn, UsesLast}
+use Rattle.rank_threads.specs.Seats.{is_gone, is_living}
 use Rattle.rank_threads.specs.Stations.{IsLifeOf, SameStation}
 use Rattle.rank_threads.specs.Used.{MayUseImage, UsesImages, UsesLines}
 use Rattle.rank_threads.specs.declared.life.ending.Ending.{Ending}
@@ -136,18 +137,33 @@ seated_first text first = seated_between text first first (station_same first) (
 pub place_same : (a : Life) → SamePlace a a
 place_same a = (refl, (record { desk = (refl, refl); rank = refl; size = refl }, refl), refl, refl)
 
--- a life that is over, as it was taken away
-pub life_taken : (text : List ℕ) (old new : Station) (a b d : Life) (how : Ending) → seat.Living b ≡ seat.Living d → IsLiving text old a
-    → SamePlace a b → UsesLast how a.kit.plan b.kit.plan → IsKilledAt how b.node.phase → b.kit.tally.crashes ≡ crashes_after how a.kit.tally.crashes
-    → new.end ≡ end_after how d.kit.tally.is_spent d.node.phase → new.down ≡ stable_in d.node.phase → new.kit.plan ≡ d.kit.plan
-    → new.kit.tally ≡ d.kit.tally → new.stood ≡ stood_after how d.node.phase → IsLifeOf new d
-    → SameStation old new × HasLived text old new
-life_taken text old new a b d how taken living same lines killed counted =
-    let one : b ≡ d = cc in
-    subst
-    (λ l. new.end ≡ end_after how l.kit.tally.is_spent l.node.phase → new.down ≡ stable_in l.node.phase → new.kit.plan ≡ l.kit.plan
-    → new.kit.tally ≡ l.kit.tally → new.stood ≡ stood_after how l.node.phase → IsLifeOf new l → SameStation old new × HasLived text old new)
-    one (life_over text old new a b how living same lines killed counted)
+-- a life that went on at this seat is over, by a turn that ended it so
+pub seat_over : (text : List ℕ) (old : Station) (a b : Life) (how : Ending) (s : Seat) → IsBehind how b s → IsLiving text old a → SamePlace a b
+    → UsesLast how a.kit.plan b.kit.plan → IsKilledAt how b.node.phase → b.kit.tally.crashes ≡ crashes_after how a.kit.tally.crashes
+    → IsSeat text old s
+seat_over text old a b how (seat.Between s) behind living same lines killed counted = absurd behind
+seat_over text old a b how (seat.Living other) behind living same lines killed counted = absurd behind
+seat_over text old a b how (seat.Over s) behind living same lines killed counted =
+    life_over text old s a b how living same lines killed counted behind.end behind.down behind.plan behind.tally behind.stood behind.same
+seat_over text old a b how (seat.Gone s) behind living same lines killed counted = absurd behind
+seat_over text old a b how seat.Empty behind living same lines killed counted = absurd behind
+
+-- a life that was taken away is over, and its rank is here behind it
+pub ends_taken : (how : Ending) (a b : Seat) (life : Life) (s : Station) → a ≡ seat.Living life → b ≡ seat.Over s → LeftBehind how life s → EndsAt how a b
+ends_taken how a b life s taken over left =
+    subst (λ x. EndsAt how x b) (sym taken) (subst (IsBehind how life) (sym over) left)
+
+-- and it may end as was said of the seat
+pub may_end : (how : Ending) (a : Seat) (life : Life) → a ≡ seat.Living life → MayEnd how a → IsKilledAt how life.node.phase
+may_end how a life taken may = subst (MayEnd how) taken may
+
+-- nothing ends at any other seat
+pub none_ends : (how : Ending) (a : Seat) → MayEnd how a → is_living a ≡ true
+none_ends how (seat.Between s) may = absurd may
+none_ends how (seat.Living life) may = refl
+none_ends how (seat.Over s) may = absurd may
+none_ends how (seat.Gone s) may = absurd may
+none_ends how seat.Empty may = absurd may
 
 -- a life that couldn't begin is over
 pub life_failed : (text : List ℕ) (old new : Station) (life : Life) → IsLifeOf old life → IsLifeOf new life → is_some new.kit.tally.fault ≡ true
@@ -248,3 +264,6 @@ gone_more seats end now low below gone at other under = elim (same_or_not at end
       let not : at ≢ end = omega (arith, l) in
       ap is_gone (get_or-set_other seats end at now other not) ∙ below at other l)
 ]
+
+-- how a life is over at its seat
+pub ruleset end_laws = (ends_taken, may_end, none_ends)

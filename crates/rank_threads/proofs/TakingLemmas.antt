@@ -1,17 +1,26 @@
 -- Frames that are taken one after another.
 use Rattle.std.proofs.Common.{◌≡◌, ℕ, ◌<◌, length, Bool, true, false, List, [], ◌∷◌, ◌++◌, Option, Some, None, IfSome, slice_index_or, slice_set}
+use Rattle.std.specs.Prelude.{if◌then◌else◌}
 use Rattle.std.proofs.Math.Numerals.{add-one}
-use Rattle.std.proofs.Common.{◌+◌, ◌||◌, refl, sym, subst, ap, ◌∙◌, append_assoc, append-nil}
+use Rattle.std.proofs.Common.{◌+◌, ◌≤◌, ◌||◌, ◌&&◌, not, nat_le, arith, refl, sym, subst, ap, ◌∙◌, append_assoc, append-nil}
 use Rattle.std.proofs.lemmas.List.{length-set}
 use Rattle.ports.specs.Lanes.{RxValue, taken_of}
 use Rattle.rank_node.specs.declared.frame.Frame.{Frame}
 use Rattle.rank_node.specs.Phases.{arrived_in}
 use Rattle.rank_threads.proofs.PuttingLemmas.{set_here, same_there, set_elsewhere}
-use Rattle.rank_threads.specs.Taking.{all_arrived, is_some_frame, those_of, Takes, TookFrom, TookBelow}
+use Rattle.rank_threads.specs.Taking.{all_arrived, at_once, is_some_frame, those_of, Takes, TookFrom, TookBelow}
 use Rattle.rank_threads.specs.Phases.{Phase}
 use Rattle.rank_threads.specs.declared.life.Life.{Life}
 use Rattle.rank_threads.specs.declared.tally.Tally.{Tally}
 use Rattle.rank_threads.specs.Tally.{all_taken, woken}
+
+-- a rank takes at least one frame of a lane
+pub some_at_once : (is_blocked : Bool) (waiting : ℕ) → 1 ≤ at_once is_blocked waiting
+some_at_once is_blocked waiting = go (not is_blocked && nat_le 16 waiting)
+  where
+    go : (b : Bool) → 1 ≤ (if b then 1 else 16)
+    go true = omega arith
+    go false = omega arith
 
 -- what was taken from the lane at a place was taken from no other
 pub takes_at : (source : ℕ) (frames : List Frame) (lanes : List RxValue) (d y : RxValue) → source < length lanes

@@ -10,8 +10,9 @@ use Rattle.rank_node.specs.declared.turn.Turn.TheVariants as turn
 use Rattle.rank_node.specs.Phases.{clock_in}
 use Rattle.rank_threads.specs.Costs.{after_step}
 use Rattle.rank_threads.specs.Phases.{want_in}
-use Rattle.rank_threads.specs.Steps.{acts_made, acts_of, counted, is_limit, is_own, is_stopped, step_of, told, turn_in, Counts}
-use Rattle.rank_threads.specs.Turns.{Brings, IsBegun}
+use Rattle.rank_threads.specs.Steps.{acts_made, acts_of, counted, is_limit, is_own, is_stopped, may_step, step_of, strides, told, turn_in, Counts, StridesIn}
+use Rattle.rank_threads.specs.Tally.{after_steps}
+use Rattle.rank_threads.specs.Turns.{Brings, IsBegun, MakesStride}
 use Rattle.rank_threads.specs.Phases.{Phase}
 use Rattle.rank_threads.specs.declared.life.Life.{Life}
 use Rattle.rank_threads.specs.declared.turn.stepping.Stepped.{Stepped}
@@ -34,6 +35,38 @@ none_made (Some (want.Print value)) made most some strides none = refl
 none_made (Some want.Halted) made most some strides none = refl
 none_made (Some (want.Faulted k)) made most some strides none = refl
 
+-- one that made some wanted one
+pub some_made : (w : Option Want) (made : ℕ) → 0 < made → (made ≢ 0 → w ≡ Some want.Internal) → is_own w ≡ true
+some_made w made some own = ap is_own (own (omega (arith, some)))
+
+-- a rank that may not step makes no stride
+pub strides_barred : (t : Tally) (p : Phase) → may_step t ≡ false → strides t p ≡ false
+strides_barred t p barred = rw (barred) refl
+
+-- nor does one that wants no step of its own
+pub strides_other : (t : Tally) (p : Phase) → may_step t ≡ true → is_own (want_in p) ≡ false → strides t p ≡ false
+strides_other t p may other = rw (may) other
+
+-- any other does
+pub strides_own : (t : Tally) (p : Phase) → may_step t ≡ true → is_own (want_in p) ≡ true → strides t p ≡ true
+strides_own t p may own = rw (may) own
+
+-- one that makes none is as it was
+pub no_stride_made : (most : ℕ) (old new : Life) → strides old.kit.tally old.node.phase ≡ false → new.node.phase ≡ old.node.phase
+    → new.kit.tally ≡ old.kit.tally → MakesStride most old new
+no_stride_made most old new none same counts =
+    record { made = λ some. (let both : true ≡ false = sym some ∙ none in absurd cc); none = λ f. (same, counts); clock = ap clock_in same }
+
+-- one that makes one counts it
+pub stride_made : (most made : ℕ) (old new : Life) → strides old.kit.tally old.node.phase ≡ true → 0 < made
+    → StridesIn made old.node.phase new.node.phase → new.kit.tally ≡ after_steps old.kit.tally made most false
+    → clock_in new.node.phase ≡ clock_in old.node.phase → MakesStride most old new
+stride_made most made old new own some strode counts clock = record {
+  made = λ t. (made, omega (arith, some), strode, counts);
+  none = λ none. (let both : true ≡ false = sym own ∙ none in absurd cc);
+  clock = clock;
+}
+
 -- what isn't a step of the machine's own
 foreign : (w : Option Want) → is_own w ≡ false → w ≢ Some want.Internal
 foreign w other own = (let both : true ≡ false = sym (ap is_own own) ∙ other in absurd cc)
@@ -53,11 +86,11 @@ pub answers_own : (t : Tally) (p : Phase) → t.is_spent ≡ false → t.is_bloc
 answers_own t p spent blocked own = rw (spent, blocked, own) refl
 
 -- any other makes the step that its state says
-pub answers_told : (t : Tally) (p q : Phase) (answer : Result Turn NodeFault) (result : Result Stepped NodeFault) → t.is_spent ≡ false
-    → t.is_blocked ≡ false → is_own (want_in p) ≡ false → q ≡ p → (answer ≢ Err fault.Memory → answer ≡ turn_in q) → result ≡ told answer
+pub answers_told : (t : Tally) (p : Phase) (answer : Result Turn NodeFault) (result : Result Stepped NodeFault) → t.is_spent ≡ false
+    → t.is_blocked ≡ false → is_own (want_in p) ≡ false → (answer ≢ Err fault.Memory → answer ≡ turn_in p) → result ≡ told answer
     → result ≢ Err fault.Memory → result ≡ step_of t p
-answers_told t p q answer result spent blocked own stood says same memory =
-    rw (spent, blocked, own) (same ∙ ap told (says (λ lacked. memory (same ∙ ap told lacked)) ∙ ap turn_in stood))
+answers_told t p answer result spent blocked own says same memory =
+    rw (spent, blocked, own) (same ∙ ap told (says (λ lacked. memory (same ∙ ap told lacked))))
 
 -- ---- what is counted
 
@@ -111,11 +144,11 @@ pub counted_fault : (most : ℕ) (f : NodeFault) (t : Tally) → is_limit f ≡ 
 counted_fault most f t other = rw (other) refl
 
 -- what is counted of a step that wasn't one of the machine's own is what the state before it says
-pub counts_told : (most : ℕ) (p q r : Phase) (t s u : Tally) (answer : Result Turn NodeFault) (result : Result Stepped NodeFault)
-    → q ≡ p → s ≡ t → (answer ≢ Err fault.Memory → answer ≡ turn_in q) → result ≡ told answer → u ≡ counted most answer s
-    → IfOk result (λ x. Counts most p r x t u)
-counts_told most p q r t s u answer result stood kept says same after =
-    rw (same, after, kept) (counts_step most p r t answer (λ lacked. says lacked ∙ ap turn_in stood))
+pub counts_told : (most : ℕ) (p q : Phase) (t s u : Tally) (answer : Result Turn NodeFault) (result : Result Stepped NodeFault)
+    → s ≡ t → (answer ≢ Err fault.Memory → answer ≡ turn_in p) → result ≡ told answer → u ≡ counted most answer s
+    → IfOk result (λ x. Counts most p q x t u)
+counts_told most p q t s u answer result kept says same after =
+    rw (same, after, kept) (counts_step most p q t answer says)
 
 -- ---- how the clock grows
 
@@ -140,23 +173,22 @@ same_clock (Ok t) p q same = tt
 same_clock (Err f) p q same = ap clock_in same
 
 -- so the clock of a rank that wants no step of its own grows by what the turn is told
-pub clock_told : (p q r : Phase) (answer : Result Turn NodeFault) (result : Result Stepped NodeFault) → q ≡ p → result ≡ told answer
-    → is_own (want_in p) ≡ false → IfOk answer (λ t. clock_in r ≡ clock_in q + acts_made (want_in q) t) → OnErr answer (r ≡ q)
-    → IfOk result (λ s. clock_in r ≡ clock_in p + acts_of s)
-clock_told p q r answer result stood same own grows stays =
-    subst (λ o. IfOk result (λ s. clock_in r ≡ clock_in o + acts_of s)) stood
-    (rw (same) (told_clock (want_in q) answer (clock_in q) (clock_in r) (ap (λ o. is_own (want_in o)) stood ∙ own) grows (same_clock answer q r stays)))
+pub clock_told : (p q : Phase) (answer : Result Turn NodeFault) (result : Result Stepped NodeFault) → result ≡ told answer
+    → is_own (want_in p) ≡ false → IfOk answer (λ t. clock_in q ≡ clock_in p + acts_made (want_in p) t) → OnErr answer (q ≡ p)
+    → IfOk result (λ s. clock_in q ≡ clock_in p + acts_of s)
+clock_told p q answer result same own grows stays =
+    rw (same) (told_clock (want_in p) answer (clock_in p) (clock_in q) own grows (same_clock answer p q stays))
 
 -- ---- how a turn begins
 
--- the rank took what its lanes brought, and made the step that its state said then
-pub is_begun : (old mid new : Life) (begun : TurnStart) → Brings begun.brought old mid
+-- the rank made a stride, took what its lanes brought, and made the step that its state said then
+pub is_begun : (most : ℕ) (old first mid new : Life) (begun : TurnStart) → MakesStride most old first → Brings begun.brought first mid
     → (Ok begun.stepped ≢ Err fault.Memory → Ok begun.stepped ≡ step_of mid.kit.tally mid.node.phase)
-    → new.kit.meter ≡ after_step mid.kit.meter begun.stepped (clock_in new.node.phase) → IsBegun old new begun
-is_begun old mid new begun brings steps acts =
-    record { mid = mid; brought = brings; stepped = steps (λ lacked. absurd cc); acts = acts }
+    → new.kit.meter ≡ after_step mid.kit.meter begun.stepped (clock_in new.node.phase) → IsBegun most old new begun
+is_begun most old first mid new begun strode brings steps acts =
+    record { first = first; strode = strode; mid = mid; brought = brings; stepped = steps (λ lacked. absurd cc); acts = acts }
 
-pub ruleset stride_laws = (none_made)
+pub ruleset stride_laws = (none_made, some_made, strides_barred, strides_other, strides_own, no_stride_made, stride_made)
 
 pub ruleset count_laws = (told_limit, counted_limit, told_fault, counted_fault)
 

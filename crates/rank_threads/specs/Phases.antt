@@ -5,6 +5,7 @@ use Rattle.checkpoint.specs.Spelling.{spelling}
 use Rattle.checkpoint.specs.declared.memory_shelf.MemoryShelf.{MemoryShelf}
 use Rattle.event_logger.specs.Desks.{DeskValue, IsRead, IsSameDesk}
 use Rattle.event_logger.specs.Sequential.Event.{EventValue}
+use Rattle.matching.specs.PacketValue.{PacketValue}
 use Rattle.rank_language.specs.Program.{ProgramValue}
 use Rattle.rank_machine.specs.declared.want.Want.{Want}
 use Rattle.rank_machine.specs.declared.want.Wanted.{Wanted}
@@ -41,6 +42,12 @@ abbrev pub IsWantedIn : Phase → Wanted → Type 0
 IsWantedIn (phase.Running v) found = IsWantedBy v.machine found
 IsWantedIn (phase.Replaying r) found = IsWantedBy r.node.machine found
 IsWantedIn (phase.Down s) found = ⊥
+
+-- the packets that the rank was given and hasn't received; none if it is down
+abbrev pub packets_in : Phase → List PacketValue
+packets_in (phase.Running v) = v.inbox.packets
+packets_in (phase.Replaying r) = r.node.inbox.packets
+packets_in (phase.Down s) = []
 
 -- the gate of a rank that runs: what waits there, with how many of its first events are stored
 abbrev pub gate_of : Node MemoryShelf DeskValue → Gate

@@ -27,6 +27,10 @@ HasNothing p dest = outgoing_in p dest ≡ None
 abbrev pub NothingBelow : ℕ → Phase → Type 0
 NothingBelow count p = (dest : ℕ) → dest < count → HasNothing p dest
 
+-- what goes next to each rank but this one is what went to it before
+abbrev pub KeepsOthers : ℕ → Phase → Phase → Type 0
+KeepsOthers dest p q = (other : ℕ) → other ≢ dest → outgoing_in q other ≡ outgoing_in p other
+
 -- What is outgoing to a rank next goes into a lane, finds it full, or isn't there. If nothing went,
 -- all is as it was.
 abbrev pub Puts : PutResult → Phase → ℕ → List Frame → Phase → List Frame → Type 0

@@ -5,9 +5,9 @@
 use Rattle.std.specs.Prelude.{◌≡◌, ℕ, ◌<◌, Bool, true, false, List, [], ◌∷◌, length, slice_index_or}
 use Rattle.rank_language.specs.Correct.{IsProgramOf}
 use Rattle.rank_language.specs.Program.{ProgramValue}
-use Rattle.rank_node.specs.Phases.{settled_in}
+use Rattle.rank_node.specs.Phases.{settled_in, stable_in}
 use Rattle.rank_text.specs.declared.script.line.ScriptLine.{ScriptLine}
-use Rattle.rank_threads.specs.Endings.{IsKilledAt, crashes_after, is_at_rest}
+use Rattle.rank_threads.specs.Endings.{IsKilledAt, crashes_after, end_after, is_at_rest, stood_after}
 use Rattle.rank_threads.specs.Keeping.{HasLived, Lives, WereKept}
 use Rattle.rank_threads.specs.Lives.{SameLife}
 use Rattle.rank_threads.specs.Phases.{Begins, Phase}
@@ -118,6 +118,41 @@ SeatIsSettled seat.Empty = Unit {0}
 abbrev pub IsOverAt : TurnEnd → Phase → Type 0
 IsOverAt (turn.On is_idle) p = Unit {0}
 IsOverAt (turn.Over how) p = IsKilledAt how p
+
+-- the life that goes on at this seat may be over by this ending: the rank stands at the clock of a
+-- kill
+abbrev pub MayEnd : Ending → Seat → Type 0
+MayEnd how (seat.Between s) = ⊥
+MayEnd how (seat.Living life) = IsKilledAt how life.node.phase
+MayEnd how (seat.Over s) = ⊥
+MayEnd how (seat.Gone s) = ⊥
+MayEnd how seat.Empty = ⊥
+
+-- A life is over by this ending, and left this station: how the rank left and how it stood then are
+-- noted, and what is stable, the lines that are left and the counts are those of the life.
+pub record LeftBehind (how : Ending) (life : Life) (s : Station) : Type 0 where
+  pub end : s.end ≡ end_after how life.kit.tally.is_spent life.node.phase
+  pub stood : s.stood ≡ stood_after how life.node.phase
+  pub down : s.down ≡ stable_in life.node.phase
+  pub plan : s.kit.plan ≡ life.kit.plan
+  pub tally : s.kit.tally ≡ life.kit.tally
+  pub same : IsLifeOf s life
+
+-- the rank is at this seat behind a life that ended so
+abbrev pub IsBehind : Ending → Life → Seat → Type 0
+IsBehind how life (seat.Between s) = ⊥
+IsBehind how life (seat.Living other) = ⊥
+IsBehind how life (seat.Over s) = LeftBehind how life s
+IsBehind how life (seat.Gone s) = ⊥
+IsBehind how life seat.Empty = ⊥
+
+-- the life that went on at this seat is over by this ending
+abbrev pub EndsAt : Ending → Seat → Seat → Type 0
+EndsAt how (seat.Between s) b = ⊥
+EndsAt how (seat.Living life) b = IsBehind how life b
+EndsAt how (seat.Over s) b = ⊥
+EndsAt how (seat.Gone s) b = ⊥
+EndsAt how seat.Empty b = ⊥
 
 -- what the last turn of a life uses
 abbrev pub UsesLast : Ending → List ScriptLine → List ScriptLine → Type 0

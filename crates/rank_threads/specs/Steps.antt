@@ -1,5 +1,5 @@
 -- What a step of a rank answers, whether it runs, replays or is down, and which steps are acts.
-use Rattle.std.specs.Prelude.{◌≡◌, ◌≢◌, ℕ, Bool, true, false, ◌||◌, List, [], ◌∷◌, Option, Some, None, Result, Ok, Err, if◌then◌else◌}
+use Rattle.std.specs.Prelude.{◌≡◌, ◌≢◌, ℕ, Bool, true, false, not, ◌&&◌, ◌||◌, List, [], ◌∷◌, Option, Some, None, Result, Ok, Err, if◌then◌else◌}
 use Rattle.checkpoint.specs.declared.memory_shelf.MemoryShelf.{MemoryShelf}
 use Rattle.event_logger.specs.Desks.{DeskValue}
 use Rattle.event_logger.specs.Sequential.Event.{EventValue}
@@ -109,9 +109,17 @@ told (Ok turn.Held) = Ok stepped.Held
 told (Ok turn.Ended) = Ok stepped.Ended
 told (Err f) = if is_limit f then Ok stepped.Ended else Err f
 
+-- no limit stopped the rank, and it isn't blocked
+abbrev pub may_step : Tally → Bool
+may_step t = not (t.is_spent || t.is_blocked)
+
+-- the rank makes a stride: it may step, and wants a step of its own
+abbrev pub strides : Tally → Phase → Bool
+strides t p = may_step t && is_own (want_in p)
+
 -- What a turn's step answers, as long as there is memory: a rank that a limit stopped has ended,
--- one that is blocked isn't asked, and any other makes steps of its own if it wants one, else the
--- step that its state says.
+-- one that is blocked isn't asked, one that still wants a step of its own makes it in its next
+-- turn, and any other makes the step that its state says.
 abbrev pub step_of : Tally → Phase → Result Stepped NodeFault
 step_of t p =
     if t.is_spent then Ok stepped.Ended
@@ -144,10 +152,10 @@ StridesIn made p q = StridesOf made (machine_in p) (machine_in q)
 abbrev pub Strode : ℕ → Phase → Phase → Tally → Tally → Type 0
 Strode most p q t u = (made : ℕ) × (made ≢ 0) × StridesIn made p q × (u ≡ after_steps t made most false)
 
--- What a turn counts of its step, of a rank that stood so before and after it: its own steps, an
--- act as one, and a limit that stops the rank.
+-- What a turn counts of its step, of a rank that stood so before and after it: an act as one, and a
+-- limit that stops the rank.
 abbrev pub Counts : ℕ → Phase → Phase → Stepped → Tally → Tally → Type 0
-Counts most p q stepped.Moved t u = Strode most p q t u
+Counts most p q stepped.Moved t u = (q ≡ p) × (u ≡ t)
 Counts most p q stepped.Acted t u = u ≡ after_steps t 1 most true
 Counts most p q stepped.Blocked t u = u ≡ record t { is_blocked = true }
 Counts most p q stepped.Held t u = u ≡ t

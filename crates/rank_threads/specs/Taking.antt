@@ -1,12 +1,17 @@
 -- What comes into a rank out of its lanes, the channels from the others, each lane's frames in
 -- their order (MPI 1.1, section 3.5).
-use Rattle.std.specs.Prelude.{◌≡◌, ◌≢◌, ℕ, zero, suc, Bool, true, false, ◌||◌, List, [], ◌∷◌, ◌++◌, Option, Some, None, length, slice_index_or}
+use Rattle.std.specs.Prelude.{◌≡◌, ◌≢◌, ℕ, zero, suc, Bool, true, false, not, ◌&&◌, ◌||◌, nat_le, if◌then◌else◌, List, [], ◌∷◌, ◌++◌, Option, Some, None, length, slice_index_or}
 use Rattle.ports.specs.Lanes.{RxValue, taken_of}
 use Rattle.rank_node.specs.Phases.{arrived_in}
 use Rattle.rank_node.specs.declared.frame.Frame.{Frame}
 use Rattle.rank_threads.specs.Phases.{Phase}
 use Rattle.rank_threads.specs.declared.life.Life.{Life}
 use Rattle.rank_threads.specs.Tally.{all_taken}
+
+-- how many frames of a lane a rank takes in one turn at most: 16, or one if it isn't blocked and 16
+-- packets or more wait in its inbox
+abbrev pub at_once : Bool → ℕ → ℕ
+at_once is_blocked waiting = if not is_blocked && nat_le 16 waiting then 1 else 16
 
 -- the frame that was there, if one was
 abbrev pub those_of : Option Frame → List Frame

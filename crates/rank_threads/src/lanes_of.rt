@@ -3,7 +3,7 @@
 ghost use Rattle.std.specs.Prelude.{◌≡◌, ◌≢◌, ◌+◌, ◌<◌, IfOk};
 ghost use Rattle.rank_threads.specs.Lanes.{SameTxs, SameRxs};
 ghost use Rattle.rank_threads.specs.Lives.{KeepsOutput};
-ghost use Rattle.rank_threads.specs.Putting.{PutsInto};
+ghost use Rattle.rank_threads.specs.Putting.{KeepsOthers, PutsInto};
 ghost use Rattle.rank_threads.specs.Taking.{Takes, those_of};
 
 use crate::node::{Node, PutResult};
@@ -55,7 +55,7 @@ pub fn take_from(lanes: &mut Vec<Rx, Heap>, source: u8, looked: &mut LanesSeen) 
 
 /// Puts what is outgoing to this rank next into the lane to it. Each rank has
 /// a lane to each; were one missing, it would be as one that is full.
-#[tactic(auto, using(crate::proofs::LaneLists::map_set_same, crate::proofs::PuttingLemmas::puts_into, crate::proofs::PuttingLemmas::no_lane))]
+#[tactic(auto, using(crate::proofs::LaneLists::map_set_same, crate::proofs::PuttingLemmas::puts_into, crate::proofs::PuttingLemmas::no_lane, crate::proofs::PuttingLemmas::none_other))]
 pub fn put_to(
     lanes: &mut Vec<Tx, Heap>,
     dest: u8,
@@ -63,6 +63,7 @@ pub fn put_to(
 ) -> Result<PutResult, AllocError>
     requires { dest < node.old.size }
     ensures puts { IfOk result (λ went. PutsInto went node.old.phase dest lanes.old.items node.new.phase lanes.new.items) }
+    ensures others { KeepsOthers dest node.old.phase node.new.phase }
     ensures lanes { SameTxs lanes.old.items lanes.new.items }
     ensures kept { KeepsOutput node.old node.new }
 {

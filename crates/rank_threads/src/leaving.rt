@@ -1,4 +1,4 @@
-//! Part 6 of a turn: in an idle one a rank marks itself, and looks whether all
+//! Part 7 of a turn: in an idle one a rank marks itself, and looks whether all
 //! may leave (termination detection).
 ghost use Rattle.std.specs.Prelude.{◌≡◌, ◌≢◌, ℕ, ◌<◌, false, IfOk, slice_index_or};
 ghost use Rattle.rank_threads.specs.Lives.{KeepsGate};

@@ -11,7 +11,7 @@
 //!    needs before it has a logger, and all its ranks.
 //! 2. `life`: a rank from life to life. Its station outlives its lives, its
 //!    keeper starts and joins them, and the crew is all keepers.
-//! 3. `turn`: a life goes turn by turn; a turn's six parts, one a file.
+//! 3. `turn`: a life goes turn by turn; a turn's seven parts, two in one file.
 //! 4. `node`: the rank of `rank_node` at its logger, as a turn calls it.
 //! 5. `leaving`: the marks of ranks at rest, and when a rank may leave.
 //! 6. `report`: what is left of a run as its report, once that is validated.

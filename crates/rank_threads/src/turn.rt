@@ -1,7 +1,7 @@
-//! One turn of a rank, in six parts: what the lanes bring (`taking`), a stride or
-//! a step (`stepping`), what the script asks for and whether an image is due
-//! (`orders`), what waits at the gate (`clearing`), what goes out (`putting`), and
-//! the rank's mark (`leaving`).
+//! One turn of a rank, in seven parts: a stride (`stepping`), what the lanes bring
+//! (`taking`), a step (`stepping`), what the script asks for and whether an image is
+//! due (`orders`), what waits at the gate (`clearing`), what goes out (`putting`),
+//! and the rank's mark (`leaving`).
 ghost use Rattle.std.specs.Prelude.{◌≡◌, true, false, Some, IfOk};
 ghost use Rattle.rank_node.specs.Phases.{clock_in, settled_in};
 ghost use Rattle.rank_threads.specs.Clearing.{leaves_misses};
@@ -29,7 +29,7 @@ use putting::put_out;
 use rank_node::NodeFault;
 use std::sync::Wait;
 pub use stepping::Stepped;
-use stepping::step;
+use stepping::{step, stride};
 use taking::{Arrivals, is_frames, take_if_rung};
 pub use taking::{EmptyLanes, drain_lanes};
 
@@ -41,23 +41,28 @@ pub enum After<'s> {
     Leave(Why<'s>),
 }
 
-/// What the first two parts of a turn came to.
+/// What the first three parts of a turn came to.
 #[derive(Clone, Copy)]
 pub struct TurnStart {
     brought: Arrivals,
     pub stepped: Stepped,
 }
 
-/// The beginning of a turn: what the lanes bring, and a stride or a step.
+/// The beginning of a turn: a stride, what the lanes bring, and a step.
+///
+/// The stride comes first, so that a receive behind it finds what came meanwhile. Whatever comes
+/// after the look at the lanes rings the bell once more, for the next turn: a rank that is blocked
+/// by its step here hasn't missed it.
 pub fn begin<W: Wait, H: Hold>(
     rt: &W,
     shared: &Shared<'_, H>,
     life: &mut Life<'_, '_>,
 ) -> Result<TurnStart, NodeFault>
-    ensures begun { IfOk result (λ begun. IsBegun life.old life.new begun) }
+    ensures begun { IfOk result (λ begun. IsBegun shared.now.limits.steps life.old life.new begun) }
     ensures plan { SamePlan life.old life.new }
     ensures same { SameLife life.old life.new }
 {
+    stride(shared, life);
     let brought = take_if_rung(shared, life)?;
     let stepped = step(rt, shared, life)?;
     count_act(life, stepped);

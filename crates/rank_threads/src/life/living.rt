@@ -6,7 +6,7 @@ ghost use Rattle.rank_node.specs.Phases.{settled_in};
 ghost use Rattle.rank_threads.specs.Keeping.{HasLived};
 ghost use Rattle.rank_threads.specs.Lives.{SameLife, SamePlace, SamePlan};
 ghost use Rattle.rank_threads.specs.Phases.{NoneWaits};
-ghost use Rattle.rank_threads.specs.Seats.{IsOverAt, IsSeat, KeepsSeat, SeatIsSettled, UsesBy, crashes_in, rests};
+ghost use Rattle.rank_threads.specs.Seats.{EndsAt, IsOverAt, IsSeat, KeepsSeat, MayEnd, SeatIsSettled, UsesBy, crashes_in, rests};
 ghost use Rattle.rank_threads.specs.Stations.{SameStation, SameRest};
 
 use super::ending::{Ending, Why, end_life};
@@ -79,13 +79,31 @@ pub fn live<'p, 'l, W: Wait, H: Hold>(
     ensures { KeepsSeat shared.now.text.now seat.old seat.new }
 {
     let Seat::Living(life) = seat else {
-        let taken = replace(seat, Seat::Empty);
-        put(seat, begun_at(rt, shared, program, taken));
+        begin_at(rt, shared, program, seat);
         return false;
     };
     let begun = begin_turn(rt, shared, life);
     settle_seat(seat);
     finish_turn(rt, shared, seat, begun)
+}
+
+// Whoever is between two lives begins the next one here.
+//
+// This function, as each that moves a rank in memory (`settle_now`, `end_life_at`, `keep_at`), is called
+// and never inlined: the caller makes turn after turn, and would clear the room for each move, some
+// kilobytes, in every one of them.
+#[inline(never)]
+fn begin_at<'p, 'l, W: Wait, H>(
+    rt: &W,
+    shared: &Shared<'_, H>,
+    program: &'p Program,
+    seat: &mut Seat<'p, 'l>,
+)
+    requires reads { IsProgramOf shared.now.text.now program.now }
+    ensures { KeepsSeat shared.now.text.now seat.old seat.new }
+{
+    let taken = replace(seat, Seat::Empty);
+    put(seat, begun_at(rt, shared, program, taken));
 }
 
 fn begun_at<'p, 'l, W: Wait, H>(
@@ -166,14 +184,24 @@ fn finish_turn<'s, W: Wait, H: Hold>(
     match end_turn(rt, shared, life, begun) {
         TurnEnd::On { is_idle } => is_idle,
         TurnEnd::Over(ended) => {
-            let taken = replace(seat, Seat::Empty);
-            let Seat::Living(life) = taken else {
-                unreachable!()
-            };
-            put(seat, Seat::Over(end_life(life, ended)));
+            end_life_at(seat, ended);
             false
         }
     }
+}
+
+// The life that goes on here is over by this ending.
+#[inline(never)]
+#[tactic(auto, using(crate::proofs::SeatLemmas::end_laws))]
+fn end_life_at(seat: &mut Seat<'_, '_>, ended: Ending<'_>)
+    requires { MayEnd ended seat.old }
+    ensures { EndsAt ended.entry seat.old seat.new }
+{
+    let taken = replace(seat, Seat::Empty);
+    let Seat::Living(life) = taken else {
+        unreachable!()
+    };
+    put(seat, Seat::Over(end_life(life, ended)));
 }
 
 // How a turn that began so ends. A crash is counted, and nothing else as one.

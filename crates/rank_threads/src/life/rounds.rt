@@ -123,11 +123,25 @@ fn take_turn<'p, 'l, W: Wait, H: Hold>(
     match seat {
         Seat::Living(_) => live(rt, shared, program, seat),
         Seat::Between(_) | Seat::Over(_) | Seat::Gone(_) | Seat::Empty => {
-            let taken = replace(seat, Seat::Empty);
-            put(seat, kept(rt, shared, program, taken));
+            keep_at(rt, shared, program, seat);
             false
         }
     }
+}
+
+// A step of the keeper of the rank that is here, which is moved in memory: see `begin_at`.
+#[inline(never)]
+fn keep_at<'p, 'l, W: Wait, H>(
+    rt: &W,
+    shared: &Shared<'_, H>,
+    program: &'p Program,
+    seat: &mut Seat<'p, 'l>,
+)
+    requires reads { IsProgramOf shared.now.text.now program.now }
+    ensures { MovesOn shared.now.text.now seat.old seat.new }
+{
+    let taken = replace(seat, Seat::Empty);
+    put(seat, kept(rt, shared, program, taken));
 }
 
 // What a keeper does: the next life begins, or the last one is over.

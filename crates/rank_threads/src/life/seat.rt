@@ -87,9 +87,18 @@ pub fn settle_seat<'p, 'l>(seat: &mut Seat<'p, 'l>)
     ensures kept { (text : List ℕ) → KeepsSeat text seat.old seat.new }
 {
     if has_replayed(seat) {
-        let taken = replace(seat, Seat::Empty);
-        put(seat, settled(taken));
+        settle_now(seat);
     }
+}
+
+// The rank is moved in memory: see `begin_at`.
+#[inline(never)]
+fn settle_now<'p, 'l>(seat: &mut Seat<'p, 'l>)
+    ensures settled { SeatIsSettled seat.new }
+    ensures kept { (text : List ℕ) → KeepsSeat text seat.old seat.new }
+{
+    let taken = replace(seat, Seat::Empty);
+    put(seat, settled(taken));
 }
 
 // Whether the rank is at the end of what it replays.

@@ -1,9 +1,9 @@
 //! What a rank is asked for in its life.
-ghost use Rattle.std.specs.Prelude.{◌≡◌, ◌<◌, true, false, OnErr, IfOk, IfErr};
+ghost use Rattle.std.specs.Prelude.{◌≡◌, ◌<◌, true, false, length, OnErr, IfOk, IfErr};
 ghost use Rattle.rank_node.specs.Fault.{MayRefuseImage};
 ghost use Rattle.rank_node.specs.Phases.{clock_in, settled_in};
 ghost use Rattle.rank_threads.specs.Lives.{KeepsOutput, KeepsStand};
-ghost use Rattle.rank_threads.specs.Phases.{gate_in, misses_only_in, is_running};
+ghost use Rattle.rank_threads.specs.Phases.{gate_in, misses_only_in, is_running, packets_in};
 ghost use Rattle.rank_threads.specs.Phases.{HasImage, NoneWaits, ReadsRow, SameShelf};
 
 use super::Node;
@@ -43,6 +43,17 @@ impl<'p, 'l> Node<'p, 'l> {
         match &self.phase {
             Phase::Running(rank) => rank.misses_only(),
             Phase::Replaying(_) | Phase::Down(_) => false,
+        }
+    }
+
+    /// How many packets it was given and hasn't received; none where it is down.
+    pub fn waiting_packets(&self) -> usize
+        ensures { result ≡ length (packets_in self.now.phase) }
+    {
+        match &self.phase {
+            Phase::Running(rank) => rank.inbox().len(),
+            Phase::Replaying(rank) => rank.inbox().len(),
+            Phase::Down(_) => 0,
         }
     }
 

@@ -4,7 +4,7 @@ ghost use Rattle.ports.specs.Lanes.{lane_to, put_of};
 ghost use Rattle.rank_node.specs.declared.turn.Arrived.TheVariants.{Accepted};
 ghost use Rattle.rank_node.specs.Phases.{arrival_in, arrived_in};
 ghost use Rattle.rank_threads.specs.Lives.{KeepsOutput};
-ghost use Rattle.rank_threads.specs.Putting.{Puts};
+ghost use Rattle.rank_threads.specs.Putting.{KeepsOthers, Puts};
 
 use super::Node;
 use crate::costs::{FrameKind, kind_of};
@@ -43,11 +43,12 @@ impl<'p, 'l> Node<'p, 'l> {
     /// Puts what is outgoing to this rank next into the lane to it: it is gone
     /// when it is in the lane, and not before. An `Err` means out of memory, and
     /// leaves all as it was.
-    #[tactic(auto, using(crate::proofs::GateLemmas::gone_waits))]
+    #[tactic(auto, using(crate::proofs::GateLemmas::gone_waits, crate::proofs::PuttingLemmas::others_laws))]
     pub fn put_one(&mut self, dest: u8, lane: &mut Tx) -> Result<PutResult, AllocError>
         requires { dest < self.old.size }
         ensures puts { IfOk result (λ went. Puts went self.old.phase dest (put_of lane.old) self.new.phase (put_of lane.new)) }
-        ensures err { OnErr result ((self.new.phase ≡ self.old.phase) × (put_of lane.new ≡ put_of lane.old)) }
+        ensures others { KeepsOthers dest self.old.phase self.new.phase }
+    ensures err { OnErr result ((self.new.phase ≡ self.old.phase) × (put_of lane.new ≡ put_of lane.old)) }
         ensures kept { KeepsOutput self.old self.new }
         ensures lane { lane_to lane.new ≡ lane_to lane.old }
     {

@@ -15,7 +15,7 @@ use std::sync::Wait;
 
 /// Stores and acknowledges every event of the rank, and releases every send and
 /// line that waits, in their order. Answers whether the logger took all events.
-#[tactic(auto, using(crate::proofs::ReleasingLemmas::nothing_waits))]
+#[tactic(auto, using(crate::proofs::ReleasingLemmas::nothing_waits, rank_node::proofs::Again::settled_nil))]
 pub fn release_all<W: Wait>(
     rt: &W,
     logger: &Logger,
@@ -28,6 +28,9 @@ pub fn release_all<W: Wait>(
     ensures clock { rank.new.clock ≡ rank.old.clock }
     ensures same { SameStable rank.old.stable rank.new.stable }
 {
+    if rank.is_settled() {
+        return Ok(true);
+    }
     while rank.ack() {}
     loop {
         if release(rt, console, rank)? {

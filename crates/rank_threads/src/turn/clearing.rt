@@ -1,4 +1,4 @@
-//! Part 4 of a turn: what waits at the gate (output commit), and an image.
+//! Part 5 of a turn: what waits at the gate (output commit), and an image.
 ghost use Rattle.std.specs.Prelude.{◌≡◌, true, false, Ok};
 ghost use Rattle.rank_threads.specs.Clearing.{ClearsGate, has_stepped, leaves_misses};
 ghost use Rattle.rank_threads.specs.Costs.{after_image, image_size_in};

@@ -1,4 +1,4 @@
-//! Part 3 of a turn: what the script's next line asks for, and whether an image is due.
+//! Part 4 of a turn: what the script's next line asks for, and whether an image is due.
 ghost use Rattle.std.specs.Prelude.{◌≡◌};
 ghost use Rattle.rank_threads.specs.Orders.{images_after, is_due, is_due_after, is_image, order_after};
 

@@ -1,7 +1,7 @@
-//! Part 5 of a turn: what goes out.
+//! Part 6 of a turn: what goes out.
 ghost use Rattle.std.specs.Prelude.{◌≡◌, ◌<◌, true, false, OnOk};
 ghost use Rattle.rank_threads.specs.Lives.{KeepsGate};
-ghost use Rattle.rank_threads.specs.Putting.{HasNothing, NothingBelow, PutAll};
+ghost use Rattle.rank_threads.specs.Putting.{HasNothing, KeepsOthers, NothingBelow, PutAll};
 
 use crate::lanes_of::put_to;
 use crate::life::Life;
@@ -41,7 +41,7 @@ fn put_all_to<H>(
 ) -> Result<bool, AllocError>
     requires { dest < life.old.node.size }
     ensures nothing { OnOk result (life.new.kit.tally.may_owe ≡ false → HasNothing life.new.node.phase dest) }
-    ensures untouched { OnOk result (life.new.kit.tally.may_owe ≡ false → life.new.node.phase ≡ life.old.node.phase) }
+    ensures others { KeepsOthers dest life.old.node.phase life.new.node.phase }
     ensures owing { OnOk result (life.old.kit.tally.may_owe ≡ true → life.new.kit.tally.may_owe ≡ true) }
     ensures counted { OnOk result (PutAll dest life.old life.new) }
     ensures kept { KeepsGate life.old life.new }
@@ -62,7 +62,7 @@ fn put_all_to<H>(
             }
         }
     }
-    if put || !is_done {
+    if !is_done {
         life.kit.tally.set_owing(true);
     }
     if put {

@@ -1,15 +1,17 @@
-//! Part 2 of a turn: a stride or a step of the rank.
-ghost use Rattle.std.specs.Prelude.{◌≡◌, ◌≢◌, ◌+◌, true, false, Ok, Err, IfOk, OnErr};
+//! Parts 1 and 3 of a turn: a stride, and a step of the rank.
+ghost use Rattle.std.specs.Prelude.{◌≡◌, ◌≢◌, ◌+◌, true, false, Ok, Err, option_map, IfOk, IfSome, OnErr};
 ghost use Rattle.rank_node.specs.Phases.{clock_in};
 ghost use Rattle.rank_threads.specs.Lives.{SameLife, KeepsCosts};
-ghost use Rattle.rank_threads.specs.Phases.{want_in};
+ghost use Rattle.rank_threads.specs.Phases.{want_in, IsWantedIn};
 ghost use Rattle.rank_threads.specs.NodeSteps.{IsNodeStep};
-ghost use Rattle.rank_threads.specs.Steps.{acts_of, counted, is_limit, is_own, step_of, told, Counts, Strode};
+ghost use Rattle.rank_threads.specs.Turns.{MakesStride};
+ghost use Rattle.rank_threads.specs.Steps.{acts_of, counted, is_limit, is_own, may_step, step_of, told, Counts};
 
 use crate::hold::Hold;
 use crate::life::Life;
 use crate::shared::Shared;
-use rank_machine::Want;
+use crate::tally::Tally;
+use rank_machine::{Want, Wanted};
 use rank_node::{NodeFault, Turn};
 use std::sync::Wait;
 
@@ -19,7 +21,7 @@ const STRIDE: u32 = 1024;
 /// What became of a rank's step.
 #[derive(Clone, Copy)]
 pub enum Stepped {
-    /// It made steps of its own.
+    /// It made steps of its own, and wants more of them.
     Moved,
     /// It made an act.
     Acted,
@@ -31,8 +33,32 @@ pub enum Stepped {
     Ended,
 }
 
-/// A stride of steps of the rank's own, or else one step, where the rank may
-/// step. No act follows a stride in the same turn.
+/// Makes a stride of steps of the rank's own, where it may step and wants one. A
+/// rank that has a mark makes none: it waits, has ended, or steps no more.
+#[tactic(auto, using(crate::proofs::TurnLemmas::stride_laws))]
+pub fn stride<H>(shared: &Shared<'_, H>, life: &mut Life<'_, '_>)
+    ensures strode { MakesStride shared.now.limits.steps life.old life.new }
+    ensures kept { KeepsCosts life.old life.new }
+{
+    if !may_step(&life.kit.tally) {
+        return;
+    }
+    let left = shared.limits.steps.saturating_sub(life.kit.tally.steps);
+    let made = life.node.stride(left.min(STRIDE).max(1));
+    if made > 0 {
+        life.kit.tally.count_steps(made, shared.limits.steps, false);
+    }
+}
+
+// Whether no limit stopped the rank, and it isn't blocked.
+fn may_step(tally: &Tally) -> bool
+    ensures { result ≡ may_step tally.now }
+{
+    !(tally.is_spent || tally.is_blocked)
+}
+
+/// One step, where the rank may step. Where its stride was as long as a turn's may
+/// be, it still wants a step of its own, and makes none.
 ///
 /// A rank that is refused by a limit is spent, and steps no more.
 #[tactic(auto, using(crate::proofs::TurnLemmas::step_laws))]
@@ -55,29 +81,31 @@ pub fn step<W: Wait, H: Hold>(
         tell(shared, life);
         return Ok(Stepped::Blocked);
     }
-    if try_stride(shared, life) {
+    let wanted = life.node.wanted();
+    if is_own(wanted) {
         return Ok(Stepped::Moved);
     }
-    let answer = act(rt, shared, life);
+    let answer = act(rt, shared, life, wanted);
     count(shared, life, answer)
 }
 
-// Steps of the rank's own, where it wants one. Answers whether it made any.
-#[tactic(auto, using(crate::proofs::TurnLemmas::stride_laws))]
-fn try_stride<H>(shared: &Shared<'_, H>, life: &mut Life<'_, '_>) -> bool
-    ensures own { result ≡ is_own (want_in life.old.node.phase) }
-    ensures none { result ≡ false → (life.new.node.phase ≡ life.old.node.phase) × (life.new.kit.tally ≡ life.old.kit.tally) }
-    ensures counts { result ≡ true → Strode shared.now.limits.steps life.old.node.phase life.new.node.phase life.old.kit.tally life.new.kit.tally }
-    ensures clock { clock_in life.new.node.phase ≡ clock_in life.old.node.phase }
-    ensures kept { KeepsCosts life.old life.new }
+// Whether that is a step of the machine's own.
+fn is_own(wanted: Option<Wanted>) -> bool
+    ensures { result ≡ is_own (option_map (λ w. w.want) wanted) }
 {
-    let left = shared.limits.steps.saturating_sub(life.kit.tally.steps);
-    let made = life.node.stride(left.min(STRIDE).max(1));
-    if made == 0 {
+    let Some(wanted) = wanted else {
         return false;
+    };
+    match wanted.want {
+        Want::Internal => true,
+        Want::Send { .. }
+        | Want::Receive(_)
+        | Want::Probe(_)
+        | Want::TryProbe(_)
+        | Want::Print(_)
+        | Want::Halted
+        | Want::Faulted(_) => false,
     }
-    life.kit.tally.count_steps(made, shared.limits.steps, false);
-    true
 }
 
 // An act is counted, and a rank that is refused by a limit has ended.
@@ -140,12 +168,15 @@ fn act<W: Wait, H: Hold>(
     rt: &W,
     shared: &Shared<'_, H>,
     life: &mut Life<'_, '_>,
+    wanted: Option<Wanted>,
 ) -> Result<Turn, NodeFault>
+    requires want { option_map (λ w. w.want) wanted ≡ want_in life.old.node.phase }
+    requires found { IfSome wanted (IsWantedIn life.old.node.phase) }
     ensures step { IsNodeStep life.old.node life.new.node result }
     ensures rest { life.new ≡ record life.old { node = life.new.node } }
     ensures same { SameLife life.old life.new }
 {
-    let Some(wanted) = life.node.wanted() else {
+    let Some(wanted) = wanted else {
         return Ok(Turn::Ended);
     };
     if wanted.want.is_act() {

@@ -1,9 +1,10 @@
-//! Part 1 of a turn: what the lanes bring.
-ghost use Rattle.std.specs.Prelude.{◌≡◌, ◌≢◌, ◌+◌, ◌<◌, IfOk, IfSome};
+//! Part 2 of a turn: what the lanes bring.
+ghost use Rattle.std.specs.Prelude.{◌≡◌, ◌≢◌, ◌+◌, ◌<◌, ◌≤◌, length, IfOk, IfSome};
 ghost use Rattle.std.specs.Option.{is_none};
 ghost use Rattle.rank_threads.specs.Costs.{before_kind, log_size_in};
 ghost use Rattle.rank_threads.specs.Lives.{KeepsGate};
-ghost use Rattle.rank_threads.specs.Taking.{TookFrom, TookBelow};
+ghost use Rattle.rank_threads.specs.Phases.{packets_in};
+ghost use Rattle.rank_threads.specs.Taking.{TookFrom, TookBelow, at_once};
 ghost use Rattle.rank_threads.specs.Turns.{Brings, is_frames};
 ghost use Rattle.rank_threads.specs.Tally.{woken};
 
@@ -11,13 +12,19 @@ use crate::costs::{FrameKind, kind_of};
 use crate::lanes_of::{LanesSeen, take_from};
 use crate::life::Life;
 use crate::shared::{NoRing, Shared};
-use limits::MOST_FRAMES;
 use std::alloc::AllocError;
 
-/// Takes what the lanes bring, by rising source, from each at most as many
-/// frames as it holds, and answers whether a frame came. Each lane is looked at.
-/// An `Err` means out of memory.
-#[tactic(auto, using(crate::proofs::TakingLemmas::took_before, crate::proofs::TakingLemmas::took_next))]
+/// So many frames of a lane a rank takes in one turn at most.
+const BATCH: u8 = 16;
+
+/// While so many packets wait in its inbox a rank that isn't blocked takes one
+/// frame of a lane: it has enough to receive, and finds it sooner among fewer.
+const ENOUGH: usize = 16;
+
+/// Takes what the lanes bring, by rising source, from each at most as many frames
+/// as a turn takes, and answers whether a frame came. Each lane is looked at. An
+/// `Err` means out of memory.
+#[tactic(auto, using(crate::proofs::TakingLemmas::some_at_once, crate::proofs::TakingLemmas::took_before, crate::proofs::TakingLemmas::took_next))]
 pub fn take_in<H>(
     shared: &Shared<'_, H>,
     life: &mut Life<'_, '_>,
@@ -28,33 +35,50 @@ pub fn take_in<H>(
     ensures took { IfOk result (λ took. TookBelow life.old.node.size life.old life.new took) }
     ensures kept { KeepsGate life.old life.new }
 {
+    let most = frames_at_once(life);
     let mut took = false;
     for source in 0..life.node.size {
-        took = take_all_from(shared, life, source, looked)? || took;
+        took = take_all_from(shared, life, source, most, looked)? || took;
     }
     Ok(took)
 }
 
+fn frames_at_once(life: &Life<'_, '_>) -> u8
+    ensures { result ≡ at_once life.now.kit.tally.is_blocked (length (packets_in life.now.node.phase)) }
+{
+    if !life.kit.tally.is_blocked && life.node.waiting_packets() >= ENOUGH {
+        1
+    } else {
+        BATCH
+    }
+}
+
+// Where it stops before the lane is empty it rings the rank's own bell. The rings for
+// what is left may all be taken back by now, and nobody else need ring again: without
+// one more the next turn would look at no lane, and the rank could wait for ever.
 #[tactic(auto, using(crate::proofs::TakingLemmas::took_laws, crate::proofs::LookLemmas::look_laws))]
 fn take_all_from<H>(
     shared: &Shared<'_, H>,
     life: &mut Life<'_, '_>,
     source: u8,
+    most: u8,
     looked: &mut LanesSeen,
 ) -> Result<bool, AllocError>
     requires source { source < life.old.node.size }
+    requires most { 1 ≤ most }
     requires looked { looked.old.below ≡ source }
     ensures looked { IfOk result (λ _. looked.new.below ≡ source + 1) }
     ensures took { IfOk result (λ took. TookFrom source life.old life.new took) }
     ensures kept { KeepsGate life.old life.new }
 {
     let mut took = false;
-    for _ in 0..MOST_FRAMES {
+    for _ in 0..most {
         if !take_one(shared, life, source, looked)? {
-            break;
+            return Ok(took);
         }
         took = true;
     }
+    shared.ring(life.kit.rank);
     Ok(took)
 }
 

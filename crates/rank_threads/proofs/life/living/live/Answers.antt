@@ -1,13 +1,11 @@
-use Rattle.std.proofs.Common.{sym, subst}
+use Rattle.std.proofs.Common.{subst}
 use Rattle.rank_threads.proofs.SeatLemmas.{living_same}
 use Rattle.rank_threads.specs.Seats.{IsSeat}
 use Rattle.rank_threads.proofs.life.living.live.Goals as goal
 
 -- a life begins
 pub returns-in_default : goal.returns-in_default
-returns-in_default g c =
-    λ old here. subst (IsSeat c.args.shared.now.text.now old) (sym c.put.ensures)
-    (c.begun_at.ensures old (subst (IsSeat c.args.shared.now.text.now old) (sym c.replace-taken.ensures.value) here))
+returns-in_default g c = c.begin_at.ensures
 
 -- a turn was made
 pub returns : goal.returns

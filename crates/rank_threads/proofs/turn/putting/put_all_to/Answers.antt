@@ -1,11 +1,9 @@
 use Rattle.std.proofs.Common.{rules, ◌≡◌}
-use Rattle.rank_threads.proofs.PuttingLemmas.{put_more}
+use Rattle.rank_threads.proofs.PuttingLemmas.{others_on, put_more}
 use Rattle.rank_threads.specs.Costs.{after_put}
 use Rattle.rank_threads.specs.Putting.{PutsInto}
 use Rattle.rank_threads.specs.declared.node.frames.PutResult.TheVariants as put_result
 use Rattle.rank_threads.proofs.turn.putting.put_all_to.Goals as goal
-use Rattle.rank_threads.proofs.turn.putting.put_all_to.Goals.{else-loop-test, then-loop-test+in_ok-kind+in-Full, then-loop-test+in_ok-kind+in-Nothing}
-use Rattle.rank_threads.proofs.turn.putting.put_all_to.Goals.{then-put, else-put+else-not-is_done}
 
 -- a frame went and was counted
 pub loop-preserved : goal.loop-preserved
@@ -14,18 +12,11 @@ loop-preserved g c =
     = search rules in
     let counted : c.count_put-in-Gone.new.self ≡ after_put c.loop.life.kit.meter c.args.dest c.in-Gone.kind = search rules in
     record {
-      untouched = search rules;
+      others = others_on c.args.dest c.args.life.now.node.phase c.loop.life.node.phase c.put_to.new.node.phase c.loop.invariant.others
+          c.put_to.ensures.others;
       undone = search rules;
       owing = search rules;
       counted = put_more c.args.dest c.args.life.now c.loop.life _ c.in-Gone.kind c.loop.life.node.phase c.put_to.new.node.phase
           c.loop.invariant.counted here counted;
       kept = search rules;
     }
-
--- whatever ended the loop, the rank, its desk and its lanes stay
-pub returns-else-put-2-clause-kept : goal.returns-else-put-2-clause-kept
-returns-else-put-2-clause-kept g c = elim c.loop-test.branch [
-  | else-loop-test w ↦ elim c.if-put.branch [ then-put v ↦ search rules | else-put+else-not-is_done v ↦ search rules ]
-  | then-loop-test+in_ok-kind+in-Full w ↦ elim c.if-put.branch [ then-put v ↦ search rules | else-put+else-not-is_done v ↦ search rules ]
-  | then-loop-test+in_ok-kind+in-Nothing w ↦ elim c.if-put.branch [ then-put v ↦ search rules | else-put+else-not-is_done v ↦ search rules ]
-]

@@ -8,7 +8,6 @@ use Rattle.rank_threads.proofs.turn.stepping.step.Goals as goal
 pub returns-clause-clock : goal.returns-clause-clock
 returns-clause-clock g c =
     let own : is_own (want_in c.args.life.now.node.phase) ≡ false = search rules in
-    let stood : c.try_stride.new.life.node.phase ≡ c.args.life.now.node.phase = search rules in
     rw (ap (λ s. s.node.phase) c.count.ensures.rest)
-    (clock_told c.args.life.now.node.phase c.try_stride.new.life.node.phase c.act-answer.new.life.node.phase c.act-answer.result c.count.result stood
-    c.count.ensures.told own c.act-answer.ensures.step.clock c.act-answer.ensures.step.err)
+    (clock_told c.args.life.now.node.phase c.act-answer.new.life.node.phase c.act-answer.result c.count.result c.count.ensures.told own
+    c.act-answer.ensures.step.clock c.act-answer.ensures.step.err)

@@ -1,9 +1,9 @@
 use Rattle.std.proofs.Common.{sym, subst}
 use Rattle.rank_threads.specs.Seats.{IsSeat}
-use Rattle.rank_threads.proofs.life.seat.settle_seat.Goals as goal
+use Rattle.rank_threads.proofs.life.seat.settle_now.Goals as goal
 
 -- whoever was taken away is here again, settled
-pub returns-then-has_replayed-clause-kept : goal.returns-then-has_replayed-clause-kept
-returns-then-has_replayed-clause-kept c =
+pub returns-clause-kept : goal.returns-clause-kept
+returns-clause-kept c =
     λ text old here. subst (IsSeat text old) (sym c.put.ensures)
     (c.settled.ensures.kept text old (subst (IsSeat text old) (sym c.replace-taken.ensures.value) here))
