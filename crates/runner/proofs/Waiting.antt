@@ -1,5 +1,5 @@
 -- Who waits in a send after a run that was found again.
-use Rattle.std.proofs.Common.{ℕ, List, ◌⊎◌, inl, inr}
+use Rattle.std.proofs.Common.{ℕ, List, ◌⊎◌, inl}
 use Rattle.audit.specs.FinalRuns.Maximal.{IsOutcomeOf, RankOutcome}
 use Rattle.crash_free.specs.Sim.{SimValue, start_of}
 use Rattle.explore.specs.Searching.{IsSimOf}

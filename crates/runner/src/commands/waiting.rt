@@ -52,7 +52,7 @@ fn is_tag(mark: Mark) -> bool
     }
 }
 
-/// Which ranks wait in their sends in a run that has the outcome; none if no run of it is found again.
+/// Which ranks wait in their sends in a run that has the outcome; none if none is found again.
 #[tactic(auto, using(crate::proofs::Waiting::wait_with))]
 pub fn waits_in(
     alloc: Heap,

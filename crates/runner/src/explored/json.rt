@@ -1,5 +1,5 @@
 //! What a search found, as JSON.
-ghost use Rattle.std.specs.Prelude.{◌≡◌, IfOk, OnOk, false, map, slice_get, string_bytes};
+ghost use Rattle.std.specs.Prelude.{◌≡◌, IfOk, OnOk, false, map, string_bytes};
 ghost use Rattle.explore.specs.Explored.{listed_left, noted_choices, rank_outcomes};
 ghost use Rattle.serde_json.specs.Data.{put as with_member, string};
 ghost use Rattle.serde_json.specs.View.{items_view, members_view, view};

@@ -106,11 +106,7 @@ fn print_waits(alloc: Heap, text: &mut String<Heap>, waits: &Waits) -> Result<()
     print_waits_line(alloc, text, waits)
 }
 
-fn print_waits_line(
-    alloc: Heap,
-    text: &mut String<Heap>,
-    waits: &Waits,
-) -> Result<(), AllocError>
+fn print_waits_line(alloc: Heap, text: &mut String<Heap>, waits: &Waits) -> Result<(), AllocError>
     ensures { OnOk result (string_bytes text.new ≡ string_bytes text.old ++ waits_line waits.now) }
 {
     let ranks = waiting_ranks(alloc, waits.ranks.as_slice())?;
@@ -126,7 +122,10 @@ fn print_waits_line(
 fn waiting_ranks(alloc: Heap, waits: &[Wait]) -> Result<Vec<usize, Heap>, AllocError>
     ensures { IfOk result (λ ranks. ranks.items ≡ waiting_ranks waits.now) }
 {
-    waits.iter().map(|wait| usize::from(wait.rank)).collect(alloc)
+    waits
+        .iter()
+        .map(|wait| usize::from(wait.rank))
+        .collect(alloc)
 }
 
 // The lines at which they wait.
