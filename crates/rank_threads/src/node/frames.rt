@@ -48,7 +48,7 @@ impl<'p, 'l> Node<'p, 'l> {
         requires { dest < self.old.size }
         ensures puts { IfOk result (λ went. Puts went self.old.phase dest (put_of lane.old) self.new.phase (put_of lane.new)) }
         ensures others { KeepsOthers dest self.old.phase self.new.phase }
-    ensures err { OnErr result ((self.new.phase ≡ self.old.phase) × (put_of lane.new ≡ put_of lane.old)) }
+        ensures err { OnErr result ((self.new.phase ≡ self.old.phase) × (put_of lane.new ≡ put_of lane.old)) }
         ensures kept { KeepsOutput self.old self.new }
         ensures lane { lane_to lane.new ≡ lane_to lane.old }
     {
