@@ -6,6 +6,9 @@ doesn't wait may miss at any time, as the definition of a crash-free run allows.
 packets of a context of their own, as in the machine: a barrier goes to rank 0 and back. A state
 that was searched before, with the same printed lines, isn't searched again.
 
+In place of what a rank prints, an outcome may have what it sends, also in collectives, or what its
+receives get.
+
 If sends are synchronous, a rank with a message that isn't received yet makes no step, not even one
 that no other rank sees. Packets of collectives don't count.
 """
@@ -76,6 +79,10 @@ class Fault(Exception):
     pass
 
 
+# What the lines of a rank are.
+PRINTS, SENDS, RECEPTIONS = "prints", "sends", "receptions"
+
+
 class Rank(NamedTuple):
     # what is left to be done, the next statement first
     todo: tuple
@@ -111,12 +118,16 @@ def set_to(r: Rank, **changes: int) -> Rank:
     return r._replace(values=tuple(sorted(values.items())))
 
 
+def telling(r: Rank, told: str, what: str, *line) -> Rank:
+    return r._replace(lines=r.lines + line) if told == what else r
+
+
 def waits(queues, k: int, size: int) -> bool:
     """Whether a message that the rank sent isn't received yet."""
     return any(packet[0] == "user" for a in range(size) for packet in queues[k * size + a])
 
 
-def successors(state, size: int, synchronous: bool = False):
+def successors(state, size: int, synchronous: bool = False, told: str = PRINTS):
     """The states after one step of one rank."""
     ranks, queues = state
     for k in range(size):
@@ -124,7 +135,7 @@ def successors(state, size: int, synchronous: bool = False):
         if r.fault or not r.todo or (synchronous and waits(queues, k, size)):
             continue
         try:
-            found = list(steps(r, k, size, queues))
+            found = list(steps(r, k, size, queues, told))
         except Fault as fault:
             found = [(r._replace(fault=fault.args[0]), queues)]
         for after, left in found:
@@ -174,7 +185,7 @@ def collective(queues, k: int, size: int, a: int):
     return None
 
 
-def steps(r: Rank, k: int, size: int, queues):
+def steps(r: Rank, k: int, size: int, queues, told: str = PRINTS):
     s, rest = r.todo[0], r.todo[1:]
     values = dict(r.values)
     on = r._replace(todo=rest, part=0, total=0)
@@ -206,13 +217,15 @@ def steps(r: Rank, k: int, size: int, queues):
     elif kind == "while":
         yield (on._replace(todo=tuple(s[2]) + r.todo) if of(s[1]) else on), queues
     elif kind == "print":
-        yield on._replace(lines=r.lines + (of(s[1]),)), queues
+        yield telling(on, told, PRINTS, of(s[1])), queues
     elif kind == "send":
         dest = rank_of(s[1])
-        yield on, put(queues, k, dest, ("user", k, tag_of(s[2]), of(s[3])))
+        packet = ("user", k, tag_of(s[2]), of(s[3]))
+        yield telling(on, told, SENDS, (dest, packet)), put(queues, k, dest, packet)
     elif kind == "recv":
         for a, index, packet in eligible(queues, k, size, rank_of(s[1]), tag_of(s[2])):
-            yield set_to(on, **{s[3]: packet[3]}, source=a, gottag=packet[2], count=1), without(queues, a, k, index)
+            after = telling(on, told, RECEPTIONS, packet)
+            yield set_to(after, **{s[3]: packet[3]}, source=a, gottag=packet[2], count=1), without(queues, a, k, index)
     elif kind == "probe":
         for a, _, packet in eligible(queues, k, size, rank_of(s[1]), tag_of(s[2])):
             yield set_to(on, source=a, gottag=packet[2], count=1), queues
@@ -221,10 +234,10 @@ def steps(r: Rank, k: int, size: int, queues):
         for a, _, packet in eligible(queues, k, size, rank_of(s[1]), tag_of(s[2])):
             yield set_to(on, **{s[3]: 1}, source=a, gottag=packet[2], count=1), queues
     else:
-        yield from parts(r, on, s, k, size, queues, of)
+        yield from parts(r, on, s, k, size, queues, of, told)
 
 
-def parts(r: Rank, on: Rank, s, k: int, size: int, queues, of):
+def parts(r: Rank, on: Rank, s, k: int, size: int, queues, of, told: str):
     """The next part of a collective: one of its sends or receptions."""
     kind = s[0]
     others = [a for a in range(size) if a != (0 if kind == "barrier" else s[1])]
@@ -240,7 +253,8 @@ def parts(r: Rank, on: Rank, s, k: int, size: int, queues, of):
     if r.part < len(plan):
         way, a = plan[r.part]
         if way == "to":
-            after, left = r._replace(part=r.part + 1, total=total), put(queues, k, a, ("all", k, kind, gives))
+            packet = ("all", k, kind, gives)
+            after, left = telling(r, told, SENDS, (a, packet))._replace(part=r.part + 1, total=total), put(queues, k, a, packet)
         else:
             found = collective(queues, k, size, a)
             if found is None:
@@ -256,6 +270,7 @@ def parts(r: Rank, on: Rank, s, k: int, size: int, queues, of):
     if after.part < len(plan):
         yield after, left
         return
+    on = on._replace(lines=after.lines)
     ended = on
     if kind == "reduce" and k == root:
         ended = set_to(on, **{s[3]: after.total})
@@ -264,13 +279,13 @@ def parts(r: Rank, on: Rank, s, k: int, size: int, queues, of):
     yield ended, left
 
 
-def outcomes(body, size: int, most_states: int = 50_000, synchronous: bool = False) -> set | None:
+def outcomes(body, size: int, most_states: int = 50_000, synchronous: bool = False, told: str = PRINTS) -> set | None:
     """The outcomes, each a tuple of (lines, end) of each rank; None if there are too many
     states."""
-    return search(body, size, most_states, synchronous)[0]
+    return search(body, size, most_states, synchronous, told)[0]
 
 
-def search(body, size: int, most_states: int, synchronous: bool = False) -> tuple[set | None, int]:
+def search(body, size: int, most_states: int, synchronous: bool = False, told: str = PRINTS) -> tuple[set | None, int]:
     """The same, and how many states there are, or how many were met until these were too many."""
 
     def end(state, k: int) -> str:
@@ -283,7 +298,7 @@ def search(body, size: int, most_states: int, synchronous: bool = False) -> tupl
     seen, left, found = {begin}, [begin], set()
     while left:
         state = left.pop()
-        following = list(successors(state, size, synchronous))
+        following = list(successors(state, size, synchronous, told))
         if not following:
             found.add(tuple((r.lines, end(state, k)) for k, r in enumerate(state[0])))
         for after in following:
