@@ -28,6 +28,13 @@ def text_for(top: str, program: str, verdict: str) -> str:
     return f"{HEADING}sources {sum_of_all(top)}\nprogram {program} by {kit_line()}\n./check: {verdict}\n"
 
 
+def names_the_same(one: str, other: str) -> bool:
+    """Whether both files name the same sources, and the same last line. Another toolchain may have
+    proved them."""
+    without_kit = lambda text: [line.partition(" by ")[0] for line in text.splitlines()]
+    return without_kit(one) == without_kit(other)
+
+
 def on_disk(top: str) -> str:
     return text_of(f"{top}/{FILE}") if os.path.exists(f"{top}/{FILE}") else ""
 

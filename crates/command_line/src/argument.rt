@@ -1,151 +1,121 @@
 //! What an argument of a command is, and how `clap` hears of it.
 use clap::{Arg, ArgAction, Command, value_parser};
-use limits::{MOST_RANKS, MOST_SCRIPT_LINES};
+use limits::MOST_RANKS;
 use std::alloc::{AllocError, Global};
+
+/// A command of the program, and what its help says.
+#[derive(Clone, Copy)]
+pub struct Form {
+    pub name: &'static str,
+    pub about: &'static str,
+    /// What stands behind its words.
+    pub help: &'static str,
+    pub arguments: &'static [Argument],
+}
 
 /// An argument of a command.
 #[derive(Clone, Copy)]
 pub struct Argument {
-    // an option has it behind two hyphens
-    name: &'static str,
-    // how a help calls what is given
-    value: &'static str,
-    help: &'static str,
-    given: Given,
-    // which option has to be there too
-    with: Option<&'static str>,
-    // of which options none may be there too
-    without: &'static [&'static str],
+    /// An option has it behind two hyphens.
+    pub name: &'static str,
+    /// How a help calls what is given.
+    pub value: &'static str,
+    pub help: &'static str,
+    pub given: Given,
+    /// What it is given where it isn't there.
+    pub default: Option<&'static str>,
+    pub is_required: bool,
+    /// No help has it.
+    pub is_hidden: bool,
+    /// Which option has to be there too.
+    pub with: Option<&'static str>,
+    /// Of which options none may be there too.
+    pub without: &'static [&'static str],
 }
 
 /// What is given for an argument.
 #[derive(Clone, Copy)]
-enum Given {
-    /// A file that stands at its place, and has to.
+pub enum Given {
+    /// A file that stands at its place.
     File,
     /// Nothing: the option is there or not.
     Nothing,
-    /// Nothing, and the option is refused: no help has it.
-    Gone,
     /// The file or the word of an option.
     Text,
-    /// A number of ranks.
-    Ranks {
-        required: bool,
-    },
-    /// A number of lines, at most half of those that a script may have.
-    Lines {
-        default: &'static str,
-    },
-    /// A number from this one to 1000000000.
-    Number {
-        least: i64,
-        default: Option<&'static str>,
-    },
+    /// A number in this range.
+    Number { least: i64, most: i64 },
 }
 
+/// A file that stands at its place, and has to.
+pub const FILE: Argument = Argument {
+    name: "",
+    value: "",
+    help: "",
+    given: Given::File,
+    default: None,
+    is_required: true,
+    is_hidden: false,
+    with: None,
+    without: &[],
+};
+
+/// An option that is given nothing.
+pub const FLAG: Argument = Argument {
+    given: Given::Nothing,
+    is_required: false,
+    ..FILE
+};
+
+/// An option that is given a file.
+pub const FILE_OF: Argument = Argument {
+    value: "FILE",
+    given: Given::Text,
+    is_required: false,
+    ..FILE
+};
+
+/// An option that is given a number from 1 to 1000000000.
+pub const NUMBER: Argument = Argument {
+    given: Given::Number {
+        least: 1,
+        most: 1000000000,
+    },
+    is_required: false,
+    ..FILE
+};
+
+/// The number of ranks.
+pub const RANKS: Argument = Argument {
+    name: "ranks",
+    value: "N",
+    help: "The number of ranks, 1 to 16",
+    given: Given::Number {
+        least: 1,
+        most: MOST_RANKS as i64,
+    },
+    is_required: true,
+    ..NUMBER
+};
+
 impl Argument {
-    fn new(name: &'static str, value: &'static str, help: &'static str, given: Given) -> Argument {
-        Argument {
-            name,
-            value,
-            help,
-            given,
-            with: None,
-            without: &[],
-        }
-    }
-
-    /// A file that stands at its place, and has to.
-    pub fn file(name: &'static str, value: &'static str, help: &'static str) -> Argument {
-        Argument::new(name, value, help, Given::File)
-    }
-
-    /// An option that is given nothing.
-    pub fn flag(name: &'static str, help: &'static str) -> Argument {
-        Argument::new(name, "", help, Given::Nothing)
-    }
-
-    /// An option that is given nothing, and is refused by a text of its own.
-    pub fn gone(name: &'static str) -> Argument {
-        Argument::new(name, "", "", Given::Gone)
-    }
-
-    /// An option that is given a file.
-    pub fn file_of(name: &'static str, help: &'static str) -> Argument {
-        Argument::new(name, "FILE", help, Given::Text)
-    }
-
-    /// An option that is given a word.
-    pub fn word(name: &'static str, value: &'static str, help: &'static str) -> Argument {
-        Argument::new(name, value, help, Given::Text)
-    }
-
-    /// The number of ranks, which has to be given or not.
-    pub fn ranks(required: bool) -> Argument {
-        let help = "The number of ranks, 1 to 16";
-        Argument::new("ranks", "N", help, Given::Ranks { required })
-    }
-
-    /// An option that is given how many lines of a kind a script has at most.
-    pub fn lines(name: &'static str, help: &'static str, default: &'static str) -> Argument {
-        Argument::new(name, "M", help, Given::Lines { default })
-    }
-
-    /// An option that is given a number from `least` to 1000000000.
-    pub fn number(
-        name: &'static str,
-        value: &'static str,
-        help: &'static str,
-        least: i64,
-        default: Option<&'static str>,
-    ) -> Argument {
-        Argument::new(name, value, help, Given::Number { least, default })
-    }
-
-    /// The same, if it is allowed beside this option alone.
-    pub fn with(self, other: &'static str) -> Argument {
-        Argument {
-            with: Some(other),
-            ..self
-        }
-    }
-
-    /// The same, if it is allowed beside none of these options.
-    pub fn without(self, others: &'static [&'static str]) -> Argument {
-        Argument {
-            without: others,
-            ..self
-        }
-    }
-
     // The same for `clap`.
     fn made<'a>(&self, alloc: Global) -> Result<Arg<'a>, AllocError> {
-        let argument = self.given(Arg::new(alloc, self.name).help(self.help));
+        let argument = Arg::new(alloc, self.name)
+            .help(self.help)
+            .required(self.is_required)
+            .hide(self.is_hidden);
+        let argument = or_default(self.given(argument), self.default);
         required_by(argument, self.with)?.conflicts_with_all(self.without)
     }
 
     fn given<'a>(&self, argument: Arg<'a>) -> Arg<'a> {
         match self.given {
-            Given::File => self.value(argument).required(true),
+            Given::File => self.value(argument),
             Given::Nothing => argument.long(self.name).action(ArgAction::SetTrue),
-            Given::Gone => argument
-                .long(self.name)
-                .action(ArgAction::SetTrue)
-                .hide(true),
             Given::Text => self.option(argument),
-            Given::Ranks { required } => self
+            Given::Number { least, most } => self
                 .option(argument)
-                .required(required)
-                .value_parser(value_parser!(u8).range(1..=MOST_RANKS as i64)),
-            Given::Lines { default } => self
-                .option(argument)
-                .default_value(default)
-                .value_parser(value_parser!(u8).range(0..=MOST_SCRIPT_LINES as i64 / 2)),
-            Given::Number { least, default } => or_default(
-                self.option(argument),
-                default,
-            ).value_parser(value_parser!(u32).range(least..=1000000000)),
+                .value_parser(value_parser!(u32).range(least..=most)),
         }
     }
 
@@ -172,19 +142,17 @@ fn required_by<'a>(argument: Arg<'a>, other: Option<&'static str>) -> Result<Arg
     }
 }
 
-/// A command with these arguments. An error means out of memory.
-pub fn command<'a>(
-    alloc: Global,
-    name: &'static str,
-    about: &'static str,
-    help: &'static str,
-    arguments: &[Argument],
-) -> Result<Command<'a>, AllocError> {
-    let mut command = Command::new(alloc, name).about(about).after_help(help);
-    for each in arguments {
-        command = with_argument(command, each.made(alloc))?;
+impl Form {
+    /// The same for `clap`. An error means out of memory.
+    pub fn made<'a>(&self, alloc: Global) -> Result<Command<'a>, AllocError> {
+        let mut command = Command::new(alloc, self.name)
+            .about(self.about)
+            .after_help(self.help);
+        for each in self.arguments {
+            command = with_argument(command, each.made(alloc))?;
+        }
+        Ok(command)
     }
-    Ok(command)
 }
 
 // Written out, the drop is one call and not the whole drop of a command.

@@ -1,12 +1,10 @@
 //! The words of `catch-up`.
 ghost use Rattle.std.specs.Prelude.{◌≤◌};
 
-use crate::argument::{Argument, command};
+use crate::argument::{Argument, FLAG, Form, NUMBER, RANKS};
 use crate::help;
 use crate::job::WorldJob;
-use crate::syntax::{events, program};
-use clap::Command;
-use std::alloc::{AllocError, Global};
+use crate::syntax::{EVENTS, PROGRAM};
 
 /// One world that is wanted at its end, where no rank makes more than so many
 /// steps on the way there. `steps` is at most 1000000000.
@@ -18,26 +16,26 @@ pub struct FinishJob<'a> {
 }
 
 /// The form of the words.
-pub fn catch_up<'a>(alloc: Global) -> Result<Command<'a>, AllocError> {
-    command(
-        alloc,
-        "catch-up",
-        "Prints events that bring a world's ranks back to where they were",
-        help::CATCH_UP,
-        &[
-            Argument::ranks(true),
-            Argument::flag(
-                "to-the-end",
-                "Prints events that bring the world to its end (below)",
-            ),
-            steps(),
-            program(),
-            events(),
-        ],
-    )
-}
-
-fn steps() -> Argument {
-    let help = "Steps of a rank in them, 1 to 1000000000";
-    Argument::number("steps", "S", help, 1, Some("100000")).with("to-the-end")
-}
+pub const CATCH_UP: Form = Form {
+    name: "catch-up",
+    about: "Prints events that bring a world's ranks back to where they were",
+    help: help::CATCH_UP,
+    arguments: &[
+        RANKS,
+        Argument {
+            name: "to-the-end",
+            help: "Prints events that bring the world to its end (below)",
+            ..FLAG
+        },
+        Argument {
+            name: "steps",
+            value: "S",
+            help: "Steps of a rank in them, 1 to 1000000000",
+            default: Some("100000"),
+            with: Some("to-the-end"),
+            ..NUMBER
+        },
+        PROGRAM,
+        EVENTS,
+    ],
+};

@@ -1,8 +1,8 @@
 //! In which form the words of `run` ask for what its recoveries cost.
-use crate::argument::Argument;
+use crate::argument::{Argument, FLAG};
 
 /// In which form the costs of a run are printed, behind its report.
-#[derive(Clone, Copy, Debug)]
+#[derive(Clone, Copy)]
 pub enum CostForm {
     /// They aren't printed.
     Unasked,
@@ -13,12 +13,16 @@ pub enum CostForm {
 }
 
 /// Whether costs are asked for.
-pub fn costs() -> Argument {
-    let help = "Prints what recoveries cost, behind the report (below)";
-    Argument::flag("costs", help)
-}
+pub const COSTS: Argument = Argument {
+    name: "costs",
+    help: "Prints what recoveries cost, behind the report (below)",
+    ..FLAG
+};
 
 /// Whether they are asked for as JSON.
-pub fn costs_as_json() -> Argument {
-    Argument::flag("json", "Prints the costs as JSON, an object a line").with("costs")
-}
+pub const COSTS_AS_JSON: Argument = Argument {
+    name: "json",
+    help: "Prints the costs as JSON, an object a line",
+    with: Some("costs"),
+    ..FLAG
+};

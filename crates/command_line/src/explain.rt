@@ -2,11 +2,9 @@
 ghost use Rattle.std.specs.Prelude.{◌≤◌};
 ghost use Rattle.limits.specs.Limits.{most_ranks};
 
-use crate::argument::{Argument, command};
+use crate::argument::{Argument, FILE_OF, Form, RANKS};
 use crate::help;
-use crate::syntax::program;
-use clap::Command;
-use std::alloc::{AllocError, Global};
+use crate::syntax::PROGRAM;
 
 /// The texts whose first fault is to be explained. The script is one for so many
 /// ranks.
@@ -20,17 +18,26 @@ pub struct ExplainJob<'a> {
 }
 
 /// The form of the words.
-pub fn explain<'a>(alloc: Global) -> Result<Command<'a>, AllocError> {
-    command(
-        alloc,
-        "explain",
-        "Explains a text's first fault: where it is and what was expected",
-        help::EXPLAIN,
-        &[
-            Argument::ranks(false),
-            Argument::file_of("script", "The script of a run of N ranks").with("ranks"),
-            Argument::file_of("events", "The events of a world"),
-            program(),
-        ],
-    )
-}
+pub const EXPLAIN: Form = Form {
+    name: "explain",
+    about: "Explains a text's first fault: where it is and what was expected",
+    help: help::EXPLAIN,
+    arguments: &[
+        Argument {
+            is_required: false,
+            ..RANKS
+        },
+        Argument {
+            name: "script",
+            help: "The script of a run of N ranks",
+            with: Some("ranks"),
+            ..FILE_OF
+        },
+        Argument {
+            name: "events",
+            help: "The events of a world",
+            ..FILE_OF
+        },
+        PROGRAM,
+    ],
+};

@@ -2,14 +2,12 @@
 ghost use Rattle.std.specs.Prelude.{◌≤◌};
 ghost use Rattle.limits.specs.Limits.{most_ranks};
 
-use crate::argument::{Argument, command};
+use crate::argument::{Argument, FLAG, Form, NUMBER, RANKS};
 use crate::help;
-use crate::syntax::program;
-use clap::Command;
-use std::alloc::{AllocError, Global};
+use crate::syntax::{PROGRAM, SYNCHRONOUS};
 
 /// In which form the outcomes are printed.
-#[derive(Clone, Copy, Debug)]
+#[derive(Clone, Copy)]
 pub enum ExploreForm {
     /// Each outcome, and what all of it means.
     Text,
@@ -38,52 +36,52 @@ pub struct ExploreJob<'a> {
 }
 
 /// The form of the words.
-pub fn explore<'a>(alloc: Global) -> Result<Command<'a>, AllocError> {
-    command(
-        alloc,
-        "explore",
-        "Finds every outcome that a program can have, whatever the order",
-        help::EXPLORE,
-        &[
-            Argument::ranks(true),
-            limit("runs", "M", "100000", "Runs looked at, 1 to 1000000000"),
-            limit(
-                "steps",
-                "S",
-                "100000",
-                "Steps of a rank in a run, 1 to 1000000000",
-            ),
-            limit(
-                "states",
-                "K",
-                "1000000",
-                "States kept to merge, 1 to 1000000000",
-            ),
-            Argument::flag(
-                "summary",
-                "Prints which receives raced, and what outcomes mean",
-            ),
-            Argument::flag("json", "Prints all of it as JSON, one object").without(&["summary"]),
-            events(),
-            Argument::flag(
-                "synchronous",
-                "Lets each send wait until its message is received",
-            ),
-            program(),
-        ],
-    )
-}
-
-fn limit(
-    name: &'static str,
-    value: &'static str,
-    default: &'static str,
-    help: &'static str,
-) -> Argument {
-    Argument::number(name, value, help, 1, Some(default))
-}
-
-fn events() -> Argument {
-    let help = "Prints a run of outcome K as events, for `ftmpi world`";
-    Argument::number("events", "K", help, 1, None).without(&["summary", "json", "synchronous"])
-}
+pub const EXPLORE: Form = Form {
+    name: "explore",
+    about: "Finds every outcome that a program can have, whatever the order",
+    help: help::EXPLORE,
+    arguments: &[
+        RANKS,
+        Argument {
+            name: "runs",
+            value: "M",
+            help: "Runs looked at, 1 to 1000000000",
+            default: Some("100000"),
+            ..NUMBER
+        },
+        Argument {
+            name: "steps",
+            value: "S",
+            help: "Steps of a rank in a run, 1 to 1000000000",
+            default: Some("100000"),
+            ..NUMBER
+        },
+        Argument {
+            name: "states",
+            value: "K",
+            help: "States kept to merge, 1 to 1000000000",
+            default: Some("1000000"),
+            ..NUMBER
+        },
+        Argument {
+            name: "summary",
+            help: "Prints which receives raced, and what outcomes mean",
+            ..FLAG
+        },
+        Argument {
+            name: "json",
+            help: "Prints all of it as JSON, one object",
+            without: &["summary"],
+            ..FLAG
+        },
+        Argument {
+            name: "events",
+            value: "K",
+            help: "Prints a run of outcome K as events, for `ftmpi world`",
+            without: &["summary", "json", "synchronous"],
+            ..NUMBER
+        },
+        SYNCHRONOUS,
+        PROGRAM,
+    ],
+};

@@ -2,11 +2,9 @@
 ghost use Rattle.std.specs.Prelude.{◌≤◌};
 ghost use Rattle.limits.specs.Limits.{most_ranks};
 
-use crate::argument::{Argument, command};
+use crate::argument::{Argument, FILE, FLAG, Form, NUMBER, RANKS};
 use crate::help;
-use crate::syntax::program;
-use clap::Command;
-use std::alloc::{AllocError, Global};
+use crate::syntax::PROGRAM;
 
 /// One outcome that is judged: whether some run of the program without crashes
 /// has it, in which no rank makes more than so many steps. With `trace` that run
@@ -23,23 +21,30 @@ pub struct JudgeJob<'a> {
 }
 
 /// The form of the words.
-pub fn judge<'a>(alloc: Global) -> Result<Command<'a>, AllocError> {
-    command(
-        alloc,
-        "judge",
-        "Says whether some run without crashes has an outcome",
-        help::JUDGE,
-        &[
-            Argument::ranks(true),
-            steps(),
-            Argument::flag("trace", "Prints a run that has the outcome, too"),
-            program(),
-            Argument::file("outcome", "OUTCOME", "The file of the outcome (below)"),
-        ],
-    )
-}
-
-fn steps() -> Argument {
-    let help = "Steps a rank may make, 1 to 1000000000";
-    Argument::number("steps", "S", help, 1, Some("1000000"))
-}
+pub const JUDGE: Form = Form {
+    name: "judge",
+    about: "Says whether some run without crashes has an outcome",
+    help: help::JUDGE,
+    arguments: &[
+        RANKS,
+        Argument {
+            name: "steps",
+            value: "S",
+            help: "Steps a rank may make, 1 to 1000000000",
+            default: Some("1000000"),
+            ..NUMBER
+        },
+        Argument {
+            name: "trace",
+            help: "Prints a run that has the outcome, too",
+            ..FLAG
+        },
+        PROGRAM,
+        Argument {
+            name: "outcome",
+            value: "OUTCOME",
+            help: "The file of the outcome (below)",
+            ..FILE
+        },
+    ],
+};

@@ -22,7 +22,7 @@ use crate::named::worlds::{finish_of, world_of};
 use crate::no_job::NoJob;
 use crate::scheduling::is_unknown;
 use crate::syntax::syntax;
-use crate::words::{is_given, next_word, value_of};
+use crate::words::{is_given, value_of};
 use clap::error::ErrorKind;
 use clap::{Command, Error};
 use std::alloc::Global;
@@ -74,24 +74,49 @@ fn job_by<'a>(command: &mut Command<'a>, words: &'a [String]) -> Result<Job<'a>,
 fn named<'a>(words: &'a [String]) -> Option<Job<'a>>
     ensures { IfSome result (λ job. IsJobOf (texts words.entry.now) job) }
 {
-    let (_, called) = next_word(words)?;
-    let (command, arguments) = next_word(called)?;
-    chosen(command, arguments)
+    match words {
+        [_, command, arguments @ ..] => chosen(command.as_str(), arguments),
+        _ => None,
+    }
 }
 
 fn chosen<'a>(command: &str, arguments: &'a [String]) -> Option<Job<'a>>
     ensures { IfSome result (λ job. IsJobBy command.now (texts arguments.entry.now) job) }
 {
-    match command_called(command)? {
-        CommandName::Check => check_of(command, arguments).map(Job::Check),
-        CommandName::C => c_of(command, arguments).map(Job::C),
-        CommandName::Run => run_of(command, arguments, cost_form_of(arguments)).map(Job::Run),
-        CommandName::Trace => trace_of(command, arguments).map(Job::Trace),
+    let Some(called) = command_called(command) else {
+        return None;
+    };
+    match called {
+        CommandName::Check => match check_of(command, arguments) {
+            Some(check) => Some(Job::Check(check)),
+            None => None,
+        },
+        CommandName::C => match c_of(command, arguments) {
+            Some(c) => Some(Job::C(c)),
+            None => None,
+        },
+        CommandName::Run => match run_of(command, arguments, cost_form_of(arguments)) {
+            Some(run) => Some(Job::Run(run)),
+            None => None,
+        },
+        CommandName::Trace => match trace_of(command, arguments) {
+            Some(trace) => Some(Job::Trace(trace)),
+            None => None,
+        },
         CommandName::World => world_job(command, arguments),
         CommandName::CatchUp => catch_up_job(command, arguments),
-        CommandName::Explain => explain_of(command, arguments).map(Job::Explain),
-        CommandName::Explore => explore_of(command, arguments).map(Job::Explore),
-        CommandName::Judge => judge_of(command, arguments).map(Job::Judge),
+        CommandName::Explain => match explain_of(command, arguments) {
+            Some(texts) => Some(Job::Explain(texts)),
+            None => None,
+        },
+        CommandName::Explore => match explore_of(command, arguments) {
+            Some(search) => Some(Job::Explore(search)),
+            None => None,
+        },
+        CommandName::Judge => match judge_of(command, arguments) {
+            Some(outcome) => Some(Job::Judge(outcome)),
+            None => None,
+        },
         CommandName::Soak => soak_job(command, arguments),
     }
 }
@@ -101,9 +126,15 @@ fn world_job<'a>(command: &str, arguments: &'a [String]) -> Option<Job<'a>>
     ensures { IfSome result (λ job. IsJobBy command.now (texts arguments.entry.now) job) }
 {
     if is_given("json", arguments) {
-        world_of(command, arguments).map(Job::WorldJson)
+        match world_of(command, arguments) {
+            Some(world) => Some(Job::WorldJson(world)),
+            None => None,
+        }
     } else {
-        world_of(command, arguments).map(Job::World)
+        match world_of(command, arguments) {
+            Some(world) => Some(Job::World(world)),
+            None => None,
+        }
     }
 }
 
@@ -112,9 +143,15 @@ fn catch_up_job<'a>(command: &str, arguments: &'a [String]) -> Option<Job<'a>>
     ensures { IfSome result (λ job. IsJobBy command.now (texts arguments.entry.now) job) }
 {
     if is_given("to-the-end", arguments) {
-        finish_of(command, arguments).map(Job::Finish)
+        match finish_of(command, arguments) {
+            Some(finish) => Some(Job::Finish(finish)),
+            None => None,
+        }
     } else {
-        world_of(command, arguments).map(Job::CatchUp)
+        match world_of(command, arguments) {
+            Some(world) => Some(Job::CatchUp(world)),
+            None => None,
+        }
     }
 }
 
@@ -123,7 +160,13 @@ fn soak_job<'a>(command: &str, arguments: &'a [String]) -> Option<Job<'a>>
     ensures { IfSome result (λ job. IsJobBy command.now (texts arguments.entry.now) job) }
 {
     match value_of("script-of", arguments) {
-        Some(_) => script_of(command, arguments).map(Job::SoakScript),
-        None => soak_of(command, arguments).map(Job::Soak),
+        Some(_) => match script_of(command, arguments) {
+            Some(script) => Some(Job::SoakScript(script)),
+            None => None,
+        },
+        None => match soak_of(command, arguments) {
+            Some(runs) => Some(Job::Soak(runs)),
+            None => None,
+        },
     }
 }

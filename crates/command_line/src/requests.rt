@@ -3,7 +3,7 @@ ghost use Rattle.std.specs.Prelude.{◌≡◌};
 ghost use Rattle.command_line.specs.Requests.{asks_for_help, begins_so, has_request, is_request, is_short};
 ghost use Rattle.command_line.specs.Words.{texts};
 
-use crate::words::{behind_hyphen, next_word};
+use crate::words::{behind_hyphen, is, next_word};
 
 /// Whether some word behind the program's own name asks for help or for the version, as `clap`
 /// takes these words where no value of an option stands there.
@@ -32,7 +32,7 @@ fn has_request(words: &[String]) -> bool
 fn is_request(word: &str) -> bool
     ensures { result ≡ is_request word.now }
 {
-    word == "help" || word == "--help" || word == "--version" || is_short(word)
+    is(word, "help") || is(word, "--help") || is(word, "--version") || is_short(word)
 }
 
 // `-h` or `-V`. What stands behind these letters in a word is never looked at.

@@ -3,11 +3,11 @@ ghost use Rattle.std.specs.Prelude.{◌≡◌, IfSome, codes};
 ghost use Rattle.command_line.specs.Schedules.{IsPolicyIf, IsSchedulingOf, policy_word};
 ghost use Rattle.command_line.specs.Words.{texts, value_of};
 
-use crate::argument::Argument;
-use crate::words::{limit_or, number_or, value_of};
+use crate::argument::{Argument, FILE_OF, Given, NUMBER};
+use crate::words::{is, limit_or, number_or, value_of};
 
 /// In which order ranks take turns that take them on one thread.
-#[derive(Clone, Copy, Debug, PartialEq, Eq)]
+#[derive(Clone, Copy)]
 pub enum Policy {
     /// One after another.
     RoundRobin,
@@ -32,36 +32,46 @@ pub struct Scheduling {
 }
 
 /// Whether the ranks take turns on one thread, and how.
-pub fn schedule() -> Argument {
-    let help = "Runs all ranks on one thread, in turns (below)";
-    Argument::word("schedule", "ORDER", help)
-}
+pub const SCHEDULE: Argument = Argument {
+    name: "schedule",
+    value: "ORDER",
+    help: "Runs all ranks on one thread, in turns (below)",
+    ..FILE_OF
+};
 
 /// What the turns are drawn from.
-pub fn seed() -> Argument {
-    let help = "Seed of the turns, 0 to 1000000000; 1 if not given";
-    Argument::number("seed", "S", help, 0, None)
-}
+pub const SEED: Argument = Argument {
+    name: "seed",
+    value: "S",
+    help: "Seed of the turns, 0 to 1000000000; 1 if not given",
+    given: Given::Number {
+        least: 0,
+        most: 1000000000,
+    },
+    ..NUMBER
+};
 
 /// How many turns there may be.
-pub fn turns() -> Argument {
-    let help = "Turns of all ranks, 1 to 1000000000";
-    Argument::number("turns", "T", help, 1, None)
-}
+pub const TURNS: Argument = Argument {
+    name: "turns",
+    value: "T",
+    help: "Turns of all ranks, 1 to 1000000000",
+    ..NUMBER
+};
 
 /// The policy that the word names, if it names one.
 pub fn policy_called(word: &str) -> Option<Policy>
     ensures { IfSome result (λ policy. word.now ≡ policy_word policy) }
 {
-    if word == "round-robin" {
+    if is(word, "round-robin") {
         Some(Policy::RoundRobin)
-    } else if word == "uniform" {
+    } else if is(word, "uniform") {
         Some(Policy::Uniform)
-    } else if word == "starve" {
+    } else if is(word, "starve") {
         Some(Policy::Starve)
-    } else if word == "run-on" {
+    } else if is(word, "run-on") {
         Some(Policy::RunOn)
-    } else if word == "recovery-first" {
+    } else if is(word, "recovery-first") {
         Some(Policy::RecoveryFirst)
     } else {
         None
@@ -81,7 +91,10 @@ fn policy_if(arguments: &[String]) -> Option<Option<Policy>>
     ensures { IfSome result (λ policy. IsPolicyIf (value_of (codes "schedule") (texts arguments.now)) policy) }
 {
     match value_of("schedule", arguments) {
-        Some(word) => Some(Some(policy_called(word)?)),
+        Some(word) => match policy_called(word) {
+            Some(policy) => Some(Some(policy)),
+            None => None,
+        },
         None => Some(None),
     }
 }
@@ -90,9 +103,16 @@ fn policy_if(arguments: &[String]) -> Option<Option<Policy>>
 pub fn scheduling_of(arguments: &[String]) -> Option<Scheduling>
     ensures { IfSome result (λ scheduling. IsSchedulingOf (texts arguments.now) scheduling) }
 {
+    let (Some(policy), Some(seed), Some(turns)) = (
+        policy_if(arguments),
+        number_or(1, "seed", arguments),
+        limit_or(100000000, "turns", arguments),
+    ) else {
+        return None;
+    };
     Some(Scheduling {
-        policy: policy_if(arguments)?,
-        seed: number_or(1, "seed", arguments)?,
-        turns: limit_or(100000000, "turns", arguments)?,
+        policy,
+        seed,
+        turns,
     })
 }

@@ -2,12 +2,11 @@
 ghost use Rattle.std.specs.Prelude.{◌+◌, ◌≤◌};
 ghost use Rattle.limits.specs.Limits.{most_ranks, most_script_lines};
 
-use crate::argument::{Argument, command};
+use crate::argument::{Argument, Form, Given, NUMBER, RANKS};
 use crate::help;
-use crate::scheduling::{Scheduling, schedule, turns};
-use crate::syntax::{idle, images_every, program, steps_of_a_run};
-use clap::Command;
-use std::alloc::{AllocError, Global};
+use crate::scheduling::{SCHEDULE, SEED, Scheduling, TURNS};
+use crate::syntax::{IDLE, IMAGES_EVERY, PROGRAM, STEPS_OF_A_RUN};
+use limits::MOST_SCRIPT_LINES;
 use std::num::NonZeroU32;
 
 /// Many runs of one program, each under a script that is drawn at random.
@@ -44,37 +43,56 @@ pub struct SoakScriptJob<'a> {
 }
 
 /// The form of the words.
-pub fn soak<'a>(alloc: Global) -> Result<Command<'a>, AllocError> {
-    command(
-        alloc,
-        "soak",
-        "Runs a program many times, crashes its ranks at random, and counts",
-        help::SOAK,
-        &[
-            Argument::ranks(true),
-            Argument::number("runs", "K", "Runs made, 1 to 1000000000", 1, Some("100")),
-            Argument::number(
-                "seed",
-                "S",
-                "Seed of the scripts, 0 to 1000000000",
-                0,
-                Some("1"),
-            ),
-            Argument::lines("kills", "Kills in a run, 0 to M, at most 128", "2"),
-            Argument::lines("images", "Images in a run, 0 to M, at most 128", "2"),
-            images_every(),
-            Argument::number(
-                "script-of",
-                "K",
-                "Prints the script of run K alone (below)",
-                1,
-                None,
-            ),
-            idle(),
-            steps_of_a_run(),
-            schedule(),
-            turns(),
-            program(),
-        ],
-    )
-}
+pub const SOAK: Form = Form {
+    name: "soak",
+    about: "Runs a program many times, crashes its ranks at random, and counts",
+    help: help::SOAK,
+    arguments: &[
+        RANKS,
+        Argument {
+            name: "runs",
+            value: "K",
+            help: "Runs made, 1 to 1000000000",
+            default: Some("100"),
+            ..NUMBER
+        },
+        Argument {
+            help: "Seed of the scripts, 0 to 1000000000",
+            default: Some("1"),
+            ..SEED
+        },
+        Argument {
+            name: "kills",
+            help: "Kills in a run, 0 to M, at most 128",
+            ..LINES
+        },
+        Argument {
+            name: "images",
+            help: "Images in a run, 0 to M, at most 128",
+            ..LINES
+        },
+        IMAGES_EVERY,
+        Argument {
+            name: "script-of",
+            value: "K",
+            help: "Prints the script of run K alone (below)",
+            ..NUMBER
+        },
+        IDLE,
+        STEPS_OF_A_RUN,
+        SCHEDULE,
+        TURNS,
+        PROGRAM,
+    ],
+};
+
+/// How many lines of a kind a script has at most.
+const LINES: Argument = Argument {
+    value: "M",
+    given: Given::Number {
+        least: 0,
+        most: MOST_SCRIPT_LINES as i64 / 2,
+    },
+    default: Some("2"),
+    ..NUMBER
+};

@@ -1,14 +1,12 @@
 //! What the words of `trace` ask for.
-use crate::argument::{Argument, command};
+use crate::argument::{Argument, FLAG, Form, RANKS};
 use crate::help;
 use crate::job::RunJob;
-use crate::scheduling::{schedule, seed, turns};
-use crate::syntax::{idle, images_every, program, script, steps_of_a_run};
-use clap::Command;
-use std::alloc::{AllocError, Global};
+use crate::scheduling::{SCHEDULE, SEED, TURNS};
+use crate::syntax::{IDLE, IMAGES_EVERY, PROGRAM, SCRIPT, STEPS_OF_A_RUN};
 
 /// In which form a run is traced.
-#[derive(Clone, Copy, Debug)]
+#[derive(Clone, Copy)]
 pub enum TraceForm {
     /// Lines for a person.
     Text,
@@ -26,27 +24,36 @@ pub struct TraceJob<'a> {
 }
 
 /// The form of the words.
-pub fn trace<'a>(alloc: Global) -> Result<Command<'a>, AllocError> {
-    command(
-        alloc,
-        "trace",
-        "Runs a program and prints what each rank did, and why it ended",
-        help::TRACE,
-        &[
-            Argument::ranks(true),
-            script(),
-            images_every(),
-            idle(),
-            steps_of_a_run(),
-            schedule(),
-            seed(),
-            turns(),
-            program(),
-            Argument::flag("json", "Prints the same as JSON, an object a line"),
-            Argument::flag("events", "Prints that run as events, for `ftmpi world`").without(&[
-                "json",
-            ]),
-            Argument::gone("picture"),
-        ],
-    )
-}
+pub const TRACE: Form = Form {
+    name: "trace",
+    about: "Runs a program and prints what each rank did, and why it ended",
+    help: help::TRACE,
+    arguments: &[
+        RANKS,
+        SCRIPT,
+        IMAGES_EVERY,
+        IDLE,
+        STEPS_OF_A_RUN,
+        SCHEDULE,
+        SEED,
+        TURNS,
+        PROGRAM,
+        Argument {
+            name: "json",
+            help: "Prints the same as JSON, an object a line",
+            ..FLAG
+        },
+        Argument {
+            name: "events",
+            help: "Prints that run as events, for `ftmpi world`",
+            without: &["json"],
+            ..FLAG
+        },
+        // refused by a text of its own
+        Argument {
+            name: "picture",
+            is_hidden: true,
+            ..FLAG
+        },
+    ],
+};

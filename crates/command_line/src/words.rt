@@ -5,6 +5,7 @@
 //! an option.
 ghost use Rattle.std.specs.Prelude.{◌≡◌, ◌≤◌, ◌<◌, [], ◌∷◌, IfSome, IsSomeAnd, codes, length, option_map, slice_get};
 ghost use Rattle.std.specs.NonZero.{non_zero_u32_get};
+ghost use Rattle.std.specs.Str.{bytes_eq};
 ghost use Rattle.limits.specs.Limits.{most_ranks};
 ghost use Rattle.command_line.specs.Words.{IsSpelledIf, IsSpelledOr, Spells, behind_hyphen, cut_of, files_behind, files_of, first_of, given_by};
 ghost use Rattle.command_line.specs.Words.{is_end, is_flag, is_given, is_option, name_and_value, option_in, own_value, takes_next, texts, value_of};
@@ -12,19 +13,28 @@ ghost use Rattle.command_line.specs.Words.{is_end, is_flag, is_given, is_option,
 use limits::MOST_RANKS;
 use std::num::NonZeroU32;
 
+/// Whether the word is this text. Each `==` of texts would be proved anew.
+pub fn is(word: &str, text: &str) -> bool
+    ensures { result ≡ bytes_eq word.now text.now }
+{
+    word == text
+}
+
 /// The first word, and the words behind it.
 pub fn next_word(words: &[String]) -> Option<(&str, &[String])>
     ensures cut { cut_of result ≡ texts words.now }
     ensures shorter { IfSome result (λ cut. length cut.1.now < length words.now) }
 {
-    let (word, rest) = words.split_first()?;
-    Some((word.as_str(), rest))
+    match words {
+        [word, rest @ ..] => Some((word.as_str(), rest)),
+        [] => None,
+    }
 }
 
 fn is_end(word: &str) -> bool
     ensures { result ≡ is_end word.now }
 {
-    word == "--"
+    is(word, "--")
 }
 
 /// What stands behind a hyphen in front.
@@ -47,8 +57,13 @@ fn name_and_value(text: &str) -> (&str, Option<&str>)
 fn option_in(word: &str) -> Option<(&str, Option<&str>)>
     ensures { option_map (λ option. (option.0.now, option_map (λ value. value.now) option.1)) result ≡ option_in word.now }
 {
-    let named = behind_hyphen(behind_hyphen(word)?)?;
-    Some(name_and_value(named))
+    let Some(letters) = behind_hyphen(word) else {
+        return None;
+    };
+    match behind_hyphen(letters) {
+        Some(named) => Some(name_and_value(named)),
+        None => None,
+    }
 }
 
 fn is_option(name: &str, word: &str) -> bool
@@ -63,15 +78,19 @@ fn is_option(name: &str, word: &str) -> bool
 fn own_value(word: &str) -> Option<&str>
     ensures { option_map (λ value. value.now) result ≡ own_value word.now }
 {
-    let (_, value) = option_in(word)?;
-    value
+    match option_in(word) {
+        Some((_, value)) => value,
+        None => None,
+    }
 }
 
 fn first_of(words: &[String]) -> Option<&str>
     ensures { option_map (λ word. word.now) result ≡ first_of (texts words.now) }
 {
-    let (word, _) = next_word(words)?;
-    Some(word)
+    match words {
+        [word, ..] => Some(word.as_str()),
+        [] => None,
+    }
 }
 
 // What the option that the word is has been given.
@@ -122,14 +141,14 @@ pub fn is_given(name: &str, arguments: &[String]) -> bool
 fn is_flag(command: &str, name: &str) -> bool
     ensures { result ≡ is_flag command.now name.now }
 {
-    name == "costs"
-        || name == "json"
-        || name == "picture"
-        || name == "summary"
-        || name == "synchronous"
-        || name == "to-the-end"
-        || name == "trace"
-        || (name == "events" && command == "trace")
+    is(name, "costs")
+        || is(name, "json")
+        || is(name, "picture")
+        || is(name, "summary")
+        || is(name, "synchronous")
+        || is(name, "to-the-end")
+        || is(name, "trace")
+        || (is(name, "events") && is(command, "trace"))
 }
 
 fn takes_next(command: &str, name: &str, value: Option<&str>) -> bool
@@ -187,10 +206,12 @@ fn word_at(place: usize, words: &[String]) -> Option<&str>
 pub fn one_file<'a>(command: &str, arguments: &'a [String]) -> Option<&'a str>
     ensures { IfSome result (λ file. files_of command.now (texts arguments.entry.now) ≡ file.now ∷ []) }
 {
-    let file = file_at(command, 0, arguments)?;
-    match file_at(command, 1, arguments) {
-        Some(_) => None,
-        None => Some(file),
+    match (
+        file_at(command, 0, arguments),
+        file_at(command, 1, arguments),
+    ) {
+        (Some(file), None) => Some(file),
+        _ => None,
     }
 }
 
@@ -199,11 +220,14 @@ pub fn one_file<'a>(command: &str, arguments: &'a [String]) -> Option<&'a str>
 pub fn two_files<'a>(command: &str, arguments: &'a [String]) -> Option<(&'a str, &'a str)>
     ensures { IfSome result (λ files. files_of command.now (texts arguments.entry.now) ≡ files.0.now ∷ files.1.now ∷ []) }
 {
-    let first = file_at(command, 0, arguments)?;
-    let second = file_at(command, 1, arguments)?;
-    match file_at(command, 2, arguments) {
-        Some(_) => None,
-        None => Some((first, second)),
+    let third = file_at(command, 2, arguments);
+    match (
+        file_at(command, 0, arguments),
+        file_at(command, 1, arguments),
+        third,
+    ) {
+        (Some(first), Some(second), None) => Some((first, second)),
+        _ => None,
     }
 }
 
@@ -223,11 +247,10 @@ pub fn limit_or(default: u32, name: &str, arguments: &[String]) -> Option<u32>
     ensures spelled { IfSome result (λ number. IsSpelledOr default (value_of name.now (texts arguments.now)) number) }
     ensures some { IfSome result (λ number. 1 ≤ number) }
 {
-    let number = number_or(default, name, arguments)?;
-    if number == 0 {
-        return None;
+    match number_or(default, name, arguments) {
+        Some(number) if number > 0 => Some(number),
+        _ => None,
     }
-    Some(number)
 }
 
 /// The number that this option is given, if it is there; None for a number that
@@ -237,7 +260,10 @@ pub fn count_if(name: &str, arguments: &[String]) -> Option<Option<NonZeroU32>>
     ensures { IfSome result (λ count. IsSpelledIf (value_of name.now (texts arguments.now)) count) }
 {
     match value_of(name, arguments) {
-        Some(text) => Some(Some(count_in(text)?)),
+        Some(text) => match count_in(text) {
+            Some(count) => Some(Some(count)),
+            None => None,
+        },
         None => Some(None),
     }
 }
@@ -245,7 +271,10 @@ pub fn count_if(name: &str, arguments: &[String]) -> Option<Option<NonZeroU32>>
 fn count_in(text: &str) -> Option<NonZeroU32>
     ensures { IfSome result (λ count. Spells text.now (non_zero_u32_get count)) }
 {
-    NonZeroU32::new(number_in(text)?)
+    match number_in(text) {
+        Some(number) => NonZeroU32::new(number),
+        None => None,
+    }
 }
 
 /// The number that the text spells, if it is of 32 bits.
@@ -285,12 +314,13 @@ pub fn ranks_of(arguments: &[String]) -> Option<u8>
     ensures some { IfSome result (λ ranks. 1 ≤ ranks) }
     ensures few { IfSome result (λ ranks. ranks ≤ most_ranks) }
 {
-    let text = value_of("ranks", arguments)?;
-    let ranks = small_in(text)?;
-    if ranks == 0 || usize::from(ranks) > MOST_RANKS {
+    let Some(text) = value_of("ranks", arguments) else {
         return None;
+    };
+    match small_in(text) {
+        Some(ranks) if 0 < ranks && usize::from(ranks) <= MOST_RANKS => Some(ranks),
+        _ => None,
     }
-    Some(ranks)
 }
 
 /// The same, or the most that there may be without `--ranks`.
@@ -298,9 +328,8 @@ pub fn ranks_or_most(arguments: &[String]) -> Option<u8>
     ensures spelled { IfSome result (λ ranks. IsSpelledOr most_ranks (value_of (codes "ranks") (texts arguments.now)) ranks) }
     ensures few { IfSome result (λ ranks. ranks ≤ most_ranks) }
 {
-    let ranks = small_or(MOST_RANKS as u8, "ranks", arguments)?;
-    if usize::from(ranks) > MOST_RANKS {
-        return None;
+    match small_or(MOST_RANKS as u8, "ranks", arguments) {
+        Some(ranks) if usize::from(ranks) <= MOST_RANKS => Some(ranks),
+        _ => None,
     }
-    Some(ranks)
 }

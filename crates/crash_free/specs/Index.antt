@@ -1,8 +1,9 @@
 -- By which a message is found among the slots of a pair of ranks: for each kind of messages a queue
 -- of places, oldest first. A kind is a context with a tag, or with any tag. A queue may also have
--- places of slots that are empty.
+-- places of slots that are empty. Few slots have no index: they are walked, from the first that may
+-- be full.
 use Rattle.std.specs.Prelude.{◌≡◌, ℕ, ◌+◌, ◌*◌, ◌<◌, ◌≤◌, Bool, List, [], ◌∷◌, ◌++◌, ◌⊎◌, length, Option, Some, None}
-use Rattle.std.specs.Prelude.{slice_get, slice_index_or, IsSomeAnd, option_and_then}
+use Rattle.std.specs.Prelude.{slice_get, slice_index_or, IfSome, IsSomeAnd, option_and_then}
 use Rattle.std.specs.Ordering.{nat_cmp}
 use Rattle.std.specs.Map.{lookup}
 use Rattle.std.specs.BTreeMap.{is_at}
@@ -83,3 +84,21 @@ pub record HasQueues (i i' : IndexValue) : Type 0 where
 pub record ListsMore (i : IndexValue) (place : ℕ) (i' : IndexValue) : Type 0 where
   pub listed : (kind other : ℕ) → IsListed i kind other → IsListed i' kind other
   pub index : (slots : List Slot) → length slots ≡ place → IsIndex i slots → IsIndex i' slots
+
+-- an index of the slots before a place is one of them with this slot behind them
+abbrev pub ListsSlot : IndexValue → ℕ → Slot → IndexValue → Type 0
+ListsSlot i place slot i' = (slots : List Slot) → length slots ≡ place → IsIndex i slots → IsIndex i' (slots ++ slot ∷ [])
+
+-- and one of them stays so
+abbrev pub StaysIndex : IndexValue → ℕ → IndexValue → Type 0
+StaysIndex i place i' = (slots : List Slot) → length slots ≡ place → IsIndex i slots → IsIndex i' slots
+
+-- the slots before the front are empty
+abbrev pub AreEmptyBefore : ℕ → List Slot → Type 0
+AreEmptyBefore front slots = (place : ℕ) → place < front → slice_index_or slots place None ≡ None
+
+-- by what a message is found: the front, and the index, if there is one
+pub record AreFoundBy (front : ℕ) (index : Option IndexValue) (slots : List Slot) : Type 0 where
+  pub within : front ≤ length slots
+  pub empty : AreEmptyBefore front slots
+  pub indexed : IfSome index (λ i. IsIndex i slots)

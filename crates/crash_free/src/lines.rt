@@ -8,11 +8,11 @@ use std::marker::Model;
 
 /// The values that one rank printed, in order.
 #[derive(Drop)]
-pub struct Row {
+pub struct RankLines {
     values: Vec<i64, Heap>,
 }
 
-impl Model for Row {
+impl Model for RankLines {
     ghost use Rattle.std.specs.Prelude.{List, ℤ};
 
     ghost Value = { List ℤ };
@@ -20,21 +20,21 @@ impl Model for Row {
     ghost view = { λ row. row.values.items };
 }
 
-impl Clone for Row {
+impl Clone for RankLines {
     ghost is_clone = { λ row clone. clone ≡ row };
 
-    fn clone(&self) -> Result<Row, AllocError> {
-        Ok(Row {
+    fn clone(&self) -> Result<RankLines, AllocError> {
+        Ok(RankLines {
             values: self.values.as_slice().to_vec(*self.values.allocator())?,
         })
     }
 }
 
-impl Row {
-    fn new(alloc: Heap) -> Row
+impl RankLines {
+    fn new(alloc: Heap) -> RankLines
         ensures { result ≡ [] }
     {
-        Row {
+        RankLines {
             values: Vec::new(alloc),
         }
     }
@@ -57,7 +57,7 @@ impl Row {
 /// The lines of all ranks: a row for each rank that there may be.
 #[derive(Drop)]
 pub struct Lines {
-    rows: Vec<Row, Heap>,
+    rows: Vec<RankLines, Heap>,
 }
 
 impl Model for Lines {
@@ -75,7 +75,7 @@ impl Lines {
     {
         let mut rows = Vec::new(alloc);
         for _ in 0..MOST_RANKS {
-            rows.push(Row::new(alloc))?;
+            rows.push(RankLines::new(alloc))?;
         }
         Ok(Lines { rows })
     }

@@ -8,4 +8,4 @@ mod row;
 mod unread;
 
 pub use live::Live;
-pub use row::Row;
+pub use row::Claims;

@@ -64,6 +64,10 @@ const FORMS: [Form; 9] = [
     },
 ];
 
+fn forms() -> &'static [Form] {
+    &FORMS
+}
+
 /// What is wrong with an events text that has this fault on this line, from 1.
 pub fn explain_events(
     alloc: Heap,
@@ -77,7 +81,7 @@ pub fn explain_events(
     match kind {
         EventsFaultKind::BadLine => put_bad_line(&mut told, alloc, number, line, words.as_slice()),
         EventsFaultKind::Limit => {
-            put_piece(&mut told, line, words.first().copied());
+            put_piece(&mut told, line, words.as_slice(), 0);
             told.text("an events text has at most 100000 lines\n");
         }
     }
@@ -101,18 +105,18 @@ fn put_bad_line(
     }
     match words {
         [] => {
-            put_piece(told, line, None);
+            put_piece(told, line, words, 0);
             told.text("no event begins so\n");
         }
         [word, numbers @ ..] => match form_of(*word) {
             Some(form) => put_numbers(told, line, numbers, form),
-            None => put_no_event(told, alloc, line, *word),
+            None => put_no_event(told, alloc, line, words, word.text),
         },
     }
 }
 
 fn form_of(word: Piece<'_>) -> Option<&'static Form> {
-    for form in &FORMS {
+    for form in forms() {
         if word.is(form.word.as_bytes()) {
             return Some(form);
         }
@@ -120,14 +124,12 @@ fn form_of(word: Piece<'_>) -> Option<&'static Form> {
     None
 }
 
-fn put_no_event(told: &mut TextWriter, alloc: Heap, line: &[u8], word: Piece<'_>) {
-    put_piece(told, line, Some(word));
+fn put_no_event(told: &mut TextWriter, alloc: Heap, line: &[u8], words: &[Piece<'_>], word: &[u8]) {
+    put_piece(told, line, words, 0);
     told.text("no event begins so");
-    let mut nearest = NearWord::to(word.text);
-    for form in &FORMS {
-        if let Err(error) = nearest.look(alloc, &[form.word]) {
-            told.fail(error);
-        }
+    let mut nearest = NearWord::to(word);
+    for form in forms() {
+        nearest.look_at(alloc, form.word);
     }
     nearest.put(told);
     told.sign('\n');
@@ -141,7 +143,7 @@ fn put_numbers(told: &mut TextWriter, line: &[u8], words: &[Piece<'_>], form: &F
     } else {
         "nothing more"
     };
-    put_piece(told, line, words.get(place).copied());
+    put_piece(told, line, words, place);
     told.text("expected here: ");
     told.text(expected);
     told.text("; the event is ");

@@ -14,6 +14,8 @@ pub struct NearWord<'a, 'w> {
     found: Option<&'w str>,
     /// Another word is nearer than the one that was found if its distance is below this.
     distance: usize,
+    /// Whether there was memory to look at all of them.
+    room: Result<(), AllocError>,
 }
 
 impl<'a, 'w> NearWord<'a, 'w> {
@@ -27,32 +29,48 @@ impl<'a, 'w> NearWord<'a, 'w> {
             word,
             found: None,
             distance: 1usize.saturating_add(word.len() / 3).min(3),
+            room: Ok(()),
         }
     }
 
     /// Looks at these words, none of which is empty or the word itself.
-    pub fn look(&mut self, alloc: Heap, words: &[&'w str]) -> Result<(), AllocError> {
+    pub fn look(&mut self, alloc: Heap, words: &[&'w str]) {
         for other in words {
-            let distance = osa_distance(alloc, self.word, *other)?;
-            if distance < self.distance {
-                self.distance = distance;
-                self.found = Some(*other);
-            }
+            self.look_at(alloc, *other);
         }
-        Ok(())
+    }
+
+    /// Looks at one more.
+    pub fn look_at(&mut self, alloc: Heap, other: &'w str) {
+        match osa_distance(alloc, self.word, other) {
+            Ok(distance) => {
+                if distance < self.distance {
+                    self.distance = distance;
+                    self.found = Some(other);
+                }
+            }
+            Err(error) => self.room = Err(error),
+        }
     }
 
     /// The nearest.
-    pub fn found(&self) -> Option<&'w str> {
-        self.found
+    pub fn found(&self) -> Result<Option<&'w str>, AllocError> {
+        match self.room {
+            Ok(()) => Ok(self.found),
+            Err(_) => Err(AllocError),
+        }
     }
 
     /// Writes that the nearest was perhaps meant, if one is near.
     pub fn put(&self, told: &mut TextWriter) {
-        if let Some(near) = self.found {
-            told.text("; perhaps `");
-            told.text(near);
-            told.text("` is meant");
+        match self.found() {
+            Ok(Some(near)) => {
+                told.text("; perhaps `");
+                told.text(near);
+                told.text("` is meant");
+            }
+            Ok(None) => {}
+            Err(error) => told.fail(error),
         }
     }
 }
@@ -64,17 +82,15 @@ pub fn nearest<'w>(
     words: &[&'w str],
 ) -> Result<Option<&'w str>, AllocError> {
     let mut nearest = NearWord::to(word);
-    nearest.look(alloc, words)?;
-    Ok(nearest.found())
+    nearest.look(alloc, words);
+    nearest.found()
 }
 
 /// Writes the word among these that was perhaps meant, if one is near.
 pub fn put_nearest(told: &mut TextWriter, alloc: Heap, word: &[u8], words: &[&str]) {
     let mut nearest = NearWord::to(word);
-    match nearest.look(alloc, words) {
-        Ok(()) => nearest.put(told),
-        Err(error) => told.fail(error),
-    }
+    nearest.look(alloc, words);
+    nearest.put(told);
 }
 
 /// Whether the text is one of these words.

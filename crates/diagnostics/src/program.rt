@@ -7,6 +7,7 @@ use crate::near::{NearWord, put_nearest};
 use crate::passed_limits::limit_passed;
 use crate::piece::{Cut, Piece, pieces_of};
 use crate::shown::{line_of, put_bytes, put_marked, put_piece};
+use crate::value::Reader;
 use crate::wordless::put_no_text;
 use limits::Heap;
 use rank_language::{FaultKind, ProgramFault};
@@ -24,12 +25,15 @@ pub fn explain_program(
 ) -> Result<String<Heap>, AllocError> {
     let line = line_of(text, fault.line);
     let pieces = pieces_of(alloc, line, Cut::Tokens)?;
-    let before = Before::line(alloc, text, fault.line)?;
+    let before = Before::line(alloc, text, fault.line);
     let mut told = TextWriter::begun(format!(in alloc; "{fault}\n"), alloc);
     put_why(&mut told, alloc, fault, line, pieces.as_slice(), &before);
     told.text("manual: docs/LANGUAGE.md, ");
     told.text(page_of(fault.kind));
     told.sign('\n');
+    if let Err(error) = before.room {
+        told.fail(error);
+    }
     told.done()
 }
 
@@ -67,7 +71,7 @@ fn page_of(kind: FaultKind) -> &'static str {
 }
 
 fn put_no_statement(told: &mut TextWriter, alloc: Heap, line: &[u8], pieces: &[Piece<'_>]) {
-    put_piece(told, line, pieces.first().copied());
+    put_piece(told, line, pieces, 0);
     told.text("no statement begins so");
     match pieces {
         [word, behind, ..] if word.is_word() && behind.is(b"=") => put_aim(told, SET),
@@ -92,15 +96,18 @@ fn put_aim(told: &mut TextWriter, aim: &str) {
 }
 
 fn put_misfit(told: &mut TextWriter, alloc: Heap, line: &[u8], pieces: &[Piece<'_>]) {
-    match first_misfit(alloc, pieces) {
-        Ok(Some(misfit)) => {
-            put_piece(told, line, pieces.get(misfit.place).copied());
+    let mut reader = Reader::new(alloc);
+    match first_misfit(&mut reader, pieces) {
+        Some(misfit) => {
+            put_piece(told, line, pieces, misfit.place);
             told.text("expected here: ");
             told.text(misfit.expected);
             told.sign('\n');
         }
-        Ok(None) => put_piece(told, line, pieces.first().copied()),
-        Err(error) => told.fail(error),
+        None => put_piece(told, line, pieces, 0),
+    }
+    if let Err(error) = reader.room {
+        told.fail(error);
     }
 }
 
@@ -112,12 +119,12 @@ fn put_undeclared(
     before: &Before<'_>,
 ) {
     let behind = pieces.get(1..).unwrap_or(&[]);
-    let Some((piece, declared)) = before.first_strange(behind) else {
-        return put_piece(told, line, pieces.first().copied());
+    let Some(piece) = before.first_strange(behind) else {
+        return put_piece(told, line, pieces, 0);
     };
-    put_piece(told, line, Some(piece));
+    put_marked(told, line, piece.column, piece.text.len());
     put_backed(told, piece.text);
-    match declared {
+    match before.declaration(piece.text) {
         Some(declared) => put_other_sort(told, piece, declared),
         None => {
             told.text(" isn't declared on a line above");
@@ -145,18 +152,15 @@ fn put_near_name(told: &mut TextWriter, alloc: Heap, piece: Piece<'_>, before: &
     let mut nearest = NearWord::to(piece.text);
     for declared in &before.names {
         if let Ok(name) = std::str::from_utf8(declared.name) {
-            if let Err(error) = nearest.look(alloc, &[name]) {
-                told.fail(error);
-            }
+            nearest.look_at(alloc, name);
         }
     }
     nearest.put(told);
 }
 
 fn put_twice(told: &mut TextWriter, line: &[u8], pieces: &[Piece<'_>], before: &Before<'_>) {
-    let name = pieces.get(1).copied();
-    put_piece(told, line, name);
-    let Some(piece) = name else {
+    put_piece(told, line, pieces, 1);
+    let [_, piece, ..] = pieces else {
         return;
     };
     put_backed(told, piece.text);
@@ -183,7 +187,7 @@ fn put_line_of(told: &mut TextWriter, block: Block<'_>) {
 }
 
 fn put_stray(told: &mut TextWriter, line: &[u8], pieces: &[Piece<'_>], before: &Before<'_>) {
-    put_piece(told, line, pieces.first().copied());
+    put_piece(told, line, pieces, 0);
     let Some(block) = before.blocks.last() else {
         return told.text("no block is open here\n");
     };
@@ -207,23 +211,26 @@ fn put_limit(
     before: &Before<'_>,
 ) {
     let passed = limit_passed(before, number, line, pieces);
-    put_piece(told, line, passed.piece.or(pieces.first().copied()));
-    told.text(passed.limit.text());
+    put_piece(told, line, pieces, passed.place);
+    told.text(passed.limit);
     told.sign('\n');
 }
 
 fn put_great(told: &mut TextWriter, line: &[u8], pieces: &[Piece<'_>]) {
-    put_piece(told, line, first_great(pieces));
+    put_piece(told, line, pieces, first_great(pieces));
     told.text("the greatest number is 9223372036854775807\n");
 }
 
-fn first_great<'a>(pieces: &[Piece<'a>]) -> Option<Piece<'a>> {
+// How many pieces stand before the first great number; all if there is none.
+fn first_great(pieces: &[Piece<'_>]) -> usize {
+    let mut place = 0usize;
     for piece in pieces {
         if piece.is_number() && is_great(piece.text) {
-            return Some(*piece);
+            break;
         }
+        place = place.saturating_add(1);
     }
-    None
+    place
 }
 
 // Above 9223372036854775807.

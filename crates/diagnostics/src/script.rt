@@ -52,11 +52,11 @@ fn put_why(
     match fault.kind {
         ScriptFaultKind::BadLine => put_bad_line(told, alloc, fault.line, line, words),
         ScriptFaultKind::BadRank => {
-            put_piece(told, line, words.get(1).copied());
+            put_piece(told, line, words, 1);
             put_ranks(told, ranks);
         }
         ScriptFaultKind::Limit => {
-            put_piece(told, line, words.first().copied());
+            put_piece(told, line, words, 0);
             told.text("a script has at most 256 lines\n");
         }
     }
@@ -87,12 +87,12 @@ fn put_bad_line(
         return;
     }
     let place = words_that_fit(words);
-    let word = words.get(place).copied();
-    put_piece(told, line, word);
+    put_piece(told, line, words, place);
     told.text("expected here: ");
     told.text(EXPECTED[place.min(4)]);
-    if let (0, Some(word)) = (place, word) {
-        put_nearest(told, alloc, word.text, &ORDERS);
+    match words {
+        [word, ..] if place == 0 => put_nearest(told, alloc, word.text, &ORDERS),
+        _ => {}
     }
     told.text("; a line is `kill R at C` or `image R at C`\n");
 }

@@ -51,9 +51,9 @@ pub fn put_marked(told: &mut TextWriter, line: &[u8], column: usize, length: usi
     told.sign('\n');
 }
 
-/// Writes the line with a mark under this piece, or behind the line's last byte.
-pub fn put_piece(told: &mut TextWriter, line: &[u8], piece: Option<Piece<'_>>) {
-    match piece {
+/// Writes the line with a mark under the piece at this place of it, or behind the line's last byte.
+pub fn put_piece(told: &mut TextWriter, line: &[u8], pieces: &[Piece<'_>], place: usize) {
+    match pieces.get(place) {
         Some(piece) => put_marked(told, line, piece.column, piece.text.len()),
         None => put_marked(told, line, line.len(), 1),
     }

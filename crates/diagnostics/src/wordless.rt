@@ -18,7 +18,7 @@ pub fn put_wordless(
     }
     match words {
         [first, ..] if is_comment(first.text) => {
-            put_piece(told, line, Some(*first));
+            put_piece(told, line, words, 0);
             told.text("a comment begins at the line's first byte\n");
             true
         }

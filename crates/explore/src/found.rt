@@ -8,7 +8,7 @@ ghost use Rattle.explore.specs.Searching.{Notes};
 
 mod hashing;
 
-use crate::explored::{Outcome, are_same};
+use crate::explored::{FoundOutcome, are_same};
 use crate::found::hashing::hash_of;
 use crate::moves::Noted;
 use audit::final_runs::RankEnd;
@@ -22,7 +22,7 @@ use std::marker::Model;
 /// received in runs that have it.
 #[derive(Drop)]
 pub struct Found {
-    outcomes: Vec<Outcome, Heap>,
+    outcomes: Vec<FoundOutcome, Heap>,
     // where the last one of each hash is among them, so that a new one is compared with one alone
     by_hash: BTreeMap<u64, usize, Heap>,
 }
@@ -80,7 +80,7 @@ impl Found {
         requires new { (l : List Leftover) → IsAmong self.old (record { ranks = ranks.items; left = l }) → ⊥ }
         ensures { OnOk result (Notes self.old (record { ranks = ranks.items; left = left.items }) self.new) }
     {
-        let outcome = Outcome::new(ranks, choices, left)?;
+        let outcome = FoundOutcome::new(ranks, choices, left)?;
         self.by_hash.insert(hash, self.outcomes.len())?;
         self.outcomes.push(outcome)?;
         Ok(())
@@ -88,7 +88,7 @@ impl Found {
 
     /// The outcomes.
     #[tactic(auto, using(crate::proofs::Grouping::are_grouped))]
-    pub fn into_outcomes(self) -> Vec<Outcome, Heap>
+    pub fn into_outcomes(self) -> Vec<FoundOutcome, Heap>
         ensures { AreGrouped self (rank_outcomes result.items) (listed_left result.items) }
     {
         let Found {
@@ -101,7 +101,7 @@ impl Found {
 
 // Notes these leftovers with the outcome at this place, unless they are already.
 fn add_left(
-    outcomes: &mut Vec<Outcome, Heap>,
+    outcomes: &mut Vec<FoundOutcome, Heap>,
     place: usize,
     left: Vec<Leftover, Heap>,
 ) -> Result<(), AllocError>
@@ -119,7 +119,7 @@ fn add_left(
 
 // Where the outcome stands among these, if there is a likely place. Two may have one hash, so a no
 // of that isn't enough.
-fn place_of(outcomes: &[Outcome], likely: Option<usize>, ranks: &[RankEnd]) -> Option<usize>
+fn place_of(outcomes: &[FoundOutcome], likely: Option<usize>, ranks: &[RankEnd]) -> Option<usize>
     requires { IsNone likely → IsAmong (rank_outcomes outcomes.now) ranks.now → ⊥ }
     ensures some { IfSome result (λ place. slice_get (rank_outcomes outcomes.now) place ≡ Some ranks.now) }
     ensures none { IsNone result → IsAmong (rank_outcomes outcomes.now) ranks.now → ⊥ }
@@ -132,7 +132,7 @@ fn place_of(outcomes: &[Outcome], likely: Option<usize>, ranks: &[RankEnd]) -> O
 }
 
 // Whether it stands at the place.
-fn is_at(outcomes: &[Outcome], place: usize, ranks: &[RankEnd]) -> bool
+fn is_at(outcomes: &[FoundOutcome], place: usize, ranks: &[RankEnd]) -> bool
     ensures yes { result ≡ true → slice_get (rank_outcomes outcomes.now) place ≡ Some ranks.now }
     ensures no { result ≡ false → slice_get (rank_outcomes outcomes.now) place ≢ Some ranks.now }
 {
@@ -144,7 +144,7 @@ fn is_at(outcomes: &[Outcome], place: usize, ranks: &[RankEnd]) -> bool
 }
 
 // Where it stands, the first place first.
-fn find(outcomes: &[Outcome], ranks: &[RankEnd]) -> Option<usize>
+fn find(outcomes: &[FoundOutcome], ranks: &[RankEnd]) -> Option<usize>
     ensures some { IfSome result (λ place. slice_get (rank_outcomes outcomes.now) place ≡ Some ranks.now) }
     ensures none { IsNone result → IsAmong (rank_outcomes outcomes.now) ranks.now → ⊥ }
 {

@@ -15,7 +15,7 @@ ghost use Rattle.explore.specs.Shown.{AreMarked, IsMark, IsPast, MayMissShown, M
 
 use crate::again::{act_at, make};
 use crate::bounds::Limits;
-use crate::explored::Outcome;
+use crate::explored::FoundOutcome;
 use crate::last_shown::LastShown;
 use crate::replay::run_of;
 use crash_free::{Act, Passed, Sim};
@@ -35,7 +35,7 @@ pub fn marks_of(
     program: &Program,
     ranks: u8,
     limits: Limits,
-    outcomes: &[Outcome],
+    outcomes: &[FoundOutcome],
 ) -> Result<Vec<Option<bool>, Heap>, AllocError>
     requires some { 1 ≤ ranks }
     requires few { ranks ≤ most_ranks }
@@ -49,7 +49,7 @@ pub fn marks_of(
     Ok(marks)
 }
 
-fn outcome_at(outcomes: &[Outcome], at: usize) -> &Outcome
+fn outcome_at(outcomes: &[FoundOutcome], at: usize) -> &FoundOutcome
     requires { at < length outcomes.now }
     ensures { slice_get outcomes.now at ≡ Some result.now }
 {
@@ -62,7 +62,7 @@ fn mark_of(
     program: &Program,
     ranks: u8,
     limits: Limits,
-    outcome: &Outcome,
+    outcome: &FoundOutcome,
 ) -> Result<Option<bool>, AllocError>
     requires some { 1 ≤ ranks }
     requires few { ranks ≤ most_ranks }

@@ -5,35 +5,18 @@ use limits::Heap;
 use matching::{Context, Packet, PacketItems};
 use rank_language::Program;
 use std::alloc::AllocError;
-use std::fmt::Debug;
-use std::io;
-
-/// Says where a refusal left something else than could be seen before it.
-pub fn compare<R: Print, T: PartialEq + Debug + Copy>(
-    rt: &R,
-    before: T,
-    after: T,
-) -> io::Result<()> {
-    if before != after {
-        println!(rt; "a refusal made {after:?} of {before:?}")?;
-    }
-    Ok(())
-}
 
 /// The program of a text.
-pub fn program_of(alloc: Heap, text: &[u8]) -> Result<Program, AllocError> {
+pub fn program_of(alloc: Heap, text: &[u8]) -> Option<Program> {
     match Program::parse(alloc, text) {
-        Ok(program) => Ok(program),
-        Err(_) => Program::parse(alloc, text).map_err(|_| AllocError),
+        Ok(program) => Some(program),
+        Err(_) => Program::parse(alloc, text).ok(),
     }
 }
 
-/// A value goes last in a list.
-pub fn push<T: Copy>(list: &mut Vec<T, Heap>, value: T) -> Result<(), AllocError> {
-    if list.push(value).is_err() {
-        list.push(value)?;
-    }
-    Ok(())
+/// A value goes last in a list. Answers whether there was memory.
+pub fn push<T: Copy>(list: &mut Vec<T, Heap>, value: T) -> bool {
+    list.push(value).is_ok() || list.push(value).is_ok()
 }
 
 /// The packet of this number that a rank sends with tag 7, each act of it a

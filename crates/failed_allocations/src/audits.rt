@@ -1,12 +1,11 @@
 //! Audits of outcomes.
 
 use crate::again::{program_of, push};
+use crate::out::Out;
 use event_logger::{Event, Kind};
 use limits::Heap;
 use ports::Line;
 use rank_language::Program;
-use std::alloc::AllocError;
-use std::io;
 use world_model::{AuditFault, Audited, End, Outcome, audit};
 
 const TEXT: &[u8] = b"var x
@@ -31,90 +30,78 @@ struct Case {
     steps: u32,
 }
 
-const CASES: [Case; 6] = [
+/// What a run leaves.
+const LEFT: Case = Case {
+    about: "what a run leaves: ",
+    row: &[(1, 1)],
+    value: 42,
+    first: End::Halted,
+    steps: 1000,
+};
+
+static CASES: [Case; 6] = [
+    LEFT,
     Case {
-        about: "what a run leaves",
-        row: &[(1, 1)],
-        value: 42,
-        first: End::Halted,
-        steps: 1000,
-    },
-    Case {
-        about: "one event more",
+        about: "one event more: ",
         row: &[(1, 1), (1, 3)],
-        value: 42,
-        first: End::Halted,
-        steps: 1000,
+        ..LEFT
     },
     Case {
-        about: "another message",
+        about: "another message: ",
         row: &[(2, 1)],
-        value: 42,
-        first: End::Halted,
-        steps: 1000,
+        ..LEFT
     },
     Case {
-        about: "another line",
-        row: &[(1, 1)],
+        about: "another line: ",
         value: 43,
-        first: End::Halted,
-        steps: 1000,
+        ..LEFT
     },
     Case {
-        about: "another end",
-        row: &[(1, 1)],
-        value: 42,
+        about: "another end: ",
         first: End::Stalled,
-        steps: 1000,
+        ..LEFT
     },
     Case {
-        about: "too few steps",
-        row: &[(1, 1)],
-        value: 42,
-        first: End::Halted,
+        about: "too few steps: ",
         steps: 2,
+        ..LEFT
     },
 ];
 
-fn row_of(alloc: Heap, clocks: &[(u32, u32)]) -> Result<Vec<Event, Heap>, AllocError> {
-    let mut row = Vec::new(alloc);
+/// The events of a row go last in a list. Answers whether there was memory.
+fn put_row(row: &mut Vec<Event, Heap>, clocks: &[(u32, u32)]) -> bool {
     for one in clocks {
         let (sent, received) = *one;
         if let Some(event) = Event::new(Kind::Reception, 0, sent, received) {
-            push(&mut row, event)?;
+            if !push(row, event) {
+                return false;
+            }
         }
     }
-    Ok(row)
+    true
 }
 
-/// A list goes last in a list of lists.
-fn push_row(
-    rows: &mut Vec<Vec<Event, Heap>, Heap>,
-    row: Vec<Event, Heap>,
-) -> Result<(), AllocError> {
-    if let Err(refused) = rows.push(row) {
-        rows.push(refused.value)?;
+/// A list goes last in a list of lists. Answers whether there was memory.
+fn push_row(rows: &mut Vec<Vec<Event, Heap>, Heap>, row: Vec<Event, Heap>) -> bool {
+    match rows.push(row) {
+        Ok(()) => true,
+        Err(refused) => rows.push(refused.value).is_ok(),
     }
-    Ok(())
 }
 
-fn outcome_of(alloc: Heap, case: Case) -> Result<Outcome, AllocError> {
-    let mut outcome = Outcome {
-        rows: Vec::new(alloc),
-        lines: Vec::new(alloc),
-        ends: Vec::new(alloc),
-    };
-    push_row(&mut outcome.rows, Vec::new(alloc))?;
-    push_row(&mut outcome.rows, row_of(alloc, case.row)?)?;
+/// Fills an outcome of nothing. Answers whether there was memory.
+fn put_outcome(alloc: Heap, outcome: &mut Outcome, case: &Case) -> bool {
+    let mut row = Vec::new(alloc);
     let line = Line {
         rank: 1,
         clock: 2,
         value: case.value,
     };
-    push(&mut outcome.lines, line)?;
-    push(&mut outcome.ends, case.first)?;
-    push(&mut outcome.ends, End::Halted)?;
-    Ok(outcome)
+    let is_filled = put_row(&mut row, case.row);
+    let rows = push_row(&mut outcome.rows, Vec::new(alloc)) & push_row(&mut outcome.rows, row);
+    let lines = push(&mut outcome.lines, line);
+    let ends = push(&mut outcome.ends, case.first) & push(&mut outcome.ends, End::Halted);
+    is_filled & rows & lines & ends
 }
 
 /// An audit, once more where it was refused its memory.
@@ -126,26 +113,36 @@ fn audit_of(
 ) -> Result<Audited, AuditFault> {
     match audit(alloc, program, 2, outcome, steps) {
         Err(AuditFault::Memory) => audit(alloc, program, 2, outcome, steps),
-        Err(fault) => Err(fault),
-        Ok(audited) => Ok(audited),
+        answer => answer,
     }
 }
 
-fn show<R: AllocGlobal + Print>(rt: &R, program: &Program, case: Case) -> io::Result<()> {
-    let outcome = outcome_of(rt.alloc(), case)?;
-    let answer = audit_of(rt.alloc(), program, &outcome, case.steps);
-    if answer == Err(AuditFault::Memory) {
-        return Err(AllocError.into());
+fn show(out: &mut Out, program: &Program, case: &Case) {
+    let mut outcome = Outcome {
+        rows: Vec::new(out.alloc),
+        lines: Vec::new(out.alloc),
+        ends: Vec::new(out.alloc),
+    };
+    if !put_outcome(out.alloc, &mut outcome, case) {
+        out.lack();
     }
-    println!(rt; "{}: {answer:?}", case.about)
+    let answer = audit_of(out.alloc, program, &outcome, case.steps);
+    if let Err(AuditFault::Memory) = answer {
+        out.lack();
+    }
+    out.text(case.about);
+    out.debug(&answer);
+    out.text("\n");
 }
 
 /// Audits each outcome.
-pub fn play<R: AllocGlobal + Print>(rt: &R) -> io::Result<()> {
-    println!(rt; "== audits")?;
-    let program = program_of(rt.alloc(), TEXT)?;
-    for case in CASES {
-        show(rt, &program, case)?;
+pub fn play(out: &mut Out) {
+    out.text("== audits\n");
+    let Some(program) = program_of(out.alloc, TEXT) else {
+        out.lack();
+        return;
+    };
+    for case in &CASES {
+        show(out, &program, case);
     }
-    Ok(())
 }

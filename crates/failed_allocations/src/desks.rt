@@ -2,38 +2,39 @@
 ghost use Rattle.std.specs.Prelude.{◌≡◌, ◌<◌, length, vec_len, IfOk};
 ghost use Rattle.event_logger.specs.Desks.{AreDesks, IsSameDesk};
 
-use crate::frugal::follow;
+use crate::out::Out;
 use event_logger::{Desk, Event, Kind, Ledger, Logger};
 use limits::Heap;
 use std::alloc::AllocError;
-use std::io;
 
 /// The clocks of the appended events; the last one comes too late.
 const CLOCKS: [u32; 4] = [1, 2, 5, 5];
 
 /// Appends events, and shows what the desk has counted.
-fn append_all<R: Print>(rt: &R, logger: &Logger, desk: &mut Desk) -> io::Result<()>
+fn append_all(out: &mut Out, logger: &Logger, desk: &mut Desk)
     requires { desk.old.table ≡ logger.now.table }
     ensures { IsSameDesk desk.old desk.new }
 {
     for clock in CLOCKS {
         if let Some(event) = Event::new(Kind::Reception, 0, 1, clock) {
             let answer = logger.append(desk, event);
-            println!(rt; "at clock {clock}: {answer:?}")?;
+            out.form("at clock #: ", &[u64::from(clock)]);
+            out.debug(&answer);
+            out.text("\n");
         }
     }
-    println!(rt; "calls {}, reads {}", desk.calls(), desk.reads())
+    out.form("calls #, reads #\n", &[desk.calls(), desk.reads()]);
 }
 
 /// The only desk appends.
-fn work<R: Print>(rt: &R, logger: &Logger, desks: &mut [Desk]) -> io::Result<()>
+fn work(out: &mut Out, logger: &Logger, desks: &mut [Desk])
     requires some { 0 < length desks.old }
     requires own { AreDesks logger.now.table desks.old }
     ensures own { AreDesks logger.now.table desks.new }
     ensures length { length desks.new ≡ length desks.old }
 {
     let desk = &mut desks[0];
-    append_all(rt, logger, desk)
+    append_all(out, logger, desk)
 }
 
 /// A logger of one rank, once more where there was no memory.
@@ -47,26 +48,25 @@ fn logger_of(alloc: Heap) -> Result<(Logger, Vec<Desk, Heap>), AllocError>
     }
 }
 
-/// Appends events, and closes the logger, which ends either way.
-pub fn play<R: AllocGlobal + Print + Eprint>(rt: &R) -> io::Result<()> {
-    let (logger, mut desks) = logger_of(rt.alloc())?;
-    let told = follow(rt, "appends to the logger that threads share");
-    let outcome = work(rt, &logger, desks.as_mut_slice());
-    let ledger = logger.close(rt.alloc(), desks);
-    told?;
-    outcome?;
-    show_other(rt, ledger)
+/// Appends events, and closes the logger.
+pub fn play(out: &mut Out) {
+    let Ok((logger, mut desks)) = logger_of(out.alloc) else {
+        out.lack();
+        return;
+    };
+    out.follow("appends to the logger that threads share");
+    work(out, &logger, desks.as_mut_slice());
+    // it may be refused its memory here
+    if let Ok(ledger) = logger.close(out.alloc, desks) {
+        show_other(out, ledger);
+    }
 }
 
-/// Says so where the ledger has other events than were appended. It may have
-/// been refused its memory.
-fn show_other<R: Print>(rt: &R, ledger: Result<Ledger, AllocError>) -> io::Result<()> {
-    if let Ok(ledger) = ledger {
-        let rows = ledger.into_rows();
-        let lengths = (rows.len(), rows.as_slice().first().map(|row| row.len()));
-        if lengths != (1, Some(3)) {
-            println!(rt; "the ledger has {lengths:?}")?;
-        }
+/// Says so where the ledger has other events than were appended.
+fn show_other(out: &mut Out, ledger: Ledger) {
+    let rows = ledger.into_rows();
+    match rows.as_slice() {
+        [row] if row.len() == 3 => (),
+        _ => out.text("the ledger has other events\n"),
     }
-    Ok(())
 }

@@ -2,24 +2,20 @@
 ghost use Rattle.std.specs.Prelude.{IfOk};
 ghost use Rattle.checkpoint.specs.Savable.{IsSavable};
 
+use crate::out::Out;
 use checkpoint::{Image, ImageFault, MemoryShelf, Shelf, decode, encode};
 use limits::Heap;
 use rank_language::Program;
 use std::alloc::AllocError;
-use std::io;
 
-/// The bytes on a shelf.
-fn bytes_on(shelf: &mut MemoryShelf) -> Result<Vec<u8, Heap>, AllocError> {
-    let bytes = match shelf.get() {
+/// The bytes on a shelf, if there are some and there is memory for them.
+fn bytes_on(shelf: &mut MemoryShelf) -> Option<Vec<u8, Heap>> {
+    match shelf.get() {
         Ok(bytes) => bytes,
         Err(_) => match shelf.get() {
             Ok(bytes) => bytes,
-            Err(_) => return Err(AllocError),
+            Err(_) => None,
         },
-    };
-    match bytes {
-        Some(bytes) => Ok(bytes),
-        None => Err(AllocError),
     }
 }
 
@@ -45,40 +41,50 @@ fn bytes_of(alloc: Heap, image: &Image<'_>) -> Result<Vec<u8, Heap>, AllocError>
     }
 }
 
-fn show<R: AllocGlobal + Print>(rt: &R, image: &Image<'_>, bytes: &[u8]) -> io::Result<()>
+fn show(out: &mut Out, image: &Image<'_>, bytes: &[u8])
     requires { IsSavable image.now }
 {
-    let again = bytes_of(rt.alloc(), image)?;
-    let same = again.as_slice() == bytes;
-    let (clock, packets) = (image.clock, image.inbox.len());
-    println!(rt;
-        "at clock {clock}, {packets} packets, {} bytes, alike: {same}",
-        again.len()
-    )
+    let Ok(again) = bytes_of(out.alloc, image) else {
+        out.lack();
+        return;
+    };
+    let (packets, length) = (image.inbox.len() as u64, again.len() as u64);
+    out.form(
+        "at clock #, # packets, # bytes, alike: ",
+        &[u64::from(image.clock), packets, length],
+    );
+    out.truth(again.as_slice() == bytes);
+    out.text("\n");
 }
 
-fn show_read<R: AllocGlobal + Print>(rt: &R, program: &Program, bytes: &[u8]) -> io::Result<()> {
-    match image_of(rt.alloc(), program, bytes) {
-        Ok(image) => show(rt, &image, bytes),
-        Err(ImageFault::Memory) => Err(AllocError.into()),
-        Err(fault) => println!(rt; "{} bytes: {fault:?}", bytes.len()),
+fn show_fault(out: &mut Out, fault: ImageFault, bytes: &[u8]) {
+    if let ImageFault::Memory = fault {
+        out.lack();
+    }
+    out.form("# bytes: ", &[bytes.len() as u64]);
+    out.debug(&fault);
+    out.text("\n");
+}
+
+fn show_read(out: &mut Out, program: &Program, bytes: &[u8]) {
+    match image_of(out.alloc, program, bytes) {
+        Ok(image) => show(out, &image, bytes),
+        Err(fault) => show_fault(out, fault, bytes),
     }
 }
 
 /// Reads the image on a shelf and writes it again, and reads bytes that are none.
-pub fn play<R: AllocGlobal + Print>(
-    rt: &R,
-    program: &Program,
-    shelf: MemoryShelf,
-) -> io::Result<()> {
-    println!(rt; "== an image")?;
+pub fn play(out: &mut Out, program: &Program, shelf: MemoryShelf) {
+    out.text("== an image\n");
     let mut shelf = shelf;
-    let bytes = bytes_on(&mut shelf)?;
-    show_read(rt, program, bytes.as_slice())?;
+    let Some(bytes) = bytes_on(&mut shelf) else {
+        out.lack();
+        return;
+    };
+    show_read(out, program, bytes.as_slice());
     for short in 0..bytes.len() {
         if short % 40 == 0 {
-            show_read(rt, program, &bytes[..short])?;
+            show_read(out, program, &bytes[..short]);
         }
     }
-    Ok(())
 }

@@ -1,15 +1,14 @@
 //! Packets that arrive at an inbox.
-ghost use Rattle.std.specs.Prelude.{◌≡◌, ◌<◌, length, IfOk};
+ghost use Rattle.std.specs.Prelude.{◌≡◌, ◌<◌, ◌≤◌, length, IfOk};
 
-use crate::again::{compare, packet};
-use crate::frugal::follow;
+use crate::again::packet;
+use crate::out::Out;
 use limits::Heap;
 use matching::{Accept, Context, Inbox, Packet, Selector};
 use std::alloc::AllocError;
-use std::io;
 
 /// The source and the number of each packet.
-const ARRIVALS: [(u8, u32); 9] = [
+static ARRIVALS: [(u8, u32); 9] = [
     (1, 2),
     (1, 1),
     (1, 1),
@@ -23,12 +22,16 @@ const ARRIVALS: [(u8, u32); 9] = [
 
 /// How many packets lie in an inbox, and how many were accepted of rank 0 and
 /// of rank 1.
-type Seen = (usize, u32, u32);
+type Seen = [u64; 3];
 
 fn look(inbox: &Inbox) -> Seen
     requires { length inbox.now.accepted ≡ 2 }
 {
-    (inbox.len(), inbox.accepted(0), inbox.accepted(1))
+    [
+        inbox.len() as u64,
+        u64::from(inbox.accepted(0)),
+        u64::from(inbox.accepted(1)),
+    ]
 }
 
 fn inbox_of(alloc: Heap) -> Result<Inbox, AllocError>
@@ -41,7 +44,7 @@ fn inbox_of(alloc: Heap) -> Result<Inbox, AllocError>
 }
 
 /// A packet that arrives, and once more where it was handed back.
-fn accept<R: Print>(rt: &R, inbox: &mut Inbox, arrival: Packet) -> io::Result<Accept>
+fn accept(out: &mut Out, inbox: &mut Inbox, arrival: Packet) -> Result<Accept, Packet>
     requires source { arrival.source < 2 }
     requires ranks { length inbox.old.accepted ≡ 2 }
     ensures { length inbox.new.accepted ≡ 2 }
@@ -50,55 +53,74 @@ fn accept<R: Print>(rt: &R, inbox: &mut Inbox, arrival: Packet) -> io::Result<Ac
     match inbox.accept(arrival) {
         Ok(answer) => Ok(answer),
         Err(back) => {
-            compare(rt, before, look(inbox))?;
-            inbox.accept(back).map_err(|_| AllocError.into())
+            out.compare(before == look(inbox));
+            inbox.accept(back)
         }
     }
 }
 
-fn accept_all<R: AllocGlobal + Print>(rt: &R, inbox: &mut Inbox) -> io::Result<()>
+/// The packet of this source and number arrives.
+fn arrive(out: &mut Out, inbox: &mut Inbox, source: u8, number: u32)
+    requires source { source < 2 }
+    requires number { (1 ≤ number) × (number ≤ 5000) }
+    requires ranks { length inbox.old.accepted ≡ 2 }
+    ensures { length inbox.new.accepted ≡ 2 }
+{
+    let Ok(arrival) = packet(out.alloc, source, number) else {
+        out.lack();
+        return;
+    };
+    match accept(out, inbox, arrival) {
+        Ok(answer) => {
+            out.form("packet # of #: ", &[u64::from(number), u64::from(source)]);
+            out.debug(&answer);
+            out.form(", (#, #, #)\n", &look(inbox));
+        }
+        Err(_) => out.lack(),
+    }
+}
+
+fn accept_all(out: &mut Out, inbox: &mut Inbox)
     requires { length inbox.old.accepted ≡ 2 }
     ensures { length inbox.new.accepted ≡ 2 }
 {
-    for (source, number) in ARRIVALS {
-        if source >= 2 || number == 0 || number > 5000 {
-            continue;
+    for arrival in &ARRIVALS {
+        let (source, number) = *arrival;
+        if source < 2 && 0 < number && number <= 5000 {
+            arrive(out, inbox, source, number);
         }
-        let arrival = packet(rt.alloc(), source, number)?;
-        let answer = accept(rt, inbox, arrival)?;
-        println!(rt;
-            "packet {number} of {source}: {answer:?}, {:?}",
-            look(inbox)
-        )?;
     }
-    Ok(())
 }
 
 /// What is looked for: a source and a tag.
-const NAMED: [(Option<u8>, Option<u16>); 4] = [
-    (None, None),
-    (Some(0), Some(7)),
-    (Some(1), None),
-    (None, Some(8)),
+static NAMED: [(&str, Option<u8>, Option<u16>); 4] = [
+    ("None, None: ", None, None),
+    ("Some(0), Some(7): ", Some(0), Some(7)),
+    ("Some(1), None: ", Some(1), None),
+    ("None, Some(8): ", None, Some(8)),
 ];
 
-fn find<R: Print>(rt: &R, inbox: &Inbox) -> io::Result<()>
+fn find(out: &mut Out, inbox: &Inbox)
     requires { length inbox.now.accepted ≡ 2 }
 {
-    for (source, tag) in NAMED {
+    for named in &NAMED {
+        let (about, source, tag) = *named;
         let selector = Selector {
             context: Context::PointToPoint,
             source,
             tag,
         };
-        println!(rt; "{source:?}, {tag:?}: {:?}", inbox.find(&selector))?;
+        out.text(about);
+        out.debug(&inbox.find(&selector));
+        out.text("\n");
     }
-    println!(rt; "of rank 1 at clock 3: {:?}", inbox.find_named(1, 3))?;
-    println!(rt; "{:?}", look(inbox))
+    out.text("of rank 1 at clock 3: ");
+    out.debug(&inbox.find_named(1, 3));
+    out.form("\n(#, #, #)\n", &look(inbox));
 }
 
 /// Takes each packet out, the second one first where there are two.
-fn take_all<R: Print>(rt: &R, inbox: &mut Inbox) -> io::Result<()>
+fn take_all(out: &mut Out, inbox: &mut Inbox)
     requires { length inbox.old.accepted ≡ 2 }
 {
     for _ in 0..9 {
@@ -109,21 +131,21 @@ fn take_all<R: Print>(rt: &R, inbox: &mut Inbox) -> io::Result<()>
         };
         let number = inbox.get(index).number;
         let taken = inbox.take(index);
-        println!(rt;
-            "{number} of {}: {:?}",
-            taken.source,
-            taken.payload.as_slice()
-        )?;
+        out.form("# of #: ", &[u64::from(number), u64::from(taken.source)]);
+        out.debug(&taken.payload.as_slice());
+        out.text("\n");
     }
-    Ok(())
 }
 
 /// Lets each packet arrive, looks for some and takes them.
-pub fn play<R: AllocGlobal + Print + Eprint>(rt: &R) -> io::Result<()> {
-    println!(rt; "== an inbox: packets, accepted of rank 0, accepted of rank 1")?;
-    let mut inbox = inbox_of(rt.alloc())?;
-    accept_all(rt, &mut inbox)?;
-    follow(rt, "an inbox, where packets stand and what is taken")?;
-    find(rt, &inbox)?;
-    take_all(rt, &mut inbox)
+pub fn play(out: &mut Out) {
+    out.text("== an inbox: packets, accepted of rank 0, accepted of rank 1\n");
+    let Ok(mut inbox) = inbox_of(out.alloc) else {
+        out.lack();
+        return;
+    };
+    accept_all(out, &mut inbox);
+    out.follow("an inbox, where packets stand and what is taken");
+    find(out, &inbox);
+    take_all(out, &mut inbox);
 }

@@ -1,90 +1,96 @@
 //! Lists of events of worlds.
 
 use crate::again::{program_of, push};
-use crate::rows::{ROWS, Row};
+use crate::out::Out;
+use crate::rows::Row;
 use crate::worlds::{apply, show_lines, world_of};
 use limits::Heap;
 use rank_language::Program;
-use std::alloc::AllocError;
-use std::io;
 use world_model::{Reply, Stopped, World, WorldEvent};
 
-/// The events of a row, one after another.
-fn listed(alloc: Heap, row: Row) -> Result<Vec<WorldEvent, Heap>, AllocError> {
-    let mut events = Vec::new(alloc);
+/// The events of a row go last in a list, one after another. Answers whether there was memory.
+fn list(events: &mut Vec<WorldEvent, Heap>, row: &Row) -> bool {
+    let mut is_listed = true;
     for one in row.events {
         let (times, event) = *one;
         for _ in 0..times {
-            push(&mut events, event)?;
+            is_listed = push(events, event) && is_listed;
         }
     }
-    Ok(events)
+    is_listed
 }
 
-/// The replies to events that are made one by one.
-fn replies_of<R: AllocGlobal + Print>(
-    rt: &R,
+/// The replies to events that are made one by one go last in a list.
+fn reply(
+    out: &mut Out,
     world: &mut World<'_>,
     events: &[WorldEvent],
-) -> io::Result<Vec<Reply, Heap>> {
-    let mut replies = Vec::new(rt.alloc());
+    replies: &mut Vec<Reply, Heap>,
+) {
     for event in events {
-        let reply = apply(rt, world, *event)?;
-        push(&mut replies, reply)?;
+        let reply = apply(out, world, *event);
+        if !push(replies, reply) {
+            out.lack();
+        }
     }
-    Ok(replies)
-}
-
-/// The replies to the events of a list, each in a world of its own.
-fn expected<R: AllocGlobal + Print>(
-    rt: &R,
-    program: &Program,
-    ranks: u8,
-    events: &[WorldEvent],
-) -> io::Result<Vec<Reply, Heap>> {
-    let mut world = world_of(rt.alloc(), program, ranks)?;
-    let replies = replies_of(rt, &mut world, events);
-    world.close();
-    replies
 }
 
 /// Makes a list of events, and where that stops when out of memory the rest of
 /// it. Answers whether the replies are the last ones of these.
-fn run(
-    alloc: Heap,
-    world: &mut World<'_>,
-    events: &[WorldEvent],
-    want: &[Reply],
-) -> Result<bool, AllocError> {
-    match world.run(alloc, events) {
-        Ok(replies) => Ok(Some(replies.as_slice()) == want.get(0..)),
-        Err(Stopped { done }) => {
-            let rest = &events[done..];
-            match world.run(alloc, rest) {
-                Ok(replies) => Ok(Some(replies.as_slice()) == want.get(done..)),
-                Err(_) => Err(AllocError),
-            }
+fn run(out: &mut Out, world: &mut World<'_>, events: &[WorldEvent], want: &[Reply]) -> bool {
+    let done = match world.run(out.alloc, events) {
+        Ok(replies) => return replies.as_slice() == want,
+        Err(Stopped { done }) => done,
+    };
+    match world.run(out.alloc, &events[done..]) {
+        Ok(replies) => Some(replies.as_slice()) == want.get(done..),
+        Err(_) => {
+            out.lack();
+            false
         }
     }
 }
 
-fn play<R: AllocGlobal + Print>(rt: &R, row: Row) -> io::Result<()> {
-    println!(rt; "== {}, as one list", row.about)?;
-    let program = program_of(rt.alloc(), row.program)?;
-    let events = listed(rt.alloc(), row)?;
-    let want = expected(rt, &program, row.ranks, events.as_slice())?;
-    let mut world = world_of(rt.alloc(), &program, row.ranks)?;
-    let same = run(rt.alloc(), &mut world, events.as_slice(), want.as_slice());
-    let shown = show_lines(rt, &world);
-    world.close();
-    shown?;
-    println!(rt; "{} events, answered alike: {}", events.len(), same?)
+/// Plays events as one list, and before in a world of its own one by one.
+fn compare(out: &mut Out, program: &Program, ranks: u8, events: &[WorldEvent]) {
+    let mut want = Vec::new(out.alloc);
+    match world_of(out.alloc, program, ranks) {
+        Ok(mut world) => {
+            reply(out, &mut world, events, &mut want);
+            world.close();
+        }
+        Err(_) => out.lack(),
+    }
+    match world_of(out.alloc, program, ranks) {
+        Ok(mut world) => {
+            let same = run(out, &mut world, events, want.as_slice());
+            show_lines(out, &world);
+            world.close();
+            out.form("# events, answered alike: ", &[events.len() as u64]);
+            out.truth(same);
+            out.text("\n");
+        }
+        Err(_) => out.lack(),
+    }
+}
+
+fn play(out: &mut Out, row: &Row) {
+    out.text("== ");
+    out.text(row.about);
+    out.text(", as one list\n");
+    let mut events = Vec::new(out.alloc);
+    if !list(&mut events, row) {
+        out.lack();
+    }
+    match program_of(out.alloc, row.program) {
+        Some(program) => compare(out, &program, row.ranks, events.as_slice()),
+        None => out.lack(),
+    }
 }
 
 /// Plays each row as one list.
-pub fn play_all<R: AllocGlobal + Print>(rt: &R) -> io::Result<()> {
-    for row in ROWS {
-        play(rt, row)?;
+pub fn play_all(out: &mut Out, rows: &[Row]) {
+    for row in rows {
+        play(out, row);
     }
-    Ok(())
 }

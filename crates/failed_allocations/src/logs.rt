@@ -1,15 +1,14 @@
 //! Packets that a payload log saves or holds.
 ghost use Rattle.std.specs.Prelude.{◌≡◌, ◌<◌, length, IfOk};
 
-use crate::again::{compare, packet};
-use crate::frugal::follow;
+use crate::again::packet;
+use crate::out::Out;
 use limits::Heap;
 use payload_log::PayloadLog;
 use std::alloc::AllocError;
-use std::io;
 
 /// What is done for a destination.
-#[derive(Clone, Copy, Debug)]
+#[derive(Clone, Copy)]
 enum Step {
     Save,
     Hold,
@@ -20,51 +19,59 @@ enum Step {
     Prune(u32),
 }
 
+/// A step, as it is printed, and its destination.
+type Row = (&'static str, usize, Step);
+
 /// Packets are saved and held.
-const TAKING: [(usize, Step); 11] = [
-    (1, Step::Save),
-    (1, Step::Save),
-    (0, Step::Hold),
-    (0, Step::Hold),
-    (1, Step::Prune(1)),
-    (1, Step::Hold),
-    (1, Step::Hold),
-    (1, Step::Hold),
-    (1, Step::Free),
-    (1, Step::Hold),
-    (1, Step::Hold),
+const TAKING: [Row; 11] = [
+    ("Save", 1, Step::Save),
+    ("Save", 1, Step::Save),
+    ("Hold", 0, Step::Hold),
+    ("Hold", 0, Step::Hold),
+    ("Prune(1)", 1, Step::Prune(1)),
+    ("Hold", 1, Step::Hold),
+    ("Hold", 1, Step::Hold),
+    ("Hold", 1, Step::Hold),
+    ("Free", 1, Step::Free),
+    ("Hold", 1, Step::Hold),
+    ("Hold", 1, Step::Hold),
 ];
 
 /// What is held is saved, and what was saved is transmitted and let go.
-const FRUGAL: [(usize, Step); 14] = [
-    (0, Step::Free),
-    (0, Step::Pass),
-    (0, Step::Pass),
-    (0, Step::Ask(1)),
-    (0, Step::Free),
-    (0, Step::Pass),
-    (0, Step::Prune(1)),
-    (0, Step::Ask(1)),
-    (1, Step::Pass),
-    (1, Step::Prune(4)),
-    (1, Step::Free),
-    (1, Step::Free),
-    (1, Step::Pass),
-    (1, Step::Pass),
+const FRUGAL: [Row; 14] = [
+    ("Free", 0, Step::Free),
+    ("Pass", 0, Step::Pass),
+    ("Pass", 0, Step::Pass),
+    ("Ask(1)", 0, Step::Ask(1)),
+    ("Free", 0, Step::Free),
+    ("Pass", 0, Step::Pass),
+    ("Prune(1)", 0, Step::Prune(1)),
+    ("Ask(1)", 0, Step::Ask(1)),
+    ("Pass", 1, Step::Pass),
+    ("Prune(4)", 1, Step::Prune(4)),
+    ("Free", 1, Step::Free),
+    ("Free", 1, Step::Free),
+    ("Pass", 1, Step::Pass),
+    ("Pass", 1, Step::Pass),
 ];
 
 /// How many packets were sent to a destination and let go, how many are held
-/// for it, and the number of the next to transmit.
-type Seen = (u32, u32, u32, Option<u32>);
+/// for it, and the number of the next to transmit, or 0.
+type Seen = [u64; 4];
 
 fn look(log: &PayloadLog, dest: usize) -> Seen
     requires { dest < length log.now }
 {
     let next = match log.next(dest) {
-        Some(packet) => Some(packet.number),
-        None => None,
+        Some(packet) => packet.number,
+        None => 0,
     };
-    (log.sent(dest), log.base(dest), log.held(dest), next)
+    [
+        u64::from(log.sent(dest)),
+        u64::from(log.base(dest)),
+        u64::from(log.held(dest)),
+        u64::from(next),
+    ]
 }
 
 fn log_of(alloc: Heap) -> Result<PayloadLog, AllocError>
@@ -77,108 +84,105 @@ fn log_of(alloc: Heap) -> Result<PayloadLog, AllocError>
 }
 
 /// Saves the next packet, once more where it was handed back.
-fn save<R: AllocGlobal + Print>(rt: &R, log: &mut PayloadLog, dest: usize) -> io::Result<()>
+fn save(out: &mut Out, log: &mut PayloadLog, dest: usize)
     requires { dest < length log.old }
     ensures { length log.new ≡ length log.old }
 {
     let number = log.sent(dest).saturating_add(1);
     if number > 5000 || log.held(dest) != 0 {
-        return Ok(());
+        return;
     }
-    let one = packet(rt.alloc(), 1, number)?;
+    let Ok(one) = packet(out.alloc, 1, number) else {
+        out.lack();
+        return;
+    };
     let before = look(log, dest);
     if let Err(back) = log.save(dest, one) {
-        compare(rt, before, look(log, dest))?;
+        out.compare(before == look(log, dest));
         if log.save(dest, back).is_err() {
-            return Err(AllocError.into());
+            out.lack();
         }
     }
-    Ok(())
 }
 
 /// Holds the next packet, once more where it was handed back.
-fn hold<R: AllocGlobal + Print>(rt: &R, log: &mut PayloadLog, dest: usize) -> io::Result<()>
+fn hold(out: &mut Out, log: &mut PayloadLog, dest: usize)
     requires { dest < length log.old }
     ensures { length log.new ≡ length log.old }
 {
     let (sent, held) = (log.sent(dest), log.held(dest));
     if sent > 500 || held > 500 {
-        return Ok(());
+        return;
     }
-    let one = packet(rt.alloc(), 1, sent + held + 1)?;
+    let Ok(one) = packet(out.alloc, 1, sent + held + 1) else {
+        out.lack();
+        return;
+    };
     let before = look(log, dest);
     if let Err(back) = log.hold(dest, one) {
-        compare(rt, before, look(log, dest))?;
+        out.compare(before == look(log, dest));
         if log.hold(dest, back).is_err() {
-            return Err(AllocError.into());
+            out.lack();
         }
     }
-    Ok(())
 }
 
-fn make<R: AllocGlobal + Print>(
-    rt: &R,
-    log: &mut PayloadLog,
-    dest: usize,
-    step: Step,
-) -> io::Result<()>
+/// A step that takes no memory.
+fn go_on(log: &mut PayloadLog, dest: usize, step: Step)
     requires { dest < length log.old }
     ensures { length log.new ≡ length log.old }
 {
     match step {
-        Step::Save => save(rt, log, dest),
-        Step::Hold => hold(rt, log, dest),
-        Step::Free => {
-            if log.held(dest) > 0 {
-                log.free(dest);
-            }
-            Ok(())
-        }
-        Step::Pass => {
-            if log.next(dest).is_some() {
-                log.passed(dest);
-            }
-            Ok(())
-        }
-        Step::Ask(from) => {
-            if 0 < from && from <= 5000 {
-                log.ask(dest, from);
-            }
-            Ok(())
-        }
-        Step::Prune(upto) => {
-            if upto <= 5000 {
-                log.prune(dest, upto);
-            }
-            Ok(())
-        }
+        Step::Free if log.held(dest) > 0 => log.free(dest),
+        Step::Pass if log.next(dest).is_some() => log.passed(dest),
+        Step::Ask(from) if 0 < from && from <= 5000 => log.ask(dest, from),
+        Step::Prune(upto) if upto <= 5000 => log.prune(dest, upto),
+        _ => (),
     }
 }
 
-fn make_all<R: AllocGlobal + Print>(
-    rt: &R,
-    log: &mut PayloadLog,
-    steps: &[(usize, Step)],
-) -> io::Result<()>
+fn make(out: &mut Out, log: &mut PayloadLog, dest: usize, step: Step)
+    requires { dest < length log.old }
+    ensures { length log.new ≡ length log.old }
+{
+    match step {
+        Step::Save => save(out, log, dest),
+        Step::Hold => hold(out, log, dest),
+        Step::Free | Step::Pass | Step::Ask(_) | Step::Prune(_) => go_on(log, dest, step),
+    }
+}
+
+fn show(out: &mut Out, log: &PayloadLog, name: &str, dest: usize)
+    requires { dest < length log.now }
+{
+    let [sent, base, held, next] = look(log, dest);
+    out.text(name);
+    out.form(" for #: (#, #, #, ", &[dest as u64, sent, base, held]);
+    out.maybe(if next == 0 { None } else { Some(next) });
+    out.text(")\n");
+}
+
+fn make_all(out: &mut Out, log: &mut PayloadLog, rows: &[Row])
     requires { length log.old ≡ 2 }
     ensures { length log.new ≡ 2 }
 {
-    for one in steps {
-        let (dest, step) = *one;
-        if dest >= 2 {
-            continue;
+    for row in rows {
+        let (name, dest, step) = *row;
+        if dest < 2 {
+            make(out, log, dest, step);
+            show(out, log, name, dest);
         }
-        make(rt, log, dest, step)?;
-        println!(rt; "{step:?} for {dest}: {:?}", look(log, dest))?;
     }
-    Ok(())
 }
 
 /// Saves and holds packets for two destinations, and lets them go.
-pub fn play<R: AllocGlobal + Print + Eprint>(rt: &R) -> io::Result<()> {
-    println!(rt; "== a payload log: sent, base, held, the next to transmit")?;
-    let mut log = log_of(rt.alloc())?;
-    make_all(rt, &mut log, &TAKING)?;
-    follow(rt, "a payload log")?;
-    make_all(rt, &mut log, &FRUGAL)
+pub fn play(out: &mut Out) {
+    out.text("== a payload log: sent, base, held, the next to transmit\n");
+    let Ok(mut log) = log_of(out.alloc) else {
+        out.lack();
+        return;
+    };
+    make_all(out, &mut log, &TAKING);
+    out.follow("a payload log");
+    make_all(out, &mut log, &FRUGAL);
 }

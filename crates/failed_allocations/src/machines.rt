@@ -3,13 +3,12 @@ ghost use Rattle.std.specs.Prelude.{◌≡◌, ◌<◌, true};
 ghost use Rattle.matching.specs.Matching.{matches};
 
 use crate::again::{packet, program_of};
-use crate::frugal::follow;
+use crate::out::Out;
 use limits::Heap;
 use matching::{Context, Packet, PacketItems, Selector};
 use rank_language::Program;
 use rank_machine::{Machine, Want};
 use std::alloc::AllocError;
-use std::io;
 
 /// Rank 1 of two comes through each kind of want, and gathers values.
 const TEXT: &[u8] = b"var x
@@ -57,15 +56,15 @@ fn comes(machine: &Machine<'_>, selector: &Selector, packet: &Packet) -> bool
 
 /// Serves a machine, with this packet for its next receive and the probes
 /// before that.
-fn run<R: Print>(rt: &R, machine: &mut Machine<'_>, packet: Packet) -> io::Result<()> {
+fn run(out: &mut Out, machine: &mut Machine<'_>, packet: Packet) {
     let mut packet = Some(packet);
     for _ in 0..64 {
-        println!(rt; "{:?}", machine.wants())?;
+        out.debug(&machine.wants());
+        out.text("\n");
         if !serve(machine, &mut packet) {
             break;
         }
     }
-    Ok(())
 }
 
 /// What rank 0 sends to the reduce: its kind, its root, its ordinal and 5.
@@ -88,12 +87,24 @@ fn machine_of<'p>(alloc: Heap, program: &'p Program) -> Result<Machine<'p>, Allo
 }
 
 /// Serves a machine by a message and then by what the reduce gathers.
-pub fn play<R: AllocGlobal + Print + Eprint>(rt: &R) -> io::Result<()> {
-    let program = program_of(rt.alloc(), TEXT)?;
-    let mut machine = machine_of(rt.alloc(), &program)?;
-    let message = packet(rt.alloc(), 0, 1)?;
-    let part = part(rt.alloc())?;
-    follow(rt, "a machine, and what it wants")?;
-    run(rt, &mut machine, message)?;
-    run(rt, &mut machine, part)
+fn serve_both(out: &mut Out, program: &Program) {
+    let Ok(mut machine) = machine_of(out.alloc, program) else {
+        out.lack();
+        return;
+    };
+    let (Ok(message), Ok(part)) = (packet(out.alloc, 0, 1), part(out.alloc)) else {
+        out.lack();
+        return;
+    };
+    out.follow("a machine, and what it wants");
+    run(out, &mut machine, message);
+    run(out, &mut machine, part);
+}
+
+/// Plays the program's machine.
+pub fn play(out: &mut Out) {
+    match program_of(out.alloc, TEXT) {
+        Some(program) => serve_both(out, &program),
+        None => out.lack(),
+    }
 }

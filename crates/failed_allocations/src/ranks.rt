@@ -1,8 +1,8 @@
 //! Calls on a rank that runs.
 ghost use Rattle.std.specs.Prelude.{◌≡◌, IfOk};
 
-use crate::again::{compare, packet_near, program_of};
-use crate::frugal::follow;
+use crate::again::{packet_near, program_of};
+use crate::out::Out;
 use crate::{images, replays};
 use checkpoint::MemoryShelf;
 use event_logger::LoggerState;
@@ -12,7 +12,6 @@ use rank_language::Program;
 use rank_machine::Want;
 use rank_node::{Arrived, Frame, NodeFault, Running, Stable, Turn};
 use std::alloc::AllocError;
-use std::io;
 
 /// A rank with a shelf in memory and no desk.
 pub type Rank<'p> = Running<'p, MemoryShelf, ()>;
@@ -38,7 +37,7 @@ print x
 ";
 
 /// A call on a rank.
-#[derive(Clone, Copy, Debug)]
+#[derive(Clone, Copy)]
 enum Call {
     /// The packet of rank 0 with this number comes.
     Arrive(u32),
@@ -51,78 +50,81 @@ enum Call {
     Image,
 }
 
-/// What a call answers.
-#[derive(Clone, Copy, Debug, PartialEq, Eq)]
+/// A call, as it is printed.
+type Row = (&'static str, Call);
+
+/// What any call but an arrival answers; a number or a truth with what is printed in front of it.
+#[derive(Clone, Copy)]
 enum Answer {
-    Came(Arrived),
     Stepped(Turn),
-    Stored(Option<u32>),
-    Acked(bool),
-    Released(Option<u32>),
-    Passed(bool),
+    Number(&'static str, Option<u32>),
+    Truth(&'static str, bool),
     Imaged,
 }
 
 /// A send and a line come to wait behind a reception, which is stored.
-const WAITING: [Call; 10] = [
-    Call::Arrive(2),
-    Call::Arrive(1),
-    Call::Arrive(1),
-    Call::Step,
-    Call::Step,
-    Call::Step,
-    Call::Step,
-    Call::Step,
-    Call::Image,
-    Call::Store,
+const WAITING: [Row; 10] = [
+    ("Arrive(2): ", Call::Arrive(2)),
+    ("Arrive(1): ", Call::Arrive(1)),
+    ("Arrive(1): ", Call::Arrive(1)),
+    ("Step: ", Call::Step),
+    ("Step: ", Call::Step),
+    ("Step: ", Call::Step),
+    ("Step: ", Call::Step),
+    ("Step: ", Call::Step),
+    ("Image: ", Call::Image),
+    ("Store: ", Call::Store),
 ];
 
 /// The send passes, and its packet goes out.
-const FRUGAL: [Call; 4] = [Call::Ack, Call::Ack, Call::Release, Call::Store];
+const FRUGAL: [Row; 4] = [
+    ("Ack: ", Call::Ack),
+    ("Ack: ", Call::Ack),
+    ("Release: ", Call::Release),
+    ("Store: ", Call::Store),
+];
 
 /// The line passes too. A send and a line behind a miss pass at once. Then an
 /// image is taken, with a packet in the inbox, and that is received.
-const GOING_ON: [Call; 21] = [
-    Call::Release,
-    Call::Release,
-    Call::Pass,
-    Call::Step,
-    Call::Store,
-    Call::Ack,
-    Call::Step,
-    Call::Step,
-    Call::Pass,
-    Call::Pass,
-    Call::Step,
-    Call::Arrive(2),
-    Call::Image,
-    Call::Pass,
-    Call::Pass,
-    Call::Step,
-    Call::Step,
-    Call::Store,
-    Call::Step,
-    Call::Release,
-    Call::Ack,
+const GOING_ON: [Row; 21] = [
+    ("Release: ", Call::Release),
+    ("Release: ", Call::Release),
+    ("Pass: ", Call::Pass),
+    ("Step: ", Call::Step),
+    ("Store: ", Call::Store),
+    ("Ack: ", Call::Ack),
+    ("Step: ", Call::Step),
+    ("Step: ", Call::Step),
+    ("Pass: ", Call::Pass),
+    ("Pass: ", Call::Pass),
+    ("Step: ", Call::Step),
+    ("Arrive(2): ", Call::Arrive(2)),
+    ("Image: ", Call::Image),
+    ("Pass: ", Call::Pass),
+    ("Pass: ", Call::Pass),
+    ("Step: ", Call::Step),
+    ("Step: ", Call::Step),
+    ("Store: ", Call::Store),
+    ("Step: ", Call::Step),
+    ("Release: ", Call::Release),
+    ("Ack: ", Call::Ack),
 ];
 
-/// What can be seen of a rank and around it: its clock, what it wants, how many
+/// What can be seen of a rank and around it: what it wants, its clock, how many
 /// calls the logger has answered and how many lines were shown.
-#[derive(Clone, Copy, Debug, PartialEq, Eq)]
-struct Seen {
-    clock: u32,
-    want: Want,
-    calls: usize,
-    lines: usize,
-}
+type Seen = (Want, [u64; 3]);
 
 fn look(rank: &Rank<'_>, scene: &Scene) -> Seen {
-    Seen {
-        clock: rank.clock(),
-        want: rank.wants(),
-        calls: scene.logger.history().len(),
-        lines: scene.console.lines().len(),
-    }
+    let calls = scene.logger.history().len() as u64;
+    let lines = scene.console.lines().len() as u64;
+    (rank.wants(), [u64::from(rank.clock()), calls, lines])
+}
+
+fn show(out: &mut Out, rank: &Rank<'_>, scene: &Scene) {
+    let (want, [clock, calls, lines]) = look(rank, scene);
+    out.form("  Seen { clock: #, want: ", &[clock]);
+    out.debug(&want);
+    out.form(", calls: #, lines: # }\n", &[calls, lines]);
 }
 
 /// A logger and a console of two ranks.
@@ -157,22 +159,22 @@ fn start<'p>(alloc: Heap, program: &'p Program) -> Result<Rank<'p>, AllocError>
 }
 
 /// A frame that arrives of rank 0, and once more where it was handed back.
-fn arrive<R: AllocGlobal + Print>(
-    rt: &R,
-    rank: &mut Rank<'_>,
-    scene: &Scene,
-    number: u32,
-) -> io::Result<Arrived>
+fn arrive(out: &mut Out, rank: &mut Rank<'_>, scene: &Scene, number: u32) -> Option<Arrived>
     requires { rank.old.stable.size ≡ 2 }
     ensures { rank.new.stable ≡ rank.old.stable }
 {
+    let Ok(one) = packet_near(out.alloc, number) else {
+        return None;
+    };
     let before = look(rank, scene);
-    let one = packet_near(rt.alloc(), number)?;
     match rank.arrive(0, Frame::Data(one)) {
-        Ok(answer) => Ok(answer),
+        Ok(came) => Some(came),
         Err((back, _)) => {
-            compare(rt, before, look(rank, scene))?;
-            rank.arrive(0, back).map_err(|_| AllocError.into())
+            out.compare(before == look(rank, scene));
+            match rank.arrive(0, back) {
+                Ok(came) => Some(came),
+                Err(_) => None,
+            }
         }
     }
 }
@@ -199,6 +201,16 @@ fn store(rank: &mut Rank<'_>, logger: &mut LoggerState) -> Result<Option<u32>, N
     rank.store_state(logger)
 }
 
+fn numbered(
+    name: &'static str,
+    number: Result<Option<u32>, NodeFault>,
+) -> Result<Answer, NodeFault> {
+    match number {
+        Ok(number) => Ok(Answer::Number(name, number)),
+        Err(fault) => Err(fault),
+    }
+}
+
 /// Any call but an arrival.
 fn make(rank: &mut Rank<'_>, scene: &mut Scene, call: Call) -> Result<Answer, NodeFault>
     requires number { rank.old.stable.rank ≡ 1 }
@@ -207,111 +219,134 @@ fn make(rank: &mut Rank<'_>, scene: &mut Scene, call: Call) -> Result<Answer, No
     ensures size { rank.new.stable.size ≡ 2 }
 {
     match call {
-        Call::Step => Ok(Answer::Stepped(rank.step(&mut scene.console)?)),
-        Call::Store => Ok(Answer::Stored(store(rank, &mut scene.logger)?)),
-        Call::Ack => Ok(Answer::Acked(rank.ack())),
-        Call::Release => Ok(Answer::Released(rank.release(&mut scene.console)?)),
-        Call::Pass => Ok(Answer::Passed(pass(rank)?)),
-        Call::Image => {
-            rank.image()?;
-            Ok(Answer::Imaged)
-        }
-        Call::Arrive(_) => Ok(Answer::Passed(false)),
+        Call::Step => match rank.step(&mut scene.console) {
+            Ok(turn) => Ok(Answer::Stepped(turn)),
+            Err(fault) => Err(fault),
+        },
+        Call::Store => numbered("Stored(", store(rank, &mut scene.logger)),
+        Call::Ack => Ok(Answer::Truth("Acked(", rank.ack())),
+        Call::Release => numbered("Released(", rank.release(&mut scene.console)),
+        Call::Pass => match pass(rank) {
+            Ok(goes) => Ok(Answer::Truth("Passed(", goes)),
+            Err(fault) => Err(fault),
+        },
+        Call::Image => match rank.image() {
+            Ok(()) => Ok(Answer::Imaged),
+            Err(fault) => Err(fault),
+        },
+        Call::Arrive(_) => Ok(Answer::Imaged),
     }
 }
 
 /// Any call but an arrival, once more where it was refused its memory.
-fn make_again<R: Print>(
-    rt: &R,
+fn make_again(
+    out: &mut Out,
     rank: &mut Rank<'_>,
     scene: &mut Scene,
     call: Call,
-) -> io::Result<Result<Answer, NodeFault>>
+) -> Result<Answer, NodeFault>
     requires number { rank.old.stable.rank ≡ 1 }
     requires size { rank.old.stable.size ≡ 2 }
     ensures number { rank.new.stable.rank ≡ 1 }
     ensures size { rank.new.stable.size ≡ 2 }
 {
     let before = look(rank, scene);
-    let mut answer = make(rank, scene, call);
-    if answer == Err(NodeFault::Memory) {
-        compare(rt, before, look(rank, scene))?;
-        answer = make(rank, scene, call);
+    match make(rank, scene, call) {
+        Err(NodeFault::Memory) => {
+            out.compare(before == look(rank, scene));
+            make(rank, scene, call)
+        }
+        answer => answer,
     }
-    if answer == Err(NodeFault::Memory) {
-        return Err(AllocError.into());
-    }
-    Ok(answer)
 }
 
-fn make_one<R: AllocGlobal + Print>(
-    rt: &R,
-    rank: &mut Rank<'_>,
-    scene: &mut Scene,
-    call: Call,
-) -> io::Result<Result<Answer, NodeFault>>
-    requires number { rank.old.stable.rank ≡ 1 }
-    requires size { rank.old.stable.size ≡ 2 }
-    ensures number { rank.new.stable.rank ≡ 1 }
-    ensures size { rank.new.stable.size ≡ 2 }
-{
-    match call {
-        Call::Arrive(number) => Ok(Ok(Answer::Came(arrive(rt, rank, scene, number)?))),
-        Call::Step | Call::Store | Call::Ack | Call::Release | Call::Pass | Call::Image => {
-            make_again(rt, rank, scene, call)
+fn show_answer(out: &mut Out, answer: Result<Answer, NodeFault>) {
+    match answer {
+        Ok(Answer::Stepped(turn)) => {
+            out.text("Ok(Stepped(");
+            out.debug(&turn);
+            out.text("))\n");
+        }
+        Ok(Answer::Number(name, number)) => {
+            out.text("Ok(");
+            out.text(name);
+            out.debug(&number);
+            out.text("))\n");
+        }
+        Ok(Answer::Truth(name, is_so)) => {
+            out.text("Ok(");
+            out.text(name);
+            out.truth(is_so);
+            out.text("))\n");
+        }
+        Ok(Answer::Imaged) => out.text("Ok(Imaged)\n"),
+        Err(NodeFault::Memory) => out.lack(),
+        Err(fault) => {
+            out.text("Err(");
+            out.debug(&fault);
+            out.text(")\n");
         }
     }
 }
 
-fn make_all<R: AllocGlobal + Print>(
-    rt: &R,
-    rank: &mut Rank<'_>,
-    scene: &mut Scene,
-    calls: &[Call],
-) -> io::Result<()>
+/// Makes a call, and shows its answer.
+fn make_one(out: &mut Out, rank: &mut Rank<'_>, scene: &mut Scene, call: Call)
     requires number { rank.old.stable.rank ≡ 1 }
     requires size { rank.old.stable.size ≡ 2 }
     ensures number { rank.new.stable.rank ≡ 1 }
     ensures size { rank.new.stable.size ≡ 2 }
 {
-    for call in calls {
-        let answer = make_one(rt, rank, scene, *call)?;
-        println!(rt; "{call:?}: {answer:?}")?;
-        println!(rt; "  {:?}", look(rank, scene))?;
+    let Call::Arrive(number) = call else {
+        let answer = make_again(out, rank, scene, call);
+        return show_answer(out, answer);
+    };
+    match arrive(out, rank, scene, number) {
+        Some(came) => {
+            out.text("Ok(Came(");
+            out.debug(&came);
+            out.text("))\n");
+        }
+        None => out.lack(),
     }
-    Ok(())
 }
 
-/// All calls, one table after another.
-fn live<R: AllocGlobal + Print + Eprint>(
-    rt: &R,
-    rank: &mut Rank<'_>,
-    scene: &mut Scene,
-) -> io::Result<()>
+fn make_all(out: &mut Out, rank: &mut Rank<'_>, scene: &mut Scene, rows: &[Row])
     requires number { rank.old.stable.rank ≡ 1 }
     requires size { rank.old.stable.size ≡ 2 }
     ensures number { rank.new.stable.rank ≡ 1 }
     ensures size { rank.new.stable.size ≡ 2 }
 {
-    make_all(rt, rank, scene, &WAITING)?;
-    follow(rt, "a rank that runs")?;
-    make_all(rt, rank, scene, &FRUGAL)?;
-    println!(rt; "== a rank that runs, once more")?;
-    make_all(rt, rank, scene, &GOING_ON)
+    for row in rows {
+        let (name, call) = *row;
+        out.text(name);
+        make_one(out, rank, scene, call);
+        show(out, rank, scene);
+    }
 }
 
 /// Plays a rank, until it crashes, and what comes then.
-pub fn play<R: AllocGlobal + Print + Eprint>(rt: &R) -> io::Result<()> {
-    println!(rt; "== a rank that runs")?;
-    let program = program_of(rt.alloc(), TEXT)?;
-    let mut scene = scene_of(rt.alloc())?;
-    let mut rank = start(rt.alloc(), &program)?;
-    let outcome = live(rt, &mut rank, &mut scene);
-    let down = rank.crash();
-    if let Err(error) = outcome {
-        let _ = down.retire().parts();
-        return Err(error);
+fn live(out: &mut Out, program: &Program, scene: &mut Scene) {
+    let Ok(mut rank) = start(out.alloc, program) else {
+        out.lack();
+        return;
+    };
+    make_all(out, &mut rank, scene, &WAITING);
+    out.follow("a rank that runs");
+    make_all(out, &mut rank, scene, &FRUGAL);
+    out.text("== a rank that runs, once more\n");
+    make_all(out, &mut rank, scene, &GOING_ON);
+    match replays::play(out, program, scene, rank.crash()) {
+        Some(shelf) => images::play(out, program, shelf),
+        None => out.lack(),
     }
-    let shelf = replays::play(rt, &program, &mut scene, down)?;
-    images::play(rt, &program, shelf)
+}
+
+/// Plays a rank, what comes when it has crashed, and its image.
+pub fn play(out: &mut Out) {
+    out.text("== a rank that runs\n");
+    let (Some(program), Ok(mut scene)) = (program_of(out.alloc, TEXT), scene_of(out.alloc)) else {
+        out.lack();
+        return;
+    };
+    live(out, &program, &mut scene);
 }

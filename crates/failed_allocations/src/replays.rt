@@ -1,9 +1,9 @@
 //! A rank that crashed starts again, and replays.
-ghost use Rattle.std.specs.Prelude.{◌≡◌, ◌≤◌, length, IfOk, IfErr};
+ghost use Rattle.std.specs.Prelude.{◌≡◌, ◌≤◌, length, IfOk, IfErr, IfSome};
 ghost use Rattle.limits.specs.Limits.{most_events};
 
-use crate::again::{compare, packet_near};
-use crate::frugal::follow;
+use crate::again::packet_near;
+use crate::out::Out;
 use crate::ranks::Scene;
 use checkpoint::MemoryShelf;
 use event_logger::{Event, LoggerState};
@@ -11,8 +11,6 @@ use limits::{Heap, MOST_EVENTS};
 use rank_language::Program;
 use rank_machine::Want;
 use rank_node::{Arrived, Down, Frame, NodeFault, Replaying, Stable, Turn};
-use std::alloc::AllocError;
-use std::io;
 
 /// A rank that is down, with a shelf in memory and no desk.
 pub type Lost = Down<MemoryShelf, ()>;
@@ -20,24 +18,21 @@ pub type Lost = Down<MemoryShelf, ()>;
 /// Such a rank that replays.
 type Again<'p> = Replaying<'p, MemoryShelf, ()>;
 
-/// The row of rank 1.
-fn row_of(alloc: Heap, logger: &mut LoggerState) -> Result<Vec<Event, Heap>, AllocError>
-    ensures { IfOk result (λ row. length row.items ≤ most_events) }
+/// The row of rank 1, if there is memory for it.
+fn row_of(alloc: Heap, logger: &mut LoggerState) -> Option<Vec<Event, Heap>>
+    ensures { IfSome result (λ row. length row.items ≤ most_events) }
 {
     if logger.ranks() != 2 {
-        return Err(AllocError);
+        return None;
     }
     let row = match logger.fetch(alloc, 1, 0) {
-        Ok(row) => row,
-        Err(_) => match logger.fetch(alloc, 1, 0) {
-            Ok(row) => row,
-            Err(_) => return Err(AllocError),
-        },
+        Ok(row) => Ok(row),
+        Err(_) => logger.fetch(alloc, 1, 0),
     };
-    if row.len() > MOST_EVENTS {
-        return Err(AllocError);
+    match row {
+        Ok(row) if row.len() <= MOST_EVENTS => Some(row),
+        _ => None,
     }
-    Ok(row)
 }
 
 /// A rank that is down starts again.
@@ -51,7 +46,7 @@ fn restart<'p>(
     ensures up { IfOk result (λ rank. rank.node.stable.size ≡ 2) }
     ensures back { IfErr result (λ back. back.size ≡ 2) }
 {
-    let Ok(row) = row_of(alloc, logger) else {
+    let Some(row) = row_of(alloc, logger) else {
         return Err(down);
     };
     match down.restart(alloc, program, row) {
@@ -60,42 +55,42 @@ fn restart<'p>(
     }
 }
 
-/// What can be seen of a rank that replays, and around it: its clock, how many
-/// events are left, what it wants and how many lines were shown.
-#[derive(Clone, Copy, Debug, PartialEq, Eq)]
-struct Seen {
-    clock: u32,
-    left: u32,
-    want: Want,
-    lines: usize,
-}
+/// What can be seen of a rank that replays, and around it: what it wants, its
+/// clock, how many events are left and how many lines were shown.
+type Seen = (Want, [u64; 3]);
 
 fn look(rank: &Again<'_>, scene: &Scene) -> Seen {
-    Seen {
-        clock: rank.clock(),
-        left: rank.left(),
-        want: rank.wants(),
-        lines: scene.console.lines().len(),
-    }
+    let lines = scene.console.lines().len() as u64;
+    (
+        rank.wants(),
+        [u64::from(rank.clock()), u64::from(rank.left()), lines],
+    )
+}
+
+fn show(out: &mut Out, rank: &Again<'_>, scene: &Scene) {
+    let (want, [clock, left, lines]) = look(rank, scene);
+    out.form(", Seen { clock: #, left: #, want: ", &[clock, left]);
+    out.debug(&want);
+    out.form(", lines: # }", &[lines]);
 }
 
 /// A frame that arrives of rank 0, and once more where it was handed back.
-fn arrive<R: AllocGlobal + Print>(
-    rt: &R,
-    rank: &mut Again<'_>,
-    scene: &Scene,
-    number: u32,
-) -> io::Result<Arrived>
+fn arrive(out: &mut Out, rank: &mut Again<'_>, scene: &Scene, number: u32) -> Option<Arrived>
     requires { rank.old.node.stable.size ≡ 2 }
     ensures { rank.new.node.stable ≡ rank.old.node.stable }
 {
+    let Ok(one) = packet_near(out.alloc, number) else {
+        return None;
+    };
     let before = look(rank, scene);
-    let one = packet_near(rt.alloc(), number)?;
     match rank.arrive(0, Frame::Data(one)) {
-        Ok(answer) => Ok(answer),
+        Ok(came) => Some(came),
         Err((back, _)) => {
-            compare(rt, before, look(rank, scene))?;
-            rank.arrive(0, back).map_err(|_| AllocError.into())
+            out.compare(before == look(rank, scene));
+            match rank.arrive(0, back) {
+                Ok(came) => Some(came),
+                Err(_) => None,
+            }
         }
     }
 }
@@ -111,38 +106,49 @@ fn step_once(rank: &mut Again<'_>, scene: &mut Scene) -> Result<Turn, NodeFault>
 }
 
 /// A step, once more where it was refused its memory.
-fn step<R: Print>(
-    rt: &R,
-    rank: &mut Again<'_>,
-    scene: &mut Scene,
-) -> io::Result<Result<Turn, NodeFault>>
+fn step(out: &mut Out, rank: &mut Again<'_>, scene: &mut Scene) -> Result<Turn, NodeFault>
     ensures { rank.new.node.stable ≡ rank.old.node.stable }
 {
     let before = look(rank, scene);
-    let mut turn = step_once(rank, scene);
-    if turn == Err(NodeFault::Memory) {
-        compare(rt, before, look(rank, scene))?;
-        turn = step_once(rank, scene);
+    match step_once(rank, scene) {
+        Err(NodeFault::Memory) => {
+            out.compare(before == look(rank, scene));
+            step_once(rank, scene)
+        }
+        turn => turn,
     }
-    if turn == Err(NodeFault::Memory) {
-        return Err(AllocError.into());
-    }
-    Ok(turn)
 }
 
-/// Packets arrive, too early, again and as the next, and a step is made behind each.
-fn replay<R: AllocGlobal + Print>(rt: &R, rank: &mut Again<'_>, scene: &mut Scene) -> io::Result<()>
+/// A packet arrives, and a step is made behind it.
+fn arrive_and_step(out: &mut Out, rank: &mut Again<'_>, scene: &mut Scene, number: u32)
     requires { rank.old.node.stable.size ≡ 2 }
     ensures { rank.new.node.stable ≡ rank.old.node.stable }
 {
-    println!(rt; "== a rank that replays")?;
-    for number in [4, 1, 3] {
-        let came = arrive(rt, rank, scene, number)?;
-        println!(rt; "packet {number}: {came:?}, {:?}", look(rank, scene))?;
-        let turn = step(rt, rank, scene)?;
-        println!(rt; "a step: {turn:?}, {:?}", look(rank, scene))?;
+    let Some(came) = arrive(out, rank, scene, number) else {
+        return out.lack();
+    };
+    out.form("packet #: ", &[u64::from(number)]);
+    out.debug(&came);
+    show(out, rank, scene);
+    let turn = step(out, rank, scene);
+    if let Err(NodeFault::Memory) = turn {
+        out.lack();
     }
-    Ok(())
+    out.text("\na step: ");
+    out.debug(&turn);
+    show(out, rank, scene);
+    out.text("\n");
+}
+
+/// Packets arrive, too early, again and as the next.
+fn replay(out: &mut Out, rank: &mut Again<'_>, scene: &mut Scene)
+    requires { rank.old.node.stable.size ≡ 2 }
+    ensures { rank.new.node.stable ≡ rank.old.node.stable }
+{
+    out.text("== a rank that replays\n");
+    for number in [4, 1, 3] {
+        arrive_and_step(out, rank, scene, number);
+    }
 }
 
 /// The first ask goes out.
@@ -174,50 +180,39 @@ fn shelf_of(down: Lost) -> MemoryShelf {
 }
 
 /// Ends a replay. Answers the shelf.
-fn end<R: AllocGlobal + Print + Eprint>(
-    rt: &R,
-    rank: Again<'_>,
-    scene: &Scene,
-) -> io::Result<MemoryShelf>
+fn end(out: &mut Out, rank: Again<'_>, scene: &Scene) -> MemoryShelf
     requires { rank.node.stable.size ≡ 2 }
 {
     let mut rank = rank;
-    let told = follow(rt, "a replay that ends");
+    out.follow("a replay that ends");
     let asks = pass(&mut rank);
-    let seen = look(&rank, scene);
+    out.text("an ask goes out: ");
+    out.truth(asks);
+    show(out, &rank, scene);
     let (settled, down) = crash(rank);
-    let shelf = shelf_of(down);
-    told?;
-    println!(rt; "an ask goes out: {asks}, {seen:?}, it runs then: {settled}")?;
-    Ok(shelf)
+    out.text(", it runs then: ");
+    out.truth(settled);
+    out.text("\n");
+    shelf_of(down)
 }
 
 /// The rank starts again, once more with what was handed back, and replays.
-/// Answers its shelf.
-pub fn play<R: AllocGlobal + Print + Eprint>(
-    rt: &R,
-    program: &Program,
-    scene: &mut Scene,
-    down: Lost,
-) -> io::Result<MemoryShelf>
+/// Answers its shelf, if it started.
+pub fn play(out: &mut Out, program: &Program, scene: &mut Scene, down: Lost) -> Option<MemoryShelf>
     requires { down.size ≡ 2 }
 {
-    let up = match restart(rt.alloc(), program, &mut scene.logger, down) {
+    let up = match restart(out.alloc, program, &mut scene.logger, down) {
         Ok(rank) => Ok(rank),
-        Err(back) => restart(rt.alloc(), program, &mut scene.logger, back),
+        Err(back) => restart(out.alloc, program, &mut scene.logger, back),
     };
     match up {
-        Ok(mut rank) => match replay(rt, &mut rank, scene) {
-            Ok(()) => end(rt, rank, scene),
-            Err(error) => {
-                let (_, down) = crash(rank);
-                let _ = shelf_of(down);
-                Err(error)
-            }
-        },
+        Ok(mut rank) => {
+            replay(out, &mut rank, scene);
+            Some(end(out, rank, scene))
+        }
         Err(down) => {
             let _ = down.retire().parts();
-            Err(AllocError.into())
+            None
         }
     }
 }

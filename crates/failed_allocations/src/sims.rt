@@ -1,13 +1,13 @@
 //! Choices of ranks in a run without crashes.
 ghost use Rattle.std.specs.Prelude.{◌≡◌, ◌<◌, length, IfOk};
 
-use crate::again::{compare, program_of};
+use crate::again::program_of;
+use crate::out::Out;
 use crash_free::{Choice, NotAllowed, Sim};
 use limits::Heap;
 use rank_language::Program;
 use rank_machine::Want;
 use std::alloc::AllocError;
-use std::io;
 
 const TEXT: &[u8] = b"var x
 if rank == 0
@@ -23,7 +23,7 @@ end
 ";
 
 /// A rank's choices: the ones that are made, and one of each refusal.
-const CHOICES: [(u8, Choice); 18] = [
+static CHOICES: [(u8, Choice); 18] = [
     (0, Choice::Next),
     (0, Choice::Next),
     (0, Choice::Next),
@@ -87,47 +87,63 @@ fn sim_of<'p>(alloc: Heap, program: &'p Program) -> Result<Sim<'p>, AllocError>
 }
 
 /// A choice, once more where it was refused its memory.
-fn act<R: Print>(
-    rt: &R,
-    sim: &mut Sim<'_>,
-    rank: u8,
-    choice: Choice,
-) -> io::Result<Result<(), NotAllowed>>
+fn act(out: &mut Out, sim: &mut Sim<'_>, rank: u8, choice: Choice) -> Result<(), NotAllowed>
     requires rank { rank < 2 }
     requires ranks { length sim.old.machines ≡ 2 }
     ensures { length sim.new.machines ≡ 2 }
 {
     let before = look(sim);
-    let mut answer = sim.act(rank, choice);
-    if answer == Err(NotAllowed::Memory) {
-        compare(rt, before, look(sim))?;
-        answer = sim.act(rank, choice);
+    match sim.act(rank, choice) {
+        Err(NotAllowed::Memory) => {
+            out.compare(before == look(sim));
+            sim.act(rank, choice)
+        }
+        answer => answer,
     }
-    if answer == Err(NotAllowed::Memory) {
-        return Err(AllocError.into());
-    }
-    Ok(answer)
 }
 
-fn act_all<R: Print>(rt: &R, sim: &mut Sim<'_>) -> io::Result<()>
+/// Makes a choice, and shows what both ranks want then.
+fn show(out: &mut Out, sim: &mut Sim<'_>, rank: u8, choice: Choice)
+    requires rank { rank < 2 }
+    requires ranks { length sim.old.machines ≡ 2 }
+    ensures { length sim.new.machines ≡ 2 }
+{
+    let answer = act(out, sim, rank, choice);
+    if let Err(NotAllowed::Memory) = answer {
+        out.lack();
+    }
+    out.form("# ", &[u64::from(rank)]);
+    out.debug(&choice);
+    out.text(": ");
+    out.debug(&answer);
+    out.text("\n  ");
+    let (first, second) = look(sim);
+    out.debug(&first);
+    out.text(", ");
+    out.debug(&second);
+    out.text("\n");
+}
+
+fn act_all(out: &mut Out, sim: &mut Sim<'_>)
     requires { length sim.old.machines ≡ 2 }
 {
-    for (rank, choice) in CHOICES {
-        if rank >= 2 {
-            continue;
+    for one in &CHOICES {
+        let (rank, choice) = *one;
+        if rank < 2 {
+            show(out, sim, rank, choice);
         }
-        let answer = act(rt, sim, rank, choice)?;
-        let (first, second) = look(sim);
-        println!(rt; "{rank} {choice:?}: {answer:?}")?;
-        println!(rt; "  {first:?}, {second:?}")?;
     }
-    Ok(())
 }
 
 /// Makes each choice.
-pub fn play<R: AllocGlobal + Print>(rt: &R) -> io::Result<()> {
-    println!(rt; "== choices in a run without crashes, and what both ranks want then")?;
-    let program = program_of(rt.alloc(), TEXT)?;
-    let mut sim = sim_of(rt.alloc(), &program)?;
-    act_all(rt, &mut sim)
+pub fn play(out: &mut Out) {
+    out.text("== choices in a run without crashes, and what both ranks want then\n");
+    let Some(program) = program_of(out.alloc, TEXT) else {
+        out.lack();
+        return;
+    };
+    match sim_of(out.alloc, &program) {
+        Ok(mut sim) => act_all(out, &mut sim),
+        Err(_) => out.lack(),
+    }
 }

@@ -1,31 +1,21 @@
 //! Events of worlds.
 
-use crate::again::{compare, program_of};
-use crate::frugal::follow;
-use crate::rows::{ROWS, Row};
+use crate::again::program_of;
+use crate::out::Out;
+use crate::rows::Row;
 use limits::{Heap, MOST_RANKS};
 use rank_language::Program;
 use std::alloc::AllocError;
-use std::io;
 use world_model::events_text::ReplyLine;
 use world_model::{Reply, View, World, WorldEvent};
 
 /// What can be seen of a world: its first and its last rank, and how many lines
 /// were shown.
-#[derive(Clone, Copy, Debug, PartialEq, Eq)]
-struct Seen {
-    first: View,
-    last: View,
-    lines: usize,
-}
+type Seen = (View, View, usize);
 
 fn look(world: &World<'_>) -> Option<Seen> {
     let last = world.ranks().checked_sub(1)?;
-    Some(Seen {
-        first: world.view(0),
-        last: world.view(last),
-        lines: world.lines().len(),
-    })
+    Some((world.view(0), world.view(last), world.lines().len()))
 }
 
 /// A world of a program's ranks, of which there are at most `MOST_RANKS`.
@@ -40,28 +30,33 @@ pub fn world_of<'p>(alloc: Heap, program: &'p Program, ranks: u8) -> Result<Worl
 }
 
 /// One event, once more where it was refused its memory.
-pub fn apply<R: Print>(rt: &R, world: &mut World<'_>, event: WorldEvent) -> io::Result<Reply> {
+pub fn apply(out: &mut Out, world: &mut World<'_>, event: WorldEvent) -> Reply {
     let before = look(world);
     match world.apply(event) {
-        Ok(reply) => Ok(reply),
+        Ok(reply) => reply,
         Err(_) => {
-            compare(rt, before, look(world))?;
-            Ok(world.apply(event)?)
+            out.compare(before == look(world));
+            apply_again(out, world, event)
+        }
+    }
+}
+
+fn apply_again(out: &mut Out, world: &mut World<'_>, event: WorldEvent) -> Reply {
+    match world.apply(event) {
+        Ok(reply) => reply,
+        Err(_) => {
+            out.lack();
+            Reply::Refused
         }
     }
 }
 
 /// An event so often, and how often it was answered as it was at last.
-fn apply_each<R: Print>(
-    rt: &R,
-    world: &mut World<'_>,
-    times: u32,
-    event: WorldEvent,
-) -> io::Result<()> {
+fn apply_each(out: &mut Out, world: &mut World<'_>, times: u32, event: WorldEvent) {
     let mut last = Reply::Refused;
-    let mut same = 0u32;
+    let mut same = 0u64;
     for _ in 0..times {
-        let reply = apply(rt, world, event)?;
+        let reply = apply(out, world, event);
         same = if reply == last {
             same.saturating_add(1)
         } else {
@@ -69,53 +64,63 @@ fn apply_each<R: Print>(
         };
         last = reply;
     }
-    println!(rt; "{same} of {times} {event:?}: {}", ReplyLine(last))?;
-    show(rt, look(world))
+    out.form("# of # ", &[same, u64::from(times)]);
+    out.debug(&event);
+    out.text(": ");
+    out.display(&ReplyLine(last));
+    out.text("\n");
+    show(out, world);
 }
 
-fn show<R: Print>(rt: &R, seen: Option<Seen>) -> io::Result<()> {
-    let Some(seen) = seen else {
-        return Ok(());
-    };
-    let Seen { first, last, lines } = seen;
-    println!(rt; "  {first:?}, {last:?}, lines {lines}")
+fn show(out: &mut Out, world: &World<'_>) {
+    if let Some((first, last, lines)) = look(world) {
+        out.text("  ");
+        out.debug(&first);
+        out.text(", ");
+        out.debug(&last);
+        out.form(", lines #\n", &[lines as u64]);
+    }
 }
 
 /// The lines of a world.
-pub fn show_lines<R: Print>(rt: &R, world: &World<'_>) -> io::Result<()> {
+pub fn show_lines(out: &mut Out, world: &World<'_>) {
     for line in world.lines() {
-        println!(rt; "{}> {}", line.rank, line.value)?;
+        out.form("#> ", &[u64::from(line.rank)]);
+        out.debug(&line.value);
+        out.text("\n");
     }
-    Ok(())
 }
 
-fn apply_all<R: AllocGlobal + Print + Eprint>(
-    rt: &R,
-    world: &mut World<'_>,
-    row: Row,
-) -> io::Result<()> {
+fn apply_all(out: &mut Out, world: &mut World<'_>, row: &Row) {
     for one in row.events {
         let (times, event) = *one;
-        apply_each(rt, world, times, event)?;
+        apply_each(out, world, times, event);
     }
-    follow(rt, "what is shown of a world")?;
-    show(rt, look(world))?;
-    show_lines(rt, world)
+    out.follow("what is shown of a world");
+    show(out, world);
+    show_lines(out, world);
 }
 
-fn play<R: AllocGlobal + Print + Eprint>(rt: &R, row: Row) -> io::Result<()> {
-    println!(rt; "== {}", row.about)?;
-    let program = program_of(rt.alloc(), row.program)?;
-    let mut world = world_of(rt.alloc(), &program, row.ranks)?;
-    let outcome = apply_all(rt, &mut world, row);
-    world.close();
-    outcome
+fn play(out: &mut Out, row: &Row) {
+    out.text("== ");
+    out.text(row.about);
+    out.text("\n");
+    let Some(program) = program_of(out.alloc, row.program) else {
+        out.lack();
+        return;
+    };
+    match world_of(out.alloc, &program, row.ranks) {
+        Ok(mut world) => {
+            apply_all(out, &mut world, row);
+            world.close();
+        }
+        Err(_) => out.lack(),
+    }
 }
 
 /// Plays each row, event by event.
-pub fn play_all<R: AllocGlobal + Print + Eprint>(rt: &R) -> io::Result<()> {
-    for row in ROWS {
-        play(rt, row)?;
+pub fn play_all(out: &mut Out, rows: &[Row]) {
+    for row in rows {
+        play(out, row);
     }
-    Ok(())
 }

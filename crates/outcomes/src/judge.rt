@@ -6,4 +6,4 @@ mod verdict;
 mod why;
 
 pub use verdict::{Verdict, judge};
-pub use why::{Asked, why_text};
+pub use why::{Question, why_text};

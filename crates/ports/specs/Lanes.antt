@@ -20,10 +20,12 @@ pub record TxValue : Type 0 where
   pub lane : Lane
   pub put : List Frame
 
--- the end that takes: of which lane it is, and all the frames that were taken, oldest first
+-- the end that takes: of which lane it is, all the frames that were taken, and those that it sees in
+-- the lane, oldest first
 pub record RxValue : Type 0 where
   pub lane : Lane
   pub taken : List Frame
+  pub seen : List Frame
 
 -- the lane of an end of a ring
 abbrev pub lane_of : {T P : Type 0} → End T Global P → Lane
@@ -48,6 +50,10 @@ put_of t = t.put
 -- all the frames that were taken, oldest first
 abbrev pub taken_of : RxValue → List Frame
 taken_of r = r.taken
+
+-- the frames that the end sees in the lane, oldest first
+abbrev pub seen_of : RxValue → List Frame
+seen_of r = r.seen
 
 -- the two ends of one lane
 abbrev pub IsLane : TxValue → RxValue → Type 0

@@ -47,12 +47,12 @@ impl Model for Tx {
 
 impl Model for Rx {
     ghost use Rattle.std.specs.Prelude.{◌≡◌};
-    ghost use Rattle.rtrb.specs.Ring.{received};
+    ghost use Rattle.rtrb.specs.Ring.{received, known_items};
     ghost use Rattle.ports.specs.Lanes.{RxValue, lane_of, counted};
 
     ghost Value = { RxValue };
 
-    ghost view = { λ r. record { lane = lane_of r.ring.end; taken = received r.ring } };
+    ghost view = { λ r. record { lane = lane_of r.ring.end; taken = received r.ring; seen = known_items r.ring } };
 
     ghost invariant = { λ r. r.count ≡ counted (received r.ring) };
 }
@@ -81,21 +81,29 @@ impl Tx {
 }
 
 impl Rx {
-    ghost use Rattle.std.specs.Prelude.{◌≡◌, [], ◌∷◌, ◌++◌, IfSome, None};
-    ghost use Rattle.ports.specs.Lanes.{lane_from, taken_of};
+    ghost use Rattle.std.specs.Prelude.{◌≡◌, ◌<◌, ◌↔◌, [], ◌∷◌, ◌++◌, length, IfSome, IsSome, IsTrue, None};
+    ghost use Rattle.ports.specs.Lanes.{lane_from, seen_of, taken_of};
+
+    /// Whether this end sees a frame. The next take then takes one.
+    pub fn sees_frame(&mut self) -> bool
+        ensures lane { lane_from self.new ≡ lane_from self.old }
+        ensures taken { taken_of self.new ≡ taken_of self.old }
+        ensures seen { IsTrue result ↔ (0 < length (seen_of self.new)) }
+    {
+        !self.ring.is_empty()
+    }
 
     /// Takes the oldest frame, if this end sees one.
     pub fn take(&mut self) -> Option<Frame>
         ensures lane { lane_from self.new ≡ lane_from self.old }
         ensures taken { IfSome result (λ frame. taken_of self.new ≡ taken_of self.old ++ frame ∷ []) }
         ensures none { result ≡ None → taken_of self.new ≡ taken_of self.old }
+        ensures seen { 0 < length (seen_of self.old) → IsSome result }
     {
-        match self.ring.pop() {
-            Ok(frame) => {
-                self.count = self.count.saturating_add(1);
-                Some(frame)
-            }
-            Err(_) => None,
+        if self.ring.is_empty() {
+            return None;
         }
+        self.count = self.count.saturating_add(1);
+        Some(self.ring.pop_known())
     }
 }

@@ -1,7 +1,7 @@
 -- What waits at the gate, as it grows at its end and shrinks at its front: how many effects there are, how many sends to a
 -- rank, and that the first of it are events.
 use Rattle.std.proofs.Common.{◌≡◌, ℕ, zero, suc, ◌+◌, ◌-◌, ◌<◌, ◌≤◌, Bool, true, false, ◌==◌, if◌then◌else◌, List, [], ◌∷◌, ◌++◌}
-use Rattle.std.proofs.Common.{length, drop, slice_get, option_and_then, subst, arith}
+use Rattle.std.proofs.Common.{length, drop, slice_get, option_and_then, refl, subst, arith}
 use Rattle.std.specs.Prelude.{IsSome}
 use Rattle.rank_node.specs.declared.waiting.Waiting.{Waiting}
 use Rattle.rank_node.specs.declared.waiting.Waiting.TheVariants.{Event, Send, Line}
@@ -33,6 +33,14 @@ sends_to_push d (Send e c ∷ xs) y = go (e == d) (sends_to_push d xs y)
     go false z = z
 sends_to_push d (Line c v ∷ xs) y = sends_to_push d xs y
 
+-- an event that goes first doesn't
+pub sends_to_drop : (d : ℕ) (xs : List Waiting) → IsSome (option_and_then event_in (slice_get xs 0)) → sends_to d (drop 1 xs) ≡ sends_to d xs
+sends_to_drop d [] first = absurd cc
+sends_to_drop d (Event e ∷ []) first = refl
+sends_to_drop d (Event e ∷ (y ∷ xs)) first = refl
+sends_to_drop d (Send e c ∷ xs) first = absurd cc
+sends_to_drop d (Line c v ∷ xs) first = absurd cc
+
 -- ---- the events that stand first
 
 -- what goes last changes nothing
@@ -50,6 +58,14 @@ begins_within (suc k) [] b = absurd b
 begins_within (suc k) (Event e ∷ xs) b = (let z = begins_within k xs b in omega (arith, z))
 begins_within (suc k) (Send d c ∷ xs) b = absurd b
 begins_within (suc k) (Line c v ∷ xs) b = absurd b
+
+-- the first of all is one
+pub begins_first : (k : ℕ) (xs : List Waiting) → 0 < k → BeginsWithEvents k xs → IsSome (option_and_then event_in (slice_get xs 0))
+begins_first zero xs some b = absurd (omega (arith, some))
+begins_first (suc k) [] some b = absurd b
+begins_first (suc k) (Event e ∷ xs) some b = refl
+begins_first (suc k) (Send d c ∷ xs) some b = absurd b
+begins_first (suc k) (Line c v ∷ xs) some b = absurd b
 
 -- the last goes, where it isn't among them
 pub begins_withdraw : (k : ℕ) (xs : List Waiting) (y : Waiting) → BeginsWithEvents k (xs ++ y ∷ []) → k < length (xs ++ y ∷ []) → BeginsWithEvents k xs

@@ -20,11 +20,11 @@ Held log xs = (d : ℕ) → length (backlog log d).held ≡ sends_to d xs
 -- ---- what comes to wait
 
 -- an event sends nothing
-pub sends_to_event : (d : ℕ) (xs : List Waiting) (e : EventValue) → sends_to d (xs ++ Event e ∷ []) ≡ sends_to d xs
+sends_to_event : (d : ℕ) (xs : List Waiting) (e : EventValue) → sends_to d (xs ++ Event e ∷ []) ≡ sends_to d xs
 sends_to_event d xs e = (let z = sends_to_push d xs (Event e) in omega (arith, z))
 
 -- and so does a line
-pub sends_to_line : (d : ℕ) (xs : List Waiting) (clock : ℕ) (value : ℤ) → sends_to d (xs ++ Line clock value ∷ []) ≡ sends_to d xs
+sends_to_line : (d : ℕ) (xs : List Waiting) (clock : ℕ) (value : ℤ) → sends_to d (xs ++ Line clock value ∷ []) ≡ sends_to d xs
 sends_to_line d xs clock value = (let z = sends_to_push d xs (Line clock value) in omega (arith, z))
 
 -- so as many packets are held as sends wait, as before

@@ -2,6 +2,7 @@
 ghost use Rattle.std.specs.Prelude.{◌≡◌, IfErr, IfOk};
 ghost use Rattle.rank_node.specs.Copied.{IsCopied, node_with, stored_with};
 
+use crate::both::both;
 use crate::down::Down;
 use crate::due::Due;
 use crate::pending::Pending;
@@ -51,14 +52,16 @@ impl<'p, S: Shelf, D> Running<'p, S, D> {
     fn copied(&self, alloc: Heap) -> Result<(Image<'p>, Pending, Vec<Due, Heap>), AllocError>
         ensures { IfOk result (λ parts. IsCopied self.now parts.0 parts.1 parts.2.items) }
     {
+        let packets = both(self.inbox.copy(alloc), self.log.copy(alloc));
+        let waits = both(self.pending.copy(alloc), self.dues.as_slice().to_vec(alloc));
+        let parts = both(self.machine.copy(alloc), both(packets, waits));
+        let (machine, ((inbox, log), (pending, dues))) = parts?;
         let image = Image {
-            machine: self.machine.copy(alloc)?,
+            machine,
             clock: self.clock,
-            inbox: self.inbox.copy(alloc)?,
-            log: self.log.copy(alloc)?,
+            inbox,
+            log,
         };
-        let pending = self.pending.copy(alloc)?;
-        let dues = self.dues.as_slice().to_vec(alloc)?;
         Ok((image, pending, dues))
     }
 }

@@ -1,7 +1,8 @@
 //! The frames of a rank: those that arrive, and those that go out. They follow
 //! MPICH-V2's rules of retransmission, duplicate suppression and garbage
 //! collection.
-ghost use Rattle.std.specs.Prelude.{◌≡◌, ◌<◌, None, Ok, IsSome, IfOk, IfErr, OnOk, OnErr};
+ghost use Rattle.std.specs.Prelude.{◌≡◌, ◌<◌, None, Ok, is_some, IsSome, IfOk, IfErr, OnOk, OnErr};
+ghost use Rattle.rank_node.specs.Frames.{arrived_as};
 
 use crate::due::Due;
 use crate::fault::NodeFault;
@@ -34,9 +35,7 @@ impl<'p, S: Shelf, D> Running<'p, S, D> {
                     return Ok(Arrived::Foreign);
                 }
                 match self.inbox.accept(packet) {
-                    Ok(Accept::Accepted) => Ok(Arrived::Accepted),
-                    Ok(Accept::Repeated) => Ok(Arrived::Repeated),
-                    Ok(Accept::Gap) => Ok(Arrived::Gap),
+                    Ok(accept) => Ok(arrived_as(accept)),
                     Err(packet) => Err((Frame::Data(packet), NodeFault::Memory)),
                 }
             }
@@ -49,6 +48,15 @@ impl<'p, S: Shelf, D> Running<'p, S, D> {
                 Ok(Arrived::Noted)
             }
         }
+    }
+
+    /// Whether anything goes to this rank.
+    pub fn has_outgoing(&self, dest: u8) -> bool
+        requires { dest < self.now.stable.size }
+        ensures { result ≡ is_some (outgoing_of self.now dest) }
+    {
+        let due = self.dues[usize::from(dest)];
+        due.ask.is_some() || due.kept.is_some() || self.log.next(usize::from(dest)).is_some()
     }
 
     /// What goes to this rank next: a due `Ask`, else a due `Kept`, else the
@@ -93,5 +101,16 @@ impl<'p, S: Shelf, D> Running<'p, S, D> {
         } else {
             self.log.passed(usize::from(dest));
         }
+    }
+}
+
+// What became of a packet, by the inbox's answer.
+fn arrived_as(accept: Accept) -> Arrived
+    ensures { result ≡ arrived_as accept }
+{
+    match accept {
+        Accept::Accepted => Arrived::Accepted,
+        Accept::Repeated => Arrived::Repeated,
+        Accept::Gap => Arrived::Gap,
     }
 }

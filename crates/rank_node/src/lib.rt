@@ -4,6 +4,7 @@
 //! acknowledged. That this leaves no orphans is the theorem of `world_model`.
 #![tactic(auto)]
 
+mod both;
 mod copying;
 mod desk_calls;
 mod down;

@@ -40,7 +40,7 @@ impl Model for Pending {
 }
 
 impl Pending {
-    ghost use Rattle.rank_node.specs.Waiting.{AreMade, IsGate, is_settled, has_room, event_in, joins, misses_only, with_joined};
+    ghost use Rattle.rank_node.specs.Waiting.{AreMade, is_settled, has_room, event_in, joins, misses_only, with_joined};
     ghost use Rattle.rank_node.specs.Releasing.{effect_of};
 
     /// Nothing waits.
@@ -72,7 +72,6 @@ impl Pending {
     #[tactic(auto, using(crate::proofs::Gates::effects_push, crate::proofs::Gates::begins_push))]
     pub fn push_event(&mut self, event: Event) -> Result<(), AllocError>
         ensures ok { OnOk result (self.new ≡ record { waiting = self.old.waiting ++ waits.Event event ∷ []; stored = self.old.stored }) }
-        ensures gate { IsGate self.new }
         ensures err { OnErr result (self.new ≡ self.old) }
     {
         self.waiting.push_back(Waiting::Event(event))?;
@@ -102,7 +101,6 @@ impl Pending {
         ensures value { result ≡ joins self.old.stored self.old.waiting }
         ensures joined { OnTrue result (self.new ≡ record { waiting = with_joined self.old.waiting; stored = self.old.stored }) }
         ensures none { OnFalse result (self.new ≡ self.old) }
-        ensures gate { IsGate self.new }
     {
         if self.stored >= self.waiting.len() {
             return false;
@@ -134,7 +132,6 @@ impl Pending {
         requires { has_room self.old.waiting ≡ true }
         ensures ok { OnOk result (self.new ≡ record { waiting = self.old.waiting ++ waits.Send dest clock ∷ []; stored = self.old.stored }) }
         ensures newest { OnOk result (self.new.stored < length self.new.waiting) }
-        ensures gate { IsGate self.new }
         ensures err { OnErr result (self.new ≡ self.old) }
     {
         self.waiting.push_back(Waiting::Send { dest, clock })?;
@@ -147,7 +144,6 @@ impl Pending {
     pub fn push_line(&mut self, clock: u32, value: i64) -> Result<(), AllocError>
         requires { has_room self.old.waiting ≡ true }
         ensures ok { OnOk result (self.new ≡ record { waiting = self.old.waiting ++ waits.Line clock value ∷ []; stored = self.old.stored }) }
-        ensures gate { IsGate self.new }
         ensures err { OnErr result (self.new ≡ self.old) }
     {
         self.waiting.push_back(Waiting::Line { clock, value })?;
@@ -160,7 +156,6 @@ impl Pending {
     pub fn withdraw(&mut self)
         requires { self.old.stored < length self.old.waiting }
         ensures withdrawn { self.new ≡ record { waiting = take (length self.old.waiting - 1) self.old.waiting; stored = self.old.stored } }
-        ensures gate { IsGate self.new }
     {
         if let Some(Waiting::Send { .. } | Waiting::Line { .. }) = self.waiting.pop_back() {
             self.effect_count -= 1;
@@ -196,7 +191,6 @@ impl Pending {
     pub fn mark_stored(&mut self)
         requires { IsSome (option_and_then event_in (slice_get self.old.waiting self.old.stored)) }
         ensures marked { self.new ≡ record { waiting = self.old.waiting; stored = self.old.stored + 1 } }
-        ensures gate { IsGate self.new }
     {
         self.stored += 1;
     }
@@ -206,8 +200,8 @@ impl Pending {
     pub fn acknowledge(&mut self) -> bool
         ensures some { IsTrue result ↔ (0 < self.old.stored) }
         ensures acked { OnTrue result (self.new ≡ record { waiting = drop 1 self.old.waiting; stored = self.old.stored - 1 }) }
+        ensures first { OnTrue result (IsSome (option_and_then event_in (slice_get self.old.waiting 0))) }
         ensures none { OnFalse result (self.new ≡ self.old) }
-        ensures gate { IsGate self.new }
     {
         if self.stored == 0 {
             return false;
@@ -230,7 +224,6 @@ impl Pending {
     pub fn release(&mut self)
         requires { IsSome (option_and_then effect_of (slice_get self.old.waiting 0)) }
         ensures released { self.new ≡ record { waiting = drop 1 self.old.waiting; stored = self.old.stored } }
-        ensures gate { IsGate self.new }
     {
         self.waiting.pop_front();
         self.effect_count -= 1;

@@ -40,6 +40,7 @@ impl<'p, S: Shelf, D> Phase<'p, S, D> {
     }
 
     /// A rank that has nothing left to replay runs. Any other stays as it is.
+    #[tactic(auto, using(crate::proofs::Phases::settled_stable))]
     pub fn settled(self) -> Phase<'p, S, D>
         ensures settled { result ≡ settled_in self.entry }
         ensures stable { stable_in result ≡ stable_in self.entry }
@@ -76,14 +77,11 @@ impl<'p, S: Shelf, D> Phase<'p, S, D> {
 
 #[tactic(auto, using(crate::proofs::Phases::goes_on, crate::proofs::Phases::is_done))]
 fn settled<'p, S: Shelf, D>(rank: Replaying<'p, S, D>) -> Phase<'p, S, D>
-    ensures settled { result ≡ settled_replay rank.entry rank.entry.left }
-    ensures stable { stable_in result ≡ rank.entry.node.stable }
+    ensures { result ≡ settled_replay rank.entry rank.entry.left }
 {
     if rank.left() > 0 {
-        return Phase::Replaying(rank);
-    }
-    match rank.settle() {
-        Ok(rank) => Phase::Running(rank),
-        Err(rank) => Phase::Replaying(rank),
+        Phase::Replaying(rank)
+    } else {
+        Phase::Running(rank.end())
     }
 }

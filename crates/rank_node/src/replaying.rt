@@ -81,7 +81,7 @@ impl<'p, S: Shelf, D> Replaying<'p, S, D> {
     }
 
     // The replay ends here.
-    fn end(self) -> Running<'p, S, D>
+    pub(crate) fn end(self) -> Running<'p, S, D>
         ensures { result ≡ self.entry.node }
     {
         let Replaying {

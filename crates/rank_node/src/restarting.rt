@@ -1,12 +1,11 @@
 //! How a rank starts again: rollback to its last checkpoint, and replay of the
 //! determinants above it.
-ghost use Rattle.std.specs.Prelude.{◌≡◌, ◌<◌, ◌≤◌, ◌⊎◌, length, map, true, IfOk, IfErr, OnOk, IsErrOf};
+ghost use Rattle.std.specs.Prelude.{◌≡◌, ◌<◌, ◌≤◌, ◌⊎◌, length, map, true, false, IfOk, IfErr, OnOk, IsErrOf};
 ghost use Rattle.limits.specs.Limits.{most_events, most_ranks};
 ghost use Rattle.event_logger.specs.Sequential.History.{above};
-ghost use Rattle.checkpoint.specs.Savable.{IsSavable};
 ghost use Rattle.checkpoint.specs.Shelf.{Grew, image_bytes};
-ghost use Rattle.rank_node.specs.Fault.{MayRefuseReading, MayRefuseRestart};
-ghost use Rattle.rank_node.specs.Image.{BeginsAgain, KeepsImage, Reads, begins_at, image_on, with_shelf};
+ghost use Rattle.rank_node.specs.Fault.{MayRefuseRestart};
+ghost use Rattle.rank_node.specs.Image.{BeginsAgain, IsBeginning, IsImageOf, KeepsImage, Reads, begins_at, image_on, with_shelf};
 ghost use Rattle.rank_node.specs.Replay.{ask_after, cuts};
 
 use crate::down::Down;
@@ -32,7 +31,6 @@ impl<S: Shelf, D> Down<S, D> {
     /// An `Err` gives the rank back: the shelf's device failed, its bytes are
     /// no image of this rank of the program, the image cuts an event of the
     /// row, or there was no memory.
-    #[tactic(auto, using(crate::proofs::Refusing::reading_refuses, crate::proofs::Refusing::reading_cuts_none))]
     pub fn restart<'p>(
         mut self,
         alloc: Heap,
@@ -50,46 +48,71 @@ impl<S: Shelf, D> Down<S, D> {
         ensures cut { IfErr result (λ refused. refused.1 ≡ NodeFault.Replay → let begins = begins_at program.entry.now self.rank self.size
             (image_on program.entry.now self.rank self.size (S.last self.shelf)) in cuts begins.clock row.items ≡ true) }
     {
-        let image = match self.last_image(alloc, program) {
-            Ok(image) => image,
-            Err(fault) => return Err((self, fault)),
-        };
-        if cuts(image.clock, &row) {
-            return Err((self, NodeFault::Replay));
+        match self.beginning(alloc, program, &row) {
+            Ok((image, dues)) => {
+                let Down { stable } = self;
+                let made = row.len();
+                let events = later(row, image.clock);
+                Ok(Replaying {
+                    running: Running::at(stable, alloc, image, made, dues),
+                    events,
+                    next: 0,
+                })
+            }
+            Err(fault) => Err((self, fault)),
         }
-        let Ok(dues) = asks(alloc, &image.inbox, self.stable.size()) else {
-            return Err((self, NodeFault::Memory));
-        };
-        let Down { stable } = self;
-        let made = row.len();
-        let events = later(row, image.clock);
-        Ok(Replaying {
-            running: Running::at(stable, alloc, image, made, dues),
-            events,
-            next: 0,
-        })
     }
 
-    // Where the rank begins again: at the image on its shelf, or at the beginning of its program if
-    // there is none.
-    fn last_image<'p>(&mut self, alloc: Heap, program: &'p Program) -> Result<Image<'p>, NodeFault>
-        ensures begins { IfOk result (λ image. image ≡ begins_at program.entry.now self.old.rank self.old.size
-            (image_on program.entry.now self.old.rank self.old.size (S.last self.old.shelf))) }
-        ensures savable { IfOk result (λ image. IsSavable image) }
-        ensures own { IfOk result (λ image. image.machine.store.rank ≡ self.old.rank) }
-        ensures ranks { IfOk result (λ image. image.machine.store.size ≡ self.old.size) }
-        ensures reads { OnOk result (Reads program.entry.now self.old.rank self.old.size (S.last self.old.shelf)) }
+    // Where the rank begins again with this row, with an ask due to each rank: at the image on its
+    // shelf, or at the beginning of its program if there is none.
+    fn beginning<'p>(
+        &mut self,
+        alloc: Heap,
+        program: &'p Program,
+        row: &[Event],
+    ) -> Result<(Image<'p>, Vec<Due, Heap>), NodeFault>
+        ensures ok { IfOk result (λ parts. IsBeginning program.entry.now self.old.rank self.old.size (S.last self.old.shelf) row.now parts.0 parts.1.items) }
         ensures same { self.new ≡ with_shelf self.old self.new.shelf }
         ensures kept { S.last self.new.shelf ≡ S.last self.old.shelf }
 
-        ensures refused { IfErr result MayRefuseReading }
+        ensures refused { IfErr result MayRefuseRestart }
         ensures device { IsErrOf result NodeFault.Shelf → Grew (S.failures self.old.shelf) (S.failures self.new.shelf) }
         ensures unreadable { IsErrOf result NodeFault.Image → Reads program.entry.now self.old.rank self.old.size (S.last self.old.shelf) → ⊥ }
+        ensures cut { IsErrOf result NodeFault.Replay → let begins = begins_at program.entry.now self.old.rank self.old.size
+            (image_on program.entry.now self.old.rank self.old.size (S.last self.old.shelf)) in cuts begins.clock row.now ≡ true }
     {
         let rank = self.stable.rank();
         let size = self.stable.size();
         let bytes = self.stable.get()?;
-        image_of_bytes(alloc, program, rank, size, bytes)
+        beginning(alloc, program, rank, size, bytes, row)
+    }
+}
+
+// The same, where these bytes are on the shelf.
+fn beginning<'p>(
+    alloc: Heap,
+    program: &'p Program,
+    rank: u8,
+    size: u8,
+    bytes: Option<Vec<u8, Heap>>,
+    row: &[Event],
+) -> Result<(Image<'p>, Vec<Due, Heap>), NodeFault>
+    requires rank { rank < size }
+    requires size { size ≤ most_ranks }
+    ensures ok { IfOk result (λ parts. IsBeginning program.entry.now rank size (image_bytes bytes) row.now parts.0 parts.1.items) }
+
+    ensures refused { IfErr result (λ e. (e ≡ NodeFault.Image) ⊎ (e ≡ NodeFault.Replay) ⊎ (e ≡ NodeFault.Memory)) }
+    ensures unreadable { IsErrOf result NodeFault.Image → Reads program.entry.now rank size (image_bytes bytes) → ⊥ }
+    ensures cut { IsErrOf result NodeFault.Replay → let begins = begins_at program.entry.now rank size
+        (image_on program.entry.now rank size (image_bytes bytes)) in cuts begins.clock row.now ≡ true }
+{
+    let image = image_of_bytes(alloc, program, rank, size, bytes)?;
+    match asks_above(alloc, &image, size, row) {
+        Ok(dues) => Ok((image, dues)),
+        Err(fault) => {
+            drop(image);
+            Err(fault)
+        }
     }
 }
 
@@ -103,20 +126,34 @@ fn image_of_bytes<'p>(
 ) -> Result<Image<'p>, NodeFault>
     requires rank { rank < size }
     requires size { size ≤ most_ranks }
-    ensures begins { IfOk result (λ image. image ≡ begins_at program.entry.now rank size (image_on program.entry.now rank size (image_bytes bytes))) }
-    ensures savable { IfOk result (λ image. IsSavable image) }
-    ensures own { IfOk result (λ image. image.machine.store.rank ≡ rank) }
-    ensures ranks { IfOk result (λ image. image.machine.store.size ≡ size) }
-    ensures reads { OnOk result (Reads program.entry.now rank size (image_bytes bytes)) }
+    ensures ok { IfOk result (λ image. IsImageOf program.entry.now rank size (image_bytes bytes) image) }
 
     ensures refused { IfErr result (λ e. (e ≡ NodeFault.Image) ⊎ (e ≡ NodeFault.Memory)) }
     ensures unreadable { IsErrOf result NodeFault.Image → Reads program.entry.now rank size (image_bytes bytes) → ⊥ }
 {
-    let image = match bytes {
-        None => first_image(alloc, program, rank, size)?,
-        Some(bytes) => decode(alloc, program, rank, size, &bytes)?,
-    };
-    Ok(image)
+    match bytes {
+        None => Ok(first_image(alloc, program, rank, size)?),
+        Some(bytes) => Ok(decode(alloc, program, rank, size, &bytes)?),
+    }
+}
+
+// An ask to each rank, where the image cuts no event of the row.
+fn asks_above(
+    alloc: Heap,
+    image: &Image<'_>,
+    size: u8,
+    row: &[Event],
+) -> Result<Vec<Due, Heap>, NodeFault>
+    requires { length image.now.inbox.accepted ≡ size }
+    ensures dues { IfOk result (λ dues. dues.items ≡ map ask_after image.now.inbox.accepted) }
+    ensures uncut { OnOk result (cuts image.now.clock row.now ≡ false) }
+    ensures refused { IfErr result (λ e. (e ≡ NodeFault.Replay) ⊎ (e ≡ NodeFault.Memory)) }
+    ensures cut { IsErrOf result NodeFault.Replay → cuts image.now.clock row.now ≡ true }
+{
+    if cuts(image.clock, row) {
+        return Err(NodeFault::Replay);
+    }
+    Ok(asks(alloc, &image.inbox, size)?)
 }
 
 // An ask to each rank for what comes after the last that was accepted.

@@ -5,6 +5,7 @@ ghost use Rattle.rank_machine.specs.Machine.{machine_want, IsWantedBy};
 ghost use Rattle.checkpoint.specs.Savable.{IsSavable};
 ghost use Rattle.rank_node.specs.Image.{first_image};
 
+use crate::both::both;
 use crate::due::Due;
 use crate::fault::NodeFault;
 use crate::pending::Pending;
@@ -64,13 +65,11 @@ impl<'p, S: Shelf, D> Running<'p, S, D> {
     {
         let rank = stable.rank();
         let size = stable.size();
-        let Ok(image) = first_image(alloc, program, rank, size) else {
-            return Err((stable, NodeFault::Memory));
-        };
-        let Ok(dues) = no_dues(alloc, usize::from(size)) else {
-            return Err((stable, NodeFault::Memory));
-        };
-        Ok(Running::at(stable, alloc, image, 0, dues))
+        let image = first_image(alloc, program, rank, size);
+        match both(image, no_dues(alloc, usize::from(size))) {
+            Ok((image, dues)) => Ok(Running::at(stable, alloc, image, 0, dues)),
+            Err(_) => Err((stable, NodeFault::Memory)),
+        }
     }
 
     // The rank that stands at an image and has made so many events, with what is due to each rank.
@@ -162,11 +161,15 @@ pub(crate) fn first_image<'p>(
     ensures first { IfOk result (λ image. image ≡ first_image program.entry.now rank size) }
     ensures savable { IfOk result (λ image. IsSavable image) }
 {
+    let ranks = usize::from(size);
+    let packets = both(Inbox::new(alloc, ranks), PayloadLog::new(alloc, ranks));
+    let parts = both(Machine::new(alloc, program, rank, size), packets);
+    let (machine, (inbox, log)) = parts?;
     Ok(Image {
-        machine: Machine::new(alloc, program, rank, size)?,
+        machine,
         clock: 0,
-        inbox: Inbox::new(alloc, usize::from(size))?,
-        log: PayloadLog::new(alloc, usize::from(size))?,
+        inbox,
+        log,
     })
 }
 

@@ -2,6 +2,7 @@
 use Rattle.std.proofs.Common.{◌≡◌, ◌≢◌, ℕ, zero, suc, ◌+◌, ◌<◌, ◌≤◌, List, [], ◌∷◌, ◌++◌, Option, Some, None, length, slice_index_or, slice_set}
 use Rattle.std.proofs.Common.{refl, sym, subst, ap, ◌∙◌, append_assoc, append-nil, arith, ◌⊎◌, inl, inr}
 use Rattle.std.proofs.lemmas.Bool.{cases_lt}
+use Rattle.std.specs.Prelude.{false, is_some}
 use Rattle.ports.specs.Lanes.{TxValue, put_of}
 use Rattle.rank_threads.specs.Costs.{after_put, all_put, kind_of}
 use Rattle.rank_threads.specs.Putting.{HasNothing, KeepsOthers, NothingBelow, PutAll, Puts, PutsInto, Stays}
@@ -45,7 +46,6 @@ set_elsewhere (x ∷ xs) (suc i) (suc k) y d apart = set_elsewhere xs i k y d (�
 stays : (went : PutResult) (p q : Phase) (dest : ℕ) (put put' : List Frame) → Puts went p dest put q put' → Stays went p dest q
 stays (put_result.Gone kind) p q dest put put' puts = record { frame = puts.frame; outgoing = puts.outgoing; is_kind = puts.is_kind }
 stays put_result.Full p q dest put put' puts = puts.0
-stays put_result.Nothing p q dest put put' puts = (puts.0, puts.2)
 
 -- what goes into the lane at a place goes into no other
 pub puts_into : (went : PutResult) (p q : Phase) (dest : ℕ) (lanes : List TxValue) (d y : TxValue) → dest < length lanes
@@ -141,11 +141,13 @@ pub put_full : (dest : ℕ) (old mid new : Life) (p q : Phase) → PutAll dest o
 put_full dest old mid new p q before here same =
     record { frames = before.frames; lane = λ d. (here.lane d).1 ∙ before.lane d; meter = same ∙ before.meter }
 
--- nothing was outgoing any more
-pub put_no_more : (dest : ℕ) (old mid new : Life) (p q : Phase) → PutAll dest old mid → PutsInto put_result.Nothing p dest mid.kit.to.items q new.kit.to.items
-    → new.kit.meter ≡ mid.kit.meter → PutAll dest old new
-put_no_more dest old mid new p q before here same =
-    record { frames = before.frames; lane = λ d. (here.lane d).1 ∙ before.lane d; meter = same ∙ before.meter }
+-- where it is said that nothing is outgoing, nothing is
+pub none_outgoing : (p : Phase) (dest : ℕ) → is_some (outgoing_in p dest) ≡ false → HasNothing p dest
+none_outgoing p dest none = go (outgoing_in p dest) none
+  where
+    go : (found : Option Frame) → is_some found ≡ false → found ≡ None
+    go None none = refl
+    go (Some frame) none = absurd cc
 
 -- what touches no lane and counts nothing leaves it so
 pub put_kept : (dest : ℕ) (old mid new : Life) → PutAll dest old mid → new.kit.to ≡ mid.kit.to → new.kit.meter ≡ mid.kit.meter → PutAll dest old new
@@ -156,7 +158,7 @@ put_kept dest old mid new before to same = record {
 }
 
 -- what one frame more leaves
-pub ruleset put_laws = (put_nothing, put_more, put_full, put_no_more, put_kept, none_other, others_on)
+pub ruleset put_laws = (put_nothing, put_more, put_full, none_outgoing, put_kept, none_other, others_on)
 
 -- what one frame leaves to the others
 pub ruleset others_laws = (none_other, passed_others)

@@ -8,7 +8,7 @@ use Rattle.ports.specs.Lanes.{RxValue, taken_of}
 use Rattle.rank_node.specs.declared.frame.Frame.{Frame}
 use Rattle.rank_node.specs.Phases.{arrived_in}
 use Rattle.rank_threads.proofs.PuttingLemmas.{set_here, same_there, set_elsewhere}
-use Rattle.rank_threads.specs.Taking.{all_arrived, at_once, is_some_frame, those_of, Takes, TookFrom, TookBelow}
+use Rattle.rank_threads.specs.Taking.{all_arrived, at_once, batch, is_some_frame, those_of, Takes, TookFrom, TookBelow}
 use Rattle.rank_threads.specs.Phases.{Phase}
 use Rattle.rank_threads.specs.declared.life.Life.{Life}
 use Rattle.rank_threads.specs.declared.tally.Tally.{Tally}
@@ -16,9 +16,9 @@ use Rattle.rank_threads.specs.Tally.{all_taken, woken}
 
 -- a rank takes at least one frame of a lane
 pub some_at_once : (is_blocked : Bool) (waiting : ℕ) → 1 ≤ at_once is_blocked waiting
-some_at_once is_blocked waiting = go (not is_blocked && nat_le 16 waiting)
+some_at_once is_blocked waiting = go (not is_blocked && nat_le batch waiting)
   where
-    go : (b : Bool) → 1 ≤ (if b then 1 else 16)
+    go : (b : Bool) → 1 ≤ (if b then 1 else batch)
     go true = omega arith
     go false = omega arith
 
@@ -70,6 +70,16 @@ none_behind : (frames more : List Frame) → false ≡ is_some_frame more → is
 none_behind [] more none = none
 none_behind (frame ∷ frames) more none = refl
 
+-- what is taken behind a look that takes nothing is all that is taken
+pub takes_behind : (source : ℕ) (frames : List Frame) (a b c : List RxValue) → Takes source [] a b → Takes source frames b c → Takes source frames a c
+takes_behind source frames a b c look takes = takes_then source [] frames a b c look takes
+
+-- a look at a lane takes nothing
+pub takes_nothing : (source : ℕ) (lanes : List RxValue) (d y : RxValue) → source < length lanes
+    → taken_of y ≡ taken_of (slice_index_or lanes source d) → Takes source [] lanes (slice_set lanes source y)
+takes_nothing source lanes d y within same =
+    takes_at source [] lanes d y within (same ∙ sym (append-nil (taken_of (slice_index_or lanes source d))))
+
 -- what one look at a lane takes
 pub takes_looked : (source : ℕ) (found : Option Frame) (lanes : List RxValue) (d y : RxValue) → source < length lanes
     → IfSome found (λ frame. taken_of y ≡ taken_of (slice_index_or lanes source d) ++ frame ∷ [])
@@ -94,6 +104,19 @@ pub took_none : (source : ℕ) (old new : Life) → Takes source [] old.kit.from
     → new.kit.tally ≡ old.kit.tally → new.kit.plan ≡ old.kit.plan → new.kit.to ≡ old.kit.to → TookFrom source old new false
 took_none source old new takes same counted plan to =
     record { frames = []; lanes = takes; rank = same; took = refl; tally = counted; plan = plan; to = to }
+
+-- what came behind a look at the lane is all that came
+pub took_behind : (source : ℕ) (old mid new : Life) (took : Bool) → Takes source [] old.kit.from.items mid.kit.from.items
+    → mid ≡ record old { kit = record old.kit { from = mid.kit.from } } → TookFrom source mid new took → TookFrom source old new took
+took_behind source old mid new took look same here = record {
+  frames = here.frames;
+  lanes = takes_behind source here.frames old.kit.from.items mid.kit.from.items new.kit.from.items look here.lanes;
+  rank = here.rank ∙ ap (λ l. all_arrived l.node.phase source here.frames) same;
+  took = here.took;
+  tally = here.tally ∙ ap (λ l. all_taken l.kit.tally here.frames) same;
+  plan = here.plan ∙ ap (λ l. l.kit.plan) same;
+  to = here.to ∙ ap (λ l. l.kit.to) same;
+}
 
 -- some came, behind those before
 pub took_more : (source : ℕ) (old mid new : Life) (took : Bool) → TookFrom source old mid took → TookFrom source mid new true

@@ -31,12 +31,11 @@ NothingBelow count p = (dest : ℕ) → dest < count → HasNothing p dest
 abbrev pub KeepsOthers : ℕ → Phase → Phase → Type 0
 KeepsOthers dest p q = (other : ℕ) → other ≢ dest → outgoing_in q other ≡ outgoing_in p other
 
--- What is outgoing to a rank next goes into a lane, finds it full, or isn't there. If nothing went,
--- all is as it was.
+-- What is outgoing to a rank next goes into a lane, or finds it full. If nothing went, all is as it
+-- was.
 abbrev pub Puts : PutResult → Phase → ℕ → List Frame → Phase → List Frame → Type 0
 Puts (put_result.Gone kind) p dest put q put' = PutsOne kind p dest put q put'
 Puts put_result.Full p dest put q put' = (q ≡ p) × (put' ≡ put)
-Puts put_result.Nothing p dest put q put' = (q ≡ p) × (put' ≡ put) × HasNothing p dest
 
 -- a frame of this kind is outgoing to a rank
 pub record IsOutgoing (kind : FrameKind) (p : Phase) (dest : ℕ) : Type 0 where
@@ -44,15 +43,13 @@ pub record IsOutgoing (kind : FrameKind) (p : Phase) (dest : ℕ) : Type 0 where
   pub outgoing : outgoing_in p dest ≡ Some frame
   pub is_kind : kind ≡ kind_of frame
 
--- if nothing went the rank is as it was, and if the lane had room nothing is outgoing to that rank;
--- if a frame went it was outgoing
+-- if nothing went the rank is as it was; if a frame went it was outgoing
 abbrev pub Stays : PutResult → Phase → ℕ → Phase → Type 0
 Stays (put_result.Gone kind) p dest q = IsOutgoing kind p dest
 Stays put_result.Full p dest q = q ≡ p
-Stays put_result.Nothing p dest q = (q ≡ p) × HasNothing p dest
 
 -- What is outgoing to a rank next goes into the lane to that rank, among the lanes to each, or
--- finds it full, or isn't there: the other lanes are left as they were.
+-- finds it full: the other lanes are left as they were.
 pub record PutsInto (went : PutResult) (p : Phase) (dest : ℕ) (lanes : List TxValue) (q : Phase) (lanes' : List TxValue) : Type 0 where
   pub lane : (d : TxValue) → Puts went p dest (put_of (slice_index_or lanes dest d)) q (put_of (slice_index_or lanes' dest d))
   pub others : (k : ℕ) (d : TxValue) → k ≢ dest → slice_index_or lanes' k d ≡ slice_index_or lanes k d

@@ -8,10 +8,14 @@ use Rattle.rank_threads.specs.Phases.{Phase}
 use Rattle.rank_threads.specs.declared.life.Life.{Life}
 use Rattle.rank_threads.specs.Tally.{all_taken}
 
--- how many frames of a lane a rank takes in one turn at most: 16, or one if it isn't blocked and 16
--- packets or more wait in its inbox
+-- a batch of frames, or of packets that wait
+abbrev pub batch : ℕ
+batch = 16
+
+-- how many frames of a lane a rank takes in one turn at most: a batch, or one if it isn't blocked and
+-- a batch of packets or more wait in its inbox
 abbrev pub at_once : Bool → ℕ → ℕ
-at_once is_blocked waiting = if not is_blocked && nat_le 16 waiting then 1 else 16
+at_once is_blocked waiting = if not is_blocked && nat_le batch waiting then 1 else batch
 
 -- the frame that was there, if one was
 abbrev pub those_of : Option Frame → List Frame

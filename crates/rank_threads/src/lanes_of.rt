@@ -1,6 +1,7 @@
 //! One of a rank's lanes (channels between two ranks' threads) among all of
 //! them.
-ghost use Rattle.std.specs.Prelude.{◌≡◌, ◌≢◌, ◌+◌, ◌<◌, IfOk};
+ghost use Rattle.std.specs.Prelude.{◌≡◌, ◌≢◌, ◌+◌, ◌<◌, [], true, is_some, IfOk};
+ghost use Rattle.rank_node.specs.Phases.{outgoing_in};
 ghost use Rattle.rank_threads.specs.Lanes.{SameTxs, SameRxs};
 ghost use Rattle.rank_threads.specs.Lives.{KeepsOutput};
 ghost use Rattle.rank_threads.specs.Putting.{KeepsOthers, PutsInto};
@@ -13,7 +14,7 @@ use rank_node::Frame;
 use std::alloc::AllocError;
 
 /// The lanes from all ranks below a number were looked at, from rank 0 on. Only
-/// `take_from` raises it.
+/// `sees_frame` raises it.
 #[derive(Clone, Copy)]
 pub struct LanesSeen {
     below: u16,
@@ -37,15 +38,25 @@ impl LanesSeen {
     }
 }
 
-/// The next frame of the lane from this rank, which is looked at.
-#[tactic(auto, using(crate::proofs::LaneLists::map_set_same, crate::proofs::TakingLemmas::takes_looked, crate::proofs::TakingLemmas::takes_none))]
-pub fn take_from(lanes: &mut Vec<Rx, Heap>, source: u8, looked: &mut LanesSeen) -> Option<Frame>
-    ensures takes { Takes source (those_of result) lanes.old.items lanes.new.items }
+/// Whether a frame is seen in the lane from this rank, which is looked at.
+#[tactic(auto, using(crate::proofs::LaneLists::map_set_same, crate::proofs::TakingLemmas::takes_nothing, crate::proofs::TakingLemmas::takes_none))]
+pub fn sees_frame(lanes: &mut Vec<Rx, Heap>, source: u8, looked: &mut LanesSeen) -> bool
+    ensures takes { Takes source [] lanes.old.items lanes.new.items }
     ensures next { looked.old.below ≡ source → looked.new.below ≡ source + 1 }
     ensures others { looked.old.below ≢ source → looked.new.below ≡ looked.old.below }
     ensures same { SameRxs lanes.old.items lanes.new.items }
 {
     looked.note(source);
+    let source = usize::from(source);
+    source < lanes.len() && lanes[source].sees_frame()
+}
+
+/// The next frame of the lane from this rank, where there is one.
+#[tactic(auto, using(crate::proofs::LaneLists::map_set_same, crate::proofs::TakingLemmas::takes_looked, crate::proofs::TakingLemmas::takes_none))]
+pub fn take_from(lanes: &mut Vec<Rx, Heap>, source: u8) -> Option<Frame>
+    ensures takes { Takes source (those_of result) lanes.old.items lanes.new.items }
+    ensures same { SameRxs lanes.old.items lanes.new.items }
+{
     let source = usize::from(source);
     if source >= lanes.len() {
         return None;
@@ -61,7 +72,8 @@ pub fn put_to(
     dest: u8,
     node: &mut Node<'_, '_>,
 ) -> Result<PutResult, AllocError>
-    requires { dest < node.old.size }
+    requires there { dest < node.old.size }
+    requires outgoing { is_some (outgoing_in node.old.phase dest) ≡ true }
     ensures puts { IfOk result (λ went. PutsInto went node.old.phase dest lanes.old.items node.new.phase lanes.new.items) }
     ensures others { KeepsOthers dest node.old.phase node.new.phase }
     ensures lanes { SameTxs lanes.old.items lanes.new.items }

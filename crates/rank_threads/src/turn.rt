@@ -124,7 +124,7 @@ fn end<'s, W: Wait, H: Hold>(
         life.kit.plan.use_one();
         return Ok(After::Crash(killed));
     }
-    let is_imaged = images_after(begun.stepped, shared.limits.images_every, life);
+    let is_imaged = images_after(order, begun.stepped, shared.limits.images_every, life);
     let is_asked = is_image(order);
     let put = let_out(rt, shared, life, begun.stepped, is_imaged, is_asked)?;
     let is_busy = match begun.stepped {

@@ -39,21 +39,34 @@ pub fn asked_of(
     requires few { ranks ≤ most_ranks }
 {
     let mut sim = Sim::new(alloc, program, ranks)?;
-    let mut acts = Vec::new(alloc);
-    for passed in run.acts() {
-        let asked = made(&mut sim, passed)?;
-        acts.push(asked)?;
+    let mut all = AskedAll {
+        acts: Vec::new(alloc),
+        rests: Vec::new(alloc),
+    };
+    match note(&mut all, &mut sim, run) {
+        Ok(()) => Ok(all),
+        Err(fault) => {
+            drop(all);
+            Err(fault)
+        }
     }
-    let mut rests = Vec::new(alloc);
-    for rank in 0..ranks {
+}
+
+// Makes the run once more, and notes what asked for its acts.
+fn note(all: &mut AskedAll, sim: &mut Sim<'_>, run: &Sim<'_>) -> Result<(), PlayFault> {
+    for passed in run.acts() {
+        let asked = made(sim, passed)?;
+        all.acts.push(asked)?;
+    }
+    for rank in 0..sim.ranks() {
         let rest = if is_over(run, rank) {
-            stride(&mut sim, rank)?
+            stride(sim, rank)?
         } else {
             0
         };
-        rests.push(rest)?;
+        all.rests.push(rest)?;
     }
-    Ok(AskedAll { acts, rests })
+    Ok(())
 }
 
 // Makes the act, and says what asked for it.

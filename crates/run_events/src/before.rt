@@ -7,8 +7,8 @@
 //! arrives after it. Of each source the first such message is enough.
 
 use crate::asked::Asked;
-use crate::messages::Messages;
-use crate::order::{Happening, Waits};
+use crate::messages::{Message, Messages};
+use crate::order::{Dependencies, Happening};
 use crash_free::{Act, Passed};
 use limits::{Heap, MOST_RANKS};
 use matching::Selector;
@@ -20,111 +20,127 @@ pub fn waits_of(
     ranks: u8,
     acts: &[Passed],
     asked: &[Asked],
-) -> Result<Waits, AllocError> {
+) -> Result<Dependencies, AllocError> {
     let mut messages = Messages::of(alloc, acts)?;
-    let mut waits = Waits::new(alloc, acts.len())?;
-    let mut last = [None; MOST_RANKS];
-    for (index, passed) in acts.iter().enumerate() {
-        if let Some(before) = last.get_mut(usize::from(passed.rank)) {
-            if let Some(before) = *before {
-                waits.add(Happening::Act(index), Happening::Act(before))?;
-            }
-            *before = Some(index);
-        }
-        let selector = asked.get(index).and_then(|asked| asked.selector);
-        let found = Found {
+    let mut waits = Dependencies::new(alloc, acts.len())?;
+    add_turns(&mut waits, acts);
+    for index in 0..acts.len() {
+        let passed = &acts[index];
+        let found = SeekingAct {
             ranks,
             rank: passed.rank,
             index,
-            selector,
+            selector: selector_of(asked, index),
         };
-        add_waits(&mut waits, &mut messages, found, &passed.act)?;
+        add_waits(&mut waits, &mut messages, &found, &passed.act);
     }
-    add_lanes(&mut waits, &messages, ranks)?;
+    add_lanes(&mut waits, &messages, ranks);
     Ok(waits)
+}
+
+fn made(act: usize) -> Happening {
+    Happening {
+        act,
+        arrives: false,
+    }
+}
+
+fn arrived(act: usize) -> Happening {
+    Happening { act, arrives: true }
+}
+
+// Each act of a rank waits for the one before it.
+fn add_turns(waits: &mut Dependencies, acts: &[Passed]) {
+    let mut last = [None; MOST_RANKS];
+    for index in 0..acts.len() {
+        let passed = &acts[index];
+        if let Some(before) = last.get_mut(usize::from(passed.rank)) {
+            if let Some(before) = *before {
+                waits.add(made(index), made(before));
+            }
+            *before = Some(index);
+        }
+    }
+}
+
+// What the act of this index names.
+fn selector_of(asked: &[Asked], index: usize) -> Option<Selector> {
+    match asked.get(index) {
+        Some(asked) => asked.selector,
+        None => None,
+    }
 }
 
 // An act that may find a message.
 #[derive(Clone, Copy)]
-struct Found {
+struct SeekingAct {
     ranks: u8,
     rank: u8,
     index: usize,
     selector: Option<Selector>,
 }
 
-fn add_waits(
-    waits: &mut Waits,
-    messages: &mut Messages,
-    found: Found,
-    act: &Act,
-) -> Result<(), AllocError> {
+fn add_waits(waits: &mut Dependencies, messages: &mut Messages, found: &SeekingAct, act: &Act) {
     match act {
-        Act::Sends { .. } => waits.add(
-            Happening::Arrival(found.index),
-            Happening::Act(found.index),
-        ),
+        Act::Sends { .. } => waits.add(arrived(found.index), made(found.index)),
         Act::Takes { source, place } => {
-            add_given(waits, messages, found, *source, *place)?;
+            add_given(waits, messages, found, *source, *place);
             messages.take(*source, found.rank, *place);
-            Ok(())
         }
         Act::Hits { source, place } => add_given(waits, messages, found, *source, *place),
-        Act::Misses => add_others(waits, messages, found, Happening::Act(found.index)),
-        Act::Prints(_) => Ok(()),
+        Act::Misses => add_others(waits, messages, found, made(found.index)),
+        Act::Prints(_) => {}
     }
 }
 
 // The act is given the message at this place of the source.
 fn add_given(
-    waits: &mut Waits,
+    waits: &mut Dependencies,
     messages: &Messages,
-    found: Found,
+    found: &SeekingAct,
     source: u8,
     place: u64,
-) -> Result<(), AllocError> {
-    let Some(send) = messages.send_of(source, found.rank, place) else {
-        return Ok(());
-    };
-    let arrival = Happening::Arrival(send);
-    waits.add(Happening::Act(found.index), arrival)?;
-    add_others(waits, messages, found, arrival)
+) {
+    if let Some(send) = messages.send_of(source, found.rank, place) {
+        waits.add(made(found.index), arrived(send));
+        add_others(waits, messages, found, arrived(send));
+    }
 }
 
 // What the act could have been given arrives behind this.
 fn add_others(
-    waits: &mut Waits,
+    waits: &mut Dependencies,
     messages: &Messages,
-    found: Found,
+    found: &SeekingAct,
     before: Happening,
-) -> Result<(), AllocError> {
+) {
     let Some(selector) = found.selector else {
-        return Ok(());
+        return;
     };
     for source in 0..found.ranks {
         if let Some(send) = messages.first(source, found.rank, &selector) {
-            let other = Happening::Arrival(send);
-            if other != before {
-                waits.add(other, before)?;
+            if !before.arrives || before.act != send {
+                waits.add(arrived(send), before);
             }
         }
     }
-    Ok(())
 }
 
 // Of each rank the messages to another arrive in the order of their sends.
-fn add_lanes(waits: &mut Waits, messages: &Messages, ranks: u8) -> Result<(), AllocError> {
+fn add_lanes(waits: &mut Dependencies, messages: &Messages, ranks: u8) {
     for source in 0..ranks {
         for dest in 0..ranks {
-            for pair in messages.between(source, dest).windows(2) {
-                if let [before, after] = pair {
-                    waits.add(
-                        Happening::Arrival(after.send),
-                        Happening::Arrival(before.send),
-                    )?;
-                }
-            }
+            add_lane(waits, messages.between(source, dest));
         }
     }
-    Ok(())
+}
+
+fn add_lane(waits: &mut Dependencies, lane: &[Message]) {
+    let mut last = None;
+    for message in lane {
+        if let Some(before) = last {
+            waits.add(arrived(message.send), arrived(before));
+        }
+        last = Some(message.send);
+    }
 }

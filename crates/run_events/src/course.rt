@@ -14,6 +14,8 @@ use world_model::{Reply, World, WorldEvent};
 pub struct Course {
     events: Vec<WorldEvent, Heap>,
     pub lives: Vec<Life, Heap>,
+    /// Why it can't be led further; then the world is given nothing more.
+    room: Result<(), PlayFault>,
 }
 
 impl Course {
@@ -30,94 +32,111 @@ impl Course {
             let lines = used_lines(alloc, script, unused, rank)?;
             lives.push(Life::new(lines))?;
         }
-        let events = Vec::new(alloc);
-        Ok(Course { events, lives })
+        Ok(Course {
+            events: Vec::new(alloc),
+            lives,
+            room: Ok(()),
+        })
     }
 
     /// The events, which the world took all.
-    pub fn into_events(self) -> Vec<WorldEvent, Heap> {
-        self.events
+    pub fn into_events(self) -> Result<Vec<WorldEvent, Heap>, PlayFault> {
+        let Course { events, room, .. } = self;
+        match room {
+            Ok(()) => Ok(events),
+            Err(fault) => Err(fault),
+        }
+    }
+
+    /// Whether it can be led further.
+    pub fn goes_on(&self) -> bool {
+        self.room.is_ok()
     }
 
     /// Gives the world an event. It goes on the list if it can happen.
-    pub fn give(&mut self, world: &mut World<'_>, event: WorldEvent) -> Result<Reply, PlayFault> {
-        let reply = world.apply(event)?;
-        if reply != Reply::Refused {
-            if self.events.len() >= MOST_EVENT_LINES {
-                return Err(PlayFault::TooManyEvents);
-            }
-            self.events.push(event)?;
+    pub fn give(&mut self, world: &mut World<'_>, event: WorldEvent) -> Reply {
+        if !self.goes_on() {
+            return Reply::Refused;
         }
-        Ok(reply)
+        match world.apply(event) {
+            Ok(Reply::Refused) => Reply::Refused,
+            Ok(reply) => {
+                self.note(event);
+                reply
+            }
+            Err(_) => {
+                self.room = Err(PlayFault::Memory);
+                Reply::Refused
+            }
+        }
+    }
+
+    fn note(&mut self, event: WorldEvent) {
+        if self.events.len() >= MOST_EVENT_LINES {
+            self.room = Err(PlayFault::TooManyEvents);
+        } else if let Err(_) = self.events.push(event) {
+            self.room = Err(PlayFault::Memory);
+        }
     }
 
     /// The rank makes a step; whether that was an act.
-    pub fn step(&mut self, world: &mut World<'_>, rank: u32) -> Result<bool, PlayFault> {
+    pub fn step(&mut self, world: &mut World<'_>, rank: u32) -> bool {
         let before = clock_of(world, rank);
-        self.give(world, WorldEvent::Step { rank })?;
-        Ok(clock_of(world, rank) != before)
+        let _ = self.give(world, WorldEvent::Step { rank });
+        clock_of(world, rank) != before
     }
 
     /// The next packet of the source arrives that didn't arrive before, behind
     /// all that comes before it on this wire.
-    pub fn deliver(
-        &mut self,
-        world: &mut World<'_>,
-        source: u32,
-        dest: u32,
-    ) -> Result<(), PlayFault> {
-        self.repeat(world, source, dest)?;
-        if self.pass_frame(world, source, dest)?
+    pub fn deliver(&mut self, world: &mut World<'_>, source: u32, dest: u32) {
+        self.repeat(world, source, dest);
+        if self.pass_frame(world, source, dest)
             && let Some(life) = self.lives.get_mut(dest as usize)
         {
             life.count(source);
         }
-        Ok(())
     }
 
     /// What goes from a rank to another arrives, up to the first packet that is
     /// new there: asks, words of an image, and packets that come again.
-    pub fn repeat(
-        &mut self,
-        world: &mut World<'_>,
-        source: u32,
-        dest: u32,
-    ) -> Result<(), PlayFault> {
+    pub fn repeat(&mut self, world: &mut World<'_>, source: u32, dest: u32) {
         let arrived = match self.lives.get(dest as usize) {
             Some(life) => life.arrived(source),
             None => 0,
         };
         // an ask and a word of an image come before the packets
         for _ in 0..arrived.saturating_add(2) {
-            if !is_known(world, source, dest, arrived)? {
-                break;
+            if !self.repeats(world, source, dest, arrived) {
+                return;
             }
-            self.pass_frame(world, source, dest)?;
+            let _ = self.pass_frame(world, source, dest);
         }
-        Ok(())
+    }
+
+    // Whether what goes next isn't new to a rank that has so many packets of the source.
+    fn repeats(&mut self, world: &World<'_>, source: u32, dest: u32, arrived: u32) -> bool {
+        match is_known(world, source, dest, arrived) {
+            Ok(known) => known && self.goes_on(),
+            Err(_) => {
+                self.room = Err(PlayFault::Memory);
+                false
+            }
+        }
     }
 
     // What goes next from a rank to another, if anything does, is put and arrives.
-    fn pass_frame(
-        &mut self,
-        world: &mut World<'_>,
-        source: u32,
-        dest: u32,
-    ) -> Result<bool, PlayFault> {
+    fn pass_frame(&mut self, world: &mut World<'_>, source: u32, dest: u32) -> bool {
         let (Reply::PutData { index, .. }
         | Reply::PutAsk { index, .. }
-        | Reply::PutKept { index, .. }) = self.give(world, WorldEvent::Put { source, dest })?
-        else {
-            return Ok(false);
+        | Reply::PutKept { index, .. }) = self.give(world, WorldEvent::Put { source, dest }) else {
+            return false;
         };
-        self.give(
-            world,
-            WorldEvent::Arrive {
-                source,
-                dest,
-                index,
-            },
-        )?;
-        Ok(true)
+        let arrival = WorldEvent::Arrive {
+            source,
+            dest,
+            index,
+        };
+        let _ = self.give(world, arrival);
+        true
     }
 }

@@ -4,29 +4,33 @@ ghost use Rattle.run_events.specs.Fault.{fault_number};
 ghost use Rattle.run_events.specs.declared.fault.PlayFault.TheVariants.{Memory};
 
 use std::alloc::{AllocError, AllocFailed};
-use thiserror::Error;
+use std::fmt;
 
 /// Why a run gives no events.
-#[derive(Clone, Copy, Debug, Error)]
+#[derive(Clone, Copy, Debug)]
 pub enum PlayFault {
     /// Packets can't arrive in such an order that each rank finds what the run
     /// gives it, if none crashes.
-    #[error("NoOrder")]
     NoOrder,
     /// There would be more than `MOST_EVENT_LINES` of them.
-    #[error("TooManyEvents")]
     TooManyEvents,
     /// A rank would have more than `MOST_EVENTS` events stored.
-    #[error("RowLimit")]
     RowLimit,
     /// There was no memory.
-    #[error("out of memory")]
     Memory,
     /// The lines of the script that the run used can't be used in this way along
     /// the run that was found.
-    #[error("ScriptUnmet")]
     ScriptUnmet,
 }
+
+/// The names of faults, in the order of their numbers.
+const NAMES: [&str; 5] = [
+    "NoOrder",
+    "TooManyEvents",
+    "RowLimit",
+    "out of memory",
+    "ScriptUnmet",
+];
 
 impl PlayFault {
     /// The number that the program's messages name, 1 to 5.
@@ -40,6 +44,12 @@ impl PlayFault {
             PlayFault::Memory => 4,
             PlayFault::ScriptUnmet => 5,
         }
+    }
+}
+
+impl fmt::Display for PlayFault {
+    fn fmt<W: fmt::Write>(&self, f: &mut fmt::Formatter<W>) -> fmt::Result {
+        f.write_str(NAMES[*self as usize])
     }
 }
 

@@ -35,37 +35,53 @@ fn lane_of(source: u8, dest: u8) -> usize {
         .saturating_add(usize::from(dest))
 }
 
+// A lane from each rank to each.
+fn lanes_of(alloc: Heap) -> Result<Vec<Lane, Heap>, AllocError> {
+    let mut lanes = Vec::new(alloc);
+    for _ in 0..MOST_RANKS * MOST_RANKS {
+        lanes.push(Lane {
+            messages: Vec::new(alloc),
+            taken: 0,
+        })?;
+    }
+    Ok(lanes)
+}
+
+// The index of a place from 1; none is at place 0.
+fn index_of(place: u64) -> usize {
+    place.wrapping_sub(1) as usize
+}
+
 impl Messages {
     /// The messages that these acts send, none of them taken.
     pub fn of(alloc: Heap, acts: &[Passed]) -> Result<Messages, AllocError> {
-        let mut lanes = Vec::new(alloc);
-        for _ in 0..MOST_RANKS * MOST_RANKS {
-            lanes.push(Lane {
-                messages: Vec::new(alloc),
-                taken: 0,
-            })?;
-        }
+        let lanes = lanes_of(alloc)?;
         let mut messages = Messages { lanes };
-        for (send, passed) in acts.iter().enumerate() {
-            match &passed.act {
-                Act::Sends {
-                    dest,
-                    context,
-                    tag,
-                    ..
-                } => {
-                    let message = Message {
-                        send,
-                        context: *context,
-                        tag: *tag,
-                        taken: false,
-                    };
-                    messages.add(passed.rank, *dest, message)?;
-                }
-                Act::Takes { .. } | Act::Hits { .. } | Act::Misses | Act::Prints(_) => {}
-            }
+        for send in 0..acts.len() {
+            messages.note(send, &acts[send])?;
         }
         Ok(messages)
+    }
+
+    // Notes what the act of this index sends.
+    fn note(&mut self, send: usize, passed: &Passed) -> Result<(), AllocError> {
+        match &passed.act {
+            Act::Sends {
+                dest,
+                context,
+                tag,
+                ..
+            } => {
+                let message = Message {
+                    send,
+                    context: *context,
+                    tag: *tag,
+                    taken: false,
+                };
+                self.add(passed.rank, *dest, message)
+            }
+            Act::Takes { .. } | Act::Hits { .. } | Act::Misses | Act::Prints(_) => Ok(()),
+        }
     }
 
     fn add(&mut self, source: u8, dest: u8, message: Message) -> Result<(), AllocError> {
@@ -77,23 +93,26 @@ impl Messages {
 
     /// The act that sent the message at this place, from 1, of the source to the rank.
     pub fn send_of(&self, source: u8, dest: u8, place: u64) -> Option<usize> {
-        let lane = self.lanes.get(lane_of(source, dest))?;
-        let index = usize::try_from(place.checked_sub(1)?).ok()?;
-        Some(lane.messages.get(index)?.send)
+        match self.between(source, dest).get(index_of(place)) {
+            Some(message) => Some(message.send),
+            None => None,
+        }
     }
 
     /// The act that sends the first message of the source to the rank that
     /// matches and isn't taken, at any time of the run.
     pub fn first(&self, source: u8, dest: u8, selector: &Selector) -> Option<usize> {
-        if selector.source.is_some_and(|named| named != source) {
-            return None;
+        match selector.source {
+            Some(named) if named != source => return None,
+            Some(_) | None => {}
         }
         let lane = self.lanes.get(lane_of(source, dest))?;
-        lane.messages
-            .iter()
-            .skip(lane.taken)
-            .find(|message| is_match(message, selector))
-            .map(|message| message.send)
+        for message in lane.messages.get(lane.taken..).unwrap_or(&[]) {
+            if is_match(message, selector) {
+                return Some(message.send);
+            }
+        }
+        None
     }
 
     /// The messages of the source to the rank, the first one first.
@@ -114,25 +133,24 @@ impl Messages {
 
 impl Lane {
     fn take(&mut self, place: u64) {
-        if let Some(index) = place
-            .checked_sub(1)
-            .and_then(|index| usize::try_from(index).ok())
-        {
-            if let Some(message) = self.messages.get_mut(index) {
-                message.taken = true;
-            }
+        if let Some(message) = self.messages.get_mut(index_of(place)) {
+            message.taken = true;
         }
         for _ in 0..self.messages.len() {
             match self.messages.get(self.taken) {
                 Some(message) if message.taken => self.taken = self.taken.saturating_add(1),
-                Some(_) | None => break,
+                Some(_) | None => return,
             }
         }
     }
 }
 
 fn is_match(message: &Message, selector: &Selector) -> bool {
-    !message.taken
-        && message.context == selector.context
-        && selector.tag.is_none_or(|tag| tag == message.tag)
+    if message.taken || message.context != selector.context {
+        return false;
+    }
+    match selector.tag {
+        Some(tag) => tag == message.tag,
+        None => true,
+    }
 }

@@ -4,13 +4,12 @@ use crate::fault::PlayFault;
 use limits::Heap;
 use std::alloc::AllocError;
 
-/// What happens in a world that plays a run.
-#[derive(Clone, Copy, PartialEq, Eq)]
-pub enum Happening {
-    /// The act of this index is made.
-    Act(usize),
-    /// The message that the act of this index sends arrives.
-    Arrival(usize),
+/// What happens in a world that plays a run: the act of this index is made, or the message that it
+/// sends arrives.
+#[derive(Clone, Copy)]
+pub struct Happening {
+    pub act: usize,
+    pub arrives: bool,
 }
 
 // How far an order has come with something that happens.
@@ -38,128 +37,124 @@ struct Wait {
 
 /// What waits for what.
 #[derive(Drop)]
-pub struct Waits {
-    acts: Vec<Point, Heap>,
-    arrivals: Vec<Point, Heap>,
+pub struct Dependencies {
+    // of each act, and behind it of the arrival of what it sends
+    points: Vec<Point, Heap>,
     waits: Vec<Wait, Heap>,
     // what is begun, each for the sake of the one below it
     begun: Vec<Happening, Heap>,
     order: Vec<Happening, Heap>,
+    /// Why there is no order, the first that was found.
+    room: Result<(), PlayFault>,
 }
 
-impl Waits {
+fn place_of(happening: Happening) -> usize {
+    happening
+        .act
+        .saturating_mul(2)
+        .saturating_add(usize::from(happening.arrives))
+}
+
+impl Dependencies {
     /// Of so many acts none waits.
-    pub fn new(alloc: Heap, acts: usize) -> Result<Waits, AllocError> {
+    pub fn new(alloc: Heap, acts: usize) -> Result<Dependencies, AllocError> {
         let point = Point {
             stage: Stage::Open,
             wait: None,
         };
-        Ok(Waits {
-            acts: vec![in alloc; point; acts]?,
-            arrivals: vec![in alloc; point; acts]?,
+        let points = vec![in alloc; point; acts.saturating_mul(2)]?;
+        Ok(Dependencies {
+            points,
             waits: Vec::new(alloc),
             begun: Vec::new(alloc),
             order: Vec::new(alloc),
+            room: Ok(()),
         })
     }
 
+    fn fail(&mut self, fault: PlayFault) {
+        if self.room.is_ok() {
+            self.room = Err(fault);
+        }
+    }
+
     /// The one waits for the other.
-    pub fn add(&mut self, after: Happening, before: Happening) -> Result<(), AllocError> {
-        let Some(mut point) = self.point(after) else {
-            return Ok(());
+    pub fn add(&mut self, after: Happening, before: Happening) {
+        let wait = self.waits.len();
+        let Some(point) = self.points.get_mut(place_of(after)) else {
+            return;
         };
         let next = point.wait;
-        point.wait = Some(self.waits.len());
-        self.waits.push(Wait { before, next })?;
-        self.put(after, point);
-        Ok(())
+        point.wait = Some(wait);
+        if let Err(_) = self.waits.push(Wait { before, next }) {
+            self.fail(PlayFault::Memory);
+        }
     }
 
     /// All acts, as far as can be in their order, with the arrivals that they
     /// wait for, none before what it waits for itself. There is no such order
     /// where something waits for itself, through others.
     pub fn ordered(mut self) -> Result<Vec<Happening, Heap>, PlayFault> {
-        for act in 0..self.acts.len() {
-            self.place(Happening::Act(act))?;
+        for act in 0..self.points.len() / 2 {
+            self.place(act);
         }
-        Ok(self.order)
+        let Dependencies { order, room, .. } = self;
+        match room {
+            Ok(()) => Ok(order),
+            Err(fault) => Err(fault),
+        }
     }
 
-    // Places this, and before it what it waits for.
-    fn place(&mut self, wanted: Happening) -> Result<(), PlayFault> {
-        self.begin(wanted)?;
+    // Places this act, and before it what it waits for.
+    fn place(&mut self, act: usize) {
+        self.begin(Happening {
+            act,
+            arrives: false,
+        });
         // each turn looks at a wait, or places what is begun
-        let turns = self
-            .waits
-            .len()
-            .saturating_add(self.acts.len())
-            .saturating_add(self.arrivals.len());
-        for _ in 0..turns {
+        for _ in 0..self.waits.len().saturating_add(self.points.len()) {
             let Some(last) = self.begun.last().copied() else {
-                break;
+                return;
             };
             match self.next_wait(last) {
-                Some(before) => self.begin(before)?,
-                None => {
-                    self.begun.pop();
-                    self.end(last)?;
+                Some(before) => self.begin(before),
+                None => self.end(last),
+            }
+        }
+    }
+
+    fn begin(&mut self, wanted: Happening) {
+        let Some(point) = self.points.get_mut(place_of(wanted)) else {
+            return;
+        };
+        match point.stage {
+            Stage::Placed => {}
+            Stage::Begun => self.fail(PlayFault::NoOrder),
+            Stage::Open => {
+                point.stage = Stage::Begun;
+                if let Err(_) = self.begun.push(wanted) {
+                    self.fail(PlayFault::Memory);
                 }
             }
         }
-        Ok(())
     }
 
-    fn begin(&mut self, wanted: Happening) -> Result<(), PlayFault> {
-        let Some(mut point) = self.point(wanted) else {
-            return Ok(());
-        };
-        match point.stage {
-            Stage::Placed => Ok(()),
-            Stage::Begun => Err(PlayFault::NoOrder),
-            Stage::Open => {
-                point.stage = Stage::Begun;
-                self.put(wanted, point);
-                self.begun.push(wanted)?;
-                Ok(())
-            }
-        }
-    }
-
-    fn end(&mut self, wanted: Happening) -> Result<(), AllocError> {
-        if let Some(mut point) = self.point(wanted) {
+    // What is begun last is placed.
+    fn end(&mut self, last: Happening) {
+        let _ = self.begun.pop();
+        if let Some(point) = self.points.get_mut(place_of(last)) {
             point.stage = Stage::Placed;
-            self.put(wanted, point);
         }
-        self.order.push(wanted)?;
-        Ok(())
+        if let Err(_) = self.order.push(last) {
+            self.fail(PlayFault::Memory);
+        }
     }
 
     // What this waits for that wasn't looked at yet.
     fn next_wait(&mut self, wanted: Happening) -> Option<Happening> {
-        let mut point = self.point(wanted)?;
+        let point = self.points.get_mut(place_of(wanted))?;
         let wait = *self.waits.get(point.wait?)?;
         point.wait = wait.next;
-        self.put(wanted, point);
         Some(wait.before)
-    }
-
-    fn point(&self, wanted: Happening) -> Option<Point> {
-        match wanted {
-            Happening::Act(act) => self.acts.get(act).copied(),
-            Happening::Arrival(send) => self.arrivals.get(send).copied(),
-        }
-    }
-
-    fn put(&mut self, wanted: Happening, point: Point) {
-        match wanted {
-            Happening::Act(act) => put_at(&mut self.acts, act, point),
-            Happening::Arrival(send) => put_at(&mut self.arrivals, send, point),
-        }
-    }
-}
-
-fn put_at(points: &mut Vec<Point, Heap>, at: usize, point: Point) {
-    if let Some(kept) = points.get_mut(at) {
-        *kept = point;
     }
 }

@@ -26,70 +26,62 @@ pub fn plan_of(alloc: Heap, program: &Program, ranks: u8, run: &Sim<'_>) -> Resu
     let asked = asked_of(alloc, program, ranks, run)?;
     let order = waits_of(alloc, ranks, acts, asked.acts.as_slice())?.ordered()?;
     let mut events = Events::new(alloc);
-    for happening in order.iter() {
-        write(&mut events, acts, &asked, *happening)?;
+    for happening in &order {
+        if let Some(passed) = acts.get(happening.act) {
+            write(&mut events, passed, &asked, *happening);
+        }
     }
-    write_ends(&mut events, run, &asked)?;
-    Ok(events.into_plan())
+    write_ends(&mut events, run, &asked);
+    events.into_plan()
 }
 
-fn write(
-    events: &mut Events,
-    acts: &[Passed],
-    asked: &AskedAll,
-    happening: Happening,
-) -> Result<(), PlayFault> {
-    match happening {
-        Happening::Act(index) => match acts.get(index) {
-            Some(passed) => {
-                let steps = asked.acts.get(index).map_or(0, |asked| asked.steps);
-                write_act(events, passed, steps)
-            }
-            None => Ok(()),
-        },
-        Happening::Arrival(index) => match acts.get(index) {
-            Some(passed) => write_arrival(events, passed),
-            None => Ok(()),
-        },
+fn write(events: &mut Events, passed: &Passed, asked: &AskedAll, happening: Happening) {
+    if happening.arrives {
+        return write_arrival(events, passed);
     }
+    let steps = match asked.acts.get(happening.act) {
+        Some(asked) => asked.steps,
+        None => 0,
+    };
+    write_act(events, passed, steps);
 }
 
 // The act, behind so many steps of its rank's own.
-fn write_act(events: &mut Events, passed: &Passed, steps: u32) -> Result<(), PlayFault> {
+fn write_act(events: &mut Events, passed: &Passed, steps: u32) {
     let rank = passed.rank;
+    let steps = steps.saturating_add(1);
     match &passed.act {
-        Act::Misses => {}
-        Act::Sends { .. } | Act::Takes { .. } | Act::Hits { .. } | Act::Prints(_) => {
-            events.store_misses(rank)?;
-        }
-    }
-    events.step(rank, steps.saturating_add(1))?;
-    match &passed.act {
-        Act::Takes { .. } | Act::Hits { .. } => events.store(rank),
         Act::Misses => {
+            events.step(rank, steps);
             events.miss(rank);
-            Ok(())
         }
-        Act::Sends { .. } | Act::Prints(_) => Ok(()),
+        Act::Takes { .. } | Act::Hits { .. } => {
+            events.store_misses(rank);
+            events.step(rank, steps);
+            events.store(rank);
+        }
+        Act::Sends { .. } | Act::Prints(_) => {
+            events.store_misses(rank);
+            events.step(rank, steps);
+        }
     }
 }
 
-fn write_arrival(events: &mut Events, passed: &Passed) -> Result<(), PlayFault> {
+fn write_arrival(events: &mut Events, passed: &Passed) {
     match &passed.act {
         Act::Sends { dest, .. } => events.arrive(passed.rank, *dest),
-        Act::Takes { .. } | Act::Hits { .. } | Act::Misses | Act::Prints(_) => Ok(()),
+        Act::Takes { .. } | Act::Hits { .. } | Act::Misses | Act::Prints(_) => {}
     }
 }
 
 // What each rank does behind its last act, and one step more where it has ended or waits.
-fn write_ends(events: &mut Events, run: &Sim<'_>, asked: &AskedAll) -> Result<(), PlayFault> {
+fn write_ends(events: &mut Events, run: &Sim<'_>, asked: &AskedAll) {
     for rank in 0..run.ranks() {
-        events.store_misses(rank)?;
+        events.store_misses(rank);
         let steps = asked.rests.get(usize::from(rank)).copied().unwrap_or(0);
-        events.step(rank, steps)?;
+        events.step(rank, steps);
         if is_over(run, rank) {
-            events.step(rank, 1)?;
+            events.step(rank, 1);
         }
     }
-    Ok(())
 }

@@ -33,31 +33,28 @@ pub fn revived(
 {
     let mut course = Course::new(alloc, ranks, script, unused)?;
     let mut world = World::new(alloc, program, ranks)?;
-    let followed = follow(&mut course, &mut world, plan);
+    follow(&mut course, &mut world, plan);
     world.close();
-    followed?;
-    Ok(course.into_events())
+    course.into_events()
 }
 
 // The world is led along the plan.
-fn follow(
-    course: &mut Course,
-    world: &mut World<'_>,
-    plan: &[WorldEvent],
-) -> Result<(), PlayFault> {
-    for (place, event) in plan.iter().enumerate() {
-        match *event {
+fn follow(course: &mut Course, world: &mut World<'_>, plan: &[WorldEvent]) {
+    for place in 0..plan.len() {
+        if !course.goes_on() {
+            return;
+        }
+        match plan[place] {
             WorldEvent::Step { rank } => {
-                let order = step(course, world, rank, place)?;
-                if order == Some(Order::Kill) {
-                    revive(course, world, rank, plan, place)?;
+                if step(course, world, rank, place) {
+                    revive(course, world, rank, plan, place);
                 }
             }
-            WorldEvent::Arrive { source, dest, .. } => course.deliver(world, source, dest)?,
+            WorldEvent::Arrive { source, dest, .. } => course.deliver(world, source, dest),
             WorldEvent::Store { rank } if loses_misses(course, world, rank) => {}
             // refused where it was done before, or wasn't to be done
             WorldEvent::Store { .. } | WorldEvent::Ack { .. } => {
-                course.give(world, *event)?;
+                let _ = course.give(world, plan[place]);
             }
             // what arrives is put first
             WorldEvent::Put { .. } => {}
@@ -68,7 +65,6 @@ fn follow(
             | WorldEvent::Release { .. } => {}
         }
     }
-    Ok(())
 }
 
 // Whether the rank is killed with its next act, and nothing but misses waits. On
@@ -81,43 +77,36 @@ fn loses_misses(course: &Course, world: &World<'_>, rank: u32) -> bool {
     }
 }
 
-// The step at this place of the plan: the line of the script that is used with
-// it. An image is taken at once.
-fn step(
-    course: &mut Course,
-    world: &mut World<'_>,
-    rank: u32,
-    place: usize,
-) -> Result<Option<Order>, PlayFault> {
-    if !course.step(world, rank)? {
-        return Ok(None);
+// The step at this place of the plan: whether a line of the script kills the rank
+// with it. An image is taken at once.
+fn step(course: &mut Course, world: &mut World<'_>, rank: u32, place: usize) -> bool {
+    if !course.step(world, rank) {
+        return false;
     }
     let clock = clock_of(world, rank);
     let may_image = is_running(world, rank);
-    let order = match course.lives.get_mut(rank as usize) {
-        Some(life) => life.order_at(clock, may_image),
-        None => None,
+    let Some(life) = course.lives.get_mut(rank as usize) else {
+        return false;
     };
-    if order == Some(Order::Image) {
-        image(course, world, rank, place)?;
+    match life.order_at(clock, may_image) {
+        Some(Order::Kill) => true,
+        Some(Order::Image) => {
+            image(course, world, rank, place);
+            false
+        }
+        None => false,
     }
-    Ok(order)
 }
 
 // What waits at the rank's gate passes, and it takes an image, of which the
 // others hear.
-fn image(
-    course: &mut Course,
-    world: &mut World<'_>,
-    rank: u32,
-    place: usize,
-) -> Result<(), PlayFault> {
-    settle(course, world, rank)?;
-    course.give(world, WorldEvent::Image { rank })?;
+fn image(course: &mut Course, world: &mut World<'_>, rank: u32, place: usize) {
+    settle(course, world, rank);
+    let _ = course.give(world, WorldEvent::Image { rank });
     if let Some(life) = course.lives.get_mut(rank as usize) {
         life.image(place);
     }
-    repeat_all(course, world, rank)
+    repeat_all(course, world, rank);
 }
 
 // The rank crashes, and comes to this place of the plan again. It may be killed
@@ -128,41 +117,40 @@ fn revive(
     rank: u32,
     plan: &[WorldEvent],
     place: usize,
-) -> Result<(), PlayFault> {
+) {
     for _ in 0..MOST_SCRIPT_LINES {
-        let begin = restart(course, world, rank)?;
-        if again(course, world, rank, plan, begin, place)? {
+        let begin = restart(course, world, rank);
+        if again(course, world, rank, plan, begin, place) {
             break;
         }
     }
     if !misses_only(world, rank) {
-        settle(course, world, rank)?;
+        settle(course, world, rank);
     }
-    repeat_all(course, world, rank)
+    repeat_all(course, world, rank);
 }
 
 // What waits at the rank's gate is stored, acknowledged and released. That is at
 // most an act, and misses before it.
-fn settle(course: &mut Course, world: &mut World<'_>, rank: u32) -> Result<(), PlayFault> {
+fn settle(course: &mut Course, world: &mut World<'_>, rank: u32) {
     for _ in 0..2 {
-        course.give(world, WorldEvent::Store { rank })?;
-        course.give(world, WorldEvent::Ack { rank })?;
-        course.give(world, WorldEvent::Release { rank })?;
+        let _ = course.give(world, WorldEvent::Store { rank });
+        let _ = course.give(world, WorldEvent::Ack { rank });
+        let _ = course.give(world, WorldEvent::Release { rank });
     }
-    Ok(())
 }
 
 // The rank crashes and starts again, and the others hear what it asks for: the
 // place in the plan from which on it does all again.
-fn restart(course: &mut Course, world: &mut World<'_>, rank: u32) -> Result<usize, PlayFault> {
-    course.give(world, WorldEvent::Crash { rank })?;
-    course.give(world, WorldEvent::Restart { rank })?;
+fn restart(course: &mut Course, world: &mut World<'_>, rank: u32) -> usize {
+    let _ = course.give(world, WorldEvent::Crash { rank });
+    let _ = course.give(world, WorldEvent::Restart { rank });
     let begin = match course.lives.get_mut(rank as usize) {
         Some(life) => life.restart(),
         None => 0,
     };
-    repeat_all(course, world, rank)?;
-    Ok(begin)
+    repeat_all(course, world, rank);
+    begin
 }
 
 // What the plan has for the rank from the one place to the other comes again;
@@ -174,19 +162,19 @@ fn again(
     plan: &[WorldEvent],
     begin: usize,
     end: usize,
-) -> Result<bool, PlayFault> {
-    for (place, event) in plan.iter().enumerate().skip(begin) {
+) -> bool {
+    for place in begin..plan.len() {
         if place > end {
             break;
         }
-        match *event {
+        match plan[place] {
             WorldEvent::Step { rank: of } if of == rank => {
-                if step(course, world, rank, place)? == Some(Order::Kill) {
-                    return Ok(false);
+                if step(course, world, rank, place) {
+                    return false;
                 }
             }
             WorldEvent::Arrive { source, dest, .. } if dest == rank => {
-                course.deliver(world, source, dest)?;
+                course.deliver(world, source, dest);
             }
             // of others; or it was stored, and is replayed
             WorldEvent::Step { .. }
@@ -201,13 +189,12 @@ fn again(
             | WorldEvent::Release { .. } => {}
         }
     }
-    Ok(true)
+    true
 }
 
 // What isn't new goes from the rank to each.
-fn repeat_all(course: &mut Course, world: &mut World<'_>, rank: u32) -> Result<(), PlayFault> {
+fn repeat_all(course: &mut Course, world: &mut World<'_>, rank: u32) {
     for dest in 0..world.ranks() {
-        course.repeat(world, rank, u32::from(dest))?;
+        course.repeat(world, rank, u32::from(dest));
     }
-    Ok(())
 }

@@ -25,6 +25,8 @@ struct Writer {
 pub struct Events {
     plan: Plan,
     writers: [Writer; MOST_RANKS],
+    /// Why there are no events, the first that was found.
+    room: Result<(), PlayFault>,
 }
 
 impl Events {
@@ -38,34 +40,50 @@ impl Events {
         Events {
             plan: Plan::new(alloc),
             writers: [writer; MOST_RANKS],
+            room: Ok(()),
+        }
+    }
+
+    fn fail(&mut self, fault: PlayFault) {
+        if self.room.is_ok() {
+            self.room = Err(fault);
         }
     }
 
     /// The plan.
-    pub fn into_plan(self) -> Plan {
-        self.plan
+    pub fn into_plan(self) -> Result<Plan, PlayFault> {
+        let Events { plan, room, .. } = self;
+        match room {
+            Ok(()) => Ok(plan),
+            Err(fault) => Err(fault),
+        }
+    }
+
+    fn add(&mut self, event: WorldEvent, times: u32) {
+        if let Err(_) = self.plan.add(event, times) {
+            self.fail(PlayFault::Memory);
+        }
     }
 
     /// The rank makes so many steps.
-    pub fn step(&mut self, rank: u8, steps: u32) -> Result<(), PlayFault> {
+    pub fn step(&mut self, rank: u8, steps: u32) {
         let rank = u32::from(rank);
-        self.plan.add(WorldEvent::Step { rank }, steps)?;
-        Ok(())
+        self.add(WorldEvent::Step { rank }, steps);
     }
 
     /// The next message of the source to the rank arrives.
-    pub fn arrive(&mut self, source: u8, dest: u8) -> Result<(), PlayFault> {
-        let Some(index) = self.next_frame(source, dest) else {
-            return Ok(());
-        };
-        let source = u32::from(source);
-        let dest = u32::from(dest);
-        self.push(WorldEvent::Put { source, dest })?;
-        self.push(WorldEvent::Arrive {
-            source,
-            dest,
-            index,
-        })
+    pub fn arrive(&mut self, source: u8, dest: u8) {
+        if let Some(index) = self.next_frame(source, dest) {
+            let source = u32::from(source);
+            let dest = u32::from(dest);
+            self.add(WorldEvent::Put { source, dest }, 1);
+            let arrival = WorldEvent::Arrive {
+                source,
+                dest,
+                index,
+            };
+            self.add(arrival, 1);
+        }
     }
 
     fn next_frame(&mut self, source: u8, dest: u8) -> Option<u64> {
@@ -84,36 +102,27 @@ impl Events {
     }
 
     /// What the rank missed last is stored and acknowledged.
-    pub fn store_misses(&mut self, rank: u8) -> Result<(), PlayFault> {
-        let missed = match self.writers.get_mut(usize::from(rank)) {
-            Some(writer) => {
-                let missed = writer.missed;
-                writer.missed = false;
-                missed
-            }
-            None => false,
+    pub fn store_misses(&mut self, rank: u8) {
+        let Some(writer) = self.writers.get_mut(usize::from(rank)) else {
+            return;
         };
-        if missed {
-            self.store(rank)?;
+        if writer.missed {
+            writer.missed = false;
+            self.store(rank);
         }
-        Ok(())
     }
 
     /// The rank's event is stored and acknowledged.
-    pub fn store(&mut self, rank: u8) -> Result<(), PlayFault> {
-        if let Some(writer) = self.writers.get_mut(usize::from(rank)) {
-            if writer.stored >= MOST_EVENTS {
-                return Err(PlayFault::RowLimit);
-            }
-            writer.stored = writer.stored.saturating_add(1);
+    pub fn store(&mut self, rank: u8) {
+        let Some(writer) = self.writers.get_mut(usize::from(rank)) else {
+            return;
+        };
+        writer.stored = writer.stored.saturating_add(1);
+        if writer.stored > MOST_EVENTS {
+            self.fail(PlayFault::RowLimit);
         }
         let rank = u32::from(rank);
-        self.push(WorldEvent::Store { rank })?;
-        self.push(WorldEvent::Ack { rank })
-    }
-
-    fn push(&mut self, event: WorldEvent) -> Result<(), PlayFault> {
-        self.plan.add(event, 1)?;
-        Ok(())
+        self.add(WorldEvent::Store { rank }, 1);
+        self.add(WorldEvent::Ack { rank }, 1);
     }
 }

@@ -38,8 +38,8 @@ use Rattle.runner.specs.Reasons.{IsUnplayed, IsUnread, IsUnreadBy, IsUntold, IsW
 use Rattle.runner.specs.Reasons.{of_play, of_run, of_script}
 use Rattle.runner.specs.declared.commands.refusal.Refusal.{Refusal}
 use Rattle.runner.specs.declared.commands.refusal.Refusal.TheVariants as refusal
-use Rattle.runner.specs.declared.commands.world.Wanted.{Wanted}
-use Rattle.runner.specs.declared.commands.world.Wanted.TheVariants as wanted
+use Rattle.runner.specs.declared.commands.world.WorldQuestion.{WorldQuestion}
+use Rattle.runner.specs.declared.commands.world.WorldQuestion.TheVariants as wanted
 use Rattle.world_model.specs.EventsText.Events.{events_of}
 use Rattle.bare_world.specs.declared.event.WorldEvent.{WorldEvent}
 use Rattle.bare_world.specs.World.{WorldValue}
@@ -173,32 +173,32 @@ untold_events fault refused told other = inr (fault, told)
 -- ---- a world
 
 -- its program isn't read
-pub world_of_program : (holds : List ℕ → List ℕ → Type 0) (job : WorldJob) (wants : Wanted) (refused : Refusal)
+pub world_of_program : (holds : List ℕ → List ℕ → Type 0) (job : WorldJob) (wants : WorldQuestion) (refused : Refusal)
     → UnlessMemory (IsProgramRefusal holds job.program) refused
     → UnlessMemory (IsWorldRefusal holds job wants) refused
 world_of_program holds job wants refused is other = IsWorldRefusal.world_program (is other)
 
 -- the file of its program can't be read
-pub world_unread : (holds : List ℕ → List ℕ → Type 0) (job : WorldJob) (wants : Wanted) (refused : Refusal) → UnlessMemory (IsUnread job.program) refused
+pub world_unread : (holds : List ℕ → List ℕ → Type 0) (job : WorldJob) (wants : WorldQuestion) (refused : Refusal) → UnlessMemory (IsUnread job.program) refused
     → UnlessMemory (IsWorldRefusal holds job wants) refused
 world_unread holds job wants refused is other = IsWorldRefusal.world_program (inl (is other))
 
 -- its program has a fault
-pub world_faulty : {T : Type 0} (holds : List ℕ → List ℕ → Type 0) (job : WorldJob) (wants : Wanted) (text : List ℕ) (answer : Result T ParseFault) (fault : ParseFault) (refused : Refusal)
+pub world_faulty : {T : Type 0} (holds : List ℕ → List ℕ → Type 0) (job : WorldJob) (wants : WorldQuestion) (text : List ℕ) (answer : Result T ParseFault) (fault : ParseFault) (refused : Refusal)
     → holds job.program.now text → answer ≡ Err fault → ((f : ProgramFault) → answer ≡ Err (parse.Fault f) → IsFaultOf text f.line f.kind)
     → refused ≡ of_parse fault → UnlessMemory (IsWorldRefusal holds job wants) refused
 world_faulty holds job wants text answer fault refused held is first told other =
     IsWorldRefusal.world_program (faulty_program (holds job.program.now) job.program text answer fault refused held is first told other)
 
 -- its events, which are read once the program is, aren't
-pub world_of_events : (holds held : List ℕ → List ℕ → Type 0) (job : WorldJob) (wants : Wanted) (refused : Refusal)
+pub world_of_events : (holds held : List ℕ → List ℕ → Type 0) (job : WorldJob) (wants : WorldQuestion) (refused : Refusal)
     → ((file text : List ℕ) → holds file text → held file text) → UnlessMemory (IsEventsRefusal holds job.events) refused
     → UnlessMemory (IsWorldRefusal held job wants) refused
 world_of_events holds held job wants refused kept is other =
     IsWorldRefusal.world_unplayed (inl (events_before holds held job.events refused kept (is other)))
 
 -- it isn't played
-pub world_not_played : (holds held : List ℕ → List ℕ → Type 0) (job : WorldJob) (wants : Wanted) (refused : Refusal)
+pub world_not_played : (holds held : List ℕ → List ℕ → Type 0) (job : WorldJob) (wants : WorldQuestion) (refused : Refusal)
     → ((file text : List ℕ) → holds file text → held file text) → UnlessMemory (IsUnplayed holds job wants) refused
     → UnlessMemory (IsWorldRefusal held job wants) refused
 world_not_played holds held job wants refused kept is other = IsWorldRefusal.world_unplayed (before (is other))
@@ -208,13 +208,13 @@ world_not_played holds held job wants refused kept is other = IsWorldRefusal.wor
     before (inr ends) = inr ends
 
 -- since its events aren't read
-pub unplayed_events : (holds : List ℕ → List ℕ → Type 0) (job : WorldJob) (wants : Wanted) (refused : Refusal)
+pub unplayed_events : (holds : List ℕ → List ℕ → Type 0) (job : WorldJob) (wants : WorldQuestion) (refused : Refusal)
     → UnlessMemory (IsEventsRefusal holds job.events) refused
     → UnlessMemory (IsUnplayed holds job wants) refused
 unplayed_events holds job wants refused is other = inl (is other)
 
 -- or it isn't led to its end
-pub unplayed_end : (holds : List ℕ → List ℕ → Type 0) (job : WorldJob) (wants : Wanted) (refused : Refusal) → UnlessMemory (HasNoEnd wants) refused
+pub unplayed_end : (holds : List ℕ → List ℕ → Type 0) (job : WorldJob) (wants : WorldQuestion) (refused : Refusal) → UnlessMemory (HasNoEnd wants) refused
     → UnlessMemory (IsUnplayed holds job wants) refused
 unplayed_end holds job wants refused is other = inr (is other)
 

@@ -10,7 +10,8 @@ use Rattle.rank_language.specs.Program.{ProgramValue}
 use Rattle.runner.specs.Safety.{IsHalting, IsVerdict, is_send, sends_at}
 use Rattle.runner.specs.Waits.{IsEmpty, WaitWith, waits_somewhere}
 use Rattle.runner.specs.declared.explored.safety.Safety.TheVariants as safety
-use Rattle.runner.specs.declared.explored.safety.Waits.{Waits}
+use Rattle.runner.specs.declared.explored.safety.Unknown.TheVariants as unknown
+use Rattle.runner.specs.declared.explored.safety.WaitingRanks.{WaitingRanks}
 
 -- none of the statements before this one is a send
 abbrev pub NoneSends : List Line → ℕ → Type 0
@@ -46,9 +47,24 @@ one_sends (line ∷ lines) (suc at) it = or_right (is_send line) (one_sends line
     or_right false e = e
 
 -- who waits in a run that has one of the outcomes, if some do, says that the program isn't safe
-pub is_not_safe : (lines : List ℕ) (program : ProgramValue) (n : ℕ) (found : ExploredValue) (outcome : List RankOutcome) (waits : Waits)
+pub is_not_safe : (lines : List ℕ) (program : ProgramValue) (n : ℕ) (found : ExploredValue) (outcome : List RankOutcome) (waits : WaitingRanks)
     → (IsHalting found → ⊥) → waits_somewhere found ≡ true → IsAmong found.outcomes outcome → WaitWith program n lines outcome waits ⊎ IsEmpty waits
     → IsVerdict lines program n found (safety.NotSafe waits)
 is_not_safe lines program n found outcome waits unhalted some among (inl wait) =
     IsVerdict.waiting unhalted some (record { outcome = outcome; found = among; wait = wait })
 is_not_safe lines program n found outcome waits unhalted some among (inr empty) = IsVerdict.unseen unhalted some empty
+
+-- if all was found and each rank halts, it is safe
+pub is_safe : (lines : List ℕ) (program : ProgramValue) (n : ℕ) (found : ExploredValue) → IsHalting found
+    → IsVerdict lines program n found safety.Safe
+is_safe lines program n found halting = IsVerdict.is_safe halting
+
+-- if all was found and none waits in its send, it isn't known, as some rank doesn't halt
+pub is_unhalted : (lines : List ℕ) (program : ProgramValue) (n : ℕ) (found : ExploredValue) → (IsHalting found → ⊥)
+    → waits_somewhere found ≡ false → found.complete ≡ true → IsVerdict lines program n found (safety.Unknown unknown.Unhalted)
+is_unhalted lines program n found unhalted none complete = IsVerdict.unhalted unhalted none complete
+
+-- nor if not all was found, as the search came to a limit
+pub is_stopped : (lines : List ℕ) (program : ProgramValue) (n : ℕ) (found : ExploredValue) → (IsHalting found → ⊥)
+    → waits_somewhere found ≡ false → found.complete ≡ false → IsVerdict lines program n found (safety.Unknown unknown.Stopped)
+is_stopped lines program n found unhalted none stopped = IsVerdict.stopped unhalted none stopped

@@ -1,5 +1,5 @@
 -- How what is said of a search is an answer.
-use Rattle.std.proofs.Common.{◌≡◌, ◌≤◌, ◌⊎◌, ℕ, true, false, List, [], refl, subst, sym, ◌∙◌}
+use Rattle.std.proofs.Common.{◌≡◌, ◌≤◌, ◌⊎◌, ℕ, true, false, List, [], ◌++◌, refl, ap, append_assoc, append-nil, subst, sym, ◌∙◌}
 use Rattle.std.specs.Prelude.{IsTrue}
 use Rattle.command_line.specs.declared.exploring.ExploreForm.TheVariants as form
 use Rattle.command_line.specs.declared.exploring.ExploreJob.{ExploreJob}
@@ -17,16 +17,21 @@ use Rattle.rank_language.specs.Program.{ProgramValue}
 use Rattle.runner.proofs.Crashes.{prints_only}
 use Rattle.run_events.specs.Masking.{EndsAmong, IsMasked}
 use Rattle.runner.specs.Crashes.{AreMasked}
+use Rattle.runner.specs.Determinism.{IsKnown, known_text, needs_telling}
 use Rattle.runner.specs.Events.{PlaysOutcome}
 use Rattle.runner.specs.OutcomesText.{IsMarkedObject, IsMarkedSummary, IsMarkedText}
 use Rattle.rank_text.specs.Checker.Faults.{IsFaultOf}
 use Rattle.rank_text.specs.declared.checker.fault.ProgramFault.{ProgramFault}
 use Rattle.runner.specs.Safety.{IsVerdict, needs_second}
-use Rattle.runner.specs.Searches.{HasSearchStatus, IsExploreAnswer, IsFoundBy, IsPrinted, IsSafetyOf, IsSearchAnswer, IsSearchedOf, IsSecond}
+use Rattle.runner.specs.Searches.{HasSearchStatus, IsDeterminismText, IsExploreAnswer, IsFoundBy, IsPrinted, IsSafetyOf, IsSearchAnswer, IsSearchedOf, IsSecond, IsToldOf}
+use Rattle.runner.specs.declared.commands.determinism.Determinism.{Determinism}
 use Rattle.runner.specs.declared.explored.safety.Safety.{Safety}
 use Rattle.runner.specs.declared.explored.safety.Safety.TheVariants as safety
 use Rattle.runner.specs.declared.explored.safety.Unknown.TheVariants as unknown
 use Rattle.synchronous.specs.Synchronous.{HasComputedTag, IsPastLimits, IsSynchronousOf}
+use Rattle.synchronous.specs.Telling.{IsTelling}
+use Rattle.synchronous.specs.declared.telling.Telling.{Telling}
+use Rattle.synchronous.specs.declared.telling.Telling.TheVariants as telling
 
 -- what a search found within limits that are the job's, where crashes add no outcome to those of a complete one
 pub is_found_by : (program : ProgramValue) (job : ExploreJob) (found : ExploredValue) (runs steps : ℕ) → runs ≡ job.runs → steps ≡ job.steps
@@ -103,12 +108,49 @@ events_printed lines program job found told out number is played = record {
       subst (λ (n : ℕ). PlaysOutcome program job.ranks found.outcomes n out) same played;
 }
 
+-- what a search of a telling program says
+pub of_telling : (what : Telling) (text : List ℕ) (program : ProgramValue) (job : ExploreJob) (found : ExploredValue) (told : Determinism)
+    → IsTelling what text program → IsFoundBy program job found → IsKnown program job.ranks found told → IsToldOf what text job told
+of_telling what text program job found told is searched told_of = IsToldOf.searched program found is searched told_of
+
+-- sends and receptions aren't looked for
+pub untold_text : (text : List ℕ) (job : ExploreJob) (found : ExploredValue) (old new : List ℕ) → needs_telling job found ≡ false → new ≡ old
+    → (behind : List ℕ) × IsDeterminismText text job found behind × (new ≡ old ++ behind)
+untold_text text job found old new none same =
+    ([], record { untold = λ _. refl; told = λ other. (let e : true ≡ false = sym other ∙ none in absurd cc) }, same ∙ sym (append-nil old))
+
+-- they are
+pub told_text : (text : List ℕ) (job : ExploreJob) (found : ExploredValue) (sends receptions : Determinism) (old middle new : List ℕ)
+    → needs_telling job found ≡ true → IsToldOf telling.Sends text job sends → IsToldOf telling.Receptions text job receptions
+    → middle ≡ old ++ known_text telling.Sends sends → new ≡ middle ++ known_text telling.Receptions receptions
+    → (behind : List ℕ) × IsDeterminismText text job found behind × (new ≡ old ++ behind)
+told_text text job found sends receptions old middle new some of_sends of_receptions first second = (
+  known_text telling.Sends sends ++ known_text telling.Receptions receptions,
+  record {
+    untold = λ other. (let e : true ≡ false = sym some ∙ other in absurd cc);
+    told = λ _. record { sends = sends; of_sends = of_sends; receptions = receptions; of_receptions = of_receptions; whole = refl };
+  },
+  second ∙ ap (λ (xs : List ℕ). xs ++ known_text telling.Receptions receptions) first
+      ∙ append_assoc old (known_text telling.Sends sends) (known_text telling.Receptions receptions),
+)
+
 -- what was found, printed with whether the program is safe and its status, is an answer
-pub is_search_answer : (text lines : List ℕ) (program : ProgramValue) (job : ExploreJob) (found : ExploredValue) (told : Safety) (out : List ℕ) (status : ℕ)
-    → IsFoundBy program job found → IsSafetyOf text lines program job found told → IsPrinted lines program job found told out
+pub is_search_answer : (text lines : List ℕ) (program : ProgramValue) (job : ExploreJob) (found : ExploredValue) (told : Safety) (before out : List ℕ)
+    (status : ℕ) → IsFoundBy program job found → IsSafetyOf text lines program job found told → IsPrinted lines program job found told before
+    → (behind : List ℕ) × IsDeterminismText text job found behind × (out ≡ before ++ behind)
     → HasSearchStatus found status → IsSearchAnswer text lines program job out status
-is_search_answer text lines program job found told out status searched safety printed ended =
-    record { found = found; searched = searched; told = told; safety = safety; printed = printed; ended = ended }
+is_search_answer text lines program job found told before out status searched safety printed determinism ended = record {
+  found = found;
+  searched = searched;
+  told = told;
+  safety = safety;
+  before = before;
+  printed = printed;
+  behind = determinism.0;
+  determinism = determinism.1;
+  whole = determinism.2;
+  ended = ended;
+}
 
 -- an answer of what is searched of a text that the file holds
 pub is_explore_answer : (holds : List ℕ → Type 0) (job : ExploreJob) (text lines : List ℕ) (program : ProgramValue) (out : List ℕ) (status : ℕ)

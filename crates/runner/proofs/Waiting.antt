@@ -5,10 +5,10 @@ use Rattle.crash_free.specs.Sim.{SimValue, start_of}
 use Rattle.explore.specs.Searching.{IsSimOf}
 use Rattle.rank_language.specs.Program.{ProgramValue}
 use Rattle.runner.specs.Waits.{AreWaits, IsEmpty, WaitWith}
-use Rattle.runner.specs.declared.explored.safety.Waits.{Waits}
+use Rattle.runner.specs.declared.explored.safety.WaitingRanks.{WaitingRanks}
 
 -- who waits after it does so in a run with the outcome
-pub wait_with : (program : ProgramValue) (n : ℕ) (lines : List ℕ) (outcome : List RankOutcome) (run : SimValue) (waits : Waits)
+pub wait_with : (program : ProgramValue) (n : ℕ) (lines : List ℕ) (outcome : List RankOutcome) (run : SimValue) (waits : WaitingRanks)
     → IsOutcomeOf (start_of program n) n run.run outcome → IsSimOf program n run → AreWaits lines run waits
     → WaitWith program n lines outcome waits ⊎ IsEmpty waits
 wait_with program n lines outcome run waits ended made wait = inl (record { run = run; made = made; ended = ended; wait = wait })

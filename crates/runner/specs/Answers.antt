@@ -23,7 +23,7 @@ use Rattle.runner.specs.Statuses.{HasStatus}
 use Rattle.runner.specs.Traces.{IsTraceAnswer}
 use Rattle.runner.specs.Translations.{IsCAnswer}
 use Rattle.runner.specs.Worlds.{IsWorldAnswer}
-use Rattle.runner.specs.declared.commands.world.Wanted.TheVariants as wanted
+use Rattle.runner.specs.declared.commands.world.WorldQuestion.TheVariants as wanted
 
 -- Standard output is the text of this report, with what its run cost behind it in the form that is
 -- asked for, and the exit status says whether every rank halted.

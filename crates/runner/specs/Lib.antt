@@ -14,6 +14,7 @@ pub mod LeftText
 pub mod Meanings
 pub mod Waits
 pub mod Safety
+pub mod Determinism
 pub mod SearchObject
 pub mod OutcomesText
 pub mod Crashes

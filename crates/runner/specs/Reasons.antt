@@ -33,8 +33,8 @@ use Rattle.run_events.specs.declared.fault.PlayFault.TheVariants as play
 use Rattle.runner.specs.FinishText.{IsWithoutEnd}
 use Rattle.runner.specs.declared.commands.refusal.Refusal.{Refusal}
 use Rattle.runner.specs.declared.commands.refusal.Refusal.TheVariants as refusal
-use Rattle.runner.specs.declared.commands.world.Wanted.{Wanted}
-use Rattle.runner.specs.declared.commands.world.Wanted.TheVariants as wanted
+use Rattle.runner.specs.declared.commands.world.WorldQuestion.{WorldQuestion}
+use Rattle.runner.specs.declared.commands.world.WorldQuestion.TheVariants as wanted
 use Rattle.synchronous.specs.Synchronous.{HasComputedTag, IsPastLimits}
 use Rattle.synchronous.specs.declared.fault.SynchronousFault.{SynchronousFault}
 use Rattle.synchronous.specs.declared.fault.SynchronousFault.TheVariants as synchronous
@@ -171,7 +171,7 @@ abbrev pub HasNoEvents : Refusal → Type 0
 HasNoEvents refused = (fault : PlayFault) × (refused ≡ of_play fault)
 
 -- a world that is wanted at its end has come to something else, and this is why
-abbrev pub HasNoEnd : Wanted → Refusal → Type 0
+abbrev pub HasNoEnd : WorldQuestion → Refusal → Type 0
 HasNoEnd wanted.Replies refused = ⊥
 HasNoEnd wanted.WayOn refused = ⊥
 HasNoEnd (wanted.TheEnd steps) refused = (before : WorldValue) × (events : List WorldEvent) × (after : WorldValue) × IsWithoutEnd steps before events after refused
@@ -189,7 +189,7 @@ abbrev pub IsUntold : Refusal → Type 0
 IsUntold refused = HasNoReport refused ⊎ HasNoEvents refused
 
 -- a world isn't played: its events aren't read, or it isn't led to the end that is wanted
-abbrev pub IsUnplayed : (List ℕ → List ℕ → Type 0) → WorldJob → Wanted → Refusal → Type 0
+abbrev pub IsUnplayed : (List ℕ → List ℕ → Type 0) → WorldJob → WorldQuestion → Refusal → Type 0
 IsUnplayed holds job wants refused = IsEventsRefusal holds job.events refused ⊎ HasNoEnd wants refused
 
 -- the text of lines that were drawn is refused as a script, for this fault
@@ -216,7 +216,7 @@ pub data IsTraceRefusal (holds : List ℕ → List ℕ → Type 0) (job : RunJob
   trace_run : IsUntold refused → IsTraceRefusal holds job refused
 
 -- A world: its program isn't read, or it isn't played.
-pub data IsWorldRefusal (holds : List ℕ → List ℕ → Type 0) (job : WorldJob) (wants : Wanted) (refused : Refusal) : Type 0 where
+pub data IsWorldRefusal (holds : List ℕ → List ℕ → Type 0) (job : WorldJob) (wants : WorldQuestion) (refused : Refusal) : Type 0 where
   world_program : IsProgramRefusal holds job.program refused → IsWorldRefusal holds job wants refused
   world_unplayed : IsUnplayed holds job wants refused → IsWorldRefusal holds job wants refused
 

@@ -18,7 +18,7 @@ use Rattle.runner.specs.declared.explored.safety.Safety.TheVariants as safety
 use Rattle.runner.specs.declared.explored.safety.Unknown.{Unknown}
 use Rattle.runner.specs.declared.explored.safety.Unknown.TheVariants as unknown
 use Rattle.runner.specs.declared.explored.safety.Wait.{Wait}
-use Rattle.runner.specs.declared.explored.safety.Waits.{Waits}
+use Rattle.runner.specs.declared.explored.safety.WaitingRanks.{WaitingRanks}
 
 -- the search is complete, and each rank halts in each outcome
 pub record IsHalting (found : ExploredValue) : Type 0 where
@@ -30,9 +30,9 @@ pub record IsHalting (found : ExploredValue) : Type 0 where
 -- send was never received, as its rank waits in that send for ever.
 pub data IsVerdict (lines : List ℕ) (program : ProgramValue) (n : ℕ) (found : ExploredValue) : Safety → Type 0 where
   is_safe : IsHalting found → IsVerdict lines program n found safety.Safe
-  waiting : {waits : Waits} → (IsHalting found → ⊥) → waits_somewhere found ≡ true → WaitInARun program n lines found.outcomes waits
+  waiting : {waits : WaitingRanks} → (IsHalting found → ⊥) → waits_somewhere found ≡ true → WaitInARun program n lines found.outcomes waits
       → IsVerdict lines program n found (safety.NotSafe waits)
-  unseen : {waits : Waits} → (IsHalting found → ⊥) → waits_somewhere found ≡ true → IsEmpty waits → IsVerdict lines program n found (safety.NotSafe waits)
+  unseen : {waits : WaitingRanks} → (IsHalting found → ⊥) → waits_somewhere found ≡ true → IsEmpty waits → IsVerdict lines program n found (safety.NotSafe waits)
   stopped : (IsHalting found → ⊥) → waits_somewhere found ≡ false → found.complete ≡ false
       → IsVerdict lines program n found (safety.Unknown unknown.Stopped)
   unhalted : (IsHalting found → ⊥) → waits_somewhere found ≡ false → found.complete ≡ true
@@ -88,7 +88,7 @@ unfoldable pub unsafe_words : List ℕ
 unsafe_words = codes "# not safe: without buffers "
 
 -- how they wait
-abbrev pub wait_words : Waits → List ℕ
+abbrev pub wait_words : WaitingRanks → List ℕ
 wait_words waits = if waits.each_other then codes " wait for each other, at " else
     (if length waits.ranks.items == 1 then codes " waits in its send, at " else codes " wait in their sends, at ")
 
@@ -101,15 +101,15 @@ abbrev pub waiting_lines : List Wait → List ℕ
 waiting_lines waits = filter_map (λ (w : Wait). w.line) waits
 
 -- the line on these
-abbrev pub waits_line : Waits → List ℕ
+abbrev pub waits_line : WaitingRanks → List ℕ
 waits_line waits =
     unsafe_words ++ named_ranks (waiting_ranks waits.ranks.items) ++ wait_words waits ++ named_lines (waiting_lines waits.ranks.items) ++ codes "\n"
 
 -- the same, if no run was shown in which ranks wait
-abbrev pub waits_text : Waits → List ℕ
+abbrev pub waits_text : WaitingRanks → List ℕ
 waits_text waits = if length waits.ranks.items == 0 then codes "# not safe: without buffers a rank waits in its send\n" else waits_line waits
 
--- the last line
+-- the line on whether it is safe
 abbrev pub safety_text : Safety → List ℕ
 safety_text safety.Untold = []
 safety_text safety.Safe = codes "# safe: no send needs a buffer\n"

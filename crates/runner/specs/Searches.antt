@@ -1,6 +1,6 @@
 -- What is answered to a search for all outcomes of a program (docs/FORMATS.md, "Standard output of
 -- `explore`").
-use Rattle.std.specs.Prelude.{◌≡◌, ◌≤◌, ◌↔◌, ◌⊎◌, ℕ, Bool, true, false, IsTrue, List, [], ◌∷◌}
+use Rattle.std.specs.Prelude.{◌≡◌, ◌≤◌, ◌↔◌, ◌⊎◌, ℕ, Bool, true, false, IsTrue, List, [], ◌∷◌, ◌++◌}
 use Rattle.command_line.specs.declared.exploring.ExploreForm.TheVariants as form
 use Rattle.command_line.specs.declared.exploring.ExploreJob.{ExploreJob}
 use Rattle.explore.specs.Counting.{GoesBeyond}
@@ -12,6 +12,7 @@ use Rattle.audit.specs.FinalRuns.Maximal.{IsPossible, RankOutcome}
 use Rattle.rank_language.specs.Program.{ProgramValue}
 use Rattle.run_events.specs.Masking.{EndsAmong}
 use Rattle.runner.specs.Crashes.{AreMasked, PrintsOnly}
+use Rattle.runner.specs.Determinism.{IsKnown, known_text, needs_telling}
 use Rattle.runner.specs.Events.{PlaysOutcome}
 use Rattle.run_events.specs.Halting.{AllHalt}
 use Rattle.runner.specs.OutcomesText.{IsMarkedObject, IsMarkedSummary, IsMarkedText}
@@ -19,10 +20,15 @@ use Rattle.rank_language.specs.StandOn.{IsLinedOf}
 use Rattle.rank_text.specs.Checker.Faults.{IsFaultOf}
 use Rattle.rank_text.specs.declared.checker.fault.FaultKind.{FaultKind}
 use Rattle.runner.specs.Safety.{IsVerdict, needs_second}
+use Rattle.runner.specs.declared.commands.determinism.Determinism.{Determinism}
+use Rattle.runner.specs.declared.commands.determinism.Determinism.TheVariants as known
 use Rattle.runner.specs.declared.explored.safety.Safety.{Safety}
 use Rattle.runner.specs.declared.explored.safety.Safety.TheVariants as safety
 use Rattle.runner.specs.declared.explored.safety.Unknown.TheVariants as unknown
 use Rattle.synchronous.specs.Synchronous.{HasComputedTag, IsPastLimits, IsSynchronousOf}
+use Rattle.synchronous.specs.Telling.{IsTelling, IsUntellable}
+use Rattle.synchronous.specs.declared.telling.Telling.{Telling}
+use Rattle.synchronous.specs.declared.telling.Telling.TheVariants as telling
 
 -- What a search found: the program may have each outcome, and what is listed of it was never received
 -- in some run that has it; if the search is complete, in no such run something else was left. If the search is complete, it has no
@@ -66,6 +72,28 @@ pub record IsSafetyOf (text lines : List ℕ) (program : ProgramValue) (job : Ex
   pub untold : job.synchronous ≡ false → needs_second job program found ≡ false → told ≡ safety.Untold
   pub second : job.synchronous ≡ false → needs_second job program found ≡ true → IsSecond text job told
 
+-- What is said after a search of a telling program of the text, within the limits of the job: that
+-- there is none, or what is known by what was found of it.
+pub data IsToldOf (what : Telling) (text : List ℕ) (job : ExploreJob) : Determinism → Type 0 where
+  past : IsUntellable what text → IsToldOf what text job known.PastLimits
+  faulty : {line : ℕ} {kind : FaultKind} → IsFaultOf text line kind → IsToldOf what text job known.Untold
+  searched : {told : Determinism} (program : ProgramValue) (found : ExploredValue) → IsTelling what text program → IsFoundBy program job found
+      → IsKnown program job.ranks found told → IsToldOf what text job told
+
+-- these lines say it of sends, and of receptions
+pub record AreToldOf (text : List ℕ) (job : ExploreJob) (lines : List ℕ) : Type 0 where
+  pub sends : Determinism
+  pub of_sends : IsToldOf telling.Sends text job sends
+  pub receptions : Determinism
+  pub of_receptions : IsToldOf telling.Receptions text job receptions
+  pub whole : lines ≡ known_text telling.Sends sends ++ known_text telling.Receptions receptions
+
+-- The lines on whether sends and receptions are the same in all runs of the program in whose text
+-- this was found; none if that isn't looked for.
+pub record IsDeterminismText (text : List ℕ) (job : ExploreJob) (found : ExploredValue) (lines : List ℕ) : Type 0 where
+  pub untold : needs_telling job found ≡ false → lines ≡ []
+  pub told : needs_telling job found ≡ true → AreToldOf text job lines
+
 -- Standard output has the text of what was found, or the short one, or the object of JSON, or a run
 -- of the outcome that the job names, as events, of the program whose statements stand on these
 -- lines. Of JSON nothing is said of the races.
@@ -76,13 +104,18 @@ pub record IsPrinted (lines : List ℕ) (program : ProgramValue) (job : ExploreJ
   pub events : (number : ℕ) → job.form ≡ form.Events number → PlaysOutcome program job.ranks found.outcomes number out
 
 -- What was found by a search of the program of a text, whose statements stand on these lines, is
--- printed, with whether it is safe, and its status.
+-- printed, with whether it is safe, whether sends and receptions are the same in all runs, and its
+-- status.
 pub record IsSearchAnswer (text lines : List ℕ) (program : ProgramValue) (job : ExploreJob) (out : List ℕ) (status : ℕ) : Type 0 where
   pub found : ExploredValue
   pub searched : IsFoundBy program job found
   pub told : Safety
   pub safety : IsSafetyOf text lines program job found told
-  pub printed : IsPrinted lines program job found told out
+  pub before : List ℕ
+  pub printed : IsPrinted lines program job found told before
+  pub behind : List ℕ
+  pub determinism : IsDeterminismText text job found behind
+  pub whole : out ≡ before ++ behind
   pub ended : HasSearchStatus found status
 
 -- What is searched of a text is its program, whose statements stand on these lines; if sends are

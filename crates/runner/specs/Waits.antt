@@ -14,7 +14,7 @@ use Rattle.explore.specs.Searching.{IsSimOf}
 use Rattle.rank_language.specs.Program.{ProgramValue}
 use Rattle.rank_machine.specs.Machine.{MachineValue}
 use Rattle.runner.specs.declared.explored.safety.Wait.{Wait}
-use Rattle.runner.specs.declared.explored.safety.Waits.{Waits}
+use Rattle.runner.specs.declared.explored.safety.WaitingRanks.{WaitingRanks}
 
 -- the message is of a send, not of a collective
 abbrev pub is_tag : Mark → Bool
@@ -48,26 +48,26 @@ if_waits lines machines left rank =
     if waits_in_send left rank then record { rank = rank; line = line_of_machine lines (slice_get machines rank) } ∷ [] else []
 
 -- after this run these ranks wait in their sends, at these lines
-pub record AreWaits (lines : List ℕ) (s : SimValue) (waits : Waits) : Type 0 where
+pub record AreWaits (lines : List ℕ) (s : SimValue) (waits : WaitingRanks) : Type 0 where
   pub ranks : waits.ranks.items ≡ join_below (if_waits lines s.machines (left_in (length s.machines) s.run)) (length s.machines)
   pub each_other : waits.each_other ≡ wait_for_each_other (left_in (length s.machines) s.run)
 
 -- in some run of the program that has this outcome, and in which the machines stand where their ranks
 -- do, these ranks wait in their sends
-pub record WaitWith (program : ProgramValue) (n : ℕ) (lines : List ℕ) (outcome : List RankOutcome) (waits : Waits) : Type 0 where
+pub record WaitWith (program : ProgramValue) (n : ℕ) (lines : List ℕ) (outcome : List RankOutcome) (waits : WaitingRanks) : Type 0 where
   pub run : SimValue
   pub made : IsSimOf program n run
   pub ended : IsOutcomeOf (start_of program n) n run.run outcome
   pub wait : AreWaits lines run waits
 
 -- so they do in some run that has one of these outcomes
-pub record WaitInARun (program : ProgramValue) (n : ℕ) (lines : List ℕ) (outcomes : List (List RankOutcome)) (waits : Waits) : Type 0 where
+pub record WaitInARun (program : ProgramValue) (n : ℕ) (lines : List ℕ) (outcomes : List (List RankOutcome)) (waits : WaitingRanks) : Type 0 where
   pub outcome : List RankOutcome
   pub found : IsAmong outcomes outcome
   pub wait : WaitWith program n lines outcome waits
 
 -- No run is shown in which ranks wait.
-abbrev pub IsEmpty : Waits → Type 0
+abbrev pub IsEmpty : WaitingRanks → Type 0
 IsEmpty waits = waits.ranks.items ≡ []
 
 -- a message of a send was never received in one of these runs

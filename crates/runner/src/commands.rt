@@ -21,6 +21,7 @@ ghost use Rattle.runner.specs.Commands.{IsCommandAnswer};
 
 mod c;
 mod check;
+mod determinism;
 mod explain;
 mod exploring;
 mod finishing;

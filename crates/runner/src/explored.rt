@@ -20,10 +20,10 @@ use crate::explored::leftover::print_listed;
 use crate::explored::meaning::print_meaning;
 use crate::explored::parting::{Parted, part, print_choices};
 pub use crate::explored::racing::print_summary;
-pub use crate::explored::safety::{Safety, Unknown, Wait, Waits, print_safety};
+pub use crate::explored::safety::{Safety, Unknown, Wait, WaitingRanks, print_safety};
 use crate::output::{print_end, print_line};
 use audit::End;
-use explore::{Explored, Limits, Outcome, RankEnd};
+use explore::{Explored, FoundOutcome, Limits, RankEnd};
 use limits::Heap;
 use std::alloc::AllocError;
 use std::fmt::Write;
@@ -60,7 +60,7 @@ pub fn print_safe(
     ensures { OnOk result ((safe : List ℕ) × IsSafeText synchronous found.now safe × (string_bytes text.new ≡ string_bytes text.old ++ safe)) }
 {
     if synchronous && found.complete && all_halt(found) {
-        return writeln!(text, "# safe: no send needs a buffer");
+        return text.push_str("# safe: no send needs a buffer\n");
     }
     Ok(())
 }
@@ -79,7 +79,7 @@ pub fn all_halt(found: &Explored) -> bool
     true
 }
 
-fn halts(outcome: &Outcome) -> bool
+fn halts(outcome: &FoundOutcome) -> bool
     ensures { IsTrue result ↔ Halts outcome.now.ranks }
 {
     outcome.ranks.iter().all(|seen| seen.end == End::Halted)
@@ -121,7 +121,7 @@ fn part_at(found: &Explored, index: usize, parted: &mut Vec<Parted, Heap>) -> Re
 }
 
 /// The outcome at this place.
-pub fn outcome_at(found: &Explored, index: usize) -> &Outcome
+pub fn outcome_at(found: &Explored, index: usize) -> &FoundOutcome
     requires { index < length found.now.outcomes }
     ensures outcome { slice_get found.now.outcomes index ≡ Some result.now.ranks }
     ensures choices { slice_get found.now.choices index ≡ Some result.now.choices }
@@ -134,7 +134,7 @@ pub fn outcome_at(found: &Explored, index: usize) -> &Outcome
 fn print_one(
     text: &mut String<Heap>,
     number: usize,
-    outcome: &Outcome,
+    outcome: &FoundOutcome,
     parted: &[Parted],
     lines: &[usize],
 ) -> Result<(), AllocError>
@@ -146,7 +146,7 @@ fn print_one(
     writeln!(text)
 }
 
-fn print_left_of(text: &mut String<Heap>, outcome: &Outcome) -> Result<(), AllocError>
+fn print_left_of(text: &mut String<Heap>, outcome: &FoundOutcome) -> Result<(), AllocError>
     ensures { OnOk result (string_bytes text.new ≡ string_bytes text.old ++ listed_text (codes "# ") outcome.now.left) }
 {
     print_listed(text, "# ", outcome.left.as_slice())

@@ -5,19 +5,16 @@ use std::alloc::AllocError;
 use std::env::FillError;
 use std::io::Write;
 use std::rt::Env;
-use thiserror::Error;
 
 // Most words fit into so many bytes.
 const FIRST_ROOM: usize = 256;
 
 /// Why there are no words.
-#[derive(Clone, Copy, Debug, Error)]
+#[derive(Clone, Copy)]
 pub enum WordsFault {
     /// The argument of this number isn't UTF-8. Arguments are counted from 1, behind
     /// the program's name, which has number 0.
-    #[error("argument {0} isn't UTF-8")]
     NotText(usize),
-    #[error("out of memory")]
     Memory,
 }
 
@@ -28,7 +25,10 @@ impl WordsFault {
         ensures not_text { (number : ℕ) → self ≡ WordsFault.NotText number → result ≡ 3 }
         ensures memory { self ≡ WordsFault.Memory → result ≡ 4 }
     {
-        let _ = writeln!(err, "{self}");
+        let _ = match self {
+            WordsFault::NotText(number) => writeln!(err, "argument {number} isn't UTF-8"),
+            WordsFault::Memory => writeln!(err, "out of memory"),
+        };
         match self {
             WordsFault::NotText(_) => 3,
             WordsFault::Memory => 4,

@@ -1,3 +1,4 @@
 pub mod Finding
 pub mod Putting
+pub mod Tellings
 pub mod Whole

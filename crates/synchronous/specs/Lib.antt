@@ -1,3 +1,4 @@
 pub mod Acknowledged
 pub mod Free
 pub mod Synchronous
+pub mod Telling

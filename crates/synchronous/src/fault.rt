@@ -2,7 +2,7 @@
 use rank_text::checker::ProgramFault;
 
 /// Why a text gives no acknowledged program.
-#[derive(Clone, Copy, Debug)]
+#[derive(Clone, Copy)]
 pub enum SynchronousFault {
     /// The text is no program.
     Fault(ProgramFault),

@@ -175,7 +175,7 @@ fn names_with(tag: u64, tens: u8, ones: u8) -> Added
 
 /// The first names that aren't declared, with this tag.
 #[tactic(auto, using(crate::proofs::Finding::has_free_names, crate::proofs::Finding::tens_more, crate::proofs::Finding::all_names))]
-fn free_names(tag: u64, forms: &[Form]) -> Option<Added>
+pub(crate) fn free_names(tag: u64, forms: &[Form]) -> Option<Added>
     ensures tag { IfSome result (λ added. added.tag ≡ tag) }
     ensures names { IfSome result (λ added. HasFreeNames (forms_seen forms.now) added) }
     ensures none { result ≡ None → HasNoneFree (forms_seen forms.now) }

@@ -55,7 +55,10 @@ pub(crate) fn heard_pattern(
 {
     match pattern {
         Pattern::Any => Ok(Pattern::Any),
-        Pattern::Value(expression) => heard(alloc, added, expression).map(Pattern::Value),
+        Pattern::Value(value) => match heard(alloc, added, value) {
+            Ok(value) => Ok(Pattern::Value(value)),
+            Err(error) => Err(error),
+        },
     }
 }
 
@@ -69,6 +72,9 @@ pub(crate) fn heard_payload(
 {
     match payload {
         Payload::Lone(name) => Ok(Payload::Lone(*name)),
-        Payload::One(expression) => heard(alloc, added, expression).map(Payload::One),
+        Payload::One(value) => match heard(alloc, added, value) {
+            Ok(value) => Ok(Payload::One(value)),
+            Err(error) => Err(error),
+        },
     }
 }

@@ -84,10 +84,16 @@ pub(crate) fn heard_form(alloc: Heap, added: &Added, form: &Form) -> Result<Form
             Ok((index, value)) => Ok(Form::LetItem(*name, index, value)),
             Err(error) => Err(error),
         },
-        Form::If(test) => heard(alloc, added, test).map(Form::If),
+        Form::If(test) => match heard(alloc, added, test) {
+            Ok(test) => Ok(Form::If(test)),
+            Err(error) => Err(error),
+        },
         Form::Else => Ok(Form::Else),
         Form::End => Ok(Form::End),
-        Form::While(test) => heard(alloc, added, test).map(Form::While),
+        Form::While(test) => match heard(alloc, added, test) {
+            Ok(test) => Ok(Form::While(test)),
+            Err(error) => Err(error),
+        },
         Form::Send(destination, tag, payload) => {
             heard_send(alloc, added, destination, tag, payload)
         }
@@ -103,7 +109,10 @@ pub(crate) fn heard_form(alloc: Heap, added: &Added, form: &Form) -> Result<Form
             Ok((source, tag)) => Ok(Form::TryProbe(source, tag, *flag)),
             Err(error) => Err(error),
         },
-        Form::Print(value) => heard(alloc, added, value).map(Form::Print),
+        Form::Print(value) => match heard(alloc, added, value) {
+            Ok(value) => Ok(Form::Print(value)),
+            Err(error) => Err(error),
+        },
         Form::Barrier => Ok(Form::Barrier),
         Form::Bcast(root, buffer) => match heard(alloc, added, root) {
             Ok(root) => Ok(Form::Bcast(root, *buffer)),

@@ -11,6 +11,8 @@ mod free;
 mod heard;
 mod heard_form;
 mod statements;
+pub mod telling;
 
 pub use acknowledging::acknowledged;
 pub use fault::SynchronousFault;
+pub use telling::{Telling, TellingFault, telling_program};

@@ -16,7 +16,7 @@ use std::alloc::AllocError;
 
 /// Puts a statement behind the others.
 #[tactic(auto, using(rank_text::proofs::CheckerLaws::ReadLaws::forms_push))]
-fn put(forms: &mut Vec<Form, Heap>, form: Form) -> Result<(), AllocError>
+pub(crate) fn put(forms: &mut Vec<Form, Heap>, form: Form) -> Result<(), AllocError>
     ensures { OnOk result (forms_seen forms.new.items ≡ forms_seen forms.old.items ++ form_seen form ∷ []) }
 {
     forms.push(form)?;

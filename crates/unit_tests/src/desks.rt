@@ -2,7 +2,7 @@
 ghost use Rattle.std.specs.Prelude.{◌≡◌};
 ghost use Rattle.event_logger.specs.Desks.{IsSameDesk};
 
-use crate::same::same;
+use crate::same::{holds, is_answered};
 use checkpoint::{MemoryShelf, Shelf};
 use event_logger::{Desk, Event, Kind, Logger};
 use limits::Heap;
@@ -12,7 +12,7 @@ use std::test::*;
 
 /// How many events are fetched, are left, and are read of the own row, and how often the shelf failed. Zeros stand when out of
 /// memory.
-type Counts = (usize, u32, usize, u64);
+type Counts = [u64; 4];
 
 // The only rank of a run crashes, starts again, and reads its own row.
 fn counts(alloc: Heap, program: &Program, logger: &Logger, desk: Desk) -> (Desk, Counts)
@@ -25,24 +25,27 @@ fn counts(alloc: Heap, program: &Program, logger: &Logger, desk: Desk) -> (Desk,
         Ok(rank) => rank.crash(),
         Err((stable, _)) => {
             let (desk, _) = stable.parts();
-            return (desk, (0, 0, 0, 0));
+            return (desk, [0; 4]);
         }
     };
     let Ok(row) = down.fetch(alloc, logger) else {
         let (desk, _) = down.retire().parts();
-        return (desk, (0, 0, 0, 0));
+        return (desk, [0; 4]);
     };
-    let fetched = row.len();
+    let fetched = row.len() as u64;
     match down.restart(alloc, program, row) {
         Ok(mut rank) => {
-            let read = rank.read(logger, 0, 0).map_or(0, |events| events.len());
-            let left = rank.left();
+            let read = match rank.read(logger, 0, 0) {
+                Ok(events) => events.len() as u64,
+                Err(_) => 0,
+            };
+            let left = u64::from(rank.left());
             let (desk, shelf) = rank.retire().parts();
-            (desk, (fetched, left, read, shelf.faults()))
+            (desk, [fetched, left, read, shelf.faults()])
         }
         Err((down, _)) => {
             let (desk, _) = down.retire().parts();
-            (desk, (0, 0, 0, 0))
+            (desk, [0; 4])
         }
     }
 }
@@ -51,7 +54,7 @@ fn counts(alloc: Heap, program: &Program, logger: &Logger, desk: Desk) -> (Desk,
 fn a_rank_that_replays_reads_its_own_row(rt: HostRuntime) -> Result<(), Fail> {
     let alloc = rt.alloc();
     let program = Program::parse(alloc, b"var f\niprobe any, any, f\n")?;
-    let event = Event::new(Kind::Miss, 0, 0, 1).ok_or("out of range")?;
+    let event = Event::new(Kind::Miss, 0, 0, 1).expect(&rt, "in range");
     let (logger, mut desks) = Logger::new(alloc, 1)?;
     let Some(mut desk) = desks.pop() else {
         unreachable!()
@@ -60,7 +63,7 @@ fn a_rank_that_replays_reads_its_own_row(rt: HostRuntime) -> Result<(), Fail> {
     let (desk, found) = counts(alloc, &program, &logger, desk);
     desks.push_reserved(desk);
     let _ledger = logger.close(alloc, desks)?;
-    same(&rt, "stored", &stored, &Ok(1));
-    same(&rt, "fetched, left, read and failed", &found, &(1, 1, 1, 0));
+    is_answered(&rt, 1, stored, Ok(1));
+    holds(&rt, "fetched, left, read and failed", found == [1, 1, 1, 0]);
     Ok(())
 }

@@ -22,12 +22,12 @@ fn ask(rt: &impl Abort, number: u32) -> Frame {
     }
 }
 
-/// The number of an ask; any other frame has none.
-fn number_of(frame: Frame) -> Option<u32> {
+/// The number of an ask; 0 for any other frame.
+fn number_of(frame: Frame) -> u64 {
     match frame {
-        Frame::Ask { from } => Some(from.number()),
-        Frame::Data(_) => None,
-        Frame::Kept { upto: _ } => None,
+        Frame::Ask { from } => u64::from(from.number()),
+        Frame::Data(_) => 0,
+        Frame::Kept { upto: _ } => 0,
     }
 }
 
@@ -76,12 +76,8 @@ fn takes_all(rt: &(impl Wait + Abort), rx: Rx) -> Rx
 {
     let mut rx = rx;
     for number in 1..=FRAMES {
-        same(
-            rt,
-            "in order",
-            &number_of(takes(rt, &mut rx)),
-            &Some(number),
-        );
+        let found = number_of(takes(rt, &mut rx));
+        same(rt, "in order", found, u64::from(number));
     }
     rx
 }
@@ -100,16 +96,9 @@ fn frames_go_from_thread_to_thread_in_order(rt: HostRuntime) -> Result<(), Fail>
                 ensures { lane_from result ≡ lane_from rx }
             { takes_all(&rt, rx) },
         );
-        let carried = Carried {
-            put: 100_000,
-            taken: 100_000,
-        };
-        same(
-            &rt,
-            format_args!("room for {room}"),
-            &close(tx, rx),
-            &carried,
-        );
+        let Carried { put, taken } = close(tx, rx);
+        same(&rt, "frames put", put, 100_000);
+        same(&rt, "frames taken", taken, 100_000);
     }
     Ok(())
 }

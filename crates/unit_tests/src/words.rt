@@ -1,6 +1,6 @@
 //! The words of events, as docs/FORMATS.md has them.
 
-use crate::same::same;
+use crate::same::{holds, same};
 use event_logger::{Event, Kind, pack, unpack};
 use std::test::*;
 
@@ -9,7 +9,7 @@ const GREATEST: u32 = 268_435_455;
 /// A kind, a sender, its clock and the receiver's, and the word of that event.
 type Word = (Kind, u8, u32, u32, u64);
 
-const WORDS: [Word; 9] = [
+static WORDS: [Word; 9] = [
     (Kind::Reception, 0, 1, 1, 0x0000_0000_1000_0001),
     (Kind::Hit, 2, 3, 5, 0x1200_0000_3000_0005),
     (Kind::Miss, 0, 0, 1, 0x2000_0000_0000_0001),
@@ -28,7 +28,7 @@ const WORDS: [Word; 9] = [
 ];
 
 /// Words that are of no event, and why.
-const OTHER_WORDS: [(u64, &str); 18] = [
+static OTHER_WORDS: [(u64, &str); 18] = [
     (0, "no clock"),
     (0x4000_0000_0000_0000, "bit 62 alone"),
     (0x4000_0000_1000_0001, "a reception and bit 62"),
@@ -53,7 +53,7 @@ const OTHER_WORDS: [(u64, &str); 18] = [
 ];
 
 /// Parts that are those of no event: each is out of its range.
-const NO_EVENTS: [(Kind, u8, u32, u32); 12] = [
+static NO_EVENTS: [(Kind, u8, u32, u32); 12] = [
     (Kind::Reception, 16, 1, 1),
     (Kind::Reception, 0, GREATEST + 1, 1),
     (Kind::Reception, 0, 1, GREATEST + 1),
@@ -69,24 +69,19 @@ const NO_EVENTS: [(Kind, u8, u32, u32); 12] = [
 ];
 
 #[test]
-fn each_event_has_its_word(rt: HostRuntime) -> Result<(), Fail> {
-    for (kind, sender, sender_clock, receiver_clock, word) in WORDS {
+fn events_and_their_words(rt: HostRuntime) {
+    for row in &WORDS {
+        let (kind, sender, sender_clock, receiver_clock, word) = *row;
         let event = Event::new(kind, sender, sender_clock, receiver_clock).expect(&rt, "in range");
-        same(&rt, format_args!("{event:?}"), &pack(event), &word);
-        same(&rt, format_args!("{word:x}"), &unpack(word), &Some(event));
+        same(&rt, "the word of an event", pack(event), word);
     }
-    Ok(())
-}
-
-#[test]
-fn other_words_and_parts_are_of_none(rt: HostRuntime) -> Result<(), Fail> {
-    for (word, why) in OTHER_WORDS {
-        same(&rt, why, &unpack(word), &None);
+    for row in &OTHER_WORDS {
+        let (word, why) = *row;
+        holds(&rt, why, unpack(word).is_none());
     }
-    for (kind, sender, sender_clock, receiver_clock) in NO_EVENTS {
+    for row in &NO_EVENTS {
+        let (kind, sender, sender_clock, receiver_clock) = *row;
         let made = Event::new(kind, sender, sender_clock, receiver_clock);
-        let case = format_args!("{kind:?} {sender} {sender_clock} {receiver_clock}");
-        same(&rt, case, &made, &None);
+        holds(&rt, "parts of no event", made.is_none());
     }
-    Ok(())
 }

@@ -11,28 +11,37 @@ use crate::words::{is_given, one_file, ranks_or_most, value_of};
 pub fn check_of<'a>(command: &str, arguments: &'a [String]) -> Option<CheckJob<'a>>
     ensures { IfSome result (λ check. IsCheckOf command.now (texts arguments.entry.now) check) }
 {
-    Some(CheckJob {
-        program: one_file(command, arguments)?,
-    })
+    match one_file(command, arguments) {
+        Some(program) => Some(CheckJob { program }),
+        None => None,
+    }
 }
 
 /// The program that the arguments name, and how its sends are written in C.
 pub fn c_of<'a>(command: &str, arguments: &'a [String]) -> Option<CJob<'a>>
     ensures { IfSome result (λ c. IsCOf command.now (texts arguments.entry.now) c) }
 {
-    Some(CJob {
-        program: one_file(command, arguments)?,
-        synchronous: is_given("synchronous", arguments),
-    })
+    let synchronous = is_given("synchronous", arguments);
+    match one_file(command, arguments) {
+        Some(program) => Some(CJob {
+            program,
+            synchronous,
+        }),
+        None => None,
+    }
 }
 
 /// The texts that the arguments name. Without a number of ranks there is no script.
 pub fn explain_of<'a>(command: &str, arguments: &'a [String]) -> Option<ExplainJob<'a>>
     ensures { IfSome result (λ job. IsExplainOf command.now (texts arguments.entry.now) job) }
 {
+    let (Some(ranks), Some(program)) = (ranks_or_most(arguments), one_file(command, arguments))
+    else {
+        return None;
+    };
     Some(ExplainJob {
-        ranks: ranks_or_most(arguments)?,
-        program: one_file(command, arguments)?,
+        ranks,
+        program,
         script: value_of("script", arguments),
         events: value_of("events", arguments),
     })

@@ -2,6 +2,8 @@
 ghost use Rattle.std.specs.Prelude.{◌≡◌, IfSome};
 ghost use Rattle.command_line.specs.Commands.{word_of};
 
+use crate::words::is;
+
 /// A command of the program.
 #[derive(Clone, Copy)]
 pub enum CommandName {
@@ -21,25 +23,25 @@ pub enum CommandName {
 pub fn command_called(word: &str) -> Option<CommandName>
     ensures { IfSome result (λ command. word.now ≡ word_of command) }
 {
-    if word == "check" {
+    if is(word, "check") {
         Some(CommandName::Check)
-    } else if word == "c" {
+    } else if is(word, "c") {
         Some(CommandName::C)
-    } else if word == "run" {
+    } else if is(word, "run") {
         Some(CommandName::Run)
-    } else if word == "trace" {
+    } else if is(word, "trace") {
         Some(CommandName::Trace)
-    } else if word == "world" {
+    } else if is(word, "world") {
         Some(CommandName::World)
-    } else if word == "catch-up" {
+    } else if is(word, "catch-up") {
         Some(CommandName::CatchUp)
-    } else if word == "explain" {
+    } else if is(word, "explain") {
         Some(CommandName::Explain)
-    } else if word == "explore" {
+    } else if is(word, "explore") {
         Some(CommandName::Explore)
-    } else if word == "judge" {
+    } else if is(word, "judge") {
         Some(CommandName::Judge)
-    } else if word == "soak" {
+    } else if is(word, "soak") {
         Some(CommandName::Soak)
     } else {
         None

@@ -14,15 +14,32 @@ pub fn run_of<'a>(command: &str, arguments: &'a [String], costs: CostForm) -> Op
     ensures run { IfSome result (λ run. IsRunOf command.now (texts arguments.entry.now) run) }
     ensures costs { IfSome result (λ run. run.costs ≡ costs) }
 {
+    let (
+        Some(ranks),
+        Some(images_every),
+        Some(idle),
+        Some(steps),
+        Some(scheduling),
+        Some(program),
+    ) = (
+        ranks_of(arguments),
+        count_if("images-every", arguments),
+        limit_or(1000000, "idle", arguments),
+        limit_or(1000000, "steps", arguments),
+        scheduling_of(arguments),
+        one_file(command, arguments),
+    ) else {
+        return None;
+    };
     Some(RunJob {
-        ranks: ranks_of(arguments)?,
+        ranks,
         script: value_of("script", arguments),
-        images_every: count_if("images-every", arguments)?,
-        idle: limit_or(1000000, "idle", arguments)?,
-        steps: limit_or(1000000, "steps", arguments)?,
-        scheduling: scheduling_of(arguments)?,
+        images_every,
+        idle,
+        steps,
+        scheduling,
         costs,
-        program: one_file(command, arguments)?,
+        program,
     })
 }
 
@@ -43,10 +60,13 @@ pub fn cost_form_of(arguments: &[String]) -> CostForm
 pub fn trace_of<'a>(command: &str, arguments: &'a [String]) -> Option<TraceJob<'a>>
     ensures { IfSome result (λ trace. IsTraceOf command.now (texts arguments.entry.now) trace) }
 {
-    Some(TraceJob {
-        run: run_of(command, arguments, CostForm::Unasked)?,
-        form: form_of(arguments)?,
-    })
+    let (Some(run), Some(form)) = (
+        run_of(command, arguments, CostForm::Unasked),
+        form_of(arguments),
+    ) else {
+        return None;
+    };
+    Some(TraceJob { run, form })
 }
 
 // No run is drawn.

@@ -11,14 +11,24 @@ use crate::words::{is_given, number_in, number_or, one_file, ranks_of, two_files
 pub fn explore_of<'a>(command: &str, arguments: &'a [String]) -> Option<ExploreJob<'a>>
     ensures { IfSome result (λ search. IsExploreOf command.now (texts arguments.entry.now) search) }
 {
+    let (Some(ranks), Some(runs), Some(steps), Some(states), Some(form), Some(program)) = (
+        ranks_of(arguments),
+        number_or(100000, "runs", arguments),
+        number_or(100000, "steps", arguments),
+        number_or(1000000, "states", arguments),
+        form_of(arguments),
+        one_file(command, arguments),
+    ) else {
+        return None;
+    };
     Some(ExploreJob {
-        ranks: ranks_of(arguments)?,
-        runs: number_or(100000, "runs", arguments)?,
-        steps: number_or(100000, "steps", arguments)?,
-        states: number_or(1000000, "states", arguments)?,
-        form: form_of(arguments)?,
+        ranks,
+        runs,
+        steps,
+        states,
+        form,
         synchronous: is_given("synchronous", arguments),
-        program: one_file(command, arguments)?,
+        program,
     })
 }
 
@@ -26,7 +36,10 @@ fn form_of(arguments: &[String]) -> Option<ExploreForm>
     ensures { IfSome result (λ form. IsExploreFormOf (texts arguments.now) form) }
 {
     if let Some(outcome) = value_of("events", arguments) {
-        return Some(ExploreForm::Events(number_in(outcome)?));
+        return match number_in(outcome) {
+            Some(number) => Some(ExploreForm::Events(number)),
+            None => None,
+        };
     }
     if is_given("json", arguments) {
         return Some(ExploreForm::Json);
@@ -41,10 +54,16 @@ fn form_of(arguments: &[String]) -> Option<ExploreForm>
 pub fn judge_of<'a>(command: &str, arguments: &'a [String]) -> Option<JudgeJob<'a>>
     ensures { IfSome result (λ outcome. IsJudgeOf command.now (texts arguments.entry.now) outcome) }
 {
-    let (program, outcome) = two_files(command, arguments)?;
+    let (Some((program, outcome)), Some(ranks), Some(steps)) = (
+        two_files(command, arguments),
+        ranks_of(arguments),
+        number_or(1000000, "steps", arguments),
+    ) else {
+        return None;
+    };
     Some(JudgeJob {
-        ranks: ranks_of(arguments)?,
-        steps: number_or(1000000, "steps", arguments)?,
+        ranks,
+        steps,
         trace: is_given("trace", arguments),
         program,
         outcome,

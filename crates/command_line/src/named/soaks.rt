@@ -14,31 +14,27 @@ use limits::MOST_SCRIPT_LINES;
 pub fn soak_of<'a>(command: &str, arguments: &'a [String]) -> Option<SoakJob<'a>>
     ensures { IfSome result (λ runs. IsSoakOf command.now (texts arguments.entry.now) runs) }
 {
-    let (Some(kills), Some(images)) = (
+    let (Some(ranks), Some(runs), Some(seed), Some(kills), Some(images)) = (
+        ranks_of(arguments),
+        number_or(100, "runs", arguments),
+        number_or(1, "seed", arguments),
         small_or(2, "kills", arguments),
         small_or(2, "images", arguments),
+    ) else {
+        return None;
+    };
+    let (Some(images_every), Some(idle), Some(steps), Some(scheduling), Some(program)) = (
+        count_if("images-every", arguments),
+        limit_or(1000000, "idle", arguments),
+        limit_or(1000000, "steps", arguments),
+        scheduling_of(arguments),
+        one_file(command, arguments),
     ) else {
         return None;
     };
     if usize::from(kills) + usize::from(images) > MOST_SCRIPT_LINES {
         return None;
     }
-    let (Some(ranks), Some(runs), Some(seed)) = (
-        ranks_of(arguments),
-        number_or(100, "runs", arguments),
-        number_or(1, "seed", arguments),
-    ) else {
-        return None;
-    };
-    let (Some(images_every), Some(idle), Some(steps), Some(program)) = (
-        count_if("images-every", arguments),
-        limit_or(1000000, "idle", arguments),
-        limit_or(1000000, "steps", arguments),
-        one_file(command, arguments),
-    ) else {
-        return None;
-    };
-    let scheduling = scheduling_of(arguments)?;
     Some(SoakJob {
         ranks,
         runs,
@@ -57,9 +53,11 @@ pub fn soak_of<'a>(command: &str, arguments: &'a [String]) -> Option<SoakJob<'a>
 pub fn script_of<'a>(command: &str, arguments: &'a [String]) -> Option<SoakScriptJob<'a>>
     ensures { IfSome result (λ script. IsSoakScriptOf command.now (texts arguments.entry.now) script) }
 {
-    let number = number_in(value_of("script-of", arguments)?)?;
-    Some(SoakScriptJob {
-        soak: soak_of(command, arguments)?,
-        number,
-    })
+    let Some(text) = value_of("script-of", arguments) else {
+        return None;
+    };
+    let (Some(soak), Some(number)) = (soak_of(command, arguments), number_in(text)) else {
+        return None;
+    };
+    Some(SoakScriptJob { soak, number })
 }

@@ -11,9 +11,14 @@ use crate::words::{limit_or, ranks_of, two_files};
 pub fn world_of<'a>(command: &str, arguments: &'a [String]) -> Option<WorldJob<'a>>
     ensures { IfSome result (λ world. IsWorldOf command.now (texts arguments.entry.now) world) }
 {
-    let (program, events) = two_files(command, arguments)?;
+    let (Some((program, events)), Some(ranks)) = (
+        two_files(command, arguments),
+        ranks_of(arguments),
+    ) else {
+        return None;
+    };
     Some(WorldJob {
-        ranks: ranks_of(arguments)?,
+        ranks,
         program,
         events,
     })
@@ -23,8 +28,11 @@ pub fn world_of<'a>(command: &str, arguments: &'a [String]) -> Option<WorldJob<'
 pub fn finish_of<'a>(command: &str, arguments: &'a [String]) -> Option<FinishJob<'a>>
     ensures { IfSome result (λ finish. IsFinishOf command.now (texts arguments.entry.now) finish) }
 {
-    Some(FinishJob {
-        world: world_of(command, arguments)?,
-        steps: limit_or(100000, "steps", arguments)?,
-    })
+    let (Some(world), Some(steps)) = (
+        world_of(command, arguments),
+        limit_or(100000, "steps", arguments),
+    ) else {
+        return None;
+    };
+    Some(FinishJob { world, steps })
 }

@@ -8,7 +8,7 @@ ghost use Rattle.crash_free.specs.LiveVariables.Names.{place, status};
 ghost use Rattle.crash_free.specs.LiveVariables.Live.{IsTableOf, IsRow, row_of, claimed};
 
 use crate::live_variables::name::Name;
-use crate::live_variables::row::Row;
+use crate::live_variables::row::Claims;
 use crate::live_variables::unread::unread;
 use limits::Heap;
 use rank_language::Program;
@@ -19,8 +19,8 @@ use std::marker::Model;
 /// the status is. A program of 1000 lines with 64 variables takes 65 KB.
 #[derive(Drop)]
 pub struct Live {
-    variables: Vec<Row, Heap>,
-    status: Row,
+    variables: Vec<Claims, Heap>,
+    status: Claims,
 }
 
 impl Model for Live {

@@ -8,11 +8,11 @@ use std::marker::Model;
 
 /// For each position a claim, such as that a name is unread there, or none.
 #[derive(Drop)]
-pub struct Row {
+pub struct Claims {
     claims: Vec<bool, Heap>,
 }
 
-impl Model for Row {
+impl Model for Claims {
     ghost use Rattle.std.specs.Prelude.{List, Bool};
 
     ghost Value = { List Bool };
@@ -20,19 +20,19 @@ impl Model for Row {
     ghost view = { λ r. r.claims.items };
 }
 
-impl Row {
+impl Claims {
     /// A claim for each of so many positions. An `Err` means out of memory.
-    pub fn full(alloc: Heap, positions: usize) -> Result<Row, AllocError> {
-        Ok(Row {
+    pub fn full(alloc: Heap, positions: usize) -> Result<Claims, AllocError> {
+        Ok(Claims {
             claims: vec![in alloc; true; positions]?,
         })
     }
 
     /// No claim.
-    pub fn empty(alloc: Heap) -> Row
+    pub fn empty(alloc: Heap) -> Claims
         ensures { result ≡ [] }
     {
-        Row {
+        Claims {
             claims: Vec::new(alloc),
         }
     }

@@ -8,7 +8,7 @@ ghost use Rattle.crash_free.specs.LiveVariables.Seen.{name_of};
 
 use crate::live_variables::line::{reads, writes};
 use crate::live_variables::name::Name;
-use crate::live_variables::row::Row;
+use crate::live_variables::row::Claims;
 use limits::Heap;
 use rank_language::{Program, Statement};
 use std::alloc::AllocError;
@@ -16,13 +16,13 @@ use std::alloc::AllocError;
 /// For each position of the program, and for its end, whether the name is
 /// unread there. The claims that no line denies, at first all, are looked at
 /// from the last line on, again and again while some were dropped.
-pub fn unread(alloc: Heap, program: &Program, name: Name) -> Result<Row, AllocError>
+pub fn unread(alloc: Heap, program: &Program, name: Name) -> Result<Claims, AllocError>
     ensures { IfOk result (λ row. IsRow program.now (name_of name) row) }
 {
     program.law_within_limits();
     program.law_lines();
     let lines = program.len();
-    let mut row = Row::full(alloc, lines + 1)?;
+    let mut row = Claims::full(alloc, lines + 1)?;
     let mut rounds = 0;
     while rounds <= lines {
         if all_hold(program, name, &row) {
@@ -31,11 +31,11 @@ pub fn unread(alloc: Heap, program: &Program, name: Name) -> Result<Row, AllocEr
         drop_some(program, name, &mut row);
         rounds += 1;
     }
-    Ok(Row::empty(alloc))
+    Ok(Claims::empty(alloc))
 }
 
 // Whether the claim for the statement at a position is right, if those for the next ones are.
-fn holds_at(name: Name, row: &Row, position: usize, statement: &Statement) -> bool
+fn holds_at(name: Name, row: &Claims, position: usize, statement: &Statement) -> bool
     requires { position < 2 ^ 64 - 1 }
     ensures { result ≡ holds_at (name_of name) (claimed row.now) position (line_of statement.now) }
 {
@@ -48,7 +48,7 @@ fn holds_at(name: Name, row: &Row, position: usize, statement: &Statement) -> bo
 }
 
 // The same of the position's statement, if there is one, and if the row claims it.
-fn is_right(program: &Program, name: Name, row: &Row, position: usize) -> bool
+fn is_right(program: &Program, name: Name, row: &Claims, position: usize) -> bool
     ensures { result ≡ true → (l : Line) → slice_get program.now.statements position ≡ Some l → claimed row.now position ≡ true
         → holds_at (name_of name) (claimed row.now) position l ≡ true }
 {
@@ -62,7 +62,7 @@ fn is_right(program: &Program, name: Name, row: &Row, position: usize) -> bool
 }
 
 // Whether each claim is right if the others are.
-fn all_hold(program: &Program, name: Name, row: &Row) -> bool
+fn all_hold(program: &Program, name: Name, row: &Claims) -> bool
     ensures { result ≡ true → AllHold (name_of name) row.now program.now.statements }
 {
     let lines = program.len();
@@ -77,7 +77,7 @@ fn all_hold(program: &Program, name: Name, row: &Row) -> bool
 }
 
 // Drops the claims that the others don't bear out, from the last line on: so most go in one round.
-fn drop_some(program: &Program, name: Name, row: &mut Row) {
+fn drop_some(program: &Program, name: Name, row: &mut Claims) {
     let mut position = row.len();
     while position > 0 {
         position -= 1;

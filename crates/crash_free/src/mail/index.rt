@@ -1,10 +1,12 @@
 //! Where messages of each kind stand.
-ghost use Rattle.std.specs.Prelude.{◌≡◌, [], Some, IfOk, OnOk, OnErr, option_copied};
-ghost use Rattle.crash_free.specs.Index.{kind_of, queue_number, queue_of, IsListed, IsListedTwice, IsIndex, HasQueues, ListsMore};
+ghost use Rattle.std.specs.Prelude.{◌≡◌, [], Some, IfOk, OnOk, OnErr, position};
+ghost use Rattle.std.specs.Prelude.{option_copied};
+ghost use Rattle.crash_free.specs.Slots.{passes};
+ghost use Rattle.crash_free.specs.Index.{kind_of, queue_number, queue_of, IsListed, IsListedTwice, IsIndex, HasQueues, ListsMore, ListsSlot, StaysIndex};
 
 use crate::mail::queue::Queue;
 use limits::Heap;
-use matching::{Context, Packet};
+use matching::{Context, Packet, Selector};
 use std::alloc::AllocError;
 use std::collections::BTreeMap;
 use std::marker::Model;
@@ -55,19 +57,55 @@ impl Index {
         }
     }
 
-    /// The queue of what a selector with this context and tag names, if a
-    /// message of it was met.
-    pub fn queue(&self, context: Context, tag: Option<u16>) -> Option<&Queue>
+    /// The index of these slots.
+    #[tactic(auto, using(crate::proofs::Indexing::no_slots, crate::proofs::Indexing::slot_more, crate::proofs::Indexing::all_slots))]
+    pub fn of(alloc: Heap, slots: &[Option<Packet>]) -> Result<Index, AllocError>
+        ensures { IfOk result (λ index. IsIndex index slots.now) }
+    {
+        let mut index = Index::new(alloc);
+        let mut place = 0;
+        while place < slots.len() {
+            index.list_slot(&slots[place], place)?;
+            place += 1;
+        }
+        Ok(index)
+    }
+
+    /// The first of these slots that the selector names.
+    #[tactic(auto, using(crate::proofs::Searching::first_nowhere, crate::proofs::Searching::first_in_queue))]
+    pub fn first(&self, slots: &[Option<Packet>], selector: &Selector) -> Option<usize>
+        requires { IsIndex self.now slots.now }
+        ensures { result ≡ position (passes selector.now) slots.now }
+    {
+        let queue = self.queue(selector.context, selector.tag)?;
+        queue.first(slots, selector)
+    }
+
+    // The queue of what a selector with this context and tag names, if a
+    // message of it was met.
+    fn queue(&self, context: Context, tag: Option<u16>) -> Option<&Queue>
         ensures { option_copied result ≡ queue_of self.now (kind_of context tag) }
     {
         let queue = self.kinds.get(&kind_of(context, tag))?;
         Some(&self.queues[*queue])
     }
 
-    /// Lists a message, behind all others. An `Err` may leave its place in a
-    /// queue, where it does no harm.
+    /// Lists the message of this slot, behind all others.
+    #[tactic(auto, using(crate::proofs::Indexing::empty_listed, crate::proofs::Indexing::slot_listed))]
+    pub fn list_slot(&mut self, slot: &Option<Packet>, place: usize) -> Result<(), AllocError>
+        ensures ok { OnOk result (ListsSlot self.old place slot.now self.new) }
+        ensures err { OnErr result (StaysIndex self.old place self.new) }
+    {
+        match slot {
+            Some(packet) => self.list(packet.context, packet.tag, place),
+            None => Ok(()),
+        }
+    }
+
+    // Lists a message, behind all others. An `Err` may leave its place in a
+    // queue, where it does no harm.
     #[tactic(auto, using(crate::proofs::Putting::more_and_more))]
-    pub fn list(&mut self, context: Context, tag: u16, place: usize) -> Result<(), AllocError>
+    fn list(&mut self, context: Context, tag: u16, place: usize) -> Result<(), AllocError>
         ensures more { ListsMore self.old place self.new }
         ensures ok { OnOk result (IsListedTwice self.new context tag place) }
     {

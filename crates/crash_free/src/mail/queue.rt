@@ -1,8 +1,8 @@
 //! The places of messages of one kind.
-ghost use Rattle.std.specs.Prelude.{◌≡◌, [], ◌∷◌, ◌++◌, true, None, OnOk, OnErr, position, option_and_then, slice_get, slice_index_or};
-ghost use Rattle.crash_free.specs.Slots.{passes};
+ghost use Rattle.std.specs.Prelude.{◌≡◌, [], ◌∷◌, ◌++◌, true, OnOk, OnErr, position, option_and_then, slice_get};
 ghost use Rattle.crash_free.specs.Index.{passes_at, LosesEmpty, IsFrontEmpty};
 
+use crate::mail::walk::{is_empty_at, passes_at};
 use limits::Heap;
 use matching::{Packet, Selector};
 use std::alloc::AllocError;
@@ -88,32 +88,5 @@ impl Queue {
             return false;
         };
         is_empty_at(slots, *place)
-    }
-}
-
-fn passes_at(slots: &[Option<Packet>], place: usize, selector: &Selector) -> bool
-    ensures { result ≡ passes_at selector.now slots.now place }
-{
-    let Some(slot) = slots.get(place) else {
-        return false;
-    };
-    passes(slot, selector)
-}
-
-fn passes(slot: &Option<Packet>, selector: &Selector) -> bool
-    ensures { result ≡ passes selector.now slot.now }
-{
-    match slot {
-        Some(packet) => selector.matches(packet),
-        None => false,
-    }
-}
-
-fn is_empty_at(slots: &[Option<Packet>], place: usize) -> bool
-    ensures { result ≡ true → slice_index_or slots.now place None ≡ None }
-{
-    match slots.get(place) {
-        Some(slot) => slot.is_none(),
-        None => true,
     }
 }

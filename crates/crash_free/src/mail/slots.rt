@@ -7,31 +7,38 @@ ghost use Rattle.crash_free.specs.Standing.{and_all, and_packet};
 
 use crate::leftover::{Leftover, add_left};
 use crate::mail::index::Index;
+use crate::mail::walk::{first_from, moved};
 use crate::standing::{Standing, write_packets};
 use limits::Heap;
-use matching::{Packet, Selector};
+use matching::{Context, Packet, Selector};
 use std::alloc::AllocError;
 use std::marker::Model;
 use std::mem;
+
+/// So many slots from the front on are walked; for more there is an index.
+const FEW: usize = 8;
 
 /// What one rank sent to another: a slot for each message, empty once it is taken.
 #[derive(Drop)]
 pub struct Slots {
     slots: Vec<Option<Packet>, Heap>,
-    // so that no search walks slots that are empty or hold messages of another tag
-    index: Index,
+    // those before this one are empty
+    front: usize,
+    // where there are many from the front on, so that no search walks slots that are empty or hold
+    // messages of another tag
+    index: Option<Index>,
 }
 
 impl Model for Slots {
     ghost use Rattle.std.specs.Prelude.{List};
     ghost use Rattle.crash_free.specs.Slots.{Slot};
-    ghost use Rattle.crash_free.specs.Index.{IsIndex};
+    ghost use Rattle.crash_free.specs.Index.{AreFoundBy};
 
     ghost Value = { List Slot };
 
     ghost view = { λ l. l.slots.items };
 
-    ghost invariant = { λ c. IsIndex c.index c.slots.items };
+    ghost invariant = { λ c. AreFoundBy c.front c.index c.slots.items };
 }
 
 impl Clone for Slots {
@@ -40,8 +47,18 @@ impl Clone for Slots {
     fn clone(&self) -> Result<Slots, AllocError> {
         Ok(Slots {
             slots: copied(*self.slots.allocator(), &self.slots)?,
-            index: self.index.clone()?,
+            front: self.front,
+            index: copied_index(&self.index)?,
         })
+    }
+}
+
+fn copied_index(index: &Option<Index>) -> Result<Option<Index>, AllocError>
+    ensures { IfOk result (λ copy. copy ≡ index.now) }
+{
+    match index {
+        Some(index) => Ok(Some(index.clone()?)),
+        None => Ok(None),
     }
 }
 
@@ -66,17 +83,19 @@ impl Slots {
     {
         Slots {
             slots: Vec::new(alloc),
-            index: Index::new(alloc),
+            front: 0,
+            index: None,
         }
     }
 
     /// The first message that isn't taken and that the selector names.
-    #[tactic(auto, using(crate::proofs::Searching::first_nowhere, crate::proofs::Searching::first_in_queue))]
     pub fn first(&self, selector: &Selector) -> Option<usize>
         ensures { result ≡ position (passes selector.now) self.now }
     {
-        let queue = self.index.queue(selector.context, selector.tag)?;
-        queue.first(&self.slots, selector)
+        match &self.index {
+            Some(index) => index.first(&self.slots, selector),
+            None => first_from(self.front, &self.slots, selector),
+        }
     }
 
     /// Writes the messages that aren't taken.
@@ -99,14 +118,29 @@ impl Slots {
     }
 
     /// The packet is one message more.
+    #[tactic(auto, using(crate::proofs::Walking::still_empty))]
     pub fn push(&mut self, packet: Packet) -> Result<(), AllocError>
         ensures ok { OnOk result (self.new ≡ self.old ++ Some packet ∷ []) }
         ensures err { OnErr result (self.new ≡ self.old) }
     {
+        self.make_index()?;
         self.slots.reserve(1)?;
-        let place = self.slots.len();
-        self.index.list(packet.context, packet.tag, place)?;
-        self.slots.push_reserved(Some(packet));
+        let slot = Some(packet);
+        if let Some(index) = &mut self.index {
+            index.list_slot(&slot, self.slots.len())?;
+        }
+        self.slots.push_reserved(slot);
+        Ok(())
+    }
+
+    // Makes an index where there are many slots from the front on.
+    fn make_index(&mut self) -> Result<(), AllocError>
+        ensures { self.new ≡ self.old }
+    {
+        if self.index.is_none() && self.slots.len().saturating_sub(self.front) >= FEW {
+            let index = Index::of(*self.slots.allocator(), &self.slots)?;
+            self.index = Some(index);
+        }
         Ok(())
     }
 
@@ -122,7 +156,7 @@ impl Slots {
     }
 
     /// Takes the message of this index, from 0.
-    #[tactic(auto, using(crate::proofs::Indexing::index_emptied))]
+    #[tactic(auto, using(crate::proofs::Indexing::index_emptied, crate::proofs::Walking::emptied))]
     pub fn take(&mut self, index: usize) -> Packet
         requires { IsSomeAnd (slice_get self.old index) IsSome }
         ensures packet { slice_get self.old index ≡ Some (Some result) }
@@ -131,7 +165,17 @@ impl Slots {
         let Some(packet) = mem::replace(&mut self.slots[index], None) else {
             unreachable!()
         };
-        self.index.tidy(packet.context, packet.tag, &self.slots);
+        self.tidy(packet.context, packet.tag);
         packet
+    }
+
+    // Moves the front, and tidies the index.
+    fn tidy(&mut self, context: Context, tag: u16)
+        ensures { self.new ≡ self.old }
+    {
+        self.front = moved(self.front, &self.slots);
+        if let Some(index) = &mut self.index {
+            index.tidy(context, tag, &self.slots);
+        }
     }
 }

@@ -7,7 +7,7 @@ ghost use Rattle.crash_free.specs.LiveVariables.Live.{claimed};
 
 use crate::silences::line::may_send;
 use crate::silences::sought::Sought;
-use crash_free::live_variables::Row;
+use crash_free::live_variables::Claims;
 use limits::Heap;
 use rank_language::{Program, Statement};
 use std::alloc::AllocError;
@@ -17,7 +17,7 @@ use std::alloc::AllocError;
 #[derive(Drop)]
 pub struct Silence {
     pub sought: Sought,
-    pub claims: Row,
+    pub claims: Claims,
 }
 
 impl Silence {
@@ -34,7 +34,7 @@ impl Silence {
         let lines = program.len();
         let mut row = Silence {
             sought,
-            claims: Row::full(alloc, lines + 1)?,
+            claims: Claims::full(alloc, lines + 1)?,
         };
         let mut rounds = 0;
         while rounds <= lines {
@@ -46,7 +46,7 @@ impl Silence {
         }
         Ok(Silence {
             sought,
-            claims: Row::empty(alloc),
+            claims: Claims::empty(alloc),
         })
     }
 

@@ -7,7 +7,7 @@ use crate::judge::could::put_could;
 use crate::judge::follower::Follower;
 use crate::text::OutcomeText;
 use audit::final_runs::FinalFault;
-use audit::{End, Line, Outcome};
+use audit::{AuditFault, End, Line, Outcome};
 use limits::Heap;
 use rank_language::{Program, line_of_text};
 use rank_machine::Want;
@@ -17,7 +17,7 @@ use std::alloc::AllocError;
 /// What was asked: whether a run of the program on so many ranks, each with so
 /// many steps, has the outcome of a text.
 #[derive(Clone, Copy)]
-pub struct Asked<'a> {
+pub struct Question<'a> {
     pub program: &'a Program,
     /// The text of the program.
     pub text: &'a [u8],
@@ -50,7 +50,11 @@ enum Missed {
 ///
 /// Where a rank may only wait for another, each such rank is shown.
 #[tactic(auto, using(crate::proofs::JudgeLaws::Telling::is_no_text))]
-pub fn why_text(alloc: Heap, asked: &Asked<'_>, why: FinalFault) -> Result<String<Heap>, AllocError>
+pub fn why_text(
+    alloc: Heap,
+    asked: &Question<'_>,
+    why: FinalFault,
+) -> Result<String<Heap>, AllocError>
     ensures { IfOk result (λ text. IsNoText (string_bytes text)) }
 {
     let reason = reason_text(alloc, asked, why)?;
@@ -62,25 +66,23 @@ pub fn why_text(alloc: Heap, asked: &Asked<'_>, why: FinalFault) -> Result<Strin
 // What stands behind the `no`. It is a text of its own, so that whatever it is, the first line stays as it is.
 fn reason_text(
     alloc: Heap,
-    asked: &Asked<'_>,
+    asked: &Question<'_>,
     why: FinalFault,
 ) -> Result<String<Heap>, AllocError> {
-    let mut text = TextWriter::begun(reason_line(alloc, why), alloc);
+    let mut text = match why {
+        FinalFault::Audit(fault) => TextWriter::begun(fault_line(alloc, fault), alloc),
+        FinalFault::FalseStall(_) => TextWriter::new(alloc),
+    };
     put_departure(alloc, &mut text, asked, why);
     text.done()
 }
 
-fn reason_line(alloc: Heap, why: FinalFault) -> Result<String<Heap>, AllocError> {
-    match why {
-        FinalFault::Audit(fault) => {
-            format!(in alloc; "audit fault {}: {fault}\n", fault.number())
-        }
-        FinalFault::FalseStall(rank) => format!(in alloc; "rank {rank}: false stall\n"),
-    }
+fn fault_line(alloc: Heap, fault: AuditFault) -> Result<String<Heap>, AllocError> {
+    format!(in alloc; "audit fault {}: {fault}\n", fault.number())
 }
 
 // Where the outcome departs from the run that keeps to it as far as it can.
-fn put_departure(alloc: Heap, to: &mut TextWriter, asked: &Asked<'_>, why: FinalFault) {
+fn put_departure(alloc: Heap, to: &mut TextWriter, asked: &Question<'_>, why: FinalFault) {
     let made = Follower::new(
         alloc,
         asked.program,
@@ -88,17 +90,24 @@ fn put_departure(alloc: Heap, to: &mut TextWriter, asked: &Asked<'_>, why: Final
         asked.outcome,
         asked.steps,
     );
-    match made {
-        Ok(follower) => match why {
-            FinalFault::FalseStall(rank) => put_rank(to, asked, &follower, rank, Missed::End),
-            FinalFault::Audit(_) => put_ranks(to, asked, &follower),
-        },
-        Err(error) => to.fail(error),
+    let follower = match made {
+        Ok(follower) => follower,
+        Err(error) => return to.fail(error),
+    };
+    match why {
+        FinalFault::FalseStall(rank) => {
+            to.numbered("rank ", u64::from(rank), ": false stall\n");
+            put_rank(to, asked, &follower, rank, Missed::End);
+        }
+        FinalFault::Audit(_) => put_ranks(to, asked, &follower),
+    }
+    if let Err(error) = follower.room {
+        to.fail(error);
     }
 }
 
 // The lowest rank that others may wait for, or each of those that may wait.
-fn put_ranks(to: &mut TextWriter, asked: &Asked<'_>, follower: &Follower<'_, '_>) {
+fn put_ranks(to: &mut TextWriter, asked: &Question<'_>, follower: &Follower<'_, '_>) {
     for rank in 0..asked.ranks {
         match missed_by(asked, follower, rank) {
             Some(Missed::Awaited(_)) | None => {}
@@ -113,7 +122,7 @@ fn put_ranks(to: &mut TextWriter, asked: &Asked<'_>, follower: &Follower<'_, '_>
 }
 
 // What of the outcome the rank doesn't come to, if it doesn't: the first of it.
-fn missed_by(asked: &Asked<'_>, follower: &Follower<'_, '_>, rank: u8) -> Option<Missed> {
+fn missed_by(asked: &Question<'_>, follower: &Follower<'_, '_>, rank: u8) -> Option<Missed> {
     let want = follower.wants(rank);
     match (follower.next_event(rank), follower.next_line(rank)) {
         (Some(event), line) => {
@@ -166,7 +175,7 @@ fn may_want(end: Option<End>, want: Want) -> bool {
 
 fn put_rank(
     to: &mut TextWriter,
-    asked: &Asked<'_>,
+    asked: &Question<'_>,
     follower: &Follower<'_, '_>,
     rank: u8,
     missed: Missed,
@@ -187,7 +196,7 @@ fn put_rank(
 }
 
 // The line of the program on which the rank stands; none at its end.
-fn line_at(asked: &Asked<'_>, follower: &Follower<'_, '_>, rank: u8) -> Option<usize> {
+fn line_at(asked: &Question<'_>, follower: &Follower<'_, '_>, rank: u8) -> Option<usize> {
     asked.lines.get(follower.position(rank)?).copied()
 }
 

@@ -3,14 +3,14 @@ ghost use Rattle.std.specs.Prelude.{◌≡◌, IfSome, false};
 ghost use Rattle.event_logger.specs.Sequential.Event.{IsClock, finds_none};
 ghost use Rattle.rank_text.specs.Lines.Pieces.{words_of};
 ghost use Rattle.outcomes.specs.Text.Forms.{act_of, act_seen, clock_behind, clock_of, end_form, end_of, fault_of, faulted, form_of};
-ghost use Rattle.outcomes.specs.Text.Forms.{message_form, miss_form, named_form, plain_end, print_form, sender_of, value_of, IsFit};
+ghost use Rattle.outcomes.specs.Text.Forms.{message_form, miss_form, plain_end, print_form, sender_of, value_of, IsFit};
 
 use crate::text::form::{Form, Part};
-use crate::text::number::{clock_in, rank_in, value_in};
+use crate::text::number::{clock_in, value_in};
 use audit::End;
 use event_logger::Kind;
 use rank_machine::MachineFault;
-use rank_text::lines::next_word;
+use rank_text::lines::{decimal, next_word};
 
 /// The clock of a word behind `at`.
 fn clock_behind(at: &[u8], clock: &[u8]) -> Option<u32>
@@ -46,7 +46,7 @@ fn sender_of(line: &[u8]) -> Option<(u32, u32)>
     if from != b"from".as_slice() {
         return None;
     }
-    let source = rank_in(source)?;
+    let source = decimal(source)?;
     let sent = clock_of(rest)?;
     Some((source, sent))
 }
@@ -59,7 +59,7 @@ fn act_of(line: &[u8]) -> Option<((u32, u32), &[u8])>
     let (rank, rest) = next_word(line)?;
     let (at, rest) = next_word(rest)?;
     let (clock, rest) = next_word(rest)?;
-    let rank = rank_in(rank)?;
+    let rank = decimal(rank)?;
     let clock = clock_behind(at, clock)?;
     Some(((rank, clock), rest))
 }
@@ -124,7 +124,7 @@ fn end_of(line: &[u8]) -> Option<End>
     if word != b"fault".as_slice() || next_word(rest).is_some() {
         return None;
     }
-    faulted(rank_in(number))
+    faulted(decimal(number))
 }
 
 fn message_form(kind: Kind, line: &[u8]) -> Option<Form>
@@ -175,16 +175,17 @@ fn end_form(line: &[u8]) -> Option<Form>
     ensures fit { IfSome result (λ form. IsFit form.part) }
 {
     let (rank, rest) = next_word(line)?;
-    let rank = rank_in(rank)?;
+    let rank = decimal(rank)?;
     let part = Part::End(end_of(rest)?);
     Some(Form { rank, part })
 }
 
-/// What the line of this name says by the words behind it.
-fn named_form(name: &[u8], line: &[u8]) -> Option<Form>
-    ensures form { result ≡ named_form name.now (words_of line.now) }
+/// What a line says, if it has a form: by its name, and the words behind that.
+pub(crate) fn form_of(line: &[u8]) -> Option<Form>
+    ensures form { result ≡ form_of (words_of line.now) }
     ensures fit { IfSome result (λ form. IsFit form.part) }
 {
+    let (name, line) = next_word(line)?;
     if name == b"recv".as_slice() {
         return message_form(Kind::Reception, line);
     }
@@ -201,13 +202,4 @@ fn named_form(name: &[u8], line: &[u8]) -> Option<Form>
         return end_form(line);
     }
     None
-}
-
-/// What a line says, if it has a form.
-pub(crate) fn form_of(line: &[u8]) -> Option<Form>
-    ensures form { result ≡ form_of (words_of line.now) }
-    ensures fit { IfSome result (λ form. IsFit form.part) }
-{
-    let (name, rest) = next_word(line)?;
-    named_form(name, rest)
 }

@@ -1,17 +1,10 @@
 //! Clocks, ranks and printed values as words spell them.
 ghost use Rattle.std.specs.Prelude.{◌≡◌, IfSome};
-ghost use Rattle.outcomes.specs.Text.Numbers.{clock_in, negative, positive, rank_in, value_in};
+ghost use Rattle.outcomes.specs.Text.Numbers.{clock_in, negative, positive, value_in};
 ghost use Rattle.event_logger.specs.Sequential.Event.{IsClock};
 
 use limits::GREATEST_CLOCK;
 use rank_text::lines::{decimal, wide_decimal};
-
-/// The number of a rank; `u32::MAX` stands for each that is greater.
-pub(crate) fn rank_in(word: &[u8]) -> Option<u32>
-    ensures { result ≡ rank_in word.now }
-{
-    decimal(word)
-}
 
 /// The clock that the word spells, if a rank can have it.
 pub(crate) fn clock_in(word: &[u8]) -> Option<u32>

@@ -20,7 +20,11 @@ impl Store {
     {
         match self.leaf(expression) {
             Some(value) => Ok(value),
-            None => self.computed(expression),
+            // (a fault as a value of its own, so that the first arm's stays in a register)
+            None => match self.computed(expression) {
+                Ok(value) => Ok(value),
+                Err(fault) => Err(fault),
+            },
         }
     }
 
@@ -113,11 +117,10 @@ impl Store {
         ensures rank { result ≡ rank_in self.now.size value }
         ensures within { IfOk result (λ rank. rank < self.now.size) }
     {
-        let size = self.size;
-        match u8::try_from(value) {
-            Ok(rank) if rank < size => Ok(rank),
-            _ => Err(MachineFault::BadRank),
+        if value < 0 || value >= i64::from(self.size) {
+            return Err(MachineFault::BadRank);
         }
+        Ok(value as u8)
     }
 
     /// The index of the item that a `let` sets, and the item's value. The index

@@ -1,6 +1,6 @@
 //! The frames of a rank, whatever it does: those that arrive, and those that go
 //! out.
-ghost use Rattle.std.specs.Prelude.{◌≡◌, ◌<◌, Some, IsSome, IfOk, IfErr, OnOk, OnErr};
+ghost use Rattle.std.specs.Prelude.{◌≡◌, ◌<◌, Some, is_some, IsSome, IfOk, IfErr, OnOk, OnErr};
 ghost use Rattle.rank_node.specs.Frames.{IsPacket};
 ghost use Rattle.rank_node.specs.Phases.{stable_in, arrival_in, arrived_in, outgoing_in, passed_in};
 
@@ -29,6 +29,18 @@ impl<'p, S: Shelf, D> Phase<'p, S, D> {
             Phase::Down(_) => return Ok(None),
         };
         Ok(Some(arrived))
+    }
+
+    /// Whether anything goes to this rank; nothing does from one that is down.
+    pub fn has_outgoing(&self, dest: u8) -> bool
+        requires { dest < (stable_in self.now).size }
+        ensures { result ≡ is_some (outgoing_in self.now dest) }
+    {
+        match self {
+            Phase::Running(rank) => rank.has_outgoing(dest),
+            Phase::Replaying(rank) => rank.has_outgoing(dest),
+            Phase::Down(_) => false,
+        }
     }
 
     /// What goes to this rank next; nothing from one that is down. An `Err`

@@ -1,5 +1,5 @@
 //! The prints of a rank that replays.
-ghost use Rattle.std.specs.Prelude.{◌≡◌, ◌≢◌, Ok, Err, IfOk, IfErr, OnOk, OnErr};
+ghost use Rattle.std.specs.Prelude.{◌≡◌, OnOk, OnErr};
 ghost use Rattle.rank_machine.specs.Machine.{machine_want};
 
 use crate::fault::NodeFault;
@@ -11,7 +11,8 @@ use event_logger::Event;
 use rank_machine::Want;
 
 impl<'p, S: Shelf, D> Running<'p, S, D> {
-    ghost use Rattle.rank_node.specs.Replay.{replay_turn_at, replayed_at, ReplayStepAt, ShowsReplayAt};
+    ghost use Rattle.rank_node.specs.Replay.{ShowsReplayAt};
+    ghost use Rattle.rank_node.specs.Stepping.{IsReplayAt};
 
     // The print that stands, made again: what shows lines drops one that it has shown.
     pub(crate) fn print_again<C: Screen>(
@@ -21,16 +22,8 @@ impl<'p, S: Shelf, D> Running<'p, S, D> {
         event: Event,
     ) -> Result<Turn, NodeFault>
         requires { machine_want self.old.machine ≡ Want.Print value }
-        ensures turn { IfOk result (λ turn. replay_turn_at self.old event (Want.Print value) ≡ Ok turn) }
-        ensures ok { OnOk result (self.new ≡ replayed_at self.old event (Want.Print value) self.new.machine) }
-        ensures machine { OnOk result (ReplayStepAt self.old event (Want.Print value) self.new.machine) }
-        ensures stable { self.new.stable ≡ self.old.stable }
-        ensures pending { self.new.pending ≡ self.old.pending }
+        ensures step { IsReplayAt self.old event (Want.Print value) result self.new }
         ensures shown { OnOk result (ShowsReplayAt C.shows self.old (Want.Print value) screen.old screen.new) }
-
-        ensures refusal { (e : NodeFault) → replay_turn_at self.old event (Want.Print value) ≡ Err e → result ≡ Err e }
-        ensures refused { IfErr result (λ e. e ≢ NodeFault.Memory → replay_turn_at self.old event (Want.Print value) ≡ Err e) }
-        ensures err { OnErr result (self.new ≡ self.old) }
         ensures err_screen { OnErr result (screen.new ≡ screen.old) }
     {
         if !self.is_before(event) {

@@ -1,6 +1,7 @@
 //! The receptions of a rank that replays.
-ghost use Rattle.std.specs.Prelude.{◌≡◌, Ok, Err, IfOk, IfErr, OnOk, OnErr};
-ghost use Rattle.rank_machine.specs.Machine.{machine_want};
+ghost use Rattle.std.specs.Prelude.{◌≡◌, ◌<◌, true, is_some, IfSome};
+ghost use Rattle.limits.specs.Limits.{greatest_clock};
+ghost use Rattle.rank_machine.specs.Machine.{machine_want, IsReceiving};
 
 use crate::fault::NodeFault;
 use crate::running::Running;
@@ -11,7 +12,9 @@ use matching::Selector;
 use rank_machine::Want;
 
 impl<'p, S: Shelf, D> Running<'p, S, D> {
-    ghost use Rattle.rank_node.specs.Replay.{replay_turn_at, replayed_at, ReplayStepAt};
+    ghost use Rattle.rank_node.specs.Replay.{named, taken_named};
+    ghost use Rattle.rank_node.specs.Stepping.{IsReplayAt};
+    ghost use Rattle.rank_node.specs.Steps.{TakesFound};
 
     // The receive that stands takes the packet that the event names.
     pub(crate) fn receive_named(
@@ -20,16 +23,7 @@ impl<'p, S: Shelf, D> Running<'p, S, D> {
         event: Event,
     ) -> Result<Turn, NodeFault>
         requires { machine_want self.old.machine ≡ Want.Receive selector.now }
-        ensures turn { IfOk result (λ turn. replay_turn_at self.old event (Want.Receive selector.now) ≡ Ok turn) }
-        ensures ok { OnOk result (self.new ≡ replayed_at self.old event (Want.Receive selector.now) self.new.machine) }
-        ensures machine { OnOk result (ReplayStepAt self.old event (Want.Receive selector.now) self.new.machine) }
-        ensures stable { self.new.stable ≡ self.old.stable }
-        ensures pending { self.new.pending ≡ self.old.pending }
-
-        ensures refusal { (e : NodeFault) → replay_turn_at self.old event (Want.Receive selector.now) ≡ Err e → result ≡ Err e }
-        ensures refused { IfErr result (λ e. replay_turn_at self.old event (Want.Receive selector.now) ≡ Err e) }
-        ensures replay { IfErr result (λ e. e ≡ NodeFault.Replay) }
-        ensures err { OnErr result (self.new ≡ self.old) }
+        ensures { IsReplayAt self.old event (Want.Receive selector.now) result self.new }
     {
         if !self.is_now(event) || event.kind() != Kind::Reception {
             return Err(NodeFault::Replay);
@@ -37,12 +31,23 @@ impl<'p, S: Shelf, D> Running<'p, S, D> {
         let Some(_fitting) = self.find_fitting(selector, event)? else {
             return Ok(Turn::Blocked);
         };
+        self.take_again(event);
+        Ok(Turn::Moved)
+    }
+
+    // The packet that the event names is taken, as it was before.
+    fn take_again(&mut self, event: Event)
+        requires clock { self.old.clock < greatest_clock }
+        requires there { is_some (named self.old event) ≡ true }
+        requires fits { IfSome (named self.old event) (λ f. IsReceiving (machine_want self.old.machine) f.1) }
+        ensures taken { self.new ≡ taken_named self.old self.new.machine (named self.old event) }
+        ensures machine { TakesFound (named self.old event) self.old.machine self.new.machine }
+    {
         self.inbox.law_numbers_rise();
         let Some(packet) = self.inbox.take_named(event.sender(), event.sender_clock()) else {
             unreachable!()
         };
         self.machine.give(packet);
         self.clock += 1;
-        Ok(Turn::Moved)
     }
 }

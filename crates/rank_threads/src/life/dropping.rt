@@ -3,7 +3,7 @@ ghost use Rattle.std.specs.Prelude.{◌≡◌, ◌≢◌, ◌+◌};
 ghost use Rattle.rank_threads.specs.Dropping.{DroppedBelow, DroppedFrom, OnlyDrops};
 
 use super::station::Station;
-use crate::lanes_of::{LanesSeen, take_from};
+use crate::lanes_of::{LanesSeen, sees_frame, take_from};
 use limits::MOST_FRAMES;
 
 /// At a crash the frames in the lanes into the rank are dropped, at most as
@@ -36,14 +36,17 @@ fn drop_from(station: &mut Station<'_>, source: u8, looked: &mut LanesSeen)
 }
 
 // The next frame from this rank is dropped, where there is one.
-#[tactic(auto, using(crate::proofs::DroppingLemmas::dropped_none, crate::proofs::DroppingLemmas::dropped_one))]
+#[tactic(auto, using(crate::proofs::DroppingLemmas::dropped_none, crate::proofs::DroppingLemmas::dropped_unseen))]
 fn drop_one(station: &mut Station<'_>, source: u8, looked: &mut LanesSeen) -> bool
     ensures next { looked.old.below ≡ source → looked.new.below ≡ source + 1 }
     ensures others { looked.old.below ≢ source → looked.new.below ≡ looked.old.below }
     ensures dropped { DroppedFrom source station.old station.new }
     ensures only { OnlyDrops station.old station.new }
 {
-    let Some(_) = take_from(&mut station.kit.from, source, looked) else {
+    if !sees_frame(&mut station.kit.from, source, looked) {
+        return false;
+    }
+    let Some(_) = take_from(&mut station.kit.from, source) else {
         return false;
     };
     station.kit.tally.count_taken();

@@ -1,8 +1,8 @@
 //! The frames of a rank in its lanes.
-ghost use Rattle.std.specs.Prelude.{◌≡◌, ◌<◌, Some, IfOk, OnOk, OnErr};
+ghost use Rattle.std.specs.Prelude.{◌≡◌, ◌<◌, true, is_some, Some, IfOk, OnOk, OnErr};
 ghost use Rattle.ports.specs.Lanes.{lane_to, put_of};
 ghost use Rattle.rank_node.specs.declared.turn.Arrived.TheVariants.{Accepted};
-ghost use Rattle.rank_node.specs.Phases.{arrival_in, arrived_in};
+ghost use Rattle.rank_node.specs.Phases.{arrival_in, arrived_in, outgoing_in};
 ghost use Rattle.rank_threads.specs.Lives.{KeepsOutput};
 ghost use Rattle.rank_threads.specs.Putting.{KeepsOthers, Puts};
 
@@ -19,8 +19,6 @@ pub enum PutResult {
     Gone(FrameKind),
     /// The lane is full; it is still outgoing.
     Full,
-    /// Nothing was outgoing.
-    Nothing,
 }
 
 impl<'p, 'l> Node<'p, 'l> {
@@ -40,12 +38,21 @@ impl<'p, 'l> Node<'p, 'l> {
         }
     }
 
+    /// Whether anything is outgoing to this rank.
+    pub fn has_outgoing(&self, dest: u8) -> bool
+        requires { dest < self.now.size }
+        ensures { result ≡ is_some (outgoing_in self.now.phase dest) }
+    {
+        self.phase.has_outgoing(dest)
+    }
+
     /// Puts what is outgoing to this rank next into the lane to it: it is gone
     /// when it is in the lane, and not before. An `Err` means out of memory, and
     /// leaves all as it was.
     #[tactic(auto, using(crate::proofs::GateLemmas::gone_waits, crate::proofs::PuttingLemmas::others_laws))]
     pub fn put_one(&mut self, dest: u8, lane: &mut Tx) -> Result<PutResult, AllocError>
-        requires { dest < self.old.size }
+        requires there { dest < self.old.size }
+        requires outgoing { is_some (outgoing_in self.old.phase dest) ≡ true }
         ensures puts { IfOk result (λ went. Puts went self.old.phase dest (put_of lane.old) self.new.phase (put_of lane.new)) }
         ensures others { KeepsOthers dest self.old.phase self.new.phase }
         ensures err { OnErr result ((self.new.phase ≡ self.old.phase) × (put_of lane.new ≡ put_of lane.old)) }
@@ -55,9 +62,7 @@ impl<'p, 'l> Node<'p, 'l> {
         let Ok(frame) = self.phase.outgoing(dest) else {
             return Err(AllocError);
         };
-        let Some(frame) = frame else {
-            return Ok(PutResult::Nothing);
-        };
+        let Some(frame) = frame else { unreachable!() };
         let kind = kind_of(&frame);
         if lane.put(frame).is_err() {
             return Ok(PutResult::Full);

@@ -28,11 +28,11 @@ pub fn release_all<W: Wait>(
     ensures clock { rank.new.clock ≡ rank.old.clock }
     ensures same { SameStable rank.old.stable rank.new.stable }
 {
-    if rank.is_settled() {
-        return Ok(true);
-    }
     while rank.ack() {}
     loop {
+        if rank.is_settled() {
+            return Ok(true);
+        }
         if release(rt, console, rank)? {
             continue;
         }
@@ -72,7 +72,8 @@ fn release<W: Wait>(
             let mut console = console.lock(rt);
             rank.release(&mut *console)
         }
-        Some(Waiting::Send { .. } | Waiting::Event(_)) | None => release_silently(rank),
+        Some(Waiting::Send { .. } | Waiting::Event(_)) => release_silently(rank),
+        None => return Ok(false),
     };
     match clock {
         Ok(clock) => Ok(clock.is_some()),

@@ -29,10 +29,16 @@ pub fn is_image(order: Option<Order>) -> bool
 
 /// Whether an image is to be taken after this step: the script's next line asks
 /// for it, or it is due, as the rank takes one after each so many acts.
-pub fn images_after(stepped: Stepped, every: Option<NonZeroU32>, life: &Life<'_, '_>) -> bool
+pub fn images_after(
+    order: Option<Order>,
+    stepped: Stepped,
+    every: Option<NonZeroU32>,
+    life: &Life<'_, '_>,
+) -> bool
+    requires { order ≡ order_after stepped life.now.kit.plan life.now.node.phase }
     ensures { result ≡ images_after stepped every life.now.kit.plan life.now.node.phase }
 {
-    is_image(order_after(stepped, life)) || is_due_after(stepped, every, life)
+    is_image(order) || is_due_after(stepped, every, life)
 }
 
 fn is_due_after(stepped: Stepped, every: Option<NonZeroU32>, life: &Life<'_, '_>) -> bool

@@ -49,6 +49,10 @@ fn put_all_to<H>(
     let mut put = false;
     let mut is_done = false;
     for _ in 0..MOST_FRAMES {
+        if !life.node.has_outgoing(dest) {
+            is_done = true;
+            break;
+        }
         match put_to(&mut life.kit.to, dest, &mut life.node)? {
             PutResult::Gone(kind) => {
                 life.kit.tally.count_put();
@@ -56,10 +60,6 @@ fn put_all_to<H>(
                 put = true;
             }
             PutResult::Full => break,
-            PutResult::Nothing => {
-                is_done = true;
-                break;
-            }
         }
     }
     if !is_done {

@@ -9,17 +9,15 @@ ghost use Rattle.rank_threads.specs.Turns.{Brings, is_frames};
 ghost use Rattle.rank_threads.specs.Tally.{woken};
 
 use crate::costs::{FrameKind, kind_of};
-use crate::lanes_of::{LanesSeen, take_from};
+use crate::lanes_of::{LanesSeen, sees_frame, take_from};
 use crate::life::Life;
 use crate::shared::{NoRing, Shared};
 use std::alloc::AllocError;
 
-/// So many frames of a lane a rank takes in one turn at most.
+/// So many frames of a lane a rank takes in one turn at most. While so many packets
+/// wait in its inbox, one that isn't blocked takes one frame of a lane: it has
+/// enough to receive, and finds it sooner among fewer.
 const BATCH: u8 = 16;
-
-/// While so many packets wait in its inbox a rank that isn't blocked takes one
-/// frame of a lane: it has enough to receive, and finds it sooner among fewer.
-const ENOUGH: usize = 16;
 
 /// Takes what the lanes bring, by rising source, from each at most as many frames
 /// as a turn takes, and answers whether a frame came. Each lane is looked at. An
@@ -46,7 +44,7 @@ pub fn take_in<H>(
 fn frames_at_once(life: &Life<'_, '_>) -> u8
     ensures { result ≡ at_once life.now.kit.tally.is_blocked (length (packets_in life.now.node.phase)) }
 {
-    if !life.kit.tally.is_blocked && life.node.waiting_packets() >= ENOUGH {
+    if !life.kit.tally.is_blocked && life.node.waiting_packets() >= usize::from(BATCH) {
         1
     } else {
         BATCH
@@ -141,8 +139,9 @@ pub fn is_frames(brought: Arrivals) -> bool
     }
 }
 
-// The next frame from this rank arrives, where there is one.
-#[tactic(auto, using(crate::proofs::TakingLemmas::took_none, crate::proofs::TakingLemmas::took_frame))]
+// The next frame from this rank arrives, where one is seen. (A look in vain is so cheap as a function
+// that holds a frame isn't, which clears room for it.)
+#[tactic(auto, using(crate::proofs::TakingLemmas::took_none, crate::proofs::TakingLemmas::took_behind))]
 fn take_one<H>(
     shared: &Shared<'_, H>,
     life: &mut Life<'_, '_>,
@@ -155,7 +154,24 @@ fn take_one<H>(
     ensures took { IfOk result (λ took. TookFrom source life.old life.new took) }
     ensures kept { KeepsGate life.old life.new }
 {
-    let Some(frame) = take_from(&mut life.kit.from, source, looked) else {
+    if !sees_frame(&mut life.kit.from, source, looked) {
+        return Ok(false);
+    }
+    take_next(shared, life, source)
+}
+
+// The next frame from this rank arrives, where there is one.
+#[tactic(auto, using(crate::proofs::TakingLemmas::took_none, crate::proofs::TakingLemmas::took_frame))]
+fn take_next<H>(
+    shared: &Shared<'_, H>,
+    life: &mut Life<'_, '_>,
+    source: u8,
+) -> Result<bool, AllocError>
+    requires { source < life.old.node.size }
+    ensures took { IfOk result (λ took. TookFrom source life.old life.new took) }
+    ensures kept { KeepsGate life.old life.new }
+{
+    let Some(frame) = take_from(&mut life.kit.from, source) else {
         return Ok(false);
     };
     wake(shared, life);

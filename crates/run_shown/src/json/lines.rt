@@ -2,15 +2,14 @@
 
 use crate::json::object::Object;
 use limits::Heap;
-use serde_json::Value;
+use rank_text::text_writer::TextWriter;
 use std::alloc::AllocError;
 
 /// A text, to which objects are added.
 #[derive(Drop)]
 pub struct Lines {
     alloc: Heap,
-    text: String<Heap>,
-    room: Result<(), AllocError>,
+    text: TextWriter,
 }
 
 impl Lines {
@@ -18,37 +17,31 @@ impl Lines {
     pub fn new(alloc: Heap) -> Lines {
         Lines {
             alloc,
-            text: String::new(alloc),
-            room: Ok(()),
+            text: TextWriter::new(alloc),
         }
     }
 
     /// Writes the object, and ends the line.
     pub fn line(&mut self, object: Object) {
-        if self.room.is_ok() {
-            self.room = put_line(self.alloc, &mut self.text, object);
+        match line_of(self.alloc, object) {
+            Ok(line) => {
+                self.text.text(line.as_str());
+                self.text.sign('\n');
+            }
+            Err(error) => self.text.fail(error),
         }
     }
 
     /// The whole text.
     pub fn done(self) -> Result<String<Heap>, AllocError> {
-        let Lines { text, room, .. } = self;
-        match room {
-            Ok(()) => Ok(text),
-            Err(error) => Err(error),
-        }
+        let Lines { text, .. } = self;
+        text.done()
     }
 }
 
-fn put_line(alloc: Heap, to: &mut String<Heap>, object: Object) -> Result<(), AllocError> {
+fn line_of(alloc: Heap, object: Object) -> Result<String<Heap>, AllocError> {
     match object.done() {
-        Ok(value) => put_value(alloc, to, &value),
+        Ok(value) => value.to_string(alloc),
         Err(error) => Err(error),
     }
-}
-
-fn put_value(alloc: Heap, to: &mut String<Heap>, value: &Value) -> Result<(), AllocError> {
-    let line = value.to_string(alloc)?;
-    to.push_str(line.as_str())?;
-    to.push('\n')
 }

@@ -25,20 +25,27 @@ impl List {
 
     // Adds what was made, if there was memory for it.
     fn push(&mut self, value: Result<Value, AllocError>) {
-        if self.room.is_ok() {
-            self.room = pushed(&mut self.values, value);
+        match value {
+            Ok(value) => self.put(value),
+            Err(error) => self.fail(error),
+        }
+    }
+
+    fn put(&mut self, value: Value) {
+        if let Err(_) = self.values.push(value) {
+            self.fail(AllocError);
         }
     }
 
     pub fn integer(&mut self, value: i64) {
-        self.push(Ok(Value::from(value)));
+        self.put(Value::from(value));
     }
 
     /// A text, or null for bytes that aren't UTF-8.
     pub fn bytes(&mut self, text: &[u8]) {
         match std::str::from_utf8(text) {
             Ok(text) => self.push(Value::try_from_str(self.alloc, text)),
-            Err(_) => self.push(Ok(Value::Null)),
+            Err(_) => self.put(Value::Null),
         }
     }
 
@@ -59,12 +66,4 @@ impl List {
             Err(error) => Err(error),
         }
     }
-}
-
-fn pushed(
-    values: &mut Vec<Value, Heap>,
-    value: Result<Value, AllocError>,
-) -> Result<(), AllocError> {
-    values.push(value?)?;
-    Ok(())
 }

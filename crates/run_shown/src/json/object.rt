@@ -24,8 +24,8 @@ impl Object {
     }
 
     fn put(&mut self, name: &str, value: Value) {
-        if self.room.is_ok() {
-            self.room = put(&mut self.members, self.alloc, name, value);
+        if let Err(error) = put(&mut self.members, self.alloc, name, value) {
+            self.fail(error);
         }
     }
 

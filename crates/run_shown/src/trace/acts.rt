@@ -25,7 +25,7 @@ pub fn put_acts(to: &mut String<Heap>, told: Told<'_, '_>) -> Result<(), AllocEr
     requires clocked { AreClocked told.acts.now told.places.now }
     requires delivered { AreDelivered told.acts.now told.deliveries.now }
     ensures { OnOk result (string_bytes to.new ≡ string_bytes to.old
-        ++ acts_text told.entry.given.lines.now told.entry.acts.now told.entry.places.now) }
+        ++ acts_text told.entry.lines.now told.entry.acts.now told.entry.places.now) }
 {
     let width = clock_width(told.places);
     to.push_str(HEAD)?;
@@ -34,7 +34,7 @@ pub fn put_acts(to: &mut String<Heap>, told: Told<'_, '_>) -> Result<(), AllocEr
         let passed = &told.acts[index];
         let place = told.places[index];
         let message = sent(told, index);
-        put_line(to, told.given.lines, passed, place, message, width)?;
+        put_line(to, told.lines, passed, place, message, width)?;
     }
     Ok(())
 }
@@ -178,14 +178,14 @@ pub fn sent<'a>(told: Told<'a, '_>, index: usize) -> Option<Message<'a>>
         → maybe_seen result ≡ as_told (delivered (run_before told.entry.acts.now index) p) }
 {
     let send = told.deliveries.get(index)?.send?;
-    message_at(told, send)
+    message_at(told.acts, told.places, send)
 }
 
 /// The message that the act of this index sent.
-pub fn message_at<'a>(told: Told<'a, '_>, index: usize) -> Option<Message<'a>>
-    ensures { maybe_seen result ≡ made_by (slice_get told.entry.acts.now index) (slice_get told.entry.places.now index) }
+pub fn message_at<'a>(acts: &'a [Passed], places: &[Place], index: usize) -> Option<Message<'a>>
+    ensures { maybe_seen result ≡ made_by (slice_get acts.now index) (slice_get places.now index) }
 {
-    message_of(told.acts.get(index)?, *told.places.get(index)?)
+    message_of(acts.get(index)?, *places.get(index)?)
 }
 
 // The message of a send that was made at this place.

@@ -2,15 +2,15 @@
 
 use crate::trace::columns::put_between;
 use crate::trace::ends::waits_for;
-use crate::trace::given::Told;
 use audit::End;
+use crash_free::Sim;
 use limits::MOST_RANKS;
 use rank_text::text_writer::TextWriter;
 
 /// Writes a line for each circle of ranks in which each waits for the next one alone.
-pub fn put_circles(to: &mut TextWriter, told: Told<'_, '_>) {
-    for rank in 0..told.run.ranks() {
-        if let Some(members) = circle_from(told, rank) {
+pub fn put_circles(to: &mut TextWriter, run: &Sim<'_>, ends: &[End]) {
+    for rank in 0..run.ranks() {
+        if let Some(members) = circle_from(run, ends, rank) {
             put_circle(to, &members);
         }
     }
@@ -18,9 +18,9 @@ pub fn put_circles(to: &mut TextWriter, told: Told<'_, '_>) {
 
 /// Of which ranks the circle is in which this one has the lowest number, if
 /// there is one.
-pub fn circle_from(told: Told<'_, '_>, rank: u8) -> Option<[bool; MOST_RANKS]> {
+pub fn circle_from(run: &Sim<'_>, ends: &[End], rank: u8) -> Option<[bool; MOST_RANKS]> {
     let mut members = [false; MOST_RANKS];
-    if is_lowest_of_circle(told, rank, &mut members) {
+    if is_lowest_of_circle(run, ends, rank, &mut members) {
         Some(members)
     } else {
         None
@@ -28,22 +28,26 @@ pub fn circle_from(told: Told<'_, '_>, rank: u8) -> Option<[bool; MOST_RANKS]> {
 }
 
 // The one rank that a stalled rank waits for.
-fn awaited(told: Told<'_, '_>, rank: u8) -> Option<u8> {
-    let outcome = told.given.outcome;
-    match outcome.ends.get(usize::from(rank)) {
-        Some(End::Stalled) => waits_for(told, rank)?.source,
+fn awaited(run: &Sim<'_>, ends: &[End], rank: u8) -> Option<u8> {
+    match ends.get(usize::from(rank)) {
+        Some(End::Stalled) => waits_for(run, rank)?.source,
         Some(End::Halted | End::Faulted(_) | End::Unfinished) | None => None,
     }
 }
 
 // Whether the ranks that wait one for the other from this one on come back to it, and it has the lowest number. They are noted.
-fn is_lowest_of_circle(told: Told<'_, '_>, rank: u8, members: &mut [bool; MOST_RANKS]) -> bool {
+fn is_lowest_of_circle(
+    run: &Sim<'_>,
+    ends: &[End],
+    rank: u8,
+    members: &mut [bool; MOST_RANKS],
+) -> bool {
     let mut at = rank;
     for _ in 0..MOST_RANKS {
         if let Some(member) = members.get_mut(usize::from(at)) {
             *member = true;
         }
-        match awaited(told, at) {
+        match awaited(run, ends, at) {
             Some(next) if next == rank => return true,
             Some(next) if next > rank => at = next,
             Some(_) | None => return false,

@@ -4,7 +4,7 @@ use crate::trace::deliveries::Delivery;
 use crate::trace::fates::Fated;
 use crate::trace::place::Place;
 use crate::trace::why::Why;
-use audit::Outcome;
+use audit::{End, Outcome};
 use crash_free::{Passed, Sim};
 use rank_text::script::ScriptLine;
 use std::num::NonZeroU32;
@@ -38,7 +38,13 @@ pub struct Given<'a> {
 /// the lines of its script.
 #[derive(Clone, Copy)]
 pub struct Told<'a, 'p> {
-    pub given: Given<'a>,
+    /// The text of the program.
+    pub text: &'a [u8],
+    /// For each statement, by its position, the line of the text that it stands on.
+    pub lines: &'a [usize],
+    pub ends: &'a [End],
+    /// Why each rank is unfinished, where that is known.
+    pub whys: &'a [Option<Why>],
     pub run: &'a Sim<'p>,
     pub acts: &'a [Passed],
     pub places: &'a [Place],

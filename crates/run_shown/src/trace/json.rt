@@ -13,13 +13,18 @@ use limits::Heap;
 use std::alloc::AllocError;
 
 /// The run that is told, as JSON.
-pub fn json_of(alloc: Heap, told: Told<'_, '_>) -> Result<String<Heap>, AllocError> {
+pub fn json_of(
+    alloc: Heap,
+    told: Told<'_, '_>,
+    crashes: u64,
+    calls: u64,
+) -> Result<String<Heap>, AllocError> {
     let mut lines = Lines::new(alloc);
     put_acts(alloc, &mut lines, told);
     put_ends(alloc, &mut lines, told);
-    put_circles(alloc, &mut lines, told);
+    put_circles(alloc, &mut lines, told.run, told.ends);
     put_unreceived(alloc, &mut lines, told);
-    put_orders(alloc, &mut lines, told);
-    put_cost(alloc, &mut lines, told);
+    put_orders(alloc, &mut lines, told.orders, told.acts, told.places);
+    put_cost(alloc, &mut lines, crashes, calls);
     lines.done()
 }

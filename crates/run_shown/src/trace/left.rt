@@ -1,14 +1,14 @@
 //! Messages that nobody received.
 
-use crate::trace::acts::message_at;
+use crate::trace::deliveries::Delivery;
+use crate::trace::ends::put_sent;
 use crate::trace::given::Told;
-use crate::trace::message::write_mark;
-use crash_free::Act;
+use crash_free::{Act, Passed};
 use rank_text::text_writer::TextWriter;
 
 /// Whether the act of this index sends to the rank, which doesn't receive it.
-pub fn unreceived(told: Told<'_, '_>, index: usize, rank: u8) -> bool {
-    let (Some(passed), Some(delivery)) = (told.acts.get(index), told.deliveries.get(index)) else {
+pub fn unreceived(acts: &[Passed], deliveries: &[Delivery], index: usize, rank: u8) -> bool {
+    let (Some(passed), Some(delivery)) = (acts.get(index), deliveries.get(index)) else {
         return false;
     };
     match &passed.act {
@@ -20,7 +20,7 @@ pub fn unreceived(told: Told<'_, '_>, index: usize, rank: u8) -> bool {
 /// Writes for each rank how many messages it never received, and the first of them.
 pub fn put_unreceived(to: &mut TextWriter, told: Told<'_, '_>) {
     for rank in 0..told.run.ranks() {
-        if let Some((count, first)) = unreceived_by(told, rank) {
+        if let Some((count, first)) = unreceived_by(told.acts, told.deliveries, rank) {
             put_count(to, told, rank, count, first);
         }
     }
@@ -28,11 +28,11 @@ pub fn put_unreceived(to: &mut TextWriter, told: Told<'_, '_>) {
 
 /// How many messages a rank never received, and the index of the first one's
 /// send, if there are any.
-pub fn unreceived_by(told: Told<'_, '_>, rank: u8) -> Option<(usize, usize)> {
+pub fn unreceived_by(acts: &[Passed], deliveries: &[Delivery], rank: u8) -> Option<(usize, usize)> {
     let mut count = 0usize;
     let mut first = None;
-    for index in 0..told.acts.len() {
-        if unreceived(told, index, rank) {
+    for index in 0..acts.len() {
+        if unreceived(acts, deliveries, index, rank) {
             count = count.saturating_add(1);
             if first.is_none() {
                 first = Some(index);
@@ -46,9 +46,6 @@ pub fn unreceived_by(told: Told<'_, '_>, rank: u8) -> Option<(usize, usize)> {
 }
 
 fn put_count(to: &mut TextWriter, told: Told<'_, '_>, rank: u8, count: usize, first: usize) {
-    let (Some(passed), Some(message)) = (told.acts.get(first), message_at(told, first)) else {
-        return;
-    };
     to.numbered("rank ", u64::from(rank), ": ");
     to.number(count as u64);
     to.text(if count == 1 {
@@ -56,7 +53,6 @@ fn put_count(to: &mut TextWriter, told: Told<'_, '_>, rank: u8, count: usize, fi
     } else {
         " messages were never received, the first from "
     });
-    to.number(u64::from(passed.rank));
-    write_mark(to, message);
+    put_sent(to, told.acts, told.places, first);
     to.sign('\n');
 }

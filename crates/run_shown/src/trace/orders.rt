@@ -1,17 +1,17 @@
 //! What the script's lines came to: crashes and images, and those that never came to pass.
 
 use crate::trace::fates::{Fate, Fated};
-use crate::trace::given::Told;
+use crate::trace::place::Place;
 use crate::trace::words::put_count;
-use crash_free::Act;
+use crash_free::{Act, Passed};
 use limits::Heap;
 use rank_text::script::Order;
 use rank_text::text_writer::TextWriter;
 use std::alloc::AllocError;
 
 /// Writes each line of the script that never came to pass, and why.
-pub fn put_unmet(to: &mut TextWriter, told: Told<'_, '_>) {
-    for order in told.orders {
+pub fn put_unmet(to: &mut TextWriter, orders: &[Fated]) {
+    for order in orders {
         if !order.is_used() {
             put_why(to, *order);
         }
@@ -65,9 +65,9 @@ pub fn word_of(order: Order) -> &'static str {
 
 /// Writes a line for each crash and each image, in the order of the script, and
 /// before them by whom they are counted.
-pub fn put_crashes(to: &mut TextWriter, told: Told<'_, '_>) {
+pub fn put_crashes(to: &mut TextWriter, orders: &[Fated], acts: &[Passed], places: &[Place]) {
     let mut is_first = true;
-    for order in told.orders {
+    for order in orders {
         if order.is_used() {
             if is_first {
                 to.text(
@@ -75,12 +75,12 @@ pub fn put_crashes(to: &mut TextWriter, told: Told<'_, '_>) {
                 );
                 is_first = false;
             }
-            put_used(to, told, *order);
+            put_used(to, acts, places, *order);
         }
     }
 }
 
-fn put_used(to: &mut TextWriter, told: Told<'_, '_>, order: Fated) {
+fn put_used(to: &mut TextWriter, acts: &[Passed], places: &[Place], order: Fated) {
     let (clock, image) = (order.line.clock, order.image);
     to.numbered("rank ", u64::from(order.line.rank), ": ");
     match order.line.order {
@@ -90,17 +90,17 @@ fn put_used(to: &mut TextWriter, told: Told<'_, '_>, order: Fated) {
             to.numbered("", u64::from(image), ": ");
             put_count(to, u64::from(clock.saturating_sub(image)), "act");
             to.text(" made again, ");
-            put_count(to, received_again(told, order), "message");
+            put_count(to, received_again(acts, places, order), "message");
             to.text(" asked for again\n");
         }
     }
 }
 
 /// How many messages the rank had received between its image and this crash.
-pub fn received_again(told: Told<'_, '_>, order: Fated) -> u64 {
+pub fn received_again(acts: &[Passed], places: &[Place], order: Fated) -> u64 {
     let mut count = 0u64;
-    for index in 0..told.acts.len() {
-        if let (Some(passed), Some(place)) = (told.acts.get(index), told.places.get(index)) {
+    for index in 0..acts.len() {
+        if let (Some(passed), Some(place)) = (acts.get(index), places.get(index)) {
             if is_reception(&passed.act)
                 && passed.rank == order.line.rank
                 && order.image < place.clock

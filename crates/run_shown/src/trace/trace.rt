@@ -26,13 +26,13 @@ use std::alloc::AllocError;
 /// What is found of the acts of a run, by their index, and of the lines of its
 /// script.
 #[derive(Drop)]
-struct Found {
+struct ActDetails {
     places: Vec<Place, Heap>,
     deliveries: Vec<Delivery, Heap>,
     orders: Vec<Fated, Heap>,
 }
 
-impl Found {
+impl ActDetails {
     #[tactic(auto, using(crate::proofs::TraceLaws::PlacesLemmas::of_ranks, crate::proofs::TraceLaws::PlacesLemmas::clocked))]
     fn of(
         alloc: Heap,
@@ -40,7 +40,7 @@ impl Found {
         ranks: u8,
         run: &Sim<'_>,
         given: Given<'_>,
-    ) -> Result<Found, AllocError>
+    ) -> Result<ActDetails, AllocError>
         requires some { 1 ≤ ranks }
         requires few { ranks ≤ most_ranks }
         ensures places { IfOk result (λ found. AreFound program.now ranks (reverse run.now.run) found.places.items) }
@@ -51,7 +51,7 @@ impl Found {
         let places = places_of(alloc, program, ranks, acts)?;
         let deliveries = deliveries_of(alloc, acts)?;
         let orders = fates_of(alloc, given, acts)?;
-        Ok(Found {
+        Ok(ActDetails {
             places,
             deliveries,
             orders,
@@ -59,13 +59,17 @@ impl Found {
     }
 
     fn told<'a, 'p>(&'a self, run: &'a Sim<'p>, given: Given<'a>) -> Told<'a, 'p>
-        ensures given { result.given ≡ given.entry }
+        ensures lines { result.lines.now ≡ given.entry.lines.now }
         ensures acts { result.acts.now ≡ reverse run.entry.now.run }
         ensures places { result.places.now ≡ self.entry.now.places.items }
         ensures deliveries { result.deliveries.now ≡ self.entry.now.deliveries.items }
     {
+        let outcome = given.outcome;
         Told {
-            given,
+            text: given.text,
+            lines: given.lines,
+            ends: outcome.ends.as_slice(),
+            whys: given.whys,
             run,
             acts: run.acts(),
             places: self.places.as_slice(),
@@ -92,7 +96,7 @@ pub fn trace_text(
     requires lined { IsLinedOf given.text.now program.now given.lines.now }
     ensures { IfOk result (λ text. BeginsWithActs given.entry.text.now program.now ranks (reverse run.now.run) (string_bytes text)) }
 {
-    let found = Found::of(alloc, program, ranks, run, given)?;
+    let found = ActDetails::of(alloc, program, ranks, run, given)?;
     let told = found.told(run, given);
     let mut text = String::new(alloc);
     put_acts(&mut text, told)?;
@@ -105,10 +109,10 @@ pub fn trace_text(
 fn rest_of(alloc: Heap, told: Told<'_, '_>) -> Result<String<Heap>, AllocError> {
     let mut text = TextWriter::new(alloc);
     put_ends(&mut text, told);
-    put_circles(&mut text, told);
+    put_circles(&mut text, told.run, told.ends);
     put_unreceived(&mut text, told);
-    put_unmet(&mut text, told);
-    put_crashes(&mut text, told);
+    put_unmet(&mut text, told.orders);
+    put_crashes(&mut text, told.orders, told.acts, told.places);
     text.done()
 }
 
@@ -123,6 +127,6 @@ pub fn trace_json(
     requires some { 1 ≤ ranks }
     requires few { ranks ≤ most_ranks }
 {
-    let found = Found::of(alloc, program, ranks, run, given)?;
-    json_of(alloc, found.told(run, given))
+    let found = ActDetails::of(alloc, program, ranks, run, given)?;
+    json_of(alloc, found.told(run, given), given.crashes, given.calls)
 }

@@ -5,7 +5,7 @@ ghost use Rattle.run_shown.specs.World.Acts.{IsOutlookOf, determinant_of, in_row
 
 use crate::json::Object;
 use crate::world::determinants::determinant_object;
-use crate::world::standing::Standing;
+use crate::world::standing::RankAtWork;
 use crate::world::wants::want_object;
 use checkpoint::MemoryShelf;
 use event_logger::Event;
@@ -75,7 +75,7 @@ fn last_determinant(
 ) -> Result<Option<Event>, AllocError>
     ensures { IfOk result (λ event. event ≡ last_determinant phase.now row.now) }
 {
-    match Standing::of(alloc, phase)? {
+    match RankAtWork::of(alloc, phase)? {
         Some(standing) => Ok(determinant_of(standing.waiting.as_slice(), row, standing.clock)),
         None => Ok(None),
     }

@@ -62,26 +62,36 @@ fn played(
     put_texts(alloc, &mut to, world.ranks(), texts.program, texts.events);
     put_first(alloc, &mut to, known, world);
     for index in 0..events.len() {
-        let event = events[index];
-        let shown = world.lines().len();
-        let outlook = stepping(world, event);
-        let reply = world.apply(event)?;
         let mut object = Object::new(alloc);
         object.number("event", index as u64 + 1);
         if let Some(line) = lines.get(index) {
             object.number("line", *line as u64);
         }
-        put_event(alloc, &mut object, event, reply);
-        put_changes(alloc, &mut object, known, world, event, reply);
-        put_act(alloc, &mut object, world, event, reply, outlook);
-        put_lines(
-            alloc,
-            &mut object,
-            world.lines().get(shown..).unwrap_or(&[]),
-        );
+        put_played(alloc, &mut object, known, world, events[index]);
         to.line(object);
     }
     to.done()
+}
+
+// Gives the world an event, and says what came of it.
+fn put_played(
+    alloc: Heap,
+    object: &mut Object,
+    known: Known<'_, '_>,
+    world: &mut World<'_>,
+    event: WorldEvent,
+) {
+    let shown = world.lines().len();
+    let outlook = stepping(world, event);
+    match world.apply(event) {
+        Ok(reply) => {
+            put_event(alloc, object, event, reply);
+            put_changes(alloc, object, known, world, event, reply);
+            put_act(alloc, object, world, event, reply, outlook);
+            put_lines(alloc, object, world.lines().get(shown..).unwrap_or(&[]));
+        }
+        Err(error) => object.fail(error),
+    }
 }
 
 // What the rank does with its next step, if the event is a step of it.

@@ -8,14 +8,14 @@ use crate::world::determinants::waiting_object;
 use crate::world::frames::{next_object, packet_object};
 use crate::world::logs::log_list;
 use crate::world::names::Names;
-use crate::world::standing::Standing;
+use crate::world::standing::RankAtWork;
 use crate::world::wants::want_object;
 use checkpoint::{Image, MemoryShelf, Shelf, decode};
 use limits::Heap;
 use matching::Inbox;
 use rank_language::Program;
 use rank_machine::Machine;
-use rank_node::Phase;
+use rank_node::{Phase, Waiting};
 use std::alloc::AllocError;
 use world_model::World;
 
@@ -36,8 +36,8 @@ pub fn rank_object(alloc: Heap, known: Known<'_, '_>, world: &World<'_>, rank: u
     object.number("rank", u64::from(rank));
     object.text("phase", phase_name(phase));
     object.number("passed", world.view(rank).acts as u64);
-    match Standing::of(alloc, phase) {
-        Ok(Some(standing)) => put_standing(alloc, &mut object, known, &standing),
+    match RankAtWork::of(alloc, phase) {
+        Ok(Some(standing)) => put_standing(alloc, &mut object, known, standing),
         Ok(None) => {}
         Err(error) => object.fail(error),
     }
@@ -62,13 +62,14 @@ fn put_standing(
     alloc: Heap,
     object: &mut Object,
     known: Known<'_, '_>,
-    standing: &Standing<'_, '_>,
+    standing: RankAtWork<'_, '_>,
 ) {
     object.number("clock", u64::from(standing.clock));
     object.object("wants", want_object(alloc, standing.machine.wants()));
     put_machine(alloc, object, known, standing.machine);
     object.list("inbox", inbox_list(alloc, standing.inbox));
-    object.list("waiting", waiting_list(alloc, standing));
+    let waiting = standing.waiting.as_slice();
+    object.list("waiting", waiting_list(alloc, waiting, standing.stored));
     object.list("log", log_list(alloc, standing.log));
 }
 
@@ -84,16 +85,24 @@ fn put_machine(alloc: Heap, object: &mut Object, known: Known<'_, '_>, machine: 
 
 fn variables_object(alloc: Heap, known: Known<'_, '_>, machine: &Machine<'_>) -> Object {
     let mut object = Object::new(alloc);
-    for (name, value) in known.names.variables.iter().zip(machine.variables()) {
-        object.integer(name, *value);
+    let names = known.names;
+    let values = machine.variables();
+    for index in 0..names.variables.len() {
+        if let Some(value) = values.get(index) {
+            object.integer(names.variables[index], *value);
+        }
     }
     object
 }
 
 fn arrays_object(alloc: Heap, known: Known<'_, '_>, machine: &Machine<'_>) -> Object {
     let mut object = Object::new(alloc);
-    for (name, items) in known.names.arrays.iter().zip(machine.arrays()) {
-        object.integers(name, items.as_slice());
+    let names = known.names;
+    let arrays = machine.arrays();
+    for index in 0..names.arrays.len() {
+        if let Some(items) = arrays.get(index) {
+            object.integers(names.arrays[index], items.as_slice());
+        }
     }
     object
 }
@@ -116,11 +125,11 @@ fn inbox_list(alloc: Heap, inbox: &Inbox) -> List {
 }
 
 // What waits, oldest first. The first of these, so many, are stored.
-fn waiting_list(alloc: Heap, standing: &Standing<'_, '_>) -> List {
+fn waiting_list(alloc: Heap, all: &[Waiting], stored: usize) -> List {
     let mut list = List::new(alloc);
     let mut index = 0usize;
-    for waiting in &standing.waiting {
-        list.object(waiting_object(alloc, *waiting, index < standing.stored));
+    for waiting in all {
+        list.object(waiting_object(alloc, *waiting, index < stored));
         index = index.saturating_add(1);
     }
     list

@@ -11,7 +11,7 @@ use std::alloc::AllocError;
 
 /// What a rank at work has.
 #[derive(Drop)]
-pub struct Standing<'a, 'p> {
+pub struct RankAtWork<'a, 'p> {
     pub machine: &'a Machine<'p>,
     /// How many acts it has made.
     pub clock: u32,
@@ -23,7 +23,7 @@ pub struct Standing<'a, 'p> {
     pub stored: usize,
 }
 
-impl<'a, 'p> Standing<'a, 'p> {
+impl<'a, 'p> RankAtWork<'a, 'p> {
     ghost use Rattle.run_shown.specs.World.Standing.{IsReadOf};
 
     /// What a rank has, whatever it does. One that is down has nothing, and at
@@ -31,11 +31,11 @@ impl<'a, 'p> Standing<'a, 'p> {
     pub fn of(
         alloc: Heap,
         phase: &'a Phase<'p, MemoryShelf, ()>,
-    ) -> Result<Option<Standing<'a, 'p>>, AllocError>
+    ) -> Result<Option<RankAtWork<'a, 'p>>, AllocError>
         ensures { IfOk result (λ standing. IsReadOf phase.now standing) }
     {
         match phase {
-            Phase::Running(running) => Ok(Some(Standing {
+            Phase::Running(running) => Ok(Some(RankAtWork {
                 machine: running.machine(),
                 clock: running.clock(),
                 inbox: running.inbox(),
@@ -43,7 +43,7 @@ impl<'a, 'p> Standing<'a, 'p> {
                 waiting: waiting_at(alloc, running)?,
                 stored: running.stored(),
             })),
-            Phase::Replaying(replaying) => Ok(Some(Standing {
+            Phase::Replaying(replaying) => Ok(Some(RankAtWork {
                 machine: replaying.machine(),
                 clock: replaying.clock(),
                 inbox: replaying.inbox(),

@@ -101,14 +101,23 @@ fn of_script_in<'a, F: Files>(
 {
     let text = text_in(name, files)?;
     match Script::parse(alloc, text.as_slice(), ranks) {
-        Ok(script) => match first_unmet(script.lines()) {
-            Some(unmet) => Ok(Ok(unmet.text(alloc)?)),
-            None => Ok(Ok(String::new(alloc))),
-        },
+        Ok(script) => {
+            let unmet = unmet_of(alloc, &script);
+            drop(script);
+            Ok(Ok(unmet?))
+        }
         Err(ScriptParseFault::Fault(fault)) => {
             Ok(Err(explain_script(alloc, text.as_slice(), fault, ranks)?))
         }
         Err(ScriptParseFault::Memory) => Err(Refusal::Memory),
+    }
+}
+
+// The line of a script that no run can use, if there is one.
+fn unmet_of(alloc: Heap, script: &Script) -> Result<String<Heap>, AllocError> {
+    match first_unmet(script.lines()) {
+        Some(unmet) => unmet.text(alloc),
+        None => Ok(String::new(alloc)),
     }
 }
 

@@ -6,6 +6,7 @@ ghost use Rattle.runner.specs.OutcomesText.{GoesOnAt, IsMarkedObject, IsMarkedSu
 ghost use Rattle.runner.specs.Reasons.{HasNoOutcome, HasNoOutcomeOf, IsSearchRefusal, IsUnsearched, UnlessMemory};
 ghost use Rattle.runner.specs.Searches.{HasSearchStatus, IsExploreAnswer, IsFoundBy, IsPrinted, IsSearchAnswer, IsSearchedOf};
 
+use crate::commands::determinism::print_determinism;
 use crate::commands::reading::text_in;
 use crate::commands::refusal::Refusal;
 use crate::commands::safety::safety_of;
@@ -15,7 +16,7 @@ use crate::explored::{
 };
 use crate::files::Files;
 use command_line::{ExploreForm, ExploreJob};
-use explore::{Explored, Limits, Outcome, Watch, came_back, explore, marks_of, run_of};
+use explore::{Explored, FoundOutcome, Limits, Watch, came_back, explore, marks_of, run_of};
 use limits::Heap;
 use rank_language::{LinedProgram, ParseFault, Program};
 use run_events::laws::law_masks_reports;
@@ -85,7 +86,7 @@ fn found_of<'a, W: Watch>(
     let program = &searched.program;
     let found = search(alloc, job, program, watch)?;
     let safety = safety_of(alloc, job, text, searched, &found, watch)?;
-    let answer = answer_of(
+    let mut answer = answer_of(
         alloc,
         job,
         searched.lines.as_slice(),
@@ -93,6 +94,7 @@ fn found_of<'a, W: Watch>(
         &found,
         &safety,
     )?;
+    print_determinism(alloc, job, text, &found, watch, &mut answer)?;
     Ok(Said::answer(alloc, status_of(&found), answer.into_bytes()))
 }
 
@@ -294,7 +296,7 @@ fn events_of<'a>(
     }
 }
 
-fn outcome_at(found: &Explored, number: u32) -> Option<&Outcome>
+fn outcome_at(found: &Explored, number: u32) -> Option<&FoundOutcome>
     ensures { IfSome result (λ outcome. (index : ℕ) × (number ≡ index + 1) × (slice_get found.now.outcomes index ≡ Some outcome.now.ranks)) }
 {
     let index = number.checked_sub(1)? as usize;

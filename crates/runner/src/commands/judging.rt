@@ -13,7 +13,7 @@ use crate::files::Files;
 use audit::{Outcome, find_run};
 use command_line::JudgeJob;
 use limits::Heap;
-use outcomes::judge::{Asked, Verdict, judge, why_text};
+use outcomes::judge::{Question, Verdict, judge, why_text};
 use outcomes::text::OutcomeText;
 use rank_language::LinedProgram;
 use run_shown::trace::{Given, trace_text};
@@ -66,7 +66,10 @@ fn judged_by<'a, F: Files>(
         outcome: text_in(job.outcome, files)?,
     };
     let read = OutcomeText::parse(alloc, texts.outcome.as_slice(), job.ranks)?;
-    match said_of(alloc, job, lined, &texts, &read) {
+    let said = said_of(alloc, job, lined, &texts, &read);
+    drop(read);
+    drop(texts);
+    match said {
         Ok(said) => Ok(said),
         Err(error) => Err(Refusal::from(error)),
     }
@@ -106,7 +109,7 @@ fn verdict_on(
             Ok(Said::answer(alloc, 0, text.into_bytes()))
         }
         Verdict::No(why) => {
-            let asked = Asked {
+            let asked = Question {
                 program: &lined.program,
                 text: texts.program.as_slice(),
                 lines: lined.lines.as_slice(),

@@ -74,13 +74,18 @@ fn report_of<'a, R: Threads + Wait + Sync + Copy + Send, F: Files>(
     let asked = script_by(alloc, job.script, job.ranks, files)?;
     let script = &asked.script;
     let (limits, schedule) = (limits_of(job), schedule_of(job.scheduling));
-    match certified_by(rt, alloc, &program, job.ranks, script, limits, schedule) {
-        Ok(certified) => {
-            let left = left_text(alloc, &certified.run)?;
-            let Certified { report, run: _ } = certified;
-            Ok(Reported { report, left })
-        }
-        Err(fault) => Err(Refusal::from(fault)),
+    let made = certified_by(rt, alloc, &program, job.ranks, script, limits, schedule);
+    drop(asked);
+    let certified = match made {
+        Ok(certified) => certified,
+        Err(fault) => return Err(Refusal::from(fault)),
+    };
+    let left = left_text(alloc, &certified.run);
+    let Certified { report, run } = certified;
+    drop(run);
+    match left {
+        Ok(left) => Ok(Reported { report, left }),
+        Err(error) => Err(Refusal::from(error)),
     }
 }
 

@@ -105,11 +105,17 @@ fn second_search<W: Watch>(
         Err(SynchronousFault::Memory) => return Err(AllocError),
     };
     let found = search(alloc, job, &second.program, watch)?;
-    Ok(verdict_of(alloc, job, &second, &found)?)
+    let verdict = verdict_of(alloc, job, &second, &found);
+    drop(found);
+    drop(second);
+    match verdict {
+        Ok(verdict) => Ok(verdict),
+        Err(error) => Err(error),
+    }
 }
 
 // What was found of the program with acknowledgements says whether it is safe.
-#[tactic(auto, using(crate::proofs::Safety::is_not_safe))]
+#[tactic(auto, using(crate::proofs::Safety::is_safe, crate::proofs::Safety::is_not_safe, crate::proofs::Safety::is_unhalted, crate::proofs::Safety::is_stopped))]
 fn verdict_of(
     alloc: Heap,
     job: ExploreJob<'_>,

@@ -54,10 +54,22 @@ pub fn soaked<'a, R: Threads + Wait + Sync + Copy + Send, F: Files, W: Watch>(
 {
     let text = text_in(job.program, files)?;
     let program = Program::parse(alloc, text.as_slice())?;
+    drop(text);
     let soaked = made(rt, alloc, job, &program, watch)?;
-    let found = searched(alloc, job, &program, &soaked, watch)?;
-    let text = print_soaked(alloc, &soaked, &found, job.runs)?;
-    Ok(Said::answer(alloc, status_of(&soaked), text.into_bytes()))
+    let search = searched(alloc, job, &program, &soaked, watch);
+    drop(program);
+    let found = match search {
+        Ok(found) => found,
+        Err(error) => return Err(Refusal::from(error)),
+    };
+    let text = print_soaked(alloc, &soaked, &found, job.runs);
+    drop(found);
+    let status = status_of(&soaked);
+    drop(soaked);
+    match text {
+        Ok(text) => Ok(Said::answer(alloc, status, text.into_bytes())),
+        Err(error) => Err(Refusal::from(error)),
+    }
 }
 
 /// The script of the run that the job names, if that is one of the job's runs.
@@ -75,9 +87,18 @@ pub fn script_said<'a, R: Threads + Wait + Sync + Copy + Send, F: Files>(
     if job.number > job.soak.runs {
         return Err(Refusal::NoRun(job.number));
     }
-    let acts = acts_of(rt, alloc, job.soak, &program)?;
-    let drawn = drawn_for(alloc, job.soak, acts.as_slice(), job.number)?;
-    Ok(Said::answer(alloc, 0, drawn.text.into_bytes()))
+    let made = acts_of(rt, alloc, job.soak, &program);
+    drop(program);
+    let acts = match made {
+        Ok(acts) => acts,
+        Err(refusal) => return Err(refusal),
+    };
+    let drawn = drawn_for(alloc, job.soak, acts.as_slice(), job.number);
+    drop(acts);
+    match drawn {
+        Ok(drawn) => Ok(Said::answer(alloc, 0, drawn.text.into_bytes())),
+        Err(refusal) => Err(refusal),
+    }
 }
 
 fn status_of(soaked: &Soaked) -> u8
@@ -149,11 +170,24 @@ fn make<'a, R: Threads + Wait + Sync + Copy + Send>(
     let (ranks, script) = (job.ranks, &drawn.script);
     let (limits, schedule) = (limits_of(job), schedule_of_run(job.scheduling, number));
     match report_by(rt, alloc, program, ranks, script, limits, schedule) {
-        Ok(report) => Ok(soaked.note(alloc, &report, script)?),
+        Ok(report) => {
+            let noted = soaked.note(alloc, &report, script);
+            drop(report);
+            drop(drawn);
+            match noted {
+                Ok(()) => Ok(()),
+                Err(error) => Err(Refusal::from(error)),
+            }
+        }
         Err(RunFault::Memory) => Err(Refusal::Memory),
         Err(fault) => {
             let why = Refusal::from(fault);
-            Ok(soaked.fail(alloc, number, why, drawn.text.as_str())?)
+            let told = soaked.fail(alloc, number, why, drawn.text.as_str());
+            drop(drawn);
+            match told {
+                Ok(()) => Ok(()),
+                Err(error) => Err(Refusal::from(error)),
+            }
         }
     }
 }
@@ -194,8 +228,18 @@ fn acts_of<'a, R: Threads + Wait + Sync + Copy + Send>(
     let (ranks, limits) = (job.ranks, limits_of(job));
     let script = Script::new(alloc);
     let schedule = schedule_of(job.scheduling);
-    let certified = certified_by(rt, alloc, program, ranks, &script, limits, schedule)?;
-    Ok(acts_in(alloc, &certified.run, ranks)?)
+    let made = certified_by(rt, alloc, program, ranks, &script, limits, schedule);
+    drop(script);
+    let certified = match made {
+        Ok(certified) => certified,
+        Err(fault) => return Err(Refusal::from(fault)),
+    };
+    let acts = acts_in(alloc, &certified.run, ranks);
+    drop(certified);
+    match acts {
+        Ok(acts) => Ok(acts),
+        Err(error) => Err(Refusal::from(error)),
+    }
 }
 
 fn acts_in(alloc: Heap, run: &Sim<'_>, ranks: u8) -> Result<Vec<u32, Heap>, AllocError> {

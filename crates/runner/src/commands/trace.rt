@@ -52,6 +52,8 @@ pub fn traced<'a, R: Threads + Wait + Sync + Copy + Send, F: Files>(
     };
     let said = told(rt, alloc, job, text.as_slice(), &lined, &asked);
     drop(lined);
+    drop(asked);
+    drop(text);
     match said {
         Ok(said) => Ok(said),
         Err(refusal) => Err(refusal),
@@ -77,7 +79,9 @@ fn told<'a, R: Threads + Wait + Sync + Copy + Send>(
     let script = &asked.script;
     let schedule = schedule_of(job.run.scheduling);
     let certified = certified_by(rt, alloc, program, job.run.ranks, script, limits, schedule)?;
-    match told_of(alloc, job, text, lined, asked, &certified) {
+    let said = told_of(alloc, job, text, lined, asked, &certified);
+    drop(certified);
+    match said {
         Ok(said) => Ok(said),
         Err(refusal) => Err(refusal),
     }

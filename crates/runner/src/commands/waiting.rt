@@ -5,10 +5,10 @@ ghost use Rattle.runner.specs.Waits.{AreWaits, IsEmpty, WaitWith, is_for_another
 ghost use Rattle.runner.specs.Waits.{some_wait, wait_for_each_other, waits_in_send, waits_somewhere};
 
 use crate::commands::exploring::limits_of;
-use crate::explored::{Wait, Waits};
+use crate::explored::{Wait, WaitingRanks};
 use command_line::ExploreJob;
 use crash_free::{Leftover, Mark, Sim};
-use explore::{Explored, Leftovers, Outcome, run_of};
+use explore::{Explored, FoundOutcome, Leftovers, run_of};
 use limits::Heap;
 use rank_language::LinedProgram;
 use std::alloc::AllocError;
@@ -58,13 +58,13 @@ pub fn waits_in(
     alloc: Heap,
     job: ExploreJob<'_>,
     searched: &LinedProgram,
-    outcome: &Outcome,
-) -> Result<Waits, AllocError>
+    outcome: &FoundOutcome,
+) -> Result<WaitingRanks, AllocError>
     ensures { IfOk result (λ waits. WaitWith searched.now.program job.entry.ranks searched.now.lines.items outcome.now.ranks waits ⊎ IsEmpty waits) }
 {
     match run_of(alloc, &searched.program, job.ranks, limits_of(job), outcome)? {
         Some(run) => waits_after(alloc, &run, searched.lines.as_slice()),
-        None => Ok(Waits {
+        None => Ok(WaitingRanks {
             ranks: Vec::new(alloc),
             each_other: false,
         }),
@@ -72,7 +72,7 @@ pub fn waits_in(
 }
 
 // Which ranks wait in their sends after a run.
-fn waits_after(alloc: Heap, run: &Sim<'_>, lines: &[usize]) -> Result<Waits, AllocError>
+fn waits_after(alloc: Heap, run: &Sim<'_>, lines: &[usize]) -> Result<WaitingRanks, AllocError>
     ensures { IfOk result (AreWaits lines.now run.now) }
 {
     let left = run.left()?;
@@ -83,7 +83,7 @@ fn waits_after(alloc: Heap, run: &Sim<'_>, lines: &[usize]) -> Result<Waits, All
             ranks.push(Wait { rank, line })?;
         }
     }
-    Ok(Waits {
+    Ok(WaitingRanks {
         ranks,
         each_other: wait_for_each_other(left.as_slice()),
     })

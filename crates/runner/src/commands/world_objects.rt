@@ -2,7 +2,7 @@
 ghost use Rattle.std.specs.Prelude.{IfErr, IfOk, OnOk};
 ghost use Rattle.runner.specs.Objects.{HasEvents, IsObjectsAnswer};
 ghost use Rattle.runner.specs.Reasons.{IsEventsRefusal, IsWorldRefusal, UnlessMemory};
-ghost use Rattle.runner.specs.declared.commands.world.Wanted.TheVariants.{Replies};
+ghost use Rattle.runner.specs.declared.commands.world.WorldQuestion.TheVariants.{Replies};
 
 use crate::commands::reading::text_in;
 use crate::commands::refusal::Refusal;
@@ -29,6 +29,7 @@ pub fn objects_said<'a, F: Files>(
     let program = Program::parse(alloc, text.as_slice())?;
     let json = json_of(alloc, job, &program, text.as_slice(), files);
     drop(program);
+    drop(text);
     match json {
         Ok(json) => Ok(Said::answer(alloc, 0, json.into_bytes())),
         Err(refusal) => Err(refusal),
@@ -53,7 +54,9 @@ fn json_of<'a, F: Files>(
         program: text,
         events: events.as_slice(),
     };
-    match world_json(alloc, program, job.ranks, parsed.as_slice(), texts) {
+    let json = world_json(alloc, program, job.ranks, parsed.as_slice(), texts);
+    drop(parsed);
+    match json {
         Ok(json) => Ok(json),
         Err(error) => Err(Refusal::from(error)),
     }

@@ -13,7 +13,7 @@ ghost use Rattle.runner.specs.SearchObject.{is_safe_if_known, safety_members, wa
 use crate::explored::safety::{Safety, Wait};
 use audit::End;
 use crash_free::{Choice, Leftover, Mark};
-use explore::{Explored, Leftovers, Noted, Outcome, Race, RankEnd};
+use explore::{Explored, FoundOutcome, Leftovers, Noted, Race, RankEnd};
 use limits::Heap;
 use run_shown::trace::kind_name;
 use serde_json::{Map, Value, put};
@@ -112,7 +112,7 @@ fn wait_value(alloc: Heap, wait: Wait) -> Result<Value, AllocError>
 
 fn outcomes_of(
     alloc: Heap,
-    outcomes: &[Outcome],
+    outcomes: &[FoundOutcome],
     marks: &[Option<bool>],
     lines: &[usize],
 ) -> Result<Vec<Value, Heap>, AllocError>
@@ -141,7 +141,7 @@ fn mark_of(marks: &[Option<bool>], index: usize) -> Option<bool>
 fn outcome_value(
     alloc: Heap,
     number: usize,
-    outcome: &Outcome,
+    outcome: &FoundOutcome,
     mark: Option<bool>,
     lines: &[usize],
 ) -> Result<Value, AllocError>

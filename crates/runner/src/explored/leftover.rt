@@ -6,7 +6,7 @@ ghost use Rattle.explore.specs.Explored.{listed_left};
 ghost use Rattle.runner.specs.LeftText.{mark_words, number_words, same_mark, some_text};
 
 use crash_free::{Leftover, Mark};
-use explore::{Leftovers, Outcome};
+use explore::{FoundOutcome, Leftovers};
 use limits::Heap;
 use run_shown::trace::kind_name;
 use std::alloc::AllocError;
@@ -54,7 +54,7 @@ fn print_some(
 }
 
 /// What is listed of each outcome, in short, with the number of the outcome.
-pub fn print_shorts(text: &mut String<Heap>, outcomes: &[Outcome]) -> Result<(), AllocError>
+pub fn print_shorts(text: &mut String<Heap>, outcomes: &[FoundOutcome]) -> Result<(), AllocError>
     ensures { OnOk result (string_bytes text.new ≡ string_bytes text.old ++ shorts_text 1 (listed_left outcomes.now)) }
 {
     let mut number = 0usize;
@@ -148,14 +148,14 @@ fn print_line_of(
     print_number(text, count)?;
     write!(text, " never received, from {source}")?;
     print_mark(text, one.mark)?;
-    writeln!(text)
+    text.push_str("\n")
 }
 
 fn print_number(text: &mut String<Heap>, count: usize) -> Result<(), AllocError>
     ensures { OnOk result (string_bytes text.new ≡ string_bytes text.old ++ number_words count) }
 {
     if count == 1 {
-        write!(text, "1 message was")
+        text.push_str("1 message was")
     } else {
         write!(text, "{count} messages were")
     }

@@ -7,7 +7,7 @@ ghost use Rattle.runner.specs.Meanings.{count_text, mark_text, marks_text, meani
 ghost use Rattle.runner.specs.Meanings.{states_text, steps_text, unhalted_text};
 
 use audit::End;
-use explore::{Explored, Outcome, RankEnd};
+use explore::{Explored, FoundOutcome, RankEnd};
 use limits::Heap;
 use std::alloc::AllocError;
 use std::fmt::Write;
@@ -36,9 +36,8 @@ fn print_only(text: &mut String<Heap>, found: &Explored) -> Result<(), AllocErro
     ensures { OnOk result (string_bytes text.new ≡ string_bytes text.old ++ only_text found.now) }
 {
     if found.complete && found.outcomes.len() == 1 {
-        return writeln!(
-            text,
-            "# one outcome: whatever the order, this program prints this\n# whatever crashes, each rank prints this, or a beginning of it"
+        return text.push_str(
+            "# one outcome: whatever the order, this program prints this\n# whatever crashes, each rank prints this, or a beginning of it\n",
         );
     }
     Ok(())
@@ -117,17 +116,14 @@ fn print_cycle_line(text: &mut String<Heap>, cycle: &[usize]) -> Result<(), Allo
 {
     print_cycle_words(text)?;
     print_lines(text, cycle)?;
-    writeln!(text)
+    text.push_str("\n")
 }
 
 #[tactic(auto, unfolding(crate::specs::Meanings::cycle_words))]
 fn print_cycle_words(text: &mut String<Heap>) -> Result<(), AllocError>
     ensures { OnOk result (string_bytes text.new ≡ string_bytes text.old ++ cycle_words) }
 {
-    write!(
-        text,
-        "# a state came back: the ranks may go on for ever, at "
-    )
+    text.push_str("# a state came back: the ranks may go on for ever, at ")
 }
 
 /// The lines: `line 3`, `lines 3 and 4`.
@@ -135,7 +131,7 @@ pub fn print_lines(text: &mut String<Heap>, lines: &[usize]) -> Result<(), Alloc
     ensures { OnOk result (string_bytes text.new ≡ string_bytes text.old ++ named_lines lines.now) }
 {
     let count = lines.len();
-    write!(text, "{}", if count == 1 { "line " } else { "lines " })?;
+    text.push_str(if count == 1 { "line " } else { "lines " })?;
     print_numbers(text, lines)
 }
 
@@ -157,7 +153,7 @@ fn print_step_limit(text: &mut String<Heap>, found: &Explored) -> Result<(), All
     if !found.out_of_steps {
         return Ok(());
     }
-    writeln!(text, "# not all was looked at: allow more steps (--steps)")
+    text.push_str("# not all was looked at: allow more steps (--steps)\n")
 }
 
 fn print_run_limit(text: &mut String<Heap>, found: &Explored, runs: u32) -> Result<(), AllocError>
@@ -166,7 +162,7 @@ fn print_run_limit(text: &mut String<Heap>, found: &Explored, runs: u32) -> Resu
     if found.runs != runs {
         return Ok(());
     }
-    writeln!(text, "# not all was looked at: allow more runs (--runs)")
+    text.push_str("# not all was looked at: allow more runs (--runs)\n")
 }
 
 /// How a rank ends that doesn't halt.
@@ -187,7 +183,7 @@ fn is_of(ending: Ending, end: End) -> bool
 }
 
 // Which ranks of the outcomes don't halt.
-fn print_unhalted(text: &mut String<Heap>, outcomes: &[Outcome]) -> Result<(), AllocError>
+fn print_unhalted(text: &mut String<Heap>, outcomes: &[FoundOutcome]) -> Result<(), AllocError>
     ensures { OnOk result (string_bytes text.new ≡ string_bytes text.old ++ unhalted_text 1 (rank_outcomes outcomes.now)) }
 {
     let mut number = 0usize;
@@ -215,9 +211,9 @@ fn print_stalled(
     write!(text, "# outcome {number} stalls: ")?;
     print_ranks(text, ranks, Ending::Stalls, count)?;
     if count == 1 {
-        writeln!(text, " waits for a message that doesn't come")
+        text.push_str(" waits for a message that doesn't come\n")
     } else {
-        writeln!(text, " wait for messages that don't come")
+        text.push_str(" wait for messages that don't come\n")
     }
 }
 
@@ -265,7 +261,7 @@ fn print_ranks_line(
     ensures { OnOk result (string_bytes text.new ≡ string_bytes text.old ++ ranks_line (ranks_of ending 0 ranks.now)) }
 {
     print_ranks(text, ranks, ending, count)?;
-    writeln!(text)
+    text.push_str("\n")
 }
 
 fn count_of(ranks: &[RankEnd], ending: Ending) -> usize
@@ -294,7 +290,7 @@ fn print_ranks(
     requires { count ≡ length (ranks_of ending 0 ranks.now) }
     ensures { OnOk result (string_bytes text.new ≡ string_bytes text.old ++ named_ranks (ranks_of ending 0 ranks.now)) }
 {
-    write!(text, "{}", if count == 1 { "rank " } else { "ranks " })?;
+    text.push_str(if count == 1 { "rank " } else { "ranks " })?;
     print_enumeration(text, ranks, ending, count)
 }
 

@@ -100,10 +100,10 @@ pub fn print_choices(
 fn print_parted(text: &mut String<Heap>, parted: Parted, lines: &[usize]) -> Result<(), AllocError>
     ensures { OnOk result (string_bytes text.new ≡ string_bytes text.old ++ parted_text lines.now parted) }
 {
-    write!(text, "# ")?;
+    text.push_str("# ")?;
     print_chosen(text, parted.chosen, lines)?;
     print_before(text, parted, lines)?;
-    writeln!(text)
+    text.push_str("\n")
 }
 
 fn print_before(text: &mut String<Heap>, parted: Parted, lines: &[usize]) -> Result<(), AllocError>
@@ -113,7 +113,7 @@ fn print_before(text: &mut String<Heap>, parted: Parted, lines: &[usize]) -> Res
     if parted.chosen.chosen.rank == before.chosen.rank {
         return print_instead(text, before.chosen.choice, before.probes);
     }
-    write!(text, " before ")?;
+    text.push_str(" before ")?;
     print_chosen(text, before, lines)
 }
 
@@ -146,8 +146,8 @@ fn print_choice(text: &mut String<Heap>, choice: Choice, probes: bool) -> Result
     match choice {
         Choice::Take { source, index: _ } if probes => write!(text, "finds one from {source}"),
         Choice::Take { source, index: _ } => write!(text, "takes from {source}"),
-        Choice::Miss => write!(text, "finds none"),
-        Choice::Next => write!(text, "goes on"),
+        Choice::Miss => text.push_str("finds none"),
+        Choice::Next => text.push_str("goes on"),
     }
 }
 
@@ -157,7 +157,7 @@ fn print_instead(text: &mut String<Heap>, choice: Choice, probes: bool) -> Resul
 {
     match choice {
         Choice::Take { source, index: _ } => print_other(text, source, probes),
-        Choice::Miss => write!(text, ", not none"),
+        Choice::Miss => text.push_str(", not none"),
         Choice::Next => Ok(()),
     }
 }

@@ -37,25 +37,18 @@ pub fn print_summary(
 
 fn print_race(text: &mut String<Heap>, race: &Race, lines: &[usize]) -> Result<(), AllocError> {
     print_place(text, race.rank, lines.get(race.position).copied())?;
-    write!(
-        text,
-        "{}",
-        if race.probes {
-            "finds one from "
-        } else {
-            "takes from "
-        }
-    )?;
+    text.push_str(if race.probes {
+        "finds one from "
+    } else {
+        "takes from "
+    })?;
     print_sources(text, race)?;
-    if race.misses {
-        write!(text, ", or none")?;
-    }
-    writeln!(text)
+    text.push_str(if race.misses { ", or none\n" } else { "\n" })
 }
 
 // The ranks of which it could take or find a message: `1`, `1 or 2`, `1, 2 or 3`.
 fn print_sources(text: &mut String<Heap>, race: &Race) -> Result<(), AllocError> {
-    let mut left = race.sources.iter().filter(|is_one| **is_one).count();
+    let mut left = count_of(&race.sources);
     for (rank, is_one) in race.sources.iter().enumerate() {
         if *is_one {
             left = left.saturating_sub(1);
@@ -63,6 +56,16 @@ fn print_sources(text: &mut String<Heap>, race: &Race) -> Result<(), AllocError>
         }
     }
     Ok(())
+}
+
+fn count_of(sources: &[bool]) -> usize {
+    let mut count = 0usize;
+    for is_one in sources {
+        if *is_one {
+            count = count.saturating_add(1);
+        }
+    }
+    count
 }
 
 // What stands between a rank and so many more.

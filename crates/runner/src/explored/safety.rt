@@ -6,7 +6,6 @@ ghost use Rattle.runner.specs.Safety.{safety_behind, safety_text, unknown_text, 
 use crate::explored::meaning::{print_lines, print_numbers};
 use limits::Heap;
 use std::alloc::AllocError;
-use std::fmt::Write;
 
 /// A rank that waits in its send, if no message is buffered.
 #[derive(Clone, Copy)]
@@ -18,7 +17,7 @@ pub struct Wait {
 
 /// The ranks that wait so after a run.
 #[derive(Drop)]
-pub struct Waits {
+pub struct WaitingRanks {
     pub ranks: Vec<Wait, Heap>,
     /// Whether each waits for another one of them.
     pub each_other: bool,
@@ -44,11 +43,11 @@ pub enum Safety {
     Untold,
     Safe,
     /// It isn't, as these ranks wait; none if no run of them was found again.
-    NotSafe(Waits),
+    NotSafe(WaitingRanks),
     Unknown(Unknown),
 }
 
-/// The last line of what was found, unless the search itself was one of synchronous runs.
+/// The line on whether the program is safe, unless the search itself was one of synchronous runs.
 pub fn print_safety(
     alloc: Heap,
     text: &mut String<Heap>,
@@ -68,7 +67,7 @@ fn print_told(alloc: Heap, text: &mut String<Heap>, safety: &Safety) -> Result<(
 {
     match safety {
         Safety::Untold => Ok(()),
-        Safety::Safe => writeln!(text, "# safe: no send needs a buffer"),
+        Safety::Safe => text.push_str("# safe: no send needs a buffer\n"),
         Safety::NotSafe(waits) => print_waits(alloc, text, waits),
         Safety::Unknown(why) => print_unknown(text, *why),
     }
@@ -78,44 +77,61 @@ fn print_unknown(text: &mut String<Heap>, why: Unknown) -> Result<(), AllocError
     ensures { OnOk result (string_bytes text.new ≡ string_bytes text.old ++ unknown_text why) }
 {
     match why {
-        Unknown::ComputedTag => writeln!(
-            text,
-            "# not known whether it is safe: a send computes its tag"
+        Unknown::ComputedTag => text.push_str(
+            "# not known whether it is safe: a send computes its tag\n",
         ),
-        Unknown::PastLimits => writeln!(
-            text,
-            "# not known whether it is safe: with acknowledgements it passes a limit of texts"
+        Unknown::PastLimits => text.push_str(
+            "# not known whether it is safe: with acknowledgements it passes a limit of texts\n",
         ),
-        Unknown::Stopped => writeln!(
-            text,
-            "# not known whether it is safe: the search without buffers came to a limit"
+        Unknown::Stopped => text.push_str(
+            "# not known whether it is safe: the search without buffers came to a limit\n",
         ),
-        Unknown::Unhalted => writeln!(
-            text,
-            "# not known whether it is safe: a rank doesn't halt, though each message sent is received"
+        Unknown::Unhalted => text.push_str(
+            "# not known whether it is safe: a rank doesn't halt, though each message sent is received\n",
         ),
     }
 }
 
-fn print_waits(alloc: Heap, text: &mut String<Heap>, waits: &Waits) -> Result<(), AllocError>
+fn print_waits(alloc: Heap, text: &mut String<Heap>, waits: &WaitingRanks) -> Result<(), AllocError>
     ensures { OnOk result (string_bytes text.new ≡ string_bytes text.old ++ waits_text waits.now) }
 {
     if waits.ranks.is_empty() {
-        return writeln!(text, "# not safe: without buffers a rank waits in its send");
+        return text.push_str("# not safe: without buffers a rank waits in its send\n");
     }
     print_waits_line(alloc, text, waits)
 }
 
-fn print_waits_line(alloc: Heap, text: &mut String<Heap>, waits: &Waits) -> Result<(), AllocError>
+fn print_waits_line(
+    alloc: Heap,
+    text: &mut String<Heap>,
+    waits: &WaitingRanks,
+) -> Result<(), AllocError>
     ensures { OnOk result (string_bytes text.new ≡ string_bytes text.old ++ waits_line waits.now) }
 {
     let ranks = waiting_ranks(alloc, waits.ranks.as_slice())?;
     let lines = waiting_lines(alloc, waits.ranks.as_slice())?;
+    let told = print_waits_at(text, waits, ranks.as_slice(), lines.as_slice());
+    drop(lines);
+    drop(ranks);
+    told
+}
+
+// That these ranks wait, at these lines.
+fn print_waits_at(
+    text: &mut String<Heap>,
+    waits: &WaitingRanks,
+    ranks: &[usize],
+    lines: &[usize],
+) -> Result<(), AllocError>
+    requires ranks { ranks.now ≡ waiting_ranks waits.now.ranks.items }
+    requires lines { lines.now ≡ waiting_lines waits.now.ranks.items }
+    ensures { OnOk result (string_bytes text.new ≡ string_bytes text.old ++ waits_line waits.now) }
+{
     print_unsafe_words(text)?;
-    print_ranks(text, ranks.as_slice())?;
+    print_ranks(text, ranks)?;
     print_wait_words(text, waits)?;
-    print_lines(text, lines.as_slice())?;
-    writeln!(text)
+    print_lines(text, lines)?;
+    text.push_str("\n")
 }
 
 // Which ranks wait.
@@ -139,7 +155,7 @@ fn waiting_lines(alloc: Heap, waits: &[Wait]) -> Result<Vec<usize, Heap>, AllocE
 fn print_unsafe_words(text: &mut String<Heap>) -> Result<(), AllocError>
     ensures { OnOk result (string_bytes text.new ≡ string_bytes text.old ++ unsafe_words) }
 {
-    write!(text, "# not safe: without buffers ")
+    text.push_str("# not safe: without buffers ")
 }
 
 // The ranks: `rank 1`, `ranks 0 and 1`.
@@ -147,18 +163,18 @@ fn print_ranks(text: &mut String<Heap>, ranks: &[usize]) -> Result<(), AllocErro
     ensures { OnOk result (string_bytes text.new ≡ string_bytes text.old ++ named_ranks ranks.now) }
 {
     let count = ranks.len();
-    write!(text, "{}", if count == 1 { "rank " } else { "ranks " })?;
+    text.push_str(if count == 1 { "rank " } else { "ranks " })?;
     print_numbers(text, ranks)
 }
 
-fn print_wait_words(text: &mut String<Heap>, waits: &Waits) -> Result<(), AllocError>
+fn print_wait_words(text: &mut String<Heap>, waits: &WaitingRanks) -> Result<(), AllocError>
     ensures { OnOk result (string_bytes text.new ≡ string_bytes text.old ++ wait_words waits.now) }
 {
     if waits.each_other {
-        write!(text, " wait for each other, at ")
+        text.push_str(" wait for each other, at ")
     } else if waits.ranks.len() == 1 {
-        write!(text, " waits in its send, at ")
+        text.push_str(" waits in its send, at ")
     } else {
-        write!(text, " wait in their sends, at ")
+        text.push_str(" wait in their sends, at ")
     }
 }

@@ -6,7 +6,7 @@ ghost use Rattle.runner.specs.SoakText.{AreUnmet, IsSearchText, IsSoakText, IsUn
 
 use crate::explored::{outcome_at, print_outcome};
 use crate::soaked::Soaked;
-use explore::{Explored, Outcome};
+use explore::{Explored, FoundOutcome};
 use limits::Heap;
 use outcomes::soak::{Bar, Histogram};
 use std::alloc::AllocError;
@@ -126,7 +126,7 @@ fn print_unmet(
 fn print_if_unmet(
     text: &mut String<Heap>,
     number: usize,
-    outcome: &Outcome,
+    outcome: &FoundOutcome,
     histogram: &Histogram,
 ) -> Result<(), AllocError>
     ensures { OnOk result (IsUnmetLine histogram.now number outcome.now.ranks (string_bytes text.old) (string_bytes text.new)) }

@@ -213,8 +213,10 @@ const RECORDED: [u8; 119] = [
     0x00, 0x00, 0x00, 0x00, 0x00, 0x00, 0x00,
 ];
 
-/// Beginnings of images of rank 0 of so many, and their faults.
-pub(super) const BEGINNINGS: [(u8, &[u8], ImageFault); 22] = [
+/// A beginning of an image of rank 0 of so many, and its fault.
+pub(super) type Beginning = (u8, &'static [u8], ImageFault);
+
+pub(super) const BEGINNINGS: [Beginning; 22] = [
     (1, &[], ImageFault::Short),
     (1, &[0], ImageFault::Version),
     (1, &[1], ImageFault::Short),

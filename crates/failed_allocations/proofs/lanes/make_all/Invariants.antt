@@ -3,5 +3,5 @@ use Rattle.ports.specs.Lanes.{lane_to, lane_from}
 use Rattle.failed_allocations.proofs.lanes.make_all.Given as goal
 
 -- the ends are of the lane that they were of
-abbrev pub invariant-loop-call : goal.invariant-loop-call
-invariant-loop-call g l = (lane_to l.tx ≡ lane_to l.initial.tx) × (lane_from l.rx ≡ lane_from l.initial.rx)
+abbrev pub invariant-loop-one : goal.invariant-loop-one
+invariant-loop-one l = (lane_to l.tx ≡ lane_to l.initial.tx) × (lane_from l.rx ≡ lane_from l.initial.rx)

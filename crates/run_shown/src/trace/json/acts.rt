@@ -14,18 +14,18 @@ pub fn put_acts(alloc: Heap, to: &mut Lines, told: Told<'_, '_>) {
     for index in 0..told.acts.len() {
         if let (Some(passed), Some(place)) = (told.acts.get(index), told.places.get(index)) {
             let mut object = Object::new(alloc);
-            put_place(&mut object, told, passed, *place);
+            put_place(&mut object, told.lines, passed, *place);
             put_act(&mut object, told, index, &passed.act, *place);
             to.line(object);
         }
     }
 }
 
-fn put_place(object: &mut Object, told: Told<'_, '_>, passed: &Passed, place: Place) {
+fn put_place(object: &mut Object, lines: &[usize], passed: &Passed, place: Place) {
     object.text("act", name_of(&passed.act));
     object.number("rank", u64::from(passed.rank));
     object.number("clock", u64::from(place.clock));
-    let line = told.given.lines.get(place.position).copied().unwrap_or(0);
+    let line = lines.get(place.position).copied().unwrap_or(0);
     object.number("line", line as u64);
 }
 
@@ -43,7 +43,7 @@ fn put_act(object: &mut Object, told: Told<'_, '_>, index: usize, act: &Act, pla
     match act {
         Act::Sends { dest, .. } => {
             object.number("destination", u64::from(*dest));
-            put_message(object, message_at(told, index));
+            put_message(object, message_at(told.acts, told.places, index));
         }
         Act::Takes { source, .. } => {
             object.number("source", u64::from(*source));
@@ -72,8 +72,18 @@ fn put_message(object: &mut Object, message: Option<Message<'_>>) {
     }
 }
 
-/// By what to know a message: its tag, or the collective that it is of.
-pub fn put_mark(object: &mut Object, message: Message<'_>) {
+/// Of the message that the act of this index sent its source, and by what to know it.
+pub fn put_sent(object: &mut Object, acts: &[Passed], places: &[Place], index: usize) {
+    if let Some(passed) = acts.get(index) {
+        object.number("source", u64::from(passed.rank));
+    }
+    if let Some(message) = message_at(acts, places, index) {
+        put_mark(object, message);
+    }
+}
+
+// By what to know a message: its tag, or the collective that it is of.
+fn put_mark(object: &mut Object, message: Message<'_>) {
     match message.context {
         Context::PointToPoint => object.number("tag", u64::from(message.tag)),
         Context::Collective => {

@@ -1,19 +1,19 @@
 //! How each rank ended, and which ranks wait for each other, an object each.
 
-use super::acts::put_mark;
+use super::acts::put_sent;
 use crate::json::{Lines, List, Object};
 use crate::trace::circles::circle_from;
-use crate::trace::ends::{line_of, other, statement_of, waits_for, why_unfinished};
+use crate::trace::ends::{is_other, line_of, statement_of, waits_for, why_unfinished};
 use crate::trace::given::Told;
 use audit::End;
+use crash_free::Sim;
 use limits::Heap;
 use matching::Selector;
 
 /// Writes each rank's end.
 pub fn put_ends(alloc: Heap, to: &mut Lines, told: Told<'_, '_>) {
-    let outcome = told.given.outcome;
     for rank in 0..told.run.ranks() {
-        if let Some(end) = outcome.ends.get(usize::from(rank)) {
+        if let Some(end) = told.ends.get(usize::from(rank)) {
             let mut object = Object::new(alloc);
             object.number("rank", u64::from(rank));
             put_end(alloc, &mut object, told, rank, *end);
@@ -34,22 +34,22 @@ fn put_end(alloc: Heap, object: &mut Object, told: Told<'_, '_>, rank: u8, end: 
         End::Stalled => {
             object.text("end", "stalled");
             put_statement(alloc, object, told, rank);
-            if let Some(selector) = waits_for(told, rank) {
+            if let Some(selector) = waits_for(told.run, rank) {
                 object.list("unmatched", unmatched(alloc, told, rank, selector));
             }
         }
         End::Unfinished => {
             object.text("end", "unfinished");
             put_statement(alloc, object, told, rank);
-            object.text("why", why_unfinished(told, rank));
+            object.text("why", why_unfinished(told.whys, rank));
         }
     }
 }
 
 fn put_statement(alloc: Heap, object: &mut Object, told: Told<'_, '_>, rank: u8) {
-    if let Some(line) = line_of(told, rank) {
+    if let Some(line) = line_of(told.run, told.lines, rank) {
         object.number("line", line as u64);
-        object.made_text("statement", statement_of(alloc, told, line));
+        object.made_text("statement", statement_of(alloc, told.text, line));
     }
 }
 
@@ -57,10 +57,9 @@ fn put_statement(alloc: Heap, object: &mut Object, told: Told<'_, '_>, rank: u8)
 fn unmatched(alloc: Heap, told: Told<'_, '_>, rank: u8, selector: Selector) -> List {
     let mut list = List::new(alloc);
     for index in 0..told.acts.len() {
-        if let Some((source, message)) = other(told, index, rank, selector) {
+        if is_other(told, index, rank, selector) {
             let mut object = Object::new(alloc);
-            object.number("source", u64::from(source));
-            put_mark(&mut object, message);
+            put_sent(&mut object, told.acts, told.places, index);
             list.object(object);
         }
     }
@@ -68,9 +67,9 @@ fn unmatched(alloc: Heap, told: Told<'_, '_>, rank: u8, selector: Selector) -> L
 }
 
 /// Writes each circle of ranks that wait for each other.
-pub fn put_circles(alloc: Heap, to: &mut Lines, told: Told<'_, '_>) {
-    for rank in 0..told.run.ranks() {
-        if let Some(members) = circle_from(told, rank) {
+pub fn put_circles(alloc: Heap, to: &mut Lines, run: &Sim<'_>, ends: &[End]) {
+    for rank in 0..run.ranks() {
+        if let Some(members) = circle_from(run, ends, rank) {
             let mut list = List::new(alloc);
             let mut number = 0i64;
             for member in &members {

@@ -1,5 +1,6 @@
 use Rattle.std.proofs.Common.{rules}
 use Rattle.rank_node.proofs.Images.{keeps_same}
+use Rattle.rank_node.proofs.Nodes.{kept_place}
 use Rattle.rank_node.proofs.running.Running.image.Goals as goal
 
 pub returns-then-not-settled-clause-kept : goal.returns-then-not-settled-clause-kept
@@ -18,3 +19,6 @@ returns-clause-ok g c = record {
   bytes = search rules;
   reads = search rules;
 }
+
+pub invariant_of-self : goal.invariant_of-self
+invariant_of-self g c = kept_place c.self.inside c.put.new.self (search rules) (search rules) c.self.invariant

@@ -2,8 +2,7 @@ use Rattle.std.proofs.Common.{rules}
 use Rattle.matching.specs.Matching.{is_named}
 use Rattle.matching.specs.Queue.{first_place}
 use Rattle.rank_node.proofs.Found.{found-at, was_shown}
-use Rattle.rank_node.proofs.Joining.{made_next}
-use Rattle.rank_node.proofs.Sent.{log_later}
+use Rattle.rank_node.proofs.Nodes.{act_made}
 use Rattle.rank_node.proofs.running.Running.show_again.Goals as goal
 
 pub show-requires-clause-showing : goal.show-requires-clause-showing
@@ -23,7 +22,4 @@ returns-clause-machine g c =
 
 -- src/replay/probes.rt
 pub invariant_of-self : goal.invariant_of-self
-invariant_of-self g c =
-    let sent = log_later c.self.inside.stable.rank c.self.inside.clock c.self.inside.log c.self.invariant.sent in
-    let made = made_next c.self.inside.clock c.self.inside.pending.waiting c.self.invariant.events in
-    search rules
+invariant_of-self g c = act_made c.self.inside c.show.new.self c.show.ensures.stays (search rules) c.self.invariant

@@ -6,4 +6,4 @@ use Rattle.run_shown.proofs.trace.acts.put_acts.Given as goal
 abbrev pub invariant-loop-index : goal.invariant-loop-index
 invariant-loop-index l =
     string_bytes l.to ≡ string_bytes l.initial.to
-    ++ lines_text l.width l.told.given.lines.now (reverse (take l.index l.told.acts.now)) (reverse (take l.index l.told.places.now))
+    ++ lines_text l.width l.told.lines.now (reverse (take l.index l.told.acts.now)) (reverse (take l.index l.told.places.now))

@@ -9,8 +9,8 @@ returns c =
     let start : string_bytes c.put_acts.new.to
     ≡ string_bytes c.new-text.result ++ acts_text c.args.given.lines.now (reverse c.args.run.now.run) c.in_ok-found.found.places.items =
     c.in_ok-put_acts.ensures
-    ∙ ap (λ g. string_bytes c.new-text.result ++ acts_text g.lines.now c.told-told.result.acts.now c.told-told.result.places.now)
-    c.told-told.ensures.given
+    ∙ ap (λ l. string_bytes c.new-text.result ++ acts_text l c.told-told.result.acts.now c.told-told.result.places.now)
+    c.told-told.ensures.lines
     ∙ ap (λ a. string_bytes c.new-text.result ++ acts_text c.args.given.lines.now a c.told-told.result.places.now) c.told-told.ensures.acts
     ∙ ap (λ p. string_bytes c.new-text.result ++ acts_text c.args.given.lines.now (reverse c.args.run.now.run) p) c.told-told.ensures.places in
     let text : string_bytes c.push_str.new.self ≡ string_bytes c.put_acts.new.to ++ string_bytes c.in_ok-rest.rest = search rules in

@@ -8,8 +8,6 @@ returns-in-Err-clause-refused g c =
     c.in-Err.ensures.refused
 
 -- its run isn't told
-pub returns : goal.returns
-returns g c = record {
-  answer = tt;
-  refused = trace_untold (g.F.Files.holds c.args.files.now) c.args.job.run c.in-Err-said.refusal c.in-Err-said.ensures.refused;
-}
+pub returns-in-Err-said-clause-refused : goal.returns-in-Err-said-clause-refused
+returns-in-Err-said-clause-refused g c =
+    trace_untold (g.F.Files.holds c.args.files.now) c.args.job.run c.in-Err-said.refusal c.in-Err-said.ensures.refused

@@ -1,0 +1,110 @@
+//! The statements of a telling program.
+ghost use Rattle.std.specs.Prelude.{◌≡◌, ◌++◌, IfOk, OnOk, ◌∷◌, []};
+ghost use Rattle.rank_text.specs.Checker.SeenLines.{forms_seen};
+ghost use Rattle.rank_text.specs.Grammar.SeenForms.{form_seen};
+ghost use Rattle.synchronous.specs.Telling.{telling_forms, with_receptions, with_sends, with_told};
+
+use crate::added::Added;
+use crate::statements::put;
+use crate::telling::Telling;
+use crate::telling::copied::copied_form;
+use crate::telling::tells::{
+    put_barrier, put_broadcast, put_evaluated, put_message, put_reduction, put_send,
+};
+use limits::Heap;
+use rank_text::grammar::Form;
+use std::alloc::AllocError;
+
+fn put_same(alloc: Heap, to: &mut Vec<Form, Heap>, form: &Form) -> Result<(), AllocError>
+    ensures { OnOk result (forms_seen to.new.items ≡ forms_seen to.old.items ++ form_seen form.now ∷ []) }
+{
+    let form = copied_form(alloc, form)?;
+    put(to, form)
+}
+
+/// Puts the statements that stand for one, if sends are told.
+fn put_with_sends(
+    alloc: Heap,
+    to: &mut Vec<Form, Heap>,
+    added: &Added,
+    forms: &[Form],
+    form: &Form,
+) -> Result<(), AllocError>
+    ensures { OnOk result (forms_seen to.new.items ≡ forms_seen to.old.items ++ with_sends added.now (forms_seen forms.now) (form_seen form.now)) }
+{
+    match form {
+        Form::Send(destination, tag, payload) => {
+            put_same(alloc, to, form)?;
+            put_send(alloc, to, added, forms, destination, tag, payload)
+        }
+        Form::Print(value) => put_evaluated(alloc, to, added, value),
+        Form::Barrier => put_barrier(alloc, to),
+        Form::Bcast(root, buffer) => put_broadcast(alloc, to, added, forms, root, *buffer),
+        Form::Reduce(reduction, root, value, name) => {
+            put_reduction(alloc, to, added, *reduction, root, value, *name)
+        }
+        Form::Var(_) | Form::Array(..) | Form::Let(..) | Form::LetItem(..) => {
+            put_same(alloc, to, form)
+        }
+        Form::If(_) | Form::Else | Form::End | Form::While(_) => put_same(alloc, to, form),
+        Form::Recv(..) | Form::Probe(..) | Form::TryProbe(..) => put_same(alloc, to, form),
+    }
+}
+
+/// Puts the statements that stand for one, if receptions are told.
+fn put_with_receptions(
+    alloc: Heap,
+    to: &mut Vec<Form, Heap>,
+    added: &Added,
+    forms: &[Form],
+    form: &Form,
+) -> Result<(), AllocError>
+    ensures { OnOk result (forms_seen to.new.items ≡ forms_seen to.old.items ++ with_receptions added.now (forms_seen forms.now) (form_seen form.now)) }
+{
+    match form {
+        Form::Recv(_, _, buffer) => {
+            put_same(alloc, to, form)?;
+            put_message(alloc, to, added, forms, *buffer)
+        }
+        Form::Print(value) => put_evaluated(alloc, to, added, value),
+        Form::Var(_) | Form::Array(..) | Form::Let(..) | Form::LetItem(..) => {
+            put_same(alloc, to, form)
+        }
+        Form::If(_) | Form::Else | Form::End | Form::While(_) => put_same(alloc, to, form),
+        Form::Send(..) | Form::Probe(..) | Form::TryProbe(..) => put_same(alloc, to, form),
+        Form::Barrier | Form::Bcast(..) | Form::Reduce(..) => put_same(alloc, to, form),
+    }
+}
+
+fn put_with_told(
+    alloc: Heap,
+    to: &mut Vec<Form, Heap>,
+    telling: Telling,
+    added: &Added,
+    forms: &[Form],
+    form: &Form,
+) -> Result<(), AllocError>
+    ensures { OnOk result (forms_seen to.new.items ≡ forms_seen to.old.items ++ with_told telling added.now (forms_seen forms.now) (form_seen form.now)) }
+{
+    match telling {
+        Telling::Sends => put_with_sends(alloc, to, added, forms, form),
+        Telling::Receptions => put_with_receptions(alloc, to, added, forms, form),
+    }
+}
+
+/// The statements of the telling program.
+pub(crate) fn telling_forms(
+    alloc: Heap,
+    telling: Telling,
+    added: &Added,
+    forms: &[Form],
+) -> Result<Vec<Form, Heap>, AllocError>
+    ensures { IfOk result (λ all. forms_seen all.items ≡ telling_forms telling added.now (forms_seen forms.now)) }
+{
+    let mut all = Vec::new(alloc);
+    put(&mut all, Form::Var(added.reply))?;
+    for form in forms {
+        put_with_told(alloc, &mut all, telling, added, forms, form)?;
+    }
+    Ok(all)
+}
