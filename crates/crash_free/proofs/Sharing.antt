@@ -11,6 +11,7 @@ use Rattle.rank_language.specs.contracts.statement.Payload as Payload
 use Rattle.rank_language.specs.contracts.statement.Pattern as Pattern
 use Rattle.rank_language.specs.contracts.statement.Collective as Collective
 use Rattle.rank_language.specs.contracts.statement.Statement as Statement
+use Rattle.rank_language.specs.contracts.compact.Compact as Compact
 use Rattle.rank_language.specs.contracts.program.Program as Program
 use Rattle.rank_machine.specs.contracts.items.Items as Items
 use Rattle.rank_machine.specs.contracts.gathered.Gathered as Gathered
@@ -43,8 +44,74 @@ collective_sync = variants_sync Collective.enum (search (expression_sync, buffer
 statement_sync : IsSync Statement.the_row
 statement_sync = variants_sync Statement.enum (search (expression_sync, payload_sync, pattern_sync, buffer_sync, collective_sync, crosses, sendable) depth 60)
 
+compact_sync : IsSync Compact.the_row
+compact_sync = variants_sync Compact.enum (
+  tt,
+  (
+    tt,
+    (
+      search (crosses, sendable) depth 60,
+      (
+        search (crosses, sendable) depth 60,
+        (
+          search (crosses, sendable) depth 60,
+          (
+            search (crosses, sendable) depth 60,
+            (
+              search (crosses, sendable) depth 60,
+              (
+                search (crosses, sendable) depth 60,
+                (
+                  search (crosses, sendable) depth 60,
+                  (
+                    search (crosses, sendable) depth 60,
+                    (
+                      search (crosses, sendable) depth 60,
+                      (
+                        search (crosses, sendable) depth 60,
+                        (
+                          search (crosses, sendable) depth 60,
+                          (
+                            search (crosses, sendable) depth 60,
+                            (
+                              search (crosses, sendable) depth 60,
+                              (
+                                search (crosses, sendable) depth 60,
+                                (
+                                  search (crosses, sendable) depth 60,
+                                  (
+                                    search (crosses, sendable) depth 60,
+                                    (
+                                      search (crosses, sendable) depth 60,
+                                      (
+                                        search (crosses, sendable) depth 60,
+                                        (
+                                          search (crosses, sendable) depth 60,
+                                          tt,
+                                        ),
+                                      ),
+                                    ),
+                                  ),
+                                ),
+                              ),
+                            ),
+                          ),
+                        ),
+                      ),
+                    ),
+                  ),
+                ),
+              ),
+            ),
+          ),
+        ),
+      ),
+    ),
+  ),
+)
+
 program_sync : IsSync Program.the_row
-program_sync = search (statement_sync, name_sync, array_sync, crosses, sendable) depth 60
+program_sync = search (statement_sync, name_sync, array_sync, compact_sync, crosses, sendable) depth 60
 
 items_send : IsSend Items.the_row
 items_send = search (crosses, sendable) depth 60

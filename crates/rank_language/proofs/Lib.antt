@@ -19,4 +19,5 @@ pub mod Arrays
 pub mod Printed
 pub mod Standing
 pub mod LineCounting
+pub mod Compacting
 pub mod Lining

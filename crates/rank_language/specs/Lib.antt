@@ -10,5 +10,6 @@ pub mod Ends
 pub mod Resolvable
 pub mod Named
 pub mod Correct
+pub mod Compact
 pub mod StandOn
 pub mod LineNumbers

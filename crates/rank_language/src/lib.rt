@@ -2,6 +2,7 @@
 #![tactic(auto)]
 
 mod build;
+pub mod compact;
 pub mod expression;
 pub mod laws;
 mod line_numbers;
@@ -13,6 +14,7 @@ mod resolve_form;
 pub mod statement;
 mod text_line;
 
+pub use compact::Compact;
 pub use expression::{Expression, Operand};
 pub use line_numbers::statement_lines;
 pub use lined::LinedProgram;

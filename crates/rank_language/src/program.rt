@@ -10,12 +10,14 @@ ghost use Rattle.rank_text.specs.Checker.SeenLines.{arrays_seen, forms_seen};
 ghost use Rattle.rank_language.specs.Correct.{IsOfForms, IsProgramOf};
 ghost use Rattle.rank_language.specs.Named.{forms_of};
 ghost use Rattle.rank_text.specs.Printer.Canonical.{program_text};
-ghost use Rattle.std.specs.Prelude.{List, Err, IfErr, IfOk, ◌≡◌, ◌<◌, ◌≤◌, IfSome, IsNone, ◌↔◌, length, slice_get, Bool};
-ghost use Rattle.rank_language.specs.Block.{size, lines_at, remaining, Leads, next_position};
+ghost use Rattle.std.specs.Prelude.{List, Err, IfErr, IfOk, ◌≡◌, ◌<◌, ◌≤◌, IfSome, IsNone, Some, ◌↔◌, length, option_map, slice_get, Bool};
+ghost use Rattle.rank_language.specs.Block.{Line, size, lines_at, remaining, Leads, next_position};
+ghost use Rattle.rank_language.specs.Compact.{compact_line, own_line};
 ghost use Rattle.rank_language.specs.Seen.{line_of, line_in};
 ghost use Rattle.rank_language.specs.Program.{block_of, AllSized, IsPlaced};
 
 use crate::build::statements_of;
+use crate::compact::{Compact, compacts_of};
 use crate::name_form::name_forms;
 use crate::resolve::Tables;
 use crate::statement::Statement;
@@ -32,11 +34,14 @@ pub struct Program {
     statements: Vec<Statement, Heap>,
     variables: Vec<Name, Heap>,
     arrays: Vec<Array, Heap>,
+    // Of each statement, and behind the last one.
+    compacts: Vec<Compact, Heap>,
 }
 
 impl Model for Program {
     ghost use Rattle.rank_language.specs.Program.{ProgramValue, program_value};
     ghost use Rattle.rank_language.specs.Correct.{IsProgram};
+    ghost use Rattle.rank_language.specs.Compact.{HasCompacts};
     ghost use Rattle.std.specs.Coded.{codes};
     ghost use Rattle.rank_language.specs.Coding.{placed_code};
 
@@ -46,7 +51,7 @@ impl Model for Program {
 
     ghost view = { λ p. program_value p.statements.items p.variables.items p.arrays.items };
 
-    ghost invariant = { λ p. IsProgram (program_value p.statements.items p.variables.items p.arrays.items) };
+    ghost invariant = { λ p. HasCompacts p.compacts.items (program_value p.statements.items p.variables.items p.arrays.items) };
 }
 
 impl Program {
@@ -66,10 +71,12 @@ impl Program {
             arrays: &arrays,
         };
         let statements = statements_of(alloc, tables, &forms)?;
+        let compacts = compacts_of(alloc, &statements)?;
         Ok(Program {
             statements,
             variables,
             arrays,
+            compacts,
         })
     }
 
@@ -152,5 +159,19 @@ impl Program {
         ensures past { IsNone result ↔ (size (block_of self.now) ≤ position) }
     {
         self.statements.get(position)
+    }
+
+    /// The compact form of the statement at a position, or of none behind the last one.
+    pub fn compact(&self, position: usize) -> &Compact
+        requires { position ≤ size (block_of self.now) }
+        ensures line { IfSome (compact_line result.now) (λ m. option_map own_line (slice_get self.now.statements position) ≡ Some m) }
+        ensures there { (l : Line) → slice_get self.now.statements position ≡ Some l → Leads (remaining (block_of self.now)) position l }
+        ensures within { (l : Line) → slice_get self.now.statements position ≡ Some l
+            → (truth : Bool) → next_position l position truth ≤ size (block_of self.now) }
+        ensures placed { (l : Line) → slice_get self.now.statements position ≡ Some l
+            → IsPlaced (length self.now.variables) (length self.now.arrays) l }
+        ensures bound { position ≤ most_lines }
+    {
+        &self.compacts[position]
     }
 }

@@ -1,7 +1,7 @@
 //! Steps of a rank's own, one after another, over what it has stored.
-ghost use Rattle.std.specs.Prelude.{◌≡◌, ◌≢◌, ◌<◌, ◌≤◌};
+ghost use Rattle.std.specs.Prelude.{◌≡◌, ◌≢◌, ◌<◌, ◌≤◌, IfSome, IsNone};
 ghost use Rattle.rank_machine.specs.declared.want.Want.TheVariants.{Internal};
-ghost use Rattle.rank_machine.specs.Machine.{machine_want, standing, IsMachine, KeepsRank, Strides};
+ghost use Rattle.rank_machine.specs.Machine.{machine_want, standing, IsMachine, IsMade, KeepsRank, Strides};
 
 use crate::store::Store;
 use rank_language::Program;
@@ -14,6 +14,37 @@ pub struct Stride {
 }
 
 impl Store {
+    // Makes the step of its own at a position, and answers where it leads. None if something else
+    // stands there, and then nothing changes. It isn't inlined: a loop of steps in compact form
+    // keeps more in registers.
+    #[inline(never)]
+    fn follow_statement(&mut self, program: &Program, position: usize) -> Option<usize>
+        requires machine { IsMachine (standing program.now position self.old) }
+        ensures made { IfSome result (λ next. IsMade (standing program.now position self.old) (standing program.now next self.new)) }
+        ensures stays { IsNone result → self.new ≡ self.old }
+        ensures stands { IsNone result → machine_want (standing program.now position self.old) ≢ Internal }
+    {
+        let Some(statement) = program.statement(position) else {
+            return None;
+        };
+        self.follow(statement, position)
+    }
+
+    // The same, by the compact form of the statement if it has one.
+    #[inline(always)]
+    fn step(&mut self, program: &Program, position: usize) -> Option<usize>
+        requires machine { IsMachine (standing program.now position self.old) }
+        ensures made { IfSome result (λ next. IsMade (standing program.now position self.old) (standing program.now next self.new)) }
+        ensures stays { IsNone result → self.new ≡ self.old }
+        ensures stands { IsNone result → machine_want (standing program.now position self.old) ≢ Internal }
+    {
+        let compact = program.compact(position);
+        match self.follow_compact(compact, position) {
+            Some(next) => Some(next),
+            None => self.follow_statement(program, position),
+        }
+    }
+
     /// Makes steps of its own from a position on until something else stands there, but no more
     /// than `most`. No such step leaves a fault.
     pub fn stride(&mut self, program: &Program, from: usize, most: u32) -> Stride
@@ -27,13 +58,7 @@ impl Store {
         let mut position = from;
         let mut left = most;
         while left > 0 {
-            let Some(statement) = program.statement(position) else {
-                return Stride {
-                    position,
-                    made: most - left,
-                };
-            };
-            let Some(next) = self.follow(statement, position) else {
+            let Some(next) = self.step(program, position) else {
                 return Stride {
                     position,
                     made: most - left,

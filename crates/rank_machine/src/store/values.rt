@@ -6,9 +6,9 @@ ghost use Rattle.rank_machine.specs.Values.{value, read, rank_in};
 ghost use Rattle.rank_machine.specs.States.{item_value};
 
 use crate::fault::MachineFault;
-use crate::operate::{difference, negated, operated, sum};
+use crate::operate::{negated, operated};
 use crate::store::Store;
-use rank_language::{Expression, Operand, Operator, Reading};
+use rank_language::{Expression, Operand, Reading};
 
 impl Store {
     /// The expression's value; operands go from left to right, and the first fault stands. A number
@@ -26,27 +26,6 @@ impl Store {
                 Err(fault) => Err(fault),
             },
         }
-    }
-
-    // The same value; a sum or a difference of a variable and a number or a variable needs no call
-    // either. Most steps of a loop are such.
-    #[inline(always)]
-    pub(super) fn step_value(&self, expression: &Expression) -> Result<i64, MachineFault>
-        requires { IsWithin (length self.now.variables) (length self.now.arrays) (placed_of expression.now) }
-        ensures { result ≡ value self.now (placed_of expression.now) }
-    {
-        if let Expression::Simple(operator, place, right) = expression {
-            let (left, right) = (self.variables[*place], self.operand(*right));
-            match operator {
-                Operator::Add => return sum(left, right),
-                Operator::Subtract => return difference(left, right),
-                Operator::Multiply | Operator::Divide | Operator::Remainder => {}
-                Operator::Equal | Operator::NotEqual => {}
-                Operator::Less | Operator::LessEqual => {}
-                Operator::Greater | Operator::GreaterEqual => {}
-            }
-        }
-        self.value_of(expression)
     }
 
     // The value of an operand.

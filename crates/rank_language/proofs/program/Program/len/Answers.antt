@@ -10,6 +10,6 @@ count c = grind (arith, common_steps)
 
 pub returns-clause-lines : goal.returns-clause-lines
 returns-clause-lines c =
-    let h : IsProgram c.args.self.now = rw (← c.self.view_is) c.self.invariant in
+    let h : IsProgram c.args.self.now = rw (← c.self.view_is) c.self.invariant.stands in
     let q = statement_count c.args.self.now h in
     count c ∙ q

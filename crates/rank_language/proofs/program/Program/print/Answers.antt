@@ -7,6 +7,6 @@ use Rattle.rank_language.proofs.program.Program.print.Goals as goal
 
 pub returns-clause-program : goal.returns-clause-program
 returns-clause-program c =
-    let h : IsProgram c.args.self.now = rw (← c.self.view_is) c.self.invariant in
+    let h : IsProgram c.args.self.now = rw (← c.self.view_is) c.self.invariant.stands in
     let q : IfOk c.print.result (λ text. text.items ≡ program_text (forms_of c.args.self.now)) = search rules in
     printed_result c.print.result c.args.self.now h q

@@ -6,7 +6,7 @@ use Rattle.rank_language.proofs.program.Program.statement.Goals as goal
 
 -- the program stands
 stands : (c : goal.After-get) → IsProgram c.args.self.now
-stands c = rw (← c.self.view_is) c.self.invariant
+stands c = rw (← c.self.view_is) c.self.invariant.stands
 
 -- what was found is the program's line there
 line : (c : goal.After-get) → line_in c.get.result ≡ slice_get c.args.self.now.statements c.args.position

@@ -1,0 +1,159 @@
+//! Statements in compact form: those of which loops mostly consist, with their operands in place.
+ghost use Rattle.std.specs.Prelude.{◌≡◌, ◌+◌, IfOk, IfSome, length, map};
+ghost use Rattle.rank_language.specs.Block.{if_line, simple_line};
+ghost use Rattle.rank_language.specs.Compact.{compact_line, own_line, AreCompact};
+ghost use Rattle.rank_language.specs.Seen.{line_of, operand_of, placed_of};
+ghost use Rattle.rank_language.specs.Placed.{assign, number, operation, variable};
+
+use crate::expression::{Expression, Operand};
+use crate::statement::Statement;
+use limits::Heap;
+use rank_text::grammar::Operator;
+use std::alloc::AllocError;
+
+/// A statement as a machine makes it most quickly: by one look at what it is.
+///
+/// Places are those of variables. A test has two operands, and the position that follows where it
+/// doesn't hold; one that does leads to the next position.
+#[derive(Drop)]
+pub enum Compact {
+    /// Any other statement, or none.
+    Other,
+    /// It leads on.
+    Next,
+    /// It leads to this position.
+    Jump(usize),
+    /// A variable, and its new value.
+    SetNumber(usize, i64),
+    SetVariable(usize, usize),
+    /// A variable, and the two operands of its new value.
+    AddNumber(usize, usize, i64),
+    AddVariable(usize, usize, usize),
+    SubtractNumber(usize, usize, i64),
+    SubtractVariable(usize, usize, usize),
+    EqualNumber(usize, i64, usize),
+    EqualVariable(usize, usize, usize),
+    NotEqualNumber(usize, i64, usize),
+    NotEqualVariable(usize, usize, usize),
+    LessNumber(usize, i64, usize),
+    LessVariable(usize, usize, usize),
+    LessEqualNumber(usize, i64, usize),
+    LessEqualVariable(usize, usize, usize),
+    GreaterNumber(usize, i64, usize),
+    GreaterVariable(usize, usize, usize),
+    GreaterEqualNumber(usize, i64, usize),
+    GreaterEqualVariable(usize, usize, usize),
+}
+
+// A test of a variable and a number.
+fn number_test(operator: Operator, left: usize, right: i64, otherwise: usize) -> Compact
+    ensures { IfSome (compact_line result) (λ l. l ≡ if_line (operation operator (variable left) (number right)) otherwise) }
+{
+    match operator {
+        Operator::Equal => Compact::EqualNumber(left, right, otherwise),
+        Operator::NotEqual => Compact::NotEqualNumber(left, right, otherwise),
+        Operator::Less => Compact::LessNumber(left, right, otherwise),
+        Operator::LessEqual => Compact::LessEqualNumber(left, right, otherwise),
+        Operator::Greater => Compact::GreaterNumber(left, right, otherwise),
+        Operator::GreaterEqual => Compact::GreaterEqualNumber(left, right, otherwise),
+        Operator::Add | Operator::Subtract | Operator::Multiply => Compact::Other,
+        Operator::Divide | Operator::Remainder => Compact::Other,
+    }
+}
+
+// A test of two variables.
+fn variable_test(operator: Operator, left: usize, right: usize, otherwise: usize) -> Compact
+    ensures { IfSome (compact_line result) (λ l. l ≡ if_line (operation operator (variable left) (variable right)) otherwise) }
+{
+    match operator {
+        Operator::Equal => Compact::EqualVariable(left, right, otherwise),
+        Operator::NotEqual => Compact::NotEqualVariable(left, right, otherwise),
+        Operator::Less => Compact::LessVariable(left, right, otherwise),
+        Operator::LessEqual => Compact::LessEqualVariable(left, right, otherwise),
+        Operator::Greater => Compact::GreaterVariable(left, right, otherwise),
+        Operator::GreaterEqual => Compact::GreaterEqualVariable(left, right, otherwise),
+        Operator::Add | Operator::Subtract | Operator::Multiply => Compact::Other,
+        Operator::Divide | Operator::Remainder => Compact::Other,
+    }
+}
+
+// A test, with the position that follows where it doesn't hold.
+fn test_of(condition: &Expression, otherwise: usize) -> Compact
+    ensures { IfSome (compact_line result) (λ l. l ≡ if_line (placed_of condition.now) otherwise) }
+{
+    match condition {
+        Expression::Simple(operator, left, Operand::Number(right)) => {
+            number_test(*operator, *left, *right, otherwise)
+        }
+        Expression::Simple(operator, left, Operand::Variable(right)) => {
+            variable_test(*operator, *left, *right, otherwise)
+        }
+        Expression::Number(_) | Expression::Variable(_) | Expression::Item(_, _) => Compact::Other,
+        Expression::Reading(_) | Expression::Negation(_) => Compact::Other,
+        Expression::Operation(_, _, _) => Compact::Other,
+    }
+}
+
+// A variable gets the value of a sum or a difference.
+fn operation_to(place: usize, operator: Operator, left: usize, right: Operand) -> Compact
+    ensures { IfSome (compact_line result) (λ l. l ≡ simple_line (assign place (operation operator (variable left) (operand_of right)))) }
+{
+    match (operator, right) {
+        (Operator::Add, Operand::Number(right)) => Compact::AddNumber(place, left, right),
+        (Operator::Add, Operand::Variable(right)) => Compact::AddVariable(place, left, right),
+        (Operator::Subtract, Operand::Number(right)) => Compact::SubtractNumber(place, left, right),
+        (Operator::Subtract, Operand::Variable(right)) => {
+            Compact::SubtractVariable(place, left, right)
+        }
+        (Operator::Multiply | Operator::Divide | Operator::Remainder, _) => Compact::Other,
+        (Operator::Equal | Operator::NotEqual | Operator::Less, _) => Compact::Other,
+        (Operator::LessEqual | Operator::Greater | Operator::GreaterEqual, _) => Compact::Other,
+    }
+}
+
+// A variable gets a value.
+fn assignment_of(place: usize, value: &Expression) -> Compact
+    ensures { IfSome (compact_line result) (λ l. l ≡ simple_line (assign place (placed_of value.now))) }
+{
+    match value {
+        Expression::Number(number) => Compact::SetNumber(place, *number),
+        Expression::Variable(from) => Compact::SetVariable(place, *from),
+        Expression::Simple(operator, left, right) => operation_to(place, *operator, *left, *right),
+        Expression::Item(_, _) | Expression::Reading(_) | Expression::Negation(_) => Compact::Other,
+        Expression::Operation(_, _, _) => Compact::Other,
+    }
+}
+
+// The compact form of a statement.
+fn compact_of(statement: &Statement) -> Compact
+    ensures { IfSome (compact_line result) (λ l. l ≡ own_line (line_of statement.now)) }
+{
+    match statement {
+        Statement::Declare(_) | Statement::DeclareArray(_) | Statement::EndIf => Compact::Next,
+        Statement::Else(next) | Statement::EndWhile(next) => Compact::Jump(*next),
+        Statement::Assign(place, value) => assignment_of(*place, value),
+        Statement::If(condition, otherwise) | Statement::While(condition, otherwise) => {
+            test_of(condition, *otherwise)
+        }
+        Statement::AssignItem(_, _, _) | Statement::Print(_) | Statement::Collect(_) =>
+            Compact::Other,
+        Statement::Send { .. } | Statement::Receive { .. } => Compact::Other,
+        Statement::Probe { .. } | Statement::TryProbe { .. } => Compact::Other,
+    }
+}
+
+/// The compact forms of statements, and one more behind them, where no statement stands.
+pub(crate) fn compacts_of(
+    alloc: Heap,
+    statements: &[Statement],
+) -> Result<Vec<Compact, Heap>, AllocError>
+    ensures each { IfOk result (λ compacts. AreCompact compacts.items (map line_of statements.now)) }
+    ensures count { IfOk result (λ compacts. length compacts.items ≡ length statements.now + 1) }
+{
+    let mut compacts = Vec::with_capacity(alloc, statements.len() + 1)?;
+    for statement in statements {
+        compacts.push(compact_of(statement))?;
+    }
+    compacts.push(Compact::Other)?;
+    Ok(compacts)
+}
