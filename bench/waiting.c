@@ -24,8 +24,9 @@ static struct Bell bells[MOST_RANKS];
 static pthread_barrier_t gate;
 static int ranks, rounds;
 // How often a rank polls before it yields; how many waits yield at once after polls in vain; how
-// many yields come before a sleep (0: none).
-static int looks, rests, yields;
+// many yields come before a sleep (0: none); whether waits that yield at once grow from 1 to that
+// number, twice as many each time that polls are in vain, and half as many each time that they pay.
+static int looks, rests, yields, grows;
 
 static double clock_of(clockid_t clock) {
     struct timespec time;
@@ -56,23 +57,27 @@ static void sleep_until_rung(struct Bell *bell, unsigned taken) {
 }
 
 static void take(int rank, unsigned *taken) {
-    static _Thread_local int resting;
+    static _Thread_local int resting, span = 1;
     struct Bell *bell = &bells[rank];
-    int most = resting > 0 ? 0 : looks;
+    int most = resting > 0 ? 0 : looks, vain;
     if (resting > 0) resting--;
-    for (int vain = 0; atomic_load(&bell->rung) == *taken; vain++) {
+    for (vain = 0; atomic_load(&bell->rung) == *taken; vain++) {
         work(TURN);
         if (vain < most) {
             __builtin_ia32_pause();
             continue;
         }
-        if (most > 0) resting = rests;
+        if (most > 0 && vain == most) {
+            resting = grows ? span - 1 : rests;
+            span = 2 * span < rests ? 2 * span : rests;
+        }
         if (yields == 0 || vain < most + yields) {
             sched_yield();
         } else {
             sleep_until_rung(bell, *taken);
         }
     }
+    if (0 < vain && vain <= most && span > 1) span /= 2;
     (*taken)++;
     work(ACT);
 }
@@ -96,8 +101,8 @@ static void *live(void *argument) {
 }
 
 int main(int count, char **words) {
-    if (count != 6) {
-        fprintf(stderr, "waiting RANKS ROUNDS LOOKS RESTS YIELDS\n");
+    if (count != 7) {
+        fprintf(stderr, "waiting RANKS ROUNDS LOOKS RESTS YIELDS GROWS\n");
         return 3;
     }
     ranks = atoi(words[1]);
@@ -105,6 +110,7 @@ int main(int count, char **words) {
     looks = atoi(words[3]);
     rests = atoi(words[4]);
     yields = atoi(words[5]);
+    grows = atoi(words[6]);
     pthread_barrier_init(&gate, NULL, ranks + 1);
     for (long rank = 0; rank < ranks; rank++) {
         pthread_t thread;

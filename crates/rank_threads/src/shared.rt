@@ -9,6 +9,11 @@ use ports::Console;
 use std::sync::OnceLock;
 use std::sync::atomic::{AtomicBool, Ordering};
 
+/// Among as many ranks or fewer, each looks into its lanes in every turn, and no bell is
+/// rung: a bell's word goes up to four times from core to core with a message, which takes
+/// longer than looks into a few lanes. A rank alone has a bell, whose word stays.
+const FEW_RANKS: usize = 8;
+
 /// What the mark of a rank says. Only `Shared::set_mark` makes one.
 #[derive(Clone, Copy)]
 pub struct SetMark {
@@ -34,7 +39,7 @@ pub struct Shared<'a, H> {
     pub limits: RunLimits,
     pub console: &'a Console,
     pub marks: &'a [CachePadded<Mark>],
-    /// A bell is rung after each put into a lane to its rank.
+    /// A bell is rung after each put into a lane to its rank, unless there are few ranks.
     pub bells: &'a [CachePadded<AtomicBool>],
     /// Once it is set all ranks leave at their next turn.
     pub stop: &'a OnceLock<()>,
@@ -57,8 +62,16 @@ impl<H> Drop for Shared<'_, H> {
 }
 
 impl<H> Shared<'_, H> {
+    // Whether bells are rung and heard.
+    fn has_bells(&self) -> bool {
+        self.bells.len() < 2 || self.bells.len() > FEW_RANKS
+    }
+
     /// A frame was put into a lane to this rank.
     pub fn ring(&self, rank: u8) {
+        if !self.has_bells() {
+            return;
+        }
         if let Some(bell) = self.bells.get(usize::from(rank)) {
             if !bell.load(Ordering::SeqCst) {
                 bell.store(true, Ordering::SeqCst);
@@ -67,8 +80,11 @@ impl<H> Shared<'_, H> {
     }
 
     /// Takes back the ring of this rank's bell. Where there was none, no frame has
-    /// come to the rank since the last call.
+    /// come to the rank since the last call. Without bells a frame may always have come.
     pub fn take_ring(&self, rank: u8) -> Option<NoRing> {
+        if !self.has_bells() {
+            return None;
+        }
         let was_rung = match self.bells.get(usize::from(rank)) {
             Some(bell) => bell.load(Ordering::SeqCst) && bell.swap(false, Ordering::SeqCst),
             None => true,
